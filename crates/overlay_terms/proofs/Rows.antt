@@ -1,0 +1,27 @@
+-- Worked rows: the definitions are run, and each result is the expected one by computation alone.
+mod Shared
+mod FirstRun
+mod VerticalEdges
+mod ColumnBorder
+mod FractionalCorners
+mod SharedBorder
+mod SelfCrossing
+mod DoubledSquare
+mod FarCorner
+mod RefusalOrder
+mod VersionLimit
+mod LayerList
+mod GridPicture
+mod DenseGrid
+mod Diamond
+mod CollinearOperands
+mod StaleResult
+mod TouchedTiles
+mod OneColumnChanged
+mod OversizeCap
+mod PointsInOrder
+mod ExpressionSpelling
+mod SmallHistory
+mod HistoryFollows
+mod SidesOfPieces
+mod LayerParts

@@ -1,0 +1,36 @@
+-- The columns of the plane: vertical strips, each without its right border. Their number and width stand here alone.
+use Rattle.std.specs.Prelude.{ℕ, ℤ, pos, ◌+◌, ◌*◌, ◌-ℤ◌, ◌*ℤ◌, ◌<ℤ◌, ◌≤ℤ◌, neg_ℤ, int_le, int_lt, Bool, ◌&&◌, List}
+use Rattle.std.specs.List.{range_with_len}
+use Rattle.overlay_terms.specs.Plane.{Point, Segment, coordinate_max}
+
+-- how many columns there are; the last has of the coordinates the line x = 2^20 alone
+abbrev pub column_count : ℕ
+column_count = 17
+
+-- how wide a column is, 2^17
+abbrev pub column_width : ℕ
+column_width = 131072
+
+-- the numbers of the columns
+abbrev pub columns : List ℕ
+columns = range_with_len 0 column_count
+
+-- the left border of a column
+abbrev pub border : ℕ → ℤ
+border k = pos (k * column_width) -ℤ pos coordinate_max
+
+-- x / w lies within the coordinates
+abbrev pub IsInPlane : ℤ → ℤ → Type 0
+IsInPlane x w = (neg_ℤ (pos coordinate_max *ℤ w) ≤ℤ x) × (x ≤ℤ (pos coordinate_max *ℤ w))
+
+-- border k <= x / w < border (k + 1)
+abbrev pub IsInColumn : ℕ → ℤ → ℤ → Type 0
+IsInColumn k x w = ((border k *ℤ w) ≤ℤ x) × (x <ℤ (border (k + 1) *ℤ w))
+
+-- the same, as a test of a point
+abbrev pub is_in_column : ℕ → Point → Bool
+is_in_column k p = int_le (border k *ℤ p.w) p.x && int_lt p.x (border (k + 1) *ℤ p.w)
+
+-- the segment has a point in the column
+abbrev pub touches : ℕ → Segment → Bool
+touches k s = int_le (border k) s.right.x && int_lt s.left.x (border (k + 1))

@@ -1,0 +1,126 @@
+-- Versions of the layers and their tiles, and histories of what was published.
+use Rattle.std.specs.Prelude.{◌≡◌, ℕ, ◌+◌, ◌==◌, ◌<◌, ◌≤◌, ◌&&◌, IsTrue, List, [], ◌∷◌, ◌++◌, length, filter_map, Option, Some, None, bytes_eq, if◌then◌else◌}
+use Rattle.overlay_terms.specs.Plane.{Point}
+use Rattle.overlay_terms.specs.Column.{column_count}
+use Rattle.overlay_terms.specs.Layers.{Name, Layer}
+use Rattle.overlay_terms.specs.Tiles.{IsTileOf, Input, input_of}
+use Rattle.overlay_terms.specs.Commands.{Command, refusal_at, applied, is_touched, stands_as_derived}
+
+-- a finished tile: the ends of its pieces, or that it has too many
+pub data Tile : Type 0 where
+  pieces : List (Point × Point) → Tile
+  oversize : Tile
+
+-- the most pieces that a tile holds
+abbrev pub pieces_max : ℕ
+pieces_max = 65536
+
+-- a tile is that of an input: its pieces are the boundary in the column, at most so many; or they are more
+abbrev pub IsTileAt : ℕ → Input → Tile → Type 0
+IsTileAt cap input (pieces ends) = (length ends ≤ cap) × IsTileOf input.marked input.steps input.column ends
+IsTileAt cap input oversize =
+    (ends : List (Point × Point)) × (cap < length ends) × IsTileOf input.marked input.steps input.column ends
+
+-- a tile under the name of its layer and its column
+pub record Finished : Type 0 where
+  pub name : Name
+  pub column : ℕ
+  pub tile : Tile
+
+-- layers with a number and their finished tiles, and the number of the version that is reported durable
+pub record Version : Type 0 where
+  pub number : ℕ
+  pub layers : List Layer
+  pub tiles : List Finished
+  pub durable : ℕ
+
+-- the finished tile of a layer and column, if there is one
+abbrev pub tile_at : List Finished → Name → ℕ → Option Tile
+tile_at [] name column = None
+tile_at (f ∷ fs) name column = if bytes_eq f.name name && (f.column == column) then Some f.tile else tile_at fs name column
+
+-- what is published: an accepted command of a session, a tile that is kept, a number that is durable
+pub data Event : Type 0 where
+  accepted : ℕ → Command → Event
+  kept : Name → ℕ → Tile → Event
+  durable_to : ℕ → Event
+
+-- the version after a command: its number one higher, the layers changed, the touched tiles pending again
+pub record FollowsCommand (old : Version) (command : Command) (new : Version) : Type 0 where
+  pub accepted_there : refusal_at old.number old.layers command ≡ None
+  pub number : new.number ≡ old.number + 1
+  pub layers : new.layers ≡ applied old.layers command
+  pub tiles : (name : Name) (k : ℕ) → tile_at new.tiles name k ≡ (if is_touched old.layers command name then None else tile_at old.tiles name k)
+  pub durable : new.durable ≡ old.durable
+
+-- the version after a tile is kept: a pending tile of a derived layer, made of the layer's present input
+pub record FollowsTile (old : Version) (name : Name) (column : ℕ) (tile : Tile) (new : Version) : Type 0 where
+  pub derived_layer : IsTrue (stands_as_derived old.layers name)
+  pub known_column : column < column_count
+  pub pending : tile_at old.tiles name column ≡ None
+  pub right : IsTileAt pieces_max (input_of old.layers name column) tile
+  pub number : new.number ≡ old.number
+  pub layers : new.layers ≡ old.layers
+  pub tiles : (other : Name) (k : ℕ) → tile_at new.tiles other k ≡ (if bytes_eq name other && (column == k) then Some tile else tile_at old.tiles other k)
+  pub durable : new.durable ≡ old.durable
+
+-- the version after a greater number is reported durable, at most its own
+pub record FollowsReport (old : Version) (number : ℕ) (new : Version) : Type 0 where
+  pub risen : old.durable < number
+  pub not_beyond : number ≤ old.number
+  pub same_number : new.number ≡ old.number
+  pub layers : new.layers ≡ old.layers
+  pub tiles : (name : Name) (k : ℕ) → tile_at new.tiles name k ≡ tile_at old.tiles name k
+  pub durable : new.durable ≡ number
+
+-- a version follows another by an event
+abbrev pub Follows : Version → Event → Version → Type 0
+Follows old (accepted session command) new = FollowsCommand old command new
+Follows old (kept name column tile) new = FollowsTile old name column tile new
+Follows old (durable_to number) new = FollowsReport old number new
+
+-- one publication: what happened, and the version after it
+pub record Entry : Type 0 where
+  pub event : Event
+  pub version : Version
+
+-- a history: the version that it begins with, and the publications since, the newest last
+pub record History : Type 0 where
+  pub start : Version
+  pub entries : List Entry
+
+-- each version follows the one before it by its event
+abbrev pub AllFollow : Version → List Entry → Type 0
+AllFollow version [] = Unit {0}
+AllFollow version (entry ∷ entries) = Follows version entry.event entry.version × AllFollow entry.version entries
+
+-- a history whose versions follow one another
+abbrev pub IsHistory : History → Type 0
+IsHistory history = AllFollow history.start history.entries
+
+-- the version of the last entry, or the first version where there is none
+abbrev pub last_version : Version → List Entry → Version
+last_version version [] = version
+last_version version (entry ∷ entries) = last_version entry.version entries
+
+-- the newest version of a history
+abbrev pub newest : History → Version
+newest history = last_version history.start history.entries
+
+-- a history goes on from an earlier one by these entries
+abbrev pub GoesOnBy : History → List Entry → History → Type 0
+GoesOnBy earlier entries later = later ≡ record { start = earlier.start; entries = earlier.entries ++ entries }
+
+-- a history that goes on from an earlier one
+abbrev pub BeginsWith : History → History → Type 0
+BeginsWith later earlier = (entries : List Entry) × GoesOnBy earlier entries later
+
+-- a session's command among the events
+abbrev pub own_command : ℕ → Event → Option Command
+own_command session (accepted by command) = if by == session then Some command else None
+own_command session (kept name column tile) = None
+own_command session (durable_to number) = None
+
+-- the accepted commands of a session in some entries, in order
+abbrev pub commands_of : ℕ → List Entry → List Command
+commands_of session entries = filter_map (λ (entry : Entry). own_command session entry.event) entries

@@ -1,0 +1,15 @@
+pub mod Within
+pub mod Plane
+pub mod Trees
+pub mod TreeCode
+pub mod Layers
+pub mod Column
+pub mod Tiles
+pub mod Commands
+pub mod Orderly
+pub mod Histories
+pub mod TileLaws
+pub mod LayerCode
+pub mod InputCode
+pub mod Laws
+pub mod InputLaws

@@ -1,0 +1,96 @@
+-- Points, segments, and what lies below, on and inside. Rings are those of ISO 19125-1:2004, 6.1.7 and 6.1.11; insides are taken even-odd.
+use Rattle.std.specs.Prelude.{ℕ, ℤ, pos, ◌-◌, ◌%◌, ◌==◌, ◌*ℤ◌, ◌-ℤ◌, ◌≤ℤ◌, neg_ℤ, int_le, int_lt, Bool, ◌&&◌, not, List, length, drop, zip, sum_by, count_by, filter_map, flat_map, Option, Some, None}
+use Rattle.std.specs.Ordering.{int_cmp, ordering_then, is_lt, is_gt, int_eq}
+use Rattle.std.specs.declared.cmp.Ordering.{Ordering}
+use Rattle.std.specs.declared.cmp.Ordering.TheVariants.{Less, Equal, Greater}
+
+-- a point with whole coordinates
+pub record WholePoint : Type 0 where
+  pub x : ℤ
+  pub y : ℤ
+
+-- the point (x / w, y / w), where w is at least 1
+pub record Point : Type 0 where
+  pub x : ℤ
+  pub y : ℤ
+  pub w : ℤ
+
+-- two different consecutive points of a ring, the left end first: before the right one by x, then by y
+pub record Segment : Type 0 where
+  pub left : WholePoint
+  pub right : WholePoint
+
+-- a whole point as a point
+abbrev pub whole : WholePoint → Point
+whole a = record { x = a.x; y = a.y; w = pos 1 }
+
+-- by x, then by y
+abbrev pub whole_cmp : WholePoint → WholePoint → Ordering
+whole_cmp a b = ordering_then (int_cmp a.x b.x) (int_cmp a.y b.y)
+
+-- whether two whole points are one
+abbrev pub same_whole : WholePoint → WholePoint → Bool
+same_whole a b = int_eq a.x b.x && int_eq a.y b.y
+
+-- by x, then by y, with the denominators multiplied out
+abbrev pub point_cmp : Point → Point → Ordering
+point_cmp p q = ordering_then (int_cmp (p.x *ℤ q.w) (q.x *ℤ p.w)) (int_cmp (p.y *ℤ q.w) (q.y *ℤ p.w))
+
+-- the same place, whatever the denominators
+abbrev pub same_place : Point → Point → Bool
+same_place p q = int_eq (p.x *ℤ q.w) (q.x *ℤ p.w) && int_eq (p.y *ℤ q.w) (q.y *ℤ p.w)
+
+-- the largest coordinate, 2^20; the smallest is its negative
+abbrev pub coordinate_max : ℕ
+coordinate_max = 1048576
+
+-- a coordinate lies from -2^20 to 2^20
+abbrev pub InRange : ℤ → Type 0
+InRange n = (neg_ℤ (pos coordinate_max) ≤ℤ n) × (n ≤ℤ pos coordinate_max)
+
+-- how far a point lies above the line of a segment: positive above, 0 on the line. Left of a vertical line counts as above
+abbrev pub height_over : Segment → Point → ℤ
+height_over s p =
+    (s.right.x -ℤ s.left.x) *ℤ (p.y -ℤ s.left.y *ℤ p.w) -ℤ (s.right.y -ℤ s.left.y) *ℤ (p.x -ℤ s.left.x *ℤ p.w)
+
+-- the point against the line of the segment: Greater above
+abbrev pub side_of : Segment → Point → Ordering
+side_of s p = int_cmp (height_over s p) (pos 0)
+
+-- the segment is below the point: left.x <= p.x < right.x, and the point lies strictly above its line
+abbrev pub is_below : Segment → Point → Bool
+is_below s p =
+    int_le (s.left.x *ℤ p.w) p.x && int_lt p.x (s.right.x *ℤ p.w) && int_lt (pos 0) (height_over s p)
+
+-- the point lies on the closed segment: on its line, from its left end to its right end
+abbrev pub is_on : Segment → Point → Bool
+is_on s p =
+    int_eq (height_over s p) (pos 0) && not (is_lt (point_cmp p (whole s.left))) && not (is_gt (point_cmp p (whole s.right)))
+
+-- the segment between two points, if they differ
+abbrev pub segment_between : WholePoint × WholePoint → Option Segment
+segment_between (a, b) = by_order (whole_cmp a b) a b where
+  by_order : Ordering → WholePoint → WholePoint → Option Segment
+  by_order Less a b = Some (record { left = a; right = b })
+  by_order Equal a b = None
+  by_order Greater a b = Some (record { left = b; right = a })
+
+-- the pairs of consecutive points of a ring
+abbrev pub ring_steps : List WholePoint → List (WholePoint × WholePoint)
+ring_steps ring = zip ring (drop 1 ring)
+
+-- the segments of a ring (a LinearRing of ISO 19125-1:2004, 6.1.7), with repeats
+abbrev pub ring_segments : List WholePoint → List Segment
+ring_segments ring = filter_map segment_between (ring_steps ring)
+
+-- the segments of all rings of a base layer, with repeats
+abbrev pub segments_of : List (List WholePoint) → List Segment
+segments_of rings = flat_map ring_segments rings
+
+-- how many steps the rings have, those between equal points included
+abbrev pub ring_step_count : List (List WholePoint) → ℕ
+ring_step_count rings = sum_by (λ ring. length ring - 1) rings
+
+-- even-odd: an odd number of segments is below the point
+abbrev pub is_inside : List Segment → Point → Bool
+is_inside segments p = count_by (λ s. is_below s p) segments % 2 == 1

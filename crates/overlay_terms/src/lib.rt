@@ -1,0 +1,5 @@
+//! The definitions that the contracts of the overlay cite, and laws over them.
+#![tactic(auto)]
+
+pub mod input_law;
+pub mod laws;
