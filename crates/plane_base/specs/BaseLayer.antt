@@ -1,0 +1,32 @@
+use Rattle.std.specs.Prelude.{ℕ, Bool, false, ◌+◌, ◌-◌, List, [], ◌∷◌, length, nat_lt, nat_le, if◌then◌else◌, Option, Some, None, slice_get}
+use Rattle.overlay_terms.specs.Plane.{WholePoint, ring_step_count, same_whole}
+use Rattle.plane_base.specs.declared.fault.PlaneFault.{PlaneFault}
+use Rattle.plane_base.specs.declared.fault.PlaneFault.TheVariants.{RingOpen, RingShort, TooManySegments}
+
+-- whether the last point of a ring is its first
+abbrev pub is_closed : List WholePoint → Bool
+is_closed ring = same_ends (slice_get ring 0) (slice_get ring (length ring - 1)) where
+  same_ends : Option WholePoint → Option WholePoint → Bool
+  same_ends (Some first) (Some last) = same_whole first last
+  same_ends (Some first) None = false
+  same_ends None last = false
+
+-- what is wrong with the ring at a place, its length first
+abbrev pub ring_fault : ℕ → List WholePoint → Option PlaneFault
+ring_fault at ring =
+    if nat_lt (length ring) 4 then Some (RingShort at) else (if is_closed ring then None else Some (RingOpen at))
+
+-- the first of two faults
+abbrev pub or_else : Option PlaneFault → Option PlaneFault → Option PlaneFault
+or_else (Some fault) next = Some fault
+or_else None next = next
+
+-- the first fault of the rings, the first of which stands at the given place
+abbrev pub first_ring_fault : ℕ → List (List WholePoint) → Option PlaneFault
+first_ring_fault at [] = None
+first_ring_fault at (ring ∷ rings) = or_else (ring_fault at ring) (first_ring_fault (at + 1) rings)
+
+-- what is wrong with the rings of a base layer: the first ring's fault, then too many steps
+abbrev pub rings_fault : List (List WholePoint) → Option PlaneFault
+rings_fault rings =
+    or_else (first_ring_fault 0 rings) (if nat_le (ring_step_count rings) 2048 then None else Some TooManySegments)

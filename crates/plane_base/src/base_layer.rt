@@ -1,0 +1,149 @@
+//! Rings, and the base layers that they make.
+ghost use Rattle.std.specs.Prelude.{◌≡◌, ◌≤◌, ◌++◌, nat_le, None, List, length, IfSome, IfOk, IsNone, OnOk, IsErrOf, IsOkUnless};
+ghost use Rattle.overlay_terms.specs.Plane.{WholePoint, Segment, segments_of, ring_segments, ring_step_count};
+ghost use Rattle.plane_base.specs.BaseLayer.{rings_fault, ring_fault, first_ring_fault};
+
+use crate::fault::PlaneFault;
+use crate::point::{Pt, Seg};
+use std::alloc::{AllocError, Global};
+use std::marker::Model;
+
+/// The most steps that the rings of a base layer have.
+pub const MAX_STEPS: usize = 2048;
+
+/// A closed line, as the list of its points.
+#[derive(Debug, Drop)]
+pub struct Ring {
+    points: Vec<Pt>,
+}
+
+impl Model for Ring {
+    ghost Value = { List WholePoint };
+
+    ghost view = { λ r. r.points.items };
+}
+
+impl Ring {
+    pub fn new(points: Vec<Pt>) -> Ring
+        ensures { result ≡ points.items }
+    {
+        Ring { points }
+    }
+
+    pub fn points(&self) -> &[Pt]
+        ensures { result.now ≡ self.now }
+    {
+        &self.points
+    }
+
+    pub fn into_points(self) -> Vec<Pt>
+        ensures { result.items ≡ self }
+    {
+        self.points
+    }
+
+    /// What is wrong with the ring, which stands at this place among its rings.
+    fn fault(&self, at: usize) -> Option<PlaneFault>
+        ensures { result ≡ ring_fault at self.now }
+    {
+        let points = self.points();
+        if points.len() < 4 {
+            return Some(PlaneFault::RingShort(at));
+        }
+        if points[0] == points[points.len() - 1] {
+            None
+        } else {
+            Some(PlaneFault::RingOpen(at))
+        }
+    }
+}
+
+/// Adds the segments of a ring at the end.
+fn add_segments(segs: &mut Vec<Seg>, ring: &[Pt]) -> Result<(), AllocError>
+    ensures { OnOk result (segs.new.items ≡ segs.old.items ++ ring_segments ring.now) }
+{
+    for i in 1..ring.len() {
+        if let Some(seg) = Seg::of(ring[i - 1], ring[i]) {
+            segs.push(seg)?;
+        }
+    }
+    Ok(())
+}
+
+/// The first thing that is wrong with a ring.
+fn first_fault(rings: &[Ring]) -> Option<PlaneFault>
+    ensures { result ≡ first_ring_fault 0 rings.now }
+{
+    for (at, ring) in rings.iter().enumerate() {
+        if let Some(fault) = ring.fault(at) {
+            return Some(fault);
+        }
+    }
+    None
+}
+
+/// Whether the rings have no more steps than a base layer may.
+fn is_within_limit(rings: &[Ring]) -> bool
+    ensures { result ≡ nat_le (ring_step_count rings.now) 2048 }
+{
+    let mut steps = 0;
+    for ring in rings {
+        let more = ring.points().len().saturating_sub(1);
+        if more > MAX_STEPS - steps {
+            return false;
+        }
+        steps += more;
+    }
+    true
+}
+
+/// Closed rings and their segments.
+#[derive(Debug, Drop)]
+pub struct BaseLayer {
+    rings: Vec<Ring>,
+    segs: Vec<Seg>,
+}
+
+impl Model for BaseLayer {
+    ghost Value = { List (List WholePoint) };
+
+    ghost view = { λ b. b.rings.items };
+
+    ghost invariant = { λ b. (rings_fault b.rings.items ≡ None) × (b.segs.items ≡ segments_of b.rings.items) };
+}
+
+impl BaseLayer {
+    /// The base layer of these rings, if each is closed and long enough and all together have few
+    /// enough steps.
+    pub fn new(alloc: Global, rings: Vec<Ring>) -> Result<BaseLayer, PlaneFault>
+        ensures ok { IfOk result (λ layer. layer ≡ rings.items) }
+        ensures refused { IfSome (rings_fault rings.items) (IsErrOf result) }
+        ensures accepted { IsNone (rings_fault rings.items) → IsOkUnless result PlaneFault.OutOfMemory }
+    {
+        if let Some(fault) = first_fault(&rings) {
+            return Err(fault);
+        }
+        if !is_within_limit(&rings) {
+            return Err(PlaneFault::TooManySegments);
+        }
+        let mut segs = Vec::new(alloc);
+        for ring in &rings {
+            add_segments(&mut segs, ring.points())?;
+        }
+        Ok(BaseLayer { rings, segs })
+    }
+
+    pub fn rings(&self) -> &[Ring]
+        ensures value { result.now ≡ self.now }
+        ensures valid { rings_fault result.now ≡ None }
+    {
+        &self.rings
+    }
+
+    /// The segments of all rings, with repeats.
+    pub fn segs(&self) -> &[Seg]
+        ensures { result.now ≡ segments_of self.now }
+    {
+        &self.segs
+    }
+}
