@@ -1,0 +1,9 @@
+pub mod TokenLemmas
+pub mod Progress
+pub mod Completion
+pub mod Simulation
+pub mod FirstFault
+pub mod WritingLemmas
+pub mod OneMeaning
+pub mod WrittenNumbers
+pub mod RoundTrip

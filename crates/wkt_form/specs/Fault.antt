@@ -1,0 +1,34 @@
+-- The faults of texts: their numbers and texts, and those that the rings of a base layer have.
+use Rattle.std.specs.Prelude.{ℕ, List, ◌++◌, codes, decimal}
+use Rattle.plane_base.specs.declared.fault.PlaneFault.{PlaneFault}
+use Rattle.plane_base.specs.declared.fault.PlaneFault.TheVariants as plane
+use Rattle.wkt_form.specs.declared.fault.WktFault.{WktFault}
+use Rattle.wkt_form.specs.declared.fault.WktFault.TheVariants.{Syntax, NotWhole, CoordRange, RingOpen, RingShort, TooManySegments, OutOfMemory}
+
+-- the number under which a fault is printed
+abbrev pub code_of : WktFault → ℕ
+code_of (Syntax _) = 1
+code_of (NotWhole _) = 2
+code_of (CoordRange _) = 3
+code_of (RingOpen _) = 4
+code_of (RingShort _) = 5
+code_of TooManySegments = 6
+code_of OutOfMemory = 40
+
+-- the text that is printed behind the number
+abbrev pub text_of : WktFault → List ℕ
+text_of (Syntax at) = codes "wkt syntax at " ++ decimal at
+text_of (NotWhole at) = codes "not whole at " ++ decimal at
+text_of (CoordRange at) = codes "coordinate out of range at " ++ decimal at
+text_of (RingOpen ring) = codes "ring " ++ (decimal ring ++ codes " open")
+text_of (RingShort ring) = codes "ring " ++ (decimal ring ++ codes " short")
+text_of TooManySegments = codes "too many segments"
+text_of OutOfMemory = codes "out of memory"
+
+-- a fault of the rings as a fault of their text; a coordinate out of range has a place in the text, and is no fault of rings
+abbrev pub of_rings : PlaneFault → WktFault
+of_rings plane.CoordRange = OutOfMemory
+of_rings (plane.RingOpen ring) = RingOpen ring
+of_rings (plane.RingShort ring) = RingShort ring
+of_rings plane.TooManySegments = TooManySegments
+of_rings plane.OutOfMemory = OutOfMemory

@@ -1,0 +1,10 @@
+pub mod Fault
+pub mod Number
+pub mod Token
+pub mod Grammar
+pub mod Spelling
+pub mod Symbol
+pub mod Seen
+pub mod Place
+pub mod Reading
+pub mod Laws

@@ -1,0 +1,13 @@
+-- The tokens of bytes as the grammar sees them.
+use Rattle.std.specs.Prelude.{ℕ, List, map}
+use Rattle.wkt_form.specs.declared.token.Token as code
+use Rattle.wkt_form.specs.Token.{Token, tokens_from}
+use Rattle.wkt_form.specs.Grammar.{in_upper_case}
+use Rattle.wkt_form.specs.Symbol.{symbol_of}
+
+abbrev pub seen : Token → code.Token
+seen t = record { at = t.at; symbol = symbol_of (in_upper_case t.kind) }
+
+-- the tokens of bytes that begin at an offset
+abbrev pub seen_from : ℕ → List ℕ → List code.Token
+seen_from at bytes = map seen (tokens_from at bytes)
