@@ -1,0 +1,35 @@
+use Rattle.std.proofs.Common.{rules, ◌≡◌, pos, arith, sym, ◌∙◌, Option, Some, None, to_z, of_z}
+use Rattle.std.specs.Int.{w128}
+use Rattle.std.specs.Option.{IfSome}
+use Rattle.std.specs.declared.cmp.Ordering.TheVariants.{Equal}
+use Rattle.std.proofs.lemmas.Cmp.{int_ranked}
+use Rattle.std.proofs.lemmas.Int.{ints}
+use Rattle.overlay_terms.specs.Plane.{Segment}
+use Rattle.exact_point.specs.Crossing.{IsCrossingOf, IsOnlyCrossingOf, turn_of}
+use Rattle.exact_point.specs.Place.{place}
+use Rattle.exact_point.specs.declared.point.HPoint.{HPoint}
+use Rattle.exact_point.proofs.CrossingLemmas.{crossing_turned, no_turn}
+use Rattle.exact_point.proofs.crossing.cross_of.Goals as goal
+
+met : (a b : Segment) (r : Option HPoint) → IfSome r (λ z. IsCrossingOf b a (place z)) → IfSome r (λ z. IsCrossingOf a b (place z))
+met a b None h = tt
+met a b (Some z) h = crossing_turned b a (place z) h
+
+alone : (a b : Segment) (r : Option HPoint) → IfSome r (λ z. IsOnlyCrossingOf b a (place z)) → IfSome r (λ z. IsOnlyCrossingOf a b (place z))
+alone a b None h = tt
+alone a b (Some z) h = λ p w k. h p w (crossing_turned a b p k)
+
+pub returns-in-Less-clause-meets : goal.returns-in-Less-clause-meets
+returns-in-Less-clause-meets c = met _ _ _ c.meeting-in-Less.ensures.meets
+
+pub returns-in-Less-clause-only : goal.returns-in-Less-clause-only
+returns-in-Less-clause-only c = alone _ _ _ c.meeting-in-Less.ensures.only
+
+pub returns-in-Less-clause-none : goal.returns-in-Less-clause-none
+returns-in-Less-clause-none c = λ n p w h. c.meeting-in-Less.ensures.none n p w (crossing_turned _ _ p h)
+
+pub returns-in-Equal-clause-none : goal.returns-in-Equal-clause-none
+returns-in-Equal-clause-none c =
+    let value : to_z w128 (of_z w128 c.turn-left.result) ≡ turn_of c.args.a.now c.args.b.now = search (rules, c.turn-left.ensures.value) in
+    let level = int_ranked (to_z w128 (of_z w128 c.turn-left.result)) (pos 0) Equal (sym c.in-Equal.is ∙ c.cmp.ensures) in
+    λ _. no_turn _ _ (omega (arith, ints, value, level))

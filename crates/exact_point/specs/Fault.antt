@@ -1,0 +1,11 @@
+use Rattle.std.specs.Prelude.{ℕ, List, codes}
+use Rattle.exact_point.specs.declared.fault.PointFault.{PointFault}
+use Rattle.exact_point.specs.declared.fault.PointFault.TheVariants.{PointRange}
+
+-- the number under which a fault is printed
+abbrev pub code_of : PointFault → ℕ
+code_of PointRange = 20
+
+-- the text that is printed behind the number
+abbrev pub text_of : PointFault → List ℕ
+text_of PointRange = codes "point out of range"

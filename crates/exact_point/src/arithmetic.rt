@@ -1,0 +1,78 @@
+//! Exact sums and products of bounded numbers, one or two operations each.
+ghost use Rattle.std.specs.Prelude.{◌≡◌, ◌^◌, ◌+ℤ◌, ◌-ℤ◌, ◌*ℤ◌, ◌≤ℤ◌, pos};
+ghost use Rattle.overlay_terms.specs.Within.{IsWithin};
+ghost use Rattle.overlay_terms.specs.Plane.{InRange};
+
+/// How far a coordinate lies after another.
+pub(crate) fn minus(a: i64, b: i64) -> i128
+    requires a_small { InRange a }
+    requires b_small { InRange b }
+    ensures value { result ≡ a -ℤ b }
+    ensures small { IsWithin (2 ^ 21) result }
+{
+    i128::from(a - b)
+}
+
+/// A whole coordinate over the denominator w, by a product of 64 bits.
+pub(crate) fn scaled(x: i64, w: i128) -> i128
+    requires x_small { InRange x }
+    requires w_low { pos 0 ≤ℤ w }
+    requires w_small { IsWithin (2 ^ 43) w }
+    ensures value { result ≡ x *ℤ w }
+    ensures small { IsWithin (2 ^ 63) result }
+{
+    let size = i128::from(x.unsigned_abs() * w as u64);
+    if x < 0 { -size } else { size }
+}
+
+/// The difference of two numbers.
+pub(crate) fn offset(a: i128, b: i128) -> i128
+    requires a_small { IsWithin (2 ^ 63) a }
+    requires b_small { IsWithin (2 ^ 63) b }
+    ensures value { result ≡ a -ℤ b }
+    ensures small { IsWithin (2 ^ 64) result }
+{
+    a - b
+}
+
+/// The sum of two numbers.
+pub(crate) fn sum(a: i128, b: i128) -> i128
+    requires a_small { IsWithin (2 ^ 63) a }
+    requires b_small { IsWithin (2 ^ 106) b }
+    ensures { result ≡ a +ℤ b }
+{
+    a + b
+}
+
+/// The product of a coordinate and a denominator.
+pub(crate) fn product(a: i128, w: i128) -> i128
+    requires a_small { IsWithin (2 ^ 63) a }
+    requires w_small { IsWithin (2 ^ 43) w }
+    ensures value { result ≡ a *ℤ w }
+    ensures small { IsWithin (2 ^ 106) result }
+{
+    a * w
+}
+
+/// The cross product of the vectors (a, b) and (c, d).
+pub(crate) fn cross(a: i128, b: i128, c: i128, d: i128) -> i128
+    requires a_small { IsWithin (2 ^ 21) a }
+    requires b_small { IsWithin (2 ^ 21) b }
+    requires c_small { IsWithin (2 ^ 64) c }
+    requires d_small { IsWithin (2 ^ 64) d }
+    ensures { result ≡ a *ℤ d -ℤ b *ℤ c }
+{
+    a * d - b * c
+}
+
+/// The cross product of the ways (a, b) and (c, d) between whole points.
+pub(crate) fn whole_cross(a: i128, b: i128, c: i128, d: i128) -> i128
+    requires a_small { IsWithin (2 ^ 21) a }
+    requires b_small { IsWithin (2 ^ 21) b }
+    requires c_small { IsWithin (2 ^ 21) c }
+    requires d_small { IsWithin (2 ^ 21) d }
+    ensures value { result ≡ a *ℤ d -ℤ b *ℤ c }
+    ensures small { IsWithin (2 ^ 43) result }
+{
+    a * d - b * c
+}

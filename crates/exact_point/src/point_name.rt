@@ -1,0 +1,55 @@
+//! The names of places, from which their exact coordinates can be had again.
+ghost use Rattle.std.specs.Prelude.{◌≡◌, ◌↔◌, ◌<ℤ◌, pos, IsTrue, IsSome, IfSome};
+ghost use Rattle.overlay_terms.specs.Plane.{Point, same_place};
+ghost use Rattle.exact_point.specs.Place.{place};
+ghost use Rattle.exact_point.specs.PlaceOf.{place_of, cut_place};
+ghost use Rattle.exact_point.specs.PointName.{IsPlaceOf, IsOnlyPlaceOf, HasPlace, IsCutBy, IsCutOf};
+
+use crate::arithmetic::minus;
+use crate::crossing::{cross_of, part_way};
+use crate::point::HPoint;
+use plane_base::column::Column;
+use plane_base::point::{Pt, Seg};
+
+/// A place, named by what makes it.
+#[derive(Clone, Copy, Debug, PartialEq, Eq)]
+pub enum PointName {
+    Vertex(Pt),
+    Cross(Seg, Seg),
+    /// Where the border of the column with this number cuts the segment, strictly between its ends.
+    Border(Seg, u8),
+}
+
+impl PointName {
+    /// The place that the name stands for, if there is one.
+    pub fn point(&self) -> Option<HPoint>
+        ensures known { IsSome result ↔ HasPlace self.now }
+        ensures place { IfSome result (λ z. IsPlaceOf self.now (place z)) }
+        ensures only { IfSome result (λ z. IsOnlyPlaceOf self.now (place z)) }
+        ensures value { IfSome result (λ z. place z ≡ place_of self.now) }
+    {
+        match self {
+            PointName::Vertex(vertex) => Some(HPoint::of(*vertex)),
+            PointName::Cross(a, b) => cross_of(a, b),
+            PointName::Border(seg, column) => cut_of(seg, *column),
+        }
+    }
+}
+
+/// Where the border of a column cuts a segment, unless it lies at an end or outside.
+fn cut_of(seg: &Seg, column: u8) -> Option<HPoint>
+    ensures known { IsSome result ↔ IsCutBy seg.now column }
+    ensures place { IfSome result (λ z. IsCutOf seg.now column (place z)) }
+    ensures only { IfSome result (λ z. (p : Point) → pos 0 <ℤ p.w → IsCutOf seg.now column p → IsTrue (same_place (place z) p)) }
+    ensures value { IfSome result (λ z. place z ≡ cut_place seg.now column) }
+{
+    let border = Column::new(u64::from(column))?.border();
+    let (left, right) = (seg.left().x(), seg.right().x());
+    if border <= left {
+        return None;
+    }
+    if right <= border {
+        return None;
+    }
+    Some(part_way(seg, minus(border, left), minus(right, left)))
+}

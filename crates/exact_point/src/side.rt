@@ -1,0 +1,77 @@
+//! Points against segments.
+ghost use Rattle.std.specs.Prelude.{◌≡◌, ◌^◌, ◌-ℤ◌, ◌*ℤ◌};
+ghost use Rattle.overlay_terms.specs.Within.{IsWithin};
+ghost use Rattle.exact_point.specs.Place.{place};
+ghost use Rattle.overlay_terms.specs.Plane.{whole, point_cmp, height_over, side_of, is_below, is_on};
+
+use crate::arithmetic::{cross, minus, offset, scaled};
+use crate::point::HPoint;
+use plane_base::point::{Pt, Seg};
+use std::cmp::Ordering;
+
+/// How far a point lies to the right of the left end, times its denominator.
+fn along(seg: &Seg, p: &HPoint) -> i128
+    ensures value { result ≡ (place p.now).x -ℤ seg.now.left.x *ℤ (place p.now).w }
+    ensures small { IsWithin (2 ^ 64) result }
+{
+    offset(p.x, scaled(seg.left().x(), p.w))
+}
+
+/// How far a point lies above the line of a segment, times the segment's width and the point's
+/// denominator.
+fn height(seg: &Seg, p: &HPoint, along: i128) -> i128
+    requires value { along ≡ (place p.now).x -ℤ seg.now.left.x *ℤ (place p.now).w }
+    requires small { IsWithin (2 ^ 64) along }
+    ensures { result ≡ height_over seg.now (place p.now) }
+{
+    let left = seg.left();
+    let right = seg.right();
+    let wide = minus(right.x(), left.x());
+    let high = minus(right.y(), left.y());
+    let up = offset(p.y, scaled(left.y(), p.w));
+    cross(wide, high, along, up)
+}
+
+/// The point against the line of the segment: greater above.
+pub fn side(seg: &Seg, p: &HPoint) -> Ordering
+    ensures { result ≡ side_of seg.now (place p.now) }
+{
+    height(seg, p, along(seg, p)).cmp(&0)
+}
+
+/// Whether the segment is below the point.
+pub fn below(seg: &Seg, p: &HPoint) -> bool
+    ensures { result ≡ is_below seg.now (place p.now) }
+{
+    let along = along(seg, p);
+    if along < 0 {
+        return false;
+    }
+    if scaled(seg.right().x(), p.w) <= p.x {
+        return false;
+    }
+    height(seg, p, along) > 0
+}
+
+/// Whether the point lies on the closed segment.
+pub fn on(seg: &Seg, p: &HPoint) -> bool
+    ensures { result ≡ is_on seg.now (place p.now) }
+{
+    if side(seg, p).is_ne() {
+        return false;
+    }
+    let from_left = cmp_whole(p, seg.left());
+    let from_right = cmp_whole(p, seg.right());
+    !from_left.is_lt() & !from_right.is_gt()
+}
+
+/// A point against one with whole coordinates, in the order of points.
+fn cmp_whole(p: &HPoint, q: Pt) -> Ordering
+    ensures { result ≡ point_cmp (place p.now) (whole q) }
+{
+    let x = p.x.cmp(&scaled(q.x(), p.w));
+    if x.is_ne() {
+        return x;
+    }
+    p.y.cmp(&scaled(q.y(), p.w))
+}

@@ -1,0 +1,260 @@
+//! Tables of worked cases.
+use crate::crossing::cross_of;
+use crate::fault::{PointFault, Text};
+use crate::point::HPoint;
+use crate::point_name::PointName;
+use crate::query::QueryPoint;
+use crate::reducing::reduced;
+use crate::side::{below, on, side};
+use plane_base::point::{Pt, Seg};
+use std::cmp::Ordering;
+use std::process::Abort;
+use std::test::Fail;
+
+/// The point with these coordinates.
+fn at(rt: &impl Abort, x: i64, y: i64) -> Pt {
+    Pt::new(x, y).expect(rt, "in range")
+}
+
+/// The segment between the first two numbers and the last two.
+fn seg(rt: &impl Abort, ends: (i64, i64, i64, i64)) -> Seg {
+    Seg::of(at(rt, ends.0, ends.1), at(rt, ends.2, ends.3)).expect(rt, "two points")
+}
+
+/// The point with these three numbers.
+fn point(rt: &impl Abort, x: i64, y: i64, w: i64) -> HPoint {
+    QueryPoint::new(x, y, w).expect(rt, "in range").point()
+}
+
+/// The numbers of a point in lowest terms.
+fn lowest(p: Option<HPoint>) -> Option<(i128, i128, i128)> {
+    let least = reduced(&p?);
+    Some((least.x, least.y, least.w))
+}
+
+#[test]
+fn segments_cross_at_one_exact_place(rt: HostRuntime) {
+    for (a, b, want) in [
+        ((0, 0, 3, 1), (1, -1, 1, 3), Some((3, 1, 3))),
+        ((1, -1, 1, 3), (0, 0, 3, 1), Some((3, 1, 3))),
+        (
+            (-1048576, -1048576, 1048576, 1048576),
+            (-1048576, 1048576, 1048576, -1048576),
+            Some((0, 0, 1)),
+        ),
+        ((0, 0, 4, 4), (1, 1, 5, 5), None),
+        ((0, 0, 10, 0), (10, 0, 10, 10), Some((10, 0, 1))),
+        // parallel ones that touch at an end, and equal ones
+        ((0, 0, 4, 4), (4, 4, 8, 8), None),
+        ((0, 0, 0, 4), (0, 4, 0, 8), None),
+        ((0, 0, 4, 4), (0, 0, 4, 4), None),
+        // their lines meet just behind an end
+        ((0, 0, 10, 0), (11, -1, 11, 1), None),
+        ((0, 0, 10, 0), (5, 1, 5, 9), None),
+        ((0, 0, 3, 1), (1, 1, 1, 3), None),
+        ((0, 0, 3, 1), (4, -1, 4, 3), None),
+        // halves, and the greatest numbers
+        (
+            (-1048576, -1048576, 1048576, 1048575),
+            (-1048576, 1048575, 1048576, -1048576),
+            Some((0, -1, 2)),
+        ),
+        (
+            (-1048576, -1048576, 1048576, 1048576),
+            (-1048576, 1048576, 1048576, -1048575),
+            Some((1048576, 1048576, 4194303)),
+        ),
+        (
+            (1048575, 1048575, 1048576, 1048576),
+            (1048576, 1048575, 1048576, 1048576),
+            Some((1048576, 1048576, 1)),
+        ),
+    ] {
+        assert_eq!(rt;
+            lowest(cross_of(&seg(&rt, a), &seg(&rt, b))),
+            want,
+            "{a:?} and {b:?}"
+        );
+        assert_eq!(rt;
+            lowest(cross_of(&seg(&rt, b), &seg(&rt, a))),
+            want,
+            "{b:?} and {a:?}"
+        );
+    }
+}
+
+#[test]
+fn a_border_is_named_strictly_between_the_ends(rt: HostRuntime) {
+    for (ends, column, want) in [
+        ((-10, -10, 10, -10), 8, Some((0, -10, 1))),
+        ((0, 0, 10, 0), 8, None),
+        ((-10, 0, 0, 0), 8, None),
+        ((0, -5, 0, 5), 8, None),
+        ((1, 0, 10, 0), 8, None),
+        ((-1, 0, 2, 1), 8, Some((0, 1, 3))),
+        ((-1048576, -1048576, 1048576, 1048576), 0, None),
+        (
+            (-1048576, -1048576, 1048576, 1048576),
+            1,
+            Some((-917504, -917504, 1)),
+        ),
+        (
+            (-1048576, -1048576, 1048576, 1048576),
+            15,
+            Some((917504, 917504, 1)),
+        ),
+        ((-1048576, -1048576, 1048576, 1048576), 16, None),
+        ((-1048576, -1048576, 1048576, 1048576), 17, None),
+        ((-1048576, -1048576, 1048576, 1048576), 255, None),
+    ] {
+        let name = PointName::Border(seg(&rt, ends), column);
+        assert_eq!(rt; lowest(name.point()), want, "column {column} of {ends:?}");
+    }
+}
+
+#[test]
+fn vertices_and_crossings_have_names(rt: HostRuntime) {
+    let (a, b) = (seg(&rt, (0, 0, 3, 1)), seg(&rt, (1, -1, 1, 3)));
+    for (name, want) in [
+        (PointName::Vertex(at(&rt, 5, -7)), Some((5, -7, 1))),
+        (PointName::Vertex(at(&rt, 0, 0)), Some((0, 0, 1))),
+        (PointName::Cross(a, b), Some((3, 1, 3))),
+        (PointName::Cross(a, a), None),
+    ] {
+        assert_eq!(rt; lowest(name.point()), want, "{name:?}");
+    }
+}
+
+#[test]
+fn points_are_ordered_by_x_and_then_by_y(rt: HostRuntime) {
+    for (p, q, want) in [
+        ((2, 2, 4), (1, 1, 2), Ordering::Equal),
+        ((1, 1, 2), (1, 0, 1), Ordering::Less),
+        ((-1, 0, 3), (-1, 0, 2), Ordering::Greater),
+        ((1, 1, 2), (2, 1, 4), Ordering::Greater),
+        ((0, 0, 1), (0, 0, 1024), Ordering::Equal),
+        ((1048576, 0, 1), (1073741823, 0, 1024), Ordering::Greater),
+        (
+            (-1048576, -1048576, 1),
+            (-1048576, 1048576, 1),
+            Ordering::Less,
+        ),
+    ] {
+        let (left, right) = (point(&rt, p.0, p.1, p.2), point(&rt, q.0, q.1, q.2));
+        assert_eq!(rt; left.cmp(&right), want, "{p:?} and {q:?}");
+        assert_eq!(rt; right.cmp(&left), want.reverse(), "{q:?} and {p:?}");
+        assert_eq!(rt; left == right, want.is_eq(), "{p:?} and {q:?}");
+        assert_eq!(rt; left < right, want.is_lt(), "{p:?} and {q:?}");
+    }
+}
+
+#[test]
+fn a_segment_is_below_up_to_its_right_end(rt: HostRuntime) {
+    for (ends, p, want_side, want_below, want_on) in [
+        ((0, 0, 4, 2), (2, 1, 1), Ordering::Equal, false, true),
+        ((0, 0, 4, 2), (2, 2, 1), Ordering::Greater, true, false),
+        ((0, 0, 4, 2), (2, 0, 1), Ordering::Less, false, false),
+        ((0, 0, 4, 2), (0, 1, 1), Ordering::Greater, true, false),
+        ((0, 0, 4, 2), (4, 3, 1), Ordering::Greater, false, false),
+        ((0, 0, 4, 2), (-1, 3, 1), Ordering::Greater, false, false),
+        ((0, 0, 4, 2), (0, 0, 1), Ordering::Equal, false, true),
+        ((0, 0, 4, 2), (4, 2, 1), Ordering::Equal, false, true),
+        ((0, 0, 4, 2), (6, 3, 1), Ordering::Equal, false, false),
+        ((0, 0, 4, 2), (-2, -1, 1), Ordering::Equal, false, false),
+        ((0, 0, 4, 2), (2, 1, 2), Ordering::Equal, false, true),
+        ((0, 0, 4, 2), (1, 1, 2), Ordering::Greater, true, false),
+        ((0, 0, 4, 2), (1, 0, 3), Ordering::Less, false, false),
+        // left of a vertical line counts as above it
+        ((3, 0, 3, 5), (2, 1, 1), Ordering::Greater, false, false),
+        ((3, 0, 3, 5), (4, 1, 1), Ordering::Less, false, false),
+        ((3, 0, 3, 5), (9, 1, 3), Ordering::Equal, false, true),
+        ((3, 0, 3, 5), (3, 6, 1), Ordering::Equal, false, false),
+        ((3, 0, 3, 5), (3, -1, 1), Ordering::Equal, false, false),
+        (
+            (-1048576, -1048576, 1048576, 1048576),
+            (1048575, 1048576, 1),
+            Ordering::Greater,
+            true,
+            false,
+        ),
+        (
+            (-1048576, -1048576, 1048576, 1048576),
+            (1048576, 1048576, 1),
+            Ordering::Equal,
+            false,
+            true,
+        ),
+        (
+            (-1048576, -1048576, 1048576, 1048576),
+            (1073741823, 1073741822, 1024),
+            Ordering::Less,
+            false,
+            false,
+        ),
+    ] {
+        let (segment, place) = (seg(&rt, ends), point(&rt, p.0, p.1, p.2));
+        assert_eq!(rt;
+            side(&segment, &place),
+            want_side,
+            "side of {ends:?} at {p:?}"
+        );
+        assert_eq!(rt; below(&segment, &place), want_below, "{ends:?} below {p:?}");
+        assert_eq!(rt; on(&segment, &place), want_on, "{p:?} on {ends:?}");
+    }
+}
+
+#[test]
+fn a_query_has_a_denominator_up_to_1024(rt: HostRuntime) {
+    for (x, y, w, good) in [
+        (0, 0, 1, true),
+        (0, 0, 0, false),
+        (0, 0, -1, false),
+        (0, 0, 1024, true),
+        (0, 0, 1025, false),
+        (1073741824, -1073741824, 1024, true),
+        (1073741825, 0, 1024, false),
+        (0, -1073741825, 1024, false),
+        (1048577, 0, 1, false),
+        (0, 1048577, 1, false),
+        (-1048577, 0, 1, false),
+        (i64::MIN, i64::MAX, i64::MAX, false),
+    ] {
+        let got = QueryPoint::new(x, y, w)
+            .map(|q| q.point())
+            .map(|p| (p.x, p.y, p.w));
+        let numbers = (i128::from(x), i128::from(y), i128::from(w));
+        let want = if good {
+            Ok(numbers)
+        } else {
+            Err(PointFault::PointRange)
+        };
+        assert_eq!(rt; got, want, "at {x} {y} {w}");
+    }
+}
+
+#[test]
+fn points_are_reduced_to_lowest_terms(rt: HostRuntime) {
+    for (x, y, w, want) in [
+        (14, 14, 2, (7, 7, 1)),
+        (3, 1, 3, (3, 1, 3)),
+        (0, 0, 1024, (0, 0, 1)),
+        (-6, 4, 8, (-3, 2, 4)),
+        (-6, -9, 12, (-2, -3, 4)),
+        (0, 5, 10, (0, 1, 2)),
+        (1073741824, -1073741824, 1024, (1048576, -1048576, 1)),
+    ] {
+        assert_eq!(rt;
+            lowest(Some(point(&rt, x, y, w))),
+            Some(want),
+            "at {x} {y} {w}"
+        );
+    }
+}
+
+#[test]
+fn a_fault_has_its_number_and_text(rt: HostRuntime) -> Result<(), Fail> {
+    let fault = PointFault::PointRange;
+    let line = format!(in rt.alloc(); "error {} {}", fault.code(), Text(fault))?;
+    assert_eq!(rt; line.as_str(), "error 20 point out of range");
+    Ok(())
+}
