@@ -1,0 +1,12 @@
+pub mod StepLemmas
+pub mod NameNumbers
+pub mod NothingAtZero
+pub mod StepOrder
+pub mod StepEvaluation
+pub mod LentLayers
+pub mod StandingLemmas
+pub mod TokenLemmas
+pub mod ReadingLemmas
+pub mod SpellingLemmas
+pub mod LawLemmas
+pub mod ReachedLayers

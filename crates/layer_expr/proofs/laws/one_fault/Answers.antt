@@ -1,0 +1,5 @@
+use Rattle.layer_expr.proofs.LawLemmas as laws
+use Rattle.layer_expr.proofs.laws.one_fault.Goals as goal
+
+pub returns : goal.returns
+returns c = laws.one_fault

@@ -1,0 +1,5 @@
+use Rattle.layer_expr.specs.SameSteps.{same_steps-Decides}
+use Rattle.layer_expr.proofs.step_list.same_are_equal.Goals as goal
+
+pub returns : goal.returns
+returns c = same_steps-Decides

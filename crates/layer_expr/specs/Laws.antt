@@ -1,0 +1,35 @@
+-- Laws of reading and writing expressions.
+use Rattle.std.specs.Prelude.{◌≡◌, ◌⊎◌, ℕ, ◌≤◌, IsTrue, List, length}
+use Rattle.overlay_terms.specs.Trees.{Tree}
+use Rattle.layer_expr.specs.declared.fault.ExprFault.{ExprFault}
+use Rattle.layer_expr.specs.Grammar.{Written, is_grouped, written_kinds, written_tree, ReadsAs, IsRefusedBy}
+use Rattle.layer_expr.specs.Spelling.{canonical, expression_text, IsExpression}
+
+-- what is written for an expression reads back as the same tree
+abbrev pub WrittenReadsBack : Type 0
+WrittenReadsBack = (tree : Tree (List ℕ)) → IsExpression tree → ReadsAs (expression_text tree) tree
+
+-- what is read is an expression
+abbrev pub ReadIsExpression : Type 0
+ReadIsExpression = (bytes : List ℕ) (tree : Tree (List ℕ)) → ReadsAs bytes tree → IsExpression tree
+
+-- what is written has no more tokens than any other spelling of the tree
+abbrev pub FewestTokens : Type 0
+FewestTokens =
+    (w : Written) (tree : Tree (List ℕ)) → IsTrue (is_grouped w) → written_tree w ≡ tree → length (written_kinds (canonical tree)) ≤ length (written_kinds w)
+
+-- a text has one tree
+abbrev pub OneTree : Type 0
+OneTree = (bytes : List ℕ) (t u : Tree (List ℕ)) → ReadsAs bytes t → ReadsAs bytes u → t ≡ u
+
+-- a text has one first fault
+abbrev pub OneFault : Type 0
+OneFault = (bytes : List ℕ) (f g : ExprFault) → IsRefusedBy bytes f → IsRefusedBy bytes g → f ≡ g
+
+-- no text is both read and refused
+abbrev pub NeverBoth : Type 0
+NeverBoth = (bytes : List ℕ) (t : Tree (List ℕ)) (f : ExprFault) → ReadsAs bytes t → ¬ (IsRefusedBy bytes f)
+
+-- each text is read or refused
+abbrev pub ReadOrRefused : Type 0
+ReadOrRefused = (bytes : List ℕ) → ((t : Tree (List ℕ)) × ReadsAs bytes t) ⊎ ((f : ExprFault) × IsRefusedBy bytes f)

@@ -1,0 +1,14 @@
+pub mod Fault
+pub mod Name
+pub mod Expr
+pub mod Steps
+pub mod StepList
+pub mod Token
+pub mod Grammar
+pub mod Spelling
+pub mod SameSteps
+pub use Rattle.overlay_terms.specs.Trees
+pub mod Standing
+pub mod Lexeme
+pub mod Reader
+pub mod Laws

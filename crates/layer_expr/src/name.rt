@@ -1,0 +1,83 @@
+//! Names of layers.
+ghost use Rattle.std.specs.Prelude.{◌≡◌, List, ℕ, IfOk, IsTrue, IsOkUnless, true, false};
+ghost use Rattle.std.specs.List.{list_all};
+ghost use Rattle.layer_expr.specs.Name.{is_name, is_name_byte, first_is_letter};
+
+use crate::fault::ExprFault;
+use std::alloc::{AllocError, Global};
+use std::marker::Model;
+
+/// A name of 1 to 32 bytes: a letter, then letters, digits and underscores.
+#[derive(Debug, Drop)]
+pub struct Name {
+    bytes: Vec<u8>,
+}
+
+impl Model for Name {
+    ghost Value = { List ℕ };
+
+    ghost view = { λ n. n.bytes.items };
+
+    ghost invariant = { λ n. IsTrue (is_name n.bytes.items) };
+}
+
+impl Name {
+    /// The name with these bytes.
+    pub fn new(alloc: Global, bytes: &[u8]) -> Result<Name, ExprFault>
+        ensures ok { IfOk result (λ name. name ≡ bytes.now) }
+        ensures refused { is_name bytes.now ≡ false → result ≡ Err ExprFault.BadName }
+        ensures accepted { is_name bytes.now ≡ true → IsOkUnless result ExprFault.OutOfMemory }
+    {
+        if !is_well_formed(bytes) {
+            return Err(ExprFault::BadName);
+        }
+        let bytes = Vec::from_slice(alloc, bytes)?;
+        Ok(Name { bytes })
+    }
+
+    pub fn bytes(&self) -> &[u8]
+        ensures value { result.now ≡ self.now }
+        ensures valid { IsTrue (is_name result.now) }
+    {
+        &self.bytes
+    }
+}
+
+impl Clone for Name {
+    ghost is_clone = { λ name copy. copy ≡ name };
+
+    fn clone(&self) -> Result<Name, AllocError> {
+        Ok(Name {
+            bytes: self.bytes.clone()?,
+        })
+    }
+}
+
+/// Whether the bytes are those of a name.
+pub fn is_well_formed(bytes: &[u8]) -> bool
+    ensures { result ≡ is_name bytes.now }
+{
+    starts_with_letter(bytes) & (bytes.len() <= 32) & all_name_bytes(bytes)
+}
+
+fn starts_with_letter(bytes: &[u8]) -> bool
+    ensures { result ≡ first_is_letter bytes.now }
+{
+    match bytes {
+        [] => false,
+        [first, ..] => first.is_ascii_alphabetic(),
+    }
+}
+
+fn all_name_bytes(bytes: &[u8]) -> bool
+    ensures { result ≡ list_all is_name_byte bytes.now }
+{
+    bytes.iter().all(|b| goes_on(*b))
+}
+
+/// Whether the byte may stand after the first of a name.
+pub(crate) fn goes_on(b: u8) -> bool
+    ensures { result ≡ is_name_byte b }
+{
+    b.is_ascii_alphanumeric() | (b == b'_')
+}
