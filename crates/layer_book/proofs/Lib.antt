@@ -1,0 +1,10 @@
+pub mod Names
+pub mod Order
+pub mod Entries
+pub mod Accepted
+pub mod Lookups
+pub mod Answering
+pub mod Wanted
+pub mod Edges
+pub mod Closing
+pub mod Lines

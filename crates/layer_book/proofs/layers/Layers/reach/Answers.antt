@@ -1,0 +1,33 @@
+use Rattle.std.proofs.Common.{◌-◌, false, replicate, sym, ap, ◌∙◌, subst, arith}
+use Rattle.overlay_terms.specs.Commands.{place_of}
+use Rattle.layer_book.specs.Question.{at_place}
+use Rattle.layer_book.proofs.Closing.{IsClosedFrom, closed_at_end, closed_more, kept_marks, first_mark, near_place}
+use Rattle.layer_book.proofs.layers.Layers.reach.Goals as goal
+
+pub loop-i-init : goal.loop-i-init
+loop-i-init c =
+    let layers = c.args.self.now in
+    let near = near_place layers c.args.name.now c.requires in
+    record {
+      room = c.type_inv.wanted;
+      asked = first_mark (replicate 32 false) c.mark.new.wanted c.place_of.result (place_of layers c.args.name.now) c.mark.ensures c.place_of.ensures (omega (arith, near, c.len-i.ensures.valid.few, c.type_inv.wanted));
+      closed = λ i layer from e m. closed_at_end layers c.mark.new.wanted i layer (omega (arith, c.len-i.ensures.value, from)) e m;
+    }
+
+pub loop-i-preserved : goal.loop-i-preserved
+loop-i-preserved c =
+    let layers = c.args.self.now in
+    let book = c.len-i.ensures.valid in
+    let inv = c.loop-i.invariant in
+    let k = c.loop-i.i - 1 in
+    record {
+      room = c.type_inv.wanted;
+      asked = ap (λ ws. at_place ws (place_of layers c.args.name.now)) c.mark_used.ensures ∙ kept_marks layers c.loop-i.wanted k (place_of layers c.args.name.now) inv.asked;
+      closed = subst (λ ws. IsClosedFrom layers ws k) (sym c.mark_used.ensures) (closed_more layers c.loop-i.wanted k book.orderly (omega (arith, c.len-i.ensures.value)) (omega (arith, inv.room, book.few)) (λ i layer from e m. inv.closed i layer (omega (arith, from)) e m));
+    }
+
+pub returns-clause-asked : goal.returns-clause-asked
+returns-clause-asked c = c.loop-i.invariant.asked
+
+pub returns-clause-closed : goal.returns-clause-closed
+returns-clause-closed c = λ i layer e m. c.loop-i.invariant.closed i layer (omega arith) e m

@@ -1,0 +1,42 @@
+-- The faults of the layers: their numbers and texts, and those that stand for the refusals of commands.
+use Rattle.std.specs.Prelude.{◌≡◌, ℕ, List, codes, Option, Some, None}
+use Rattle.overlay_terms.specs.Commands.{Refusal, unknown_layer, not_base, not_derived, later_layer, in_use, too_many_layers, version_limit}
+use Rattle.layer_book.specs.declared.fault.LayerFault.{LayerFault}
+use Rattle.layer_book.specs.declared.fault.LayerFault.TheVariants.{UnknownLayer, NotBase, NotDerived, LaterLayer, InUse, TooManyLayers, VersionLimit, OutOfMemory}
+
+-- the number under which a fault is printed
+abbrev pub code_of : LayerFault → ℕ
+code_of UnknownLayer = 10
+code_of NotBase = 11
+code_of NotDerived = 12
+code_of LaterLayer = 13
+code_of InUse = 14
+code_of TooManyLayers = 15
+code_of VersionLimit = 16
+code_of OutOfMemory = 40
+
+-- the text that is printed behind the number
+abbrev pub text_of : LayerFault → List ℕ
+text_of UnknownLayer = codes "unknown layer"
+text_of NotBase = codes "not a base layer"
+text_of NotDerived = codes "not a derived layer"
+text_of LaterLayer = codes "later layer"
+text_of InUse = codes "in use"
+text_of TooManyLayers = codes "too many layers"
+text_of VersionLimit = codes "version limit"
+text_of OutOfMemory = codes "out of memory"
+
+-- the fault that a refusal is reported by
+abbrev pub fault_of : Refusal → LayerFault
+fault_of unknown_layer = UnknownLayer
+fault_of not_base = NotBase
+fault_of not_derived = NotDerived
+fault_of later_layer = LaterLayer
+fault_of in_use = InUse
+fault_of too_many_layers = TooManyLayers
+fault_of version_limit = VersionLimit
+
+-- a fault reports the refusal, if there is one
+abbrev pub Reports : Option Refusal → LayerFault → Type 0
+Reports None fault = ⊥
+Reports (Some refusal) fault = fault ≡ fault_of refusal

@@ -1,0 +1,40 @@
+-- Layers of the code as layers of the definitions.
+use Rattle.std.specs.Prelude.{ℕ, ◌≤◌, not, List, [], ◌∷◌, map, filter, length, Option, Some, None, bytes_eq, if◌then◌else◌}
+use Rattle.overlay_terms.specs.Layers.{Content, base, derived}
+use Rattle.overlay_terms.specs.Layers as terms
+use Rattle.overlay_terms.specs.Commands.{Command, put, define, layers_max}
+use Rattle.overlay_terms.specs.Orderly.{IsOrderly}
+use Rattle.layer_book.specs.declared.layer.Layer.{Layer}
+use Rattle.layer_book.specs.declared.layer.Layer.TheVariants.{Base, Derived}
+
+-- what a layer is made of
+abbrev pub content : Layer → Content
+content (Base rings) = base rings.value
+content (Derived expression) = derived expression.value
+
+-- a name and what stands under it, as a layer
+abbrev pub named_layer : List ℕ × Layer → terms.Layer
+named_layer entry = record { name = entry.0; content = content entry.1 }
+
+-- the entries of the map, as layers in its order
+abbrev pub layers_of : List (List ℕ × Layer) → List terms.Layer
+layers_of entries = map named_layer entries
+
+-- layers as commands leave them: orderly, and not too many
+pub record IsBook (layers : List terms.Layer) : Type 0 where
+  pub orderly : IsOrderly layers
+  pub few : length layers ≤ layers_max
+
+-- what stands under a name
+abbrev pub content_named : List terms.Layer → List ℕ → Option Content
+content_named [] name = None
+content_named (layer ∷ layers) name = if bytes_eq layer.name name then Some layer.content else content_named layers name
+
+-- the command that keeps a content under a name
+abbrev pub keeping : List ℕ → Content → Command
+keeping name (base rings) = put name rings
+keeping name (derived expression) = define name expression
+
+-- the layers with other names
+abbrev pub others : List terms.Layer → List ℕ → List terms.Layer
+others layers name = filter (λ layer. not (bytes_eq layer.name name)) layers

@@ -1,0 +1,6 @@
+pub mod Fault
+pub mod Layer
+pub mod Command
+pub mod Place
+pub mod Listing
+pub mod Question

@@ -1,0 +1,16 @@
+-- How all layers are listed: how many there are, then a line for each.
+use Rattle.std.specs.Prelude.{ℕ, List, [], ◌∷◌, ◌++◌, length, flat_map, codes, decimal}
+use Rattle.wkt_form.specs.Spelling.{wkt_text}
+use Rattle.layer_expr.specs.Spelling.{expression_text}
+use Rattle.overlay_terms.specs.Layers.{Content, base, derived, Layer}
+
+-- the text behind the name: the rings as a text, or `= ` and the expression
+abbrev pub content_text : Content → List ℕ
+content_text (base rings) = wkt_text rings
+content_text (derived expression) = codes "= " ++ expression_text expression
+
+abbrev pub layer_line : Layer → List ℕ
+layer_line layer = layer.name ++ (codes " " ++ (content_text layer.content ++ 10 ∷ []))
+
+abbrev pub layers_text : List Layer → List ℕ
+layers_text layers = codes "layers " ++ (decimal (length layers) ++ (10 ∷ flat_map layer_line layers))

@@ -1,0 +1,66 @@
+//! One layer.
+ghost use Rattle.std.specs.Prelude.{◌≡◌};
+ghost use Rattle.std.specs.List.{list_any};
+ghost use Rattle.overlay_terms.specs.Commands.{is_derived, uses};
+ghost use Rattle.overlay_terms.specs.Trees.{leaves};
+ghost use Rattle.std.specs.Str.{bytes_eq};
+ghost use Rattle.layer_book.specs.Layer.{content};
+ghost use Rattle.layer_expr.specs.Expr.{tree};
+
+use layer_expr::expr::{Expr, Node};
+use layer_expr::name::Name;
+use plane_base::base_layer::BaseLayer;
+use std::alloc::AllocError;
+use std::sync::Arc;
+
+/// What stands under a name.
+#[derive(Debug, Drop)]
+pub enum Layer {
+    Base(Arc<BaseLayer>),
+    Derived(Arc<Expr>),
+}
+
+impl Clone for Layer {
+    ghost is_clone = { λ layer copy. content copy ≡ content layer };
+
+    fn clone(&self) -> Result<Layer, AllocError> {
+        match self {
+            Layer::Base(rings) => Ok(Layer::Base(rings.clone()?)),
+            Layer::Derived(expression) => Ok(Layer::Derived(expression.clone()?)),
+        }
+    }
+}
+
+impl Layer {
+    pub fn is_derived(&self) -> bool
+        ensures { result ≡ is_derived (content self.now) }
+    {
+        match self {
+            Layer::Base(_) => false,
+            Layer::Derived(_) => true,
+        }
+    }
+
+    /// Whether the layer's definition names the name.
+    pub fn uses(&self, name: &Name) -> bool
+        ensures { result ≡ uses name.now (content self.now) }
+    {
+        match self {
+            Layer::Base(_) => false,
+            Layer::Derived(expression) => node_uses(expression.root(), name),
+        }
+    }
+}
+
+fn node_uses(node: &Node, name: &Name) -> bool
+    ensures { result ≡ list_any (λ used. bytes_eq used name.now) (leaves (tree node.now)) }
+{
+    match node {
+        Node::Leaf(used) => used == name,
+        Node::Combine(_, left, right) => {
+            let on_left = node_uses(left, name);
+            let on_right = node_uses(right, name);
+            on_left | on_right
+        }
+    }
+}

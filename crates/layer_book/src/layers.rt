@@ -1,0 +1,148 @@
+//! Layers in order of creation.
+ghost use Rattle.std.specs.Prelude.{◌≡◌, ◌<◌, ◌↔◌, [], length, slice_get, is_some, None, false, IfSome, IfOk, OnOk, IsTrue, ◌++◌, ◌∷◌};
+ghost use Rattle.std.specs.List.{list_any};
+ghost use Rattle.std.specs.Option.{option_map};
+ghost use Rattle.overlay_terms.specs.Commands.{place_of, stands, uses, with_content, refusal_of, refusal_of_remove};
+ghost use Rattle.overlay_terms.specs.Orderly.{IsOrderly};
+ghost use Rattle.layer_book.specs.Layer.{content, content_named, keeping, layers_of, named_layer, others, IsBook};
+
+use crate::layer::Layer;
+use indexmap::IndexMap;
+use layer_expr::name::Name;
+use std::alloc::{AllocError, Global};
+use std::marker::Model;
+
+/// Named layers in order of creation, at most 32. Each definition names earlier layers alone.
+#[derive(Debug, Drop)]
+pub struct Layers {
+    map: IndexMap<Name, Layer>,
+}
+
+impl Model for Layers {
+    ghost use Rattle.std.specs.Prelude.{List};
+    ghost use Rattle.std.specs.Coded.{coded_list};
+    ghost use Rattle.overlay_terms.specs.Layers as terms;
+    ghost use Rattle.overlay_terms.specs.LayerCode.{layer_code};
+
+    ghost Value = { List terms.Layer };
+
+    ghost coded = { coded_list layer_code };
+
+    ghost use Rattle.layer_book.specs.Layer.{layers_of, IsBook};
+
+    ghost view = { λ l. layers_of l.map.entries };
+
+    ghost invariant = { λ l. IsBook (layers_of l.map.entries) };
+}
+
+impl Layers {
+    /// No layer.
+    pub fn new(alloc: Global) -> Layers
+        ensures { result ≡ [] }
+    {
+        Layers {
+            map: IndexMap::new(alloc),
+        }
+    }
+
+    /// How many layers there are.
+    pub fn len(&self) -> usize
+        ensures value { result ≡ length self.now }
+        ensures valid { IsBook self.now }
+    {
+        self.map.len()
+    }
+
+    pub fn is_empty(&self) -> bool
+        ensures { IsTrue result ↔ (self.now ≡ []) }
+    {
+        self.map.is_empty()
+    }
+
+    /// The layer at a place, counted from 0, with its name.
+    pub fn at(&self, place: usize) -> Option<(&Name, &Layer)>
+        ensures { option_map (λ entry. record { name = entry.0.now; content = content entry.1.now }) result ≡ slice_get self.now place }
+    {
+        self.map.get_index(place)
+    }
+
+    /// The place of the layer with a name.
+    pub fn find(&self, name: &Name) -> Option<usize>
+        ensures known { is_some result ≡ stands self.now name.now }
+        ensures place { IfSome result (λ place. (place ≡ place_of self.now name.now) × (place < length self.now)) }
+    {
+        self.map.get_index_of(name)
+    }
+
+    /// What stands under a name.
+    pub fn get(&self, name: &Name) -> Option<&Layer>
+        ensures value { option_map (λ layer. content layer.now) result ≡ content_named self.now name.now }
+        ensures valid { IsBook self.now }
+    {
+        self.map.get(name)
+    }
+
+    /// Whether a definition names the name.
+    pub fn is_used(&self, name: &Name) -> bool
+        ensures { result ≡ list_any (λ layer. uses name.now layer.content) self.now }
+    {
+        is_used_in(self.map.values().as_slice(), name)
+    }
+
+    /// The same layers once more. Rings and expressions are shared.
+    pub fn try_copy(&self, alloc: Global) -> Result<Layers, AllocError>
+        ensures { IfOk result (λ copy. copy ≡ self.now) }
+    {
+        let map = copied(alloc, &self.map)?;
+        Ok(Layers { map })
+    }
+
+    /// The layers with a layer under a name: in the place of the one that has it, or last. The
+    /// command that asks for this is accepted.
+    pub fn with(&self, alloc: Global, name: &Name, layer: Layer) -> Result<Layers, AllocError>
+        requires { refusal_of self.now (keeping name.now (content layer)) ≡ None }
+        ensures { IfOk result (λ layers. layers ≡ with_content self.now name.now (content layer)) }
+    {
+        let mut map = copied(alloc, &self.map)?;
+        map.insert(name.clone()?, layer)?;
+        Ok(Layers { map })
+    }
+
+    /// The layers without the one that has a name, which no definition names. Those behind it
+    /// close up.
+    pub fn without(&self, alloc: Global, name: &Name) -> Result<Layers, AllocError>
+        requires { refusal_of_remove self.now name.now ≡ None }
+        ensures { IfOk result (λ layers. layers ≡ others self.now name.now) }
+    {
+        let mut map = copied(alloc, &self.map)?;
+        map.shift_remove(name);
+        Ok(Layers { map })
+    }
+}
+
+fn is_used_in(layers: &[Layer], name: &Name) -> bool
+    ensures { result ≡ list_any (λ layer. uses name.now (content layer)) layers.now }
+{
+    layers.iter().any(|layer| layer.uses(name))
+}
+
+/// The entries once more, with room for another.
+fn copied(alloc: Global, map: &IndexMap<Name, Layer>) -> Result<IndexMap<Name, Layer>, AllocError>
+    requires { IsOrderly (layers_of map.now.entries) }
+    ensures { IfOk result (λ copy. layers_of copy.entries ≡ layers_of map.now.entries) }
+{
+    let mut copy = IndexMap::with_capacity(alloc, map.len() + 1)?;
+    for (name, layer) in map {
+        add_copy(&mut copy, name, layer)?;
+    }
+    Ok(copy)
+}
+
+/// Adds a copy of an entry, whose name is new, at the end.
+fn add_copy(map: &mut IndexMap<Name, Layer>, name: &Name, layer: &Layer) -> Result<(), AllocError>
+    requires { stands (layers_of map.old.entries) name.now ≡ false }
+    ensures { OnOk result (layers_of map.new.entries ≡ layers_of map.old.entries ++ named_layer (name.now, layer.now) ∷ []) }
+{
+    map.insert(name.clone()?, layer.clone()?)?;
+    Ok(())
+}

@@ -1,0 +1,14 @@
+//! Layers in order of creation, and what commands make of them.
+#![tactic(auto)]
+
+pub mod applying;
+pub mod command;
+pub mod direct_answer;
+pub mod fault;
+pub mod layer;
+pub mod layers;
+pub mod listing;
+pub mod question;
+pub mod reach;
+#[cfg(test)]
+mod tests;

@@ -1,0 +1,64 @@
+//! Which layers a layer reaches.
+ghost use Rattle.std.specs.Prelude.{◌≡◌, ◌<◌, length, slice_set, true, if◌then◌else◌};
+ghost use Rattle.overlay_terms.specs.Trees.{leaves};
+ghost use Rattle.overlay_terms.specs.Commands.{place_of, stands};
+ghost use Rattle.overlay_terms.specs.Orderly.{used_names};
+ghost use Rattle.layer_expr.specs.Expr.{tree};
+ghost use Rattle.layer_book.specs.Layer.{IsBook};
+ghost use Rattle.layer_book.specs.Question.{at_place, content_at, is_wanted, marked, IsClosed};
+
+use crate::layer::Layer;
+use crate::layers::Layers;
+use layer_expr::expr::Node;
+use layer_expr::name::Name;
+
+impl Layers {
+    /// The layers that a layer reaches, by their places: itself, what it names, what those name.
+    pub fn reach(&self, name: &Name) -> [bool; 32]
+        requires { stands self.now name.now ≡ true }
+        ensures asked { is_wanted self.now result name.now ≡ true }
+        ensures closed { IsClosed self.now result }
+        ensures valid { IsBook self.now }
+    {
+        let mut wanted = [false; 32];
+        mark(&mut wanted, self.place_of(name));
+        for i in (0..self.len()).rev() {
+            self.mark_used(i, &mut wanted);
+        }
+        wanted
+    }
+
+    /// Marks what a layer names, if it is marked itself.
+    fn mark_used(&self, i: usize, wanted: &mut [bool; 32])
+        requires { i < 32 }
+        ensures { wanted.new ≡ (if at_place wanted.old i then marked self.now wanted.old (used_names (content_at self.now i)) else wanted.old) }
+    {
+        if !wanted[i] {
+            return;
+        }
+        if let Some((_, Layer::Derived(expression))) = self.at(i) {
+            self.mark_names(expression.root(), wanted);
+        }
+    }
+
+    /// Marks the names below a node.
+    fn mark_names(&self, node: &Node, wanted: &mut [bool; 32])
+        ensures { wanted.new ≡ marked self.now wanted.old (leaves (tree node.now)) }
+    {
+        match node {
+            Node::Leaf(name) => mark(wanted, self.place_of(name)),
+            Node::Combine(_, left, right) => {
+                self.mark_names(left, wanted);
+                self.mark_names(right, wanted);
+            }
+        }
+    }
+}
+
+fn mark(wanted: &mut [bool; 32], place: usize)
+    ensures { wanted.new ≡ slice_set wanted.old place true }
+{
+    if place < wanted.len() {
+        wanted[place] = true;
+    }
+}
