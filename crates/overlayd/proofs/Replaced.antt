@@ -1,0 +1,80 @@
+-- A refused line changes nothing, so that `out of memory` may stand in the place of its fault.
+use Rattle.std.proofs.Common.{◌≡◌, ℕ, ◌<◌, lit<, ◌⊎◌, inl, inr, List, [], get_or, refl, sym, ap, ◌∙◌, subst, arith}
+use Rattle.overlay_terms.specs.Commands.{Command}
+use Rattle.overlay_terms.specs.Histories.{History}
+use Rattle.overlayd.specs.declared.book.Book.{Book}
+use Rattle.overlayd.specs.declared.fault.CommandFault.{CommandFault}
+use Rattle.overlayd.specs.declared.fault.CommandFault.TheVariants.{OutOfMemory}
+use Rattle.overlayd.specs.declared.reply.Reply.{Reply}
+use Rattle.overlayd.specs.declared.reply.Reply.TheVariants.{Nothing, Accepted, Located, Fault, Lines}
+use Rattle.overlayd.specs.Requests.{Request, nothing, too_long, malformed, put, define, remove, locate, list_layers, request_of}
+use Rattle.overlayd.specs.Replies.{ok_line, error_line}
+use Rattle.overlayd.specs.Reply.{reply_text, IsTextOf}
+use Rattle.overlayd.specs.Transcript.{IsRefused, IsAnswered, IsSubmitted}
+use Rattle.overlayd.specs.Session.{GoesOnIn, TakesTurn}
+
+-- an accepted command is never told as a fault
+differ : (a b : ℕ) → a < b → b ≡ a → ⊥
+differ a b less same = omega arith
+
+ok_is_no_error : (number : ℕ) (fault : CommandFault) → ok_line number ≡ error_line fault → ⊥
+ok_is_no_error number fault same = differ 101 111 (lit< tt) (ap (λ (l : List ℕ). get_or l 0 0) same)
+
+submitted_makes_nothing : (session : ℕ) (before : History) (command : Command) (after : History) (made : List Command) (reply : List ℕ) (fault : CommandFault)
+    → reply ≡ error_line fault → IsSubmitted session before command after made reply → made ≡ []
+submitted_makes_nothing session before command after made reply fault is (inl (refusal, first, refused)) = refused.nothing_made
+submitted_makes_nothing session before command after made reply fault is (inr accepted) =
+    absurd (ok_is_no_error accepted.version.number fault (sym accepted.told ∙ is))
+
+-- where the reply is a fault's line, nothing is made
+makes_nothing : (session : ℕ) (before : History) (request : Request) (after : History) (made : List Command) (reply : List ℕ) (fault : CommandFault)
+    → reply ≡ error_line fault → IsAnswered session before request after made reply → made ≡ []
+makes_nothing session before nothing after made reply fault is told = told.nothing_made
+makes_nothing session before too_long after made reply fault is refused = refused.nothing_made
+makes_nothing session before malformed after made reply fault is refused = refused.nothing_made
+makes_nothing session before (put name text) after made reply fault is (inl (bad, refused)) = refused.nothing_made
+makes_nothing session before (put name text) after made reply fault is (inr (good, inl (why, by, refused))) = refused.nothing_made
+makes_nothing session before (put name text) after made reply fault is (inr (good, inr (rings, reads, submitted))) =
+    submitted_makes_nothing session before _ after made reply fault is submitted
+makes_nothing session before (define name text) after made reply fault is (inl (bad, refused)) = refused.nothing_made
+makes_nothing session before (define name text) after made reply fault is (inr (good, inl (why, by, refused))) = refused.nothing_made
+makes_nothing session before (define name text) after made reply fault is (inr (good, inr (tree, reads, submitted))) =
+    submitted_makes_nothing session before _ after made reply fault is submitted
+makes_nothing session before (remove name) after made reply fault is (inl (bad, refused)) = refused.nothing_made
+makes_nothing session before (remove name) after made reply fault is (inr (good, submitted)) =
+    submitted_makes_nothing session before _ after made reply fault is submitted
+makes_nothing session before (locate name x y w) after made reply fault is (inl (bad, refused)) = refused.nothing_made
+makes_nothing session before (locate name x y w) after made reply fault is (inr (good, inl (out, refused))) = refused.nothing_made
+makes_nothing session before (locate name x y w) after made reply fault is (inr (good, inr (inl (query, absent, refused)))) = refused.nothing_made
+makes_nothing session before (locate name x y w) after made reply fault is (inr (good, inr (inr (query, there, told)))) = told.nothing_made
+makes_nothing session before list_layers after made reply fault is told = told.nothing_made
+
+turn_makes_nothing : (session : ℕ) (before : History) (line : List ℕ) (after : History) (made : List Command) (fault : CommandFault)
+    → IsRefused OutOfMemory made (error_line fault) ⊎ IsAnswered session before (request_of line) after made (error_line fault) → made ≡ []
+turn_makes_nothing session before line after made fault (inl refused) = refused.nothing_made
+turn_makes_nothing session before line after made fault (inr answered) = makes_nothing session before (request_of line) after made (error_line fault) fault refl answered
+
+goes_on-out_of_memory : (before : History) (line : List ℕ) (new : Book) (fault : CommandFault) → GoesOnIn before line new (error_line fault) → GoesOnIn before line new (error_line OutOfMemory)
+goes_on-out_of_memory before line new fault on = record {
+  after = on.after;
+  made = on.made;
+  turn = record {
+    goes_on = on.turn.goes_on;
+    answered = inl (record { nothing_made = turn_makes_nothing 0 before line on.after on.made fault on.turn.answered; told = refl });
+  };
+  holds = on.holds;
+  more = on.more;
+  goes_on = on.goes_on;
+  follows = on.follows;
+  only = on.only;
+}
+
+-- the turn of a line, told by any text of its reply
+pub turn_told : (old new : Book) (line : List ℕ) (reply : Reply) (text : List ℕ) → IsTextOf reply text → TakesTurn old line new (reply_text reply) → TakesTurn old line new text
+turn_told old new line Nothing text is takes = subst (λ t. TakesTurn old line new t) (sym is) takes
+turn_told old new line (Accepted number) text is takes = subst (λ t. TakesTurn old line new t) (sym is) takes
+turn_told old new line (Located place) text is takes = subst (λ t. TakesTurn old line new t) (sym is) takes
+turn_told old new line (Fault fault) text (inl is) takes = subst (λ t. TakesTurn old line new t) (sym is) takes
+turn_told old new line (Fault fault) text (inr is) takes =
+    subst (λ t. TakesTurn old line new t) (sym is) (λ before holds. goes_on-out_of_memory before line new fault (takes before holds))
+turn_told old new line (Lines lines) text is takes = subst (λ t. TakesTurn old line new t) (sym is) takes

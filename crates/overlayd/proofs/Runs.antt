@@ -1,0 +1,88 @@
+-- A transcript and its history, with one more line at the end.
+use Rattle.std.proofs.Common.{◌≡◌, ℕ, ◌⊎◌, List, [], ◌∷◌, ◌++◌, map, refl, sym, ap, ◌∙◌, subst, append_assoc, append-nil}
+use Rattle.std.proofs.lemmas.List.{map-append}
+use Rattle.overlay_terms.specs.Commands.{Command}
+use Rattle.overlay_terms.specs.Histories.{Version, accepted, Entry, History, AllFollow, IsHistory, last_version}
+use Rattle.overlayd.specs.declared.book.Book.{Book}
+use Rattle.overlayd.specs.declared.fault.CommandFault.TheVariants.{OutOfMemory}
+use Rattle.overlayd.specs.Requests.{Request, request_of}
+use Rattle.overlayd.specs.Transcript.{IsRefused, IsAnswered, IsTurn, IsTranscript}
+use Rattle.overlayd.specs.Session.{IsOwnRun, Holds, GoesOnIn, TakesTurn}
+
+-- one more line is answered at the history that the lines before have led to
+transcript-push : (session : ℕ) (seen : History) (lines : List (List ℕ)) (after : History) (made : List Command) (replies : List ℕ)
+    → IsTranscript session seen lines after made replies → (line : List ℕ) (later : History) (first : List Command) (reply : List ℕ)
+    → IsTurn session after line later first reply → IsTranscript session seen (lines ++ line ∷ []) later (made ++ first) (replies ++ reply)
+transcript-push session seen [] after made replies (same, none, empty) line later first reply turn = (
+  later,
+  first,
+  [],
+  reply,
+  [],
+  subst (λ (h : History). IsTurn session h line later first reply) same turn,
+  (refl, refl, refl),
+  ap (λ m. m ++ first) none ∙ sym (append-nil first),
+  ap (λ r. r ++ reply) empty ∙ sym (append-nil reply),
+)
+transcript-push session seen (line ∷ lines) after made replies (mid, one, others, told, rest, turn, run, all_made, all_told) last later first reply last_turn = (
+  mid,
+  one,
+  others ++ first,
+  told,
+  rest ++ reply,
+  turn,
+  transcript-push session mid lines after others rest run last later first reply last_turn,
+  ap (λ m. m ++ first) all_made ∙ append_assoc one others first,
+  ap (λ r. r ++ reply) all_told ∙ append_assoc told rest reply,
+)
+
+-- entries that follow, and more that follow behind them
+AllFollow-append : (version : Version) (entries more : List Entry) → AllFollow version entries → AllFollow (last_version version entries) more → AllFollow version (entries ++ more)
+AllFollow-append version [] more follow later = later
+AllFollow-append version (entry ∷ entries) more (follows, follow) later = (follows, AllFollow-append entry.version entries more follow later)
+
+-- a run with the book that its history gives
+pub record IsRunTo (lines : List (List ℕ)) (replies : List ℕ) (book : Book) : Type 0 where
+  pub run : IsOwnRun lines replies
+  pub holds : Holds book run.after
+
+-- a turn makes a run longer by its line
+pub run-push : (lines : List (List ℕ)) (replies : List ℕ) (old : Book) (run : IsOwnRun lines replies) → Holds old run.after
+    → (line : List ℕ) (new : Book) (reply : List ℕ) → TakesTurn old line new reply → IsRunTo (lines ++ line ∷ []) (replies ++ reply) new
+run-push lines replies old run holds line new reply takes =
+    let on = takes run.after holds in
+    record {
+      run = record {
+        after = on.after;
+        made = run.made ++ on.made;
+        history = subst IsHistory (sym on.goes_on) (AllFollow-append run.after.start run.after.entries on.more run.history on.follows);
+        told = transcript-push 0 _ lines run.after run.made replies run.told line on.after on.made reply on.turn;
+        only = ap (λ (h : History). map (λ (entry : Entry). entry.event) h.entries) on.goes_on
+            ∙ map-append (λ (entry : Entry). entry.event) run.after.entries on.more
+            ∙ ap (λ es. es ++ map (λ (entry : Entry). entry.event) on.more) run.only
+            ∙ ap (λ es. map (accepted 0) run.made ++ es) on.only
+            ∙ sym (map-append (accepted 0) run.made on.made);
+      };
+      holds = on.holds;
+    }
+
+-- a line is answered as any other that asks for the same
+turn-same : (before : History) (line other : List ℕ) → request_of line ≡ request_of other → (new : Book) (reply : List ℕ)
+    → GoesOnIn before line new reply → GoesOnIn before other new reply
+turn-same before line other same new reply on = record {
+  after = on.after;
+  made = on.made;
+  turn = record {
+    goes_on = on.turn.goes_on;
+    answered = subst (λ (request : Request). IsRefused OutOfMemory on.made reply ⊎ IsAnswered 0 before request on.after on.made reply) same on.turn.answered;
+  };
+  holds = on.holds;
+  more = on.more;
+  goes_on = on.goes_on;
+  follows = on.follows;
+  only = on.only;
+}
+
+pub takes_turn-same : (line other : List ℕ) → request_of line ≡ request_of other → (old new : Book) (reply : List ℕ)
+    → TakesTurn old line new reply → TakesTurn old other new reply
+takes_turn-same line other same old new reply takes = λ before holds. turn-same before line other same new reply (takes before holds)

@@ -1,0 +1,23 @@
+-- Replies of the code as bytes.
+use Rattle.std.specs.Prelude.{◌≡◌, ℕ, ◌⊎◌, List, []}
+use Rattle.layer_book.specs.Place.{location}
+use Rattle.overlayd.specs.Replies.{ok_line, error_line, location_line}
+use Rattle.overlayd.specs.declared.fault.CommandFault.TheVariants.{OutOfMemory}
+use Rattle.overlayd.specs.declared.reply.Reply.{Reply}
+use Rattle.overlayd.specs.declared.reply.Reply.TheVariants.{Nothing, Accepted, Located, Fault, Lines}
+
+-- the bytes of a reply
+abbrev pub reply_text : Reply → List ℕ
+reply_text Nothing = []
+reply_text (Accepted number) = ok_line number
+reply_text (Located place) = location_line (location place)
+reply_text (Fault fault) = error_line fault
+reply_text (Lines text) = text.items
+
+-- the bytes of a reply, or those of `out of memory` in the place of a fault's
+abbrev pub IsTextOf : Reply → List ℕ → Type 0
+IsTextOf Nothing text = text ≡ []
+IsTextOf (Accepted number) text = text ≡ ok_line number
+IsTextOf (Located place) text = text ≡ location_line (location place)
+IsTextOf (Fault fault) text = (text ≡ error_line fault) ⊎ (text ≡ error_line OutOfMemory)
+IsTextOf (Lines lines) text = text ≡ lines.items

@@ -1,0 +1,14 @@
+-- Requests of the code as requests of the definitions.
+use Rattle.overlayd.specs.Requests as terms
+use Rattle.overlayd.specs.declared.request.Request.{Request}
+use Rattle.overlayd.specs.declared.request.Request.TheVariants.{Nothing, TooLong, Malformed, Put, Define, Remove, Locate, ListLayers}
+
+abbrev pub request : Request → terms.Request
+request Nothing = terms.nothing
+request TooLong = terms.too_long
+request Malformed = terms.malformed
+request (Put name text) = terms.put name.now text.now
+request (Define name text) = terms.define name.now text.now
+request (Remove name) = terms.remove name.now
+request (Locate name x y w) = terms.locate name.now x y w
+request ListLayers = terms.list_layers
