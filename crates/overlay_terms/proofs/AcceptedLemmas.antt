@@ -8,7 +8,7 @@ use Rattle.std.proofs.lemmas.List.Sums.{length-filter, count_by-le-length}
 use Rattle.overlay_terms.specs.Trees.{leaves}
 use Rattle.overlay_terms.specs.Layers.{Name, Content, base, derived, Layer}
 use Rattle.overlay_terms.specs.Orderly.{used_names, is_among, is_orderly_after, IsOrderly}
-use Rattle.overlay_terms.specs.Commands.{Command, put, define, remove, Refusal, layers_max, place_of, stands, stands_as_base, stands_as_derived, uses, or_else, when, unknown_layer, not_base, not_derived, in_use, later_layer, too_many_layers, is_crowded, refusal_of_use, refusal_of_uses, refusal_of, with_content, applied, AllAccepted}
+use Rattle.overlay_terms.specs.Commands.{Command, put, define, remove, Refusal, layers_max, place_of, stands, stands_as_base, stands_as_derived, uses, or_else, when, unknown_layer, not_base, not_derived, in_use, later_layer, too_many_layers, is_crowded, refusal_of_use, refusal_of_uses, refusal_of, applied, AllAccepted}
 use Rattle.overlay_terms.specs.Laws.{AcceptedIsOrderly}
 use Rattle.overlay_terms.proofs.NameLemmas.{same_name, list_all_but, list_all_so, is_among-push}
 use Rattle.overlay_terms.proofs.OrderlyLemmas.{MayFollow, orderly_splits, orderly_joins, replaced_by, is_before, is_known, orderly-replaced, orderly-push}
@@ -68,7 +68,7 @@ follows_without name known less layer h unused follows = record {
 }
 
 -- layers without the one that has a name
-abbrev without : List Layer → Name → List Layer
+abbrev pub without : List Layer → Name → List Layer
 without layers name = filter (λ layer. not (bytes_eq layer.name name)) layers
 
 -- layers stay orderly without one whose name no definition names
@@ -99,17 +99,17 @@ orderly-removed (layer ∷ layers) name known less h orderly unused =
     removed_in_front layer layers name (bytes_eq layer.name name) refl (orderly-removed layers name) known less h orderly unused
 
 -- of two reasons none applies
-record NoReason (a b : Option Refusal) : Type 0 where
+pub record NoReason (a b : Option Refusal) : Type 0 where
   pub first : a ≡ None
   pub second : b ≡ None
 
 -- where no reason applies first, neither does
-no_reason : (a b : Option Refusal) → or_else a b ≡ None → NoReason a b
+pub no_reason : (a b : Option Refusal) → or_else a b ≡ None → NoReason a b
 no_reason (Some reason) b e = absurd (cc)
 no_reason None b e = record { first = refl; second = e }
 
 -- a reason that does not apply has a test that fails
-not_when : (test : Bool) (reason : Refusal) → when test reason ≡ None → test ≡ false
+pub not_when : (test : Bool) (reason : Refusal) → when test reason ≡ None → test ≡ false
 not_when true reason e = absurd (cc)
 not_when false reason e = refl
 
@@ -131,44 +131,51 @@ all_usable layers defined (used ∷ names) e =
     and_from _ _ (and_from _ _ (not-false (stands layers used) (not_when _ _ each.first)) (not_from_false _ (not_when _ _ each.second))) (all_usable layers defined names both.second)
 
 -- content that may stand under a name keeps orderly layers so
-with_content_by : (layers : List Layer) (name : Name) (content : Content) (b : Bool) → stands layers name ≡ b → Stand layers → is_crowded layers name ≡ false → list_all (is_usable layers name) (used_names content) ≡ true →
-    Stand (if b then map (replaced_by name content) layers else layers ++ record { name = name; content = content } ∷ [])
-with_content_by layers name content true e h roomy usable = record {
-  orderly =
-      orderly-replaced layers name content []
-      (list_all_so (is_usable layers name) (is_before [] layers name) (λ used u. (and_parts (stands layers used) (not (nat_le (place_of layers name) (place_of layers used))) u).1) (used_names content) usable)
-      h.orderly;
-  room = rw length-map h.room;
-}
-with_content_by layers name content false e h roomy usable =
+with_content_orderly : (layers : List Layer) (name : Name) (content : Content) (b : Bool) → stands layers name ≡ b → IsOrderly layers → list_all (is_usable layers name) (used_names content) ≡ true →
+    IsOrderly (if b then map (replaced_by name content) layers else layers ++ record { name = name; content = content } ∷ [])
+with_content_orderly layers name content true e orderly usable =
+    orderly-replaced layers name content []
+    (list_all_so (is_usable layers name) (is_before [] layers name) (λ used u. (and_parts (stands layers used) (not (nat_le (place_of layers name) (place_of layers used))) u).1) (used_names content) usable)
+    orderly
+with_content_orderly layers name content false e orderly usable =
+    orderly-push [] layers (record { name = name; content = content }) orderly e
+    (list_all_so (is_usable layers name) (is_known [] layers) (λ used u. (and_parts (stands layers used) (not (nat_le (place_of layers name) (place_of layers used))) u).0) (used_names content) usable)
+
+-- where it is not crowded, content under a name leaves room
+with_content_room : (layers : List Layer) (name : Name) (content : Content) (b : Bool) → stands layers name ≡ b → length layers ≤ layers_max → is_crowded layers name ≡ false →
+    length (if b then map (replaced_by name content) layers else layers ++ record { name = name; content = content } ∷ []) ≤ layers_max
+with_content_room layers name content true e room roomy = rw length-map room
+with_content_room layers name content false e room roomy =
     let few : nat_le layers_max (length layers) ≡ false = ap (λ b. not b && nat_le layers_max (length layers)) (sym e) ∙ roomy in
     let low = leb-false layers_max (length layers) few in
-    record {
-      orderly =
-          orderly-push [] layers (record { name = name; content = content }) h.orderly e
-          (list_all_so (is_usable layers name) (is_known [] layers) (λ used u. (and_parts (stands layers used) (not (nat_le (place_of layers name) (place_of layers used))) u).0) (used_names content) usable);
-      room = rw length_push (omega arith);
-    }
-
--- what may stand under a name, put there, keeps orderly layers so
-with_content_stands : (layers : List Layer) (name : Name) (content : Content) → Stand layers → is_crowded layers name ≡ false → list_all (is_usable layers name) (used_names content) ≡ true → Stand (with_content layers name content)
-with_content_stands layers name content h roomy usable = with_content_by layers name content (stands layers name) refl h roomy usable
+    rw length_push (omega arith)
 
 -- an accepted command leaves orderly layers so
-pub step_stands : (layers : List Layer) (command : Command) → refusal_of layers command ≡ None → Stand layers → Stand (applied layers command)
-step_stands layers (put name rings) e h =
-    let reasons = no_reason (when (stands_as_derived layers name) not_base) (when (is_crowded layers name) too_many_layers) e in
-    with_content_stands layers name (base rings) h (not_when _ _ reasons.second) refl
-step_stands layers (define name expression) e h =
+pub step_orderly : (layers : List Layer) (command : Command) → refusal_of layers command ≡ None → IsOrderly layers → IsOrderly (applied layers command)
+step_orderly layers (put name rings) e orderly = with_content_orderly layers name (base rings) (stands layers name) refl orderly refl
+step_orderly layers (define name expression) e orderly =
     let reasons = no_reason (when (stands_as_base layers name) not_derived) (or_else (refusal_of_uses layers name (leaves expression)) (when (is_crowded layers name) too_many_layers)) e in
     let later = no_reason (refusal_of_uses layers name (leaves expression)) (when (is_crowded layers name) too_many_layers) reasons.second in
-    with_content_stands layers name (derived expression) h (not_when _ _ later.second) (all_usable layers name (leaves expression) later.first)
-step_stands layers (remove name) e h =
+    with_content_orderly layers name (derived expression) (stands layers name) refl orderly (all_usable layers name (leaves expression) later.first)
+step_orderly layers (remove name) e orderly =
     let reasons = no_reason (when (not (stands layers name)) unknown_layer) (when (list_any (λ layer. uses name layer.content) layers) in_use) e in
-    record {
-      orderly = orderly-removed layers name [] [] (record { same_others = λ n. refl }) h.orderly (not_when _ _ reasons.second);
-      room = omega (arith, h.room, length-filter (λ (layer : Layer). not (bytes_eq layer.name name)) layers, count_by-le-length (λ (layer : Layer). not (bytes_eq layer.name name)) layers);
-    }
+    orderly-removed layers name [] [] (record { same_others = λ n. refl }) orderly (not_when _ _ reasons.second)
+
+-- an accepted command leaves at most so many layers, where there are
+pub step_room : (layers : List Layer) (command : Command) → refusal_of layers command ≡ None → length layers ≤ layers_max → length (applied layers command) ≤ layers_max
+step_room layers (put name rings) e room =
+    let reasons = no_reason (when (stands_as_derived layers name) not_base) (when (is_crowded layers name) too_many_layers) e in
+    with_content_room layers name (base rings) (stands layers name) refl room (not_when _ _ reasons.second)
+step_room layers (define name expression) e room =
+    let reasons = no_reason (when (stands_as_base layers name) not_derived) (or_else (refusal_of_uses layers name (leaves expression)) (when (is_crowded layers name) too_many_layers)) e in
+    let later = no_reason (refusal_of_uses layers name (leaves expression)) (when (is_crowded layers name) too_many_layers) reasons.second in
+    with_content_room layers name (derived expression) (stands layers name) refl room (not_when _ _ later.second)
+step_room layers (remove name) e room =
+    omega (arith, room, length-filter (λ (layer : Layer). not (bytes_eq layer.name name)) layers, count_by-le-length (λ (layer : Layer). not (bytes_eq layer.name name)) layers)
+
+-- an accepted command leaves orderly layers with room so
+pub step_stands : (layers : List Layer) (command : Command) → refusal_of layers command ≡ None → Stand layers → Stand (applied layers command)
+step_stands layers command e h = record { orderly = step_orderly layers command e h.orderly; room = step_room layers command e h.room }
 
 -- accepted commands leave orderly layers so
 all_stand : (commands : List Command) (layers : List Layer) → AllAccepted layers commands → Stand layers → Stand (fold applied layers commands)

@@ -5,7 +5,8 @@ use Rattle.std.proofs.Common.{refl, ap, arith}
 use Rattle.std.proofs.Math.ListN.{length-map}
 use Rattle.std.proofs.lemmas.List.Elements.{All-nil, All-cons, All-head, All-tail, All-append, All-map, All-weaker, All-same}
 use Rattle.overlay_terms.specs.Plane.{WholePoint, segments_of}
-use Rattle.overlay_terms.specs.Layers.{Name, Marked, base_of, layers_in_reach, segments_in_reach, steps_in_reach}
+use Rattle.overlay_terms.specs.Layers.{Name, Layer, Marked, base_of, layers_in_reach, segments_in_reach, steps_in_reach}
+use Rattle.overlay_terms.specs.TileLaws.{AreClosed}
 use Rattle.overlay_terms.specs.InputLaws.{IsRing, InputOfIsInput}
 use Rattle.overlay_terms.proofs.ClosedLayers.{numbered, marked_from, layers_are_closed}
 use Rattle.overlay_terms.proofs.ClosedInputs.{closed_is_input}
@@ -63,6 +64,12 @@ from_known n (rings ∷ bases) =
     (All-map (λ (m : Marked). m.layer < n + length (rings ∷ bases)) (λ s. record { layer = n; segment = s }) (segments_of rings) (λ k d within. omega arith))
     (All-weaker (λ (m : Marked). m.layer < n + 1 + length bases) (λ m. m.layer < n + length (rings ∷ bases)) (λ m below. omega arith) (marked_from (n + 1) bases) (from_known (n + 1) bases))
 
+-- the segments in reach are closed
+pub reach_is_closed : (layers : List Layer) (name : Name) → All (λ b. All IsRing b.1) (filter_map base_of layers) → AreClosed (segments_in_reach layers name)
+reach_is_closed layers name rings =
+    let bases : List (Name × List (List WholePoint)) = filter_map base_of (layers_in_reach layers name) in
+    layers_are_closed (map (λ b. b.1) bases) (All-map (All IsRing) (λ (b : Name × List (List WholePoint)). b.1) bases (kept_items base_of _ (λ b. All IsRing b.1) layers rings))
+
 -- the input of the tile of a layer and column is an input
 pub input_of_is_input : InputOfIsInput
 input_of_is_input layers name k column few rings =
@@ -71,4 +78,4 @@ input_of_is_input layers name k column few rings =
     let lists : length (map (λ (b : Name × List (List WholePoint)). b.1) (filter_map base_of (layers_in_reach layers name))) ≡ length (filter_map base_of (layers_in_reach layers name)) = length-map (filter_map base_of (layers_in_reach layers name)) (λ (b : Name × List (List WholePoint)). b.1) in
     closed_is_input (segments_in_reach layers name) (steps_in_reach layers name) k column (omega arith)
     (All-weaker (λ (m : Marked). m.layer < 0 + length (map (λ (b : Name × List (List WholePoint)). b.1) bases)) (λ m. m.layer < length bases) (λ m below. omega arith) (segments_in_reach layers name) (from_known 0 (map (λ b. b.1) bases)))
-    (layers_are_closed (map (λ b. b.1) bases) (All-map (All IsRing) (λ (b : Name × List (List WholePoint)). b.1) bases (kept_items base_of _ (λ b. All IsRing b.1) layers rings)))
+    (reach_is_closed layers name rings)

@@ -38,7 +38,7 @@ inputs k marked = filter (λ m. touches k m.segment) marked
 
 module _ (k : ℕ) (q : Point) (within : IsIn k q) (marked : List Marked) where
   -- the parities of the segments below a point of the column
-  below_agree : below_bits (inputs k marked) q ≡ below_bits marked q
+  pub below_agree : below_bits (inputs k marked) q ≡ below_bits marked q
   below_agree =
       fun_ext (λ j. ap (λ n. n % 2 == 1) (count_kept (λ (m : Marked). (m.layer == j) && is_below m.segment q) (λ m. touches k m.segment) marked (λ m h. below_touches k q within m.segment (and_parts (m.layer == j) (is_below m.segment q) h).1)))
 

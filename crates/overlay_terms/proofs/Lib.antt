@@ -27,3 +27,8 @@ pub mod InputNodes
 pub mod ClosedInputs
 pub mod InputLayers
 pub mod InputLemmas
+pub mod KeptReach
+pub mod KeptDerived
+pub mod KeptBounds
+pub mod KeptCommands
+pub mod KeptHistories

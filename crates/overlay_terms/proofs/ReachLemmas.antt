@@ -23,7 +23,7 @@ flat_map_same f g p h (x ∷ xs) all =
     ap (λ ys. ys ++ flat_map f xs) (h x parts.0) ∙ ap (λ ys. g x ++ ys) (flat_map_same f g p h xs parts.1)
 
 -- a test of one in lists put end to end
-any-flat_map : {X A : Type 0} (test : A → Bool) (f : X → List A) (xs : List X) → list_any test (flat_map f xs) ≡ list_any (λ x. list_any test (f x)) xs
+pub any-flat_map : {X A : Type 0} (test : A → Bool) (f : X → List A) (xs : List X) → list_any test (flat_map f xs) ≡ list_any (λ x. list_any test (f x)) xs
 any-flat_map test f [] = refl
 any-flat_map test f (x ∷ xs) = list_any-append test (f x) (flat_map f xs) ∙ ap (λ b. list_any test (f x) || b) (any-flat_map test f xs)
 
@@ -56,7 +56,7 @@ content_reach_of_uses known more name (derived expression) h =
     ap (λ ns. name ∷ ns) (flat_map_same (named [] (known ++ more)) (named [] known) (is_among (names_of known)) (λ u. named-append [] known more u) (leaves expression) h)
 
 -- what all known names have, one more has too
-known_push : (P : Name → Type 0) (known : List Name) (m : Name) → ((n : Name) → is_among known n ≡ true → P n) → P m → (n : Name) → is_among (known ++ m ∷ []) n ≡ true → P n
+pub known_push : (P : Name → Type 0) (known : List Name) (m : Name) → ((n : Name) → is_among known n ≡ true → P n) → P m → (n : Name) → is_among (known ++ m ∷ []) n ≡ true → P n
 known_push P known m all_known last n e =
     ⊎_elim (λ old. all_known n old) (λ here. subst P (same_name m n here) last) (or_cases (is_among known n) (bytes_eq m n) (sym (is_among-push known m n) ∙ e))
 

@@ -25,3 +25,4 @@ mod SmallHistory
 mod HistoryFollows
 mod SidesOfPieces
 mod LayerParts
+mod KeptTiles

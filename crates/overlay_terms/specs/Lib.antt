@@ -13,3 +13,5 @@ pub mod LayerCode
 pub mod InputCode
 pub mod Laws
 pub mod InputLaws
+pub mod KeptLaws
+pub mod LayerParity

@@ -2,4 +2,5 @@
 #![tactic(auto)]
 
 pub mod input_law;
+pub mod kept_law;
 pub mod laws;

@@ -50,5 +50,5 @@ the_report_is_followed = record {
   durable = refl;
 }
 
-the_small_history_is_one : IsHistory small_history
+pub the_small_history_is_one : IsHistory small_history
 the_small_history_is_one = (the_put_is_followed, (the_definition_is_followed, (the_tile_is_followed, (the_report_is_followed, tt))))

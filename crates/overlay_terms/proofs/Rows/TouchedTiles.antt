@@ -7,7 +7,7 @@ use Rattle.overlay_terms.specs.Commands.{put, define, remove, touched_layers, to
 use Rattle.overlay_terms.proofs.Rows.Shared.{square, base_layer, same_layer, made_layer}
 
 -- I is A & B, C stands alone, J is I | C, and L is B
-abbrev layers : List Layer
+abbrev pub layers : List Layer
 layers =
     base_layer (codes "A") (square 0 10 ∷ []) ∷ base_layer (codes "B") (square 5 15 ∷ []) ∷ made_layer (codes "I") intersection (codes "A") (codes "B")
     ∷ base_layer (codes "C") (square 20 30 ∷ []) ∷ made_layer (codes "J") union (codes "I") (codes "C") ∷ same_layer (codes "L") (codes "B") ∷ []

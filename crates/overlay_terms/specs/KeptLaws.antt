@@ -1,0 +1,56 @@
+-- Laws of the tiles that are kept: a command leaves the inputs of untouched tiles as they are, so each tile stays that of its input.
+use Rattle.std.specs.Prelude.{◌≡◌, ℕ, ◌<◌, ◌≤◌, false, IsTrue, List, length, Some, None}
+use Rattle.overlay_terms.specs.Column.{column_count}
+use Rattle.overlay_terms.specs.Layers.{Name, Layer}
+use Rattle.overlay_terms.specs.Tiles.{input_of}
+use Rattle.overlay_terms.specs.Orderly.{IsOrderly}
+use Rattle.overlay_terms.specs.Commands.{Command, refusal_of, applied, layers_max, is_touched, stands_as_derived}
+use Rattle.overlay_terms.specs.Histories.{Tile, pieces_max, IsTileAt, tile_at, Version, Event, Follows, History, IsHistory, newest}
+
+-- what a command does not touch: the input of the tile of a layer and column, and that the layer is derived
+pub record IsUntouched (before after : List Layer) (name : Name) (k : ℕ) : Type 0 where
+  pub same_input : input_of after name k ≡ input_of before name k
+  pub still_derived : IsTrue (stands_as_derived after name)
+
+-- an accepted command leaves a derived layer that it does not touch, and the inputs of its tiles, as they are
+abbrev pub UntouchedInputStays : Type 0
+UntouchedInputStays =
+    (layers : List Layer) (command : Command) (name : Name) (k : ℕ) → IsOrderly layers → refusal_of layers command ≡ None →
+    IsTrue (stands_as_derived layers name) → is_touched layers command name ≡ false → IsUntouched layers (applied layers command) name k
+
+-- a tile is there only for a derived layer that stands, and a column that there is
+abbrev pub TilesFit : Version → Type 0
+TilesFit version =
+    (name : Name) (k : ℕ) (tile : Tile) → tile_at version.tiles name k ≡ Some tile → IsTrue (stands_as_derived version.layers name) × (k < column_count)
+
+-- each tile is that of the present input of its layer and column
+abbrev pub TilesAreExact : Version → Type 0
+TilesAreExact version =
+    (name : Name) (k : ℕ) (tile : Tile) → tile_at version.tiles name k ≡ Some tile → IsTileAt pieces_max (input_of version.layers name k) tile
+
+-- what is published leaves exact tiles exact
+abbrev pub ExactnessStays : Type 0
+ExactnessStays =
+    (old new : Version) (event : Event) → Follows old event new → IsOrderly old.layers → TilesFit old → TilesAreExact old →
+    TilesFit new × TilesAreExact new
+
+-- what is published leaves orderly layers orderly, and no more than 32 where there were no more
+abbrev pub LayersStayOrderly : Type 0
+LayersStayOrderly =
+    (old new : Version) (event : Event) → Follows old event new →
+    (IsOrderly old.layers → IsOrderly new.layers) × (length old.layers ≤ layers_max → length new.layers ≤ layers_max)
+
+-- a version whose layers are orderly, and whose tiles have their place and are exact
+pub record IsExact (version : Version) : Type 0 where
+  pub orderly : IsOrderly version.layers
+  pub fit : TilesFit version
+  pub exact : TilesAreExact version
+
+-- the newest version of a history is exact where its first one is
+abbrev pub HistoryIsExact : Type 0
+HistoryIsExact = (history : History) → IsHistory history → IsExact history.start → IsExact (newest history)
+
+-- the newest version of a history has at most 32 layers where its first one has
+abbrev pub HistoryHasRoom : Type 0
+HistoryHasRoom =
+    (history : History) → IsHistory history → length history.start.layers ≤ layers_max → length (newest history).layers ≤ layers_max

@@ -1,0 +1,28 @@
+//! Laws of the tiles that are kept: each function does nothing, and its contract is the law.
+
+ghost use Rattle.overlay_terms.specs.KeptLaws.{ExactnessStays, HistoryHasRoom, HistoryIsExact, LayersStayOrderly, UntouchedInputStays};
+
+/// An accepted command leaves a derived layer that it does not touch, and the inputs of its tiles, as they are.
+pub fn untouched_input_stays()
+    ensures { UntouchedInputStays }
+{}
+
+/// Where each tile of a version is that of its input, so is each tile of the next one, whatever is published.
+pub fn exactness_stays()
+    ensures { ExactnessStays }
+{}
+
+/// The layers of the next version are orderly where those of a version are, and no more than 32 where those are no more.
+pub fn layers_stay_orderly()
+    ensures { LayersStayOrderly }
+{}
+
+/// Where each tile of a history's first version is that of its input, so is each tile of its newest.
+pub fn history_is_exact()
+    ensures { HistoryIsExact }
+{}
+
+/// Where a history's first version has at most 32 layers, so has its newest.
+pub fn history_has_room()
+    ensures { HistoryHasRoom }
+{}
