@@ -1,7 +1,15 @@
-use Rattle.std.specs.Prelude.{ℕ, Bool, false, ◌+◌, ◌-◌, List, [], ◌∷◌, length, nat_lt, nat_le, if◌then◌else◌, Option, Some, None, slice_get}
-use Rattle.overlay_terms.specs.Plane.{WholePoint, ring_step_count, same_whole}
+use Rattle.std.specs.Prelude.{ℕ, Bool, false, ◌+◌, ◌-◌, List, [], ◌∷◌, length, nat_lt, nat_le, if◌then◌else◌, Option, Some, None, slice_get, ◌<◌, All}
+use Rattle.overlay_terms.specs.Plane.{WholePoint, InRange, ring_step_count, same_whole}
 use Rattle.plane_base.specs.declared.fault.PlaneFault.{PlaneFault}
 use Rattle.plane_base.specs.declared.fault.PlaneFault.TheVariants.{RingOpen, RingShort, TooManySegments}
+
+-- both coordinates of a point are in range
+abbrev pub IsInRange : WholePoint → Type 0
+IsInRange p = InRange p.x × InRange p.y
+
+-- the points of a ring that has a step are in range
+abbrev pub PointsInRange : List WholePoint → Type 0
+PointsInRange ring = 1 < length ring → All IsInRange ring
 
 -- whether the last point of a ring is its first
 abbrev pub is_closed : List WholePoint → Bool

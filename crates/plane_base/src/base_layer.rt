@@ -1,7 +1,8 @@
 //! Rings, and the base layers that they make.
-ghost use Rattle.std.specs.Prelude.{◌≡◌, ◌≤◌, ◌++◌, nat_le, None, List, length, IfSome, IfOk, IsNone, OnOk, IsErrOf, IsOkUnless};
+ghost use Rattle.std.specs.Prelude.{◌≡◌, ◌≤◌, ◌++◌, nat_le, None, List, length, IfSome, IfOk, IsNone, OnOk, IsErrOf, IsOkUnless, All};
 ghost use Rattle.overlay_terms.specs.Plane.{WholePoint, Segment, segments_of, ring_segments, ring_step_count};
-ghost use Rattle.plane_base.specs.BaseLayer.{rings_fault, ring_fault, first_ring_fault};
+ghost use Rattle.overlay_terms.specs.InputLaws.{IsRing};
+ghost use Rattle.plane_base.specs.BaseLayer.{rings_fault, ring_fault, first_ring_fault, PointsInRange};
 
 use crate::fault::PlaneFault;
 use crate::point::{Pt, Seg};
@@ -60,10 +61,14 @@ impl Ring {
 
 /// Adds the segments of a ring at the end.
 fn add_segments(segs: &mut Vec<Seg>, ring: &[Pt]) -> Result<(), AllocError>
-    ensures { OnOk result (segs.new.items ≡ segs.old.items ++ ring_segments ring.now) }
+    ensures added { OnOk result (segs.new.items ≡ segs.old.items ++ ring_segments ring.now) }
+    ensures in_range { OnOk result (PointsInRange ring.now) }
 {
     for i in 1..ring.len() {
-        if let Some(seg) = Seg::of(ring[i - 1], ring[i]) {
+        let (from, to) = (ring[i - 1], ring[i]);
+        from.known();
+        to.known();
+        if let Some(seg) = Seg::of(from, to) {
             segs.push(seg)?;
         }
     }
@@ -109,7 +114,7 @@ impl Model for BaseLayer {
 
     ghost view = { λ b. b.rings.items };
 
-    ghost invariant = { λ b. (rings_fault b.rings.items ≡ None) × (b.segs.items ≡ segments_of b.rings.items) };
+    ghost invariant = { λ b. (rings_fault b.rings.items ≡ None) × (b.segs.items ≡ segments_of b.rings.items) × All IsRing b.rings.items };
 }
 
 impl BaseLayer {
@@ -136,13 +141,15 @@ impl BaseLayer {
     pub fn rings(&self) -> &[Ring]
         ensures value { result.now ≡ self.now }
         ensures valid { rings_fault result.now ≡ None }
+        ensures rings { All IsRing self.now }
     {
         &self.rings
     }
 
     /// The segments of all rings, with repeats.
     pub fn segs(&self) -> &[Seg]
-        ensures { result.now ≡ segments_of self.now }
+        ensures value { result.now ≡ segments_of self.now }
+        ensures valid { rings_fault self.now ≡ None }
     {
         &self.segs
     }

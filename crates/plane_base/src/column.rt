@@ -29,7 +29,7 @@ impl Column {
     pub fn new(number: u64) -> Option<Column>
         ensures { SomeIff result (number ≤ 16) number }
     {
-        if number > 16 {
+        if number > u64::from(LAST_COLUMN) {
             return None;
         }
         Some(Column {

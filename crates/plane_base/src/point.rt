@@ -1,6 +1,7 @@
 //! Points with whole coordinates, and the segments between them.
 ghost use Rattle.std.specs.Prelude.{◌≡◌, ℤ, pos, neg_ℤ, ◌≤ℤ◌, ◌↔◌, IsOk, IfOk, IfErr, IsSome, IfSome, IsNone, IsErrOf};
 ghost use Rattle.overlay_terms.specs.Plane.{WholePoint, Segment, InRange, segment_between, whole_cmp};
+ghost use Rattle.plane_base.specs.BaseLayer.{IsInRange};
 
 use crate::fault::PlaneFault;
 use std::cmp::Ordering;
@@ -51,6 +52,13 @@ impl Pt {
         ensures in_range { InRange result }
     {
         self.y
+    }
+
+    /// Says of a point what is true of each: both coordinates are in range. The call does nothing.
+    pub(crate) fn known(self)
+        ensures { IsInRange self }
+    {
+        let _ = self.x;
     }
 }
 

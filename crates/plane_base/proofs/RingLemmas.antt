@@ -1,0 +1,94 @@
+-- Rings without a fault, whose points are in range, are rings.
+use Rattle.std.specs.Prelude.{◌≡◌, ℕ, ◌+◌, ◌-◌, ◌<◌, ◌≤◌, nat_lt, nat_le, Bool, true, false, List, [], ◌∷◌, ◌++◌, length, slice_get, Option, Some, None, All, if◌then◌else◌}
+use Rattle.std.specs.Ordering.{int_eq}
+use Rattle.std.proofs.Common.{zero, suc, get_or, take, refl, ap, sym, ◌∙◌, subst, arith}
+use Rattle.std.proofs.lemmas.Bool.{and_parts, ltb-false}
+use Rattle.std.proofs.lemmas.Bool.Decides.{Decides-int_eq}
+use Rattle.std.proofs.lemmas.List.{take_more}
+use Rattle.std.proofs.lemmas.List.Elements.{All-nil, All-cons, All-head, All-tail, All-append}
+use Rattle.overlay_terms.specs.Plane.{WholePoint, same_whole, ring_step_count}
+use Rattle.overlay_terms.specs.InputLaws.{IsClosed, IsRing}
+use Rattle.plane_base.specs.BaseLayer.{IsInRange, PointsInRange, is_closed, ring_fault, first_ring_fault, rings_fault, or_else}
+use Rattle.plane_base.specs.declared.fault.PlaneFault.{PlaneFault}
+use Rattle.plane_base.specs.declared.fault.PlaneFault.TheVariants.{RingOpen, RingShort, TooManySegments}
+
+-- a fact of one element holds of the list of it alone
+all_single : {X : Type 0} (P : X → Type 0) (x : X) → P x → All P (x ∷ [])
+all_single P x p = All-cons P x [] p (All-nil P)
+
+-- a fact of the first elements and of the next one
+all_more : {X : Type 0} (P : X → Type 0) (xs : List X) (i : ℕ) (x : X) → i < length xs → x ≡ get_or xs i x → P x → All P (take i xs) → All P (take (i + 1) xs)
+all_more P xs i x h e p was =
+    subst (All P) (sym (take_more xs i x h ∙ ap (λ t. take i xs ++ t ∷ []) (sym e))) (All-append P (take i xs) (x ∷ []) was (all_single P x p))
+
+-- of some first points, at least two, all are in range, where a pair of neighbours is
+pub in_range_more : (ring : List WholePoint) (i : ℕ) (a b : WholePoint) → 1 ≤ i → i < length ring → a ≡ get_or ring (i - 1) a → b ≡ get_or ring i b → IsInRange a → IsInRange b → (1 < i → All IsInRange (take i ring)) → All IsInRange (take (i + 1) ring)
+in_range_more ring zero a b low high ea eb ra rb was = absurd (omega arith)
+in_range_more ring (suc zero) a b low high ea eb ra rb was =
+    all_more IsInRange ring 1 b high eb rb (all_more IsInRange ring 0 a (omega arith) ea ra (All-nil IsInRange))
+in_range_more ring (suc (suc j)) a b low high ea eb ra rb was =
+    all_more IsInRange ring (suc (suc j)) b high eb rb (was (omega arith))
+
+-- rings of which one more has its points in range
+pub rings_more : (rings : List (List WholePoint)) (i : ℕ) (ring : List WholePoint) → i < length rings → ring ≡ get_or rings i ring → PointsInRange ring → All PointsInRange (take i rings) → All PointsInRange (take (i + 1) rings)
+rings_more = all_more PointsInRange
+
+-- points that are found the same are one
+same_points : (a b : WholePoint) → same_whole a b ≡ true → a ≡ b
+same_points a b h =
+    let parts = and_parts (int_eq a.x b.x) (int_eq a.y b.y) h in
+    let x : a.x ≡ b.x = (Decides-int_eq a.x b.x).0 parts.0 in
+    let y : a.y ≡ b.y = (Decides-int_eq a.y b.y).0 parts.1 in
+    λ i. record { x = x i; y = y i }
+
+-- the last of some points
+abbrev last_of : WholePoint → List WholePoint → WholePoint
+last_of a [] = a
+last_of a (b ∷ rest) = last_of b rest
+
+-- the last of some points, by its place
+last_read : (a : WholePoint) (rest : List WholePoint) → slice_get (a ∷ rest) (length rest) ≡ Some (last_of a rest)
+last_read a [] = refl
+last_read a (b ∷ rest) = last_read b rest
+
+-- a place before the end of a list that has one more
+one_less : (n : ℕ) → suc n - 1 ≡ n
+one_less n = omega arith
+
+-- a ring that passes the test is closed
+closed_ends : (ring : List WholePoint) → is_closed ring ≡ true → IsClosed ring
+closed_ends [] h = refl
+closed_ends (a ∷ rest) h =
+    let same : a ≡ last_of a rest = same_points a (last_of a rest) (rw (one_less (length rest), last_read a rest) at h) in
+    ap Some same ∙ sym (last_read a rest) ∙ ap (slice_get (a ∷ rest)) (sym (one_less (length rest)))
+
+-- the first of two faults is none, where the first of both is
+first_none : (a b : Option PlaneFault) → or_else a b ≡ None → a ≡ None
+first_none None b e = refl
+first_none (Some x) b e = absurd (cc)
+
+-- the second of two faults is none, where the first of both is
+second_none : (a b : Option PlaneFault) → or_else a b ≡ None → b ≡ None
+second_none None b e = e
+second_none (Some x) b e = absurd (cc)
+
+-- a ring without a fault, by its length and whether it is closed
+ring_by : (ring : List WholePoint) (at : ℕ) (short closed : Bool) → nat_lt (length ring) 4 ≡ short → is_closed ring ≡ closed → (if short then Some (RingShort at) else (if closed then None else Some (RingOpen at))) ≡ None → PointsInRange ring → IsRing ring
+ring_by ring at true closed few ends e in_range = absurd (cc)
+ring_by ring at false false many ends e in_range = absurd (cc)
+ring_by ring at false true many ends e in_range =
+    let low = ltb-false (length ring) 4 many in
+    record { closed = closed_ends ring ends; in_range = in_range (omega arith) }
+
+-- rings without a fault, whose points are in range, are rings
+rings_from : (at : ℕ) (rings : List (List WholePoint)) → first_ring_fault at rings ≡ None → All PointsInRange rings → All IsRing rings
+rings_from at [] e in_range = All-nil IsRing
+rings_from at (ring ∷ rings) e in_range =
+    All-cons IsRing ring rings
+    (ring_by ring at (nat_lt (length ring) 4) (is_closed ring) refl refl (first_none (ring_fault at ring) (first_ring_fault (at + 1) rings) e) (All-head PointsInRange ring rings in_range))
+    (rings_from (at + 1) rings (second_none (ring_fault at ring) (first_ring_fault (at + 1) rings) e) (All-tail PointsInRange ring rings in_range))
+
+-- rings that a base layer may have, whose points are in range, are rings
+pub are_rings : (rings : List (List WholePoint)) → rings_fault rings ≡ None → All PointsInRange rings → All IsRing rings
+are_rings rings e =
+    rings_from 0 rings (first_none (first_ring_fault 0 rings) (if nat_le (ring_step_count rings) 2048 then None else Some TooManySegments) e)
