@@ -27,7 +27,7 @@ all_none : (q w b : ℤ) → ((pos 0 *ℤ q) -ℤ (pos 0 *ℤ w)) +ℤ (b *ℤ p
 all_none q w b = omega (arith, ints, zero-*ℤ q, zero-*ℤ w, *ℤ-zero b)
 
 -- two points of a line that is not vertical, over one x, are one place
-one_over_x : (s : Segment) (z p : Point) → s.left.x <ℤ s.right.x → height_over s z ≡ pos 0 → height_over s p ≡ pos 0 → z.x *ℤ p.w ≡ p.x *ℤ z.w → IsTrue (same_place z p)
+pub one_over_x : (s : Segment) (z p : Point) → s.left.x <ℤ s.right.x → height_over s z ≡ pos 0 → height_over s p ≡ pos 0 → z.x *ℤ p.w ≡ p.x *ℤ z.w → IsTrue (same_place z p)
 one_over_x s z p wide h k ex =
     let a : ℤ = s.right.x -ℤ s.left.x in
     let b : ℤ = s.right.y -ℤ s.left.y in

@@ -6,3 +6,4 @@ pub mod BorderLemmas
 pub mod ReducedLemmas
 pub mod Comparing
 pub mod LowestTerms
+pub mod MiddleLemmas

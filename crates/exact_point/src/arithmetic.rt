@@ -1,5 +1,5 @@
 //! Exact sums and products of bounded numbers, one or two operations each.
-ghost use Rattle.std.specs.Prelude.{◌≡◌, ◌^◌, ◌+ℤ◌, ◌-ℤ◌, ◌*ℤ◌, ◌≤ℤ◌, pos};
+ghost use Rattle.std.specs.Prelude.{◌≡◌, ℕ, ◌^◌, ◌*◌, ◌+ℤ◌, ◌-ℤ◌, ◌*ℤ◌, ◌≤ℤ◌, pos};
 ghost use Rattle.overlay_terms.specs.Within.{IsWithin};
 ghost use Rattle.overlay_terms.specs.Plane.{InRange};
 
@@ -60,9 +60,32 @@ pub(crate) fn cross(a: i128, b: i128, c: i128, d: i128) -> i128
     requires b_small { IsWithin (2 ^ 21) b }
     requires c_small { IsWithin (2 ^ 64) c }
     requires d_small { IsWithin (2 ^ 64) d }
-    ensures { result ≡ a *ℤ d -ℤ b *ℤ c }
+    ensures value { result ≡ a *ℤ d -ℤ b *ℤ c }
+    ensures small { IsWithin (2 ^ 86) result }
 {
     a * d - b * c
+}
+
+/// The sum of two products.
+pub(crate) fn sum_of_products(a: i128, v: i128, b: i128, w: i128) -> i128
+    requires a_small { IsWithin (2 ^ 78) a }
+    requires v_small { IsWithin (2 ^ 43) v }
+    requires b_small { IsWithin (2 ^ 78) b }
+    requires w_small { IsWithin (2 ^ 43) w }
+    ensures value { result ≡ (a *ℤ v) +ℤ (b *ℤ w) }
+    ensures small { IsWithin (2 ^ 122) result }
+{
+    a * v + b * w
+}
+
+/// A number divided by 256, and what is left, with its sign.
+pub(crate) fn by_256(a: i128) -> (i128, i128)
+    requires { IsWithin (2 ^ 122) a }
+    ensures value { (pos 256 *ℤ result.0) +ℤ result.1 ≡ a }
+    ensures quotient { (n : ℕ) → IsWithin (256 * n) a → IsWithin n result.0 }
+    ensures rest { IsWithin 255 result.1 }
+{
+    (a / 256, a % 256)
 }
 
 /// The cross product of the ways (a, b) and (c, d) between whole points.

@@ -1,5 +1,6 @@
 //! Where two segments cross, and places along a segment.
 ghost use Rattle.std.specs.Prelude.{◌≡◌, ◌^◌, ◌+ℤ◌, ◌-ℤ◌, ◌*ℤ◌, ◌<ℤ◌, ◌≤ℤ◌, ◌↔◌, pos, neg_ℤ, IsTrue, IfSome, IsNone};
+ghost use Rattle.std.specs.Ordering.{int_cmp};
 ghost use Rattle.overlay_terms.specs.Plane.{InRange, Point, same_place, whole_cmp};
 ghost use Rattle.overlay_terms.specs.Within.{IsWithin};
 ghost use Rattle.exact_point.specs.Place.{place};
@@ -53,6 +54,13 @@ fn is_part(t: i128, w: i128) -> bool
     ensures { IsTrue result ↔ ((pos 0 ≤ℤ t) × (t ≤ℤ w)) }
 {
     0 <= t && t <= w
+}
+
+/// Which way a segment goes from another: less where the second turns left from the first.
+pub fn direction_cmp(a: &Seg, b: &Seg) -> Ordering
+    ensures { result ≡ int_cmp (pos 0) (turn_of a.now b.now) }
+{
+    0_i128.cmp(&turn(a, b))
 }
 
 /// How far the second segment turns left from the first, as the cross product of their directions.

@@ -34,6 +34,15 @@ impl PointName {
             PointName::Border(seg, column) => cut_of(seg, *column),
         }
     }
+
+    /// The place that the name stands for, of a name that stands for one.
+    pub fn known_point(&self) -> HPoint
+        requires { HasPlace self.now }
+        ensures value { place result ≡ place_of self.now }
+        ensures stands { IsPlaceOf self.now (place result) }
+    {
+        self.point().unwrap()
+    }
 }
 
 /// Where the border of a column cuts a segment, unless it lies at an end or outside.

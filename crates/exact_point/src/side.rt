@@ -1,16 +1,19 @@
 //! Points against segments.
 ghost use Rattle.std.specs.Prelude.{◌≡◌, ◌^◌, ◌-ℤ◌, ◌*ℤ◌};
 ghost use Rattle.overlay_terms.specs.Within.{IsWithin};
+ghost use Rattle.std.specs.Ordering.{int_cmp};
 ghost use Rattle.exact_point.specs.Place.{place};
+ghost use Rattle.overlay_terms.specs.Column.{border};
 ghost use Rattle.overlay_terms.specs.Plane.{whole, point_cmp, height_over, side_of, is_below, is_on};
 
-use crate::arithmetic::{cross, minus, offset, scaled};
+use crate::arithmetic::{cross, minus, offset, product, scaled};
 use crate::point::HPoint;
+use plane_base::column::Column;
 use plane_base::point::{Pt, Seg};
 use std::cmp::Ordering;
 
 /// How far a point lies to the right of the left end, times its denominator.
-fn along(seg: &Seg, p: &HPoint) -> i128
+pub(crate) fn along(seg: &Seg, p: &HPoint) -> i128
     ensures value { result ≡ (place p.now).x -ℤ seg.now.left.x *ℤ (place p.now).w }
     ensures small { IsWithin (2 ^ 64) result }
 {
@@ -19,10 +22,11 @@ fn along(seg: &Seg, p: &HPoint) -> i128
 
 /// How far a point lies above the line of a segment, times the segment's width and the point's
 /// denominator.
-fn height(seg: &Seg, p: &HPoint, along: i128) -> i128
+pub(crate) fn height(seg: &Seg, p: &HPoint, along: i128) -> i128
     requires value { along ≡ (place p.now).x -ℤ seg.now.left.x *ℤ (place p.now).w }
     requires small { IsWithin (2 ^ 64) along }
-    ensures { result ≡ height_over seg.now (place p.now) }
+    ensures value { result ≡ height_over seg.now (place p.now) }
+    ensures small { IsWithin (2 ^ 86) result }
 {
     let left = seg.left();
     let right = seg.right();
@@ -74,4 +78,18 @@ fn cmp_whole(p: &HPoint, q: Pt) -> Ordering
         return x;
     }
     p.y.cmp(&scaled(q.y(), p.w))
+}
+
+/// Two points by x alone.
+pub fn x_cmp(p: &HPoint, q: &HPoint) -> Ordering
+    ensures { result ≡ int_cmp ((place p.now).x *ℤ (place q.now).w) ((place q.now).x *ℤ (place p.now).w) }
+{
+    product(p.x, q.w).cmp(&product(q.x, p.w))
+}
+
+/// A point against the left border of a column: greater right of it.
+pub fn border_side(column: Column, p: &HPoint) -> Ordering
+    ensures { result ≡ int_cmp (place p.now).x (border column *ℤ (place p.now).w) }
+{
+    p.x.cmp(&scaled(column.border(), p.w))
 }

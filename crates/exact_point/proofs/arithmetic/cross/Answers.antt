@@ -14,8 +14,15 @@ overflow_sub-result c =
     let bc = mul_reads (reads _ _ c.requires.b_small (lit< tt)) (reads _ _ c.requires.c_small (lit< tt)) (lit< tt) in
     sub_fits ad bc (lit< tt)
 
-pub returns : goal.returns
-returns c =
+pub returns-clause-value : goal.returns-clause-value
+returns-clause-value c =
     let ad = mul_reads (reads _ _ c.requires.a_small (lit< tt)) (reads _ _ c.requires.d_small (lit< tt)) (lit< tt) in
     let bc = mul_reads (reads _ _ c.requires.b_small (lit< tt)) (reads _ _ c.requires.c_small (lit< tt)) (lit< tt) in
     (sub_reads ad bc (lit< tt)).is
+
+pub returns-clause-small : goal.returns-clause-small
+returns-clause-small c =
+    let ad = mul_reads (reads _ _ c.requires.a_small (lit< tt)) (reads _ _ c.requires.d_small (lit< tt)) (lit< tt) in
+    let bc = mul_reads (reads _ _ c.requires.b_small (lit< tt)) (reads _ _ c.requires.c_small (lit< tt)) (lit< tt) in
+    let all = sub_reads ad bc (lit< tt) in
+    rw all.is all.within
