@@ -1,6 +1,7 @@
 pub mod StepLemmas
 pub mod NameNumbers
 pub mod NothingAtZero
+pub mod MaskedSteps
 pub mod StepOrder
 pub mod StepEvaluation
 pub mod LentLayers

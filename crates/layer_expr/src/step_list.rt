@@ -67,6 +67,9 @@ impl StepList {
     /// What the last layer is, where bit k of the mask says whether base layer k holds.
     pub fn value(&self, mask: u32) -> bool
         ensures value { result ≡ steps_value self.now (mask_bits mask) }
+
+        // Only the first 32 bits count.
+        ensures known { (bits : ℕ → Bool) → ((k : ℕ) → k < 32 → mask_bits mask k ≡ bits k) → result ≡ steps_value self.now bits }
         ensures nothing { mask ≡ 0 → result ≡ false }
     {
         let last_base = self.bases.saturating_sub(1);
