@@ -1,0 +1,45 @@
+-- What lists, their images and their unions contain.
+use Rattle.std.specs.Prelude.{◌≡◌, zero, suc, ◌⊎◌, List, [], ◌∷◌, ◌++◌, map, flat_map, Any, Contains}
+use Rattle.std.proofs.Common.{inl, inr, refl, ap, sym, subst, arith}
+use Rattle.std.proofs.lemmas.List.Elements.{Contains-append_left, Contains-append_right}
+
+-- an element of a list with a property
+pub any_from : {X : Type 0} (P : X → Type 0) (xs : List X) (x : X) → Contains xs x → P x → Any P xs
+any_from P xs x c h = (c.0, x, c.1, c.2, h)
+
+-- what has the property stands in the list
+pub any_contains : {X : Type 0} (P : X → Type 0) (xs : List X) (a : Any P xs) → Contains xs a.1
+any_contains P xs a = (a.0, a.2, a.3)
+
+-- an element is the first, or stands in the rest
+pub Contains-cons_cases : {X : Type 0} (a : X) (xs : List X) (x : X) → Contains (a ∷ xs) x → (a ≡ x) ⊎ Contains xs x
+Contains-cons_cases a xs x (zero, l, e) = inl e
+Contains-cons_cases a xs x (suc k, l, e) = inr (k, omega (arith, l), e)
+
+-- an empty list has no element
+pub none_in_empty : {X : Type 0} (x : X) → Contains [] x → ⊥
+none_in_empty x c = omega (arith, c.1)
+
+-- the first element
+pub contains_first : {X : Type 0} (a : X) (xs : List X) → Contains (a ∷ xs) a
+contains_first a xs = (0, omega arith, refl)
+
+-- an element of the rest
+pub contains_rest : {X : Type 0} (a : X) (xs : List X) (x : X) → Contains xs x → Contains (a ∷ xs) x
+contains_rest a xs x c = (suc c.0, omega (arith, c.1), c.2)
+
+-- what one of the lists has is in their union
+pub in_flat_map : {X Y : Type 0} (f : X → List Y) (xs : List X) (x : X) (y : Y) → Contains xs x → Contains (f x) y → Contains (flat_map f xs) y
+in_flat_map f [] x y c d = absurd (none_in_empty x c)
+in_flat_map {X} {Y} f (a ∷ xs) x y c d = by (λ m. in_flat_map f xs x y m d) (Contains-cons_cases a xs x c) where
+  by : (Contains xs x → Contains (flat_map f xs) y) → (a ≡ x) ⊎ Contains xs x → Contains (f a ++ flat_map f xs) y
+  by more (inl e) = let Q : X → Type 0 = λ z. Contains (f z) y in Contains-append_left (f a) (flat_map f xs) y (subst Q (sym e) d)
+  by more (inr m) = Contains-append_right (f a) (flat_map f xs) y (more m)
+
+-- the image of what a list has is in the list of images
+pub contains_map : {X Y : Type 0} (f : X → Y) (xs : List X) (x : X) → Contains xs x → Contains (map f xs) (f x)
+contains_map f [] x c = absurd (none_in_empty x c)
+contains_map {X} {Y} f (a ∷ xs) x c = by (contains_map f xs x) (Contains-cons_cases a xs x c) where
+  by : (Contains xs x → Contains (map f xs) (f x)) → (a ≡ x) ⊎ Contains xs x → Contains (f a ∷ map f xs) (f x)
+  by more (inl e) = let same : f a ≡ f x = ap f e in (0, omega arith, same)
+  by more (inr m) = contains_rest (f a) (map f xs) (f x) (more m)

@@ -1,0 +1,5 @@
+//! Laws of tiles over the definitions: each function does nothing, and its contract is the law.
+#![tactic(auto)]
+
+pub mod held_tile;
+pub mod parity;
