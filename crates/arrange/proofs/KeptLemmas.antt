@@ -1,0 +1,63 @@
+-- The segments with a point in a column, one more at a time.
+use Rattle.std.specs.Prelude.{◌≡◌, ℕ, zero, suc, ◌+◌, ◌<◌, pos, ◌+ℤ◌, true, false, List, [], ◌∷◌, ◌++◌, map, take, get_or, length, All}
+use Rattle.std.proofs.Common.{ap, sym, ◌∙◌, cond, arith, append_assoc, append-nil, subst}
+use Rattle.std.proofs.lemmas.Int.{ints}
+use Rattle.std.proofs.lemmas.List.{map_more, take_more, map-append}
+use Rattle.std.proofs.lemmas.List.Elements.{filter-append, All-append}
+use Rattle.overlay_terms.specs.Plane.{Segment}
+use Rattle.overlay_terms.specs.Column.{border, touches}
+use Rattle.overlay_terms.specs.Layers.{Marked}
+use Rattle.overlay_terms.specs.TileLaws.{IsProper}
+use Rattle.arrange.specs.declared.marked_seg.MarkedSeg.{MarkedSeg}
+use Rattle.arrange.specs.Marked.{marked_of, kept_in}
+
+-- a column's right border lies a width after its left one
+pub border_next : (k : ℕ) → border (k + 1) ≡ border k +ℤ pos 131072
+border_next k = omega (arith, ints)
+
+-- a segment with the number of its layer
+abbrev pub mark : ℕ → Segment → Marked
+mark layer s = record { layer = layer; segment = s }
+
+-- what one more segment adds to those that are kept
+kept_more : (column layer : ℕ) (segs : List Segment) (i : ℕ) (s : Segment) → i < length segs → s ≡ get_or segs i s → kept_in column (map (mark layer) (take (i + 1) segs)) ≡ kept_in column (map (mark layer) (take i segs)) ++ cond (touches column s) (mark layer s ∷ []) []
+kept_more column layer segs i s h e =
+    ap (kept_in column) (map_more (mark layer) segs i s h)
+    ∙ filter-append (λ (m : Marked). touches column m.segment) (map (mark layer) (take i segs)) (mark layer (get_or segs i s) ∷ [])
+    ∙ ap (λ t. kept_in column (map (mark layer) (take i segs)) ++ cond (touches column t) (mark layer t ∷ []) []) (sym e)
+
+-- a segment that touches the column is added behind those kept
+pub kept_more_yes : (column layer : ℕ) (segs : List Segment) (i : ℕ) (s : Segment) (before : List Marked) (items new : List MarkedSeg) (m : MarkedSeg) →
+    i < length segs → s ≡ get_or segs i s → touches column s ≡ true → marked_of m ≡ mark layer s → new ≡ items ++ m ∷ [] → map marked_of items ≡ before ++ kept_in column (map (mark layer) (take i segs)) →
+    map marked_of new ≡ before ++ kept_in column (map (mark layer) (take (i + 1) segs))
+kept_more_yes column layer segs i s before items new m h e touching is added was =
+    let kept = kept_in column (map (mark layer) (take i segs)) in
+    ap (map marked_of) added
+    ∙ map-append marked_of items (m ∷ [])
+    ∙ ap (λ xs. xs ++ marked_of m ∷ []) was
+    ∙ ap (λ t. (before ++ kept) ++ t ∷ []) is
+    ∙ append_assoc before kept (mark layer s ∷ [])
+    ∙ ap (λ b. before ++ (kept ++ cond b (mark layer s ∷ []) [])) (sym touching)
+    ∙ ap (λ xs. before ++ xs) (sym (kept_more column layer segs i s h e))
+
+-- another changes nothing
+pub kept_more_no : (column layer : ℕ) (segs : List Segment) (i : ℕ) (s : Segment) (before now : List Marked) →
+    i < length segs → s ≡ get_or segs i s → touches column s ≡ false → now ≡ before ++ kept_in column (map (mark layer) (take i segs)) →
+    now ≡ before ++ kept_in column (map (mark layer) (take (i + 1) segs))
+kept_more_no column layer segs i s before now h e apart was =
+    let kept = kept_in column (map (mark layer) (take i segs)) in
+    was
+    ∙ ap (λ xs. before ++ xs) (sym (append-nil kept))
+    ∙ ap (λ b. before ++ (kept ++ cond b (mark layer s ∷ []) [])) (sym apart)
+    ∙ ap (λ xs. before ++ xs) (sym (kept_more column layer segs i s h e))
+
+-- a fact of one element holds of the list of it alone
+pub all_single : {X : Type 0} (P : X → Type 0) (x : X) → P x → All P (x ∷ [])
+all_single P x p zero d h = p
+all_single P x p (suc k) d h = absurd (omega arith)
+
+-- one more proper segment
+pub proper_more : (segs : List Segment) (i : ℕ) (s : Segment) → i < length segs → s ≡ get_or segs i s → IsProper s → All IsProper (take i segs) → All IsProper (take (i + 1) segs)
+proper_more segs i s h e proper was =
+    subst (All IsProper) (sym (take_more segs i s h ∙ ap (λ t. take i segs ++ t ∷ []) (sym e)))
+    (All-append IsProper (take i segs) (s ∷ []) was (all_single IsProper s proper))

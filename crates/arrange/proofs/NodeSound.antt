@@ -1,0 +1,275 @@
+-- The places that the names along a known segment stand for are nodes.
+use Rattle.std.proofs.Common.{◌≡◌, ℕ, ℤ, pos, ◌+◌, ◌<◌, ◌-ℤ◌, ◌*ℤ◌, ◌<ℤ◌, true, false, not, ◌&&◌, ◌||◌, ◌⊎◌, inl, inr, List, [], ◌∷◌, map, get_or, suc, ap, sym, ◌∙◌, subst, arith}
+use Rattle.std.specs.Prelude.{IsTrue, All, Any, Contains, flat_map}
+use Rattle.std.specs.List.{list_any, AllPairs}
+use Rattle.std.proofs.lemmas.Int.{ints}
+use Rattle.std.proofs.lemmas.Bool.{or_cases, or_left, or_right, and_parts, and_from, not_from_false, false_from_ne_true, both_ways}
+use Rattle.std.proofs.lemmas.List.Elements.{Contains-append_cases, All-contains, All-map, All-weaker}
+use Rattle.std.proofs.lemmas.List.Kept.{AllPairs-cons}
+use Rattle.std.proofs.Math.IntN.{*ℤ_comm}
+use Rattle.overlay_terms.specs.TileLaws.{IsInput, IsProper}
+use Rattle.exact_point.specs.PlaceOf.{place_of}
+use Rattle.arrange.proofs.SortedPlaces.{spot_positive}
+use Rattle.arrange.proofs.NodeLemmas.{wide_too}
+use Rattle.std.proofs.lemmas.List.Folds.{Any-from_list_any, list_any-from_Any}
+use Rattle.std.proofs.lemmas.List.FromFn.{get_or-range_with_len, length-range_with_len}
+use Rattle.std.specs.Ordering.{int_eq}
+use Rattle.std.specs.declared.cmp.Ordering.TheVariants.{Less}
+use Rattle.overlay_terms.specs.Plane.{WholePoint, Point, Segment, whole, whole_cmp, point_cmp, same_place, same_whole, height_over, is_on}
+use Rattle.overlay_terms.specs.Column.{border, columns, column_count}
+use Rattle.overlay_terms.specs.Layers.{Marked}
+use Rattle.overlay_terms.specs.Tiles.{is_node, is_end, is_crossing, is_on_border, is_parallel, is_vertical, Input}
+use Rattle.overlay_terms.proofs.Difference.{split, differences, same}
+use Rattle.exact_point.specs.Crossing.{turn_of, IsCrossingOf}
+use Rattle.exact_point.specs.PointName.{HasPlace, IsPlaceOf, IsCutOf}
+use Rattle.exact_point.specs.declared.point_name.PointName.{PointName}
+use Rattle.exact_point.specs.declared.point_name.PointName.TheVariants.{Vertex, Cross, Border}
+use Rattle.arrange.specs.Units.{IsUnit, is_end_along, is_collinear, covers}
+use Rattle.arrange.specs.Arrangement.{segments_in, IsNodeOn, AreNodesOn}
+use Rattle.arrange.specs.NamedPlaces.{spot, own_names, names_with, names_along, IsFound, AreAlong}
+use Rattle.arrange.specs.declared.named_place.NamedPlace.{NamedPlace}
+use Rattle.arrange.proofs.Orders.{one_positive, same_turned, same_through, level_from, level_test}
+use Rattle.arrange.proofs.FoundLemmas.{any_from, any_contains, Contains-cons_cases, from_flat_map, contains_map}
+use Rattle.arrange.proofs.NodeGeometry.{parallel_through, parallel_line, between_on, after_left, before_right, on_line, left_on_line, turn_from_parallel, parallel_from_turn}
+
+-- a segment of the input holds s, whose ends are ends of segments of the input
+pub record IsKnown (input : Input) (s : Segment) : Type 0 where
+  pub holder : Segment
+  pub among : Contains (segments_in input) holder
+  pub same_way : is_parallel holder s ≡ true
+  pub ahead : whole_cmp holder.left holder.right ≡ Less
+  pub holds : (p : Point) → pos 0 <ℤ p.w → IsTrue (is_on s p) → IsTrue (is_on holder p)
+  pub left_end : IsTrue (is_end (segments_in input) (whole s.left))
+  pub right_end : IsTrue (is_end (segments_in input) (whole s.right))
+
+-- a point at the place of an end is at an end
+pub end_same : (segments : List Segment) (v : WholePoint) (p : Point) → pos 0 <ℤ p.w → IsTrue (same_place (whole v) p) → IsTrue (is_end segments (whole v)) → IsTrue (is_end segments p)
+end_same segments v p h e ends =
+    let which = Any-from_list_any (λ s. same_place (whole v) (whole s.left) || same_place (whole v) (whole s.right)) segments ends in
+    list_any-from_Any (λ s. same_place p (whole s.left) || same_place p (whole s.right)) segments
+    (any_from (λ s. (same_place p (whole s.left) || same_place p (whole s.right)) ≡ true) segments which.1
+    (any_contains (λ s. (same_place (whole v) (whole s.left) || same_place (whole v) (whole s.right)) ≡ true) segments which)
+    (by which.1 (or_cases (same_place (whole v) (whole which.1.left)) (same_place (whole v) (whole which.1.right)) which.4)))
+  where
+    back : (w : WholePoint) → same_place (whole v) (whole w) ≡ true → same_place p (whole w) ≡ true
+    back w f = same_through p (whole v) (whole w) h one_positive one_positive (same_turned (whole v) p e) f
+
+    by : (s : Segment) → (same_place (whole v) (whole s.left) ≡ true) ⊎ (same_place (whole v) (whole s.right) ≡ true) → (same_place p (whole s.left) || same_place p (whole s.right)) ≡ true
+    by s (inl l) = or_left _ _ (back s.left l)
+    by s (inr r) = or_right (same_place p (whole s.left)) (same_place p (whole s.right)) (back s.right r)
+
+-- each end of a segment is one
+pub is_left_end : (segments : List Segment) (s : Segment) → Contains segments s → (p : Point) → IsTrue (same_place (whole s.left) p) → IsTrue (is_end segments p)
+is_left_end segments s c p e =
+    list_any-from_Any (λ s. same_place p (whole s.left) || same_place p (whole s.right)) segments
+    (any_from (λ s. (same_place p (whole s.left) || same_place p (whole s.right)) ≡ true) segments s c (or_left _ _ (same_turned (whole s.left) p e)))
+
+pub is_right_end : (segments : List Segment) (s : Segment) → Contains segments s → (p : Point) → IsTrue (same_place (whole s.right) p) → IsTrue (is_end segments p)
+is_right_end segments s c p e =
+    list_any-from_Any (λ s. same_place p (whole s.left) || same_place p (whole s.right)) segments
+    (any_from (λ s. (same_place p (whole s.left) || same_place p (whole s.right)) ≡ true) segments s c
+    (or_right (same_place p (whole s.left)) (same_place p (whole s.right)) (same_turned (whole s.right) p e)))
+
+pub node_at_end : (segments : List Segment) (p : Point) → IsTrue (is_end segments p) → IsTrue (is_node segments p)
+node_at_end segments p e = or_left (is_end segments p || is_crossing segments p) (is_on_border segments p) (or_left (is_end segments p) (is_crossing segments p) e)
+
+node_at_crossing : (segments : List Segment) (p : Point) → IsTrue (is_crossing segments p) → IsTrue (is_node segments p)
+node_at_crossing segments p e = or_left (is_end segments p || is_crossing segments p) (is_on_border segments p) (or_right (is_end segments p) (is_crossing segments p) e)
+
+node_at_border : (segments : List Segment) (p : Point) → IsTrue (is_on_border segments p) → IsTrue (is_node segments p)
+node_at_border segments p e = or_right (is_end segments p || is_crossing segments p) (is_on_border segments p) e
+
+-- two segments that are not parallel and hold a point make a crossing
+pub crossing_there : (segments : List Segment) (t u : Segment) (p : Point) → Contains segments t → Contains segments u → IsTrue (is_on t p) → IsTrue (is_on u p) → is_parallel t u ≡ false → IsTrue (is_node segments p)
+crossing_there segments t u p c d on_t on_u np =
+    node_at_crossing segments p (list_any-from_Any (λ s. is_on s p && list_any (λ t. is_on t p && not (is_parallel s t)) segments) segments
+    (any_from (λ s. (is_on s p && list_any (λ t. is_on t p && not (is_parallel s t)) segments) ≡ true) segments t c
+    (and_from (is_on t p) (list_any (λ r. is_on r p && not (is_parallel t r)) segments) on_t
+    (list_any-from_Any (λ r. is_on r p && not (is_parallel t r)) segments
+    (any_from (λ r. (is_on r p && not (is_parallel t r)) ≡ true) segments u d (and_from (is_on u p) (not (is_parallel t u)) on_u (not_from_false (is_parallel t u) np)))))))
+
+-- a border that cuts a segment that is not vertical
+pub border_there : (segments : List Segment) (t : Segment) (j : ℕ) (p : Point) → Contains segments t → IsTrue (is_on t p) → is_vertical t ≡ false → j < column_count → p.x ≡ border j *ℤ p.w → IsTrue (is_node segments p)
+border_there segments t j p c on v known e =
+    node_at_border segments p (and_from (list_any (λ k. int_eq p.x (border k *ℤ p.w)) columns) (list_any (λ s. is_on s p && not (is_vertical s)) segments)
+    (list_any-from_Any (λ k. int_eq p.x (border k *ℤ p.w)) columns
+    (any_from (λ k. int_eq p.x (border k *ℤ p.w) ≡ true) columns j (j, omega (arith, length-range_with_len 0 column_count), omega (arith, get_or-range_with_len 0 column_count j j known))
+    (level_test p.x (border j *ℤ p.w) e)))
+    (list_any-from_Any (λ s. is_on s p && not (is_vertical s)) segments
+    (any_from (λ s. (is_on s p && not (is_vertical s)) ≡ true) segments t c (and_from (is_on t p) (not (is_vertical t)) on (not_from_false (is_vertical t) v)))))
+
+module _ (input : Input) (s : Segment) (known : IsKnown input s) (p : Point) (hp : pos 0 <ℤ p.w) (on_s : IsTrue (is_on s p)) where
+  abbrev Node : Type 0
+  Node = IsTrue (is_node (segments_in input) p)
+
+  at_cut : (j : ℕ) → IsCutOf s j p → Node
+  at_cut j cut =
+      border_there (segments_in input) known.holder j p known.among (known.holds p hp on_s) (false_from_ne_true _ (λ v. absurd (upright v))) cut.cut.known cut.on_border
+    where
+      narrow : (a b : ℤ) → a <ℤ (border j) → (border j) <ℤ b → a ≡ b → ⊥
+      narrow a b l m e = omega (arith, ints)
+
+      flat : (a b : ℤ) → a <ℤ b → a ≡ b → ⊥
+      flat a b l e = omega (arith, ints)
+
+      upright : is_vertical known.holder ≡ true → ⊥
+      upright v =
+          let standing : is_vertical s ≡ false = false_from_ne_true _ (λ w. absurd (narrow s.left.x s.right.x cut.cut.after_left cut.cut.before_right (level_from s.left.x s.right.x w))) in
+          let wide = wide_too known.holder s known.ahead (turn_from_parallel known.holder s known.same_way) standing in
+          flat known.holder.left.x known.holder.right.x wide (level_from known.holder.left.x known.holder.right.x v)
+
+  at_cross : (t : Segment) → Contains (segments_in input) t → IsCrossingOf s t p → Node
+  at_cross t c k =
+      crossing_there (segments_in input) known.holder t p known.among c (known.holds p hp on_s) k.on_second
+      (false_from_ne_true _ (λ e. both_ways _ k.not_parallel (parallel_through known.holder s t known.ahead known.same_way e)))
+
+  own_node : (name : PointName) → Contains (own_names s input.column) name → IsPlaceOf name p → Node
+  own_node name c st = first (Contains-cons_cases (Vertex s.left) (Vertex s.right ∷ Border s input.column ∷ Border s (input.column + 1) ∷ []) name c) where
+    last : (Border s (input.column + 1) ≡ name) ⊎ Contains [] name → Node
+    last (inl e) = let Q : PointName → Type 0 = λ n. IsPlaceOf n p in at_cut (input.column + 1) (subst Q (sym e) st)
+    last (inr d) = absurd (omega (arith, d.1))
+
+    third : (Border s input.column ≡ name) ⊎ Contains (Border s (input.column + 1) ∷ []) name → Node
+    third (inl e) = let Q : PointName → Type 0 = λ n. IsPlaceOf n p in at_cut input.column (subst Q (sym e) st)
+    third (inr d) = last (Contains-cons_cases (Border s (input.column + 1)) [] name d)
+
+    second : (Vertex s.right ≡ name) ⊎ Contains (Border s input.column ∷ Border s (input.column + 1) ∷ []) name → Node
+    second (inl e) =
+        let Q : PointName → Type 0 = λ n. IsPlaceOf n p in
+        node_at_end (segments_in input) p (end_same (segments_in input) s.right p hp (subst Q (sym e) st) known.right_end)
+    second (inr d) = third (Contains-cons_cases (Border s input.column) (Border s (input.column + 1) ∷ []) name d)
+
+    first : (Vertex s.left ≡ name) ⊎ Contains (Vertex s.right ∷ Border s input.column ∷ Border s (input.column + 1) ∷ []) name → Node
+    first (inl e) =
+        let Q : PointName → Type 0 = λ n. IsPlaceOf n p in
+        node_at_end (segments_in input) p (end_same (segments_in input) s.left p hp (subst Q (sym e) st) known.left_end)
+    first (inr d) = second (Contains-cons_cases (Vertex s.right) (Border s input.column ∷ Border s (input.column + 1) ∷ []) name d)
+
+  with_node : (t : Segment) → Contains (segments_in input) t → (name : PointName) → Contains (names_with s t) name → IsPlaceOf name p → Node
+  with_node t m name c st = first (Contains-cons_cases (Vertex t.left) (Vertex t.right ∷ Cross s t ∷ []) name c) where
+    third : (Cross s t ≡ name) ⊎ Contains [] name → Node
+    third (inl e) = let Q : PointName → Type 0 = λ n. IsPlaceOf n p in at_cross t m (subst Q (sym e) st)
+    third (inr d) = absurd (omega (arith, d.1))
+
+    second : (Vertex t.right ≡ name) ⊎ Contains (Cross s t ∷ []) name → Node
+    second (inl e) = let Q : PointName → Type 0 = λ n. IsPlaceOf n p in node_at_end (segments_in input) p (is_right_end (segments_in input) t m p (subst Q (sym e) st))
+    second (inr d) = third (Contains-cons_cases (Cross s t) [] name d)
+
+    first : (Vertex t.left ≡ name) ⊎ Contains (Vertex t.right ∷ Cross s t ∷ []) name → Node
+    first (inl e) = let Q : PointName → Type 0 = λ n. IsPlaceOf n p in node_at_end (segments_in input) p (is_left_end (segments_in input) t m p (subst Q (sym e) st))
+    first (inr d) = second (Contains-cons_cases (Vertex t.right) (Cross s t ∷ []) name d)
+
+  -- what a name along a known segment stands for on it is a node
+  pub named_is_node : (name : PointName) → Contains (names_along input s) name → IsPlaceOf name p → Node
+  named_is_node name c st = by (Contains-append_cases (own_names s input.column) (flat_map (names_with s) (segments_in input)) name c) where
+    by : Contains (own_names s input.column) name ⊎ Contains (flat_map (names_with s) (segments_in input)) name → Node
+    by (inl d) = own_node name d st
+    by (inr d) = let r = from_flat_map (names_with s) (segments_in input) name d in with_node r.0 r.1 name r.2 st
+
+-- ---- the units
+once : (a b : ℤ) → a ≡ b → a *ℤ pos 1 ≡ b *ℤ pos 1
+once a b e = ap (λ z. z *ℤ pos 1) e
+
+-- equal whole points are at one place
+same_as_points : (v w : WholePoint) → same_whole v w ≡ true → IsTrue (same_place (whole w) (whole v))
+same_as_points v w e =
+    let parts = and_parts (int_eq v.x w.x) (int_eq v.y w.y) e in
+    and_from (int_eq (w.x *ℤ pos 1) (v.x *ℤ pos 1)) (int_eq (w.y *ℤ pos 1) (v.y *ℤ pos 1))
+    (level_test (w.x *ℤ pos 1) (v.x *ℤ pos 1) (once w.x v.x (sym (level_from v.x w.x parts.0))))
+    (level_test (w.y *ℤ pos 1) (v.y *ℤ pos 1) (once w.y v.y (sym (level_from v.y w.y parts.1))))
+
+-- an end along a line is an end
+end_from_along : (marked : List Marked) (s : Segment) (v : WholePoint) → IsTrue (is_end_along marked s v) → IsTrue (is_end (map (λ m. m.segment) marked) (whole v))
+end_from_along marked s v e =
+    let which = Any-from_list_any (λ m. is_collinear s m.segment && (same_whole v m.segment.left || same_whole v m.segment.right)) marked e in
+    let tests = and_parts (is_collinear s which.1.segment) (same_whole v which.1.segment.left || same_whole v which.1.segment.right) which.4 in
+    let there = contains_map (λ (m : Marked). m.segment) marked which.1 (any_contains (λ m. (is_collinear s m.segment && (same_whole v m.segment.left || same_whole v m.segment.right)) ≡ true) marked which) in
+    by which.1.segment there (or_cases (same_whole v which.1.segment.left) (same_whole v which.1.segment.right) tests.1)
+  where
+    by : (t : Segment) → Contains (map (λ m. m.segment) marked) t → (same_whole v t.left ≡ true) ⊎ (same_whole v t.right ≡ true) → IsTrue (is_end (map (λ m. m.segment) marked) (whole v))
+    by t c (inl f) = is_left_end (map (λ m. m.segment) marked) t c (whole v) (same_as_points v t.left f)
+    by t c (inr f) = is_right_end (map (λ m. m.segment) marked) t c (whole v) (same_as_points v t.right f)
+
+way_turn : (a b l m x y u v : ℤ) → ((a *ℤ (v -ℤ (m *ℤ pos 1))) -ℤ (b *ℤ (u -ℤ (l *ℤ pos 1)))) -ℤ ((a *ℤ (y -ℤ (m *ℤ pos 1))) -ℤ (b *ℤ (x -ℤ (l *ℤ pos 1)))) ≡ (a *ℤ (v -ℤ y)) -ℤ (b *ℤ (u -ℤ x))
+way_turn a b l m x y u v = rw (split a, split b, split l, split m, split x, split y, split u, split v) (simp differences (same _ _ _ _ (omega arith)))
+
+turned_way : (a b c d : ℤ) → (a *ℤ d) -ℤ (b *ℤ c) ≡ pos 0 → (c *ℤ b) -ℤ (d *ℤ a) ≡ pos 0
+turned_way a b c d e = omega (arith, ints, e, *ℤ_comm a d, *ℤ_comm b c)
+
+-- the segment that covers a stretch holds it
+pub covering_turn : (t s : Segment) → IsTrue (is_on t (whole s.left)) → IsTrue (is_on t (whole s.right)) → turn_of t s ≡ pos 0
+covering_turn t s on_left on_right =
+    sym (way_turn (t.right.x -ℤ t.left.x) (t.right.y -ℤ t.left.y) t.left.x t.left.y s.left.x s.left.y s.right.x s.right.y)
+    ∙ ap (λ z. z -ℤ height_over t (whole s.left)) (on_line t (whole s.right) on_right) ∙ ap (λ z. pos 0 -ℤ z) (on_line t (whole s.left) on_left) ∙ nothing
+  where
+    nothing : pos 0 -ℤ pos 0 ≡ pos 0
+    nothing = omega (arith, ints)
+
+pub covering_holds : (t s : Segment) → whole_cmp s.left s.right ≡ Less → IsTrue (is_on t (whole s.left)) → IsTrue (is_on t (whole s.right)) → (p : Point) → pos 0 <ℤ p.w → IsTrue (is_on s p) → IsTrue (is_on t p)
+covering_holds t s ahead on_left on_right p hp on_s =
+    let turn = turned_way (t.right.x -ℤ t.left.x) (t.right.y -ℤ t.left.y) (s.right.x -ℤ s.left.x) (s.right.y -ℤ s.left.y) (covering_turn t s on_left on_right) in
+    let level = parallel_line s t (whole s.left) p ahead turn one_positive (left_on_line s) (on_line t (whole s.left) on_left) (on_line s p on_s) in
+    between_on t (whole s.left) p (whole s.right) one_positive hp one_positive on_left on_right level (after_left s p on_s) (before_right s p hp on_s)
+
+pub known_unit : (input : Input) (s : Segment) → IsInput input → IsUnit input.marked s → IsKnown input s
+known_unit input s valid unit =
+    let which = Any-from_list_any (λ m. covers m.segment s) input.marked unit.covered in
+    let there : Contains input.marked which.1 = any_contains (λ m. covers m.segment s ≡ true) input.marked which in
+    let tests = and_parts (is_on which.1.segment (whole s.left)) (is_on which.1.segment (whole s.right)) which.4 in
+    record {
+      holder = which.1.segment;
+      among = contains_map (λ (m : Marked). m.segment) input.marked which.1 there;
+      same_way = parallel_from_turn which.1.segment s (covering_turn which.1.segment s tests.0 tests.1);
+      ahead = (All-contains (λ m. IsProper m.segment) input.marked which.1 valid.proper there).first;
+      holds = covering_holds which.1.segment s unit.forward tests.0 tests.1;
+      left_end = end_from_along input.marked s s.left unit.from_end;
+      right_end = end_from_along input.marked s s.right unit.to_end;
+    }
+
+-- ---- all of them
+rest_pairs : {X : Type 0} (R : X → X → Type 0) (x : X) (xs : List X) → AllPairs R (x ∷ xs) → AllPairs R xs
+rest_pairs R x xs h = λ i j d l m. h (suc i) (suc j) d (omega arith) (omega (arith, m))
+
+first_pairs : {X : Type 0} (R : X → X → Type 0) (x : X) (xs : List X) → AllPairs R (x ∷ xs) → All (R x) xs
+first_pairs R x xs h = λ k d l. h 0 (suc k) d (omega arith) (omega (arith, l))
+
+-- a list of images in order
+pub pairs_mapped : {X Y : Type 0} (f : X → Y) (R : Y → Y → Type 0) (xs : List X) → AllPairs (λ a b. R (f a) (f b)) xs → AllPairs R (map f xs)
+pairs_mapped f R [] h = λ i j d l m. absurd (omega (arith, m))
+pairs_mapped f R (x ∷ xs) h =
+    AllPairs-cons R (f x) (map f xs) (All-map (R (f x)) f xs (first_pairs (λ a b. R (f a) (f b)) x xs h)) (pairs_mapped f R xs (rest_pairs (λ a b. R (f a) (f b)) x xs h))
+
+-- what is told of each element may stand for it
+pairs_told : (k : ℕ) (s : Segment) (names : List PointName) (xs : List NamedPlace) → All (IsFound k s names) xs → AllPairs (λ a b. point_cmp (spot a) (spot b) ≡ Less) xs
+    → AllPairs (λ a b. point_cmp (place_of a.name) (place_of b.name) ≡ Less) xs
+pairs_told k s names xs sound up = λ i j d l m.
+    ap (λ p. point_cmp p (place_of (get_or xs j d).name)) (sym (sound i d (omega (arith, l, m))).told)
+    ∙ ap (λ p. point_cmp (spot (get_or xs i d)) p) (sym (sound j d m).told) ∙ up i j d l m
+
+pub nodes_from_along : (input : Input) (s : Segment) (list : List NamedPlace) → IsKnown input s → AreAlong input s list → AreNodesOn input s (map (λ (z : NamedPlace). z.name) list)
+nodes_from_along input s list known along =
+    let names = names_along input s in
+    let name : NamedPlace → PointName = λ z. z.name in
+    record {
+      named = All-map HasPlace name list (All-weaker (IsFound input.column s names) (λ z. HasPlace z.name) (λ z f. f.named) list along.sound);
+      sound = All-map (λ n. IsNodeOn input s (place_of n)) name list (All-weaker (IsFound input.column s names) (λ z. IsNodeOn input s (place_of z.name)) node list along.sound);
+      ordered = pairs_mapped name (λ a b. point_cmp (place_of a) (place_of b) ≡ Less) list (pairs_told input.column s names list along.sound along.ordered);
+      complete = λ p n. told p (along.complete p n);
+    }
+  where
+    node : (z : NamedPlace) → IsFound input.column s (names_along input s) z → IsNodeOn input s (place_of z.name)
+    node z f =
+        let Q : Point → Type 0 = λ p. IsNodeOn input s p in
+        subst Q f.told (record {
+          positive = spot_positive z;
+          on_segment = f.on_segment;
+          in_column = f.in_column;
+          node = named_is_node input s known (spot z) (spot_positive z) f.on_segment z.name f.offered f.stands;
+        })
+
+    told : (p : Point) → Any (λ z. IsTrue (same_place p (spot z))) list → Any (λ n. IsTrue (same_place p (place_of n))) (map (λ (z : NamedPlace). z.name) list)
+    told p a =
+        let there = any_contains (λ z. IsTrue (same_place p (spot z))) list a in
+        let f = All-contains (IsFound input.column s (names_along input s)) list a.1 along.sound there in
+        let Q : Point → Type 0 = λ q. IsTrue (same_place p q) in
+        any_from (λ n. IsTrue (same_place p (place_of n))) (map (λ (z : NamedPlace). z.name) list) a.1.name (contains_map (λ (z : NamedPlace). z.name) list a.1 there) (subst Q f.told a.4)

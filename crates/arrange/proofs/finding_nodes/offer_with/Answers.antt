@@ -1,0 +1,6 @@
+use Rattle.std.proofs.Common.{append_assoc}
+use Rattle.arrange.proofs.finding_nodes.offer_with.Goals as goal
+
+pub returns : goal.returns
+returns c = λ names h.
+    simp (append_assoc, c.left.ensures.value, c.right.ensures.value) at (c.in_ok-offer-3.ensures _ (c.in_ok-offer-2.ensures _ (c.in_ok-offer.ensures names h)))

@@ -1,0 +1,6 @@
+use Rattle.arrange.specs.HeldPieces.{HoldsNeighbours}
+use Rattle.arrange.proofs.finding_pieces.add_along.Given as goal
+
+-- the pieces between the places so far are held
+abbrev pub invariant-loop-i : goal.invariant-loop-i
+invariant-loop-i l = HoldsNeighbours l.input l.places l.i l.fn.held.items l.held.items

@@ -1,0 +1,9 @@
+pub mod Marked
+pub mod Units
+pub mod UnitLists
+pub mod Arrangement
+pub mod NamedPlaces
+pub mod Masks
+pub mod SameInput
+pub mod Directions
+pub mod HeldPieces

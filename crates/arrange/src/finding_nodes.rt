@@ -1,0 +1,120 @@
+//! The nodes on a unit.
+ghost use Rattle.std.specs.Prelude.{◌≡◌, ◌+◌, ◌++◌, ◌*ℤ◌, [], ◌∷◌, int_le, List, map, IfOk, OnOk};
+ghost use Rattle.overlay_terms.specs.Column.{border};
+ghost use Rattle.overlay_terms.specs.Plane.{whole_cmp};
+ghost use Rattle.exact_point.specs.Place.{place};
+ghost use Rattle.exact_point.specs.declared.point_name.PointName.{PointName};
+ghost use Rattle.overlay_terms.specs.TileLaws.{IsInput};
+ghost use Rattle.arrange.specs.Units.{IsUnit};
+ghost use Rattle.arrange.specs.Arrangement.{AreNodesOn, is_in_closed_column};
+ghost use Rattle.arrange.specs.NamedPlaces.{AreFound, AreAlong, own_names, names_with};
+
+use crate::named_place::{NamedPlace, Places};
+use crate::tile_input::TileInput;
+use crate::unit::Unit;
+use exact_point::point::HPoint;
+use exact_point::point_name::PointName;
+use exact_point::side::{border_side, on};
+use plane_base::column::Column;
+use plane_base::point::Seg;
+use std::alloc::{AllocError, Global};
+use std::cmp::Ordering;
+
+/// The nodes on a unit of the input from the column's left border to its right border, from left to
+/// right.
+pub fn nodes_on(alloc: Global, unit: &Unit, input: &TileInput) -> Result<Vec<PointName>, AllocError>
+    requires known { IsUnit input.now.marked unit.now.seg }
+    ensures { IfOk result (λ names. AreNodesOn input.now unit.now.seg names.items) }
+{
+    let places = places_along(alloc, &unit.seg, input)?;
+    let names = names_of(alloc, &places)?;
+    Ok(names)
+}
+
+/// The names of some places.
+fn names_of(alloc: Global, places: &[NamedPlace]) -> Result<Vec<PointName>, AllocError>
+    ensures { IfOk result (λ names. names.items ≡ map (λ z. z.name) places.now) }
+{
+    places.iter().map(|z| z.name).collect(alloc)
+}
+
+/// The places on a segment within the closed column that may be nodes, from left to right, each
+/// once. On a segment of the input each of them is a node.
+pub(crate) fn places_along(
+    alloc: Global,
+    seg: &Seg,
+    input: &TileInput,
+) -> Result<Places, AllocError>
+    ensures along { IfOk result (λ list. AreAlong input.now seg.now list.items) }
+    ensures valid { IfOk result (λ list. IsInput input.now) }
+{
+    let mut found = Places::new(alloc);
+    offer_own(&mut found, seg, input.column())?;
+    for m in input.marked() {
+        offer_with(&mut found, seg, &m.seg, input.column())?;
+    }
+    found.sort_unstable();
+    found.dedup();
+    Ok(found)
+}
+
+/// Offers the ends of a segment and where the column's borders cut it.
+fn offer_own(found: &mut Places, seg: &Seg, column: Column) -> Result<(), AllocError>
+    ensures found { OnOk result (found.old.items ≡ [] → AreFound column seg.now (own_names seg.now column) found.new.items) }
+    ensures ahead { whole_cmp seg.now.left seg.now.right ≡ Ordering.Less }
+{
+    offer(found, PointName::Vertex(seg.left()), seg, column)?;
+    offer(found, PointName::Vertex(seg.right()), seg, column)?;
+    offer(found, PointName::Border(*seg, column.number()), seg, column)?;
+    offer(
+        found,
+        PointName::Border(*seg, column.number() + 1),
+        seg,
+        column,
+    )?;
+    Ok(())
+}
+
+/// Offers the ends of another segment and where it crosses the segment.
+fn offer_with(found: &mut Places, seg: &Seg, other: &Seg, column: Column) -> Result<(), AllocError>
+    ensures { OnOk result ((names : List PointName) → AreFound column seg.now names found.old.items → AreFound column seg.now (names ++ names_with seg.now other.now) found.new.items) }
+{
+    offer(found, PointName::Vertex(other.left()), seg, column)?;
+    offer(found, PointName::Vertex(other.right()), seg, column)?;
+    offer(found, PointName::Cross(*seg, *other), seg, column)?;
+    Ok(())
+}
+
+/// Adds the place that a name stands for, if it lies on the segment within the closed column.
+fn offer(found: &mut Places, name: PointName, seg: &Seg, column: Column) -> Result<(), AllocError>
+    ensures { OnOk result ((names : List PointName) → AreFound column seg.now names found.old.items → AreFound column seg.now (names ++ name ∷ []) found.new.items) }
+{
+    if let Some(at) = name.point() {
+        let is_on = on(seg, &at);
+        let is_within = is_within(column, &at);
+        if is_on & is_within {
+            found.push(NamedPlace { name, at })?;
+        }
+    }
+    Ok(())
+}
+
+/// Whether a point lies from a column's left border to its right border.
+fn is_within(column: Column, p: &HPoint) -> bool
+    ensures { result ≡ is_in_closed_column column (place p.now) }
+{
+    let from_left = border_side(column, p);
+    let to_right = is_up_to(column, p);
+    from_left.is_ge() & to_right
+}
+
+/// Whether a point lies left of a column's right border or on it. The last column has no other
+/// column right of it, and all points lie left of its right border.
+fn is_up_to(column: Column, p: &HPoint) -> bool
+    ensures { result ≡ int_le p.now.x (border (column + 1) *ℤ p.now.w) }
+{
+    match Column::new(u64::from(column.number()) + 1) {
+        Some(next) => border_side(next, p).is_le(),
+        None => true,
+    }
+}

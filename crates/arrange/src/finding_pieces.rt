@@ -1,0 +1,129 @@
+//! The pieces that begin in the column.
+ghost use Rattle.std.specs.Prelude.{◌≡◌, ◌+◌, ◌++◌, ◌*ℤ◌, [], ◌∷◌, int_lt, List, map, Contains, IfOk, OnOk};
+ghost use Rattle.std.specs.List.{list_any};
+ghost use Rattle.overlay_terms.specs.Plane.{Segment};
+ghost use Rattle.overlay_terms.specs.Column.{border};
+ghost use Rattle.overlay_terms.specs.TileLaws.{IsInput};
+ghost use Rattle.arrange.specs.Arrangement.{ArePieces, segments_in};
+ghost use Rattle.arrange.specs.NamedPlaces.{AreAlong};
+ghost use Rattle.arrange.specs.SameInput.{same_segment};
+ghost use Rattle.arrange.specs.HeldPieces.{HoldsPieces, HoldsOneMore, AreNeighbours};
+
+use crate::finding_nodes::places_along;
+use crate::held_piece::HeldPiece;
+use crate::marked_seg::MarkedSeg;
+use crate::masking::mask_over;
+use crate::named_place::NamedPlace;
+use crate::piece::Elementary;
+use crate::tile_input::TileInput;
+use exact_point::point::HPoint;
+use exact_point::side::border_side;
+use plane_base::column::Column;
+use plane_base::point::Seg;
+use std::alloc::{AllocError, Global};
+
+/// The elementary pieces whose left ends lie in the column, by left end, then by direction, the
+/// vertical one last.
+pub fn pieces(alloc: Global, input: &TileInput) -> Result<Vec<Elementary>, AllocError>
+    ensures { IfOk result (λ list. ArePieces input.now list.items) }
+{
+    let mut held = Vec::new(alloc);
+    let marked = input.marked();
+    for i in 0..marked.len() {
+        add_pieces_along(alloc, &mut held, &marked[..i], &marked[i].seg, input)?;
+    }
+    held.sort_unstable();
+    held.dedup();
+    let list = pieces_of(alloc, &held)?;
+    Ok(list)
+}
+
+/// Whether a segment stands among those of some base layers.
+fn is_among(marked: &[MarkedSeg], seg: &Seg) -> bool
+    ensures { result ≡ list_any (λ m. same_segment m.seg seg.now) marked.now }
+{
+    marked.iter().any(|m| m.seg == *seg)
+}
+
+/// The pieces without their places.
+fn pieces_of(alloc: Global, held: &[HeldPiece]) -> Result<Vec<Elementary>, AllocError>
+    ensures { IfOk result (λ list. list.items ≡ map (λ h. h.piece) held.now) }
+{
+    held.iter().map(|h| h.piece).collect(alloc)
+}
+
+/// Adds the pieces of a segment of the input that begin in the column, unless it stands among
+/// earlier ones.
+fn add_pieces_along(
+    alloc: Global,
+    held: &mut Vec<HeldPiece>,
+    earlier: &[MarkedSeg],
+    seg: &Seg,
+    input: &TileInput,
+) -> Result<(), AllocError>
+    requires among { Contains (segments_in input.now) seg.now }
+    ensures { OnOk result (HoldsPieces input.now (map (λ m. m.seg) earlier.now) held.old.items → HoldsPieces input.now (map (λ m. m.seg) earlier.now ++ seg.now ∷ []) held.new.items) }
+{
+    if is_among(earlier, seg) {
+        return Ok(());
+    }
+    let places = places_along(alloc, seg, input)?;
+    add_along(held, seg, input, places.as_slice())?;
+    Ok(())
+}
+
+/// Adds the pieces between the places along a segment that begin in the column.
+fn add_along(
+    held: &mut Vec<HeldPiece>,
+    seg: &Seg,
+    input: &TileInput,
+    places: &[NamedPlace],
+) -> Result<(), AllocError>
+    requires valid { IsInput input.now }
+    requires among { Contains (segments_in input.now) seg.now }
+    requires along { AreAlong input.now seg.now places.now }
+    ensures { OnOk result ((supports : List Segment) → HoldsPieces input.now supports held.old.items → HoldsPieces input.now (supports ++ seg.now ∷ []) held.new.items) }
+{
+    for i in 1..places.len() {
+        add_between(held, seg, input, &places[i - 1], &places[i])?;
+    }
+    Ok(())
+}
+
+/// Adds the piece between two neighbours among the places along a segment, if it begins in the
+/// column.
+fn add_between(
+    held: &mut Vec<HeldPiece>,
+    seg: &Seg,
+    input: &TileInput,
+    from: &NamedPlace,
+    to: &NamedPlace,
+) -> Result<(), AllocError>
+    requires neighbours { AreNeighbours input.now seg.now from.now to.now }
+    ensures { OnOk result (HoldsOneMore input.now from.now to.now held.old.items held.new.items) }
+{
+    if is_before_next(input.column(), &from.at) {
+        let mask = mask_over(input.marked(), &from.at, &to.at);
+        held.push(HeldPiece {
+            at: from.at,
+            piece: Elementary {
+                support: *seg,
+                from: from.name,
+                to: to.name,
+                mask,
+            },
+        })?;
+    }
+    Ok(())
+}
+
+/// Whether a point lies left of a column's right border. The last column has no other column right
+/// of it, and all points lie left of its right border.
+fn is_before_next(column: Column, p: &HPoint) -> bool
+    ensures { result ≡ int_lt p.now.x (border (column + 1) *ℤ p.now.w) }
+{
+    match Column::new(u64::from(column.number()) + 1) {
+        Some(next) => border_side(next, p).is_lt(),
+        None => true,
+    }
+}

@@ -1,0 +1,83 @@
+//! Collinear segments, cut at each other's ends.
+ghost use Rattle.std.specs.Prelude.{◌≡◌, ◌<◌, ℕ, All, Contains, IfOk, IsTrue, OnOk, map};
+ghost use Rattle.std.specs.List.{list_any};
+ghost use Rattle.overlay_terms.specs.Plane.{Segment};
+ghost use Rattle.overlay_terms.specs.Trees.{mask_bits};
+ghost use Rattle.arrange.specs.Marked.{AllProper, marked_of};
+ghost use Rattle.arrange.specs.Units.{AreUnits, IsUnit, cover_bits, covers};
+ghost use Rattle.arrange.specs.SameInput.{same_segment};
+ghost use Rattle.arrange.specs.UnitLists.{HaveGrown, stretches};
+
+use crate::marked_seg::MarkedSeg;
+use crate::masking::mask_over;
+use crate::tile_input::TileInput;
+use crate::unit::Unit;
+use crate::unit_ends::ends_on;
+use exact_point::point::HPoint;
+use plane_base::point::Seg;
+use std::alloc::{AllocError, Global};
+
+/// The units of the input's segments. A unit with no bit is one too: its ends are nodes.
+pub fn units(alloc: Global, input: &TileInput) -> Result<Vec<Unit>, AllocError>
+    ensures { IfOk result (λ list. AreUnits input.now.marked list.items) }
+{
+    let marked = input.marked();
+    let mut list = Vec::new(alloc);
+    for m in marked {
+        add_units(alloc, &mut list, m, marked)?;
+    }
+    Ok(list)
+}
+
+/// Adds the units on one of the segments that are not listed yet: the stretches between neighbouring
+/// ends there.
+fn add_units(
+    alloc: Global,
+    list: &mut Vec<Unit>,
+    one: &MarkedSeg,
+    marked: &[MarkedSeg],
+) -> Result<(), AllocError>
+    requires among { Contains marked.now one.now }
+    requires layers { All (λ m. m.layer < 32) marked.now }
+    requires proper { AllProper (map marked_of marked.now) }
+    ensures grown { OnOk result (HaveGrown (map marked_of marked.now) list.old.items list.new.items) }
+    ensures complete { OnOk result
+        ((s : Segment) → IsUnit (map marked_of marked.now) s → IsTrue (covers one.now.seg s) → Contains (stretches list.new.items) s) }
+{
+    let ends = ends_on(alloc, &one.seg, marked)?;
+    for i in 1..ends.len() {
+        if let Some(seg) = Seg::of(ends[i - 1], ends[i]) {
+            add_unit(list, seg, marked)?;
+        }
+    }
+    Ok(())
+}
+
+/// Adds a unit unless it is listed already.
+fn add_unit(list: &mut Vec<Unit>, seg: Seg, marked: &[MarkedSeg]) -> Result<(), AllocError>
+    requires unit { IsUnit (map marked_of marked.now) seg }
+    requires layers { All (λ m. m.layer < 32) marked.now }
+    ensures grown { OnOk result (HaveGrown (map marked_of marked.now) list.old.items list.new.items) }
+    ensures listed { OnOk result (Contains (stretches list.new.items) seg) }
+{
+    if !is_listed(list, &seg) {
+        let mask = cover_mask(marked, &seg);
+        list.push(Unit { seg, mask })?;
+    }
+    Ok(())
+}
+
+/// Whether one of the units is this stretch.
+fn is_listed(list: &[Unit], seg: &Seg) -> bool
+    ensures { result ≡ list_any (λ unit. same_segment unit.seg seg.now) list.now }
+{
+    list.iter().any(|unit| unit.seg == *seg)
+}
+
+/// A bit for each base layer that has an odd number of segments over a stretch.
+fn cover_mask(marked: &[MarkedSeg], seg: &Seg) -> u32
+    requires { All (λ m. m.layer < 32) marked.now }
+    ensures { (k : ℕ) → k < 32 → mask_bits result k ≡ cover_bits (map marked_of marked.now) seg.now k }
+{
+    mask_over(marked, &HPoint::of(seg.left()), &HPoint::of(seg.right()))
+}
