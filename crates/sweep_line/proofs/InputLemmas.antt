@@ -1,0 +1,35 @@
+-- The layers of an input's segments, for masks of 32 bits, and the masks of a piece.
+use Rattle.std.proofs.Common.{◌≡◌, ℕ, ◌<◌, List, length, map, get_or, ap, sym, subst, ◌∙◌, arith}
+use Rattle.std.proofs.lemmas.List.{get_or-map, length-map}
+use Rattle.std.specs.Prelude.{All}
+use Rattle.std.specs.Int.RustNames.{bit_xor}
+use Rattle.overlay_terms.specs.Layers as terms
+use Rattle.overlay_terms.specs.Tiles.{Input, midpoint, below_bits}
+use Rattle.overlay_terms.specs.Trees.{mask_bits}
+use Rattle.overlay_terms.specs.TileLaws.{IsInput}
+use Rattle.arrange.specs.Marked.{marked_of}
+use Rattle.arrange.specs.declared.marked_seg.MarkedSeg.{MarkedSeg}
+use Rattle.arrange.specs.declared.piece.Elementary.{Elementary}
+use Rattle.arrange.specs.Arrangement.{IsElementary}
+use Rattle.exact_point.specs.PlaceOf.{place_of}
+use Rattle.sweep_line.specs.Label.{IsLabelled}
+use Rattle.sweep_line.proofs.ParityLemmas.{over_bits_from}
+
+-- an input's segments have layers below 32
+pub layers_small : (input : Input) (marked : List MarkedSeg) → map marked_of marked ≡ input.marked → IsInput input → All (λ m. m.layer < 32) marked
+layers_small input marked e h k d l =
+    let known : All (λ (m : terms.Marked). m.layer < input.steps.bases) (map marked_of marked) = subst (λ ms. All (λ (m : terms.Marked). m.layer < input.steps.bases) ms) (sym e) h.known in
+    let long : length (map marked_of marked) ≡ length marked = simp length-map in
+    let here = known k (marked_of d) (omega (arith, long)) in
+    let at = get_or-map marked_of marked k d (marked_of d) l in
+    let small : (get_or marked k d).layer < input.steps.bases = subst (λ (m : terms.Marked). m.layer < input.steps.bases) at here in
+    omega (arith, h.few)
+
+-- a piece with the bits below it is labelled by them, and by those that its own mask changes
+pub labelled : (input : Input) (e : Elementary) (under : ℕ) (marked : List terms.Marked) → IsElementary input e → marked ≡ input.marked
+    → ((k : ℕ) → k < 32 → mask_bits under k ≡ below_bits marked (midpoint (place_of e.from) (place_of e.to)) k)
+    → IsLabelled input (record { piece = e; under = under; over = bit_xor under e.mask })
+labelled input e under marked h same below =
+    let m = midpoint (place_of e.from) (place_of e.to) in
+    let low : (k : ℕ) → k < 32 → mask_bits under k ≡ below_bits input.marked m k = λ k l. below k l ∙ ap (λ (ms : List terms.Marked). below_bits ms m k) same in
+    record { under = low; over = λ k l. over_bits_from input.marked m k under e.mask (low k l) (h.mask k l) }

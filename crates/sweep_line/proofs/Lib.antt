@@ -1,0 +1,2 @@
+pub mod ParityLemmas
+pub mod InputLemmas
