@@ -1,0 +1,5 @@
+pub mod PieceLemmas
+pub mod SortLemmas
+pub mod SideLemmas
+pub mod BoundaryLemmas
+pub mod SameLemmas

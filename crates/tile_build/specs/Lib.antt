@@ -1,0 +1,3 @@
+pub mod Boundary
+pub mod Piece
+pub mod Tile

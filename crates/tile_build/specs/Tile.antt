@@ -1,0 +1,17 @@
+-- Tiles of the code as tiles of the definitions, and what a tile tells of a point.
+use Rattle.std.specs.Prelude.{◌%◌, ◌==◌, Bool, count_by, Option, Some, None}
+use Rattle.overlay_terms.specs.Plane.{Point}
+use Rattle.overlay_terms.specs.Histories as terms
+use Rattle.overlay_terms.specs.TileLaws.{is_pair_below}
+use Rattle.tile_build.specs.declared.tile.Tile.{Tile}
+use Rattle.tile_build.specs.declared.tile.Tile.TheVariants.{Pieces, Oversize}
+
+-- a tile by the ends of its pieces
+abbrev pub tile_of : Tile → terms.Tile
+tile_of (Pieces list) = terms.pieces list.items
+tile_of Oversize = terms.oversize
+
+-- whether an odd number of a tile's pieces is below a point, where they are there
+abbrev pub answer_of : terms.Tile → Point → Option Bool
+answer_of (terms.pieces ends) q = Some (count_by (is_pair_below q) ends % 2 == 1)
+answer_of terms.oversize q = None
