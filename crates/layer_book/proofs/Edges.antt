@@ -139,12 +139,17 @@ pub edge_answer : (p : Point) (layers : List Layer) (name : Name) → is_orderly
 edge_answer p layers name h =
     reach_all p [] layers [] [] h (λ absent none n a. a) false [] name refl ∙ names_any p layers (named [] (reaches layers) name)
 
--- where a point lies, from the answers to the two questions
-pub on_edge : (layers : List Layer) (name : Name) (p q : Point) (edge_there : Bool) → is_orderly_after [] layers ≡ true → p ≡ q → edge_there ≡ named false (answers IsEdge layers p) name → edge_there ≡ true → edge ≡ answer_at layers name q
-on_edge layers name p q r h e er is =
-    ap (λ b. cond b edge (if value_of layers name q then inside else outside)) (sym is ∙ er ∙ edge_answer p layers name h ∙ ap (λ at. list_any (λ (m : Marked). is_on m.segment at) (segments_in_reach layers name)) e)
+-- whether a point is on an edge, and whether it is inside, from the answers to the two questions
+pub edge_there : (layers : List Layer) (name : Name) (p q : Point) (there : Bool) → is_orderly_after [] layers ≡ true → p ≡ q → there ≡ named false (answers IsEdge layers p) name → there ≡ list_any (λ (m : Marked). is_on m.segment q) (segments_in_reach layers name)
+edge_there layers name p q there h e is = is ∙ edge_answer p layers name h ∙ ap (λ at. list_any (λ (m : Marked). is_on m.segment at) (segments_in_reach layers name)) e
 
-pub off_edge : (layers : List Layer) (name : Name) (p q : Point) (edge_there inside_there : Bool) → is_orderly_after [] layers ≡ true → p ≡ q → edge_there ≡ named false (answers IsEdge layers p) name → edge_there ≡ false → inside_there ≡ named false (answers IsInside layers p) name → (if inside_there then inside else outside) ≡ answer_at layers name q
-off_edge layers name p q r s h e er is es =
-    ap (λ b. if b then inside else outside) (es ∙ ap (value_of layers name) e)
-    ∙ ap (λ b. cond b edge (if value_of layers name q then inside else outside)) (sym is ∙ er ∙ edge_answer p layers name h ∙ ap (λ at. list_any (λ (m : Marked). is_on m.segment at) (segments_in_reach layers name)) e)
+pub inside_there : (layers : List Layer) (name : Name) (p q : Point) (there : Bool) → p ≡ q → there ≡ named false (answers IsInside layers p) name → there ≡ value_of layers name q
+inside_there layers name p q there e is = is ∙ ap (value_of layers name) e
+
+-- where a point lies, from whether it is on an edge and whether it is inside
+pub on_edge : (layers : List Layer) (name : Name) (q : Point) (on : Bool) → on ≡ list_any (λ (m : Marked). is_on m.segment q) (segments_in_reach layers name) → on ≡ true → edge ≡ answer_at layers name q
+on_edge layers name q on is at = ap (λ b. cond b edge (if value_of layers name q then inside else outside)) (sym at ∙ is)
+
+pub off_edge : (layers : List Layer) (name : Name) (q : Point) (on within : Bool) → on ≡ list_any (λ (m : Marked). is_on m.segment q) (segments_in_reach layers name) → on ≡ false → within ≡ value_of layers name q → (if within then inside else outside) ≡ answer_at layers name q
+off_edge layers name q on within is at its =
+    ap (λ b. if b then inside else outside) its ∙ ap (λ b. cond b edge (if value_of layers name q then inside else outside)) (sym at ∙ is)

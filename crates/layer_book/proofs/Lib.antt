@@ -1,6 +1,7 @@
 pub mod Names
 pub mod Order
 pub mod Entries
+pub mod Rings
 pub mod Accepted
 pub mod Lookups
 pub mod Answering
@@ -8,3 +9,9 @@ pub mod Wanted
 pub mod Edges
 pub mod Closing
 pub mod Lines
+pub mod MarkedReach
+pub mod OverNames
+pub mod Chosen
+pub mod Reaching
+pub mod InReach
+pub mod InputReach

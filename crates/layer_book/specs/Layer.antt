@@ -1,9 +1,10 @@
 -- Layers of the code as layers of the definitions.
-use Rattle.std.specs.Prelude.{ℕ, ◌≤◌, not, List, [], ◌∷◌, map, filter, length, Option, Some, None, bytes_eq, if◌then◌else◌}
-use Rattle.overlay_terms.specs.Layers.{Content, base, derived}
+use Rattle.std.specs.Prelude.{ℕ, ◌≤◌, not, List, [], ◌∷◌, map, filter, filter_map, length, Option, Some, None, bytes_eq, if◌then◌else◌, All}
+use Rattle.overlay_terms.specs.Layers.{Content, base, derived, base_of}
 use Rattle.overlay_terms.specs.Layers as terms
 use Rattle.overlay_terms.specs.Commands.{Command, put, define, layers_max}
 use Rattle.overlay_terms.specs.Orderly.{IsOrderly}
+use Rattle.overlay_terms.specs.InputLaws.{IsRing}
 use Rattle.layer_book.specs.declared.layer.Layer.{Layer}
 use Rattle.layer_book.specs.declared.layer.Layer.TheVariants.{Base, Derived}
 
@@ -20,10 +21,16 @@ named_layer entry = record { name = entry.0; content = content entry.1 }
 abbrev pub layers_of : List (List ℕ × Layer) → List terms.Layer
 layers_of entries = map named_layer entries
 
--- layers as commands leave them: orderly, and not too many
+-- the rings that a content has are closed and in range
+abbrev pub HasRings : Content → Type 0
+HasRings (base rings) = All IsRing rings
+HasRings (derived expression) = Unit {0}
+
+-- layers as commands leave them: orderly, not too many, and the rings of base layers closed and in range
 pub record IsBook (layers : List terms.Layer) : Type 0 where
   pub orderly : IsOrderly layers
   pub few : length layers ≤ layers_max
+  pub rings : All (λ b. All IsRing b.1) (filter_map base_of layers)
 
 -- what stands under a name
 abbrev pub content_named : List terms.Layer → List ℕ → Option Content

@@ -4,3 +4,5 @@ pub mod Command
 pub mod Place
 pub mod Listing
 pub mod Question
+pub mod TileRefusal
+pub mod Reaching

@@ -59,3 +59,9 @@ IsClosed layers wanted =
 -- the marks, with the layers of some names marked too
 abbrev pub marked : List Layer → List Bool → List Name → List Bool
 marked layers wanted names = fold (λ marks used. slice_set marks (place_of layers used) true) wanted names
+
+-- the marked layers, in order
+abbrev pub marked_layers : List Bool → List Layer → List Layer
+marked_layers [] layers = []
+marked_layers (w ∷ ws) [] = []
+marked_layers (w ∷ ws) (layer ∷ layers) = if w then layer ∷ marked_layers ws layers else marked_layers ws layers

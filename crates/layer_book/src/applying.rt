@@ -41,7 +41,7 @@ impl Layers {
     }
 
     /// Why a command is refused.
-    fn refusal(&self, change: &Command) -> Option<LayerFault>
+    pub fn refusal(&self, change: &Command) -> Option<LayerFault>
         ensures { result ≡ option_map fault_of (refusal_of self.now (command change.now)) }
     {
         match change {
@@ -132,7 +132,8 @@ impl Layers {
         }
     }
 
-    fn stands_as_base(&self, name: &Name) -> bool
+    /// Whether a base layer has the name.
+    pub fn stands_as_base(&self, name: &Name) -> bool
         ensures { result ≡ stands_as_base self.now name.now }
     {
         match self.get(name) {
@@ -141,7 +142,8 @@ impl Layers {
         }
     }
 
-    fn stands_as_derived(&self, name: &Name) -> bool
+    /// Whether a derived layer has the name.
+    pub fn stands_as_derived(&self, name: &Name) -> bool
         ensures { result ≡ stands_as_derived self.now name.now }
     {
         match self.get(name) {

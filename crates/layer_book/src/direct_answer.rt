@@ -1,10 +1,13 @@
 //! Answers straight from the segments of the base layers.
-ghost use Rattle.std.specs.Prelude.{◌≡◌, ◌⊎◌, ◌↔◌, ◌<◌, length, false, true, IsTrue, IsOk, IfOk, IfErr};
-ghost use Rattle.overlay_terms.specs.Layers.{answer_at, named};
-ghost use Rattle.overlay_terms.specs.Commands.{stands, place_of};
+ghost use Rattle.std.specs.Prelude.{◌≡◌, ◌⊎◌, ◌↔◌, false, true, IsTrue, IsOk, IfOk, IfErr};
+ghost use Rattle.std.specs.List.{list_any};
+ghost use Rattle.overlay_terms.specs.Plane.{is_on};
+ghost use Rattle.overlay_terms.specs.Layers.{answer_at, named, segments_in_reach, value_of};
+ghost use Rattle.overlay_terms.specs.Commands.{stands};
 ghost use Rattle.exact_point.specs.Place.{place as place_of_point};
+ghost use Rattle.layer_book.specs.Layer.{IsBook};
 ghost use Rattle.layer_book.specs.Place.{location};
-ghost use Rattle.layer_book.specs.Question.{answers, is_wanted, IsClosed};
+ghost use Rattle.layer_book.specs.Question.{answers};
 
 use crate::fault::LayerFault;
 use crate::layers::Layers;
@@ -34,26 +37,40 @@ impl Layers {
         if !self.stands(name) {
             return Err(LayerFault::UnknownLayer);
         }
-        let wanted = self.reach(name);
-        let point = query.point();
-        if self.answer(Question::IsEdge, name, &wanted, &point) {
+        if self.is_edge(name, query) {
             return Ok(Place::Edge);
         }
-        if self.answer(Question::IsInside, name, &wanted, &point) {
+        if self.is_inside(name, query) {
             Ok(Place::Inside)
         } else {
             Ok(Place::Outside)
         }
     }
 
-    /// The answer of a wanted layer, where what a wanted layer names is wanted.
-    fn answer(&self, question: Question, name: &Name, wanted: &[bool; 32], point: &HPoint) -> bool
-        requires closed { IsClosed self.now wanted.now }
-        requires asked { is_wanted self.now wanted.now name.now ≡ true }
-        requires known { stands self.now name.now ≡ true }
-        ensures { result ≡ named false (answers question self.now (place_of_point point.now)) name.now }
+    /// Whether a point is on a segment of a base layer that a layer reaches.
+    pub fn is_edge(&self, name: &Name, query: &QueryPoint) -> bool
+        requires { stands self.now name.now ≡ true }
+        ensures { result ≡ list_any (λ m. is_on m.segment query.now) (segments_in_reach self.now name.now) }
     {
-        let known = self.answers(question, wanted, point);
+        self.answer(Question::IsEdge, name, &query.point())
+    }
+
+    /// Whether a point is in a layer.
+    pub fn is_inside(&self, name: &Name, query: &QueryPoint) -> bool
+        requires { stands self.now name.now ≡ true }
+        ensures { result ≡ value_of self.now name.now query.now }
+    {
+        self.answer(Question::IsInside, name, &query.point())
+    }
+
+    /// The answer of a layer.
+    fn answer(&self, question: Question, name: &Name, point: &HPoint) -> bool
+        requires { stands self.now name.now ≡ true }
+        ensures value { result ≡ named false (answers question self.now (place_of_point point.now)) name.now }
+        ensures valid { IsBook self.now }
+    {
+        let wanted = self.reach(name);
+        let known = self.answers(question, &wanted, point);
         self.known_of(name, &known)
     }
 }

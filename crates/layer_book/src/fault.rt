@@ -18,6 +18,8 @@ pub enum LayerFault {
     InUse,
     TooManyLayers,
     VersionLimit,
+    /// No column has the number.
+    BadColumn,
     OutOfMemory,
 }
 
@@ -34,6 +36,7 @@ impl LayerFault {
             LayerFault::InUse => 14,
             LayerFault::TooManyLayers => 15,
             LayerFault::VersionLimit => 16,
+            LayerFault::BadColumn => 23,
             LayerFault::OutOfMemory => 40,
         }
     }
@@ -63,6 +66,7 @@ impl fmt::Display for Text {
             LayerFault::InUse => write!(f, "in use"),
             LayerFault::TooManyLayers => write!(f, "too many layers"),
             LayerFault::VersionLimit => write!(f, "version limit"),
+            LayerFault::BadColumn => write!(f, "bad column"),
             LayerFault::OutOfMemory => write!(f, "out of memory"),
         }
     }

@@ -4,7 +4,7 @@ ghost use Rattle.std.specs.List.{list_any};
 ghost use Rattle.overlay_terms.specs.Commands.{is_derived, uses};
 ghost use Rattle.overlay_terms.specs.Trees.{leaves};
 ghost use Rattle.std.specs.Str.{bytes_eq};
-ghost use Rattle.layer_book.specs.Layer.{content};
+ghost use Rattle.layer_book.specs.Layer.{content, HasRings};
 ghost use Rattle.layer_expr.specs.Expr.{tree};
 
 use layer_expr::expr::{Expr, Node};
@@ -32,6 +32,19 @@ impl Clone for Layer {
 }
 
 impl Layer {
+    /// Says of a layer what is true of each: the rings that it has are closed and in range. The call
+    /// does nothing.
+    pub(crate) fn known(&self)
+        ensures { HasRings (content self.now) }
+    {
+        match self {
+            Layer::Base(rings) => {
+                rings.rings();
+            }
+            Layer::Derived(_) => {}
+        }
+    }
+
     pub fn is_derived(&self) -> bool
         ensures { result ≡ is_derived (content self.now) }
     {

@@ -5,6 +5,9 @@ pub mod applying;
 pub mod command;
 pub mod direct_answer;
 pub mod fault;
+pub mod finding_input;
+#[cfg(test)]
+mod input_tests;
 pub mod layer;
 pub mod layers;
 pub mod listing;
@@ -12,3 +15,5 @@ pub mod question;
 pub mod reach;
 #[cfg(test)]
 mod tests;
+pub mod touching;
+pub mod wanted_layers;

@@ -26,7 +26,12 @@ fn ring_of(alloc: Global, corners: &[(i64, i64)]) -> Result<Ring, Fail> {
 }
 
 /// The command that puts one ring, or the same ring twice, under a name.
-fn put(alloc: Global, name: &[u8], corners: &[(i64, i64)], twice: bool) -> Result<Command, Fail> {
+pub(crate) fn put(
+    alloc: Global,
+    name: &[u8],
+    corners: &[(i64, i64)],
+    twice: bool,
+) -> Result<Command, Fail> {
     let mut rings = Vec::new(alloc);
     rings.push(ring_of(alloc, corners)?)?;
     if twice {
@@ -41,7 +46,7 @@ fn remove(alloc: Global, name: &[u8]) -> Result<Command, Fail> {
 }
 
 /// The layers after a command, from others.
-fn after(alloc: Global, layers: Layers, change: Command) -> Result<Layers, Fail> {
+pub(crate) fn after(alloc: Global, layers: Layers, change: Command) -> Result<Layers, Fail> {
     Ok(layers.apply(alloc, &change)?)
 }
 

@@ -1,0 +1,62 @@
+//! The input of a tile.
+ghost use Rattle.std.specs.Prelude.{◌≡◌, ◌⊎◌, true, None, Some, IfOk, IfErr};
+ghost use Rattle.overlay_terms.specs.Commands.{stands_as_derived};
+ghost use Rattle.overlay_terms.specs.Tiles.{input_of};
+ghost use Rattle.layer_book.specs.TileRefusal.{tile_refusal};
+
+use crate::fault::LayerFault;
+use crate::layers::Layers;
+use arrange::tile_input::TileInput;
+use layer_expr::name::Name;
+use layer_expr::step_list::StepList;
+use plane_base::column::Column;
+use std::alloc::{AllocError, Global};
+
+impl Layers {
+    /// The input of the tile of a layer and column. A refusal for another reason than memory comes
+    /// before any memory is taken.
+    pub fn input(&self, alloc: Global, name: &Name, column: u8) -> Result<TileInput, LayerFault>
+        ensures ok { IfOk result (λ input. input ≡ input_of self.now name.now column) }
+        ensures accepted { IfOk result (λ _. tile_refusal self.now name.now column ≡ None) }
+        ensures refused { IfErr result (λ fault. ((fault ≡ LayerFault.OutOfMemory) × (tile_refusal self.now name.now column ≡ None)) ⊎ (tile_refusal self.now name.now column ≡ Some fault)) }
+    {
+        let column = self.tile_column(name, u64::from(column))?;
+        Ok(self.input_in_reach(alloc, name, column)?)
+    }
+
+    /// The column with a number, for a layer that has tiles.
+    pub fn tile_column(&self, name: &Name, number: u64) -> Result<Column, LayerFault>
+        ensures ok { IfOk result (λ column. column ≡ number) }
+        ensures accepted { IfOk result (λ _. tile_refusal self.now name.now number ≡ None) }
+        ensures derived { IfOk result (λ _. stands_as_derived self.now name.now ≡ true) }
+        ensures refused { IfErr result (λ fault. tile_refusal self.now name.now number ≡ Some fault) }
+    {
+        if !self.stands(name) {
+            return Err(LayerFault::UnknownLayer);
+        }
+        if self.stands_as_base(name) {
+            return Err(LayerFault::NotDerived);
+        }
+        match Column::new(number) {
+            Some(column) => Ok(column),
+            None => Err(LayerFault::BadColumn),
+        }
+    }
+
+    /// The input of the tile of a derived layer.
+    fn input_in_reach(
+        &self,
+        alloc: Global,
+        name: &Name,
+        column: Column,
+    ) -> Result<TileInput, AllocError>
+        requires { stands_as_derived self.now name.now ≡ true }
+        ensures { IfOk result (λ input. input ≡ input_of self.now name.now column) }
+    {
+        let wanted = self.reach(name);
+        let bases = self.wanted_bases(alloc, &wanted)?;
+        let layers = self.wanted_layers(alloc, &wanted)?;
+        let steps = StepList::of(alloc, &layers)?;
+        TileInput::of(alloc, column, &bases, steps)
+    }
+}

@@ -1,0 +1,73 @@
+//! The wanted layers, in order, as the input of a tile takes them.
+ghost use Rattle.std.specs.Prelude.{◌≡◌, ◌++◌, ◌∷◌, [], map, filter_map, option_copied, IfOk, OnOk};
+ghost use Rattle.overlay_terms.specs.Layers.{base_of};
+ghost use Rattle.layer_expr.specs.StepList.{reached, reached_of};
+ghost use Rattle.layer_book.specs.Layer.{content, named_layer};
+ghost use Rattle.layer_book.specs.Reaching.{chosen, rings_in};
+
+use crate::layer::Layer;
+use crate::layers::Layers;
+use layer_expr::expr::Expr;
+use layer_expr::name::Name;
+use plane_base::base_layer::BaseLayer;
+use std::alloc::{AllocError, Global};
+
+impl Layers {
+    /// The base layers at the wanted places.
+    pub fn wanted_bases<'a>(
+        &'a self,
+        alloc: Global,
+        wanted: &[bool; 32],
+    ) -> Result<Vec<&'a BaseLayer>, AllocError>
+        ensures { IfOk result (λ bases. map (λ b. b.now) bases.items ≡ map (λ b. b.1) (filter_map base_of (chosen wanted.now self.now))) }
+    {
+        let mut bases = Vec::new(alloc);
+        for i in 0..self.len() {
+            if let Some((_, layer)) = self.at(i) {
+                if wanted[i] {
+                    add_base(&mut bases, layer)?;
+                }
+            }
+        }
+        Ok(bases)
+    }
+
+    /// The layers at the wanted places, each with its name and, where it is derived, its expression.
+    pub fn wanted_layers<'a>(
+        &'a self,
+        alloc: Global,
+        wanted: &[bool; 32],
+    ) -> Result<Vec<(&'a Name, Option<&'a Expr>)>, AllocError>
+        ensures { IfOk result (λ layers. reached layers.items ≡ map reached_of (chosen wanted.now self.now)) }
+    {
+        let mut layers = Vec::new(alloc);
+        for i in 0..self.len() {
+            if let Some((name, layer)) = self.at(i) {
+                if wanted[i] {
+                    layers.push(with_expression(name, layer))?;
+                }
+            }
+        }
+        Ok(layers)
+    }
+}
+
+/// Adds a layer, if it is a base layer.
+fn add_base<'a>(bases: &mut Vec<&'a BaseLayer>, layer: &'a Layer) -> Result<(), AllocError>
+    ensures { OnOk result (map (λ b. b.now) bases.new.items ≡ map (λ b. b.now) bases.old.items ++ rings_in (content layer.now)) }
+{
+    if let Layer::Base(rings) = layer {
+        bases.push(rings)?;
+    }
+    Ok(())
+}
+
+/// A layer's name and, where it is derived, its expression.
+fn with_expression<'a>(name: &'a Name, layer: &'a Layer) -> (&'a Name, Option<&'a Expr>)
+    ensures { reached (result ∷ []) ≡ reached_of (named_layer (name.now, layer.now)) ∷ [] }
+{
+    match layer {
+        Layer::Base(_) => (name, None),
+        Layer::Derived(expression) => (name, Some(expression)),
+    }
+}
