@@ -1,0 +1,6 @@
+pub mod TileLists
+pub mod NextVersion
+pub mod PendingLemmas
+pub mod EdgeLemmas
+pub mod VerdictLemmas
+pub mod LocateByTile

@@ -1,0 +1,69 @@
+-- The edges of a tile as text.
+use Rattle.std.specs.Prelude.{◌≡◌, ℕ, ◌<ℤ◌, pos, IsTrue, List, [], ◌∷◌, ◌++◌, length, flat_map, codes, decimal, Option, Some, None}
+use Rattle.std.specs.Option.{option_map}
+use Rattle.std.specs.Fmt.{signed_decimal}
+use Rattle.overlay_terms.specs.Plane.{Point, same_place}
+use Rattle.overlay_terms.specs.Layers.{Name}
+use Rattle.overlay_terms.specs.Histories.{Tile, pieces, oversize, Version, tile_at}
+use Rattle.exact_point.specs.Reduced.{IsLowest}
+use Rattle.layer_book.specs.TileRefusal.{tile_refusal}
+use Rattle.version_core.specs.declared.fault.VersionFault.{VersionFault}
+use Rattle.version_core.specs.declared.fault.VersionFault.TheVariants.{Layer, Pending, Oversize}
+use Rattle.version_core.specs.Fault.{or_else}
+
+-- why a tile cannot be had: it is not finished
+abbrev pub tile_absence : Option Tile → Option VersionFault
+tile_absence None = Some Pending
+tile_absence (Some tile) = None
+
+-- why there is no finished tile of a layer and column: there is no such tile; it is pending
+abbrev pub finished_refusal : Version → Name → ℕ → Option VersionFault
+finished_refusal version name k =
+    or_else (option_map Layer (tile_refusal version.layers name k)) (tile_absence (tile_at version.tiles name k))
+
+-- why a finished tile cannot be written: it has too many pieces
+abbrev pub size_refusal : Option Tile → Option VersionFault
+size_refusal None = None
+size_refusal (Some (pieces ends)) = None
+size_refusal (Some oversize) = Some Oversize
+
+-- why the edges of a tile are refused: there is no such tile; it is pending; it has too many pieces
+abbrev pub edges_refusal : Version → Name → ℕ → Option VersionFault
+edges_refusal version name k = or_else (finished_refusal version name k) (size_refusal (tile_at version.tiles name k))
+
+-- a point as `x y w`
+abbrev pub point_text : Point → List ℕ
+point_text p = signed_decimal p.x ++ (codes " " ++ (signed_decimal p.y ++ (codes " " ++ signed_decimal p.w)))
+
+-- a piece as a line: its left end, then its right end
+abbrev pub edge_line : Point × Point → List ℕ
+edge_line ends = point_text ends.0 ++ (codes " " ++ (point_text ends.1 ++ 10 ∷ []))
+
+-- how many pieces there are, then a line for each
+abbrev pub edges_text : List (Point × Point) → List ℕ
+edges_text list = codes "edges " ++ (decimal (length list) ++ (10 ∷ flat_map edge_line list))
+
+-- the same place in lowest terms, with a positive denominator
+pub record IsLowestOf (p lowest : Point) : Type 0 where
+  pub same : IsTrue (same_place lowest p)
+  pub positive : pos 0 <ℤ lowest.w
+  pub lowest_terms : IsLowest lowest
+
+-- the same ends in lowest terms, in order
+abbrev pub AreLowest : List (Point × Point) → List (Point × Point) → Type 0
+AreLowest [] [] = Unit {0}
+AreLowest [] (low ∷ lows) = ⊥
+AreLowest (a ∷ ends) [] = ⊥
+AreLowest (a ∷ ends) (low ∷ lows) = IsLowestOf a.0 low.0 × IsLowestOf a.1 low.1 × AreLowest ends lows
+
+-- the text is that of some pieces, each end in lowest terms
+pub record IsTextOf (ends : List (Point × Point)) (text : List ℕ) : Type 0 where
+  pub lows : List (Point × Point)
+  pub lowest : AreLowest ends lows
+  pub is : text ≡ edges_text lows
+
+-- the text is that of the pieces of a finished tile
+pub record AreEdges (version : Version) (name : Name) (k : ℕ) (text : List ℕ) : Type 0 where
+  pub ends : List (Point × Point)
+  pub finished : tile_at version.tiles name k ≡ Some (pieces ends)
+  pub written : IsTextOf ends text

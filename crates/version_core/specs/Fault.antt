@@ -1,0 +1,28 @@
+-- The faults of versions: their numbers and texts, and those that stand for the refusals of commands.
+use Rattle.std.specs.Prelude.{◌≡◌, ℕ, List, codes, Option, Some, None}
+use Rattle.overlay_terms.specs.Commands.{Refusal}
+use Rattle.layer_book.specs.Fault as book
+use Rattle.version_core.specs.declared.fault.VersionFault.{VersionFault}
+use Rattle.version_core.specs.declared.fault.VersionFault.TheVariants.{Layer, Pending, Oversize}
+
+-- the number under which a fault is printed
+abbrev pub code_of : VersionFault → ℕ
+code_of (Layer fault) = book.code_of fault
+code_of Pending = 21
+code_of Oversize = 22
+
+-- the text that is printed behind the number
+abbrev pub text_of : VersionFault → List ℕ
+text_of (Layer fault) = book.text_of fault
+text_of Pending = codes "pending"
+text_of Oversize = codes "oversize"
+
+-- a fault reports the refusal, if there is one
+abbrev pub ReportsAt : Option Refusal → VersionFault → Type 0
+ReportsAt None fault = ⊥
+ReportsAt (Some refusal) fault = fault ≡ Layer (book.fault_of refusal)
+
+-- the first of two faults
+abbrev pub or_else : Option VersionFault → Option VersionFault → Option VersionFault
+or_else (Some fault) next = Some fault
+or_else None next = next

@@ -1,0 +1,9 @@
+pub mod Fault
+pub mod Tiles
+pub mod VersionCode
+pub mod Version
+pub mod Finish
+pub mod Pending
+pub mod Edges
+pub mod Verdict
+pub mod Locating

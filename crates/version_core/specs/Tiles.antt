@@ -1,0 +1,23 @@
+-- Finished tiles of the code as those of the definitions.
+use Rattle.std.specs.Prelude.{ℕ, ◌==◌, Bool, ◌&&◌, not, List, filter, bytes_eq, ◌≡◌, false}
+use Rattle.std.specs.List.{AllPairs}
+use Rattle.overlay_terms.specs.Layers.{Name, Layer}
+use Rattle.overlay_terms.specs.Commands.{Command, is_touched}
+use Rattle.overlay_terms.specs.Histories.{Finished}
+use Rattle.tile_build.specs.Tile.{tile_of}
+use Rattle.version_core.specs.declared.tiles.FinishedTile.{FinishedTile}
+
+abbrev pub finished : FinishedTile → Finished
+finished f = record { name = f.name; column = f.column; tile = tile_of f.tile.value }
+
+-- whether a finished tile is that of a layer and column
+abbrev pub is_of : Name → ℕ → Finished → Bool
+is_of name column f = bytes_eq f.name name && (f.column == column)
+
+-- no layer and column has two tiles
+abbrev pub AreDistinct : List Finished → Type 0
+AreDistinct tiles = AllPairs (λ a b. is_of b.name b.column a ≡ false) tiles
+
+-- the tiles that a command does not touch
+abbrev pub untouched : List Layer → Command → List Finished → List Finished
+untouched layers command tiles = filter (λ f. not (is_touched layers command f.name)) tiles

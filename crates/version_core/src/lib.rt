@@ -1,0 +1,14 @@
+//! Versions of the layers, each with its finished tiles.
+#![tactic(auto)]
+
+pub mod edges_reply;
+pub mod fault;
+pub mod finishing;
+pub mod locating;
+pub mod pending_tiles;
+pub mod submitting;
+#[cfg(test)]
+mod tests;
+pub mod tiles;
+pub mod verifying;
+pub mod version;

@@ -1,0 +1,46 @@
+//! The tiles that are not finished.
+ghost use Rattle.std.specs.Prelude.{◌≡◌, ◌++◌, IfOk, IfErr, OnOk};
+ghost use Rattle.version_core.specs.Pending.{pending_of, pending_tiles};
+
+use crate::fault::VersionFault;
+use crate::version::Version;
+use layer_book::fault::LayerFault;
+use layer_expr::name::Name;
+use std::alloc::{AllocError, Global};
+
+/// How many columns there are.
+const COLUMNS: u8 = 17;
+
+impl Version {
+    /// The tiles that are not finished, by derived layer in order, then by column.
+    pub fn pending(&self, alloc: Global) -> Result<Vec<(Name, u8)>, VersionFault>
+        ensures ok { IfOk result (λ list. list.items ≡ pending_tiles self.now) }
+        ensures err { IfErr result (λ fault. fault ≡ VersionFault.Layer LayerFault.OutOfMemory) }
+    {
+        let mut list = Vec::new(alloc);
+        let layers = self.layers();
+        for place in 0..layers.len() {
+            match layers.at(place) {
+                Some((name, layer)) => {
+                    if layer.is_derived() {
+                        self.add_pending(&mut list, name)?;
+                    }
+                }
+                None => {}
+            }
+        }
+        Ok(list)
+    }
+
+    /// Adds the tiles of a layer that are not finished, by column.
+    fn add_pending(&self, list: &mut Vec<(Name, u8)>, name: &Name) -> Result<(), AllocError>
+        ensures { OnOk result (list.new.items ≡ list.old.items ++ pending_of self.now name.now) }
+    {
+        for column in 0..COLUMNS {
+            if self.tile(name, column).is_none() {
+                list.push((name.clone()?, column))?;
+            }
+        }
+        Ok(())
+    }
+}
