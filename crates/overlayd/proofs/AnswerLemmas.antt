@@ -1,9 +1,12 @@
 -- What is answered to each request, from what its name and text are read as and what the book makes of its command.
 use Rattle.std.proofs.Common.{◌≡◌, ℕ, ℤ, ◌+◌, Bool, true, false, IsTrue, List, [], ◌∷◌, Option, Some, None, refl, sym, ap, subst, ◌∙◌, ◌⊎◌, inl, inr}
+use Rattle.std.proofs.lemmas.Bool.{false≢true}
 use Rattle.overlay_terms.specs.Plane.{Point}
 use Rattle.overlay_terms.specs.Layers.{Location, answer_at}
 use Rattle.overlay_terms.specs.Commands.{Command, Refusal, refusal_at, stands}
 use Rattle.overlay_terms.specs.Histories.{History, newest}
+use Rattle.overlay_terms.specs.Histories as versions
+use Rattle.overlay_terms.specs.KeptLaws.{TilesAreExact}
 use Rattle.exact_point.specs.Query.{IsQuery}
 use Rattle.exact_point.specs.declared.fault.PointFault.TheVariants.{PointRange}
 use Rattle.layer_expr.specs.Name.{is_name}
@@ -14,15 +17,18 @@ use Rattle.layer_expr.specs.Grammar as expr
 use Rattle.wkt_form.specs.Grammar as wkt
 use Rattle.wkt_form.specs.declared.fault.WktFault.{WktFault}
 use Rattle.wkt_form.specs.declared.fault.WktFault.TheVariants as wkt_fault
-use Rattle.layer_book.specs.Fault.{fault_of, Reports}
-use Rattle.layer_book.specs.declared.fault.LayerFault.{LayerFault}
+use Rattle.layer_book.specs.Fault.{fault_of}
+use Rattle.layer_book.specs.Listing.{layers_text}
+use Rattle.version_core.specs.Fault.{ReportsAt}
+use Rattle.version_core.specs.declared.fault.VersionFault.{VersionFault}
+use Rattle.version_core.specs.declared.fault.VersionFault.TheVariants.{Layer}
 use Rattle.layer_book.specs.declared.fault.LayerFault.TheVariants as layer_fault
 use Rattle.overlayd.specs.declared.book.Book.{Book}
 use Rattle.overlayd.specs.declared.fault.CommandFault.{CommandFault}
-use Rattle.overlayd.specs.declared.fault.CommandFault.TheVariants.{Wkt, Expression, Query, Layer, OutOfMemory}
+use Rattle.overlayd.specs.declared.fault.CommandFault.TheVariants.{Wkt, Expression, Query, Version, OutOfMemory}
 use Rattle.overlayd.specs.Replies.{error_line, location_line}
-use Rattle.overlayd.specs.Requests.{Request, put, define, remove, locate, request_of}
-use Rattle.overlayd.specs.Session.{Holds, TakesTurn}
+use Rattle.overlayd.specs.Requests.{Request, put, define, remove, locate, list_layers, request_of}
+use Rattle.overlayd.specs.Standing.{Holds, TakesTurn}
 use Rattle.overlayd.specs.Transcript.{IsRefused, IsSubmitted, IsAnswered}
 use Rattle.overlayd.specs.Reading.{IsMemory, IsNoName, IsPut, IsPutRefused, IsDefine, IsDefineRefused, IsRemove}
 use Rattle.overlayd.specs.Answering.{AnswersIn, Answers, SubmitsIn, Submits}
@@ -41,27 +47,27 @@ define_text_refused name text wrong named refused =
 
 -- ==== Commands
 
-reported : (o : Option Refusal) (fault : LayerFault) → Reports o fault → (refusal : Refusal) × (o ≡ Some refusal) × (fault ≡ fault_of refusal)
+reported : (o : Option Refusal) (fault : VersionFault) → ReportsAt o fault → (refusal : Refusal) × (o ≡ Some refusal) × (fault ≡ Layer (fault_of refusal))
 reported None fault none = absurd none
 reported (Some refusal) fault is = (refusal, refl, is)
 
 -- a refused command leaves the history as it is
-refused_there : (book : Book) (before : History) (command : Command) (wrong : LayerFault)
-    → Holds book before → (wrong ≡ layer_fault.OutOfMemory) ⊎ Reports (refusal_at book.number book.layers command) wrong
-    → IsRefused OutOfMemory [] (error_line (Layer wrong)) ⊎ IsSubmitted 0 before command before [] (error_line (Layer wrong))
+refused_there : (book : Book) (before : History) (command : Command) (wrong : VersionFault)
+    → Holds book before → ((wrong ≡ Layer layer_fault.OutOfMemory) × (refusal_at book.version.number book.version.layers command ≡ None)) ⊎ ReportsAt (refusal_at book.version.number book.version.layers command) wrong
+    → IsRefused OutOfMemory [] (error_line (Version wrong)) ⊎ IsSubmitted 0 before command before [] (error_line (Version wrong))
 refused_there book before command wrong holds refused =
     elim refused [
-      | inl memory ↦ inl (record { nothing_made = refl; told = ap (λ w. error_line (Layer w)) memory })
+      | inl memory ↦ inl (record { nothing_made = refl; told = ap (λ w. error_line (Version w)) memory.0 })
       | inr by ↦
-          let r = reported (refusal_at book.number book.layers command) wrong by in
+          let r = reported (refusal_at book.version.number book.version.layers command) wrong by in
           let there : refusal_at (newest before).number (newest before).layers command ≡ Some r.0 =
-          ap (λ n. refusal_at n (newest before).layers command) holds.number ∙ ap (λ ls. refusal_at book.number ls command) holds.layers ∙ r.1 in
-          inr (inl (r.0, there, record { nothing_made = refl; told = ap (λ w. error_line (Layer w)) r.2 }))
+          ap (λ (v : versions.Version). refusal_at v.number v.layers command) holds.version ∙ r.1 in
+          inr (inl (r.0, there, record { nothing_made = refl; told = ap (λ w. error_line (Version w)) r.2 }))
     ]
 
-pub submits_refused : (old new : Book) (command : Command) (wrong : LayerFault)
-    → new ≡ old → (wrong ≡ layer_fault.OutOfMemory) ⊎ Reports (refusal_at old.number old.layers command) wrong
-    → Submits old command new (error_line (Layer wrong))
+pub submits_refused : (old new : Book) (command : Command) (wrong : VersionFault)
+    → new ≡ old → ((wrong ≡ Layer layer_fault.OutOfMemory) × (refusal_at old.version.number old.version.layers command ≡ None)) ⊎ ReportsAt (refusal_at old.version.number old.version.layers command) wrong
+    → Submits old command new (error_line (Version wrong))
 submits_refused old new command wrong same refused before holds =
     let there : Holds new before = subst (λ (b : Book). Holds b before) (sym same) holds in
     record { after = before; made = []; goes = stays new before there; submitted = refused_there old before command wrong holds refused }
@@ -113,7 +119,7 @@ answers_remove old new name command reply is submits before holds =
           ];
     }
 
-no_name : (name : List ℕ) (fault : CommandFault) → IsNoName name fault → (is_name name ≡ false) × IsRefused (Expression BadName) [] (error_line fault)
+pub no_name : (name : List ℕ) (fault : CommandFault) → IsNoName name fault → (is_name name ≡ false) × IsRefused (Expression BadName) [] (error_line fault)
 no_name name fault none = (none.0, record { nothing_made = refl; told = ap error_line none.1 })
 
 pub put_refused : (book : Book) (name text : List ℕ) (fault : CommandFault) → IsMemory fault ⊎ IsPutRefused name text fault → Answers book (put name text) book (error_line fault)
@@ -170,30 +176,39 @@ pub locate_out_of_range : (book : Book) (name : List ℕ) (x y w : ℤ) → IsTr
 locate_out_of_range book name x y w named out before holds =
     answers_there book before (locate name x y w) _ holds (inr (inr (named, inl (out, record { nothing_made = refl; told = refl }))))
 
-pub locate_refused : (book : Book) (name known : List ℕ) (x y w : ℤ) (wrong : LayerFault)
+-- a test that cannot hold
+pub unknown_stands : (b : Bool) → (b ≡ true → false ≡ true) → b ≡ false
+unknown_stands true never = absurd (false≢true (never refl))
+unknown_stands false never = refl
+
+pub locate_refused : (book : Book) (name known : List ℕ) (x y w : ℤ) (wrong : VersionFault)
     → known ≡ name → IsTrue (is_name name) → IsQuery x y w
-    → (wrong ≡ layer_fault.OutOfMemory) ⊎ ((wrong ≡ layer_fault.UnknownLayer) × (stands book.layers known ≡ false))
-    → Answers book (locate name x y w) book (error_line (Layer wrong))
-locate_refused book name known x y w wrong same named query refused before holds =
-    elim refused [
-      | inl memory ↦ out_of_memory book before (locate name x y w) (Layer wrong) holds (ap (λ f. error_line (Layer f)) memory)
-      | inr unknown ↦
-          let there : stands (newest before).layers name ≡ false =
-          ap (λ ls. stands ls name) holds.layers ∙ ap (stands book.layers) (sym same) ∙ unknown.1 in
-          answers_there book before (locate name x y w) (error_line (Layer wrong)) holds
-          (inr (inr (named, inr (inl (query, there, record { nothing_made = refl; told = ap (λ f. error_line (Layer f)) unknown.0 })))))
-    ]
+    → (wrong ≡ Layer layer_fault.UnknownLayer) × (stands book.version.layers known ≡ false)
+    → Answers book (locate name x y w) book (error_line (Version wrong))
+locate_refused book name known x y w wrong same named query unknown before holds =
+    let there : stands (newest before).layers name ≡ false =
+    ap (λ (v : versions.Version). stands v.layers name) holds.version ∙ ap (stands book.version.layers) (sym same) ∙ unknown.1 in
+    answers_there book before (locate name x y w) (error_line (Version wrong)) holds
+    (inr (inr (named, inr (inl (query, there, record { nothing_made = refl; told = ap (λ f. error_line (Version f)) unknown.0 })))))
 
 pub locate_told : (book : Book) (name known : List ℕ) (x y w : ℤ) (p : Point) (place : Location)
-    → known ≡ name → p ≡ record { x = x; y = y; w = w } → IsTrue (is_name name) → IsQuery x y w → IsTrue (stands book.layers known)
-    → place ≡ answer_at book.layers known p → Answers book (locate name x y w) book (location_line place)
+    → known ≡ name → p ≡ record { x = x; y = y; w = w } → IsTrue (is_name name) → IsQuery x y w → IsTrue (stands book.version.layers known)
+    → (TilesAreExact book.version → place ≡ answer_at book.version.layers known p) → Answers book (locate name x y w) book (location_line place)
 locate_told book name known x y w p place same point named query stood is before holds =
     let there : stands (newest before).layers name ≡ true =
-    ap (λ ls. stands ls name) holds.layers ∙ ap (stands book.layers) (sym same) ∙ stood in
+    ap (λ (v : versions.Version). stands v.layers name) holds.version ∙ ap (stands book.version.layers) (sym same) ∙ stood in
     let told : place ≡ answer_at (newest before).layers name (record { x = x; y = y; w = w }) =
-    is ∙ ap (λ n. answer_at book.layers n p) same ∙ ap (answer_at book.layers name) point ∙ ap (λ ls. answer_at ls name (record { x = x; y = y; w = w })) (sym holds.layers) in
+    is holds.exact.exact ∙ ap (λ n. answer_at book.version.layers n p) same ∙ ap (answer_at book.version.layers name) point
+    ∙ ap (λ (v : versions.Version). answer_at v.layers name (record { x = x; y = y; w = w })) (sym holds.version) in
     answers_there book before (locate name x y w) (location_line place) holds
     (inr (inr (named, inr (inr (query, there, record { nothing_made = refl; told = ap location_line told })))))
+
+-- ==== LAYERS
+
+pub list_told : (book : Book) (text : List ℕ) → text ≡ layers_text book.version.layers → Answers book list_layers book text
+list_told book text is before holds =
+    answers_there book before list_layers text holds
+    (inr (record { nothing_made = refl; told = is ∙ ap (λ (v : versions.Version). layers_text v.layers) (sym holds.version) }))
 
 -- ==== Lines
 

@@ -5,6 +5,8 @@ use Rattle.std.proofs.lemmas.Bool.{cases_lt, false≢true, true≢false}
 use Rattle.std.specs.Result.{is_err}
 use Rattle.std.specs.Io.KnownBytes.{Appends, Consumes, Keeps, IsAtEnd}
 use Rattle.std.proofs.KnownBytes.{Appends-nil, Appends-trans, Consumes-nil, Consumes-trans, Consumes-kept}
+use Rattle.overlay_terms.specs.KeptLaws.{IsExact}
+use Rattle.version_core.specs.Version.{empty_version}
 use Rattle.overlayd.specs.declared.book.Book.{Book}
 use Rattle.overlayd.specs.declared.session_end.SessionEnd.{SessionEnd}
 use Rattle.overlayd.specs.declared.session_end.SessionEnd.TheVariants.{End, Failed}
@@ -13,10 +15,12 @@ use Rattle.overlayd.specs.Lines.{script_max, line_room, ended_lines, unended, la
 use Rattle.overlayd.specs.Replies.{error_line}
 use Rattle.overlayd.specs.Requests.{request_of}
 use Rattle.overlayd.specs.Writing.{IsCutShort}
-use Rattle.overlayd.specs.Session.{IsOwnRun, IsPastLimit, IsReadFault, IsCutOff, EndsSo, IsPlainSession, Stands, TakesTurn, IsStopped, TakesAll, first_history, Finishes, EndsBy}
+use Rattle.overlayd.specs.Session.{IsOwnRun, IsPastLimit, IsReadFault, IsCutOff, EndsSo, IsPlainSession, first_history}
+use Rattle.overlayd.specs.Standing.{Stands, TakesTurn, IsStopped, TakesAll, Finishes, EndsBy}
 use Rattle.overlayd.proofs.Pieces.{GoesOn, ended_lines-more}
 use Rattle.overlayd.proofs.Runs.{run-push, takes_turn-same}
 use Rattle.overlayd.proofs.LongLines.{request_of-cut, take-nil}
+use Rattle.overlayd.proofs.HistoryLemmas.{empty_exact}
 use Rattle.overlayd.proofs.Steps.{cut_run, cut_off-more}
 
 -- nothing is kept where nothing stands behind the last line feed
@@ -249,8 +253,8 @@ ends-stopped input left left_after output mid all count more allowed line chunk 
     }
 
 -- a session begins with nothing taken and nothing written
-pub begins : (input output : Option (List ℕ)) (line : List ℕ) (book : Book) → line ≡ [] → book.number ≡ 0 → book.layers ≡ [] → IsUnderWay input input output output 0 line book
-begins input output line book empty number layers = record {
+pub begins : (input output : Option (List ℕ)) (line : List ℕ) (book : Book) → line ≡ [] → book.version ≡ empty_version → IsUnderWay input input output output 0 line book
+begins input output line book empty none = record {
   taken = [];
   as_many = refl;
   reads = Consumes-nil input;
@@ -258,7 +262,7 @@ begins input output line book empty number layers = record {
   writes = Appends-nil output;
   stands = subst (λ t. Stands t [] line book) (sym (take-nil script_max)) (record {
     told = record { after = first_history; made = []; history = tt; told = (refl, refl, refl); only = refl };
-    holds = record { number = sym number; layers = sym layers; tiles = refl; durable = refl };
+    holds = record { version = sym none; exact = subst IsExact (sym none) empty_exact };
     rest = empty ∙ sym (take-nil line_room);
   });
 }

@@ -1,20 +1,34 @@
--- Histories that go on by one accepted command, or by nothing.
-use Rattle.std.proofs.Common.{◌≡◌, ℕ, ◌+◌, Bool, true, false, cond, List, [], ◌∷◌, ◌++◌, map, Option, Some, None, refl, sym, ap, subst, ◌∙◌, ◌⊎◌, inl, inr}
+-- Histories that go on by an accepted command, by kept tiles, or by nothing.
+use Rattle.std.proofs.Common.{Option, Some, None, ◌≡◌, ℕ, List, [], ◌∷◌, ◌++◌, map, refl, sym, ap, subst, ◌∙◌, ◌⊎◌, inl, inr}
 use Rattle.std.proofs.lemmas.List.{append-nil}
-use Rattle.overlay_terms.specs.Commands.{Command, refusal_at, applied, is_touched}
-use Rattle.overlay_terms.specs.Histories.{Version, Finished, Tile, tile_at, accepted, Entry, History, newest, last_version, FollowsCommand}
+use Rattle.std.proofs.lemmas.Option.{none-some}
+use Rattle.overlay_terms.specs.Commands.{Command}
+use Rattle.version_core.specs.Version.{empty_version}
+use Rattle.overlay_terms.specs.Histories.{Version, Tile, accepted, Entry, History, newest, last_version, AllFollow, Follows, FollowsCommand}
+use Rattle.overlay_terms.specs.KeptLaws.{IsExact}
+use Rattle.overlay_terms.proofs.KeptHistories.{history_is_exact}
 use Rattle.overlayd.specs.declared.book.Book.{Book}
 use Rattle.overlayd.specs.declared.fault.CommandFault.{CommandFault}
 use Rattle.overlayd.specs.declared.fault.CommandFault.TheVariants.{OutOfMemory}
 use Rattle.overlayd.specs.Replies.{ok_line, error_line}
 use Rattle.overlayd.specs.Requests.{Request}
-use Rattle.overlayd.specs.Session.{Holds}
+use Rattle.overlayd.specs.Made.{commands_in}
+use Rattle.overlayd.specs.Standing.{Holds}
 use Rattle.overlayd.specs.Transcript.{IsRefused, IsSubmitted, IsAcceptedBy, IsAnswered}
+use Rattle.overlayd.specs.Building.{BuildsUp}
 use Rattle.overlayd.specs.Answering.{GoesOnWith, AnswersIn, SubmitsIn}
 
-last_version-push : (version : Version) (entries : List Entry) (entry : Entry) → last_version version (entries ++ entry ∷ []) ≡ entry.version
-last_version-push version [] entry = refl
-last_version-push version (first ∷ entries) entry = last_version-push first.version entries entry
+last_version-append : (version : Version) (entries more : List Entry) → last_version version (entries ++ more) ≡ last_version (last_version version entries) more
+last_version-append version [] more = refl
+last_version-append version (first ∷ entries) more = last_version-append first.version entries more
+
+-- a version without layers and tiles is exact
+pub empty_exact : IsExact empty_version
+empty_exact = record {
+  orderly = refl;
+  fit = λ name k tile none. absurd (none-some tile none);
+  exact = λ name k tile none. absurd (none-some tile none);
+}
 
 -- a history goes on from itself by nothing
 pub stays : (book : Book) (before : History) → Holds book before → GoesOnWith before [] before book
@@ -26,62 +40,52 @@ stays book before holds = record {
   holds = holds;
 }
 
--- the version after a command, with no tile, of which nothing is durable, and the history that goes on by it
-abbrev next_version : Book → Version
-next_version new = record { number = new.number; layers = new.layers; tiles = []; durable = 0 }
+-- a history with more entries
+abbrev pub later_history : History → List Entry → History
+later_history before more = record { start = before.start; entries = before.entries ++ more }
 
-abbrev next_entry : Command → Book → Entry
-next_entry command new = record { event = accepted 0 command; version = next_version new }
-
-abbrev pub next_history : History → Command → Book → History
-next_history before command new = record { start = before.start; entries = before.entries ++ next_entry command new ∷ [] }
-
-same_either_way : {A : Type 0} (b : Bool) (a : A) → a ≡ cond b a a
-same_either_way true a = refl
-same_either_way false a = refl
-
--- a book that holds the newest version holds the next after an accepted command
-pub follows_command : (old new : Book) (before : History) (command : Command)
-    → Holds old before → refusal_at old.number old.layers command ≡ None → new.number ≡ old.number + 1 → new.layers ≡ applied old.layers command
-    → FollowsCommand (newest before) command (next_version new)
-follows_command old new before command holds free number layers = record {
-  accepted_there = ap (λ n. refusal_at n (newest before).layers command) holds.number ∙ ap (λ ls. refusal_at old.number ls command) holds.layers ∙ free;
-  number = number ∙ ap (λ n. n + 1) (sym holds.number);
-  layers = layers ∙ ap (λ ls. applied ls command) (sym holds.layers);
-  tiles = λ name k.
-      same_either_way (is_touched (newest before).layers command name) None
-      ∙ ap (λ (tiles : List Finished). cond (is_touched (newest before).layers command name) None (tile_at tiles name k)) (sym holds.tiles);
-  durable = sym holds.durable;
+-- a history goes on by entries that follow the version of a book, and by what they make of it
+pub goes_on : (old new : Book) (before : History) (more : List Entry) (made : List Command)
+    → Holds old before → AllFollow old.version more → last_version old.version more ≡ new.version
+    → commands_in more ≡ map (λ command. (0, command)) made → GoesOnWith before made (later_history before more) new
+goes_on old new before more made holds follow arrives only = record {
+  more = more;
+  goes_on = refl;
+  follows = subst (λ (v : Version). AllFollow v more) (sym holds.version) follow;
+  only = only;
+  holds = record {
+    version = last_version-append before.start before.entries more ∙ ap (λ v. last_version v more) holds.version ∙ arrives;
+    exact = subst IsExact arrives (history_is_exact (record { start = old.version; entries = more }) follow holds.exact);
+  };
 }
 
-pub goes_on : (old new : Book) (before : History) (command : Command)
-    → Holds old before → refusal_at old.number old.layers command ≡ None → new.number ≡ old.number + 1 → new.layers ≡ applied old.layers command
-    → GoesOnWith before (command ∷ []) (next_history before command new) new
-goes_on old new before command holds free number layers =
-    let last = last_version-push before.start before.entries (next_entry command new) in
-    record {
-      more = next_entry command new ∷ [];
-      goes_on = refl;
-      follows = (follows_command old new before command holds free number layers, tt);
-      only = refl;
-      holds = record {
-        number = ap (λ (v : Version). v.number) last;
-        layers = ap (λ (v : Version). v.layers) last;
-        tiles = ap (λ (v : Version). v.tiles) last;
-        durable = ap (λ (v : Version). v.durable) last;
-      };
-    }
+abbrev next_entry : Command → Book → Entry
+next_entry command new = record { event = accepted 0 command; version = new.version }
 
 -- an accepted command is answered by its version's number
 pub submits_accepted : (old new : Book) (before : History) (command : Command) (reply : List ℕ)
-    → Holds old before → refusal_at old.number old.layers command ≡ None → new.number ≡ old.number + 1 → new.layers ≡ applied old.layers command
-    → reply ≡ ok_line new.number → SubmitsIn before command new reply
-submits_accepted old new before command reply holds free number layers told = record {
-  after = next_history before command new;
+    → Holds old before → FollowsCommand old.version command new.version
+    → reply ≡ ok_line new.version.number → SubmitsIn before command new reply
+submits_accepted old new before command reply holds follows told = record {
+  after = later_history before (next_entry command new ∷ []);
   made = command ∷ [];
-  goes = goes_on old new before command holds free number layers;
-  submitted = inr (inr (record { between = []; version = next_version new; goes_on = refl; only = refl; told = told }));
+  goes = goes_on old new before (next_entry command new ∷ []) (command ∷ []) holds (follows, tt) refl refl;
+  submitted = inr (inr (record { between = []; version = new.version; goes_on = refl; only = refl; told = told }));
 }
+
+-- what is answered at the version that kept tiles lead to
+pub answers_built : (old new : Book) (before : History) (request : Request) (reply : List ℕ)
+    → Holds old before → (builds : BuildsUp old.version new.version)
+    → ((after : History) → newest after ≡ new.version → IsRefused OutOfMemory [] reply ⊎ IsAnswered 0 before request after [] reply)
+    → AnswersIn before request new reply
+answers_built old new before request reply holds builds answered =
+    let goes = goes_on old new before builds.entries [] holds builds.follow builds.arrives builds.no_command in
+    record {
+      after = later_history before builds.entries;
+      made = [];
+      goes = goes;
+      answered = answered (later_history before builds.entries) goes.holds.version;
+    }
 
 -- a request that makes nothing is answered in the history as it stands
 pub answers_there : (book : Book) (before : History) (request : Request) (reply : List ℕ)

@@ -9,3 +9,5 @@ pub mod WordLemmas
 pub mod NumberLemmas
 pub mod HistoryLemmas
 pub mod AnswerLemmas
+pub mod TileAnswers
+pub mod BuildLemmas

@@ -1,17 +1,20 @@
 -- A refused line changes nothing, so that `out of memory` may stand in the place of its fault.
-use Rattle.std.proofs.Common.{◌≡◌, ℕ, ◌<◌, lit<, ◌⊎◌, inl, inr, List, [], get_or, refl, sym, ap, ◌∙◌, subst, arith}
+use Rattle.std.proofs.Common.{Option, Some, None, ◌≡◌, ℕ, ◌<◌, lit<, ◌⊎◌, inl, inr, List, [], get_or, refl, sym, ap, ◌∙◌, subst, arith}
 use Rattle.overlay_terms.specs.Commands.{Command}
-use Rattle.overlay_terms.specs.Histories.{History}
+use Rattle.overlay_terms.specs.Histories.{History, newest}
+use Rattle.version_core.specs.declared.fault.VersionFault.{VersionFault}
+use Rattle.version_core.specs.Edges.{edges_refusal, finished_refusal}
 use Rattle.overlayd.specs.declared.book.Book.{Book}
 use Rattle.overlayd.specs.declared.fault.CommandFault.{CommandFault}
 use Rattle.overlayd.specs.declared.fault.CommandFault.TheVariants.{OutOfMemory}
 use Rattle.overlayd.specs.declared.reply.Reply.{Reply}
-use Rattle.overlayd.specs.declared.reply.Reply.TheVariants.{Nothing, Accepted, Located, Fault, Lines}
-use Rattle.overlayd.specs.Requests.{Request, nothing, too_long, malformed, put, define, remove, locate, list_layers, request_of}
+use Rattle.overlayd.specs.declared.reply.Reply.TheVariants.{Nothing, Accepted, Located, Built, Compared, Fault, Lines}
+use Rattle.overlayd.specs.Requests.{Request, nothing, too_long, malformed, put, define, remove, locate, list_layers, edges, wait, verify, request_of}
 use Rattle.overlayd.specs.Replies.{ok_line, error_line}
 use Rattle.overlayd.specs.Reply.{reply_text, IsTextOf}
-use Rattle.overlayd.specs.Transcript.{IsRefused, IsAnswered, IsSubmitted}
-use Rattle.overlayd.specs.Session.{GoesOnIn, TakesTurn}
+use Rattle.overlayd.specs.Building.{wait_refusal}
+use Rattle.overlayd.specs.Transcript.{IsRefused, IsAnswered, IsSubmitted, Asked, asked_column}
+use Rattle.overlayd.specs.Standing.{GoesOnIn, TakesTurn}
 
 -- an accepted command is never told as a fault
 differ : (a b : ℕ) → a < b → b ≡ a → ⊥
@@ -25,6 +28,11 @@ submitted_makes_nothing : (session : ℕ) (before : History) (command : Command)
 submitted_makes_nothing session before command after made reply fault is (inl (refusal, first, refused)) = refused.nothing_made
 submitted_makes_nothing session before command after made reply fault is (inr accepted) =
     absurd (ok_is_no_error accepted.version.number fault (sym accepted.told ∙ is))
+
+-- a question makes nothing, whether it is refused or answered
+asked_makes_nothing : (o : Option VersionFault) (made : List Command) (reply : List ℕ) (T : Type 0) → (T → made ≡ []) → Asked o made reply T → made ≡ []
+asked_makes_nothing (Some fault) made reply T none asked = asked.nothing_made
+asked_makes_nothing None made reply T none asked = none asked
 
 -- where the reply is a fault's line, nothing is made
 makes_nothing : (session : ℕ) (before : History) (request : Request) (after : History) (made : List Command) (reply : List ℕ) (fault : CommandFault)
@@ -48,6 +56,15 @@ makes_nothing session before (locate name x y w) after made reply fault is (inr 
 makes_nothing session before (locate name x y w) after made reply fault is (inr (good, inr (inl (query, absent, refused)))) = refused.nothing_made
 makes_nothing session before (locate name x y w) after made reply fault is (inr (good, inr (inr (query, there, told)))) = told.nothing_made
 makes_nothing session before list_layers after made reply fault is told = told.nothing_made
+makes_nothing session before (edges name k) after made reply fault is (inl (bad, refused)) = refused.nothing_made
+makes_nothing session before (edges name k) after made reply fault is (inr (good, asked)) =
+    asked_makes_nothing (edges_refusal (newest after) name (asked_column k)) made reply _ (λ told. told.nothing_made) asked
+makes_nothing session before (wait name) after made reply fault is (inl (bad, refused)) = refused.nothing_made
+makes_nothing session before (wait name) after made reply fault is (inr (good, asked)) =
+    asked_makes_nothing (wait_refusal (newest after) name) made reply _ (λ told. told.nothing_made) asked
+makes_nothing session before (verify name k) after made reply fault is (inl (bad, refused)) = refused.nothing_made
+makes_nothing session before (verify name k) after made reply fault is (inr (good, asked)) =
+    asked_makes_nothing (finished_refusal (newest after) name (asked_column k)) made reply _ (λ told. told.nothing_made) asked
 
 turn_makes_nothing : (session : ℕ) (before : History) (line : List ℕ) (after : History) (made : List Command) (fault : CommandFault)
     → IsRefused OutOfMemory made (error_line fault) ⊎ IsAnswered session before (request_of line) after made (error_line fault) → made ≡ []
@@ -74,6 +91,8 @@ pub turn_told : (old new : Book) (line : List ℕ) (reply : Reply) (text : List 
 turn_told old new line Nothing text is takes = subst (λ t. TakesTurn old line new t) (sym is) takes
 turn_told old new line (Accepted number) text is takes = subst (λ t. TakesTurn old line new t) (sym is) takes
 turn_told old new line (Located place) text is takes = subst (λ t. TakesTurn old line new t) (sym is) takes
+turn_told old new line (Built number) text is takes = subst (λ t. TakesTurn old line new t) (sym is) takes
+turn_told old new line (Compared verdict) text is takes = subst (λ t. TakesTurn old line new t) (sym is) takes
 turn_told old new line (Fault fault) text (inl is) takes = subst (λ t. TakesTurn old line new t) (sym is) takes
 turn_told old new line (Fault fault) text (inr is) takes =
     subst (λ t. TakesTurn old line new t) (sym is) (λ before holds. goes_on-out_of_memory before line new fault (takes before holds))

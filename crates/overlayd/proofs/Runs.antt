@@ -1,13 +1,16 @@
 -- A transcript and its history, with one more line at the end.
 use Rattle.std.proofs.Common.{◌≡◌, ℕ, ◌⊎◌, List, [], ◌∷◌, ◌++◌, map, refl, sym, ap, ◌∙◌, subst, append_assoc, append-nil}
 use Rattle.std.proofs.lemmas.List.{map-append}
+use Rattle.std.proofs.lemmas.List.Elements.{filter_map-append}
 use Rattle.overlay_terms.specs.Commands.{Command}
-use Rattle.overlay_terms.specs.Histories.{Version, accepted, Entry, History, AllFollow, IsHistory, last_version}
+use Rattle.overlay_terms.specs.Histories.{Version, Entry, History, AllFollow, IsHistory, last_version}
 use Rattle.overlayd.specs.declared.book.Book.{Book}
 use Rattle.overlayd.specs.declared.fault.CommandFault.TheVariants.{OutOfMemory}
 use Rattle.overlayd.specs.Requests.{Request, request_of}
+use Rattle.overlayd.specs.Made.{command_of, commands_in}
 use Rattle.overlayd.specs.Transcript.{IsRefused, IsAnswered, IsTurn, IsTranscript}
-use Rattle.overlayd.specs.Session.{IsOwnRun, Holds, GoesOnIn, TakesTurn}
+use Rattle.overlayd.specs.Session.{IsOwnRun}
+use Rattle.overlayd.specs.Standing.{Holds, GoesOnIn, TakesTurn}
 
 -- one more line is answered at the history that the lines before have led to
 transcript-push : (session : ℕ) (seen : History) (lines : List (List ℕ)) (after : History) (made : List Command) (replies : List ℕ)
@@ -46,6 +49,10 @@ pub record IsRunTo (lines : List (List ℕ)) (replies : List ℕ) (book : Book) 
   pub run : IsOwnRun lines replies
   pub holds : Holds book run.after
 
+-- a command of the session on its own
+abbrev own : Command → ℕ × Command
+own command = (0, command)
+
 -- a turn makes a run longer by its line
 pub run-push : (lines : List (List ℕ)) (replies : List ℕ) (old : Book) (run : IsOwnRun lines replies) → Holds old run.after
     → (line : List ℕ) (new : Book) (reply : List ℕ) → TakesTurn old line new reply → IsRunTo (lines ++ line ∷ []) (replies ++ reply) new
@@ -57,11 +64,11 @@ run-push lines replies old run holds line new reply takes =
         made = run.made ++ on.made;
         history = subst IsHistory (sym on.goes_on) (AllFollow-append run.after.start run.after.entries on.more run.history on.follows);
         told = transcript-push 0 _ lines run.after run.made replies run.told line on.after on.made reply on.turn;
-        only = ap (λ (h : History). map (λ (entry : Entry). entry.event) h.entries) on.goes_on
-            ∙ map-append (λ (entry : Entry). entry.event) run.after.entries on.more
-            ∙ ap (λ es. es ++ map (λ (entry : Entry). entry.event) on.more) run.only
-            ∙ ap (λ es. map (accepted 0) run.made ++ es) on.only
-            ∙ sym (map-append (accepted 0) run.made on.made);
+        only = ap (λ (h : History). commands_in h.entries) on.goes_on
+            ∙ filter_map-append (λ (entry : Entry). command_of entry.event) run.after.entries on.more
+            ∙ ap (λ es. es ++ commands_in on.more) run.only
+            ∙ ap (λ es. map own run.made ++ es) on.only
+            ∙ sym (map-append own run.made on.made);
       };
       holds = on.holds;
     }

@@ -6,7 +6,8 @@ use Rattle.overlayd.specs.Lines.{line_room, without_cr, ended_lines, unended}
 use Rattle.overlayd.specs.Writing.{IsCutShort}
 use Rattle.std.proofs.lemmas.List.{take_all}
 use Rattle.std.proofs.lemmas.Bool.{ne_eqb, false≢true}
-use Rattle.overlayd.specs.Session.{IsOwnRun, IsCutOff, Stands, TakesTurn, TakesAll, IsStopped}
+use Rattle.overlayd.specs.Session.{IsOwnRun, IsCutOff}
+use Rattle.overlayd.specs.Standing.{Stands, TakesTurn, TakesAll, IsStopped}
 use Rattle.overlayd.specs.Requests.{request_of}
 use Rattle.overlayd.specs.declared.book.Book.{Book}
 use Rattle.overlayd.proofs.Pieces.{GoesOn, ended_lines-feed, ended_lines-byte, ended_lines-more, unended-feed, unended-byte}

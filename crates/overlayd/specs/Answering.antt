@@ -1,7 +1,8 @@
 -- What a request, and a command, make of the book: told for each history whose newest version the book holds.
 use Rattle.std.specs.Prelude.{◌≡◌, ℕ, ◌⊎◌, List, map, Result, Ok, Err}
 use Rattle.overlay_terms.specs.Commands.{Command}
-use Rattle.overlay_terms.specs.Histories.{Event, accepted, Entry, History, GoesOnBy, AllFollow, newest}
+use Rattle.overlay_terms.specs.Histories.{Entry, History, GoesOnBy, AllFollow, newest}
+use Rattle.overlayd.specs.Made.{commands_in}
 use Rattle.overlayd.specs.declared.book.Book.{Book}
 use Rattle.overlayd.specs.declared.fault.CommandFault.{CommandFault}
 use Rattle.overlayd.specs.declared.fault.CommandFault.TheVariants.{OutOfMemory}
@@ -9,7 +10,7 @@ use Rattle.overlayd.specs.declared.reply.Reply.{Reply}
 use Rattle.overlayd.specs.Replies.{error_line}
 use Rattle.overlayd.specs.Reply.{reply_text}
 use Rattle.overlayd.specs.Requests.{Request}
-use Rattle.overlayd.specs.Session.{Holds}
+use Rattle.overlayd.specs.Standing.{Holds}
 use Rattle.overlayd.specs.Transcript.{IsRefused, IsSubmitted, IsAnswered}
 
 -- the bytes that tell a reply or a fault
@@ -22,7 +23,7 @@ pub record GoesOnWith (before : History) (made : List Command) (after : History)
   pub more : List Entry
   pub goes_on : GoesOnBy before more after
   pub follows : AllFollow (newest before) more
-  pub only : map (λ (entry : Entry). entry.event) more ≡ map (accepted 0) made
+  pub only : commands_in more ≡ map (λ command. (0, command)) made
   pub holds : Holds new after
 
 -- a request is answered in a history that goes on from the one before, or memory ran out

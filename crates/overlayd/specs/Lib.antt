@@ -6,6 +6,9 @@ pub mod Replies
 pub mod Writing
 pub mod Reply
 pub mod Transcript
+pub mod Made
 pub mod Session
+pub mod Building
+pub mod Standing
 pub mod Reading
 pub mod Answering

@@ -4,7 +4,7 @@ use Rattle.std.specs.List.{list_all, prefix_len}
 use Rattle.std.specs.Char.{is_ascii_digit}
 use Rattle.overlayd.specs.Lines.{is_gap, is_skipped, is_too_long}
 
--- a request: a name and a text, a name, a point with its denominator, or no more than its word
+-- a request: a name and a text, a name, a point with its denominator, a name and a column's number, or no more than its word
 pub data Request : Type 0 where
   nothing : Request
   too_long : Request
@@ -14,6 +14,9 @@ pub data Request : Type 0 where
   remove : List ℕ → Request
   locate : List ℕ → ℤ → ℤ → ℤ → Request
   list_layers : Request
+  edges : List ℕ → ℤ → Request
+  wait : List ℕ → Request
+  verify : List ℕ → ℤ → Request
 
 -- the bytes from the first on that fails the test
 abbrev pub skip_while : (ℕ → Bool) → List ℕ → List ℕ
@@ -113,6 +116,34 @@ abbrev pub list_of : List (List ℕ) → Request
 list_of [] = list_layers
 list_of (word ∷ words) = malformed
 
+abbrev pub wait_of : List (List ℕ) → Request
+wait_of (name ∷ []) = wait name
+wait_of other = malformed
+
+-- EDGES and VERIFY: a name and the number of a column
+abbrev pub numbered : List ℕ → Option ℤ → Option (List ℕ × ℤ)
+numbered name None = None
+numbered name (Some k) = Some (name, k)
+
+abbrev pub name_and_number : List (List ℕ) → Option (List ℕ × ℤ)
+name_and_number (name ∷ k ∷ []) = numbered name (number_of k)
+name_and_number other = None
+
+abbrev pub edges_at : Option (List ℕ × ℤ) → Request
+edges_at None = malformed
+edges_at (Some (name, k)) = edges name k
+
+abbrev pub verify_at : Option (List ℕ × ℤ) → Request
+verify_at None = malformed
+verify_at (Some (name, k)) = verify name k
+
+-- the commands about tiles, by the first word
+abbrev pub about_tiles : List ℕ → List (List ℕ) → Request
+about_tiles word words =
+    if bytes_eq word (codes "EDGES") then edges_at (name_and_number words)
+    else (if bytes_eq word (codes "WAIT") then wait_of words
+    else (if bytes_eq word (codes "VERIFY") then verify_at (name_and_number words) else malformed))
+
 -- by its first word, in upper case as it is
 abbrev pub by_words : List (List ℕ) → List ℕ → Request
 by_words [] rest = malformed
@@ -121,7 +152,7 @@ by_words (word ∷ words) rest =
     else (if bytes_eq word (codes "DEFINE") then define_of rest
     else (if bytes_eq word (codes "DROP") then remove_of words
     else (if bytes_eq word (codes "LOCATE") then locate_of words
-    else (if bytes_eq word (codes "LAYERS") then list_of words else malformed))))
+    else (if bytes_eq word (codes "LAYERS") then list_of words else about_tiles word words))))
 
 abbrev pub request_of : List ℕ → Request
 request_of line =

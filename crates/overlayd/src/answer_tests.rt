@@ -9,6 +9,7 @@ use layer_book::fault::LayerFault;
 use layer_expr::fault::ExprFault;
 use std::alloc::{AllocError, Global};
 use std::process::Abort;
+use version_core::fault::VersionFault;
 use wkt_form::fault::WktFault;
 
 const A: &str = "PUT A POLYGON ((0 0, 10 0, 10 10, 0 10, 0 0))";
@@ -40,7 +41,7 @@ const OUT_OF_RANGE: Told<'static> = Told::Fault(CommandFault::Query(PointFault::
 const BAD_NAME: Told<'static> = Told::Fault(CommandFault::Expression(ExprFault::BadName));
 
 fn layer(fault: LayerFault) -> Told<'static> {
-    Told::Fault(CommandFault::Layer(fault))
+    Told::Fault(CommandFault::Version(VersionFault::Layer(fault)))
 }
 
 fn wkt(fault: WktFault) -> Told<'static> {
@@ -85,7 +86,7 @@ fn squares_are_put_and_located(rt: HostRuntime) {
         ("LOCATE I 14 14 2", IN),
     ];
     tell(&rt, alloc, &mut book, table.as_slice());
-    assert_eq!(rt; book.number, 3);
+    assert_eq!(rt; book.version.number(), 3);
 }
 
 #[test]
@@ -155,7 +156,7 @@ fn malformed_lines_are_refused(rt: HostRuntime) {
         ("PUT X POLYGON", wkt(WktFault::Syntax(7))),
     ];
     tell(&rt, alloc, &mut book, table.as_slice());
-    assert_eq!(rt; book.number, 1);
+    assert_eq!(rt; book.version.number(), 1);
 }
 
 #[test]
@@ -330,7 +331,7 @@ fn texts_are_refused_at_their_first_fault(rt: HostRuntime) {
 /// The line that defines the layer of this number by the one before it, named twice.
 fn chain_line(alloc: Global, number: u32) -> Result<String, AllocError> {
     let before = number.saturating_sub(1);
-    format!(in alloc; "DEFINE L{number} = L{before} | L{before}")
+    format!(in alloc; "DEFINE Link{number} = Link{before} | Link{before}")
 }
 
 #[test]
@@ -342,7 +343,7 @@ fn a_33rd_layer_is_refused_after_a_chain_of_31(rt: HostRuntime) -> Result<(), Al
         alloc,
         &mut book,
         [(
-            "PUT L0 POLYGON ((0 0, 10 0, 10 10, 0 10, 0 0))",
+            "PUT Link0 POLYGON ((0 0, 10 0, 10 10, 0 10, 0 0))",
             Told::Accepted(1),
         )]
         .as_slice(),
@@ -357,15 +358,15 @@ fn a_33rd_layer_is_refused_after_a_chain_of_31(rt: HostRuntime) -> Result<(), Al
         );
     }
     let table = [
-        ("LOCATE L31 5 5", IN),
-        ("LOCATE L31 11 5", OUT),
-        ("LOCATE L31 0 5", EDGE),
+        ("LOCATE Link31 5 5", IN),
+        ("LOCATE Link31 11 5", OUT),
+        ("LOCATE Link31 0 5", EDGE),
         ("PUT X POLYGON EMPTY", layer(LayerFault::TooManyLayers)),
-        ("DEFINE X = L0", layer(LayerFault::TooManyLayers)),
+        ("DEFINE X = Link0", layer(LayerFault::TooManyLayers)),
         ("DEFINE X = Z", layer(LayerFault::UnknownLayer)),
-        ("PUT L1 POLYGON EMPTY", layer(LayerFault::NotBase)),
-        ("PUT L0 POLYGON EMPTY", Told::Accepted(33)),
-        ("LOCATE L31 5 5", OUT),
+        ("PUT Link1 POLYGON EMPTY", layer(LayerFault::NotBase)),
+        ("PUT Link0 POLYGON EMPTY", Told::Accepted(33)),
+        ("LOCATE Link31 5 5", OUT),
     ];
     tell(&rt, alloc, &mut book, table.as_slice());
     Ok(())

@@ -1,9 +1,10 @@
 //! The answer to one line.
 ghost use Rattle.std.specs.Prelude.{◌≡◌};
-ghost use Rattle.overlayd.specs.Requests.{put, define, remove, locate, list_layers};
-ghost use Rattle.overlayd.specs.Session.{TakesTurn};
+ghost use Rattle.overlayd.specs.Requests.{put, define, remove, locate, list_layers, edges, wait, verify};
+ghost use Rattle.overlayd.specs.Standing.{TakesTurn};
 ghost use Rattle.overlayd.specs.Reply.{reply_text};
 ghost use Rattle.overlayd.specs.Request.{request};
+ghost use Rattle.overlayd.specs.Transcript.{asked_column};
 ghost use Rattle.overlayd.specs.Answering.{Answers, Submits, result_text};
 ghost use Rattle.layer_book.specs.Command.{command};
 
@@ -14,6 +15,7 @@ use crate::reply::Reply;
 use crate::request::{Request, request_of};
 use exact_point::query::QueryPoint;
 use layer_book::command::Command;
+use plane_base::column::LAST_COLUMN;
 use std::alloc::Global;
 
 /// What a line makes of the book, and the reply. A line that is too long may be handed in cut off
@@ -39,6 +41,9 @@ fn answer_request(alloc: Global, book: &mut Book, asked: Request<'_>) -> Result<
         Request::Remove(name) => answer_remove(alloc, book, name),
         Request::Locate(name, x, y, w) => answer_locate(alloc, book, name, x, y, w),
         Request::ListLayers => answer_list(alloc, book),
+        Request::Edges(name, number) => answer_edges(alloc, book, name, number),
+        Request::Wait(name) => answer_wait(alloc, book, name),
+        Request::Verify(name, number) => answer_verify(alloc, book, name, number),
     }
 }
 
@@ -93,12 +98,55 @@ fn answer_locate(
 {
     let name = read_name(alloc, name)?;
     let query = QueryPoint::new(x, y, w)?;
-    let place = book.layers.direct(&name, &query)?;
+    let place = book.version.locate(&name, &query)?;
     Ok(Reply::Located(place))
 }
 
 fn answer_list(alloc: Global, book: &Book) -> Result<Reply, CommandFault>
     ensures { Answers book.now list_layers book.now (result_text result) }
 {
-    Ok(Reply::Lines(book.layers.list(alloc)?))
+    Ok(Reply::Lines(book.version.layers().list(alloc)?))
+}
+
+/// The pieces of a tile.
+fn answer_edges(alloc: Global, book: &Book, name: &[u8], number: i64) -> Result<Reply, CommandFault>
+    ensures { Answers book.now (edges name.now number) book.now (result_text result) }
+{
+    let name = read_name(alloc, name)?;
+    let lines = book.version.edges(alloc, &name, column_number(number))?;
+    Ok(Reply::Lines(lines))
+}
+
+/// Builds the tiles of a layer.
+fn answer_wait(alloc: Global, book: &mut Book, name: &[u8]) -> Result<Reply, CommandFault>
+    ensures { Answers book.old (wait name.now) book.new (result_text result) }
+{
+    let name = read_name(alloc, name)?;
+    let number = book.build(alloc, &name)?;
+    Ok(Reply::Built(number))
+}
+
+/// Compares a tile with one that is built anew.
+fn answer_verify(
+    alloc: Global,
+    book: &Book,
+    name: &[u8],
+    number: i64,
+) -> Result<Reply, CommandFault>
+    ensures { Answers book.now (verify name.now number) book.now (result_text result) }
+{
+    let name = read_name(alloc, name)?;
+    let verdict = book.version.verify(alloc, &name, column_number(number))?;
+    Ok(Reply::Compared(verdict))
+}
+
+/// The number of a column as it was asked for. No column has a number below 0.
+fn column_number(number: i64) -> u64
+    ensures { result ≡ asked_column number }
+{
+    if number < 0 {
+        u64::from(LAST_COLUMN) + 1
+    } else {
+        number as u64
+    }
 }

@@ -1,53 +1,101 @@
-//! The layers with the number of their version.
-ghost use Rattle.std.specs.Prelude.{◌≡◌, ◌≤◌, ◌+◌, ◌^◌, ◌⊎◌, [], None, IfOk, IfErr, OnErr};
+//! The version that a session has come to.
+ghost use Rattle.std.specs.Prelude.{◌≡◌, ◌⊎◌, Some, None, IfOk, IfErr, OnOk, OnErr, ℕ, IsTrue, is_some};
+ghost use Rattle.overlay_terms.specs.Commands.{refusal_at, stands_as_derived};
+ghost use Rattle.overlay_terms.specs.Histories.{tile_at, FollowsCommand};
+ghost use Rattle.layer_book.specs.Command.{command};
+ghost use Rattle.layer_book.specs.TileRefusal.{tile_refusal};
+ghost use Rattle.layer_book.specs.declared.fault.LayerFault.TheVariants.{OutOfMemory};
+ghost use Rattle.version_core.specs.Version.{empty_version};
+ghost use Rattle.version_core.specs.Fault.{ReportsAt};
+ghost use Rattle.version_core.specs.declared.fault.VersionFault.TheVariants.{Layer};
+ghost use Rattle.overlayd.specs.Building.{BuildsUp, IsBuilt, wait_refusal};
 
 use layer_book::command::Command;
 use layer_book::fault::LayerFault;
-use layer_book::layers::Layers;
+use layer_expr::name::Name;
 use std::alloc::Global;
+use tile_build::built::Built;
+use version_core::fault::VersionFault;
+use version_core::finishing::Finish;
+use version_core::version::Version;
 
-/// The greatest number of a version.
-const LAST_NUMBER: u64 = 1 << 62;
+/// How many columns there are.
+const COLUMN_COUNT: u8 = 17;
 
-/// The layers, and how many commands have been accepted.
+/// The newest version.
 #[derive(Debug, Drop)]
 pub struct Book {
-    pub number: u64,
-    pub layers: Layers,
-    pub ghost in_limit: { number ≤ 2 ^ 62 },
+    pub version: Version,
 }
 
 impl Book {
-    ghost use Rattle.overlay_terms.specs.Commands.{refusal_at, applied};
-    ghost use Rattle.layer_book.specs.Command.{command};
-    ghost use Rattle.layer_book.specs.Fault.{Reports};
-
     /// No layer, and number 0.
     pub fn new(alloc: Global) -> Book
-        ensures number { result.number ≡ 0 }
-        ensures layers { result.layers ≡ [] }
+        ensures { result.version ≡ empty_version }
     {
         Book {
-            number: 0,
-            layers: Layers::new(alloc),
+            version: Version::empty(alloc),
         }
     }
 
     /// Makes the change that a command asks for, and gives the number of its version. A refusal is
     /// the first reason that applies, and leaves the book as it was.
-    pub fn submit(&mut self, alloc: Global, change: &Command) -> Result<u64, LayerFault>
-        ensures accepted { IfOk result (λ _. refusal_at self.old.number self.old.layers (command change.now) ≡ None) }
-        ensures number { IfOk result (λ number. (number ≡ self.old.number + 1) × (self.new.number ≡ number)) }
-        ensures layers { IfOk result (λ _. self.new.layers ≡ applied self.old.layers (command change.now)) }
-        ensures refused { IfErr result (λ fault. (fault ≡ LayerFault.OutOfMemory) ⊎ Reports (refusal_at self.old.number self.old.layers (command change.now)) fault) }
+    pub fn submit(&mut self, alloc: Global, change: &Command) -> Result<u64, VersionFault>
+        ensures ok { IfOk result (λ number. FollowsCommand self.old.version (command change.now) self.new.version × (self.new.version.number ≡ number)) }
+        ensures refused { IfErr result (λ fault. ((fault ≡ Layer OutOfMemory) × (refusal_at self.old.version.number self.old.version.layers (command change.now) ≡ None)) ⊎ ReportsAt (refusal_at self.old.version.number self.old.version.layers (command change.now)) fault) }
         ensures unchanged { OnErr result (self.new ≡ self.old) }
     {
-        let layers = self.layers.apply(alloc, change)?;
-        if self.number == LAST_NUMBER {
-            return Err(LayerFault::VersionLimit);
+        let next = self.version.submit(alloc, change)?;
+        self.version = next;
+        Ok(self.version.number())
+    }
+
+    /// Builds the pending tiles of a layer, column by column, and gives the number of the version.
+    /// Where memory runs out the tiles that are built by then are kept.
+    pub fn build(&mut self, alloc: Global, name: &Name) -> Result<u64, VersionFault>
+        ensures builds { BuildsUp self.old.version self.new.version }
+        ensures ok { IfOk result (λ number. (wait_refusal self.new.version name.now ≡ None) × IsBuilt self.new.version name.now × (self.new.version.number ≡ number)) }
+        ensures refused { IfErr result (λ fault. (fault ≡ Layer OutOfMemory) ⊎ (wait_refusal self.new.version name.now ≡ Some fault)) }
+    {
+        self.refuse(name)?;
+        for column in 0..COLUMN_COUNT {
+            self.build_tile(alloc, name, column)?;
         }
-        self.layers = layers;
-        self.number += 1;
-        Ok(self.number)
+        Ok(self.version.number())
+    }
+
+    /// Refuses a name that is no derived layer's.
+    fn refuse(&self, name: &Name) -> Result<(), VersionFault>
+        ensures ok { OnOk result (wait_refusal self.now.version name.now ≡ None) }
+        ensures err { IfErr result (λ fault. wait_refusal self.now.version name.now ≡ Some fault) }
+    {
+        if !self.version.layers().stands(name) {
+            return Err(VersionFault::Layer(LayerFault::UnknownLayer));
+        }
+        if self.version.layers().stands_as_base(name) {
+            return Err(VersionFault::Layer(LayerFault::NotDerived));
+        }
+        Ok(())
+    }
+
+    /// Builds a tile, if it is pending.
+    fn build_tile(&mut self, alloc: Global, name: &Name, column: u8) -> Result<(), VersionFault>
+        requires derived { IsTrue (stands_as_derived self.old.version.layers name.now) }
+        requires free { tile_refusal self.old.version.layers name.now column ≡ None }
+        ensures builds { BuildsUp self.old.version self.new.version }
+        ensures built { OnOk result (IsTrue (is_some (tile_at self.new.version.tiles name.now column))) }
+        ensures err { IfErr result (λ fault. fault ≡ Layer OutOfMemory) }
+    {
+        if self.version.tile(name, column).is_some() {
+            return Ok(());
+        }
+        let input = self.version.layers().input(alloc, name, column)?;
+        let built = Built::new(alloc, input).map_err(|(_, error)| error)?;
+        match self.version.finish(alloc, name, built) {
+            Ok(Finish::Kept(next)) => self.version = next,
+            Ok(Finish::Stale) => unreachable!(),
+            Err((_, fault)) => return Err(fault),
+        }
+        Ok(())
     }
 }

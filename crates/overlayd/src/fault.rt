@@ -1,14 +1,14 @@
 //! Why a line is refused, or a session ends early.
 ghost use Rattle.std.specs.Prelude.{◌≡◌, Some};
 ghost use Rattle.overlayd.specs.Fault.{code_of, text_of};
-ghost use Rattle.overlayd.specs.declared.fault.CommandFault.TheVariants.{Wkt, Expression, Query, Layer, OutOfMemory};
+ghost use Rattle.overlayd.specs.declared.fault.CommandFault.TheVariants.{Wkt, Expression, Query, Version, OutOfMemory};
 
 use exact_point::fault::PointFault;
-use layer_book::fault::LayerFault;
 use layer_expr::fault::ExprFault;
 use std::alloc::AllocError;
 use std::fmt;
 use thiserror::Error;
+use version_core::fault::VersionFault;
 use wkt_form::fault::WktFault;
 
 /// A fault that is printed as a line `error N text`.
@@ -20,7 +20,8 @@ pub enum CommandFault {
     Expression(ExprFault),
     /// Of the point that is asked about.
     Query(PointFault),
-    Layer(LayerFault),
+    /// Of a command on the layers, or of a question about them.
+    Version(VersionFault),
     OutOfMemory,
     CommandSyntax,
     LineTooLong,
@@ -39,7 +40,7 @@ impl CommandFault {
             CommandFault::Wkt(fault) => fault.code(),
             CommandFault::Expression(fault) => fault.code(),
             CommandFault::Query(fault) => fault.code(),
-            CommandFault::Layer(fault) => fault.code(),
+            CommandFault::Version(fault) => fault.code(),
             CommandFault::OutOfMemory => 40,
             CommandFault::CommandSyntax => 41,
             CommandFault::LineTooLong => 42,
@@ -82,11 +83,11 @@ impl From<PointFault> for CommandFault {
     }
 }
 
-impl From<LayerFault> for CommandFault {
-    ghost from_gives = { λ fault e. e ≡ Layer fault };
+impl From<VersionFault> for CommandFault {
+    ghost from_gives = { λ fault e. e ≡ Version fault };
 
-    fn from(fault: LayerFault) -> CommandFault {
-        CommandFault::Layer(fault)
+    fn from(fault: VersionFault) -> CommandFault {
+        CommandFault::Version(fault)
     }
 }
 
@@ -102,7 +103,7 @@ impl fmt::Display for Text {
             CommandFault::Wkt(fault) => write!(f, "{}", wkt_form::fault::Text(fault)),
             CommandFault::Expression(fault) => write!(f, "{}", layer_expr::fault::Text(fault)),
             CommandFault::Query(fault) => write!(f, "{}", exact_point::fault::Text(fault)),
-            CommandFault::Layer(fault) => write!(f, "{}", layer_book::fault::Text(fault)),
+            CommandFault::Version(fault) => write!(f, "{}", version_core::fault::Text(fault)),
             CommandFault::OutOfMemory => write!(f, "out of memory"),
             CommandFault::CommandSyntax => write!(f, "command syntax"),
             CommandFault::LineTooLong => write!(f, "line too long"),

@@ -17,6 +17,8 @@ mod session;
 mod session_end;
 #[cfg(test)]
 mod session_tests;
+#[cfg(test)]
+mod tile_tests;
 mod words;
 
 use crate::session::run_plain;

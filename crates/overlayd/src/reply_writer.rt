@@ -1,7 +1,7 @@
 //! Replies as bytes of a writer.
 ghost use Rattle.std.specs.Prelude.{◌≡◌, ℕ, ◌⊎◌, List, ◌++◌, OnOk};
 ghost use Rattle.layer_book.specs.Place.{location};
-ghost use Rattle.overlayd.specs.Replies.{ok_line, error_line, location_line};
+ghost use Rattle.overlayd.specs.Replies.{ok_line, error_line, location_line, built_line, verdict_line};
 ghost use Rattle.overlayd.specs.Reply.{IsTextOf};
 ghost use Rattle.overlayd.specs.declared.fault.CommandFault.TheVariants.{OutOfMemory};
 ghost use Rattle.overlayd.specs.Writing.{Writes};
@@ -14,6 +14,7 @@ use layer_book::direct_answer::Place;
 use std::fmt;
 use std::fmt::Write as _;
 use std::io::Write;
+use version_core::verifying::Verdict;
 
 /// Writes the text to its end, by as many writes as the writer asks for. A write that fails or takes
 /// no byte ends it.
@@ -39,6 +40,8 @@ pub fn write_reply<W: Write>(writer: &mut W, reply: &Reply) -> Result<(), Comman
         Reply::Nothing => Ok(()),
         Reply::Accepted(number) => write_text(writer, ok_text(*number).as_str().as_bytes()),
         Reply::Located(place) => write_text(writer, location_text(*place)),
+        Reply::Built(number) => write_text(writer, built_text(*number).as_str().as_bytes()),
+        Reply::Compared(verdict) => write_text(writer, verdict_text(*verdict)),
         Reply::Fault(fault) => write_text(writer, error_text(*fault).as_str().as_bytes()),
         Reply::Lines(lines) => write_text(writer, lines.as_slice()),
     }
@@ -53,6 +56,26 @@ fn ok_text(number: u64) -> ArrayString<32>
     text.push_str(digits.format(number));
     text.push_str("\n");
     text
+}
+
+fn built_text(number: u64) -> ArrayString<32>
+    ensures { result.bytes ≡ built_line number }
+{
+    let mut digits = Buffer::new();
+    let mut text = ArrayString::new();
+    text.push_str("built ");
+    text.push_str(digits.format(number));
+    text.push_str("\n");
+    text
+}
+
+fn verdict_text(verdict: Verdict) -> &'static [u8]
+    ensures { result.now ≡ verdict_line verdict }
+{
+    match verdict {
+        Verdict::Same => b"same\n",
+        Verdict::Different => b"different\n",
+    }
 }
 
 fn location_text(place: Place) -> &'static [u8]

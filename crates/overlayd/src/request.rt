@@ -1,8 +1,8 @@
 //! What a line asks for.
-ghost use Rattle.std.specs.Prelude.{◌≡◌, bytes_eq};
+ghost use Rattle.std.specs.Prelude.{◌≡◌, bytes_eq, option_map};
 ghost use Rattle.std.specs.List.{list_all};
 ghost use Rattle.overlayd.specs.Lines.{is_skipped, begins_comment, is_gap};
-ghost use Rattle.overlayd.specs.Requests.{request_of, by_words, words_of, behind_first_word, put_of, define_of, behind_sign, remove_of, locate_of, list_of, located};
+ghost use Rattle.overlayd.specs.Requests.{request_of, by_words, words_of, behind_first_word, put_of, define_of, behind_sign, remove_of, locate_of, list_of, located, about_tiles, edges_at, verify_at, name_and_number, wait_of};
 ghost use Rattle.overlayd.specs.Request.{request};
 
 use crate::number::number_of;
@@ -26,6 +26,11 @@ pub enum Request<'a> {
     /// A name, and x, y and w of a point.
     Locate(&'a [u8], i64, i64, i64),
     ListLayers,
+    /// A name and the number of a column.
+    Edges(&'a [u8], i64),
+    Wait(&'a [u8]),
+    /// A name and the number of a column.
+    Verify(&'a [u8], i64),
 }
 
 /// What the line asks for.
@@ -85,7 +90,63 @@ fn by_words(line: &[u8]) -> Request<'_>
     if is_word(word, b"LAYERS") {
         return list_of(rest);
     }
+    about_tiles(word, rest)
+}
+
+/// What a line asks for about tiles, by its first word.
+fn about_tiles<'a>(word: &[u8], rest: &'a [u8]) -> Request<'a>
+    ensures { request result ≡ about_tiles word.now (words_of rest.now) }
+{
+    if is_word(word, b"EDGES") {
+        return edges_of(rest);
+    }
+    if is_word(word, b"WAIT") {
+        return wait_of(rest);
+    }
+    if is_word(word, b"VERIFY") {
+        return verify_of(rest);
+    }
     Request::Malformed
+}
+
+fn edges_of(rest: &[u8]) -> Request<'_>
+    ensures { request result ≡ edges_at (name_and_number (words_of rest.now)) }
+{
+    match name_and_number(rest) {
+        Some((name, number)) => Request::Edges(name, number),
+        None => Request::Malformed,
+    }
+}
+
+fn verify_of(rest: &[u8]) -> Request<'_>
+    ensures { request result ≡ verify_at (name_and_number (words_of rest.now)) }
+{
+    match name_and_number(rest) {
+        Some((name, number)) => Request::Verify(name, number),
+        None => Request::Malformed,
+    }
+}
+
+/// The name and the number that are all that follows.
+fn name_and_number(rest: &[u8]) -> Option<(&[u8], i64)>
+    ensures { option_map (λ r. (r.0.now, r.1)) result ≡ name_and_number (words_of rest.now) }
+{
+    let (name, rest) = first_word(rest)?;
+    let (number, rest) = first_word(rest)?;
+    if first_word(rest).is_some() {
+        return None;
+    }
+    let number = number_of(number)?;
+    Some((name, number))
+}
+
+fn wait_of(rest: &[u8]) -> Request<'_>
+    ensures { request result ≡ wait_of (words_of rest.now) }
+{
+    match first_word(rest) {
+        Some((name, rest)) if first_word(rest).is_none() => Request::Wait(name),
+        _ => Request::Malformed,
+    }
 }
 
 fn is_word(word: &[u8], command: &[u8]) -> bool

@@ -1,7 +1,8 @@
 //! A session on its own, from the bytes of a script to the bytes of its replies.
 ghost use Rattle.std.specs.Prelude.{◌≡◌, ◌<◌, ◌∷◌, [], length, IfOk};
 ghost use Rattle.overlayd.specs.Replies.{error_line};
-ghost use Rattle.overlayd.specs.Session.{IsPlainSession, AnswersLine, TakesBytes, Finishes, EndsBy};
+ghost use Rattle.overlayd.specs.Session.{IsPlainSession};
+ghost use Rattle.overlayd.specs.Standing.{AnswersLine, TakesBytes, Finishes, EndsBy};
 
 use crate::answering::answer;
 use crate::book::Book;

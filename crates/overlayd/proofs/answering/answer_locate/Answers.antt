@@ -3,7 +3,7 @@ use Rattle.std.proofs.lemmas.Bool.{false≢true}
 use Rattle.std.proofs.lemmas.Int.{to_z-of_z}
 use Rattle.std.proofs.lemmas.Result.{err_from_is_err_and}
 use Rattle.layer_book.specs.Place.{location}
-use Rattle.overlayd.proofs.AnswerLemmas.{query_read, point_read, locate_out_of_range, locate_refused, locate_told}
+use Rattle.overlayd.proofs.AnswerLemmas.{query_read, point_read, locate_out_of_range, locate_refused, locate_told, unknown_stands}
 use Rattle.overlayd.proofs.answering.answer_locate.Goals as goal
 
 pub returns-in_err-query : goal.returns-in_err-query
@@ -23,7 +23,7 @@ returns-in_err-place c =
     let w = to_z-of_z w64 c.args.w c.ranges.w in
     let named = c.in_ok-name.ensures.ok in
     let query = query_read c.args.x c.args.y c.args.w _ _ _ x y w (c.in_ok-query.ensures.in_range.0 refl) in
-    rw (p.1, p.2) (locate_refused c.args.book.now c.args.name.now _ c.args.x c.args.y c.args.w _ named.0 named.1 query c.in_err-place.ensures.refused)
+    rw (p.1, p.2) (locate_refused c.args.book.now c.args.name.now _ c.args.x c.args.y c.args.w _ named.0 named.1 query (c.in_err-place.ensures.err, unknown_stands _ c.in_err-place.ensures.known.1))
 
 pub returns : goal.returns
 returns c =
@@ -35,4 +35,4 @@ returns c =
     let found = c.in_ok-place.ensures in
     let query = query_read c.args.x c.args.y c.args.w _ _ _ x y w (asked.in_range.0 refl) in
     let point = point_read c.args.x c.args.y c.args.w _ _ _ _ x y w asked.ok in
-    locate_told c.args.book.now c.args.name.now _ c.args.x c.args.y c.args.w _ (location c.in_ok-place.place) named.0 point named.1 query found.found found.ok
+    locate_told c.args.book.now c.args.name.now _ c.args.x c.args.y c.args.w _ (location c.in_ok-place.place) named.0 point named.1 query (found.known.0 refl) found.ok

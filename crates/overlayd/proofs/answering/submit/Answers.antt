@@ -12,5 +12,5 @@ returns-in_err-submit c =
 
 pub returns : goal.returns
 returns c =
-    let done = c.in_ok-submit.ensures in
-    λ before holds. submits_accepted c.args.book.now c.submit.new.self before _ _ holds done.accepted (done.number.1 ∙ done.number.0) done.layers (ap ok_line (sym done.number.1))
+    let done = c.in_ok-submit.ensures.ok in
+    λ before holds. submits_accepted c.args.book.now c.submit.new.self before _ _ holds done.0 (ap ok_line (sym done.1))

@@ -8,7 +8,7 @@ pub loop-taken-init : goal.loop-taken-init
 loop-taken-init g c = record {
   limited = omega arith;
   room = refl;
-  way = begins _ _ _ _ c.requires.empty c.new-book.ensures.number c.new-book.ensures.layers;
+  way = begins _ _ _ _ c.requires.empty c.new-book.ensures;
 }
 
 pub returns-in-Err : goal.returns-in-Err

@@ -1,0 +1,12 @@
+-- The tiles of the columns before this one are there, and only tiles were kept.
+use Rattle.std.specs.Prelude.{◌≡◌, ℕ, ◌<◌, None, IsTrue, is_some}
+use Rattle.overlay_terms.specs.Histories.{tile_at}
+use Rattle.overlayd.specs.Building.{BuildsUp, wait_refusal}
+use Rattle.overlayd.proofs.book.Book.build.Given as goal
+
+abbrev pub invariant-loop-column : goal.invariant-loop-column
+invariant-loop-column l = record {
+  builds : BuildsUp l.initial.self.version l.self.version;
+  free : wait_refusal l.self.version l.name ≡ None;
+  built : (k : ℕ) → k < l.column → IsTrue (is_some (tile_at l.self.version.tiles l.name k));
+}
