@@ -1,4 +1,8 @@
 //! Units of two base layers, worked by hand.
+ghost use Rattle.std.specs.Prelude.{All};
+ghost use Rattle.arrange.specs.Units.{IsUnit};
+
+use crate::finding_nodes::nodes_on;
 use crate::finding_units::units;
 use crate::tile_input::TileInput;
 use crate::unit::Unit;
@@ -8,7 +12,7 @@ use layer_expr::step_list::StepList;
 use plane_base::base_layer::{BaseLayer, Ring};
 use plane_base::column::Column;
 use plane_base::point::Pt;
-use std::alloc::Global;
+use std::alloc::{AllocError, Global};
 use std::process::Abort;
 use std::test::Fail;
 
@@ -50,22 +54,39 @@ fn layer_of(alloc: Global, rings: &[&[(i64, i64)]]) -> Result<BaseLayer, Fail> {
     Ok(BaseLayer::new(alloc, all)?)
 }
 
-/// The units of two base layers in a column.
-fn units_of(
+/// The input of a column over two base layers.
+fn input_of(
     rt: &impl Abort,
     alloc: Global,
     number: u64,
     first: &BaseLayer,
     second: &BaseLayer,
-) -> Result<Vec<Unit>, Fail> {
+) -> Result<TileInput, Fail> {
     let a = Name::new(alloc, b"A")?;
     let b = Name::new(alloc, b"B")?;
     let i = Name::new(alloc, b"I")?;
     let same = read_expr(alloc, b"A")?;
     let steps = StepList::of(alloc, &[(&a, None), (&b, None), (&i, Some(&same))])?;
     let column = Column::new(number).expect(rt, "a column");
-    let input = TileInput::of(alloc, column, &[first, second], steps)?;
-    Ok(units(alloc, &input)?)
+    Ok(TileInput::of(alloc, column, &[first, second], steps)?)
+}
+
+/// How many nodes the unit has whose ends are both at this height.
+fn nodes_at(
+    alloc: Global,
+    units: &[Unit],
+    input: &TileInput,
+    height: i64,
+) -> Result<usize, AllocError>
+    requires { All (λ u. IsUnit input.now.marked u.seg) units.now }
+{
+    let mut count = 0;
+    for unit in units {
+        if unit.seg.left().y() == height && unit.seg.right().y() == height {
+            count = nodes_on(alloc, unit, input)?.len();
+        }
+    }
+    Ok(count)
 }
 
 #[test]
@@ -73,11 +94,22 @@ fn units_end_at_the_ends_of_collinear_segments(rt: HostRuntime) -> Result<(), Fa
     for (first, second, number, want) in UNITS {
         let first = layer_of(rt.alloc(), first)?;
         let second = layer_of(rt.alloc(), second)?;
-        let found = units_of(&rt, rt.alloc(), *number, &first, &second)?;
+        let input = input_of(&rt, rt.alloc(), *number, &first, &second)?;
+        let found = units(rt.alloc(), &input)?;
         for (mask, count) in want.iter().enumerate() {
             let with_mask = found.iter().filter(|u| u.mask as usize == mask).count();
             assert_eq!(rt; with_mask, *count, "mask {mask} in {number}");
         }
     }
+    Ok(())
+}
+
+#[test]
+fn a_top_edge_that_is_crossed_once_has_three_nodes(rt: HostRuntime) -> Result<(), Fail> {
+    let first = layer_of(rt.alloc(), &[SQUARE])?;
+    let second = layer_of(rt.alloc(), &[SHIFTED])?;
+    let input = input_of(&rt, rt.alloc(), 8, &first, &second)?;
+    let found = units(rt.alloc(), &input)?;
+    assert_eq!(rt; nodes_at(rt.alloc(), &found, &input, 10)?, 3);
     Ok(())
 }

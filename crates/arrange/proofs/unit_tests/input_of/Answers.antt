@@ -5,7 +5,7 @@ use Rattle.layer_expr.specs.Grammar.{ReadsAs}
 use Rattle.layer_expr.specs.StepList.{IsOrdered}
 use Rattle.layer_expr.proofs.LawLemmas.{one_tree}
 use Rattle.layer_expr.proofs.SpellingLemmas.{reads_back}
-use Rattle.arrange.proofs.unit_tests.units_of.Goals as goal
+use Rattle.arrange.proofs.unit_tests.input_of.Goals as goal
 
 -- a name alone is read as its leaf
 name_alone : (t : Tree (List ℕ)) → ReadsAs (65 ∷ []) t → t ≡ leaf (65 ∷ [])
