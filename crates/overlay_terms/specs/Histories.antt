@@ -1,9 +1,11 @@
 -- Versions of the layers and their tiles, and histories of what was published.
-use Rattle.std.specs.Prelude.{◌≡◌, ℕ, ◌+◌, ◌==◌, ◌<◌, ◌≤◌, ◌&&◌, IsTrue, List, [], ◌∷◌, ◌++◌, length, filter_map, Option, Some, None, bytes_eq, if◌then◌else◌}
+use Rattle.std.specs.Prelude.{◌≡◌, ℕ, ◌+◌, ◌==◌, ◌<◌, ◌≤◌, nat_le, Bool, true, ◌&&◌, IsTrue, List, [], ◌∷◌, ◌++◌, length, filter_map, Option, Some, None, bytes_eq, if◌then◌else◌}
+use Rattle.std.specs.List.{list_all}
+use Rattle.std.specs.Ordering.{is_lt}
 use Rattle.overlay_terms.specs.Plane.{Point}
-use Rattle.overlay_terms.specs.Column.{column_count}
+use Rattle.overlay_terms.specs.Column.{column_count, is_in_column}
 use Rattle.overlay_terms.specs.Layers.{Name, Layer}
-use Rattle.overlay_terms.specs.Tiles.{IsTileOf, Input, input_of}
+use Rattle.overlay_terms.specs.Tiles.{IsTileOf, pair_cmp, Input, input_of}
 use Rattle.overlay_terms.specs.Commands.{Command, refusal_at, applied, is_touched, stands_as_derived}
 
 -- a finished tile: the ends of its pieces, or that it has too many
@@ -20,6 +22,21 @@ abbrev pub IsTileAt : ℕ → Input → Tile → Type 0
 IsTileAt cap input (pieces ends) = (length ends ≤ cap) × IsTileOf input.marked input.steps input.column ends
 IsTileAt cap input oversize =
     (ends : List (Point × Point)) × (cap < length ends) × IsTileOf input.marked input.steps input.column ends
+
+-- whether pieces stand behind one, each before the next: by the left end, then by the right end
+abbrev pub is_rising_from : Point × Point → List (Point × Point) → Bool
+is_rising_from a [] = true
+is_rising_from a (b ∷ bs) = is_lt (pair_cmp a b) && is_rising_from b bs
+
+-- whether each piece stands before the next
+abbrev pub is_rising : List (Point × Point) → Bool
+is_rising [] = true
+is_rising (a ∷ bs) = is_rising_from a bs
+
+-- whether a tile has the form of one of this column, right or not: few enough pieces, which begin in it and rise
+abbrev pub is_formed : Tile → ℕ → Bool
+is_formed (pieces ends) k = nat_le (length ends) pieces_max && list_all (λ e. is_in_column k e.0) ends && is_rising ends
+is_formed oversize k = true
 
 -- a tile under the name of its layer and its column
 pub record Finished : Type 0 where
