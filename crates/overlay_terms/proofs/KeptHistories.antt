@@ -29,7 +29,7 @@ are_right version fit exact name k tile e =
     record { derived_layer = (fit name k tile e).0; known_column = (fit name k tile e).1; exact = exact name k tile e }
 
 -- a command that is accepted at a version is accepted by its layers
-accepted_by_layers : (old : Version) (command : Command) → refusal_at old.number old.layers command ≡ None → refusal_of old.layers command ≡ None
+pub accepted_by_layers : (old : Version) (command : Command) → refusal_at old.number old.layers command ≡ None → refusal_of old.layers command ≡ None
 accepted_by_layers old command e = (no_reason (refusal_of old.layers command) (when (old.number == version_max) version_limit) e).first
 
 -- a tile after a command was there before it, and is untouched

@@ -32,3 +32,6 @@ pub mod KeptDerived
 pub mod KeptBounds
 pub mod KeptCommands
 pub mod KeptHistories
+pub mod BuildingLemmas
+pub mod FormLemmas
+pub mod HistoryFolds

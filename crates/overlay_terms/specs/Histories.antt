@@ -1,5 +1,5 @@
 -- Versions of the layers and their tiles, and histories of what was published.
-use Rattle.std.specs.Prelude.{◌≡◌, ℕ, ◌+◌, ◌==◌, ◌<◌, ◌≤◌, nat_le, Bool, true, ◌&&◌, IsTrue, List, [], ◌∷◌, ◌++◌, length, filter_map, Option, Some, None, bytes_eq, if◌then◌else◌}
+use Rattle.std.specs.Prelude.{◌≡◌, ◌⊎◌, ℕ, ◌+◌, ◌==◌, ◌<◌, ◌≤◌, nat_le, Bool, true, ◌&&◌, IsTrue, List, [], ◌∷◌, ◌++◌, length, map, filter_map, Option, Some, None, bytes_eq, if◌then◌else◌}
 use Rattle.std.specs.List.{list_all}
 use Rattle.std.specs.Ordering.{is_lt}
 use Rattle.overlay_terms.specs.Plane.{Point}
@@ -51,6 +51,10 @@ pub record Version : Type 0 where
   pub tiles : List Finished
   pub durable : ℕ
 
+-- the version before any command
+abbrev pub empty_version : Version
+empty_version = record { number = 0; layers = []; tiles = []; durable = 0 }
+
 -- the finished tile of a layer and column, if there is one
 abbrev pub tile_at : List Finished → Name → ℕ → Option Tile
 tile_at [] name column = None
@@ -89,6 +93,15 @@ pub record FollowsReport (old : Version) (number : ℕ) (new : Version) : Type 0
   pub layers : new.layers ≡ old.layers
   pub tiles : (name : Name) (k : ℕ) → tile_at new.tiles name k ≡ tile_at old.tiles name k
   pub durable : new.durable ≡ number
+
+-- a report that leaves the version as it is: its number is durable already, or is beyond the version's own
+pub record StaysAtReport (old : Version) (number : ℕ) (new : Version) : Type 0 where
+  pub no_news : (number ≤ old.durable) ⊎ (old.number < number)
+  pub same : new ≡ old
+
+-- what a report of a number makes of a version: the durable number rises, or nothing changes
+abbrev pub IsReported : Version → ℕ → Version → Type 0
+IsReported old number new = FollowsReport old number new ⊎ StaysAtReport old number new
 
 -- a version follows another by an event
 abbrev pub Follows : Version → Event → Version → Type 0
@@ -141,3 +154,24 @@ own_command session (durable_to number) = None
 -- the accepted commands of a session in some entries, in order
 abbrev pub commands_of : ℕ → List Entry → List Command
 commands_of session entries = filter_map (λ (entry : Entry). own_command session entry.event) entries
+
+-- the command of an event, with its session
+abbrev pub command_of : Event → Option (ℕ × Command)
+command_of (accepted session command) = Some (session, command)
+command_of (kept name column tile) = None
+command_of (durable_to number) = None
+
+-- the accepted commands of all sessions in some entries, in order
+abbrev pub commands_in : List Entry → List (ℕ × Command)
+commands_in entries = filter_map (λ (entry : Entry). command_of entry.event) entries
+
+-- the same without their sessions
+abbrev pub accepted_in : List Entry → List Command
+accepted_in entries = map (λ c. c.1) (commands_in entries)
+
+-- from one version to another by tiles that are kept, and by no command
+pub record BuildsUp (old new : Version) : Type 0 where
+  pub entries : List Entry
+  pub follow : AllFollow old entries
+  pub no_command : commands_in entries ≡ []
+  pub arrives : last_version old entries ≡ new

@@ -5,7 +5,7 @@ use Rattle.overlay_terms.specs.Layers.{Name, Layer}
 use Rattle.overlay_terms.specs.Tiles.{input_of}
 use Rattle.overlay_terms.specs.Orderly.{IsOrderly}
 use Rattle.overlay_terms.specs.Commands.{Command, refusal_of, applied, layers_max, is_touched, stands_as_derived}
-use Rattle.overlay_terms.specs.Histories.{Tile, pieces_max, IsTileAt, tile_at, Version, Event, Follows, History, IsHistory, newest}
+use Rattle.overlay_terms.specs.Histories.{Tile, Finished, pieces_max, IsTileAt, tile_at, Version, Event, Follows, History, IsHistory, newest}
 
 -- what a command does not touch: the input of the tile of a layer and column, and that the layer is derived
 pub record IsUntouched (before after : List Layer) (name : Name) (k : ℕ) : Type 0 where
@@ -18,15 +18,23 @@ UntouchedInputStays =
     (layers : List Layer) (command : Command) (name : Name) (k : ℕ) → IsOrderly layers → refusal_of layers command ≡ None →
     IsTrue (stands_as_derived layers name) → is_touched layers command name ≡ false → IsUntouched layers (applied layers command) name k
 
--- a tile is there only for a derived layer that stands, and a column that there is
-abbrev pub TilesFit : Version → Type 0
-TilesFit version =
-    (name : Name) (k : ℕ) (tile : Tile) → tile_at version.tiles name k ≡ Some tile → IsTrue (stands_as_derived version.layers name) × (k < column_count)
+-- tiles have their place among layers: each is of a derived layer that stands, and of a column that there is
+abbrev pub AreFitting : List Layer → List Finished → Type 0
+AreFitting layers tiles =
+    (name : Name) (k : ℕ) (tile : Tile) → tile_at tiles name k ≡ Some tile → IsTrue (stands_as_derived layers name) × (k < column_count)
 
--- each tile is that of the present input of its layer and column
+-- tiles are exact for layers: each is that of the present input of its layer and column
+abbrev pub AreExact : List Layer → List Finished → Type 0
+AreExact layers tiles =
+    (name : Name) (k : ℕ) (tile : Tile) → tile_at tiles name k ≡ Some tile → IsTileAt pieces_max (input_of layers name k) tile
+
+-- the tiles of a version have their place among its layers
+abbrev pub TilesFit : Version → Type 0
+TilesFit version = AreFitting version.layers version.tiles
+
+-- the tiles of a version are exact for its layers
 abbrev pub TilesAreExact : Version → Type 0
-TilesAreExact version =
-    (name : Name) (k : ℕ) (tile : Tile) → tile_at version.tiles name k ≡ Some tile → IsTileAt pieces_max (input_of version.layers name k) tile
+TilesAreExact version = AreExact version.layers version.tiles
 
 -- what is published leaves exact tiles exact
 abbrev pub ExactnessStays : Type 0

@@ -15,3 +15,4 @@ pub mod Laws
 pub mod InputLaws
 pub mod KeptLaws
 pub mod LayerParity
+pub mod HistoryLaws

@@ -6,7 +6,7 @@ use Rattle.std.specs.Result.{is_err}
 use Rattle.std.specs.Io.KnownBytes.{Appends, Consumes, Keeps, IsAtEnd}
 use Rattle.std.proofs.KnownBytes.{Appends-nil, Appends-trans, Consumes-nil, Consumes-trans, Consumes-kept}
 use Rattle.overlay_terms.specs.KeptLaws.{IsExact}
-use Rattle.version_core.specs.Version.{empty_version}
+use Rattle.overlay_terms.specs.Histories.{empty_version}
 use Rattle.overlayd.specs.declared.book.Book.{Book}
 use Rattle.overlayd.specs.declared.session_end.SessionEnd.{SessionEnd}
 use Rattle.overlayd.specs.declared.session_end.SessionEnd.TheVariants.{End, Failed}

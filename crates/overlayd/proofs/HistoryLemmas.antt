@@ -3,8 +3,7 @@ use Rattle.std.proofs.Common.{Option, Some, None, ◌≡◌, ℕ, List, [], ◌�
 use Rattle.std.proofs.lemmas.List.{append-nil}
 use Rattle.std.proofs.lemmas.Option.{none-some}
 use Rattle.overlay_terms.specs.Commands.{Command}
-use Rattle.version_core.specs.Version.{empty_version}
-use Rattle.overlay_terms.specs.Histories.{Version, Tile, accepted, Entry, History, newest, last_version, AllFollow, Follows, FollowsCommand}
+use Rattle.overlay_terms.specs.Histories.{Version, Tile, accepted, Entry, History, newest, last_version, AllFollow, Follows, FollowsCommand, empty_version, commands_in, BuildsUp}
 use Rattle.overlay_terms.specs.KeptLaws.{IsExact}
 use Rattle.overlay_terms.proofs.KeptHistories.{history_is_exact}
 use Rattle.overlayd.specs.declared.book.Book.{Book}
@@ -12,10 +11,8 @@ use Rattle.overlayd.specs.declared.fault.CommandFault.{CommandFault}
 use Rattle.overlayd.specs.declared.fault.CommandFault.TheVariants.{OutOfMemory}
 use Rattle.overlayd.specs.Replies.{ok_line, error_line}
 use Rattle.overlayd.specs.Requests.{Request}
-use Rattle.overlayd.specs.Made.{commands_in}
 use Rattle.overlayd.specs.Standing.{Holds}
 use Rattle.overlayd.specs.Transcript.{IsRefused, IsSubmitted, IsAcceptedBy, IsAnswered}
-use Rattle.overlayd.specs.Building.{BuildsUp}
 use Rattle.overlayd.specs.Answering.{GoesOnWith, AnswersIn, SubmitsIn}
 
 last_version-append : (version : Version) (entries more : List Entry) → last_version version (entries ++ more) ≡ last_version (last_version version entries) more

@@ -12,7 +12,7 @@ use Rattle.overlayd.specs.declared.reply.Reply.TheVariants.{Nothing, Accepted, L
 use Rattle.overlayd.specs.Requests.{Request, nothing, too_long, malformed, put, define, remove, locate, list_layers, edges, wait, verify, request_of}
 use Rattle.overlayd.specs.Replies.{ok_line, error_line}
 use Rattle.overlayd.specs.Reply.{reply_text, IsTextOf}
-use Rattle.overlayd.specs.Building.{wait_refusal}
+use Rattle.version_core.specs.Building.{wait_refusal}
 use Rattle.overlayd.specs.Transcript.{IsRefused, IsAnswered, IsSubmitted, Asked, asked_column}
 use Rattle.overlayd.specs.Standing.{GoesOnIn, TakesTurn}
 

@@ -3,11 +3,10 @@ use Rattle.std.proofs.Common.{◌≡◌, ℕ, ◌⊎◌, List, [], ◌∷◌, �
 use Rattle.std.proofs.lemmas.List.{map-append}
 use Rattle.std.proofs.lemmas.List.Elements.{filter_map-append}
 use Rattle.overlay_terms.specs.Commands.{Command}
-use Rattle.overlay_terms.specs.Histories.{Version, Entry, History, AllFollow, IsHistory, last_version}
+use Rattle.overlay_terms.specs.Histories.{Version, Entry, History, AllFollow, IsHistory, last_version, command_of, commands_in}
 use Rattle.overlayd.specs.declared.book.Book.{Book}
 use Rattle.overlayd.specs.declared.fault.CommandFault.TheVariants.{OutOfMemory}
 use Rattle.overlayd.specs.Requests.{Request, request_of}
-use Rattle.overlayd.specs.Made.{command_of, commands_in}
 use Rattle.overlayd.specs.Transcript.{IsRefused, IsAnswered, IsTurn, IsTranscript}
 use Rattle.overlayd.specs.Session.{IsOwnRun}
 use Rattle.overlayd.specs.Standing.{Holds, GoesOnIn, TakesTurn}

@@ -2,7 +2,7 @@
 use Rattle.std.proofs.Common.{◌↔◌, ◌≡◌, ℕ, ℤ, IsTrue, List, [], Option, Some, None, refl, sym, ap, subst, ◌∙◌, ◌⊎◌, inl, inr}
 use Rattle.overlay_terms.specs.Commands.{Command}
 use Rattle.overlay_terms.specs.Histories as versions
-use Rattle.overlay_terms.specs.Histories.{History, newest}
+use Rattle.overlay_terms.specs.Histories.{History, newest, BuildsUp}
 use Rattle.layer_expr.specs.Name.{is_name}
 use Rattle.layer_book.specs.declared.fault.LayerFault.TheVariants as layer_fault
 use Rattle.version_core.specs.declared.fault.VersionFault.{VersionFault}
@@ -15,7 +15,7 @@ use Rattle.overlayd.specs.declared.fault.CommandFault.{CommandFault}
 use Rattle.overlayd.specs.declared.fault.CommandFault.TheVariants.{Version, OutOfMemory}
 use Rattle.overlayd.specs.Replies.{error_line, built_line, verdict_line}
 use Rattle.overlayd.specs.Requests.{Request, edges, wait, verify}
-use Rattle.overlayd.specs.Building.{BuildsUp, IsBuilt, wait_refusal}
+use Rattle.version_core.specs.Building.{IsBuilt, wait_refusal}
 use Rattle.overlayd.specs.Reading.{IsMemory, IsNoName}
 use Rattle.overlayd.specs.Standing.{Holds}
 use Rattle.overlayd.specs.Transcript.{IsRefused, IsAnswered, Asked, asked_column, IsEdgesTold, IsVerdictTold, IsBuiltTold}

@@ -1,8 +1,7 @@
 -- What a request, and a command, make of the book: told for each history whose newest version the book holds.
 use Rattle.std.specs.Prelude.{◌≡◌, ℕ, ◌⊎◌, List, map, Result, Ok, Err}
 use Rattle.overlay_terms.specs.Commands.{Command}
-use Rattle.overlay_terms.specs.Histories.{Entry, History, GoesOnBy, AllFollow, newest}
-use Rattle.overlayd.specs.Made.{commands_in}
+use Rattle.overlay_terms.specs.Histories.{Entry, History, GoesOnBy, AllFollow, newest, commands_in}
 use Rattle.overlayd.specs.declared.book.Book.{Book}
 use Rattle.overlayd.specs.declared.fault.CommandFault.{CommandFault}
 use Rattle.overlayd.specs.declared.fault.CommandFault.TheVariants.{OutOfMemory}

@@ -6,9 +6,7 @@ pub mod Replies
 pub mod Writing
 pub mod Reply
 pub mod Transcript
-pub mod Made
 pub mod Session
-pub mod Building
 pub mod Standing
 pub mod Reading
 pub mod Answering

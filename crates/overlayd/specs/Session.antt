@@ -2,15 +2,13 @@
 use Rattle.std.specs.Prelude.{◌≡◌, ℕ, ◌+◌, ◌≤◌, ◌⊎◌, List, [], ◌++◌, map, take, length, Option}
 use Rattle.std.specs.Io.KnownBytes.{Appends, Consumes, IsAtEnd}
 use Rattle.overlay_terms.specs.Commands.{Command}
-use Rattle.overlay_terms.specs.Histories.{Entry, History, IsHistory}
-use Rattle.version_core.specs.Version.{empty_version}
+use Rattle.overlay_terms.specs.Histories.{Entry, History, IsHistory, empty_version, commands_in}
 use Rattle.overlayd.specs.declared.fault.CommandFault.TheVariants.{ReadLimit, Read}
 use Rattle.overlayd.specs.declared.session_end.SessionEnd.{SessionEnd}
 use Rattle.overlayd.specs.declared.session_end.SessionEnd.TheVariants.{End, Failed}
 use Rattle.overlayd.specs.Lines.{script_max, ended_lines, whole_lines}
 use Rattle.overlayd.specs.Replies.{error_line}
 use Rattle.overlayd.specs.Writing.{IsCutShort}
-use Rattle.overlayd.specs.Made.{commands_in}
 use Rattle.overlayd.specs.Transcript.{IsTranscript}
 
 abbrev pub first_history : History

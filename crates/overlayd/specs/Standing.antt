@@ -2,7 +2,7 @@
 use Rattle.std.specs.Prelude.{◌≡◌, ℕ, ◌⊎◌, List, ◌++◌, map, take, Option, Result, MatchResult}
 use Rattle.std.specs.Io.KnownBytes.{Appends}
 use Rattle.overlay_terms.specs.Commands.{Command}
-use Rattle.overlay_terms.specs.Histories.{Version, Entry, History, GoesOnBy, AllFollow, newest}
+use Rattle.overlay_terms.specs.Histories.{Version, Entry, History, GoesOnBy, AllFollow, newest, commands_in}
 use Rattle.overlay_terms.specs.KeptLaws.{IsExact}
 use Rattle.overlayd.specs.declared.session_end.SessionEnd.{SessionEnd}
 use Rattle.overlayd.specs.declared.session_end.SessionEnd.TheVariants.{End, Failed}
@@ -10,7 +10,6 @@ use Rattle.overlayd.specs.declared.book.Book.{Book}
 use Rattle.overlayd.specs.Lines.{line_room, ended_lines, unended, whole_lines}
 use Rattle.overlayd.specs.Writing.{IsCutShort, Writes}
 use Rattle.overlayd.specs.Transcript.{IsTurn}
-use Rattle.overlayd.specs.Made.{commands_in}
 use Rattle.overlayd.specs.Session.{IsOwnRun, IsCutOff}
 
 -- a book holds the newest version of a history, whose finished tiles are right

@@ -28,7 +28,7 @@ use Rattle.overlayd.specs.declared.fault.CommandFault.{CommandFault}
 use Rattle.overlayd.specs.declared.fault.CommandFault.TheVariants.{Wkt, Expression, Query, Version, CommandSyntax, LineTooLong, OutOfMemory}
 use Rattle.overlayd.specs.Requests.{Request, nothing, too_long, malformed, put, define, remove, locate, list_layers, edges, wait, verify, request_of}
 use Rattle.overlayd.specs.Replies.{ok_line, error_line, location_line, built_line, verdict_line}
-use Rattle.overlayd.specs.Building.{IsBuilt, wait_refusal}
+use Rattle.version_core.specs.Building.{IsBuilt, wait_refusal}
 
 -- a refused line: nothing is made, and the reply is the fault
 pub record IsRefused (fault : CommandFault) (made : List Command) (reply : List ℕ) : Type 0 where

@@ -1,14 +1,13 @@
 //! The version that a session has come to.
 ghost use Rattle.std.specs.Prelude.{◌≡◌, ◌⊎◌, Some, None, IfOk, IfErr, OnOk, OnErr, ℕ, IsTrue, is_some};
 ghost use Rattle.overlay_terms.specs.Commands.{refusal_at, stands_as_derived};
-ghost use Rattle.overlay_terms.specs.Histories.{tile_at, FollowsCommand};
+ghost use Rattle.overlay_terms.specs.Histories.{tile_at, FollowsCommand, empty_version, BuildsUp};
 ghost use Rattle.layer_book.specs.Command.{command};
 ghost use Rattle.layer_book.specs.TileRefusal.{tile_refusal};
 ghost use Rattle.layer_book.specs.declared.fault.LayerFault.TheVariants.{OutOfMemory};
-ghost use Rattle.version_core.specs.Version.{empty_version};
 ghost use Rattle.version_core.specs.Fault.{ReportsAt};
 ghost use Rattle.version_core.specs.declared.fault.VersionFault.TheVariants.{Layer};
-ghost use Rattle.overlayd.specs.Building.{BuildsUp, IsBuilt, wait_refusal};
+ghost use Rattle.version_core.specs.Building.{IsBuilt, wait_refusal};
 
 use layer_book::command::Command;
 use layer_book::fault::LayerFault;

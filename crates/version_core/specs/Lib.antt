@@ -4,6 +4,7 @@ pub mod VersionCode
 pub mod Version
 pub mod Finish
 pub mod Pending
+pub mod Building
 pub mod Edges
 pub mod Verdict
 pub mod Locating

@@ -1,14 +1,10 @@
 -- What is true of every version.
-use Rattle.std.specs.Prelude.{◌≤◌, [], List}
+use Rattle.std.specs.Prelude.{◌≤◌}
 use Rattle.overlay_terms.specs.Commands.{version_max}
 use Rattle.overlay_terms.specs.Histories.{Version}
 use Rattle.overlay_terms.specs.KeptLaws.{TilesFit}
 use Rattle.layer_book.specs.Layer.{IsBook}
 use Rattle.version_core.specs.Tiles.{AreDistinct}
-
--- the version before any command
-abbrev pub empty_version : Version
-empty_version = record { number = 0; layers = []; tiles = []; durable = 0 }
 
 -- a number that a version may have, layers as commands leave them, and tiles of derived layers that stand, each once
 pub record IsVersion (version : Version) : Type 0 where

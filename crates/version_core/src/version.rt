@@ -2,9 +2,9 @@
 ghost use Rattle.std.specs.Prelude.{◌≡◌, ◌≤◌};
 ghost use Rattle.std.specs.Option.{option_map};
 ghost use Rattle.overlay_terms.specs.Commands.{version_max};
-ghost use Rattle.overlay_terms.specs.Histories.{tile_at};
+ghost use Rattle.overlay_terms.specs.Histories.{empty_version, tile_at};
 ghost use Rattle.tile_build.specs.Tile.{tile_of};
-ghost use Rattle.version_core.specs.Version.{empty_version, IsVersion};
+ghost use Rattle.version_core.specs.Version.{IsVersion};
 
 use crate::tiles::{FinishedTile, tile_among};
 use layer_book::layers::Layers;

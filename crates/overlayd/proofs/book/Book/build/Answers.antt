@@ -1,4 +1,5 @@
-use Rattle.overlayd.proofs.BuildLemmas.{builds_trans, derived_layer, same_refusal, built_more}
+use Rattle.overlay_terms.proofs.BuildingLemmas.{builds_trans}
+use Rattle.overlayd.proofs.BuildLemmas.{derived_layer, same_refusal, built_more}
 use Rattle.overlayd.proofs.book.Book.build.Goals as goal
 
 pub build_tile-requires-clause-derived : goal.build_tile-requires-clause-derived

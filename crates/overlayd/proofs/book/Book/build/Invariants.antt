@@ -1,7 +1,7 @@
 -- The tiles of the columns before this one are there, and only tiles were kept.
 use Rattle.std.specs.Prelude.{◌≡◌, ℕ, ◌<◌, None, IsTrue, is_some}
-use Rattle.overlay_terms.specs.Histories.{tile_at}
-use Rattle.overlayd.specs.Building.{BuildsUp, wait_refusal}
+use Rattle.overlay_terms.specs.Histories.{tile_at, BuildsUp}
+use Rattle.version_core.specs.Building.{wait_refusal}
 use Rattle.overlayd.proofs.book.Book.build.Given as goal
 
 abbrev pub invariant-loop-column : goal.invariant-loop-column
