@@ -1,5 +1,5 @@
 -- The layers in reach of a derived layer: they are orderly, it is the last of them, and they are the wanted ones.
-use Rattle.std.proofs.Common.{◌≡◌, ℕ, zero, suc, ◌≤◌, Bool, true, false, cond, ◌||◌, ◌&&◌, List, [], ◌∷◌, ◌++◌, length, map, slice_get, Some, is_some, refl, ap, sym, ◌∙◌, arith, bytes_eq}
+use Rattle.std.proofs.Common.{◌≡◌, Bool, true, false, cond, ◌||◌, ◌&&◌, List, [], ◌∷◌, ◌++◌, map, is_some, refl, ap, sym, ◌∙◌, bytes_eq}
 use Rattle.std.specs.List.{list_all, AllByRecursion}
 use Rattle.std.proofs.lemmas.Bool.{false≢true, and_parts, and_from, and_left}
 use Rattle.overlay_terms.specs.Trees.{last_or}
@@ -12,8 +12,6 @@ use Rattle.overlay_terms.proofs.TableLemmas.{or_second}
 use Rattle.overlay_terms.proofs.ReachLemmas.{is_reached, AreReachRows, IsBounded, bounded_push, none_behind}
 use Rattle.overlay_terms.proofs.DefinitionLemmas.{passing, passing_yes, passing_no}
 use Rattle.layer_expr.specs.StepList.{reached_of}
-use Rattle.layer_book.specs.Question.{at_place}
-use Rattle.layer_book.specs.Reaching.{chosen}
 
 one_more : (a b t : Bool) → (b ≡ true → t ≡ true) → ((a && t) || b) ≡ ((a || b) && t)
 one_more true true t h = ap (λ c. c || true) (h refl) ∙ sym (h refl)
@@ -77,16 +75,6 @@ module _ (test : Name → Bool) where
   passing_orderly (layer ∷ layers) kept known same orderly uses =
       orderly_first kept known layer layers (test layer.name) refl same (orderly_splits known layer layers orderly) uses.0
       (λ after now. passing_orderly layers after (known ++ layer.name ∷ []) now (orderly_splits known layer layers orderly).rest uses.1)
-
--- the layers at marked places are those that pass, where the marks say so
-pub chosen_is : (test : Name → Bool) (ws : List Bool) (layers : List Layer) → length layers ≤ length ws → ((i : ℕ) (layer : Layer) → slice_get layers i ≡ Some layer → at_place ws i ≡ test layer.name) → chosen ws layers ≡ passing test layers
-chosen_is test [] [] room same = refl
-chosen_is test [] (layer ∷ layers) room same = absurd (omega arith)
-chosen_is test (w ∷ ws) [] room same = refl
-chosen_is test (w ∷ ws) (layer ∷ layers) room same =
-    let rest : chosen ws layers ≡ passing test layers = chosen_is test ws layers (omega arith) (λ i other e. same (suc i) other e) in
-    let first : w ≡ test layer.name = same zero layer refl in
-    ap (λ b. cond b (layer ∷ chosen ws layers) (chosen ws layers)) first ∙ ap (λ ls. cond (test layer.name) (layer ∷ ls) ls) rest
 
 -- whether the last of some layers is derived
 abbrev pub ends_derived : Bool → List Layer → Bool

@@ -12,78 +12,67 @@ use Rattle.arrange.specs.Marked.{kept_in}
 use Rattle.layer_expr.specs.StepList.{Reached, reached_of, numbered_steps, IsOrdered, ReachesAll}
 use Rattle.layer_expr.proofs.ReachedLayers.{numbered_are_in_reach, is_ordered_after-reached}
 use Rattle.layer_book.specs.Layer.{IsBook}
-use Rattle.layer_book.specs.Question.{is_wanted, IsClosed}
-use Rattle.layer_book.specs.Reaching.{chosen, InReachAlone}
-use Rattle.layer_book.proofs.Chosen.{rings_of}
-use Rattle.layer_book.proofs.Reaching.{reach_rows, reached, itself, uses_reached, exactly}
-use Rattle.layer_book.proofs.InReach.{passing_orderly, chosen_is, ends_all}
+use Rattle.layer_book.specs.Question.{marked_layers}
+use Rattle.layer_book.proofs.MarkedLayers.{rings_of}
+use Rattle.layer_book.proofs.MarkedReach.{reach_rows, in_reach, reaches_itself, uses_in_reach}
+use Rattle.layer_book.proofs.InReach.{passing_orderly, ends_all}
 
--- no more are chosen than there are
-chosen_few : (ws : List Bool) (layers : List Layer) → length (chosen ws layers) ≤ length layers
-chosen_few [] layers = omega arith
-chosen_few (w ∷ ws) [] = omega arith
-chosen_few (true ∷ ws) (layer ∷ layers) = omega (arith, chosen_few ws layers)
-chosen_few (false ∷ ws) (layer ∷ layers) = omega (arith, chosen_few ws layers)
+-- no more are marked than there are
+marked_few : (ws : List Bool) (layers : List Layer) → length (marked_layers ws layers) ≤ length layers
+marked_few [] layers = omega arith
+marked_few (w ∷ ws) [] = omega arith
+marked_few (true ∷ ws) (layer ∷ layers) = omega (arith, marked_few ws layers)
+marked_few (false ∷ ws) (layer ∷ layers) = omega (arith, marked_few ws layers)
 
 -- the marks of a derived layer
 pub record IsMarked (layers : List Layer) (name : Name) (ws : List Bool) : Type 0 where
   pub book : IsBook layers
-  pub room : length ws ≡ 32
   pub is_derived : stands_as_derived layers name ≡ true
-  pub asked : is_wanted layers ws name ≡ true
-  pub closed : IsClosed layers ws
-  pub only : InReachAlone layers ws name
-
--- the marked layers are those in reach
-chosen_in_reach : (layers : List Layer) (name : Name) (ws : List Bool) → IsMarked layers name ws → chosen ws layers ≡ layers_in_reach layers name
-chosen_in_reach layers name ws m =
-    let standing = derived_stands layers name m.is_derived in
-    chosen_is (reached layers name m.book.orderly standing) ws layers (omega (arith, m.room, m.book.few))
-    (λ i layer e. exactly layers name m.book.orderly standing ws m.asked m.closed m.only i layer e)
+  pub exactly : marked_layers ws layers ≡ layers_in_reach layers name
 
 -- they are not too many
-pub few_marked : {X : Type 0} (f : X → Reached) (layers : List Layer) (name : Name) (ws : List Bool) (lent : List X) → IsMarked layers name ws → map f lent ≡ map reached_of (chosen ws layers) → length lent ≤ 32
+pub few_marked : {X : Type 0} (f : X → Reached) (layers : List Layer) (name : Name) (ws : List Bool) (lent : List X) → IsMarked layers name ws → map f lent ≡ map reached_of (marked_layers ws layers) → length lent ≤ 32
 few_marked f layers name ws lent m e =
-    let count : length lent ≡ length (chosen ws layers) = sym (length-map lent f) ∙ ap length e ∙ length-map (chosen ws layers) reached_of in
-    omega (arith, count, chosen_few ws layers, m.book.few)
+    let count : length lent ≡ length (marked_layers ws layers) = sym (length-map lent f) ∙ ap length e ∙ length-map (marked_layers ws layers) reached_of in
+    omega (arith, count, marked_few ws layers, m.book.few)
 
 -- they are in order
-pub ordered_marked : (layers : List Layer) (name : Name) (ws : List Bool) (lent : List Reached) → IsMarked layers name ws → lent ≡ map reached_of (chosen ws layers) → IsOrdered lent
+pub ordered_marked : (layers : List Layer) (name : Name) (ws : List Bool) (lent : List Reached) → IsMarked layers name ws → lent ≡ map reached_of (marked_layers ws layers) → IsOrdered lent
 ordered_marked layers name ws lent m e =
     let standing = derived_stands layers name m.is_derived in
-    subst IsOrdered (sym (e ∙ ap (map reached_of) (chosen_in_reach layers name ws m)))
-    (is_ordered_after-reached [] (layers_in_reach layers name) ∙ passing_orderly (reached layers name m.book.orderly standing) layers [] [] (λ n. refl) m.book.orderly (uses_reached layers name m.book.orderly standing))
+    subst IsOrdered (sym (e ∙ ap (map reached_of) m.exactly))
+    (is_ordered_after-reached [] (layers_in_reach layers name) ∙ passing_orderly (in_reach layers name) layers [] [] (λ n. refl) m.book.orderly (uses_in_reach layers name m.book.orderly standing))
 
 -- the last is derived
-pub last_marked : (layers : List Layer) (name : Name) (ws : List Bool) (lent : List Reached) → IsMarked layers name ws → lent ≡ map reached_of (chosen ws layers) → ReachesAll lent
+pub last_marked : (layers : List Layer) (name : Name) (ws : List Bool) (lent : List Reached) → IsMarked layers name ws → lent ≡ map reached_of (marked_layers ws layers) → ReachesAll lent
 last_marked layers name ws lent m e =
     let orderly = m.book.orderly in
     let standing = derived_stands layers name m.is_derived in
-    subst ReachesAll (sym (e ∙ ap (map reached_of) (chosen_in_reach layers name ws m)))
-    (or_left _ _ (ends_all (reaches layers) name layers [] orderly (reach_rows layers name orderly standing) (λ n k. absurd (false≢true k)) (itself layers name orderly standing) m.is_derived false))
+    subst ReachesAll (sym (e ∙ ap (map reached_of) m.exactly))
+    (or_left _ _ (ends_all (reaches layers) name layers [] orderly (reach_rows layers orderly) (λ n k. absurd (false≢true k)) (reaches_itself layers name orderly standing) m.is_derived false))
 
 -- their steps are those in reach
-steps_marked : (layers : List Layer) (name : Name) (ws : List Bool) (lent : List Reached) (steps : Steps) → IsMarked layers name ws → lent ≡ map reached_of (chosen ws layers) → steps ≡ numbered_steps lent → steps ≡ steps_in_reach layers name
+steps_marked : (layers : List Layer) (name : Name) (ws : List Bool) (lent : List Reached) (steps : Steps) → IsMarked layers name ws → lent ≡ map reached_of (marked_layers ws layers) → steps ≡ numbered_steps lent → steps ≡ steps_in_reach layers name
 steps_marked layers name ws lent steps m e made =
-    made ∙ ap numbered_steps (e ∙ ap (map reached_of) (chosen_in_reach layers name ws m)) ∙ numbered_are_in_reach layers name
+    made ∙ ap numbered_steps (e ∙ ap (map reached_of) m.exactly) ∙ numbered_are_in_reach layers name
 
 -- as many base layers are in reach as the steps know
-pub bases_counted : {X : Type 0} (f : X → List (List WholePoint)) (layers : List Layer) (name : Name) (ws : List Bool) (bases : List X) (lent : List Reached) (steps : Steps) → IsMarked layers name ws → map f bases ≡ rings_of (chosen ws layers) → lent ≡ map reached_of (chosen ws layers) → steps ≡ numbered_steps lent → length bases ≡ steps.bases
+pub bases_counted : {X : Type 0} (f : X → List (List WholePoint)) (layers : List Layer) (name : Name) (ws : List Bool) (bases : List X) (lent : List Reached) (steps : Steps) → IsMarked layers name ws → map f bases ≡ rings_of (marked_layers ws layers) → lent ≡ map reached_of (marked_layers ws layers) → steps ≡ numbered_steps lent → length bases ≡ steps.bases
 bases_counted f layers name ws bases lent steps m b e made =
-    sym (length-map bases f) ∙ ap length (b ∙ ap rings_of (chosen_in_reach layers name ws m))
+    sym (length-map bases f) ∙ ap length (b ∙ ap rings_of m.exactly)
     ∙ length-map (filter_map base_of (layers_in_reach layers name)) (λ (b : Name × List (List WholePoint)). b.1)
     ∙ sym (ap (λ (s : Steps). s.bases) (steps_marked layers name ws lent steps m e made))
 
 -- the input is that of the layer and column
-pub input_is : (layers : List Layer) (name : Name) (ws : List Bool) (column : ℕ) (bases : List (List (List WholePoint))) (lent : List Reached) (steps : Steps) (input : Input) → IsMarked layers name ws → bases ≡ rings_of (chosen ws layers) → lent ≡ map reached_of (chosen ws layers) → steps ≡ numbered_steps lent →
+pub input_is : (layers : List Layer) (name : Name) (ws : List Bool) (column : ℕ) (bases : List (List (List WholePoint))) (lent : List Reached) (steps : Steps) (input : Input) → IsMarked layers name ws → bases ≡ rings_of (marked_layers ws layers) → lent ≡ map reached_of (marked_layers ws layers) → steps ≡ numbered_steps lent →
     input ≡ record { column = column; marked = kept_in column (marked_segments bases); steps = steps } → input ≡ input_of layers name column
 input_is layers name ws column bases lent steps input m b e made is =
-    let rings = b ∙ ap rings_of (chosen_in_reach layers name ws m) in
+    let rings = b ∙ ap rings_of m.exactly in
     let numbered = steps_marked layers name ws lent steps m e made in
     is ∙ (λ i. record { column = column; marked = kept_in column (marked_segments (rings i)); steps = numbered i })
 
 -- the same of a result
-pub input_ok : {E : Type 0} (layers : List Layer) (name : Name) (ws : List Bool) (column : ℕ) (bases : List (List (List WholePoint))) (lent : List Reached) (steps : Steps) (result : Result Input E) → IsMarked layers name ws → bases ≡ rings_of (chosen ws layers) → lent ≡ map reached_of (chosen ws layers) → steps ≡ numbered_steps lent →
+pub input_ok : {E : Type 0} (layers : List Layer) (name : Name) (ws : List Bool) (column : ℕ) (bases : List (List (List WholePoint))) (lent : List Reached) (steps : Steps) (result : Result Input E) → IsMarked layers name ws → bases ≡ rings_of (marked_layers ws layers) → lent ≡ map reached_of (marked_layers ws layers) → steps ≡ numbered_steps lent →
     IfOk result (λ input. input ≡ record { column = column; marked = kept_in column (marked_segments bases); steps = steps }) → IfOk result (λ input. input ≡ input_of layers name column)
 input_ok layers name ws column bases lent steps (Ok input) m b e made is = input_is layers name ws column bases lent steps input m b e made is
 input_ok layers name ws column bases lent steps (Err fault) m b e made is = tt

@@ -11,7 +11,6 @@ pub mod Closing
 pub mod Lines
 pub mod MarkedReach
 pub mod OverNames
-pub mod Chosen
-pub mod Reaching
+pub mod MarkedLayers
 pub mod InReach
 pub mod InputReach

@@ -1,14 +1,14 @@
 -- The marks of a layer are those of the layers that it reaches.
-use Rattle.std.proofs.Common.{◌≡◌, ℕ, zero, suc, ◌⊎◌, inl, inr, ◌+◌, ◌<◌, ◌≤◌, Bool, true, false, cond, ◌||◌, ◌&&◌, List, [], ◌∷◌, ◌++◌, length, replicate, slice_get, slice_set, flat_map, Some, refl, ap, sym, ◌∙◌, subst, ⊎_elim, arith, add-one, bytes_eq}
+use Rattle.std.proofs.Common.{◌≡◌, ℕ, zero, suc, ◌⊎◌, inl, inr, ◌+◌, ◌<◌, ◌≤◌, Bool, true, false, cond, List, [], ◌∷◌, ◌++◌, length, replicate, slice_get, slice_set, flat_map, Some, refl, ap, sym, ◌∙◌, subst, ⊎_elim, arith, add-one, bytes_eq}
 use Rattle.std.specs.List.{list_any, list_all, AllByRecursion}
 use Rattle.std.specs.Cmp.{both_ways}
 use Rattle.std.specs.Option.{option_map_or}
-use Rattle.std.proofs.lemmas.Bool.{and_parts, or_cases, or_left, or_right, false≢true}
+use Rattle.std.proofs.lemmas.Bool.{and_parts, or_cases, false≢true}
 use Rattle.overlay_terms.specs.Trees.{leaves}
 use Rattle.overlay_terms.specs.Layers.{Name, Content, base, derived, Layer, named, content_reach, reaches, layers_in_reach}
 use Rattle.overlay_terms.specs.Orderly.{used_names, is_among, is_orderly_after}
 use Rattle.overlay_terms.specs.Commands.{place_of, stands}
-use Rattle.overlay_terms.proofs.NameLemmas.{same_name, name_itself, or_false, is_among-push}
+use Rattle.overlay_terms.proofs.NameLemmas.{same_name, or_false}
 use Rattle.overlay_terms.proofs.OrderlyLemmas.{orderly_splits, is_known, is_known-cons}
 use Rattle.overlay_terms.proofs.TableLemmas.{rows_fixed}
 use Rattle.overlay_terms.proofs.DefinitionLemmas.{passing}

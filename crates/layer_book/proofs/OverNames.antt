@@ -1,11 +1,11 @@
 -- Which derived layers reach a name.
-use Rattle.std.proofs.Common.{◌≡◌, ℕ, ◌+◌, Bool, true, false, cond, ◌||◌, ◌&&◌, List, [], ◌∷◌, ◌++◌, map, filter, refl, ap, sym, ◌∙◌, subst, add-one, bytes_eq}
+use Rattle.std.proofs.Common.{◌≡◌, ◌+◌, Bool, true, false, cond, ◌||◌, ◌&&◌, List, [], ◌∷◌, ◌++◌, map, filter, refl, ap, sym, ◌∙◌, subst, add-one, bytes_eq}
 use Rattle.std.specs.List.{list_any}
 use Rattle.overlay_terms.specs.Layers.{Name, Layer, layers_in_reach}
 use Rattle.overlay_terms.specs.Orderly.{is_orderly_after}
 use Rattle.overlay_terms.specs.Commands.{is_derived, place_of, stands, stands_as_derived, reaches_name, derived_over}
 use Rattle.layer_book.specs.Question.{at_place, is_wanted, marked_layers}
-use Rattle.layer_book.proofs.Names.{same_name, own_name, turned}
+use Rattle.layer_book.proofs.Names.{same_name, turned}
 use Rattle.layer_book.proofs.Order.{head_of, apart}
 
 and_false : (b : Bool) → (b && false) ≡ false

@@ -1,5 +1,5 @@
 -- The faults of the layers: their numbers and texts, and those that stand for the refusals of commands.
-use Rattle.std.specs.Prelude.{◌≡◌, ℕ, List, codes, Option, Some, None}
+use Rattle.std.specs.Prelude.{◌≡◌, ◌⊎◌, ℕ, List, codes, Option, Some, None}
 use Rattle.overlay_terms.specs.Commands.{Refusal, unknown_layer, not_base, not_derived, later_layer, in_use, too_many_layers, version_limit}
 use Rattle.layer_book.specs.declared.fault.LayerFault.{LayerFault}
 use Rattle.layer_book.specs.declared.fault.LayerFault.TheVariants.{UnknownLayer, NotBase, NotDerived, LaterLayer, InUse, TooManyLayers, VersionLimit, BadColumn, OutOfMemory}
@@ -38,7 +38,6 @@ fault_of in_use = InUse
 fault_of too_many_layers = TooManyLayers
 fault_of version_limit = VersionLimit
 
--- a fault reports the refusal, if there is one
-abbrev pub Reports : Option Refusal → LayerFault → Type 0
-Reports None fault = ⊥
-Reports (Some refusal) fault = fault ≡ fault_of refusal
+-- a call is refused by a fault: by the first reason that applies; where none applies, for want of memory
+abbrev pub RefusedBy : {F : Type 0} → F → Option F → F → Type 0
+RefusedBy memory reason fault = ((fault ≡ memory) × (reason ≡ None)) ⊎ (reason ≡ Some fault)

@@ -1,5 +1,6 @@
 -- Layers of the code as layers of the definitions.
 use Rattle.std.specs.Prelude.{ℕ, ◌≤◌, not, List, [], ◌∷◌, map, filter, filter_map, length, Option, Some, None, bytes_eq, if◌then◌else◌, All}
+use Rattle.overlay_terms.specs.Plane.{WholePoint}
 use Rattle.overlay_terms.specs.Layers.{Content, base, derived, base_of}
 use Rattle.overlay_terms.specs.Layers as terms
 use Rattle.overlay_terms.specs.Commands.{Command, put, define, layers_max}
@@ -31,6 +32,11 @@ pub record IsBook (layers : List terms.Layer) : Type 0 where
   pub orderly : IsOrderly layers
   pub few : length layers ≤ layers_max
   pub rings : All (λ b. All IsRing b.1) (filter_map base_of layers)
+
+-- the rings of a base layer, as a list of one; none of a derived one
+abbrev pub rings_in : Content → List (List (List WholePoint))
+rings_in (base rings) = rings ∷ []
+rings_in (derived expression) = []
 
 -- what stands under a name
 abbrev pub content_named : List terms.Layer → List ℕ → Option Content

@@ -5,4 +5,3 @@ pub mod Place
 pub mod Listing
 pub mod Question
 pub mod TileRefusal
-pub mod Reaching

@@ -1,11 +1,11 @@
 //! What a command makes of the layers.
-ghost use Rattle.std.specs.Prelude.{◌≡◌, ◌⊎◌, None, IfOk, IfErr};
+ghost use Rattle.std.specs.Prelude.{◌≡◌, None, IfOk, IfErr};
 ghost use Rattle.std.specs.Option.{option_map};
 ghost use Rattle.overlay_terms.specs.Trees.{leaves};
 ghost use Rattle.overlay_terms.specs.Commands.{refusal_of, refusal_of_put, refusal_of_define, refusal_of_use, refusal_of_uses, refusal_of_remove, stands, stands_as_base, stands_as_derived, place_of, is_crowded, applied};
 ghost use Rattle.layer_expr.specs.Expr.{tree};
 ghost use Rattle.layer_book.specs.Command.{command};
-ghost use Rattle.layer_book.specs.Fault.{Reports, fault_of};
+ghost use Rattle.layer_book.specs.Fault.{RefusedBy, fault_of};
 
 use crate::command::Command;
 use crate::fault::LayerFault;
@@ -13,7 +13,7 @@ use crate::layer::Layer;
 use crate::layers::Layers;
 use layer_expr::expr::{Expr, Node};
 use layer_expr::name::Name;
-use std::alloc::Global;
+use std::alloc::{AllocError, Global};
 
 /// The most layers that stand at a time.
 pub const MAX_LAYERS: usize = 32;
@@ -24,20 +24,27 @@ impl Layers {
     pub fn apply(&self, alloc: Global, change: &Command) -> Result<Layers, LayerFault>
         ensures accepted { IfOk result (λ _. refusal_of self.now (command change.now) ≡ None) }
         ensures ok { IfOk result (λ layers. layers ≡ applied self.now (command change.now)) }
-        ensures refused { IfErr result (λ fault. (fault ≡ LayerFault.OutOfMemory) ⊎ Reports (refusal_of self.now (command change.now)) fault) }
+        ensures refused { IfErr result (RefusedBy LayerFault.OutOfMemory (option_map fault_of (refusal_of self.now (command change.now)))) }
         ensures memory_last { result ≡ Err LayerFault.OutOfMemory → refusal_of self.now (command change.now) ≡ None }
     {
         if let Some(fault) = self.refusal(change) {
             return Err(fault);
         }
-        let layers = match change {
-            Command::Put(name, rings) => self.with(alloc, name, Layer::Base(rings.clone()?))?,
+        Ok(self.applied(alloc, change)?)
+    }
+
+    /// The layers after a command that is accepted.
+    pub fn applied(&self, alloc: Global, change: &Command) -> Result<Layers, AllocError>
+        requires { refusal_of self.now (command change.now) ≡ None }
+        ensures { IfOk result (λ layers. layers ≡ applied self.now (command change.now)) }
+    {
+        match change {
+            Command::Put(name, rings) => self.with(alloc, name, Layer::Base(rings.clone()?)),
             Command::Define(name, expression) => {
-                self.with(alloc, name, Layer::Derived(expression.clone()?))?
+                self.with(alloc, name, Layer::Derived(expression.clone()?))
             }
-            Command::Remove(name) => self.without(alloc, name)?,
-        };
-        Ok(layers)
+            Command::Remove(name) => self.without(alloc, name),
+        }
     }
 
     /// Why a command is refused.
@@ -156,6 +163,6 @@ impl Layers {
     fn is_crowded(&self, name: &Name) -> bool
         ensures { result ≡ is_crowded self.now name.now }
     {
-        !self.stands(name) & (self.len() >= MAX_LAYERS)
+        !self.stands(name) && self.len() >= MAX_LAYERS
     }
 }

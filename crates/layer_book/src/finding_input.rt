@@ -1,7 +1,8 @@
 //! The input of a tile.
-ghost use Rattle.std.specs.Prelude.{◌≡◌, ◌⊎◌, true, None, Some, IfOk, IfErr};
+ghost use Rattle.std.specs.Prelude.{◌≡◌, true, None, Some, IfOk, IfErr};
 ghost use Rattle.overlay_terms.specs.Commands.{stands_as_derived};
 ghost use Rattle.overlay_terms.specs.Tiles.{input_of};
+ghost use Rattle.layer_book.specs.Fault.{RefusedBy};
 ghost use Rattle.layer_book.specs.TileRefusal.{tile_refusal};
 
 use crate::fault::LayerFault;
@@ -18,7 +19,7 @@ impl Layers {
     pub fn input(&self, alloc: Global, name: &Name, column: u8) -> Result<TileInput, LayerFault>
         ensures ok { IfOk result (λ input. input ≡ input_of self.now name.now column) }
         ensures accepted { IfOk result (λ _. tile_refusal self.now name.now column ≡ None) }
-        ensures refused { IfErr result (λ fault. ((fault ≡ LayerFault.OutOfMemory) × (tile_refusal self.now name.now column ≡ None)) ⊎ (tile_refusal self.now name.now column ≡ Some fault)) }
+        ensures refused { IfErr result (RefusedBy LayerFault.OutOfMemory (tile_refusal self.now name.now column)) }
     {
         let column = self.tile_column(name, u64::from(column))?;
         Ok(self.input_in_reach(alloc, name, column)?)

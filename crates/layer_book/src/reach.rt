@@ -6,7 +6,6 @@ ghost use Rattle.overlay_terms.specs.Layers.{layers_in_reach};
 ghost use Rattle.overlay_terms.specs.Orderly.{used_names};
 ghost use Rattle.layer_expr.specs.Expr.{tree};
 ghost use Rattle.layer_book.specs.Layer.{IsBook};
-ghost use Rattle.layer_book.specs.Reaching.{InReachAlone};
 ghost use Rattle.layer_book.specs.Question.{at_place, content_at, is_wanted, marked, marked_layers, IsClosed};
 
 use crate::layer::Layer;
@@ -21,7 +20,6 @@ impl Layers {
         ensures asked { is_wanted self.now result name.now ≡ true }
         ensures closed { IsClosed self.now result }
         ensures room { length result ≡ 32 }
-        ensures only { InReachAlone self.now result name.now }
         // Nothing else is marked.
         ensures exactly { marked_layers result self.now ≡ layers_in_reach self.now name.now }
         ensures valid { IsBook self.now }

@@ -2,8 +2,8 @@
 ghost use Rattle.std.specs.Prelude.{◌≡◌, ◌++◌, ◌∷◌, [], map, filter_map, option_copied, IfOk, OnOk};
 ghost use Rattle.overlay_terms.specs.Layers.{base_of};
 ghost use Rattle.layer_expr.specs.StepList.{reached, reached_of};
-ghost use Rattle.layer_book.specs.Layer.{content, named_layer};
-ghost use Rattle.layer_book.specs.Reaching.{chosen, rings_in};
+ghost use Rattle.layer_book.specs.Layer.{content, named_layer, rings_in};
+ghost use Rattle.layer_book.specs.Question.{marked_layers};
 
 use crate::layer::Layer;
 use crate::layers::Layers;
@@ -19,7 +19,7 @@ impl Layers {
         alloc: Global,
         wanted: &[bool; 32],
     ) -> Result<Vec<&'a BaseLayer>, AllocError>
-        ensures { IfOk result (λ bases. map (λ b. b.now) bases.items ≡ map (λ b. b.1) (filter_map base_of (chosen wanted.now self.now))) }
+        ensures { IfOk result (λ bases. map (λ b. b.now) bases.items ≡ map (λ b. b.1) (filter_map base_of (marked_layers wanted.now self.now))) }
     {
         let mut bases = Vec::new(alloc);
         for i in 0..self.len() {
@@ -38,7 +38,7 @@ impl Layers {
         alloc: Global,
         wanted: &[bool; 32],
     ) -> Result<Vec<(&'a Name, Option<&'a Expr>)>, AllocError>
-        ensures { IfOk result (λ layers. reached layers.items ≡ map reached_of (chosen wanted.now self.now)) }
+        ensures { IfOk result (λ layers. reached layers.items ≡ map reached_of (marked_layers wanted.now self.now)) }
     {
         let mut layers = Vec::new(alloc);
         for i in 0..self.len() {

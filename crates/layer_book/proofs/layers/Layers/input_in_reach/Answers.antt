@@ -10,29 +10,29 @@ reach-wanted-requires c = derived_stands c.args.self.now c.args.name.now c.requi
 pub of-requires-clause-few : goal.of-requires-clause-few
 of-requires-clause-few c =
     few_marked (λ layer. (layer.0.now, option_copied layer.1)) c.args.self.now c.args.name.now c.reach-wanted.result c.deref.result.now
-    (record { book = c.reach-wanted.ensures.valid; room = c.reach-wanted.ensures.room; is_derived = c.requires; asked = c.reach-wanted.ensures.asked; closed = c.reach-wanted.ensures.closed; only = c.reach-wanted.ensures.only })
+    (record { book = c.reach-wanted.ensures.valid; is_derived = c.requires; exactly = c.reach-wanted.ensures.exactly })
     (ap reached c.deref.ensures.value ∙ c.in_ok-layers.ensures)
 
 pub of-requires-clause-ordered : goal.of-requires-clause-ordered
 of-requires-clause-ordered c =
     ordered_marked c.args.self.now c.args.name.now c.reach-wanted.result (reached c.deref.result.now)
-    (record { book = c.reach-wanted.ensures.valid; room = c.reach-wanted.ensures.room; is_derived = c.requires; asked = c.reach-wanted.ensures.asked; closed = c.reach-wanted.ensures.closed; only = c.reach-wanted.ensures.only })
+    (record { book = c.reach-wanted.ensures.valid; is_derived = c.requires; exactly = c.reach-wanted.ensures.exactly })
     (ap reached c.deref.ensures.value ∙ c.in_ok-layers.ensures)
 
 pub of-requires-clause-reaches : goal.of-requires-clause-reaches
 of-requires-clause-reaches c =
     last_marked c.args.self.now c.args.name.now c.reach-wanted.result (reached c.deref.result.now)
-    (record { book = c.reach-wanted.ensures.valid; room = c.reach-wanted.ensures.room; is_derived = c.requires; asked = c.reach-wanted.ensures.asked; closed = c.reach-wanted.ensures.closed; only = c.reach-wanted.ensures.only })
+    (record { book = c.reach-wanted.ensures.valid; is_derived = c.requires; exactly = c.reach-wanted.ensures.exactly })
     (ap reached c.deref.ensures.value ∙ c.in_ok-layers.ensures)
 
 pub of-requires-2 : goal.of-requires-2
 of-requires-2 c =
     bases_counted (λ b. b.now) c.args.self.now c.args.name.now c.reach-wanted.result c.deref-2.result.now (reached c.deref.result.now) c.in_ok-steps.steps
-    (record { book = c.reach-wanted.ensures.valid; room = c.reach-wanted.ensures.room; is_derived = c.requires; asked = c.reach-wanted.ensures.asked; closed = c.reach-wanted.ensures.closed; only = c.reach-wanted.ensures.only })
+    (record { book = c.reach-wanted.ensures.valid; is_derived = c.requires; exactly = c.reach-wanted.ensures.exactly })
     (ap (map (λ b. b.now)) c.deref-2.ensures.value ∙ c.in_ok-bases.ensures) (ap reached c.deref.ensures.value ∙ c.in_ok-layers.ensures) c.in_ok-steps.ensures.steps
 
 pub returns : goal.returns
 returns c =
     input_ok c.args.self.now c.args.name.now c.reach-wanted.result c.args.column (map (λ b. b.now) c.deref-2.result.now) (reached c.deref.result.now) c.in_ok-steps.steps c.of-2.result
-    (record { book = c.reach-wanted.ensures.valid; room = c.reach-wanted.ensures.room; is_derived = c.requires; asked = c.reach-wanted.ensures.asked; closed = c.reach-wanted.ensures.closed; only = c.reach-wanted.ensures.only })
+    (record { book = c.reach-wanted.ensures.valid; is_derived = c.requires; exactly = c.reach-wanted.ensures.exactly })
     (ap (map (λ b. b.now)) c.deref-2.ensures.value ∙ c.in_ok-bases.ensures) (ap reached c.deref.ensures.value ∙ c.in_ok-layers.ensures) c.in_ok-steps.ensures.steps c.of-2.ensures

@@ -1,9 +1,8 @@
-use Rattle.std.proofs.Common.{◌-◌, false, true, replicate, slice_set, sym, ap, ◌∙◌, subst, arith}
+use Rattle.std.proofs.Common.{◌-◌, false, replicate, sym, ap, ◌∙◌, subst, arith}
 use Rattle.overlay_terms.specs.Commands.{place_of}
 use Rattle.layer_book.specs.Question.{at_place}
 use Rattle.layer_book.proofs.Closing.{IsClosedFrom, closed_at_end, closed_more, kept_marks, first_mark, near_place}
 use Rattle.layer_book.proofs.MarkedReach.{AreReached, reached_first, reached_more, marked_in_reach}
-use Rattle.layer_book.proofs.Reaching.{none_marked, only_first, only_more}
 use Rattle.layer_book.proofs.layers.Layers.reach.Goals as goal
 
 pub loop-i-init : goal.loop-i-init
@@ -15,9 +14,6 @@ loop-i-init c =
       asked = first_mark (replicate 32 false) c.mark.new.wanted c.place_of.result (place_of layers c.args.name.now) c.mark.ensures c.place_of.ensures (omega (arith, near, c.len-i.ensures.valid.few, c.type_inv.wanted));
       closed = λ i layer from e m. closed_at_end layers c.mark.new.wanted i layer (omega (arith, c.len-i.ensures.value, from)) e m;
       reached = reached_first layers c.args.name.now c.mark.new.wanted 32 c.place_of.result c.len-i.ensures.valid.orderly c.requires c.place_of.ensures c.mark.ensures;
-      only = λ i layer e m.
-          only_first layers c.args.name.now c.len-i.ensures.valid.orderly c.requires (replicate 32 false) (none_marked 32) i layer e
-          (sym (ap (λ ws. at_place ws i) (c.mark.ensures ∙ ap (λ p. slice_set (replicate 32 false) p true) c.place_of.ensures)) ∙ m);
     }
 
 pub loop-i-preserved : goal.loop-i-preserved
@@ -31,9 +27,6 @@ loop-i-preserved c =
       asked = ap (λ ws. at_place ws (place_of layers c.args.name.now)) c.mark_used.ensures ∙ kept_marks layers c.loop-i.wanted k (place_of layers c.args.name.now) inv.asked;
       closed = subst (λ ws. IsClosedFrom layers ws k) (sym c.mark_used.ensures) (closed_more layers c.loop-i.wanted k book.orderly (omega (arith, c.len-i.ensures.value)) (omega (arith, inv.room, book.few)) (λ i layer from e m. inv.closed i layer (omega (arith, from)) e m));
       reached = subst (AreReached layers c.args.name.now) (sym c.mark_used.ensures) (reached_more layers c.args.name.now c.loop-i.wanted k book.orderly c.requires (omega (arith, c.len-i.ensures.value)) inv.reached);
-      only = λ i layer e m.
-          only_more layers c.args.name.now book.orderly c.requires c.loop-i.wanted k (omega (arith, c.len-i.ensures.value)) (λ j other f n. inv.only j other f n) i layer e
-          (sym (ap (λ ws. at_place ws i) c.mark_used.ensures) ∙ m);
     }
 
 pub returns-clause-asked : goal.returns-clause-asked
@@ -41,9 +34,6 @@ returns-clause-asked c = c.loop-i.invariant.asked
 
 pub returns-clause-room : goal.returns-clause-room
 returns-clause-room c = c.loop-i.invariant.room
-
-pub returns-clause-only : goal.returns-clause-only
-returns-clause-only c = λ i layer e m. c.loop-i.invariant.only i layer e m
 
 pub returns-clause-closed : goal.returns-clause-closed
 returns-clause-closed c = λ i layer e m. c.loop-i.invariant.closed i layer (omega arith) e m

@@ -1,6 +1,5 @@
 use Rattle.std.proofs.Common.{◌≡◌, true, length}
 use Rattle.layer_book.specs.Question.{is_wanted}
-use Rattle.layer_book.specs.Reaching.{InReachAlone}
 use Rattle.layer_book.proofs.Closing.{IsClosedFrom}
 use Rattle.layer_book.proofs.MarkedReach.{AreReached}
 use Rattle.layer_book.proofs.layers.Layers.reach.Given as goal
@@ -12,5 +11,4 @@ invariant-loop-i l = record {
   asked : is_wanted l.self l.wanted l.name ≡ true;
   closed : IsClosedFrom l.self l.wanted l.i;
   reached : AreReached l.self l.name l.wanted;
-  only : InReachAlone l.self l.wanted l.name;
 }

@@ -1,11 +1,11 @@
 use Rattle.std.proofs.Common.{◌∙◌, sym, ap, map, arith}
-use Rattle.layer_book.proofs.Chosen.{chosen-nil, rings_of, rings_more, chosen_same, chosen_whole, read_mark}
+use Rattle.layer_book.proofs.MarkedLayers.{marked_layers-nil, rings_of, rings_more, marked_same, marked_whole, read_mark}
 use Rattle.layer_book.proofs.Lines.{none_there}
 use Rattle.layer_book.proofs.layers.Layers.wanted_bases.Goals as goal
 use Rattle.layer_book.proofs.layers.Layers.wanted_bases.Goals.{in-Some+then-wanted-i+in_ok-add_base, in-Some+else-wanted-i, in_default}
 
 pub loop-i-init : goal.loop-i-init
-loop-i-init c = ap (map (λ b. b.now)) c.new-bases.ensures.items ∙ ap rings_of (sym (chosen-nil c.args.wanted.now))
+loop-i-init c = ap (map (λ b. b.now)) c.new-bases.ensures.items ∙ ap rings_of (sym (marked_layers-nil c.args.wanted.now))
 
 pub loop-i-preserved : goal.loop-i-preserved
 loop-i-preserved c =
@@ -15,9 +15,9 @@ loop-i-preserved c =
       | in-Some+then-wanted-i+in_ok-add_base w ↦
           rw w.bases-is (rings_more ws layers c.loop-i.i _ _ _ (sym w.in-Some.ensures) (read_mark ws c.loop-i.i ∙ w.if-wanted-i.true) c.loop-i.invariant w.in_ok-add_base.ensures)
       | in-Some+else-wanted-i w ↦
-          rw w.bases-is (c.loop-i.invariant ∙ ap rings_of (sym (chosen_same ws layers c.loop-i.i _ (sym w.in-Some.ensures) (read_mark ws c.loop-i.i ∙ w.if-wanted-i.false))))
+          rw w.bases-is (c.loop-i.invariant ∙ ap rings_of (sym (marked_same ws layers c.loop-i.i _ (sym w.in-Some.ensures) (read_mark ws c.loop-i.i ∙ w.if-wanted-i.false))))
       | in_default w ↦ absurd (none_there layers c.loop-i.i (omega (arith, c.len-i-end.ensures.value)) w.in_default.ensures)
     ]
 
 pub returns : goal.returns
-returns c = c.loop-i.invariant ∙ ap rings_of (chosen_whole c.args.wanted.now c.args.self.now c.loop-i.i (omega (arith, c.len-i-end.ensures.value)))
+returns c = c.loop-i.invariant ∙ ap rings_of (marked_whole c.args.wanted.now c.args.self.now c.loop-i.i (omega (arith, c.len-i-end.ensures.value)))
