@@ -20,20 +20,20 @@ pub record Ranks {X : Type 0} (P : X → Type 0) (same : X → X → Bool) (less
 
 module _ {X : Type 0} where
   -- some element is the first, or stands in the rest
-  any_cases : (Q : X → Type 0) (x : X) (xs : List X) → Any Q (x ∷ xs) → Q x ⊎ Any Q xs
+  pub any_cases : (Q : X → Type 0) (x : X) (xs : List X) → Any Q (x ∷ xs) → Q x ⊎ Any Q xs
   any_cases Q x xs (zero, y, l, e, h) = inl (subst Q (sym e) h)
   any_cases Q x xs (suc k, y, l, e, h) = inr (k, y, omega (arith, l), e, h)
 
   -- an empty list has no element
-  none_of_any : (Q : X → Type 0) → Any Q [] → ⊥
+  pub none_of_any : (Q : X → Type 0) → Any Q [] → ⊥
   none_of_any Q a = omega (arith, a.2)
 
   -- the first of an ordered list is before all others
-  first_before : (less : X → X → Type 0) (x : X) (xs : List X) → AllPairs less (x ∷ xs) → All (less x) xs
+  pub first_before : (less : X → X → Type 0) (x : X) (xs : List X) → AllPairs less (x ∷ xs) → All (less x) xs
   first_before less x xs ordered j d l = ordered 0 (suc j) d (omega arith) (omega (arith, l))
 
   -- the rest of an ordered list is ordered
-  rest_ordered : (less : X → X → Type 0) (x : X) (xs : List X) → AllPairs less (x ∷ xs) → AllPairs less xs
+  pub rest_ordered : (less : X → X → Type 0) (x : X) (xs : List X) → AllPairs less (x ∷ xs) → AllPairs less xs
   rest_ordered less x xs ordered i j d a l = ordered (suc i) (suc j) d (omega (arith, a)) (omega (arith, l))
 
   -- what stands at one number of two lists that are the same pair by pair
@@ -50,7 +50,7 @@ module _ {X : Type 0} (P : X → Type 0) (same : X → X → Bool) (less : X →
   not_first x y z hx hy hz e l f = ranks.apart x z hx hz (ranks.same_through x y z hx hy hz e (ranks.turned z y hz hy f)) l
 
   -- where both first elements are alike, the rest covers the rest
-  rest_covered : (x y : X) (xs ys : List X) → P x → P y → All P xs → IsTrue (same x y) → All (less x) xs → Covers same xs (y ∷ ys) → Covers same xs ys
+  pub rest_covered : (x y : X) (xs ys : List X) → P x → P y → All P xs → IsTrue (same x y) → All (less x) xs → Covers same xs (y ∷ ys) → Covers same xs ys
   rest_covered x y xs ys hx hy all e above covers i d l =
       by (any_cases (λ z. IsTrue (same (get_or xs i d) z)) y ys (covers i d l)) where
         by : IsTrue (same (get_or xs i d) y) ⊎ Any (λ z. IsTrue (same (get_or xs i d) z)) ys → Any (λ z. IsTrue (same (get_or xs i d) z)) ys
@@ -58,7 +58,7 @@ module _ {X : Type 0} (P : X → Type 0) (same : X → X → Bool) (less : X →
         by (inr a) = a
 
   -- two elements are not each like one after the other
-  not_crossed : (x y u v : X) → P x → P y → P u → P v → less x u → less y v → IsTrue (same x v) → IsTrue (same y u) → ⊥
+  pub not_crossed : (x y u v : X) → P x → P y → P u → P v → less x u → less y v → IsTrue (same x v) → IsTrue (same y u) → ⊥
   not_crossed x y u v hx hy hu hv a b e f =
       let back : less y x = ranks.alike_right v x y hv hx hy (ranks.turned x v hx hv e) b in
       let forth : less x y = ranks.alike_right u y x hu hy hx (ranks.turned y u hy hu f) a in

@@ -4,7 +4,8 @@ use Rattle.std.specs.List.{list_any}
 use Rattle.std.specs.Ordering.{int_eq}
 use Rattle.std.proofs.Common.{inl, inr, refl, ap, sym, ◌∙◌, lit<, arith}
 use Rattle.std.proofs.lemmas.Int.{ints}
-use Rattle.std.proofs.lemmas.Bool.{or_cases, and_parts, not-true, both_ways}
+use Rattle.std.proofs.Math.IntN.{*ℤ_comm, zero-*ℤ}
+use Rattle.std.proofs.lemmas.Bool.{or_cases, and_parts, not-true, both_ways, false_from_ne_true}
 use Rattle.std.proofs.lemmas.List.Elements.{Contains-append_left, Contains-append_right}
 use Rattle.std.proofs.lemmas.List.Folds.{Any-from_list_any}
 use Rattle.std.specs.declared.cmp.Ordering.TheVariants.{Less}
@@ -15,10 +16,11 @@ use Rattle.overlay_terms.proofs.Difference.{split, differences, same}
 use Rattle.overlay_terms.proofs.InputNumbers.{lt_true}
 use Rattle.exact_point.specs.Crossing.{turn_of, lead_of}
 use Rattle.exact_point.specs.PlaceOf.{part_way, crossing_place, cut_place}
-use Rattle.exact_point.proofs.OnSegment.{reached}
+use Rattle.exact_point.proofs.Lexical.{Forward, zero_factor}
+use Rattle.exact_point.proofs.OnSegment.{reached, leads}
 use Rattle.exact_point.proofs.CrossingLemmas.{one_crossing, turn_back}
 use Rattle.exact_point.proofs.BorderLemmas.{one_over_x}
-use Rattle.tile_laws.proofs.PlaceOrder.{one_positive, level_from, same_turned}
+use Rattle.tile_laws.proofs.PlaceOrder.{one_positive, level_from, level_test, same_turned}
 use Rattle.tile_laws.proofs.OnLine.{parallel_through, parallel_from_turn, on_line}
 use Rattle.tile_laws.proofs.Lists.{any_contains, in_flat_map, contains_map}
 
@@ -96,7 +98,17 @@ cut_there s j p wide on e =
     )
 
 -- ---- nodes
-module _ (segments : List Segment) (s : Segment) (ahead : whole_cmp s.left s.right ≡ Less) (wide : s.left.x <ℤ s.right.x) (p : Point) (on : IsTrue (is_on s p)) where
+-- an upright segment is not parallel to one that is not
+upright_crosses : (s t : Segment) → s.right.x -ℤ s.left.x ≡ pos 0 → pos 0 <ℤ (s.right.y -ℤ s.left.y) → is_vertical t ≡ false → is_parallel s t ≡ false
+upright_crosses s t none up slanted =
+    false_from_ne_true (is_parallel s t) (λ h. both_ways (is_vertical t) slanted (level_test t.left.x t.right.x (flat (s.right.x -ℤ s.left.x) (s.right.y -ℤ s.left.y) (t.right.y -ℤ t.left.y) none up (level_from _ _ h))))
+  where
+    flat : (a b d : ℤ) → a ≡ pos 0 → pos 0 <ℤ b → a *ℤ d ≡ b *ℤ (t.right.x -ℤ t.left.x) → t.left.x ≡ t.right.x
+    flat a b d none up e =
+        let zero : t.right.x -ℤ t.left.x ≡ pos 0 = zero_factor (t.right.x -ℤ t.left.x) b up (*ℤ_comm (t.right.x -ℤ t.left.x) b ∙ sym e ∙ ap (λ z. z *ℤ d) none ∙ zero-*ℤ d) in
+        omega (arith, ints)
+
+module _ (segments : List Segment) (s : Segment) (ahead : whole_cmp s.left s.right ≡ Less) (p : Point) (on : IsTrue (is_on s p)) where
   abbrev There : Type 0
   There = IsAmong (candidates segments s) p
 
@@ -131,8 +143,8 @@ module _ (segments : List Segment) (s : Segment) (ahead : whole_cmp s.left s.rig
     by true e true f = absurd (both_ways (is_parallel t u) np (parallel_through s t u ahead e f))
 
   -- over a border
-  at_cut : (j : ℕ) → Contains columns j → p.x ≡ border j *ℤ p.w → There
-  at_cut j c e =
+  at_cut : s.left.x <ℤ s.right.x → (j : ℕ) → Contains columns j → p.x ≡ border j *ℤ p.w → There
+  at_cut wide j c e =
       let z = cut_there s j p wide on e in
       record {
         point = cut_place s j;
@@ -157,12 +169,19 @@ module _ (segments : List Segment) (s : Segment) (ahead : whole_cmp s.left s.rig
       at_two first.1 second.1 (any_contains (λ t. IsTrue (is_on t p && list_any (λ u. is_on u p && not (is_parallel t u)) segments)) segments first)
       (any_contains (λ u. IsTrue (is_on u p && not (is_parallel first.1 u))) segments second) tests.0 more.0 (not-true _ more.1)
 
-  -- over some border
+  -- over some border: cut by it, or on a segment that is not upright
   on_some_border : is_on_border segments p ≡ true → There
   on_some_border e =
       let parts = and_parts (list_any (λ k. int_eq p.x (border k *ℤ p.w)) columns) (list_any (λ t. is_on t p && not (is_vertical t)) segments) e in
       let which = Any-from_list_any (λ k. int_eq p.x (border k *ℤ p.w)) columns parts.0 in
-      at_cut which.1 (any_contains (λ k. IsTrue (int_eq p.x (border k *ℤ p.w))) columns which) (level_from p.x (border which.1 *ℤ p.w) which.4)
+      let other = Any-from_list_any (λ t. is_on t p && not (is_vertical t)) segments parts.1 in
+      let tests = and_parts (is_on other.1 p) (not (is_vertical other.1)) other.4 in
+      by_direction which.1 (any_contains (λ k. IsTrue (int_eq p.x (border k *ℤ p.w))) columns which) (level_from p.x (border which.1 *ℤ p.w) which.4)
+      other.1 (any_contains (λ t. IsTrue (is_on t p && not (is_vertical t))) segments other) tests.0 (not-true _ tests.1) (leads s ahead)
+    where
+      by_direction : (j : ℕ) → Contains columns j → p.x ≡ border j *ℤ p.w → (t : Segment) → Contains segments t → IsTrue (is_on t p) → is_vertical t ≡ false → Forward (s.right.x -ℤ s.left.x) (s.right.y -ℤ s.left.y) → There
+      by_direction j c e t m on_t slanted (inl wide) = at_cut (omega (arith, ints)) j c e
+      by_direction j c e t m on_t slanted (inr upright) = at_cross t m (upright_crosses s t upright.0 upright.1 slanted) on_t
 
   -- each node on the segment is at the place of a candidate
   pub node_among : IsTrue (is_node segments p) → There

@@ -23,6 +23,7 @@ pub mod Edges
 pub mod ParityStep
 pub mod ParityFrom
 pub mod LayerParityFrom
+pub mod LayerTile
 pub mod LineForms
 pub mod EvenRegion
 pub mod StripSigns
@@ -43,7 +44,11 @@ pub mod SideBits
 pub mod SidesKept
 pub mod ParityLaws
 pub mod AlikeLists
+pub mod Shorter
+pub mod Gathered
 pub mod SamePairs
 pub mod SameMiddle
 pub mod SameBoundary
+pub mod BoundaryTest
+pub mod TileExists
 pub mod HeldTile

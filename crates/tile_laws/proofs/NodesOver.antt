@@ -65,7 +65,7 @@ pub record IsFirstPast (segments : List Segment) (s : Segment) (q r : Point) : T
   pub past : (q.x *ℤ r.w) <ℤ (r.x *ℤ q.w)
   pub first : (z : Point) → IsNodeOn segments s z → (q.x *ℤ z.w) <ℤ (z.x *ℤ q.w) → point_cmp z r ≡ Less → ⊥
 
-module _ (segments : List Segment) (s : Segment) (q : Point) (hq : pos 0 <ℤ q.w) (ahead : whole_cmp s.left s.right ≡ Less) (wide : s.left.x <ℤ s.right.x) (among : Contains segments s) where
+module _ (segments : List Segment) (s : Segment) (q : Point) (hq : pos 0 <ℤ q.w) (ahead : whole_cmp s.left s.right ≡ Less) (among : Contains segments s) where
   -- the two tests
   abbrev is_left : Point → Bool
   is_left c = is_node_on segments s c && is_up_to q c
@@ -85,7 +85,7 @@ module _ (segments : List Segment) (s : Segment) (q : Point) (hq : pos 0 <ℤ q.
 
   -- a candidate at the place of a node
   candidate : (z : Point) → IsNodeOn segments s z → IsAmong (candidates segments s) z
-  candidate z h = node_among segments s ahead wide z h.on_segment h.node
+  candidate z h = node_among segments s ahead z h.on_segment h.node
 
   -- the x of a candidate is that of the node
   x_same : (z c : Point) → pos 0 <ℤ z.w → pos 0 <ℤ c.w → IsTrue (same_place z c) → z.x *ℤ c.w ≡ c.x *ℤ z.w

@@ -99,8 +99,8 @@ each_has_a_piece input s q valid hq col among over =
     let proper : IsProper s = All-contains IsProper segments s (All-map IsProper (λ m. m.segment) input.marked valid.proper) among in
     let left : IsNodeOn segments s (whole s.left) = record { positive = one_positive; on_segment = left_on s wide; node = left_node segments s among } in
     let right : IsNodeOn segments s (whole s.right) = record { positive = one_positive; on_segment = right_on s wide; node = right_node segments s among } in
-    let a = last_up_to segments s q hq proper.first wide among (whole s.left) left (rw (times_one q.x) low) in
-    let b = first_past segments s q hq proper.first wide among (whole s.right) right (rw (times_one q.x) high) in
+    let a = last_up_to segments s q hq proper.first among (whole s.left) left (rw (times_one q.x) low) in
+    let b = first_past segments s q hq proper.first among (whole s.right) right (rw (times_one q.x) high) in
     let borders = and_parts (int_le (border input.column *ℤ q.w) q.x) (int_lt q.x (border (input.column + 1) *ℤ q.w)) col in
     record {
       from = a.0;

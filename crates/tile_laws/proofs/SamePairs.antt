@@ -10,8 +10,9 @@ use Rattle.std.proofs.lemmas.Cmp.{on_total, then_total}
 use Rattle.overlay_terms.specs.Plane.{Point, point_cmp, same_place}
 use Rattle.overlay_terms.specs.Tiles.{pair_cmp}
 use Rattle.tile_laws.specs.SameTile.{same_pair, IsPositivePair}
-use Rattle.tile_laws.proofs.PlaceOrder.{less_through, alike_left, turned, same_from_equal, equal_from_same}
+use Rattle.tile_laws.proofs.PlaceOrder.{same_self, less_through, alike_left, turned, same_from_equal, equal_from_same}
 use Rattle.tile_laws.proofs.AlikeLists.{Ranks}
+use Rattle.tile_laws.proofs.Gathered.{Compared, lower, level, higher}
 
 -- a point whose denominator is positive
 record Placed : Type 0 where
@@ -85,3 +86,15 @@ pairs_rank = record {
       ∙ sym (pair_total.antisymm (placed c l) (placed a h))
       ∙ less;
 }
+
+-- a pair is at its own places
+pub pair_itself : (a : Point × Point) → IsPositivePair a → IsTrue (same_pair a a)
+pair_itself a h = and_from (same_place a.0 a.0) (same_place a.1 a.1) (same_self a.0) (same_self a.1)
+
+-- two pairs are compared
+pub pairs_compared : (a b : Point × Point) → IsPositivePair a → IsPositivePair b → Compared same_pair (λ a b. pair_cmp a b ≡ Less) a b
+pairs_compared a b h k = by (pair_cmp a b) refl where
+  by : (o : Ordering) → pair_cmp a b ≡ o → Compared same_pair (λ a b. pair_cmp a b ≡ Less) a b
+  by Less e = lower e
+  by Equal e = level (same_from a b h k e)
+  by Greater e = higher (pair_total.antisymm (placed b k) (placed a h) ∙ ap ordering_reverse e)

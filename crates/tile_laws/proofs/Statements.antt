@@ -1,8 +1,7 @@
 -- What the parity law is put together from.
-use Rattle.std.specs.Prelude.{◌≡◌, ℕ, ℤ, pos, ◌<ℤ◌, Bool, IsTrue, List, map, Contains}
+use Rattle.std.specs.Prelude.{◌≡◌, ℕ, pos, ◌<ℤ◌, IsTrue, List, map, Contains}
 use Rattle.overlay_terms.specs.Plane.{Point, Segment, same_place}
 use Rattle.overlay_terms.specs.Column.{is_in_column}
-use Rattle.overlay_terms.specs.Layers.{Marked}
 use Rattle.overlay_terms.specs.Tiles.{Input, IsPiece, midpoint, below_bits, over_bits}
 use Rattle.overlay_terms.specs.TileLaws.{IsInput, ParityLaw}
 use Rattle.tile_laws.proofs.JustRight.{is_over_x, is_level, under_bits, up_to_bits, is_stretch_over}

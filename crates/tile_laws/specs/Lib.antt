@@ -1,1 +1,3 @@
 pub mod SameTile
+pub mod TileExists
+pub mod LayerTile

@@ -2,4 +2,6 @@
 #![tactic(auto)]
 
 pub mod held_tile;
+pub mod layer_tile;
 pub mod parity;
+pub mod tile_exists;
