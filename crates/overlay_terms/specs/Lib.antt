@@ -16,3 +16,4 @@ pub mod InputLaws
 pub mod KeptLaws
 pub mod LayerParity
 pub mod HistoryLaws
+pub mod StoredTiles

@@ -4,3 +4,4 @@ pub mod PendingLemmas
 pub mod EdgeLemmas
 pub mod VerdictLemmas
 pub mod LocateByTile
+pub mod Restored

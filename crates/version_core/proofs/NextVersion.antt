@@ -8,10 +8,11 @@ use Rattle.overlay_terms.specs.Layers.{Name, Layer}
 use Rattle.std.specs.Option.{option_map}
 use Rattle.overlay_terms.specs.Tiles.{Input, input_of}
 use Rattle.overlay_terms.specs.Commands.{Refusal, Command, refusal_of, refusal_at, applied, when, version_max, version_limit, is_touched, stands_as_derived}
-use Rattle.overlay_terms.specs.Histories.{Tile, Finished, Version, tile_at, IsTileAt, pieces_max, FollowsCommand, FollowsTile}
+use Rattle.overlay_terms.specs.Histories.{Tile, Finished, Version, tile_at, IsTileAt, pieces_max, is_formed, FollowsCommand, FollowsTile}
 use Rattle.overlay_terms.specs.Orderly.{IsOrderly}
 use Rattle.overlay_terms.proofs.NameLemmas.{same_name}
 use Rattle.overlay_terms.proofs.AcceptedLemmas.{no_reason, not_when}
+use Rattle.overlay_terms.proofs.FormLemmas.{formed_at}
 use Rattle.overlay_terms.proofs.KeptCommands.{untouched_input_stays}
 use Rattle.arrange.specs.SameInput.{same_input, same_input-Decides}
 use Rattle.layer_book.specs.Fault.{fault_of}
@@ -42,6 +43,11 @@ fit_kept layers command tiles name k tile false orderly e out fit there =
     let old = fit there in
     ((untouched_input_stays layers command name k orderly e old.0 out).still_derived, old.1)
 
+-- the tiles that a command leaves have their form
+formed_kept : (b : Bool) (before : Option Tile) (tile : Tile) (k : ℕ) → (before ≡ Some tile → IsTrue (is_formed tile k)) → (if not b then before else None) ≡ Some tile → IsTrue (is_formed tile k)
+formed_kept true before tile k valid there = absurd (cc)
+formed_kept false before tile k valid there = valid there
+
 module _ (old : Version) (command : Command) (valid : IsVersion old) (accepted : refusal_at old.number old.layers command ≡ None) (layers : List Layer) (tiles : List Finished) (same_layers : layers ≡ applied old.layers command) (same_tiles : tiles ≡ untouched old.layers command old.tiles) where
   -- the version after the command
   abbrev pub next_of : Version
@@ -65,6 +71,8 @@ module _ (old : Version) (command : Command) (valid : IsVersion old) (accepted :
         fit = λ name k tile e.
             subst (λ ls. IsTrue (stands_as_derived ls name) × (k < column_count)) (sym same_layers)
             (fit_kept old.layers command old.tiles name k tile (is_touched old.layers command name) valid.book.orderly parts.by_layers refl (valid.fit name k tile) (sym (found_left name k) ∙ e));
+        formed = λ name k tile e.
+            formed_kept (is_touched old.layers command name) (tile_at old.tiles name k) tile k (valid.formed name k tile) (sym (found_left name k) ∙ e);
         distinct = subst AreDistinct (sym same_tiles) (AllPairs-filter (λ a b. is_of b.name b.column a ≡ false) (λ f. not (is_touched old.layers command f.name)) old.tiles valid.distinct);
       }
 
@@ -90,14 +98,21 @@ module _ (old : Version) (name : Name) (input : Input) (tile : Tile) (valid : Is
   -- what is found with one tile more
   found_more : (other : Name) (k : ℕ) → tile_at tiles other k ≡ (if bytes_eq name other && (input.column == k) then Some tile else tile_at old.tiles other k)
   found_more other k =
-      ap (λ ts. tile_at ts other k) same_tiles ∙ tile_at-push old.tiles (record { name = name; column = input.column; tile = tile }) other k awaited.1
+      ap (λ ts. tile_at ts other k) same_tiles ∙ tile_at-push old.tiles (record { name = name; column = input.column; tile = tile }) other k awaited.0.1
 
   -- the tile that is found is the new one or an old one
   fit_more : (other : Name) (k : ℕ) (found : Tile) (b : Bool) → (bytes_eq name other && (input.column == k)) ≡ b → (if b then Some tile else tile_at old.tiles other k) ≡ Some found → IsTrue (stands_as_derived old.layers other) × (k < column_count)
   fit_more other k found true here e =
       let parts = and_parts (bytes_eq name other) (input.column == k) here in
-      (subst (λ n. IsTrue (stands_as_derived old.layers n)) (same_name name other parts.0) awaited.0, subst (λ j. j < column_count) (eqb-true input.column k parts.1) known)
+      (subst (λ n. IsTrue (stands_as_derived old.layers n)) (same_name name other parts.0) awaited.0.0, subst (λ j. j < column_count) (eqb-true input.column k parts.1) known)
   fit_more other k found false away e = valid.fit other k found e
+
+  formed_more : (other : Name) (k : ℕ) (found : Tile) (b : Bool) → (bytes_eq name other && (input.column == k)) ≡ b → (if b then Some tile else tile_at old.tiles other k) ≡ Some found → IsTrue (is_formed found k)
+  formed_more other k found true here e =
+      let same : tile ≡ found = cc in
+      subst (λ t. IsTrue (is_formed t k)) same
+      (subst (λ j. IsTrue (is_formed tile j)) (eqb-true input.column k (and_parts (bytes_eq name other) (input.column == k) here).1) (formed_at input tile right))
+  formed_more other k found false away e = valid.formed other k found e
 
   pub kept_is_version : IsBook layers → IsVersion kept_of
   kept_is_version book = record {
@@ -107,15 +122,16 @@ module _ (old : Version) (name : Name) (input : Input) (tile : Tile) (valid : Is
     fit = λ other k found e.
         subst (λ ls. IsTrue (stands_as_derived ls other) × (k < column_count)) (sym same_layers)
         (fit_more other k found (bytes_eq name other && (input.column == k)) refl (sym (found_more other k) ∙ e));
-    distinct = subst AreDistinct (sym same_tiles) (distinct-push old.tiles (record { name = name; column = input.column; tile = tile }) valid.distinct awaited.1);
+    formed = λ other k found e. formed_more other k found (bytes_eq name other && (input.column == k)) refl (sym (found_more other k) ∙ e);
+    distinct = subst AreDistinct (sym same_tiles) (distinct-push old.tiles (record { name = name; column = input.column; tile = tile }) valid.distinct awaited.0.1);
   }
 
   pub kept_follows : FollowsTile old name input.column tile kept_of
   kept_follows = record {
-    derived_layer = awaited.0;
+    derived_layer = awaited.0.0;
     known_column = known;
-    pending = awaited.1;
-    right = subst (λ i. IsTileAt pieces_max i tile) awaited.2 right;
+    pending = awaited.0.1;
+    right = subst (λ i. IsTileAt pieces_max i tile) awaited.1 right;
     number = refl;
     layers = same_layers;
     tiles = found_more;
@@ -125,6 +141,6 @@ module _ (old : Version) (name : Name) (input : Input) (tile : Tile) (valid : Is
 -- a test of inputs decides whether a tile is awaited, where its layer is derived and it is pending
 pub awaited_decides : (version : Version) (name : Name) (input present : Input) (same : Bool) → stands_as_derived version.layers name ≡ true → tile_at version.tiles name input.column ≡ None → present ≡ input_of version.layers name input.column → same ≡ same_input input present → (IsTrue same → IsAwaited version name input) × (IsAwaited version name input → IsTrue same)
 awaited_decides version name input present same derived_layer pending e r = (
-  λ t. (derived_layer, pending, (same_input-Decides input present).0 (sym r ∙ t) ∙ e),
-  λ a. r ∙ (same_input-Decides input present).1 (a.2 ∙ sym e),
+  λ t. ((derived_layer, pending), (same_input-Decides input present).0 (sym r ∙ t) ∙ e),
+  λ a. r ∙ (same_input-Decides input present).1 (a.1 ∙ sym e),
 )

@@ -1,6 +1,6 @@
 -- The edges of a tile as text.
 use Rattle.std.specs.Prelude.{◌≡◌, ℕ, ◌<ℤ◌, pos, IsTrue, List, [], ◌∷◌, ◌++◌, length, flat_map, codes, decimal, Option, Some, None}
-use Rattle.std.specs.Option.{option_map}
+use Rattle.std.specs.Option.{option_map, option_or}
 use Rattle.std.specs.Fmt.{signed_decimal}
 use Rattle.overlay_terms.specs.Plane.{Point, same_place}
 use Rattle.overlay_terms.specs.Layers.{Name}
@@ -9,7 +9,6 @@ use Rattle.exact_point.specs.Reduced.{IsLowest}
 use Rattle.layer_book.specs.TileRefusal.{tile_refusal}
 use Rattle.version_core.specs.declared.fault.VersionFault.{VersionFault}
 use Rattle.version_core.specs.declared.fault.VersionFault.TheVariants.{Layer, Pending, Oversize}
-use Rattle.version_core.specs.Fault.{or_else}
 
 -- why a tile cannot be had: it is not finished
 abbrev pub tile_absence : Option Tile → Option VersionFault
@@ -19,7 +18,7 @@ tile_absence (Some tile) = None
 -- why there is no finished tile of a layer and column: there is no such tile; it is pending
 abbrev pub finished_refusal : Version → Name → ℕ → Option VersionFault
 finished_refusal version name k =
-    or_else (option_map Layer (tile_refusal version.layers name k)) (tile_absence (tile_at version.tiles name k))
+    option_or (option_map Layer (tile_refusal version.layers name k)) (tile_absence (tile_at version.tiles name k))
 
 -- why a finished tile cannot be written: it has too many pieces
 abbrev pub size_refusal : Option Tile → Option VersionFault
@@ -29,7 +28,7 @@ size_refusal (Some oversize) = Some Oversize
 
 -- why the edges of a tile are refused: there is no such tile; it is pending; it has too many pieces
 abbrev pub edges_refusal : Version → Name → ℕ → Option VersionFault
-edges_refusal version name k = or_else (finished_refusal version name k) (size_refusal (tile_at version.tiles name k))
+edges_refusal version name k = option_or (finished_refusal version name k) (size_refusal (tile_at version.tiles name k))
 
 -- a point as `x y w`
 abbrev pub point_text : Point → List ℕ

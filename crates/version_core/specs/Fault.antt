@@ -21,8 +21,3 @@ text_of Oversize = codes "oversize"
 abbrev pub ReportsAt : Option Refusal → VersionFault → Type 0
 ReportsAt None fault = ⊥
 ReportsAt (Some refusal) fault = fault ≡ Layer (book.fault_of refusal)
-
--- the first of two faults
-abbrev pub or_else : Option VersionFault → Option VersionFault → Option VersionFault
-or_else (Some fault) next = Some fault
-or_else None next = next

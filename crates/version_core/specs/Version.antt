@@ -4,12 +4,13 @@ use Rattle.overlay_terms.specs.Commands.{version_max}
 use Rattle.overlay_terms.specs.Histories.{Version}
 use Rattle.overlay_terms.specs.KeptLaws.{TilesFit}
 use Rattle.layer_book.specs.Layer.{IsBook}
-use Rattle.version_core.specs.Tiles.{AreDistinct}
+use Rattle.version_core.specs.Tiles.{AreDistinct, AreFormed}
 
--- a number that a version may have, layers as commands leave them, and tiles of derived layers that stand, each once
+-- a number that a version may have, layers as commands leave them, and tiles of derived layers that stand, each of its form and once
 pub record IsVersion (version : Version) : Type 0 where
   pub small : version.number ≤ version_max
   pub reported : version.durable ≤ version.number
   pub book : IsBook version.layers
   pub fit : TilesFit version
+  pub formed : AreFormed version.tiles
   pub distinct : AreDistinct version.tiles

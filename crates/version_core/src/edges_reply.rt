@@ -1,7 +1,8 @@
 //! The edges of a tile as text.
-ghost use Rattle.std.specs.Prelude.{◌≡◌, ◌⊎◌, ◌++◌, None, Some, IfOk, IfErr, OnOk, string_bytes};
+ghost use Rattle.std.specs.Prelude.{◌≡◌, ◌++◌, None, Some, IfOk, IfErr, OnOk, string_bytes};
 ghost use Rattle.overlay_terms.specs.Histories.{tile_at};
 ghost use Rattle.exact_point.specs.Place.{place};
+ghost use Rattle.layer_book.specs.Fault.{RefusedBy};
 ghost use Rattle.tile_build.specs.Tile.{tile_of};
 ghost use Rattle.version_core.specs.Edges.{AreEdges, IsTextOf, edge_line, edges_refusal, finished_refusal, point_text};
 
@@ -20,7 +21,7 @@ impl Version {
     pub fn edges(&self, alloc: Global, name: &Name, number: u64) -> Result<Vec<u8>, VersionFault>
         ensures ok { IfOk result (λ text. AreEdges self.now name.now number text.items) }
         ensures accepted { IfOk result (λ _. edges_refusal self.now name.now number ≡ None) }
-        ensures refused { IfErr result (λ fault. ((fault ≡ VersionFault.Layer LayerFault.OutOfMemory) × (edges_refusal self.now name.now number ≡ None)) ⊎ (edges_refusal self.now name.now number ≡ Some fault)) }
+        ensures refused { IfErr result (RefusedBy (VersionFault.Layer LayerFault.OutOfMemory) (edges_refusal self.now name.now number)) }
     {
         match self.finished_tile(name, number)? {
             Tile::Pieces(pieces) => Ok(written(alloc, pieces)?),

@@ -1,11 +1,10 @@
 //! Keeping a built tile.
-ghost use Rattle.std.specs.Prelude.{◌≡◌, ◌↔◌, IsTrue, IfOk, IfErr, map};
+ghost use Rattle.std.specs.Prelude.{◌≡◌, ◌↔◌, IsTrue, IfOk, IfErr};
 ghost use Rattle.overlay_terms.specs.Histories.{FollowsTile};
-ghost use Rattle.version_core.specs.Tiles.{finished};
-ghost use Rattle.version_core.specs.Finish.{IfKept, IsAwaited, IsKept};
+ghost use Rattle.version_core.specs.Finish.{IfKept, IsAwaited, IsKept, IsPending};
 
 use crate::fault::VersionFault;
-use crate::tiles::FinishedTile;
+use crate::tiles::{FinishedTile, copied};
 use crate::version::Version;
 use arrange::tile_input::TileInput;
 use layer_book::applying::MAX_LAYERS;
@@ -35,21 +34,37 @@ impl Version {
         ensures kept { IfOk result (λ finish. IfKept finish (λ next. FollowsTile self.now name.now built.0.column built.1 next)) }
         ensures exactly { IfOk result (λ finish. IsKept finish ↔ IsAwaited self.now name.now built.0) }
         ensures err { IfErr result (λ e. (e.0 ≡ built) × (e.1 ≡ VersionFault.Layer LayerFault.OutOfMemory)) }
+        ensures pending { IfErr result (λ _. IsPending self.now name.now built.0.column) }
     {
-        match self.is_awaited(alloc, name, built.input()) {
-            Ok(true) => {}
-            Ok(false) => return Ok(Finish::Stale),
-            Err(_) => return Err((built, VersionFault::Layer(LayerFault::OutOfMemory))),
+        match self.finish_with(alloc, name, &built) {
+            Ok(finish) => Ok(finish),
+            Err(fault) => Err((built, fault)),
         }
-        match self.with_tile(alloc, name, &built) {
-            Ok(version) => Ok(Finish::Kept(version)),
-            Err(_) => Err((built, VersionFault::Layer(LayerFault::OutOfMemory))),
+    }
+
+    /// The same for a built tile that the caller keeps, until all else that can fail is done.
+    pub fn finish_with(
+        &self,
+        alloc: Global,
+        name: &Name,
+        built: &Built,
+    ) -> Result<Finish, VersionFault>
+        ensures kept { IfOk result (λ finish. IfKept finish (λ next. FollowsTile self.now name.now built.now.0.column built.now.1 next)) }
+        ensures exactly { IfOk result (λ finish. IsKept finish ↔ IsAwaited self.now name.now built.now.0) }
+        ensures err { IfErr result (λ fault. fault ≡ VersionFault.Layer LayerFault.OutOfMemory) }
+        ensures pending { IfErr result (λ _. IsPending self.now name.now built.now.0.column) }
+    {
+        if self.is_awaited(alloc, name, built.input())? {
+            Ok(Finish::Kept(self.with_tile(alloc, name, built)?))
+        } else {
+            Ok(Finish::Stale)
         }
     }
 
     /// Whether the tile of an input is awaited.
     fn is_awaited(&self, alloc: Global, name: &Name, input: &TileInput) -> Result<bool, AllocError>
-        ensures { IfOk result (λ awaited. IsTrue awaited ↔ IsAwaited self.now name.now input.now) }
+        ensures ok { IfOk result (λ awaited. IsTrue awaited ↔ IsAwaited self.now name.now input.now) }
+        ensures err { IfErr result (λ _. IsPending self.now name.now input.now.column) }
     {
         let column = input.column().number();
         if !self.layers().stands_as_derived(name) {
@@ -84,15 +99,4 @@ impl Version {
             tiles,
         })
     }
-}
-
-/// The same finished tiles, which are shared.
-fn copied(alloc: Global, tiles: &[FinishedTile]) -> Result<Vec<FinishedTile>, AllocError>
-    ensures { IfOk result (λ copies. map finished copies.items ≡ map finished tiles.now) }
-{
-    let mut copies = Vec::new(alloc);
-    for tile in tiles {
-        copies.push(tile.clone()?)?;
-    }
-    Ok(copies)
 }

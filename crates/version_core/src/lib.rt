@@ -1,11 +1,14 @@
 //! Versions of the layers, each with its finished tiles.
 #![tactic(auto)]
 
+pub mod awaiting;
 pub mod edges_reply;
 pub mod fault;
 pub mod finishing;
 pub mod locating;
 pub mod pending_tiles;
+pub mod reporting;
+pub mod restoring;
 pub mod submitting;
 #[cfg(test)]
 mod tests;

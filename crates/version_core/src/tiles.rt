@@ -1,5 +1,5 @@
 //! Finished tiles.
-ghost use Rattle.std.specs.Prelude.{◌≡◌, map};
+ghost use Rattle.std.specs.Prelude.{◌≡◌, IfOk, map};
 ghost use Rattle.std.specs.Option.{option_map};
 ghost use Rattle.overlay_terms.specs.Histories.{tile_at};
 ghost use Rattle.tile_build.specs.Tile.{tile_of};
@@ -7,7 +7,7 @@ ghost use Rattle.version_core.specs.Tiles.{finished, is_of};
 
 use layer_expr::name::Name;
 use plane_base::column::Column;
-use std::alloc::AllocError;
+use std::alloc::{AllocError, Global};
 use std::sync::Arc;
 use tile_build::tile::Tile;
 
@@ -50,4 +50,15 @@ pub(crate) fn tile_among<'a>(tiles: &'a [FinishedTile], name: &Name, column: u8)
         }
     }
     None
+}
+
+/// The same finished tiles, which are shared.
+pub(crate) fn copied(alloc: Global, tiles: &[FinishedTile]) -> Result<Vec<FinishedTile>, AllocError>
+    ensures { IfOk result (λ copies. map finished copies.items ≡ map finished tiles.now) }
+{
+    let mut copies = Vec::new(alloc);
+    for tile in tiles {
+        copies.push(tile.clone()?)?;
+    }
+    Ok(copies)
 }

@@ -1,8 +1,9 @@
 //! Whether a finished tile is right.
-ghost use Rattle.std.specs.Prelude.{◌≡◌, ◌⊎◌, None, Some, IfOk, IfErr};
+ghost use Rattle.std.specs.Prelude.{◌≡◌, None, IfOk, IfErr};
 ghost use Rattle.overlay_terms.specs.Histories.{IsTileAt, pieces_max};
 ghost use Rattle.overlay_terms.specs.Tiles.{input_of};
 ghost use Rattle.tile_build.specs.Tile.{tile_of};
+ghost use Rattle.layer_book.specs.Fault.{RefusedBy};
 ghost use Rattle.layer_book.specs.TileRefusal.{tile_refusal};
 ghost use Rattle.version_core.specs.Edges.{finished_refusal};
 ghost use Rattle.version_core.specs.Verdict.{IsVerdict};
@@ -28,7 +29,7 @@ impl Version {
     pub fn verify(&self, alloc: Global, name: &Name, number: u64) -> Result<Verdict, VersionFault>
         ensures same { IfOk result (IsVerdict self.now name.now number) }
         ensures accepted { IfOk result (λ _. finished_refusal self.now name.now number ≡ None) }
-        ensures refused { IfErr result (λ fault. ((fault ≡ VersionFault.Layer LayerFault.OutOfMemory) × (finished_refusal self.now name.now number ≡ None)) ⊎ (finished_refusal self.now name.now number ≡ Some fault)) }
+        ensures refused { IfErr result (RefusedBy (VersionFault.Layer LayerFault.OutOfMemory) (finished_refusal self.now name.now number)) }
     {
         let held = self.finished_tile(name, number)?;
         let built = self.built_anew(alloc, name, number)?;

@@ -6,8 +6,8 @@ use Rattle.version_core.proofs.PendingLemmas.{none_found}
 use Rattle.version_core.proofs.NextVersion.{awaited_decides}
 use Rattle.version_core.proofs.version.Version.is_awaited.Goals as goal
 
-pub returns-in-Ok : goal.returns-in-Ok
-returns-in-Ok c =
+pub returns-in-Ok-clause-ok : goal.returns-in-Ok-clause-ok
+returns-in-Ok-clause-ok c =
     let version = c.args.self.now in
     let name = c.args.name.now in
     let column = c.number-column.ensures.value ∙ c.column.ensures.value in

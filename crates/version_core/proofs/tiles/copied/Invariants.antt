@@ -1,6 +1,6 @@
 use Rattle.std.proofs.Common.{◌≡◌, map, take}
 use Rattle.version_core.specs.Tiles.{finished}
-use Rattle.version_core.proofs.finishing.copied.Given as goal
+use Rattle.version_core.proofs.tiles.copied.Given as goal
 
 -- the tiles so far are copied
 abbrev pub invariant-loop-tile : goal.invariant-loop-tile

@@ -1,0 +1,36 @@
+//! Asking for the tiles of a layer.
+ghost use Rattle.std.specs.Prelude.{◌≡◌, ◌↔◌, IsTrue};
+ghost use Rattle.version_core.specs.Building.{IsBuilt, wait_refusal};
+
+use crate::fault::VersionFault;
+use crate::version::Version;
+use layer_book::fault::LayerFault;
+use layer_expr::name::Name;
+use plane_base::column::LAST_COLUMN;
+
+impl Version {
+    /// Whether each tile of a layer is finished. It takes no memory.
+    pub fn is_built(&self, name: &Name) -> bool
+        ensures { IsTrue result ↔ IsBuilt self.now name.now }
+    {
+        for column in 0..LAST_COLUMN + 1 {
+            if self.tile(name, column).is_none() {
+                return false;
+            }
+        }
+        true
+    }
+
+    /// Why the tiles of a layer cannot be asked for. It takes no memory.
+    pub fn wait_refusal(&self, name: &Name) -> Option<VersionFault>
+        ensures { result ≡ wait_refusal self.now name.now }
+    {
+        if !self.layers().stands(name) {
+            return Some(VersionFault::Layer(LayerFault::UnknownLayer));
+        }
+        if self.layers().stands_as_base(name) {
+            return Some(VersionFault::Layer(LayerFault::NotDerived));
+        }
+        None
+    }
+}
