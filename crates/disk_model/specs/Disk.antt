@@ -1,0 +1,44 @@
+-- What the calls of a disk do to its bytes, and what a crash may make of them.
+use Rattle.std.specs.Prelude.{◌≡◌, ◌⊎◌, ℕ, ◌+◌, ◌-◌, ◌^◌, ◌<◌, ◌≤◌, min, max, List, length, take, drop, slice_index, Result, MatchResult}
+
+-- the n bytes of a file from this offset on
+unfoldable pub part : List ℕ → ℕ → ℕ → List ℕ
+part file at n = take n (drop at file)
+
+-- the file has these bytes at this offset
+pub record Holds (file : List ℕ) (at : ℕ) (bytes : List ℕ) : Type 0 where
+  pub within : at + length bytes ≤ length file
+  pub each : (i : ℕ) → i < length bytes → slice_index file (at + i) ≡ slice_index bytes i
+
+-- after a write of n bytes, whole or not: anything in that range and past the old end, the same elsewhere
+pub record Torn (at n : ℕ) (old new : List ℕ) : Type 0 where
+  pub no_shorter : length old ≤ length new
+  pub no_longer : length new ≤ max (length old) (at + n)
+  pub below : (i : ℕ) → i < length old → i < at → slice_index new i ≡ slice_index old i
+  pub above : (i : ℕ) → i < length old → at + n ≤ i → slice_index new i ≡ slice_index old i
+
+-- each new outcome of a crash is an old outcome after a step
+abbrev pub Follows : (List ℕ → List ℕ → Type 0) → (List ℕ → Type 0) → (List ℕ → Type 0) → Type 0
+Follows step old new = (c : List ℕ) → new c → (d : List ℕ) × old d × step d c
+
+-- each new outcome of a crash is an old one
+abbrev pub Fewer : (List ℕ → Type 0) → (List ℕ → Type 0) → Type 0
+Fewer old new = (c : List ℕ) → new c → old c
+
+-- a crash leaves this and nothing else
+abbrev pub Only : List ℕ → (List ℕ → Type 0) → Type 0
+Only file outcomes = (c : List ℕ) → outcomes c → c ≡ file
+
+-- time goes on: a crash since t might have left what it might have left before, or what it may leave now
+pub record Elapses (before now : ℕ) (past since : ℕ → List ℕ → Type 0) (may_leave : List ℕ → Type 0) : Type 0 where
+  pub later : before ≤ now
+  pub nothing_else : (t : ℕ) (c : List ℕ) → t ≤ before → since t c → past t c ⊎ may_leave c
+  pub keeps : (t : ℕ) (c : List ℕ) → t ≤ before → past t c → since t c
+
+-- the count of failures rose, unless it is at the top of a u64
+abbrev pub Failed : ℕ → ℕ → Type 0
+Failed old new = min (old + 1) (2 ^ 64 - 1) ≤ new
+
+-- the count of failures stays at Ok and rises at Err
+abbrev pub CountsFailure : {T E : Type 0} → Result T E → ℕ → ℕ → Type 0
+CountsFailure result old new = MatchResult result (λ _. new ≡ old) (λ _. Failed old new × (old ≤ new))

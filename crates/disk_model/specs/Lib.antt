@@ -1,0 +1,9 @@
+pub mod Bytes
+pub mod Disk
+pub mod Fault
+pub mod Image
+pub mod MemDisk
+pub mod MemoryLaws
+pub mod Moments
+pub mod Played
+pub mod Replay
