@@ -4,5 +4,7 @@ pub mod Query
 pub mod Crossing
 pub mod PointName
 pub mod PlaceOf
+pub mod NamedPiece
+pub mod NameCode
 pub mod Reduced
 pub use Rattle.overlay_terms.specs.Plane

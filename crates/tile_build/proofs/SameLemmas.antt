@@ -1,7 +1,8 @@
 -- Comparing pieces one after the other by the places of their ends.
-use Rattle.std.proofs.Common.{◌≡◌, ℕ, ◌+◌, ◌<◌, Bool, true, false, ◌&&◌, List, [], ◌∷◌, ◌++◌, length, take, get_or, refl, ap, sym, ◌∙◌}
+use Rattle.std.proofs.Common.{◌≡◌, ℕ, ◌+◌, ◌<◌, Bool, true, false, ◌&&◌, List, [], ◌∷◌, ◌++◌, length, map, take, get_or, refl, ap, sym, ◌∙◌}
 use Rattle.std.proofs.lemmas.Bool.{and_parts, and_from, false≢true, true≢false}
 use Rattle.std.proofs.lemmas.List.{take_more}
+use Rattle.std.proofs.Math.ListN.{get_or-map}
 use Rattle.std.specs.Cmp.Lexicographic.{pointwise}
 use Rattle.std.specs.Ordering.{is_eq, ordering_then}
 use Rattle.std.specs.declared.cmp.Ordering.{Ordering}
@@ -19,6 +20,10 @@ both_equal Greater s = refl
 -- equal points are those at one place
 pub same_places : (p q : HPoint) (a b : Point) (t : Bool) → place p ≡ a → place q ≡ b → t ≡ same_hpoint p q → t ≡ same_place a b
 same_places p q a b t e f h = h ∙ both_equal _ _ ∙ (λ i. same_place (e i) (f i))
+
+-- what stands at a number of a list, and of its images
+pub mapped_at : {X Y : Type 0} (f : X → Y) (xs : List X) (i : ℕ) (x : X) → x ≡ get_or xs i x → f x ≡ get_or (map f xs) i (f x)
+mapped_at f xs i x h = ap f h ∙ sym (get_or-map f xs i x)
 
 module _ {X : Type 0} (same : X → X → Bool) where
   pointwise-push : (xs ys : List X) (x y : X) → pointwise same xs ys ≡ true → same x y ≡ true → pointwise same (xs ++ x ∷ []) (ys ++ y ∷ []) ≡ true

@@ -1,15 +1,21 @@
 -- Tiles of the code as tiles of the definitions, and what a tile tells of a point.
-use Rattle.std.specs.Prelude.{◌%◌, ◌==◌, Bool, count_by, Option, Some, None}
+use Rattle.std.specs.Prelude.{◌%◌, ◌==◌, Bool, List, map, count_by, Option, Some, None}
 use Rattle.overlay_terms.specs.Plane.{Point}
 use Rattle.overlay_terms.specs.Histories as terms
 use Rattle.overlay_terms.specs.TileLaws.{is_pair_below}
+use Rattle.exact_point.specs.NamedPiece.{NamedPiece, ends_of}
 use Rattle.tile_build.specs.declared.tile.Tile.{Tile}
 use Rattle.tile_build.specs.declared.tile.Tile.TheVariants.{Pieces, Oversize}
 
 -- a tile by the ends of its pieces
 abbrev pub tile_of : Tile → terms.Tile
-tile_of (Pieces list) = terms.pieces list.items
+tile_of (Pieces list) = terms.pieces (map ends_of list.items)
 tile_of Oversize = terms.oversize
+
+-- the pieces of a tile with the names of their ends, where they are there
+abbrev pub named_pieces : Tile → Option (List NamedPiece)
+named_pieces (Pieces list) = Some list.items
+named_pieces Oversize = None
 
 -- whether an odd number of a tile's pieces is below a point, where they are there
 abbrev pub answer_of : terms.Tile → Point → Option Bool

@@ -1,13 +1,13 @@
 //! Pieces of the boundary.
-ghost use Rattle.std.specs.Prelude.{◌≡◌};
+ghost use Rattle.std.specs.Prelude.{◌≡◌, ◌↔◌, IsSome, IfSome};
 ghost use Rattle.overlay_terms.specs.TileLaws.{is_pair_below};
 ghost use Rattle.exact_point.specs.Place.{place};
-ghost use Rattle.exact_point.specs.PlaceOf.{place_of};
+ghost use Rattle.exact_point.specs.NamedPiece.{ends_of};
 
 use arrange::piece::Elementary;
 use exact_point::point::HPoint;
 use exact_point::point_name::PointName;
-use exact_point::side::{side, x_cmp};
+use exact_point::side::{on, side, x_cmp};
 use plane_base::point::Seg;
 use std::marker::Model;
 
@@ -20,17 +20,16 @@ pub struct Piece {
 }
 
 impl Model for Piece {
-    ghost use Rattle.overlay_terms.specs.Plane.{Point};
-    ghost use Rattle.overlay_terms.specs.InputCode.{ends_code};
+    ghost use Rattle.exact_point.specs.NamedPiece.{NamedPiece};
+    ghost use Rattle.exact_point.specs.NameCode.{piece_code};
 
-    ghost Value = { Point × Point };
+    ghost Value = { NamedPiece };
 
-    ghost coded = { ends_code };
+    ghost coded = { piece_code };
 
-    ghost use Rattle.exact_point.specs.PlaceOf.{place_of};
     ghost use Rattle.tile_build.specs.Piece.{IsBetween};
 
-    ghost view = { λ p. (place_of p.from, place_of p.to) };
+    ghost view = { λ p. record { support = p.support; from = p.from; to = p.to } };
 
     ghost invariant = { λ p. IsBetween p.support p.from p.to };
 }
@@ -38,32 +37,55 @@ impl Model for Piece {
 impl Piece {
     ghost use Rattle.std.specs.Ordering.{is_lt};
     ghost use Rattle.overlay_terms.specs.Tiles.{pair_cmp};
-    ghost use Rattle.arrange.specs.Arrangement.{ends_of};
+    ghost use Rattle.tile_build.specs.Boundary.{named_of};
     ghost use Rattle.tile_build.specs.Piece.{IsBetween};
     ghost use Rattle.tile_laws.specs.SameTile.{same_pair, IsPositivePair};
 
+    /// The stretch of a segment between two named places, where both lie on the segment and the
+    /// first is left of the second.
+    pub fn new(support: Seg, from: PointName, to: PointName) -> Option<Piece>
+        ensures between { IsSome result ↔ IsBetween support from to }
+        ensures value { IfSome result (λ piece. piece ≡ record { support = support; from = from; to = to }) }
+    {
+        let left = from.point()?;
+        let right = to.point()?;
+        if !on(&support, &left) {
+            return None;
+        }
+        if !on(&support, &right) {
+            return None;
+        }
+        if !left.cmp(&right).is_lt() {
+            return None;
+        }
+        Some(Piece { support, from, to })
+    }
+
     /// The segment that the piece is a stretch of.
-    pub fn support(&self) -> Seg {
+    pub fn support(&self) -> Seg
+        ensures { result ≡ self.now.support }
+    {
         self.support
     }
 
     /// The name of its left end.
     pub fn from(&self) -> PointName
-        ensures { place_of result ≡ self.now.0 }
+        ensures { result ≡ self.now.from }
     {
         self.from
     }
 
     /// The name of its right end.
     pub fn to(&self) -> PointName
-        ensures { place_of result ≡ self.now.1 }
+        ensures { result ≡ self.now.to }
     {
         self.to
     }
 
     /// The places of its ends.
     pub fn ends(&self) -> (HPoint, HPoint)
-        ensures { (place result.0, place result.1) ≡ self.now }
+        ensures places { (place result.0, place result.1) ≡ ends_of self.now }
+        ensures between { IsBetween self.now.support self.now.from self.now.to }
     {
         (self.from.known_point(), self.to.known_point())
     }
@@ -71,7 +93,7 @@ impl Piece {
     /// The piece of the arrangement as a piece of the boundary.
     pub(crate) fn of(piece: &Elementary) -> Piece
         requires { IsBetween piece.now.support piece.now.from piece.now.to }
-        ensures { result ≡ ends_of piece.now }
+        ensures { result ≡ named_of piece.now }
     {
         Piece {
             support: piece.support,
@@ -82,7 +104,7 @@ impl Piece {
 
     /// Whether the piece stands before another: by the left end, then by the right end.
     pub(crate) fn is_before(&self, other: &Piece) -> bool
-        ensures { result ≡ is_lt (pair_cmp self.now other.now) }
+        ensures { result ≡ is_lt (pair_cmp (ends_of self.now) (ends_of other.now)) }
     {
         let from = self.from.known_point().cmp(&other.from.known_point());
         let to = self.to.known_point().cmp(&other.to.known_point());
@@ -91,12 +113,19 @@ impl Piece {
 
     /// Whether both ends are at the places of those of another piece, whatever their names.
     pub(crate) fn is_same(&self, other: &Piece) -> bool
-        ensures value { result ≡ same_pair self.now other.now }
-        ensures positive { IsPositivePair self.now }
+        ensures { result ≡ same_pair (ends_of self.now) (ends_of other.now) }
     {
         let from = self.from.known_point() == other.from.known_point();
         let to = self.to.known_point() == other.to.known_point();
-        from & to
+        from && to
+    }
+
+    /// Says of a piece what is true of each: its ends have positive denominators. The call does
+    /// nothing.
+    pub(crate) fn known(&self)
+        ensures { IsPositivePair (ends_of self.now) }
+    {
+        let _ = &self.support;
     }
 
     /// An equal piece.
@@ -112,7 +141,7 @@ impl Piece {
 
     /// Whether the piece is below a point. Its right end does not count.
     pub(crate) fn is_below(&self, query: &HPoint) -> bool
-        ensures { result ≡ is_pair_below (place query.now) self.now }
+        ensures { result ≡ is_pair_below (place query.now) (ends_of self.now) }
     {
         if x_cmp(&self.from.known_point(), query).is_gt() {
             return false;

@@ -1,9 +1,10 @@
 //! Tiles.
-ghost use Rattle.std.specs.Prelude.{◌≡◌, ◌%◌, ◌==◌, count_by, All, IfOk, IsTrue};
+ghost use Rattle.std.specs.Prelude.{◌≡◌, ◌%◌, ◌==◌, count_by, map, All, IfOk};
 ghost use Rattle.overlay_terms.specs.TileLaws.{is_pair_below};
 ghost use Rattle.exact_point.specs.Place.{place};
+ghost use Rattle.exact_point.specs.NamedPiece.{ends_of};
 ghost use Rattle.tile_laws.specs.SameTile.{same_ends, same_tile, HasPositiveEnds, IsPositivePair};
-ghost use Rattle.tile_build.specs.Tile.{tile_of, answer_of};
+ghost use Rattle.tile_build.specs.Tile.{tile_of, named_pieces, answer_of};
 
 use crate::piece::Piece;
 use exact_point::point::HPoint;
@@ -32,8 +33,9 @@ impl Tile {
     /// many.
     pub fn is_same(&self, other: &Tile) -> bool
         ensures value { result ≡ same_tile (tile_of self.now) (tile_of other.now) }
-        ensures positive { IsTrue result → HasPositiveEnds (tile_of self.now) }
+        ensures positive { HasPositiveEnds (tile_of self.now) }
     {
+        self.known();
         match (self, other) {
             (Tile::Pieces(held), Tile::Pieces(built)) => are_same(held, built),
             (Tile::Oversize, Tile::Oversize) => true,
@@ -41,9 +43,20 @@ impl Tile {
         }
     }
 
-    /// An equal tile in memory of its own.
+    /// Says of a tile what is true of each: the ends of its pieces have positive denominators. The
+    /// call changes nothing.
+    fn known(&self)
+        ensures { HasPositiveEnds (tile_of self.now) }
+    {
+        if let Tile::Pieces(pieces) = self {
+            are_known(pieces);
+        }
+    }
+
+    /// An equal tile in memory of its own, names and supports included.
     pub fn try_copy(&self, alloc: Global) -> Result<Tile, AllocError>
-        ensures { IfOk result (λ copy. tile_of copy ≡ tile_of self.now) }
+        ensures named { IfOk result (λ copy. named_pieces copy ≡ named_pieces self.now) }
+        ensures same { IfOk result (λ copy. tile_of copy ≡ tile_of self.now) }
     {
         match self {
             Tile::Pieces(pieces) => Ok(Tile::Pieces(copied(alloc, pieces)?)),
@@ -54,7 +67,7 @@ impl Tile {
 
 /// Whether an odd number of pieces is below a point.
 fn is_odd_below(pieces: &[Piece], query: &HPoint) -> bool
-    ensures { result ≡ (count_by (is_pair_below (place query.now)) pieces.now % 2 == 1) }
+    ensures { result ≡ (count_by (is_pair_below (place query.now)) (map ends_of pieces.now) % 2 == 1) }
 {
     let mut odd = false;
     for piece in pieces {
@@ -67,8 +80,7 @@ fn is_odd_below(pieces: &[Piece], query: &HPoint) -> bool
 
 /// Whether there are as many pieces, and each has the places of the one at its place.
 fn are_same(held: &[Piece], built: &[Piece]) -> bool
-    ensures value { result ≡ same_ends held.now built.now }
-    ensures positive { IsTrue result → All IsPositivePair held.now }
+    ensures { result ≡ same_ends (map ends_of held.now) (map ends_of built.now) }
 {
     if held.len() != built.len() {
         return false;
@@ -79,6 +91,15 @@ fn are_same(held: &[Piece], built: &[Piece]) -> bool
         }
     }
     true
+}
+
+/// Says of pieces what is true of each.
+fn are_known(pieces: &[Piece])
+    ensures { All IsPositivePair (map ends_of pieces.now) }
+{
+    for piece in pieces {
+        piece.known();
+    }
 }
 
 /// Equal pieces in memory of their own.

@@ -13,17 +13,11 @@ use Rattle.version_core.specs.Verdict.{IsVerdict}
 use Rattle.version_core.specs.declared.verifying.Verdict.{Verdict}
 use Rattle.version_core.specs.declared.verifying.Verdict.TheVariants.{Same, Different}
 
--- the ends of an input's tile have positive denominators
-ends_positive : (cap : ℕ) (input : Input) (tile : Tile) → IsTileAt cap input tile → HasPositiveEnds tile
-ends_positive cap input (pieces ends) h =
-    All-weaker (λ (a : Point × Point). IsBoundary input.marked input.steps input.column a.0 a.1) IsPositivePair (λ a b. (b.piece.from_positive, b.piece.to_positive)) ends h.1.sound
-ends_positive cap input oversize h = tt
-
 -- the comparison with a tile of the input tells whether the held tile is one
-told : (input : Input) (held built : Tile) (same : Bool) → IsTileAt pieces_max input built → same ≡ same_tile held built → (IsTrue same → HasPositiveEnds held) → IsTrue same ↔ IsTileAt pieces_max input held
+told : (input : Input) (held built : Tile) (same : Bool) → IsTileAt pieces_max input built → same ≡ same_tile held built → HasPositiveEnds held → IsTrue same ↔ IsTileAt pieces_max input held
 told input held built same right is positive = (
-  λ t. (held_tile input held built (positive t) right).0 (sym is ∙ t),
-  λ h. is ∙ (held_tile input held built (ends_positive pieces_max input held h) right).1 h,
+  λ t. (held_tile input held built positive right).0 (sym is ∙ t),
+  λ h. is ∙ (held_tile input held built positive right).1 h,
 )
 
 -- the verdict that a comparison gives
@@ -36,7 +30,7 @@ same_told true = (λ e. refl, λ e. refl)
 same_told false = (λ e. cc, λ e. absurd (false≢true e))
 
 -- the verdict is right
-pub is_verdict : (version : Version) (name : Name) (k : ℕ) (held built : Tile) (same : Bool) → tile_at version.tiles name k ≡ Some held → IsTileAt pieces_max (input_of version.layers name k) built → same ≡ same_tile held built → (IsTrue same → HasPositiveEnds held) → IsVerdict version name k (verdict_of same)
+pub is_verdict : (version : Version) (name : Name) (k : ℕ) (held built : Tile) (same : Bool) → tile_at version.tiles name k ≡ Some held → IsTileAt pieces_max (input_of version.layers name k) built → same ≡ same_tile held built → HasPositiveEnds held → IsVerdict version name k (verdict_of same)
 is_verdict version name k held built same at right is positive tile e =
     let one : held ≡ tile = some_is (sym at ∙ e) in
     let both : IsTrue same ↔ IsTileAt pieces_max (input_of version.layers name k) held = told (input_of version.layers name k) held built same right is positive in (

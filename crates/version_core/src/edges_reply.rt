@@ -1,6 +1,7 @@
 //! The edges of a tile as text.
-ghost use Rattle.std.specs.Prelude.{◌≡◌, ◌++◌, None, Some, IfOk, IfErr, OnOk, string_bytes};
+ghost use Rattle.std.specs.Prelude.{◌≡◌, ◌++◌, None, Some, map, IfOk, IfErr, OnOk, string_bytes};
 ghost use Rattle.overlay_terms.specs.Histories.{tile_at};
+ghost use Rattle.exact_point.specs.NamedPiece.{ends_of};
 ghost use Rattle.exact_point.specs.Place.{place};
 ghost use Rattle.layer_book.specs.Fault.{RefusedBy};
 ghost use Rattle.tile_build.specs.Tile.{tile_of};
@@ -45,7 +46,7 @@ impl Version {
 
 /// The pieces as text: how many there are, then a line for each.
 fn written(alloc: Global, pieces: &[Piece]) -> Result<Vec<u8>, AllocError>
-    ensures { IfOk result (λ text. IsTextOf pieces.now text.items) }
+    ensures { IfOk result (λ text. IsTextOf (map ends_of pieces.now) text.items) }
 {
     let count = pieces.len();
     let mut text = format!(in alloc; "edges {count}\n")?;

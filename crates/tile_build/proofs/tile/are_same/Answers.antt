@@ -1,23 +1,31 @@
-use Rattle.std.proofs.Common.{◌<◌, length, sym, subst, arith}
-use Rattle.std.proofs.lemmas.List.Elements.{All-more}
-use Rattle.tile_laws.specs.SameTile.{same_pair, IsPositivePair}
-use Rattle.tile_build.proofs.SameLemmas.{pointwise_more, not_alike}
+use Rattle.std.proofs.Common.{◌<◌, length, map, sym, arith}
+use Rattle.std.proofs.lemmas.List.{length-map}
+use Rattle.exact_point.specs.NamedPiece.{ends_of}
+use Rattle.tile_laws.specs.SameTile.{same_pair}
+use Rattle.tile_build.proofs.SameLemmas.{pointwise_more, not_alike, mapped_at}
 use Rattle.tile_build.proofs.tile.are_same.Goals as goal
 
-pub returns-then-not-is_same-clause-value : goal.returns-then-not-is_same-clause-value
-returns-then-not-is_same-clause-value c =
-    not_alike same_pair c.args.held.now c.args.built.now c.loop-i.i c.index-held-i.result c.index-built-i.result
-    (omega arith) c.index-held-i.is c.index-built-i.is (sym c.if-not-is_same.ensures.value)
+pub returns-then-not-is_same : goal.returns-then-not-is_same
+returns-then-not-is_same c =
+    let held = c.args.held.now in
+    let built = c.args.built.now in
+    not_alike same_pair (map ends_of held) (map ends_of built) c.loop-i.i (ends_of c.index-held-i.result) (ends_of c.index-built-i.result)
+    (omega (arith, length-map held ends_of))
+    (mapped_at ends_of held c.loop-i.i c.index-held-i.result c.index-held-i.is) (mapped_at ends_of built c.loop-i.i c.index-built-i.result c.index-built-i.is)
+    (sym c.if-not-is_same.ensures)
 
 pub loop-i-preserved : goal.loop-i-preserved
 loop-i-preserved c =
-    let within : c.loop-i.i < length c.args.held.now = omega arith in
+    let held = c.args.held.now in
+    let built = c.args.built.now in
+    let i = c.loop-i.i in
+    let within : i < length (map ends_of held) = omega (arith, length-map held ends_of) in
+    let there : i < length (map ends_of built) = omega (arith, length-map built ends_of, c.loop-i.invariant.as_long) in
     record {
       as_long = c.loop-i.invariant.as_long;
       same =
-          pointwise_more same_pair c.args.held.now c.args.built.now c.loop-i.i c.index-held-i.result c.index-built-i.result
-          within (omega (arith, c.loop-i.invariant.as_long)) c.index-held-i.is c.index-built-i.is c.loop-i.invariant.same (sym c.if-not-is_same.ensures.value);
-      positive =
-          All-more IsPositivePair c.args.held.now c.loop-i.i c.index-held-i.result within c.loop-i.invariant.positive
-          (subst IsPositivePair c.index-held-i.is c.is_same.ensures.positive);
+          pointwise_more same_pair (map ends_of held) (map ends_of built) i (ends_of c.index-held-i.result) (ends_of c.index-built-i.result)
+          within there
+          (mapped_at ends_of held i c.index-held-i.result c.index-held-i.is) (mapped_at ends_of built i c.index-built-i.result c.index-built-i.is)
+          c.loop-i.invariant.same (sym c.if-not-is_same.ensures);
     }

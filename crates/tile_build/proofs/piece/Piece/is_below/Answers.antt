@@ -5,6 +5,7 @@ use Rattle.overlay_terms.specs.Plane.{Point, height_over}
 use Rattle.overlay_terms.specs.TileLaws.{is_pair_below}
 use Rattle.exact_point.specs.Place.{place}
 use Rattle.exact_point.specs.PlaceOf.{place_of}
+use Rattle.exact_point.specs.NamedPiece.{NamedPiece, ends_of}
 use Rattle.exact_point.proofs.OnSegment.{reached}
 use Rattle.tile_build.proofs.PieceLemmas.{IsStretch, below_by_height, right_of, left_of, gt_is, le_from, not_le_from, lt_from, not_lt_from}
 use Rattle.tile_build.proofs.piece.Piece.is_below.Goals as goal
@@ -16,7 +17,7 @@ returns-then-is_gt c =
     let q = place c.args.query.now in
     let x : c.x_cmp.result ≡ int_cmp (p.x *ℤ q.w) (q.x *ℤ p.w) = c.x_cmp.ensures ∙ ap (λ (z : Point). int_cmp (z.x *ℤ q.w) (q.x *ℤ z.w)) c.known_point.ensures.value in
     let e : is_gt (int_cmp (p.x *ℤ q.w) (q.x *ℤ p.w)) ≡ true = sym (ap is_gt x) ∙ sym c.is_gt.ensures ∙ c.if-is_gt.true in
-    right_of p r q (not_le_from (p.x *ℤ q.w) (q.x *ℤ p.w) e) ∙ ap (is_pair_below q) c.self.view_is
+    right_of p r q (not_le_from (p.x *ℤ q.w) (q.x *ℤ p.w) e) ∙ ap (λ (n : NamedPiece). is_pair_below q (ends_of n)) c.self.view_is
 
 pub returns-then-is_ge : goal.returns-then-is_ge
 returns-then-is_ge c =
@@ -25,7 +26,7 @@ returns-then-is_ge c =
     let q = place c.args.query.now in
     let x : c.x_cmp-2.result ≡ int_cmp (q.x *ℤ r.w) (r.x *ℤ q.w) = c.x_cmp-2.ensures ∙ ap (λ (z : Point). int_cmp (q.x *ℤ z.w) (z.x *ℤ q.w)) c.known_point-2.ensures.value in
     let e : is_ge (int_cmp (q.x *ℤ r.w) (r.x *ℤ q.w)) ≡ true = sym (ap is_ge x) ∙ sym c.is_ge.ensures ∙ c.if-is_ge.true in
-    left_of p r q (not_lt_from (q.x *ℤ r.w) (r.x *ℤ q.w) e) ∙ ap (is_pair_below q) c.self.view_is
+    left_of p r q (not_lt_from (q.x *ℤ r.w) (r.x *ℤ q.w) e) ∙ ap (λ (n : NamedPiece). is_pair_below q (ends_of n)) c.self.view_is
 
 pub returns : goal.returns
 returns c =
@@ -46,4 +47,4 @@ returns c =
     let positive : pos 0 <ℤ q.w = omega (arith, ints, c.args.query.now.w_low) in
     c.is_gt-2.ensures ∙ ap is_gt c.side.ensures ∙ gt_is (height_over s q) (pos 0)
     ∙ below_by_height s p r q h positive (le_from (p.x *ℤ q.w) (q.x *ℤ p.w) left) (lt_from (q.x *ℤ r.w) (r.x *ℤ q.w) right)
-    ∙ ap (is_pair_below q) c.self.view_is
+    ∙ ap (λ (n : NamedPiece). is_pair_below q (ends_of n)) c.self.view_is

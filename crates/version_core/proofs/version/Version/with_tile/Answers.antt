@@ -18,7 +18,7 @@ invariant_of-result c =
     let input = c.args.built.now.0 in
     let tile = c.args.built.now.1 in
     let same_name : c.in_ok-clone.field-0 ≡ name = search (rules, c.in_ok-clone.ensures.cases) in
-    let same_tile : tile_of c.in_ok-new.field-0.value ≡ tile = ap tile_of c.in_ok-new.ensures.ok ∙ c.in_ok-try_copy.ensures ∙ c.tile.ensures.value in
+    let same_tile : tile_of c.in_ok-new.field-0.value ≡ tile = ap tile_of c.in_ok-new.ensures.ok ∙ c.in_ok-try_copy.ensures.same ∙ c.tile.ensures.value in
     let column = c.column.ensures.value ∙ ap (λ (i : Input). i.column) c.input.ensures.value in
     let added : FinishedTile = record { name = c.in_ok-clone.field-0; column = c.column.result; tile = c.in_ok-new.field-0 } in
     let tiles : map finished c.push.new.self.items ≡ old.tiles ++ record { name = name; column = input.column; tile = tile } ∷ [] =
@@ -36,7 +36,7 @@ returns c =
     let input = c.args.built.now.0 in
     let tile = c.args.built.now.1 in
     let same_name : c.in_ok-clone.field-0 ≡ name = search (rules, c.in_ok-clone.ensures.cases) in
-    let same_tile : tile_of c.in_ok-new.field-0.value ≡ tile = ap tile_of c.in_ok-new.ensures.ok ∙ c.in_ok-try_copy.ensures ∙ c.tile.ensures.value in
+    let same_tile : tile_of c.in_ok-new.field-0.value ≡ tile = ap tile_of c.in_ok-new.ensures.ok ∙ c.in_ok-try_copy.ensures.same ∙ c.tile.ensures.value in
     let column = c.column.ensures.value ∙ ap (λ (i : Input). i.column) c.input.ensures.value in
     let added : FinishedTile = record { name = c.in_ok-clone.field-0; column = c.column.result; tile = c.in_ok-new.field-0 } in
     let tiles : map finished c.push.new.self.items ≡ old.tiles ++ record { name = name; column = input.column; tile = tile } ∷ [] =
