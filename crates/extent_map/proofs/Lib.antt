@@ -1,0 +1,3 @@
+mod Gaps
+mod Plans
+mod Rows

@@ -1,0 +1,42 @@
+-- The lowest run that fits, for one length and for several.
+use Rattle.std.specs.Prelude.{◌≡◌, ℕ, ◌+◌, ◌/◌, ◌<◌, ◌≤◌, max, List, [], ◌∷◌, ◌++◌}
+use Rattle.extent_map.specs.declared.extent.Extent.{Extent}
+use Rattle.extent_map.specs.Extents.{IsFree}
+
+-- the blocks that so many bytes take: no record takes none
+abbrev pub blocks_for : ℕ → ℕ
+blocks_for length = max 1 ((length + 4095) / 4096)
+
+-- the lowest start, from block 2 on, of so many free blocks below the limit
+pub record IsFirstFit (taken : List Extent) (limit need start : ℕ) : Type 0 where
+  pub behind : 2 ≤ start
+  pub below : start + need ≤ limit
+  pub free : IsFree taken start need
+  pub lowest : (s : ℕ) → 2 ≤ s → s < start → IsFree taken s need → ⊥
+
+-- so many free blocks stand nowhere from block 2 on and below the limit
+abbrev pub NoFit : List Extent → ℕ → ℕ → Type 0
+NoFit taken limit need = (s : ℕ) → 2 ≤ s → s + need ≤ limit → IsFree taken s need → ⊥
+
+-- each length in order has the lowest run that is free of what is taken and of the runs before it
+abbrev pub IsPlanned : List Extent → ℕ → List ℕ → List Extent → Type 0
+IsPlanned taken limit [] [] = Unit {0}
+IsPlanned taken limit [] (run ∷ runs) = ⊥
+IsPlanned taken limit (n ∷ lengths) [] = ⊥
+IsPlanned taken limit (n ∷ lengths) (run ∷ runs) =
+    (run.blocks ≡ blocks_for n) × IsFirstFit taken limit (blocks_for n) run.block × IsPlanned (run ∷ taken) limit lengths runs
+
+-- what is taken once these runs are taken too, in order
+abbrev pub taken_with : List Extent → List Extent → List Extent
+taken_with taken [] = taken
+taken_with taken (run ∷ runs) = taken_with (run ∷ taken) runs
+
+-- some length finds no run, where each before it has found its own
+pub record IsFull (taken : List Extent) (limit : ℕ) (lengths : List ℕ) : Type 0 where
+  pub before : List ℕ
+  pub wanted : ℕ
+  pub behind : List ℕ
+  pub runs : List Extent
+  pub are : lengths ≡ before ++ wanted ∷ behind
+  pub planned : IsPlanned taken limit before runs
+  pub none : NoFit (taken_with taken runs) limit (blocks_for wanted)

@@ -1,0 +1,4 @@
+pub mod Extents
+pub mod Fault
+pub mod FirstFit
+pub mod Taken

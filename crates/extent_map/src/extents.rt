@@ -1,0 +1,92 @@
+//! The blocks that are taken, and a place for each of some records among those that are free.
+ghost use Rattle.std.specs.Prelude.{◌≡◌, ◌∷◌, List, IsOk, IfOk, IfSome, IfNone, IfErr, IsErrOf};
+ghost use Rattle.extent_map.specs.Extents.{IsFree, AreApart, AreAlike, Ascend, Ascend-prop, IsGap};
+ghost use Rattle.extent_map.specs.FirstFit.{IsPlanned, IsFull};
+
+use crate::extent::Extent;
+use crate::fault::ExtentFault;
+use crate::first_fit::{blocks_of, first_fit};
+use std::alloc::Global;
+
+/// Extents that are taken, in ascending order, and the number of blocks that the file may have.
+#[derive(Drop)]
+pub struct Extents {
+    taken: Vec<Extent>,
+    limit: u64,
+    ghost ascending: { Ascend taken.items } by { Ascend-prop taken.items },
+}
+
+/// Where an extent stands among others, if it has no block in common with them.
+fn place_of(taken: &[Extent], extent: &Extent) -> Option<usize>
+    requires { Ascend taken.now }
+    ensures some { IfSome result (λ place. IsGap taken.now place extent.now.block extent.now.blocks) }
+    ensures none { IfNone result (IsFree taken.now extent.now.block extent.now.blocks → ⊥) }
+{
+    for i in 0..taken.len() {
+        let other = taken[i];
+        if other.is_before(extent) {
+            continue;
+        }
+        if extent.is_before(&other) {
+            return Some(i);
+        }
+        return None;
+    }
+    Some(taken.len())
+}
+
+/// Puts an extent in its place.
+fn put(taken: &mut Vec<Extent>, place: usize, extent: Extent) -> Result<(), ExtentFault>
+    requires ascending { Ascend taken.old.items }
+    requires gap { IsGap taken.old.items place extent.block extent.blocks }
+    ensures ascending { IsOk result → Ascend taken.new.items }
+    ensures alike { (given : List Extent) → AreAlike given taken.old.items → IsOk result → AreAlike (extent ∷ given) taken.new.items }
+    ensures err { IfErr result (λ fault. fault ≡ ExtentFault.OutOfMemory) }
+{
+    taken.insert(place, extent)?;
+    Ok(())
+}
+
+impl Extents {
+    ghost use Rattle.extent_map.specs.Taken.{taken_of, limit_of};
+
+    /// The map of a file of at most so many blocks in which these extents are taken.
+    pub fn of(alloc: Global, extents: &[Extent], max_blocks: u64) -> Result<Extents, ExtentFault>
+        ensures apart { IsOk result → AreApart extents.now }
+        ensures taken { IfOk result (λ map. AreAlike extents.now (taken_of map)) }
+        ensures limit { IfOk result (λ map. limit_of map ≡ max_blocks) }
+        ensures overlap { IsErrOf result ExtentFault.Overlap → AreApart extents.now → ⊥ }
+        ensures never { IsErrOf result ExtentFault.Full → ⊥ }
+    {
+        let mut taken = Vec::new(alloc);
+        for extent in extents {
+            let Some(place) = place_of(&taken, extent) else {
+                return Err(ExtentFault::Overlap);
+            };
+            put(&mut taken, place, *extent)?;
+        }
+        Ok(Extents {
+            taken,
+            limit: max_blocks,
+        })
+    }
+
+    /// A run for each length of bytes, in order: the lowest that is free of what is taken and of the runs before it.
+    pub fn plan(&self, alloc: Global, lengths: &[u32]) -> Result<Vec<Extent>, ExtentFault>
+        ensures ok { IfOk result (λ runs. IsPlanned (taken_of self.now) (limit_of self.now) lengths.now runs.items) }
+        ensures full { IsErrOf result ExtentFault.Full → IsFull (taken_of self.now) (limit_of self.now) lengths.now }
+        ensures never { IsErrOf result ExtentFault.Overlap → ⊥ }
+    {
+        let mut taken = self.taken.to_vec(alloc)?;
+        let mut runs = Vec::new(alloc);
+        for length in lengths {
+            let need = blocks_of(*length);
+            let Some(found) = first_fit(&taken, self.limit, need) else {
+                return Err(ExtentFault::Full);
+            };
+            put(&mut taken, found.place, found.run)?;
+            runs.push(found.run)?;
+        }
+        Ok(runs)
+    }
+}

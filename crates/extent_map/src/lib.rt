@@ -1,0 +1,7 @@
+//! Which blocks of a file are free, and the lowest run of them that fits.
+#![tactic(auto)]
+
+pub mod extent;
+pub mod extents;
+pub mod fault;
+mod first_fit;
