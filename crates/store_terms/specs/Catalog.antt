@@ -1,0 +1,32 @@
+-- The catalog: where the records of each layer lie.
+use Rattle.std.specs.Prelude.{ℕ, ◌⊎◌, List, Option}
+use Rattle.overlay_terms.specs.Column.{column_count}
+use Rattle.overlay_terms.specs.Layers.{Name}
+use Rattle.store_terms.specs.declared.root.Extent.{Extent}
+use Rattle.store_terms.specs.Fields.{Field, number, both, made, repeated, counted, whole}
+use Rattle.store_terms.specs.Choices.{either, optional}
+
+-- the first block of a record, then how many bytes it has
+abbrev pub extent : Field Extent
+extent = made (λ p. record { block = p.0; size = p.1 }) (λ e. (e.block, e.size)) (both (number 8) (number 4))
+
+-- the record of a base layer; or that of a definition, and by column of each finished tile
+abbrev pub Records : Type 0
+Records = Extent ⊎ Extent × List (Option Extent)
+
+-- the name of a layer, and its records
+pub record Listed : Type 0 where
+  pub name : Name
+  pub records : Records
+
+-- a layer, where there are n columns
+abbrev pub listed : ℕ → Field Listed
+listed n = made (λ p. record { name = p.0; records = p.1 }) (λ l. (l.name, l.records)) (both (counted 1 (number 1)) (either extent (both extent (repeated n (optional extent)))))
+
+-- the layers in order
+abbrev pub catalog : ℕ → Field (List Listed)
+catalog n = counted 2 (listed n)
+
+-- the layers that a catalog lists
+abbrev pub catalog_of_record : List ℕ → Option (List Listed)
+catalog_of_record bytes = whole (catalog column_count) bytes

@@ -1,0 +1,14 @@
+pub mod Damage
+pub mod Fields
+pub mod Choices
+pub mod BaseRecord
+pub mod DefinitionRecord
+pub mod TileRecord
+pub mod Catalog
+pub mod Places
+pub mod Roots
+pub mod Image
+pub mod StandsFor
+pub mod Frame
+pub mod Spelled
+pub mod RecordLaws

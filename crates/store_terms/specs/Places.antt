@@ -1,0 +1,49 @@
+-- Where the records of a store lie in its file. The file is read through `bytes_of` and `is_placed` alone.
+use Rattle.std.specs.Prelude.{ℕ, ◌+◌, ◌*◌, ◌/◌, nat_le, max, Bool, true, ◌&&◌, ◌||◌, List, [], ◌∷◌, length, flat_map, Option, Some, None}
+use Rattle.std.proofs.Common.{inl, inr}
+use Rattle.disk_model.specs.Disk.{part}
+use Rattle.store_terms.specs.declared.root.Extent.{Extent}
+use Rattle.store_terms.specs.Catalog.{Records, Listed}
+
+-- how many bytes a block has
+abbrev pub block_size : ℕ
+block_size = 4096
+
+-- how many blocks a record of so many bytes takes
+abbrev pub blocks : ℕ → ℕ
+blocks size = max 1 ((size + 4095) / block_size)
+
+-- the bytes of a record
+abbrev pub bytes_of : List ℕ → Extent → List ℕ
+bytes_of file e = part file (block_size * e.block) e.size
+
+-- whether a record lies behind the slots, in whole blocks of the file
+abbrev pub is_placed : List ℕ → Extent → Bool
+is_placed file e = nat_le 2 e.block && nat_le (e.block + blocks e.size) (length file / block_size)
+
+-- the extents of some tiles
+abbrev pub some_extents : List (Option Extent) → List Extent
+some_extents [] = []
+some_extents (None ∷ rest) = some_extents rest
+some_extents (Some e ∷ rest) = e ∷ some_extents rest
+
+abbrev pub extents_of_records : Records → List Extent
+extents_of_records (inl e) = e ∷ []
+extents_of_records (inr (e, tiles)) = e ∷ some_extents tiles
+
+-- the extents of all records that are listed
+abbrev pub extents_listed : List Listed → List Extent
+extents_listed ls = flat_map (λ l. extents_of_records l.records) ls
+
+-- whether two extents have no block in common
+abbrev pub are_apart : Extent → Extent → Bool
+are_apart a b = nat_le (a.block + blocks a.size) b.block || nat_le (b.block + blocks b.size) a.block
+
+abbrev pub is_apart_from : Extent → List Extent → Bool
+is_apart_from e [] = true
+is_apart_from e (f ∷ fs) = are_apart e f && is_apart_from e fs
+
+-- whether no two extents have a block in common
+abbrev pub all_apart : List Extent → Bool
+all_apart [] = true
+all_apart (e ∷ es) = is_apart_from e es && all_apart es

@@ -1,0 +1,34 @@
+-- Roots, and the bodies of the slots that name them.
+use Rattle.std.specs.Prelude.{ℕ, ◌^◌, true, List, ◌++◌, take, drop, codes, bytes_eq}
+use Rattle.byteorder.specs.Endian.{big_number, big_bytes}
+use Rattle.store_terms.specs.declared.root.Root.{Root}
+use Rattle.store_terms.specs.declared.root.Body.{Body}
+
+-- the bytes that each body begins with
+abbrev pub magic : List ℕ
+magic = codes "OVLSTORE"
+
+-- the number of the file's format
+abbrev pub format_number : ℕ
+format_number = 1
+
+-- the body of a slot: magic, format, the numbers of the root, and zeros that are not read
+abbrev pub body_text : Root → List ℕ
+body_text r =
+    magic ++ (big_bytes 4 format_number ++ (big_bytes 8 r.sequence ++ (big_bytes 8 r.version ++ (big_bytes 8 r.catalog.block ++ (big_bytes 4 r.catalog.size ++ big_bytes 8 0)))))
+
+-- what the first 40 bytes of a body say, whether it is ours or not
+unfoldable pub body_in : List ℕ → Body
+body_in bytes = record {
+  is_ours = bytes_eq (take 8 bytes) magic;
+  format = big_number 4 (drop 8 bytes);
+  root = record { sequence = big_number 8 (drop 12 bytes); version = big_number 8 (drop 20 bytes); catalog = record { block = big_number 8 (drop 28 bytes); size = big_number 4 (drop 36 bytes) } };
+}
+
+-- the body of a root of ours
+abbrev pub ours : Root → Body
+ours r = record { is_ours = true; format = format_number; root = r }
+
+-- the greatest number of a commit
+abbrev pub sequence_max : ℕ
+sequence_max = 2 ^ 62

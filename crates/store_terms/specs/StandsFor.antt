@@ -1,0 +1,65 @@
+-- What a file stands for: a number, layers and finished tiles; or what is wrong with it.
+use Rattle.std.specs.Prelude.{◌≡◌, ℕ, ◌+◌, ◌*◌, ◌%◌, ◌==◌, nat_lt, nat_le, Bool, not, ◌&&◌, ◌||◌, if◌then◌else◌, List, length, slice_index, Option, Some, None, Result, Ok, Err}
+use Rattle.overlay_terms.specs.Commands.{version_max}
+use Rattle.disk_model.specs.Disk.{part}
+use Rattle.store_terms.specs.declared.damage.Damage.{Damage}
+use Rattle.store_terms.specs.declared.damage.Damage.TheVariants.{NotAStore, Format, Numbers}
+use Rattle.store_terms.specs.Places.{block_size}
+use Rattle.store_terms.specs.declared.root.Root.{Root}
+use Rattle.store_terms.specs.declared.root.Body.{Body}
+use Rattle.store_terms.specs.Roots.{body_in, format_number, sequence_max}
+use Rattle.store_terms.specs.Image.{◌>>=◌, Held, held_of}
+
+-- where the gate of a slot stands, and its body behind it
+abbrev pub gate_at : ℕ → ℕ
+gate_at k = block_size * k
+
+abbrev pub body_at : ℕ → ℕ
+body_at k = block_size * k + 16
+
+-- the value of a gate that is open
+abbrev pub open_gate : ℕ
+open_gate = 167
+
+abbrev pub gate : List ℕ → ℕ → ℕ
+gate file k = slice_index file (gate_at k)
+
+-- the body of a slot, whatever its gate
+abbrev pub body : List ℕ → ℕ → Body
+body file k = body_in (part file (body_at k) 40)
+
+-- whether the root may stand in a slot: its numbers are not too great, and its sequence is one of the slot
+abbrev pub fits_slot : ℕ → Root → Bool
+fits_slot k r = nat_le r.sequence sequence_max && nat_le r.version version_max && (r.sequence % 2 == k)
+
+-- whether a slot is open and not ours
+abbrev pub is_foreign : List ℕ → ℕ → Bool
+is_foreign file k = (gate file k == open_gate) && not (body file k).is_ours
+
+-- the root in a slot, if its gate is open
+abbrev pub slot : List ℕ → ℕ → Result (Option Root) Damage
+slot file k =
+    if gate file k == open_gate
+    then (if (body file k).format == format_number then (if fits_slot k (body file k).root then Ok (Some (body file k).root) else Err Numbers) else Err Format)
+    else Ok None
+
+-- the root with the greater sequence
+abbrev pub newest : Option Root → Option Root → Result Root Damage
+newest None None = Err NotAStore
+newest (Some a) None = Ok a
+newest None (Some b) = Ok b
+newest (Some a) (Some b) = if nat_lt b.sequence a.sequence then Ok a else Ok b
+
+-- the root of a file: both slots are ours, then the numbers of the one and of the other are right, then the newer is taken
+unfoldable pub root_of : List ℕ → Result Root Damage
+root_of file =
+    if nat_lt (length file) (block_size * 2) || (is_foreign file 0 || is_foreign file 1) then Err NotAStore
+    else (slot file 0 >>= λ a. slot file 1 >>= λ b. newest a b)
+
+-- what opening the file gives
+abbrev pub reading : List ℕ → Result Held Damage
+reading file = root_of file >>= λ r. held_of file r
+
+-- the file stands for a number, layers and finished tiles
+abbrev pub StandsFor : Held → List ℕ → Type 0
+StandsFor held file = reading file ≡ Ok held

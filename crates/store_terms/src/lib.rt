@@ -1,0 +1,6 @@
+//! What records and files of the store stand for, and laws over that.
+#![tactic(auto)]
+
+pub mod damage;
+pub mod laws;
+pub mod root;

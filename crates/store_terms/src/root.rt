@@ -1,0 +1,25 @@
+//! Roots, and where the records of a store lie.
+
+/// Where a record lies: its first block, and how many bytes it has.
+#[derive(Clone, Copy, PartialEq, Eq)]
+pub struct Extent {
+    pub block: u64,
+    pub size: u32,
+}
+
+/// The number of a commit, that of the version which it wrote, and where its catalog lies.
+#[derive(Clone, Copy, PartialEq, Eq)]
+pub struct Root {
+    pub sequence: u64,
+    pub version: u64,
+    pub catalog: Extent,
+}
+
+/// What the body of a slot says, whether it is ours or not.
+#[derive(Clone, Copy, PartialEq, Eq)]
+pub struct Body {
+    /// Whether it begins with the magic.
+    pub is_ours: bool,
+    pub format: u32,
+    pub root: Root,
+}
