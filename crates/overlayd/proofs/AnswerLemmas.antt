@@ -24,26 +24,15 @@ use Rattle.version_core.specs.declared.fault.VersionFault.{VersionFault}
 use Rattle.version_core.specs.declared.fault.VersionFault.TheVariants.{Layer}
 use Rattle.layer_book.specs.declared.fault.LayerFault.TheVariants as layer_fault
 use Rattle.overlayd.specs.declared.book.Book.{Book}
-use Rattle.overlayd.specs.declared.fault.CommandFault.{CommandFault}
-use Rattle.overlayd.specs.declared.fault.CommandFault.TheVariants.{Wkt, Expression, Query, Version, OutOfMemory}
-use Rattle.overlayd.specs.Replies.{error_line, location_line}
-use Rattle.overlayd.specs.Requests.{Request, put, define, remove, locate, list_layers, request_of}
+use Rattle.script_form.specs.declared.fault.CommandFault.{CommandFault}
+use Rattle.script_form.specs.declared.fault.CommandFault.TheVariants.{Wkt, Expression, Query, Version, OutOfMemory}
+use Rattle.script_form.specs.Replies.{error_line, location_line}
+use Rattle.script_form.specs.Requests.{Request, put, define, remove, locate, list_layers, request_of}
 use Rattle.overlayd.specs.Standing.{Holds, TakesTurn}
-use Rattle.overlayd.specs.Transcript.{IsRefused, IsSubmitted, IsAnswered}
-use Rattle.overlayd.specs.Reading.{IsMemory, IsNoName, IsPut, IsPutRefused, IsDefine, IsDefineRefused, IsRemove}
+use Rattle.script_form.specs.Transcript.{IsRefused, IsSubmitted, IsAnswered}
+use Rattle.script_form.specs.Reading.{IsMemory, IsNoName, IsPut, IsPutRefused, IsDefine, IsDefineRefused, IsRemove}
 use Rattle.overlayd.specs.Answering.{AnswersIn, Answers, SubmitsIn, Submits}
 use Rattle.overlayd.proofs.HistoryLemmas.{stays, answers_there, out_of_memory}
-
--- ==== Names and texts
-
--- a text that is refused behind a name
-pub put_text_refused : (name text : List ℕ) (wrong : WktFault) → IsTrue (is_name name) → (wrong ≡ wkt_fault.OutOfMemory) ⊎ wkt.IsRefusedBy text wrong → IsMemory (Wkt wrong) ⊎ IsPutRefused name text (Wkt wrong)
-put_text_refused name text wrong named refused =
-    elim refused [ inl memory ↦ inl (ap (λ w. error_line (Wkt w)) memory) | inr by ↦ inr (inr (named, wrong, by, refl)) ]
-
-pub define_text_refused : (name text : List ℕ) (wrong : ExprFault) → IsTrue (is_name name) → (wrong ≡ expr_fault.OutOfMemory) ⊎ expr.IsRefusedBy text wrong → IsMemory (Expression wrong) ⊎ IsDefineRefused name text (Expression wrong)
-define_text_refused name text wrong named refused =
-    elim refused [ inl memory ↦ inl (ap (λ w. error_line (Expression w)) memory) | inr by ↦ inr (inr (named, wrong, by, refl)) ]
 
 -- ==== Commands
 

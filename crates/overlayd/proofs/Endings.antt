@@ -8,18 +8,18 @@ use Rattle.std.proofs.KnownBytes.{Appends-nil, Appends-trans, Consumes-nil, Cons
 use Rattle.overlay_terms.specs.KeptLaws.{IsExact}
 use Rattle.overlay_terms.specs.Histories.{empty_version}
 use Rattle.overlayd.specs.declared.book.Book.{Book}
-use Rattle.overlayd.specs.declared.session_end.SessionEnd.{SessionEnd}
-use Rattle.overlayd.specs.declared.session_end.SessionEnd.TheVariants.{End, Failed}
-use Rattle.overlayd.specs.declared.fault.CommandFault.TheVariants.{ReadLimit, Read}
-use Rattle.overlayd.specs.Lines.{script_max, line_room, ended_lines, unended, last_line, whole_lines}
-use Rattle.overlayd.specs.Replies.{error_line}
-use Rattle.overlayd.specs.Requests.{request_of}
-use Rattle.overlayd.specs.Writing.{IsCutShort}
+use Rattle.script_form.specs.declared.session_end.SessionEnd.{SessionEnd}
+use Rattle.script_form.specs.declared.session_end.SessionEnd.TheVariants.{End, Failed}
+use Rattle.script_form.specs.declared.fault.CommandFault.TheVariants.{ReadLimit, Read}
+use Rattle.script_form.specs.Lines.{script_max, line_room, ended_lines, unended, last_line, whole_lines}
+use Rattle.script_form.specs.Replies.{error_line}
+use Rattle.script_form.specs.Requests.{request_of}
+use Rattle.script_form.specs.Writing.{IsCutShort}
 use Rattle.overlayd.specs.Session.{IsOwnRun, IsPastLimit, IsReadFault, IsCutOff, EndsSo, IsPlainSession, first_history}
 use Rattle.overlayd.specs.Standing.{Stands, TakesTurn, IsStopped, TakesAll, Finishes, EndsBy}
-use Rattle.overlayd.proofs.Pieces.{GoesOn, ended_lines-more}
+use Rattle.script_form.proofs.Pieces.{GoesOn, ended_lines-more}
 use Rattle.overlayd.proofs.Runs.{run-push, takes_turn-same}
-use Rattle.overlayd.proofs.LongLines.{request_of-cut, take-nil}
+use Rattle.script_form.proofs.LongLines.{request_of-cut, take-nil}
 use Rattle.overlayd.proofs.HistoryLemmas.{empty_exact}
 use Rattle.overlayd.proofs.Steps.{cut_run, cut_off-more}
 

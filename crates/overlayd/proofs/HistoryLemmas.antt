@@ -7,12 +7,12 @@ use Rattle.overlay_terms.specs.Histories.{Version, Tile, accepted, Entry, Histor
 use Rattle.overlay_terms.specs.KeptLaws.{IsExact}
 use Rattle.overlay_terms.proofs.KeptHistories.{history_is_exact}
 use Rattle.overlayd.specs.declared.book.Book.{Book}
-use Rattle.overlayd.specs.declared.fault.CommandFault.{CommandFault}
-use Rattle.overlayd.specs.declared.fault.CommandFault.TheVariants.{OutOfMemory}
-use Rattle.overlayd.specs.Replies.{ok_line, error_line}
-use Rattle.overlayd.specs.Requests.{Request}
+use Rattle.script_form.specs.declared.fault.CommandFault.{CommandFault}
+use Rattle.script_form.specs.declared.fault.CommandFault.TheVariants.{OutOfMemory}
+use Rattle.script_form.specs.Replies.{ok_line, error_line}
+use Rattle.script_form.specs.Requests.{Request}
 use Rattle.overlayd.specs.Standing.{Holds}
-use Rattle.overlayd.specs.Transcript.{IsRefused, IsSubmitted, IsAcceptedBy, IsAnswered}
+use Rattle.script_form.specs.Transcript.{IsRefused, IsSubmitted, IsAcceptedBy, IsAnswered}
 use Rattle.overlayd.specs.Answering.{GoesOnWith, AnswersIn, SubmitsIn}
 
 last_version-append : (version : Version) (entries more : List Entry) → last_version version (entries ++ more) ≡ last_version (last_version version entries) more

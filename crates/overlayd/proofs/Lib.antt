@@ -1,12 +1,7 @@
-pub mod Pieces
 pub mod Runs
-pub mod LongLines
 pub mod Steps
 pub mod Endings
-pub mod Texts
 pub mod Replaced
-pub mod WordLemmas
-pub mod NumberLemmas
 pub mod HistoryLemmas
 pub mod AnswerLemmas
 pub mod TileAnswers

@@ -5,15 +5,15 @@ use Rattle.overlay_terms.specs.Histories.{History, newest}
 use Rattle.version_core.specs.declared.fault.VersionFault.{VersionFault}
 use Rattle.version_core.specs.Edges.{edges_refusal, finished_refusal}
 use Rattle.overlayd.specs.declared.book.Book.{Book}
-use Rattle.overlayd.specs.declared.fault.CommandFault.{CommandFault}
-use Rattle.overlayd.specs.declared.fault.CommandFault.TheVariants.{OutOfMemory}
-use Rattle.overlayd.specs.declared.reply.Reply.{Reply}
-use Rattle.overlayd.specs.declared.reply.Reply.TheVariants.{Nothing, Accepted, Located, Built, Compared, Fault, Lines}
-use Rattle.overlayd.specs.Requests.{Request, nothing, too_long, malformed, put, define, remove, locate, list_layers, edges, wait, verify, request_of}
-use Rattle.overlayd.specs.Replies.{ok_line, error_line}
-use Rattle.overlayd.specs.Reply.{reply_text, IsTextOf}
+use Rattle.script_form.specs.declared.fault.CommandFault.{CommandFault}
+use Rattle.script_form.specs.declared.fault.CommandFault.TheVariants.{OutOfMemory}
+use Rattle.script_form.specs.declared.reply.Reply.{Reply}
+use Rattle.script_form.specs.declared.reply.Reply.TheVariants.{Nothing, Accepted, Located, Built, Compared, Fault, Lines}
+use Rattle.script_form.specs.Requests.{Request, nothing, too_long, malformed, put, define, remove, locate, list_layers, edges, wait, verify, request_of}
+use Rattle.script_form.specs.Replies.{ok_line, error_line}
+use Rattle.script_form.specs.Reply.{reply_text, IsTextOf}
 use Rattle.version_core.specs.Building.{wait_refusal}
-use Rattle.overlayd.specs.Transcript.{IsRefused, IsAnswered, IsSubmitted, Asked, asked_column}
+use Rattle.script_form.specs.Transcript.{IsRefused, IsAnswered, IsSubmitted, Asked, asked_column}
 use Rattle.overlayd.specs.Standing.{GoesOnIn, TakesTurn}
 
 -- an accepted command is never told as a fault

@@ -1,42 +1,16 @@
--- A transcript and its history, with one more line at the end.
+-- A run with one more line at the end.
 use Rattle.std.proofs.Common.{◌≡◌, ℕ, ◌⊎◌, List, [], ◌∷◌, ◌++◌, map, refl, sym, ap, ◌∙◌, subst, append_assoc, append-nil}
 use Rattle.std.proofs.lemmas.List.{map-append}
 use Rattle.std.proofs.lemmas.List.Elements.{filter_map-append}
 use Rattle.overlay_terms.specs.Commands.{Command}
 use Rattle.overlay_terms.specs.Histories.{Version, Entry, History, AllFollow, IsHistory, last_version, command_of, commands_in}
 use Rattle.overlayd.specs.declared.book.Book.{Book}
-use Rattle.overlayd.specs.declared.fault.CommandFault.TheVariants.{OutOfMemory}
-use Rattle.overlayd.specs.Requests.{Request, request_of}
-use Rattle.overlayd.specs.Transcript.{IsRefused, IsAnswered, IsTurn, IsTranscript}
+use Rattle.script_form.specs.declared.fault.CommandFault.TheVariants.{OutOfMemory}
+use Rattle.script_form.specs.Requests.{Request, request_of}
+use Rattle.script_form.proofs.TranscriptLemmas.{transcript-push}
+use Rattle.script_form.specs.Transcript.{IsRefused, IsAnswered, IsTurn, IsTranscript}
 use Rattle.overlayd.specs.Session.{IsOwnRun}
 use Rattle.overlayd.specs.Standing.{Holds, GoesOnIn, TakesTurn}
-
--- one more line is answered at the history that the lines before have led to
-transcript-push : (session : ℕ) (seen : History) (lines : List (List ℕ)) (after : History) (made : List Command) (replies : List ℕ)
-    → IsTranscript session seen lines after made replies → (line : List ℕ) (later : History) (first : List Command) (reply : List ℕ)
-    → IsTurn session after line later first reply → IsTranscript session seen (lines ++ line ∷ []) later (made ++ first) (replies ++ reply)
-transcript-push session seen [] after made replies (same, none, empty) line later first reply turn = (
-  later,
-  first,
-  [],
-  reply,
-  [],
-  subst (λ (h : History). IsTurn session h line later first reply) same turn,
-  (refl, refl, refl),
-  ap (λ m. m ++ first) none ∙ sym (append-nil first),
-  ap (λ r. r ++ reply) empty ∙ sym (append-nil reply),
-)
-transcript-push session seen (line ∷ lines) after made replies (mid, one, others, told, rest, turn, run, all_made, all_told) last later first reply last_turn = (
-  mid,
-  one,
-  others ++ first,
-  told,
-  rest ++ reply,
-  turn,
-  transcript-push session mid lines after others rest run last later first reply last_turn,
-  ap (λ m. m ++ first) all_made ∙ append_assoc one others first,
-  ap (λ r. r ++ reply) all_told ∙ append_assoc told rest reply,
-)
 
 -- entries that follow, and more that follow behind them
 AllFollow-append : (version : Version) (entries more : List Entry) → AllFollow version entries → AllFollow (last_version version entries) more → AllFollow version (entries ++ more)

@@ -2,17 +2,17 @@
 use Rattle.std.proofs.Common.{◌≡◌, ◌≢◌, ℕ, ◌==◌, ◌≤◌, false, Option, Result, Ok, Err, IsErr, MatchResult, List, [], ◌∷◌, ◌++◌, length, take, refl, sym, ap, ◌∙◌, subst, append_assoc, append-nil}
 use Rattle.std.specs.Io.KnownBytes.{Appends}
 use Rattle.std.proofs.KnownBytes.{Appends-nil, Appends-trans}
-use Rattle.overlayd.specs.Lines.{line_room, without_cr, ended_lines, unended}
-use Rattle.overlayd.specs.Writing.{IsCutShort}
+use Rattle.script_form.specs.Lines.{line_room, without_cr, ended_lines, unended}
+use Rattle.script_form.specs.Writing.{IsCutShort}
 use Rattle.std.proofs.lemmas.List.{take_all}
 use Rattle.std.proofs.lemmas.Bool.{ne_eqb, false≢true}
 use Rattle.overlayd.specs.Session.{IsOwnRun, IsCutOff}
 use Rattle.overlayd.specs.Standing.{Stands, TakesTurn, TakesAll, IsStopped}
-use Rattle.overlayd.specs.Requests.{request_of}
+use Rattle.script_form.specs.Requests.{request_of}
 use Rattle.overlayd.specs.declared.book.Book.{Book}
-use Rattle.overlayd.proofs.Pieces.{GoesOn, ended_lines-feed, ended_lines-byte, ended_lines-more, unended-feed, unended-byte}
+use Rattle.script_form.proofs.Pieces.{GoesOn, ended_lines-feed, ended_lines-byte, ended_lines-more, unended-feed, unended-byte}
 use Rattle.overlayd.proofs.Runs.{IsRunTo, run-push, takes_turn-same}
-use Rattle.overlayd.proofs.LongLines.{request_of-cut_ended, take-push, take-nil}
+use Rattle.script_form.proofs.LongLines.{request_of-cut_ended, take-push, take-nil}
 
 -- what a session stands on may be told by other words for the same
 stands-same : (taken other written same_written line : List ℕ) (book : Book) → taken ≡ other → written ≡ same_written → Stands taken written line book → Stands other same_written line book

@@ -11,14 +11,14 @@ use Rattle.version_core.specs.declared.verifying.Verdict.{Verdict}
 use Rattle.version_core.specs.Verdict.{IsVerdict}
 use Rattle.version_core.specs.Edges.{edges_refusal, finished_refusal, AreEdges}
 use Rattle.overlayd.specs.declared.book.Book.{Book}
-use Rattle.overlayd.specs.declared.fault.CommandFault.{CommandFault}
-use Rattle.overlayd.specs.declared.fault.CommandFault.TheVariants.{Version, OutOfMemory}
-use Rattle.overlayd.specs.Replies.{error_line, built_line, verdict_line}
-use Rattle.overlayd.specs.Requests.{Request, edges, wait, verify}
+use Rattle.script_form.specs.declared.fault.CommandFault.{CommandFault}
+use Rattle.script_form.specs.declared.fault.CommandFault.TheVariants.{Version, OutOfMemory}
+use Rattle.script_form.specs.Replies.{error_line, built_line, verdict_line}
+use Rattle.script_form.specs.Requests.{Request, edges, wait, verify}
 use Rattle.version_core.specs.Building.{IsBuilt, wait_refusal}
-use Rattle.overlayd.specs.Reading.{IsMemory, IsNoName}
+use Rattle.script_form.specs.Reading.{IsMemory, IsNoName}
 use Rattle.overlayd.specs.Standing.{Holds}
-use Rattle.overlayd.specs.Transcript.{IsRefused, IsAnswered, Asked, asked_column, IsEdgesTold, IsVerdictTold, IsBuiltTold}
+use Rattle.script_form.specs.Transcript.{IsRefused, IsAnswered, Asked, asked_column, IsEdgesTold, IsVerdictTold, IsBuiltTold}
 use Rattle.overlayd.specs.Answering.{AnswersIn, Answers}
 use Rattle.overlayd.proofs.HistoryLemmas.{stays, answers_there, answers_built, out_of_memory}
 use Rattle.overlayd.proofs.AnswerLemmas.{no_name}

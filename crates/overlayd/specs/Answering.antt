@@ -3,14 +3,14 @@ use Rattle.std.specs.Prelude.{◌≡◌, ℕ, ◌⊎◌, List, map, Result, Ok, 
 use Rattle.overlay_terms.specs.Commands.{Command}
 use Rattle.overlay_terms.specs.Histories.{Entry, History, GoesOnBy, AllFollow, newest, commands_in}
 use Rattle.overlayd.specs.declared.book.Book.{Book}
-use Rattle.overlayd.specs.declared.fault.CommandFault.{CommandFault}
-use Rattle.overlayd.specs.declared.fault.CommandFault.TheVariants.{OutOfMemory}
-use Rattle.overlayd.specs.declared.reply.Reply.{Reply}
-use Rattle.overlayd.specs.Replies.{error_line}
-use Rattle.overlayd.specs.Reply.{reply_text}
-use Rattle.overlayd.specs.Requests.{Request}
+use Rattle.script_form.specs.declared.fault.CommandFault.{CommandFault}
+use Rattle.script_form.specs.declared.fault.CommandFault.TheVariants.{OutOfMemory}
+use Rattle.script_form.specs.declared.reply.Reply.{Reply}
+use Rattle.script_form.specs.Replies.{error_line}
+use Rattle.script_form.specs.Reply.{reply_text}
+use Rattle.script_form.specs.Requests.{Request}
 use Rattle.overlayd.specs.Standing.{Holds}
-use Rattle.overlayd.specs.Transcript.{IsRefused, IsSubmitted, IsAnswered}
+use Rattle.script_form.specs.Transcript.{IsRefused, IsSubmitted, IsAnswered}
 
 -- the bytes that tell a reply or a fault
 abbrev pub result_text : Result Reply CommandFault → List ℕ

@@ -1,12 +1,3 @@
-pub mod Lines
-pub mod Requests
-pub mod Request
-pub mod Fault
-pub mod Replies
-pub mod Writing
-pub mod Reply
-pub mod Transcript
 pub mod Session
 pub mod Standing
-pub mod Reading
 pub mod Answering

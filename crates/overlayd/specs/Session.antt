@@ -3,13 +3,13 @@ use Rattle.std.specs.Prelude.{◌≡◌, ℕ, ◌+◌, ◌≤◌, ◌⊎◌, Lis
 use Rattle.std.specs.Io.KnownBytes.{Appends, Consumes, IsAtEnd}
 use Rattle.overlay_terms.specs.Commands.{Command}
 use Rattle.overlay_terms.specs.Histories.{Entry, History, IsHistory, empty_version, commands_in}
-use Rattle.overlayd.specs.declared.fault.CommandFault.TheVariants.{ReadLimit, Read}
-use Rattle.overlayd.specs.declared.session_end.SessionEnd.{SessionEnd}
-use Rattle.overlayd.specs.declared.session_end.SessionEnd.TheVariants.{End, Failed}
-use Rattle.overlayd.specs.Lines.{script_max, ended_lines, whole_lines}
-use Rattle.overlayd.specs.Replies.{error_line}
-use Rattle.overlayd.specs.Writing.{IsCutShort}
-use Rattle.overlayd.specs.Transcript.{IsTranscript}
+use Rattle.script_form.specs.declared.fault.CommandFault.TheVariants.{ReadLimit, Read}
+use Rattle.script_form.specs.declared.session_end.SessionEnd.{SessionEnd}
+use Rattle.script_form.specs.declared.session_end.SessionEnd.TheVariants.{End, Failed}
+use Rattle.script_form.specs.Lines.{script_max, ended_lines, whole_lines}
+use Rattle.script_form.specs.Replies.{error_line}
+use Rattle.script_form.specs.Writing.{IsCutShort}
+use Rattle.script_form.specs.Transcript.{IsTranscript}
 
 abbrev pub first_history : History
 first_history = record { start = empty_version; entries = [] }

@@ -4,12 +4,12 @@ use Rattle.std.specs.Io.KnownBytes.{Appends}
 use Rattle.overlay_terms.specs.Commands.{Command}
 use Rattle.overlay_terms.specs.Histories.{Version, Entry, History, GoesOnBy, AllFollow, newest, commands_in}
 use Rattle.overlay_terms.specs.KeptLaws.{IsExact}
-use Rattle.overlayd.specs.declared.session_end.SessionEnd.{SessionEnd}
-use Rattle.overlayd.specs.declared.session_end.SessionEnd.TheVariants.{End, Failed}
+use Rattle.script_form.specs.declared.session_end.SessionEnd.{SessionEnd}
+use Rattle.script_form.specs.declared.session_end.SessionEnd.TheVariants.{End, Failed}
 use Rattle.overlayd.specs.declared.book.Book.{Book}
-use Rattle.overlayd.specs.Lines.{line_room, ended_lines, unended, whole_lines}
-use Rattle.overlayd.specs.Writing.{IsCutShort, Writes}
-use Rattle.overlayd.specs.Transcript.{IsTurn}
+use Rattle.script_form.specs.Lines.{line_room, ended_lines, unended, whole_lines}
+use Rattle.script_form.specs.Writing.{IsCutShort, Writes}
+use Rattle.script_form.specs.Transcript.{IsTurn}
 use Rattle.overlayd.specs.Session.{IsOwnRun, IsCutOff}
 
 -- a book holds the newest version of a history, whose finished tiles are right

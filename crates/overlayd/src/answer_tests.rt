@@ -1,12 +1,11 @@
 //! Lines and their replies, one after the other on one book.
 use crate::answering::answer;
 use crate::book::Book;
-use crate::fault::CommandFault;
-use crate::reply::Reply;
 use exact_point::fault::PointFault;
 use layer_book::direct_answer::Place;
 use layer_book::fault::LayerFault;
 use layer_expr::fault::ExprFault;
+use script_form::{CommandFault, Reply};
 use std::alloc::{AllocError, Global};
 use std::process::Abort;
 use version_core::fault::VersionFault;

@@ -1,21 +1,20 @@
 //! The answer to one line.
 ghost use Rattle.std.specs.Prelude.{◌≡◌};
-ghost use Rattle.overlayd.specs.Requests.{put, define, remove, locate, list_layers, edges, wait, verify};
+ghost use Rattle.script_form.specs.Requests.{put, define, remove, locate, list_layers, edges, wait, verify};
 ghost use Rattle.overlayd.specs.Standing.{TakesTurn};
-ghost use Rattle.overlayd.specs.Reply.{reply_text};
-ghost use Rattle.overlayd.specs.Request.{request};
-ghost use Rattle.overlayd.specs.Transcript.{asked_column};
+ghost use Rattle.script_form.specs.Reply.{reply_text};
+ghost use Rattle.script_form.specs.Request.{request};
+ghost use Rattle.script_form.specs.Transcript.{asked_column};
 ghost use Rattle.overlayd.specs.Answering.{Answers, Submits, result_text};
 ghost use Rattle.layer_book.specs.Command.{command};
 
 use crate::book::Book;
-use crate::fault::CommandFault;
-use crate::reading::{read_define, read_name, read_put, read_remove};
-use crate::reply::Reply;
-use crate::request::{Request, request_of};
 use exact_point::query::QueryPoint;
 use layer_book::command::Command;
 use plane_base::column::LAST_COLUMN;
+use script_form::{
+    CommandFault, Reply, Request, read_define, read_name, read_put, read_remove, request_of,
+};
 use std::alloc::Global;
 
 /// What a line makes of the book, and the reply. A line that is too long may be handed in cut off

@@ -5,24 +5,14 @@
 mod answer_tests;
 mod answering;
 mod book;
-mod fault;
-mod line_buffer;
-mod number;
-mod reading;
-mod reply;
-mod reply_writer;
-mod request;
-mod script_reader;
 mod session;
-mod session_end;
 #[cfg(test)]
 mod session_tests;
 #[cfg(test)]
 mod tile_tests;
-mod words;
 
 use crate::session::run_plain;
-use crate::session_end::SessionEnd;
+use script_form::SessionEnd;
 use std::process::ExitCode;
 
 fn main(rt: HostRuntime) -> ExitCode {

@@ -1,16 +1,14 @@
 //! A session on its own, from the bytes of a script to the bytes of its replies.
 ghost use Rattle.std.specs.Prelude.{◌≡◌, ◌<◌, ◌∷◌, [], length, IfOk};
-ghost use Rattle.overlayd.specs.Replies.{error_line};
+ghost use Rattle.script_form.specs.Replies.{error_line};
 ghost use Rattle.overlayd.specs.Session.{IsPlainSession};
 ghost use Rattle.overlayd.specs.Standing.{AnswersLine, TakesBytes, Finishes, EndsBy};
 
 use crate::answering::answer;
 use crate::book::Book;
-use crate::fault::CommandFault;
-use crate::line_buffer::LineBuffer;
-use crate::reply_writer::{write_reply, write_text};
-use crate::script_reader::{SCRIPT_MAX, read_chunk};
-use crate::session_end::SessionEnd;
+use script_form::{
+    CommandFault, LineBuffer, SCRIPT_MAX, SessionEnd, read_chunk, write_reply, write_text,
+};
 use std::alloc::{AllocError, Global};
 use std::io::{Read, Write};
 

@@ -1,5 +1,5 @@
 use crate::session::run_plain;
-use crate::session_end::SessionEnd;
+use script_form::SessionEnd;
 use std::alloc::{AllocError, Global};
 use std::cell::Cell;
 use std::io;

@@ -1,6 +1,6 @@
 //! Scripts about tiles, and what they print.
 use crate::session::run_plain;
-use crate::session_end::SessionEnd;
+use script_form::SessionEnd;
 use std::process::Abort;
 
 /// A script, and its replies.

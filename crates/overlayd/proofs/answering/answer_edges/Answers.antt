@@ -1,7 +1,7 @@
 use Rattle.std.proofs.Common.{ap, ◌∙◌, w64}
 use Rattle.std.proofs.lemmas.Int.{to_z-of_z}
 use Rattle.std.proofs.lemmas.Result.{err_from_is_err_and}
-use Rattle.overlayd.specs.Transcript.{asked_column}
+use Rattle.script_form.specs.Transcript.{asked_column}
 use Rattle.overlayd.proofs.TileAnswers.{edges_unnamed, edges_refused, edges_told}
 use Rattle.overlayd.proofs.answering.answer_edges.Goals as goal
 

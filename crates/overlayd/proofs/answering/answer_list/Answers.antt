@@ -1,8 +1,8 @@
 use Rattle.std.proofs.Common.{refl, ap, ◌∙◌}
 use Rattle.std.proofs.lemmas.Result.{err_from_is_err_and}
 use Rattle.layer_book.specs.Listing.{layers_text}
-use Rattle.overlayd.specs.Requests.{list_layers}
-use Rattle.overlayd.specs.declared.fault.CommandFault.TheVariants.{OutOfMemory}
+use Rattle.script_form.specs.Requests.{list_layers}
+use Rattle.script_form.specs.declared.fault.CommandFault.TheVariants.{OutOfMemory}
 use Rattle.overlayd.proofs.HistoryLemmas.{out_of_memory}
 use Rattle.overlayd.proofs.AnswerLemmas.{list_told}
 use Rattle.overlayd.proofs.answering.answer_list.Goals as goal

@@ -1,7 +1,7 @@
 use Rattle.std.proofs.Common.{ap, ◌∙◌, w64}
 use Rattle.std.proofs.lemmas.Int.{to_z-of_z}
 use Rattle.std.proofs.lemmas.Result.{err_from_is_err_and}
-use Rattle.overlayd.specs.Transcript.{asked_column}
+use Rattle.script_form.specs.Transcript.{asked_column}
 use Rattle.overlayd.proofs.TileAnswers.{verify_unnamed, verify_refused, verify_told}
 use Rattle.overlayd.proofs.answering.answer_verify.Goals as goal
 

@@ -1,6 +1,6 @@
 use Rattle.std.proofs.Common.{ap, sym}
 use Rattle.std.proofs.lemmas.Result.{err_from_is_err_and}
-use Rattle.overlayd.specs.Replies.{built_line}
+use Rattle.script_form.specs.Replies.{built_line}
 use Rattle.overlayd.proofs.TileAnswers.{wait_unnamed, wait_refused, wait_told}
 use Rattle.overlayd.proofs.answering.answer_wait.Goals as goal
 

@@ -1,6 +1,6 @@
 use Rattle.std.proofs.Common.{ap, sym, ◌∙◌}
 use Rattle.std.proofs.lemmas.Result.{err_from_is_err_and}
-use Rattle.overlayd.specs.Replies.{ok_line}
+use Rattle.script_form.specs.Replies.{ok_line}
 use Rattle.overlayd.proofs.HistoryLemmas.{submits_accepted}
 use Rattle.overlayd.proofs.AnswerLemmas.{submits_refused}
 use Rattle.overlayd.proofs.answering.submit.Goals as goal

@@ -1,6 +1,6 @@
 use Rattle.std.proofs.Common.{◌≡◌, ◌≤◌, codes, refl, sym, arith, rules}
-use Rattle.overlayd.specs.Lines.{script_max}
-use Rattle.overlayd.proofs.Texts.{read, read_limit}
+use Rattle.script_form.specs.Lines.{script_max}
+use Rattle.script_form.proofs.Texts.{read, read_limit}
 use Rattle.overlayd.proofs.Endings.{begins, goes_on, ends-finished, ends-at_read, ends-past_limit, ends-stopped, reads_none, when_err, when_ok}
 use Rattle.overlayd.proofs.session.run.Goals as goal
 

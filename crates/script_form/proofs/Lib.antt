@@ -1,0 +1,7 @@
+pub mod WordLemmas
+pub mod NumberLemmas
+pub mod Pieces
+pub mod LongLines
+pub mod Texts
+pub mod ReadLemmas
+pub mod TranscriptLemmas

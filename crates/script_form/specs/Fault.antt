@@ -1,0 +1,34 @@
+-- The faults of lines and sessions: their numbers and texts.
+use Rattle.std.specs.Prelude.{ℕ, List, codes}
+use Rattle.wkt_form.specs.Fault as wkt
+use Rattle.layer_expr.specs.Fault as expr
+use Rattle.exact_point.specs.Fault as point
+use Rattle.version_core.specs.Fault as version
+use Rattle.script_form.specs.declared.fault.CommandFault.{CommandFault}
+use Rattle.script_form.specs.declared.fault.CommandFault.TheVariants.{Wkt, Expression, Query, Version, CommandSyntax, LineTooLong, ReadLimit, Read, Write, OutOfMemory}
+
+-- the number under which a fault is printed
+abbrev pub code_of : CommandFault → ℕ
+code_of (Wkt fault) = wkt.code_of fault
+code_of (Expression fault) = expr.code_of fault
+code_of (Query fault) = point.code_of fault
+code_of (Version fault) = version.code_of fault
+code_of OutOfMemory = 40
+code_of CommandSyntax = 41
+code_of LineTooLong = 42
+code_of ReadLimit = 47
+code_of Read = 48
+code_of Write = 49
+
+-- the text that is printed behind the number
+abbrev pub text_of : CommandFault → List ℕ
+text_of (Wkt fault) = wkt.text_of fault
+text_of (Expression fault) = expr.text_of fault
+text_of (Query fault) = point.text_of fault
+text_of (Version fault) = version.text_of fault
+text_of OutOfMemory = codes "out of memory"
+text_of CommandSyntax = codes "command syntax"
+text_of LineTooLong = codes "line too long"
+text_of ReadLimit = codes "read limit"
+text_of Read = codes "read"
+text_of Write = codes "write"

@@ -1,0 +1,9 @@
+pub mod Lines
+pub mod Requests
+pub mod Request
+pub mod Fault
+pub mod Replies
+pub mod Writing
+pub mod Reply
+pub mod Transcript
+pub mod Reading

@@ -1,0 +1,27 @@
+-- Replies as lines of text.
+use Rattle.std.specs.Prelude.{ℕ, List, [], ◌∷◌, ◌++◌, codes, decimal}
+use Rattle.overlay_terms.specs.Layers.{Location, inside, outside, edge}
+use Rattle.version_core.specs.declared.verifying.Verdict.{Verdict}
+use Rattle.version_core.specs.declared.verifying.Verdict.TheVariants.{Same, Different}
+use Rattle.script_form.specs.declared.fault.CommandFault.{CommandFault}
+use Rattle.script_form.specs.Fault.{code_of, text_of}
+
+-- an accepted command: the number of its version
+abbrev pub ok_line : ℕ → List ℕ
+ok_line number = codes "ok " ++ (decimal number ++ 10 ∷ [])
+
+-- the tiles of a layer are built: the number of the version
+abbrev pub built_line : ℕ → List ℕ
+built_line number = codes "built " ++ (decimal number ++ 10 ∷ [])
+
+abbrev pub error_line : CommandFault → List ℕ
+error_line fault = codes "error " ++ (decimal (code_of fault) ++ (codes " " ++ (text_of fault ++ 10 ∷ [])))
+
+abbrev pub location_line : Location → List ℕ
+location_line inside = codes "in\n"
+location_line outside = codes "out\n"
+location_line edge = codes "edge\n"
+
+abbrev pub verdict_line : Verdict → List ℕ
+verdict_line Same = codes "same\n"
+verdict_line Different = codes "different\n"

@@ -1,0 +1,132 @@
+-- The replies of a script: for each line a history that goes on from the one before, and the reply at its newest version.
+use Rattle.std.specs.Prelude.{◌≡◌, ℕ, ℤ, pos, negsuc, ◌⊎◌, Bool, true, false, IsTrue, List, [], ◌∷◌, ◌++◌, Option, Some, None}
+use Rattle.overlay_terms.specs.Plane.{Point, WholePoint}
+use Rattle.overlay_terms.specs.Trees.{Tree}
+use Rattle.overlay_terms.specs.Layers.{answer_at}
+use Rattle.overlay_terms.specs.Commands.{Refusal, Command, stands, refusal_at}
+use Rattle.overlay_terms.specs.Column.{column_count}
+use Rattle.overlay_terms.specs.Commands as terms
+use Rattle.overlay_terms.specs.Histories.{Event, accepted, Entry, History, GoesOnBy, BeginsWith, newest}
+use Rattle.overlay_terms.specs.Histories as versions
+use Rattle.exact_point.specs.Query.{IsQuery}
+use Rattle.exact_point.specs.declared.fault.PointFault.TheVariants.{PointRange}
+use Rattle.layer_expr.specs.Name.{is_name}
+use Rattle.layer_expr.specs.Grammar as expr
+use Rattle.layer_expr.specs.declared.fault.ExprFault.{ExprFault}
+use Rattle.layer_expr.specs.declared.fault.ExprFault.TheVariants.{BadName}
+use Rattle.wkt_form.specs.Grammar as wkt
+use Rattle.wkt_form.specs.declared.fault.WktFault.{WktFault}
+use Rattle.layer_book.specs.Fault.{fault_of}
+use Rattle.layer_book.specs.declared.fault.LayerFault.TheVariants.{UnknownLayer}
+use Rattle.layer_book.specs.Listing.{layers_text}
+use Rattle.version_core.specs.declared.fault.VersionFault.{VersionFault}
+use Rattle.version_core.specs.declared.fault.VersionFault.TheVariants.{Layer}
+use Rattle.version_core.specs.declared.verifying.Verdict.{Verdict}
+use Rattle.version_core.specs.Edges.{edges_refusal, finished_refusal, AreEdges}
+use Rattle.version_core.specs.Verdict.{IsVerdict}
+use Rattle.script_form.specs.declared.fault.CommandFault.{CommandFault}
+use Rattle.script_form.specs.declared.fault.CommandFault.TheVariants.{Wkt, Expression, Query, Version, CommandSyntax, LineTooLong, OutOfMemory}
+use Rattle.script_form.specs.Requests.{Request, nothing, too_long, malformed, put, define, remove, locate, list_layers, edges, wait, verify, request_of}
+use Rattle.script_form.specs.Replies.{ok_line, error_line, location_line, built_line, verdict_line}
+use Rattle.version_core.specs.Building.{IsBuilt, wait_refusal}
+
+-- a refused line: nothing is made, and the reply is the fault
+pub record IsRefused (fault : CommandFault) (made : List Command) (reply : List ℕ) : Type 0 where
+  pub nothing_made : made ≡ []
+  pub told : reply ≡ error_line fault
+
+-- an accepted command: the newest entry is this session's, and the reply is its version's number
+pub record IsAcceptedBy (session : ℕ) (before : History) (command : Command) (after : History) (made : List Command) (reply : List ℕ) : Type 0 where
+  pub between : List Entry
+  pub version : versions.Version
+  pub goes_on : GoesOnBy before (between ++ record { event = accepted session command; version = version } ∷ []) after
+  pub only : made ≡ command ∷ []
+  pub told : reply ≡ ok_line version.number
+
+-- a command: refused by the first reason that applies at the newest version, or accepted
+abbrev pub IsSubmitted : ℕ → History → Command → History → List Command → List ℕ → Type 0
+IsSubmitted session before command after made reply =
+    ((refusal : Refusal) × (refusal_at (newest after).number (newest after).layers command ≡ Some refusal) × IsRefused (Version (Layer (fault_of refusal))) made reply)
+    ⊎ IsAcceptedBy session before command after made reply
+
+-- a line with a name: refused where it is no name, else answered
+abbrev pub WithName : List ℕ → List Command → List ℕ → Type 0 → Type 0
+WithName name made reply answered =
+    ((is_name name ≡ false) × IsRefused (Expression BadName) made reply) ⊎ (IsTrue (is_name name) × answered)
+
+-- what is answered without a change
+pub record IsTold (text : List ℕ) (made : List Command) (reply : List ℕ) : Type 0 where
+  pub nothing_made : made ≡ []
+  pub told : reply ≡ text
+
+-- a question about a version: refused by the first reason that applies, or answered
+abbrev pub Asked : Option VersionFault → List Command → List ℕ → Type 0 → Type 0
+Asked (Some fault) made reply answered = IsRefused (Version fault) made reply
+Asked None made reply answered = answered
+
+-- the number of a column as it was asked for; none has a number below 0
+abbrev pub asked_column : ℤ → ℕ
+asked_column (pos k) = k
+asked_column (negsuc k) = column_count
+
+-- the pieces of a tile, line by line
+pub record IsEdgesTold (version : versions.Version) (name : List ℕ) (k : ℕ) (made : List Command) (reply : List ℕ) : Type 0 where
+  pub nothing_made : made ≡ []
+  pub told : AreEdges version name k reply
+
+-- whether the finished tile is that of its present input
+pub record IsVerdictTold (version : versions.Version) (name : List ℕ) (k : ℕ) (made : List Command) (reply : List ℕ) : Type 0 where
+  pub nothing_made : made ≡ []
+  pub verdict : Verdict
+  pub right : IsVerdict version name k verdict
+  pub told : reply ≡ verdict_line verdict
+
+-- no tile of a layer is pending, and the reply is the number of the version
+pub record IsBuiltTold (version : versions.Version) (name : List ℕ) (made : List Command) (reply : List ℕ) : Type 0 where
+  pub nothing_made : made ≡ []
+  pub built : IsBuilt version name
+  pub told : reply ≡ built_line version.number
+
+-- what a request makes of the history, what the session makes, and the reply
+abbrev pub IsAnswered : ℕ → History → Request → History → List Command → List ℕ → Type 0
+IsAnswered session before nothing after made reply = IsTold [] made reply
+IsAnswered session before too_long after made reply = IsRefused LineTooLong made reply
+IsAnswered session before malformed after made reply = IsRefused CommandSyntax made reply
+IsAnswered session before (put name text) after made reply =
+    WithName name made reply
+    (((fault : WktFault) × wkt.IsRefusedBy text fault × IsRefused (Wkt fault) made reply)
+    ⊎ ((rings : List (List WholePoint)) × wkt.ReadsAs text rings × IsSubmitted session before (terms.put name rings) after made reply))
+IsAnswered session before (define name text) after made reply =
+    WithName name made reply
+    (((fault : ExprFault) × expr.IsRefusedBy text fault × IsRefused (Expression fault) made reply)
+    ⊎ ((tree : Tree (List ℕ)) × expr.ReadsAs text tree × IsSubmitted session before (terms.define name tree) after made reply))
+IsAnswered session before (remove name) after made reply =
+    WithName name made reply (IsSubmitted session before (terms.remove name) after made reply)
+IsAnswered session before (locate name x y w) after made reply =
+    WithName name made reply
+    ((¬ (IsQuery x y w) × IsRefused (Query PointRange) made reply)
+    ⊎ (IsQuery x y w × (stands (newest after).layers name ≡ false) × IsRefused (Version (Layer UnknownLayer)) made reply)
+    ⊎ (IsQuery x y w × IsTrue (stands (newest after).layers name)
+    × IsTold (location_line (answer_at (newest after).layers name (record { x = x; y = y; w = w }))) made reply))
+IsAnswered session before list_layers after made reply = IsTold (layers_text (newest after).layers) made reply
+IsAnswered session before (edges name k) after made reply =
+    WithName name made reply
+    (Asked (edges_refusal (newest after) name (asked_column k)) made reply (IsEdgesTold (newest after) name (asked_column k) made reply))
+IsAnswered session before (wait name) after made reply =
+    WithName name made reply (Asked (wait_refusal (newest after) name) made reply (IsBuiltTold (newest after) name made reply))
+IsAnswered session before (verify name k) after made reply =
+    WithName name made reply
+    (Asked (finished_refusal (newest after) name (asked_column k)) made reply (IsVerdictTold (newest after) name (asked_column k) made reply))
+
+-- one line: its history goes on from the one before, and it is answered there, or memory ran out
+pub record IsTurn (session : ℕ) (before : History) (line : List ℕ) (after : History) (made : List Command) (reply : List ℕ) : Type 0 where
+  pub goes_on : BeginsWith after before
+  pub answered : IsRefused OutOfMemory made reply ⊎ IsAnswered session before (request_of line) after made reply
+
+-- the lines in turn: the replies joined, and all that the session made, from what it had seen before to what it has seen then
+abbrev pub IsTranscript : ℕ → History → List (List ℕ) → History → List Command → List ℕ → Type 0
+IsTranscript session seen [] after made replies = (after ≡ seen) × (made ≡ []) × (replies ≡ [])
+IsTranscript session seen (line ∷ lines) after made replies =
+    (mid : History) × (first : List Command) × (others : List Command) × (reply : List ℕ) × (rest : List ℕ)
+    × IsTurn session seen line mid first reply × IsTranscript session mid lines after others rest
+    × (made ≡ first ++ others) × (replies ≡ reply ++ rest)

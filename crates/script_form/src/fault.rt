@@ -1,0 +1,115 @@
+//! Why a line is refused, or a session ends early.
+ghost use Rattle.std.specs.Prelude.{◌≡◌, Some};
+ghost use Rattle.script_form.specs.Fault.{code_of, text_of};
+ghost use Rattle.script_form.specs.declared.fault.CommandFault.TheVariants.{Wkt, Expression, Query, Version, OutOfMemory};
+
+use exact_point::fault::PointFault;
+use layer_expr::fault::ExprFault;
+use std::alloc::AllocError;
+use std::fmt;
+use thiserror::Error;
+use version_core::fault::VersionFault;
+use wkt_form::fault::WktFault;
+
+/// A fault that is printed as a line `error N text`.
+#[derive(Clone, Copy, Debug, PartialEq, Eq, Error)]
+#[error("{}", Text(*self))]
+pub enum CommandFault {
+    Wkt(WktFault),
+    /// Of a name or an expression.
+    Expression(ExprFault),
+    /// Of the point that is asked about.
+    Query(PointFault),
+    /// Of a command on the layers, or of a question about them.
+    Version(VersionFault),
+    OutOfMemory,
+    CommandSyntax,
+    LineTooLong,
+    /// A byte too many came.
+    ReadLimit,
+    Read,
+    Write,
+}
+
+impl CommandFault {
+    /// The number under which the fault is printed.
+    pub fn code(&self) -> u8
+        ensures { result ≡ code_of self.now }
+    {
+        match self {
+            CommandFault::Wkt(fault) => fault.code(),
+            CommandFault::Expression(fault) => fault.code(),
+            CommandFault::Query(fault) => fault.code(),
+            CommandFault::Version(fault) => fault.code(),
+            CommandFault::OutOfMemory => 40,
+            CommandFault::CommandSyntax => 41,
+            CommandFault::LineTooLong => 42,
+            CommandFault::ReadLimit => 47,
+            CommandFault::Read => 48,
+            CommandFault::Write => 49,
+        }
+    }
+}
+
+impl From<AllocError> for CommandFault {
+    ghost from_gives = { λ _ e. e ≡ OutOfMemory };
+
+    fn from(_e: AllocError) -> CommandFault {
+        CommandFault::OutOfMemory
+    }
+}
+
+impl From<WktFault> for CommandFault {
+    ghost from_gives = { λ fault e. e ≡ Wkt fault };
+
+    fn from(fault: WktFault) -> CommandFault {
+        CommandFault::Wkt(fault)
+    }
+}
+
+impl From<ExprFault> for CommandFault {
+    ghost from_gives = { λ fault e. e ≡ Expression fault };
+
+    fn from(fault: ExprFault) -> CommandFault {
+        CommandFault::Expression(fault)
+    }
+}
+
+impl From<PointFault> for CommandFault {
+    ghost from_gives = { λ fault e. e ≡ Query fault };
+
+    fn from(fault: PointFault) -> CommandFault {
+        CommandFault::Query(fault)
+    }
+}
+
+impl From<VersionFault> for CommandFault {
+    ghost from_gives = { λ fault e. e ≡ Version fault };
+
+    fn from(fault: VersionFault) -> CommandFault {
+        CommandFault::Version(fault)
+    }
+}
+
+/// The text of a fault, as a reply says it behind the number.
+#[derive(Clone, Copy, Debug)]
+pub struct Text(pub CommandFault);
+
+impl fmt::Display for Text {
+    ghost output = { λ text. Some (text_of text.0) };
+
+    fn fmt<W: fmt::Write>(&self, f: &mut fmt::Formatter<W>) -> fmt::Result {
+        match self.0 {
+            CommandFault::Wkt(fault) => write!(f, "{}", wkt_form::fault::Text(fault)),
+            CommandFault::Expression(fault) => write!(f, "{}", layer_expr::fault::Text(fault)),
+            CommandFault::Query(fault) => write!(f, "{}", exact_point::fault::Text(fault)),
+            CommandFault::Version(fault) => write!(f, "{}", version_core::fault::Text(fault)),
+            CommandFault::OutOfMemory => write!(f, "out of memory"),
+            CommandFault::CommandSyntax => write!(f, "command syntax"),
+            CommandFault::LineTooLong => write!(f, "line too long"),
+            CommandFault::ReadLimit => write!(f, "read limit"),
+            CommandFault::Read => write!(f, "read"),
+            CommandFault::Write => write!(f, "write"),
+        }
+    }
+}

@@ -1,0 +1,22 @@
+//! Scripts: their lines, what each asks for, and the replies as bytes.
+#![tactic(auto)]
+
+pub mod fault;
+pub mod line_buffer;
+pub mod number;
+pub mod reading;
+pub mod reply;
+pub mod reply_writer;
+pub mod request;
+pub mod script_reader;
+pub mod session_end;
+pub mod words;
+
+pub use fault::CommandFault;
+pub use line_buffer::LineBuffer;
+pub use reading::{read_define, read_name, read_put, read_remove};
+pub use reply::Reply;
+pub use reply_writer::{write_reply, write_text};
+pub use request::{LINE_MAX, Request, request_of};
+pub use script_reader::{SCRIPT_MAX, read_chunk};
+pub use session_end::SessionEnd;

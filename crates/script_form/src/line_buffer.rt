@@ -1,0 +1,74 @@
+//! The line that is being read.
+ghost use Rattle.std.specs.Prelude.{◌≡◌, ◌==◌, [], ◌∷◌, ◌++◌, length, take, IfOk};
+ghost use Rattle.script_form.specs.Lines.{line_room, without_cr};
+
+use std::alloc::{AllocError, Global};
+use std::marker::Model;
+
+/// The longest line, a CR, and one byte more.
+const LINE_ROOM: usize = 65_538;
+
+/// The bytes behind the last line feed, in room that is had once. A line that is too long is cut off
+/// where no further byte can make it another line.
+#[derive(Debug, Drop)]
+pub struct LineBuffer {
+    bytes: Vec<u8>,
+}
+
+impl Model for LineBuffer {
+    ghost use Rattle.std.specs.Prelude.{ℕ, ◌≤◌, List, vec_len, vec_capacity};
+    ghost use Rattle.std.specs.Coded.{coded_list, coded_ℕ};
+
+    ghost Value = { List ℕ };
+
+    ghost coded = { coded_list coded_ℕ };
+
+    ghost view = { λ l. l.bytes.items };
+
+    ghost invariant = { λ l. (vec_len l.bytes ≤ 65538) × (65538 ≤ vec_capacity l.bytes) };
+}
+
+impl LineBuffer {
+    /// An empty line.
+    pub fn new(alloc: Global) -> Result<LineBuffer, AllocError>
+        ensures { IfOk result (λ line. line ≡ []) }
+    {
+        Ok(LineBuffer {
+            bytes: Vec::with_capacity(alloc, LINE_ROOM)?,
+        })
+    }
+
+    /// Puts a byte behind the line, where it can make a difference.
+    pub fn push(&mut self, byte: u8)
+        ensures { self.new ≡ take line_room (self.old ++ byte ∷ []) }
+    {
+        if self.bytes.len() < LINE_ROOM {
+            let _ = self.bytes.push(byte);
+        }
+    }
+
+    /// Begins the next line.
+    pub fn clear(&mut self)
+        ensures { self.new ≡ [] }
+    {
+        self.bytes.clear();
+    }
+
+    /// The bytes of the line.
+    pub fn bytes(&self) -> &[u8]
+        ensures { result.now ≡ self.now }
+    {
+        self.bytes.as_slice()
+    }
+
+    /// The line without a CR at its end, as a line feed ends it.
+    pub fn without_cr(&self) -> &[u8]
+        ensures { result.now ≡ without_cr self.now }
+    {
+        let bytes = self.bytes.as_slice();
+        match bytes.split_last() {
+            Some((last, front)) if *last == b'\r' => front,
+            _ => bytes,
+        }
+    }
+}

@@ -1,0 +1,51 @@
+//! Commands, as the names and texts of a line spell them.
+ghost use Rattle.std.specs.Prelude.{◌≡◌, ◌⊎◌, IfOk, IfErr, IsTrue};
+ghost use Rattle.layer_expr.specs.Name.{is_name};
+ghost use Rattle.layer_book.specs.Command.{command};
+ghost use Rattle.script_form.specs.Reading.{IsMemory, IsNoName, IsPut, IsPutRefused, IsDefine, IsDefineRefused, IsRemove};
+
+use crate::fault::CommandFault;
+use layer_book::command::Command;
+use layer_expr::name::Name;
+use layer_expr::reading::read_expr;
+use std::alloc::{AllocError, Global};
+use std::sync::Arc;
+use wkt_form::reading::read_wkt;
+
+/// The name with these bytes.
+pub fn read_name(alloc: Global, bytes: &[u8]) -> Result<Name, CommandFault>
+    ensures ok { IfOk result (λ name. (name ≡ bytes.now) × IsTrue (is_name bytes.now)) }
+    ensures refused { IfErr result (λ fault. IsMemory fault ⊎ IsNoName bytes.now fault) }
+{
+    Ok(Name::new(alloc, bytes)?)
+}
+
+/// The PUT of a name and the text of rings. The name is looked at before the text.
+pub fn read_put(alloc: Global, name: &[u8], text: &[u8]) -> Result<Command, CommandFault>
+    ensures ok { IfOk result (λ change. IsPut name.now text.now (command change)) }
+    ensures refused { IfErr result (λ fault. IsMemory fault ⊎ IsPutRefused name.now text.now fault) }
+{
+    let name = read_name(alloc, name)?;
+    let layer = read_wkt(alloc, text)?;
+    let rings = Arc::new(alloc, layer).map_err(AllocError::from)?;
+    Ok(Command::Put(name, rings))
+}
+
+/// The DEFINE of a name and the text of an expression. The name is looked at before the text.
+pub fn read_define(alloc: Global, name: &[u8], text: &[u8]) -> Result<Command, CommandFault>
+    ensures ok { IfOk result (λ change. IsDefine name.now text.now (command change)) }
+    ensures refused { IfErr result (λ fault. IsMemory fault ⊎ IsDefineRefused name.now text.now fault) }
+{
+    let defined = read_name(alloc, name)?;
+    let expression = read_expr(alloc, text)?;
+    let definition = Arc::new(alloc, expression).map_err(AllocError::from)?;
+    Ok(Command::Define(defined, definition))
+}
+
+/// The DROP of a name.
+pub fn read_remove(alloc: Global, name: &[u8]) -> Result<Command, CommandFault>
+    ensures ok { IfOk result (λ change. IsRemove name.now (command change)) }
+    ensures refused { IfErr result (λ fault. IsMemory fault ⊎ IsNoName name.now fault) }
+{
+    Ok(Command::Remove(read_name(alloc, name)?))
+}

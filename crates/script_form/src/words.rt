@@ -1,0 +1,107 @@
+//! Words, parted by spaces and tabs.
+ghost use Rattle.std.specs.Prelude.{◌≡◌, ◌≤◌, ◌∷◌, [], length, IfNone, IfSome, take_while};
+ghost use Rattle.std.specs.List.{prefix_len};
+ghost use Rattle.script_form.specs.Lines.{is_gap};
+ghost use Rattle.script_form.specs.Requests.{is_word_byte, is_blank, is_name_side, skip_while, words_of};
+
+/// Whether the byte is a space or a tab.
+pub fn is_gap(byte: u8) -> bool
+    ensures { result ≡ is_gap byte }
+{
+    matches!(byte, b' ' | b'\t')
+}
+
+fn is_word_byte(byte: u8) -> bool
+    ensures { result ≡ is_word_byte byte }
+{
+    !is_gap(byte)
+}
+
+/// Whether the byte is white space of a text.
+fn is_blank(byte: u8) -> bool
+    ensures { result ≡ is_blank byte }
+{
+    matches!(byte, b' ' | b'\t' | b'\r' | b'\n')
+}
+
+/// Whether the byte may stand in a name before a `=`.
+fn is_name_side(byte: u8) -> bool
+    ensures { result ≡ is_name_side byte }
+{
+    !is_gap(byte) & (byte != b'=')
+}
+
+/// How many gaps the bytes begin with.
+fn gap_count(bytes: &[u8]) -> usize
+    ensures value { result ≡ prefix_len is_gap bytes.now }
+    ensures within { result ≤ length bytes.now }
+{
+    bytes.iter().take_while(|b| is_gap(**b)).count()
+}
+
+fn blank_count(bytes: &[u8]) -> usize
+    ensures value { result ≡ prefix_len is_blank bytes.now }
+    ensures within { result ≤ length bytes.now }
+{
+    bytes.iter().take_while(|b| is_blank(**b)).count()
+}
+
+/// How many bytes stand before the first gap.
+fn word_size(bytes: &[u8]) -> usize
+    ensures value { result ≡ prefix_len is_word_byte bytes.now }
+    ensures within { result ≤ length bytes.now }
+{
+    bytes.iter().take_while(|b| is_word_byte(**b)).count()
+}
+
+/// How many bytes stand before the first gap or `=`.
+fn name_size(bytes: &[u8]) -> usize
+    ensures value { result ≡ prefix_len is_name_side bytes.now }
+    ensures within { result ≤ length bytes.now }
+{
+    bytes.iter().take_while(|b| is_name_side(**b)).count()
+}
+
+/// The bytes from the first on that is no gap.
+pub fn behind_gaps(bytes: &[u8]) -> &[u8]
+    ensures { result.now ≡ skip_while is_gap bytes.now }
+{
+    &bytes[gap_count(bytes)..]
+}
+
+/// The bytes from the first on that is no white space.
+pub fn behind_blanks(bytes: &[u8]) -> &[u8]
+    ensures { result.now ≡ skip_while is_blank bytes.now }
+{
+    &bytes[blank_count(bytes)..]
+}
+
+/// What stands before the first gap, and what stands from it on.
+pub fn split_word(bytes: &[u8]) -> (&[u8], &[u8])
+    ensures word { result.0.now ≡ take_while is_word_byte bytes.now }
+    ensures rest { result.1.now ≡ skip_while is_word_byte bytes.now }
+{
+    bytes.split_at(word_size(bytes))
+}
+
+/// What stands before the first gap or `=`, and what stands from it on.
+pub fn split_name(bytes: &[u8]) -> (&[u8], &[u8])
+    ensures name { result.0.now ≡ take_while is_name_side bytes.now }
+    ensures rest { result.1.now ≡ skip_while is_name_side bytes.now }
+{
+    bytes.split_at(name_size(bytes))
+}
+
+/// The first word, and what stands behind it.
+pub fn first_word(bytes: &[u8]) -> Option<(&[u8], &[u8])>
+    ensures none { IfNone result (words_of bytes.now ≡ []) }
+    ensures some { IfSome result (λ found. words_of bytes.now ≡ found.0.now ∷ words_of found.1.now) }
+    ensures behind { IfSome result (λ found. found.1.now ≡ skip_while is_word_byte (skip_while is_gap bytes.now)) }
+{
+    let (word, rest) = split_word(behind_gaps(bytes));
+    if word.is_empty() {
+        None
+    } else {
+        Some((word, rest))
+    }
+}
