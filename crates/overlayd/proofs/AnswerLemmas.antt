@@ -28,8 +28,8 @@ use Rattle.script_form.specs.declared.fault.CommandFault.{CommandFault}
 use Rattle.script_form.specs.declared.fault.CommandFault.TheVariants.{Wkt, Expression, Query, Version, OutOfMemory}
 use Rattle.script_form.specs.Replies.{error_line, location_line}
 use Rattle.script_form.specs.Requests.{Request, put, define, remove, locate, list_layers, request_of}
-use Rattle.overlayd.specs.Standing.{Holds, TakesTurn}
-use Rattle.script_form.specs.Transcript.{IsRefused, IsSubmitted, IsAnswered}
+use Rattle.overlayd.specs.Turn.{Holds, TakesTurn}
+use Rattle.script_form.specs.Transcript.{IsRefused, IsSubmitted, IsAnswered, IsOutOfMemory}
 use Rattle.script_form.specs.Reading.{IsMemory, IsNoName, IsPut, IsPutRefused, IsDefine, IsDefineRefused, IsRemove}
 use Rattle.overlayd.specs.Answering.{AnswersIn, Answers, SubmitsIn, Submits}
 use Rattle.overlayd.proofs.HistoryLemmas.{stays, answers_there, out_of_memory}
@@ -73,7 +73,7 @@ answers_put old new name text command reply is submits before holds =
       goes = s.goes;
       answered =
           elim s.submitted [
-            | inl memory ↦ inl memory
+            | inl memory ↦ inl (refl, memory)
             | inr by ↦ inr (inr (is.named, inr (is.rings, is.read, subst (λ (c : Command). IsSubmitted 0 before c s.after s.made reply) is.command_is by)))
           ];
     }
@@ -88,7 +88,7 @@ answers_define old new name text command reply is submits before holds =
       goes = s.goes;
       answered =
           elim s.submitted [
-            | inl memory ↦ inl memory
+            | inl memory ↦ inl (refl, memory)
             | inr by ↦ inr (inr (is.named, inr (is.tree, is.read, subst (λ (c : Command). IsSubmitted 0 before c s.after s.made reply) is.command_is by)))
           ];
     }
@@ -103,7 +103,7 @@ answers_remove old new name command reply is submits before holds =
       goes = s.goes;
       answered =
           elim s.submitted [
-            | inl memory ↦ inl memory
+            | inl memory ↦ inl (refl, memory)
             | inr by ↦ inr (inr (is.named, subst (λ (c : Command). IsSubmitted 0 before c s.after s.made reply) is.command_is by))
           ];
     }
@@ -114,7 +114,7 @@ no_name name fault none = (none.0, record { nothing_made = refl; told = ap error
 pub put_refused : (book : Book) (name text : List ℕ) (fault : CommandFault) → IsMemory fault ⊎ IsPutRefused name text fault → Answers book (put name text) book (error_line fault)
 put_refused book name text fault refused before holds =
     elim refused [
-      | inl memory ↦ out_of_memory book before (put name text) fault holds memory
+      | inl memory ↦ out_of_memory book before (put name text) fault holds memory refl
       | inr by ↦
           answers_there book before (put name text) (error_line fault) holds
           (inr (elim by [
@@ -126,7 +126,7 @@ put_refused book name text fault refused before holds =
 pub define_refused : (book : Book) (name text : List ℕ) (fault : CommandFault) → IsMemory fault ⊎ IsDefineRefused name text fault → Answers book (define name text) book (error_line fault)
 define_refused book name text fault refused before holds =
     elim refused [
-      | inl memory ↦ out_of_memory book before (define name text) fault holds memory
+      | inl memory ↦ out_of_memory book before (define name text) fault holds memory refl
       | inr by ↦
           answers_there book before (define name text) (error_line fault) holds
           (inr (elim by [
@@ -138,7 +138,7 @@ define_refused book name text fault refused before holds =
 pub remove_refused : (book : Book) (name : List ℕ) (fault : CommandFault) → IsMemory fault ⊎ IsNoName name fault → Answers book (remove name) book (error_line fault)
 remove_refused book name fault refused before holds =
     elim refused [
-      | inl memory ↦ out_of_memory book before (remove name) fault holds memory
+      | inl memory ↦ out_of_memory book before (remove name) fault holds memory refl
       | inr none ↦ answers_there book before (remove name) (error_line fault) holds (inr (inl (no_name name fault none)))
     ]
 
@@ -157,7 +157,7 @@ point_read x y w x' y' w' p ex ey ew is =
 pub locate_unnamed : (book : Book) (name : List ℕ) (x y w : ℤ) (fault : CommandFault) → IsMemory fault ⊎ IsNoName name fault → Answers book (locate name x y w) book (error_line fault)
 locate_unnamed book name x y w fault refused before holds =
     elim refused [
-      | inl memory ↦ out_of_memory book before (locate name x y w) fault holds memory
+      | inl memory ↦ out_of_memory book before (locate name x y w) fault holds memory refl
       | inr none ↦ answers_there book before (locate name x y w) (error_line fault) holds (inr (inl (no_name name fault none)))
     ]
 
@@ -210,7 +210,7 @@ takes_turn old new line request reply asked answers before holds =
       made = a.made;
       turn = record {
         goes_on = (a.goes.more, a.goes.goes_on);
-        answered = elim a.answered [ inl memory ↦ inl memory | inr by ↦ inr (subst (λ (r : Request). IsAnswered 0 before r a.after a.made reply) asked by) ];
+        answered = elim a.answered [ inl memory ↦ inl (subst (λ (r : Request). IsOutOfMemory r a.made reply) asked memory) | inr by ↦ inr (subst (λ (r : Request). IsAnswered 0 before r a.after a.made reply) asked by) ];
       };
       holds = a.goes.holds;
       more = a.goes.more;

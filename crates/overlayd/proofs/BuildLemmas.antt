@@ -1,11 +1,12 @@
 -- What a build of a layer's tiles makes, and where it is not refused.
-use Rattle.std.proofs.Common.{◌≡◌, ℕ, ◌+◌, ◌<◌, ◌≤◌, Bool, true, false, not, cond, Option, Some, None, refl, sym, ap, subst, ◌∙◌, ◌⊎◌, inl, inr, arith}
-use Rattle.std.specs.Prelude.{is_some, nat_le}
+use Rattle.std.proofs.Common.{◌≡◌, ℕ, ◌+◌, ◌<◌, ◌≤◌, Bool, true, false, not, cond, ◌&&◌, ◌==◌, List, Option, Some, None, refl, sym, ap, subst, ◌∙◌, ◌⊎◌, inl, inr, arith}
+use Rattle.std.specs.Prelude.{is_some, nat_le, bytes_eq}
 use Rattle.std.proofs.lemmas.Option.{none-some}
-use Rattle.std.proofs.lemmas.Bool.{cases_lt, true≢false}
+use Rattle.std.proofs.lemmas.Bool.{cases_lt, true≢false, false≢true}
 use Rattle.std.proofs.lemmas.Bool.Decides.{nat_tests}
 use Rattle.overlay_terms.specs.Column.{column_count}
 use Rattle.overlay_terms.specs.Layers.{Name}
+use Rattle.overlay_terms.specs.Layers as layers
 use Rattle.overlay_terms.specs.Commands.{stands, stands_as_base, stands_as_derived}
 use Rattle.overlay_terms.specs.Histories.{Version, Tile, tile_at, FollowsTile, BuildsUp}
 use Rattle.overlay_terms.proofs.OwnLemmas.{derived_from_stands}
@@ -19,6 +20,7 @@ use Rattle.version_core.specs.Finish.{IfKept}
 use Rattle.version_core.specs.declared.finishing.Finish.{Finish}
 use Rattle.version_core.specs.declared.finishing.Finish.TheVariants.{Kept}
 use Rattle.version_core.specs.Building.{wait_refusal}
+use Rattle.overlayd.specs.Building.{LeavesOthers}
 
 some_none : {A : Type 0} (a : A) → Some a ≡ None → ⊥
 some_none a same = none-some a (sym same)
@@ -28,6 +30,19 @@ pub kept_builds : (old : Version) (name : Name) (column : ℕ) (tile : Tile) (fi
     → finish ≡ Kept next → IfKept finish (λ v. FollowsTile old name column tile v) → BuildsUp old next
 kept_builds old name column tile finish next is follows =
     builds_one old name column tile next (subst (λ f. IfKept f (λ v. FollowsTile old name column tile v)) is follows)
+
+-- a kept tile of one layer leaves those of others
+not_this : {A : Type 0} (t u : Bool) (a b : A) → t ≡ false → cond (t && u) a b ≡ b
+not_this t u a b is = ap (λ (s : Bool). cond (s && u) a b) is
+
+pub keeps_others : (old : Version) (name : Name) (column : ℕ) (tile : Tile) (finish : Finish) (next : Version)
+    → finish ≡ Kept next → IfKept finish (λ v. FollowsTile old name column tile v) → LeavesOthers name old next
+keeps_others old name column tile finish next is follows other k apart =
+    (subst (λ f. IfKept f (λ v. FollowsTile old name column tile v)) is follows).tiles other k
+    ∙ not_this (bytes_eq name other) (column == k) (Some tile) (tile_at old.tiles other k) apart
+
+pub others_trans : (name : Name) (old mid new : Version) → LeavesOthers name old mid → LeavesOthers name mid new → LeavesOthers name old new
+others_trans name old mid new first later other k apart = later other k apart ∙ first other k apart
 
 pub only_memory : (o : Option LayerFault) (fault : LayerFault) → o ≡ None → ((fault ≡ layer_fault.OutOfMemory) × (o ≡ None)) ⊎ (o ≡ Some fault) → fault ≡ layer_fault.OutOfMemory
 only_memory o fault free (inl memory) = memory.0
@@ -53,9 +68,17 @@ derived_layer version name free =
     derived_from_stands version.layers name there.0 there.1
 
 -- refusals depend on the layers alone
-pub same_refusal : (old new : Version) (name : Name) → BuildsUp old new → wait_refusal old name ≡ None → wait_refusal new name ≡ None
-same_refusal old new name builds free =
-    subst (λ ls. wait_refusal (record { number = new.number; layers = ls; tiles = new.tiles; durable = new.durable }) name ≡ None) (sym (builds_layers old new builds)) free
+layers_refuse : List layers.Layer → Name → Option VersionFault
+layers_refuse ls name =
+    cond (not (stands ls name)) (Some (Layer layer_fault.UnknownLayer)) (cond (stands_as_base ls name) (Some (Layer layer_fault.NotDerived)) None)
+
+pub same_refusal : (old new : Version) (name : Name) → BuildsUp old new → wait_refusal new name ≡ wait_refusal old name
+unfolding layers_refuse
+same_refusal old new name builds = ap (λ (ls : List layers.Layer). layers_refuse ls name) (builds_layers old new builds)
+
+-- where a refusal stands nothing is free
+pub not_free : {A : Type 0} (o : Option A) → o ≡ None → is_some o ≡ true → ⊥
+not_free o free there = false≢true (sym (ap is_some free) ∙ there)
 
 -- one more column is built
 pub built_more : (old new : Version) (name : Name) (column : ℕ) → BuildsUp old new

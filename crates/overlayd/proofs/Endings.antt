@@ -16,7 +16,8 @@ use Rattle.script_form.specs.Replies.{error_line}
 use Rattle.script_form.specs.Requests.{request_of}
 use Rattle.script_form.specs.Writing.{IsCutShort}
 use Rattle.overlayd.specs.Session.{IsOwnRun, IsPastLimit, IsReadFault, IsCutOff, EndsSo, IsPlainSession, first_history}
-use Rattle.overlayd.specs.Standing.{Stands, TakesTurn, IsStopped, TakesAll, Finishes, EndsBy}
+use Rattle.overlayd.specs.Turn.{TakesTurn}
+use Rattle.overlayd.specs.Loop.{Stands, IsStopped, TakesAll, Finishes, EndsBy}
 use Rattle.script_form.proofs.Pieces.{GoesOn, ended_lines-more}
 use Rattle.overlayd.proofs.Runs.{run-push, takes_turn-same}
 use Rattle.script_form.proofs.LongLines.{request_of-cut, take-nil}
@@ -104,12 +105,13 @@ ends-finished End input left left_after output mid all count line book way withi
     }
 ends-finished (Failed code) input left left_after output mid all count line book way within reads at_end finishes =
     let (more, appended, (is, cut)) = finishes (take script_max way.taken) way.written way.stands in
+    let short = subst (λ n. n ≤ script_max) (sym way.as_many) within in
     record {
       taken = way.taken;
       written = way.written ++ more;
       reads = subst (Consumes input left_after) (append-nil way.taken) (Consumes-trans input left left_after way.taken [] way.reads reads);
       writes = Appends-trans output mid all way.written more way.writes appended;
-      ended = inr (inr (inl (is, inl (subst (λ t. IsCutOff (whole_lines t) (way.written ++ more)) (in_limit way.taken (subst (λ n. n ≤ script_max) (sym way.as_many) within)) cut))));
+      ended = inr (inr (inl (is, inr (inl (at_end, short, subst (λ t. IsCutOff (whole_lines t) (way.written ++ more)) (in_limit way.taken short) cut)))));
     }
 
 -- what a session wrote and took, with a fault's line
@@ -152,7 +154,7 @@ ends-at_read end input left left_after output mid all count line book text way w
         reads = reads;
         writes = Appends-trans output mid all way.written front way.writes appended;
         ended = subst (λ e. EndsSo e way.taken left_after (way.written ++ front)) (sym same)
-            (inr (inr (inl (refl, inr (way.written ++ text, inr fault, cut_line way.written text front cut)))));
+            (inr (inr (inl (refl, inr (inr (way.written ++ text, inr fault, cut_line way.written text front cut))))));
       }
 
 -- a byte too many was read
@@ -177,7 +179,7 @@ ends-past_limit end input left output mid all count line book text way past is e
         reads = way.reads;
         writes = Appends-trans output mid all way.written front way.writes appended;
         ended = subst (λ e. EndsSo e way.taken left (way.written ++ front)) (sym same)
-            (inr (inr (inl (refl, inr (way.written ++ text, inl fault, cut_line way.written text front cut)))));
+            (inr (inr (inl (refl, inr (inr (way.written ++ text, inl fault, cut_line way.written text front cut))))));
       }
 
 -- the front of a front
@@ -221,16 +223,6 @@ goes_on input left left_after output mid all count more allowed line line_after 
           (let_in way.taken chunk more allowed short (is ∙ ap (λ n. min more (script_max - n)) (sym way.as_many))) stands;
     }
 
--- the first lines of a script are lines of it
-cut_off-whole : (taken : List ℕ) (n : ℕ) (written : List ℕ) → IsCutOff (ended_lines (take n taken)) written → IsCutOff (whole_lines taken) written
-cut_off-whole taken n written cut =
-    let on = ended_lines-more (take n taken) (drop n taken) in
-    let whole : GoesOn (ended_lines (take n taken)) (whole_lines taken) = record {
-      more = on.more ++ last_line (unended taken);
-      is = ap (λ l. l ++ last_line (unended taken)) (ap ended_lines (sym (take-append-drop n taken)) ∙ on.is) ∙ append_assoc (ended_lines (take n taken)) on.more (last_line (unended taken));
-    } in
-    cut_off-more (ended_lines (take n taken)) (whole_lines taken) written whole cut
-
 -- bytes are read, and a write failed
 pub ends-stopped : (input left left_after output mid all : Option (List ℕ)) (count more allowed : ℕ) (line chunk : List ℕ) (old : Book)
     → IsUnderWay input left output mid count line old → count ≤ script_max → allowed ≡ min more (script_max - count)
@@ -246,9 +238,8 @@ ends-stopped input left left_after output mid all count more allowed line chunk 
       writes = Appends-trans output mid all way.written written way.writes appended;
       ended = inr (inr (inl (
         refl,
-        inl (cut_off-whole (way.taken ++ take more chunk) script_max (way.written ++ written)
-            (subst (λ t. IsCutOff (ended_lines t) (way.written ++ written))
-            (let_in way.taken chunk more allowed short (is ∙ ap (λ n. min more (script_max - n)) (sym way.as_many))) cut)),
+        inl (subst (λ t. IsCutOff (ended_lines t) (way.written ++ written))
+            (let_in way.taken chunk more allowed short (is ∙ ap (λ n. min more (script_max - n)) (sym way.as_many))) cut),
       )));
     }
 

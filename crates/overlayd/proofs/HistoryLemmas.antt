@@ -1,5 +1,5 @@
 -- Histories that go on by an accepted command, by kept tiles, or by nothing.
-use Rattle.std.proofs.Common.{Option, Some, None, ◌≡◌, ℕ, List, [], ◌∷◌, ◌++◌, map, refl, sym, ap, subst, ◌∙◌, ◌⊎◌, inl, inr}
+use Rattle.std.proofs.Common.{Option, Some, None, ◌≡◌, ℕ, IsTrue, List, [], ◌∷◌, ◌++◌, map, refl, sym, ap, subst, ◌∙◌, ◌⊎◌, inl, inr}
 use Rattle.std.proofs.lemmas.List.{append-nil}
 use Rattle.std.proofs.lemmas.Option.{none-some}
 use Rattle.overlay_terms.specs.Commands.{Command}
@@ -11,8 +11,8 @@ use Rattle.script_form.specs.declared.fault.CommandFault.{CommandFault}
 use Rattle.script_form.specs.declared.fault.CommandFault.TheVariants.{OutOfMemory}
 use Rattle.script_form.specs.Replies.{ok_line, error_line}
 use Rattle.script_form.specs.Requests.{Request}
-use Rattle.overlayd.specs.Standing.{Holds}
-use Rattle.script_form.specs.Transcript.{IsRefused, IsSubmitted, IsAcceptedBy, IsAnswered}
+use Rattle.overlayd.specs.Turn.{Holds}
+use Rattle.script_form.specs.Transcript.{IsRefused, IsSubmitted, IsAcceptedBy, IsAnswered, takes_memory, IsOutOfMemory}
 use Rattle.overlayd.specs.Answering.{GoesOnWith, AnswersIn, SubmitsIn}
 
 last_version-append : (version : Version) (entries more : List Entry) → last_version version (entries ++ more) ≡ last_version (last_version version entries) more
@@ -73,7 +73,7 @@ submits_accepted old new before command reply holds follows told = record {
 -- what is answered at the version that kept tiles lead to
 pub answers_built : (old new : Book) (before : History) (request : Request) (reply : List ℕ)
     → Holds old before → (builds : BuildsUp old.version new.version)
-    → ((after : History) → newest after ≡ new.version → IsRefused OutOfMemory [] reply ⊎ IsAnswered 0 before request after [] reply)
+    → ((after : History) → newest after ≡ new.version → IsOutOfMemory request [] reply ⊎ IsAnswered 0 before request after [] reply)
     → AnswersIn before request new reply
 answers_built old new before request reply holds builds answered =
     let goes = goes_on old new before builds.entries [] holds builds.follow builds.arrives builds.no_command in
@@ -86,7 +86,7 @@ answers_built old new before request reply holds builds answered =
 
 -- a request that makes nothing is answered in the history as it stands
 pub answers_there : (book : Book) (before : History) (request : Request) (reply : List ℕ)
-    → Holds book before → IsRefused OutOfMemory [] reply ⊎ IsAnswered 0 before request before [] reply → AnswersIn before request book reply
+    → Holds book before → IsOutOfMemory request [] reply ⊎ IsAnswered 0 before request before [] reply → AnswersIn before request book reply
 answers_there book before request reply holds answered = record {
   after = before;
   made = [];
@@ -94,8 +94,8 @@ answers_there book before request reply holds answered = record {
   answered = answered;
 }
 
--- a fault for want of memory is an answer to every request
+-- a fault for want of memory is an answer to every request that takes some
 pub out_of_memory : (book : Book) (before : History) (request : Request) (fault : CommandFault)
-    → Holds book before → error_line fault ≡ error_line OutOfMemory → AnswersIn before request book (error_line fault)
-out_of_memory book before request fault holds memory =
-    answers_there book before request (error_line fault) holds (inl (record { nothing_made = refl; told = memory }))
+    → Holds book before → error_line fault ≡ error_line OutOfMemory → IsTrue (takes_memory request) → AnswersIn before request book (error_line fault)
+out_of_memory book before request fault holds memory takes =
+    answers_there book before request (error_line fault) holds (inl (takes, record { nothing_made = refl; told = memory }))

@@ -1,7 +1,6 @@
 pub mod Runs
 pub mod Steps
 pub mod Endings
-pub mod Replaced
 pub mod HistoryLemmas
 pub mod AnswerLemmas
 pub mod TileAnswers

@@ -8,9 +8,9 @@ use Rattle.overlayd.specs.declared.book.Book.{Book}
 use Rattle.script_form.specs.declared.fault.CommandFault.TheVariants.{OutOfMemory}
 use Rattle.script_form.specs.Requests.{Request, request_of}
 use Rattle.script_form.proofs.TranscriptLemmas.{transcript-push}
-use Rattle.script_form.specs.Transcript.{IsRefused, IsAnswered, IsTurn, IsTranscript}
+use Rattle.script_form.specs.Transcript.{IsAnswered, IsTurn, IsTranscript, IsOutOfMemory}
 use Rattle.overlayd.specs.Session.{IsOwnRun}
-use Rattle.overlayd.specs.Standing.{Holds, GoesOnIn, TakesTurn}
+use Rattle.overlayd.specs.Turn.{Holds, GoesOnIn, TakesTurn}
 
 -- entries that follow, and more that follow behind them
 AllFollow-append : (version : Version) (entries more : List Entry) → AllFollow version entries → AllFollow (last_version version entries) more → AllFollow version (entries ++ more)
@@ -54,7 +54,7 @@ turn-same before line other same new reply on = record {
   made = on.made;
   turn = record {
     goes_on = on.turn.goes_on;
-    answered = subst (λ (request : Request). IsRefused OutOfMemory on.made reply ⊎ IsAnswered 0 before request on.after on.made reply) same on.turn.answered;
+    answered = subst (λ (request : Request). IsOutOfMemory request on.made reply ⊎ IsAnswered 0 before request on.after on.made reply) same on.turn.answered;
   };
   holds = on.holds;
   more = on.more;

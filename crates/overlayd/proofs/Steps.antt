@@ -7,7 +7,8 @@ use Rattle.script_form.specs.Writing.{IsCutShort}
 use Rattle.std.proofs.lemmas.List.{take_all}
 use Rattle.std.proofs.lemmas.Bool.{ne_eqb, false≢true}
 use Rattle.overlayd.specs.Session.{IsOwnRun, IsCutOff}
-use Rattle.overlayd.specs.Standing.{Stands, TakesTurn, TakesAll, IsStopped}
+use Rattle.overlayd.specs.Turn.{TakesTurn}
+use Rattle.overlayd.specs.Loop.{Stands, TakesAll, IsStopped}
 use Rattle.script_form.specs.Requests.{request_of}
 use Rattle.overlayd.specs.declared.book.Book.{Book}
 use Rattle.script_form.proofs.Pieces.{GoesOn, ended_lines-feed, ended_lines-byte, ended_lines-more, unended-feed, unended-byte}

@@ -17,11 +17,13 @@ use Rattle.script_form.specs.Replies.{error_line, built_line, verdict_line}
 use Rattle.script_form.specs.Requests.{Request, edges, wait, verify}
 use Rattle.version_core.specs.Building.{IsBuilt, wait_refusal}
 use Rattle.script_form.specs.Reading.{IsMemory, IsNoName}
-use Rattle.overlayd.specs.Standing.{Holds}
+use Rattle.overlayd.specs.Turn.{Holds}
 use Rattle.script_form.specs.Transcript.{IsRefused, IsAnswered, Asked, asked_column, IsEdgesTold, IsVerdictTold, IsBuiltTold}
 use Rattle.overlayd.specs.Answering.{AnswersIn, Answers}
 use Rattle.overlayd.proofs.HistoryLemmas.{stays, answers_there, answers_built, out_of_memory}
 use Rattle.overlayd.proofs.AnswerLemmas.{no_name}
+use Rattle.overlayd.proofs.BuildLemmas.{same_refusal}
+use Rattle.layer_book.specs.Fault.{RefusedBy}
 
 -- a question that is refused, and one that is not
 asked_some : (o : Option VersionFault) (wrong : VersionFault) (T : Type 0) → o ≡ Some wrong → Asked o [] (error_line (Version wrong)) T
@@ -41,21 +43,21 @@ moved P version new known name n k is same number h =
 pub edges_unnamed : (book : Book) (name : List ℕ) (k : ℤ) (fault : CommandFault) → IsMemory fault ⊎ IsNoName name fault → Answers book (edges name k) book (error_line fault)
 edges_unnamed book name k fault refused before holds =
     elim refused [
-      | inl memory ↦ out_of_memory book before (edges name k) fault holds memory
+      | inl memory ↦ out_of_memory book before (edges name k) fault holds memory refl
       | inr none ↦ answers_there book before (edges name k) (error_line fault) holds (inr (inl (no_name name fault none)))
     ]
 
 pub verify_unnamed : (book : Book) (name : List ℕ) (k : ℤ) (fault : CommandFault) → IsMemory fault ⊎ IsNoName name fault → Answers book (verify name k) book (error_line fault)
 verify_unnamed book name k fault refused before holds =
     elim refused [
-      | inl memory ↦ out_of_memory book before (verify name k) fault holds memory
+      | inl memory ↦ out_of_memory book before (verify name k) fault holds memory refl
       | inr none ↦ answers_there book before (verify name k) (error_line fault) holds (inr (inl (no_name name fault none)))
     ]
 
 pub wait_unnamed : (book : Book) (name : List ℕ) (fault : CommandFault) → IsMemory fault ⊎ IsNoName name fault → Answers book (wait name) book (error_line fault)
 wait_unnamed book name fault refused before holds =
     elim refused [
-      | inl memory ↦ out_of_memory book before (wait name) fault holds memory
+      | inl memory ↦ out_of_memory book before (wait name) fault holds memory refl
       | inr none ↦ answers_there book before (wait name) (error_line fault) holds (inr (inl (no_name name fault none)))
     ]
 
@@ -65,7 +67,7 @@ pub edges_refused : (book : Book) (name known : List ℕ) (k : ℤ) (n : ℕ) (w
     → ((wrong ≡ Layer layer_fault.OutOfMemory) × (edges_refusal book.version known n ≡ None)) ⊎ (edges_refusal book.version known n ≡ Some wrong) → Answers book (edges name k) book (error_line (Version wrong))
 edges_refused book name known k n wrong same number named refused before holds =
     elim refused [
-      | inl memory ↦ out_of_memory book before (edges name k) (Version wrong) holds (ap (λ f. error_line (Version f)) memory.0)
+      | inl memory ↦ out_of_memory book before (edges name k) (Version wrong) holds (ap (λ f. error_line (Version f)) memory.0) refl
       | inr by ↦
           answers_there book before (edges name k) (error_line (Version wrong)) holds
           (inr (inr (named, asked_some _ wrong _ (moved (λ v m c. edges_refusal v m c ≡ Some wrong) book.version (newest before) known name n (asked_column k) holds.version same number by))))
@@ -87,7 +89,7 @@ pub verify_refused : (book : Book) (name known : List ℕ) (k : ℤ) (n : ℕ) (
     → ((wrong ≡ Layer layer_fault.OutOfMemory) × (finished_refusal book.version known n ≡ None)) ⊎ (finished_refusal book.version known n ≡ Some wrong) → Answers book (verify name k) book (error_line (Version wrong))
 verify_refused book name known k n wrong same number named refused before holds =
     elim refused [
-      | inl memory ↦ out_of_memory book before (verify name k) (Version wrong) holds (ap (λ f. error_line (Version f)) memory.0)
+      | inl memory ↦ out_of_memory book before (verify name k) (Version wrong) holds (ap (λ f. error_line (Version f)) memory.0) refl
       | inr by ↦
           answers_there book before (verify name k) (error_line (Version wrong)) holds
           (inr (inr (named, asked_some _ wrong _ (moved (λ v m c. finished_refusal v m c ≡ Some wrong) book.version (newest before) known name n (asked_column k) holds.version same number by))))
@@ -111,21 +113,23 @@ verify_told book name known k n verdict same number named free right before hold
 -- ==== WAIT
 
 pub wait_refused : (old new : Book) (name known : List ℕ) (wrong : VersionFault) → known ≡ name → IsTrue (is_name name) → BuildsUp old.version new.version
-    → (wrong ≡ Layer layer_fault.OutOfMemory) ⊎ (wait_refusal new.version known ≡ Some wrong) → Answers old (wait name) new (error_line (Version wrong))
+    → RefusedBy (Layer layer_fault.OutOfMemory) (wait_refusal old.version known) wrong → Answers old (wait name) new (error_line (Version wrong))
 wait_refused old new name known wrong same named builds refused before holds =
     answers_built old new before (wait name) (error_line (Version wrong)) holds builds
     (λ after is. elim refused [
-      | inl memory ↦ inl (record { nothing_made = refl; told = ap (λ f. error_line (Version f)) memory })
-      | inr by ↦ inr (inr (named, asked_some _ wrong _ (moved (λ v m c. wait_refusal v m ≡ Some wrong) new.version (newest after) known name 0 0 is same refl by)))
+      | inl memory ↦ inl (refl, record { nothing_made = refl; told = ap (λ f. error_line (Version f)) memory.0 })
+      | inr by ↦
+          let by_new = same_refusal old.version new.version known builds ∙ by in
+          inr (inr (named, asked_some _ wrong _ (moved (λ v m c. wait_refusal v m ≡ Some wrong) new.version (newest after) known name 0 0 is same refl by_new)))
     ])
 
 pub wait_told : (old new : Book) (name known : List ℕ) (reply : List ℕ) → known ≡ name → IsTrue (is_name name) → BuildsUp old.version new.version
-    → wait_refusal new.version known ≡ None → IsBuilt new.version known → reply ≡ built_line new.version.number → Answers old (wait name) new reply
+    → wait_refusal old.version known ≡ None → IsBuilt new.version known → reply ≡ built_line new.version.number → Answers old (wait name) new reply
 wait_told old new name known reply same named builds free built told before holds =
     answers_built old new before (wait name) reply holds builds
     (λ after is. inr (inr (
       named,
-      asked_none _ [] reply _ (moved (λ v m c. wait_refusal v m ≡ None) new.version (newest after) known name 0 0 is same refl free)
+      asked_none _ [] reply _ (moved (λ v m c. wait_refusal v m ≡ None) new.version (newest after) known name 0 0 is same refl (same_refusal old.version new.version known builds ∙ free))
           (record {
             nothing_made = refl;
             built = moved (λ v m c. IsBuilt v m) new.version (newest after) known name 0 0 is same refl built;

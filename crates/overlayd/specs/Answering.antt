@@ -9,8 +9,8 @@ use Rattle.script_form.specs.declared.reply.Reply.{Reply}
 use Rattle.script_form.specs.Replies.{error_line}
 use Rattle.script_form.specs.Reply.{reply_text}
 use Rattle.script_form.specs.Requests.{Request}
-use Rattle.overlayd.specs.Standing.{Holds}
-use Rattle.script_form.specs.Transcript.{IsRefused, IsSubmitted, IsAnswered}
+use Rattle.overlayd.specs.Turn.{Holds}
+use Rattle.script_form.specs.Transcript.{IsRefused, IsSubmitted, IsAnswered, IsOutOfMemory}
 
 -- the bytes that tell a reply or a fault
 abbrev pub result_text : Result Reply CommandFault → List ℕ
@@ -25,12 +25,12 @@ pub record GoesOnWith (before : History) (made : List Command) (after : History)
   pub only : commands_in more ≡ map (λ command. (0, command)) made
   pub holds : Holds new after
 
--- a request is answered in a history that goes on from the one before, or memory ran out
+-- a request is answered in a history that goes on from the one before, or memory ran out for it
 pub record AnswersIn (before : History) (request : Request) (new : Book) (reply : List ℕ) : Type 0 where
   pub after : History
   pub made : List Command
   pub goes : GoesOnWith before made after new
-  pub answered : IsRefused OutOfMemory made reply ⊎ IsAnswered 0 before request after made reply
+  pub answered : IsOutOfMemory request made reply ⊎ IsAnswered 0 before request after made reply
 
 abbrev pub Answers : Book → Request → Book → List ℕ → Type 0
 Answers old request new reply = (before : History) → Holds old before → AnswersIn before request new reply

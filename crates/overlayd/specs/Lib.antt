@@ -1,3 +1,5 @@
 pub mod Session
-pub mod Standing
+pub mod Building
+pub mod Turn
+pub mod Loop
 pub mod Answering

@@ -52,10 +52,12 @@ pub record IsCutOff (lines : List (List ℕ)) (written : List ℕ) : Type 0 wher
   pub told : IsOwnRun answered replies
   pub front : IsCutShort replies written
 
--- a write failed: what is written is a front of the replies to the first lines, or of all that another fault's session writes
-abbrev pub IsWriteFault : List ℕ → List ℕ → Type 0
-IsWriteFault taken written =
-    IsCutOff (whole_lines taken) written
+-- a write failed: what is written is a front of the replies to the first of the lines that were ended within the limit,
+-- of the whole script's where it was read to its end, or of all that another fault's session writes
+abbrev pub IsWriteFault : List ℕ → Option (List ℕ) → List ℕ → Type 0
+IsWriteFault taken left written =
+    IsCutOff (ended_lines (take script_max taken)) written
+    ⊎ (IsAtEnd left × (length taken ≤ script_max) × IsCutOff (whole_lines taken) written)
     ⊎ ((text : List ℕ) × (IsPastLimit taken text ⊎ IsReadFault taken text) × IsCutShort text written)
 
 -- no memory for the session itself: it read and wrote nothing
@@ -67,7 +69,7 @@ abbrev pub EndsSo : SessionEnd → List ℕ → Option (List ℕ) → List ℕ �
 EndsSo End taken left written = IsEnded taken left written
 EndsSo (Failed code) taken left written =
     ((code ≡ 47) × IsPastLimit taken written) ⊎ ((code ≡ 48) × IsReadFault taken written)
-    ⊎ ((code ≡ 49) × IsWriteFault taken written) ⊎ ((code ≡ 40) × IsNotBegun taken written)
+    ⊎ ((code ≡ 49) × IsWriteFault taken left written) ⊎ ((code ≡ 40) × IsNotBegun taken written)
 
 -- what was taken from the reader, what was appended to the writer, and how the session ended
 pub record IsPlainSession (end : SessionEnd) (input left output all : Option (List ℕ)) : Type 0 where

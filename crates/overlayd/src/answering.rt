@@ -1,7 +1,7 @@
 //! The answer to one line.
 ghost use Rattle.std.specs.Prelude.{◌≡◌};
 ghost use Rattle.script_form.specs.Requests.{put, define, remove, locate, list_layers, edges, wait, verify};
-ghost use Rattle.overlayd.specs.Standing.{TakesTurn};
+ghost use Rattle.overlayd.specs.Turn.{TakesTurn};
 ghost use Rattle.script_form.specs.Reply.{reply_text};
 ghost use Rattle.script_form.specs.Request.{request};
 ghost use Rattle.script_form.specs.Transcript.{asked_column};

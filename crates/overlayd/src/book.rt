@@ -1,25 +1,24 @@
 //! The version that a session has come to.
-ghost use Rattle.std.specs.Prelude.{◌≡◌, ◌⊎◌, Some, None, IfOk, IfErr, OnOk, OnErr, ℕ, IsTrue, is_some};
+ghost use Rattle.std.specs.Prelude.{◌≡◌, ◌⊎◌, Some, None, IfOk, IfErr, OnOk, OnErr, IsTrue, is_some};
 ghost use Rattle.overlay_terms.specs.Commands.{refusal_at, stands_as_derived};
 ghost use Rattle.overlay_terms.specs.Histories.{tile_at, FollowsCommand, empty_version, BuildsUp};
 ghost use Rattle.layer_book.specs.Command.{command};
+ghost use Rattle.layer_book.specs.Fault.{RefusedBy};
 ghost use Rattle.layer_book.specs.TileRefusal.{tile_refusal};
 ghost use Rattle.layer_book.specs.declared.fault.LayerFault.TheVariants.{OutOfMemory};
 ghost use Rattle.version_core.specs.Fault.{ReportsAt};
 ghost use Rattle.version_core.specs.declared.fault.VersionFault.TheVariants.{Layer};
 ghost use Rattle.version_core.specs.Building.{IsBuilt, wait_refusal};
+ghost use Rattle.overlayd.specs.Building.{LeavesOthers};
 
 use layer_book::command::Command;
-use layer_book::fault::LayerFault;
 use layer_expr::name::Name;
+use plane_base::column::LAST_COLUMN;
 use std::alloc::Global;
 use tile_build::built::Built;
 use version_core::fault::VersionFault;
 use version_core::finishing::Finish;
 use version_core::version::Version;
-
-/// How many columns there are.
-const COLUMN_COUNT: u8 = 17;
 
 /// The newest version.
 #[derive(Debug, Drop)]
@@ -53,28 +52,19 @@ impl Book {
     /// Where memory runs out the tiles that are built by then are kept.
     pub fn build(&mut self, alloc: Global, name: &Name) -> Result<u64, VersionFault>
         ensures builds { BuildsUp self.old.version self.new.version }
-        ensures ok { IfOk result (λ number. (wait_refusal self.new.version name.now ≡ None) × IsBuilt self.new.version name.now × (self.new.version.number ≡ number)) }
-        ensures refused { IfErr result (λ fault. (fault ≡ Layer OutOfMemory) ⊎ (wait_refusal self.new.version name.now ≡ Some fault)) }
+        ensures others { LeavesOthers name.now self.old.version self.new.version }
+        ensures accepted { OnOk result (wait_refusal self.old.version name.now ≡ None) }
+        ensures ok { IfOk result (λ number. IsBuilt self.new.version name.now × (self.new.version.number ≡ number)) }
+        ensures refused { IfErr result (RefusedBy (Layer OutOfMemory) (wait_refusal self.old.version name.now)) }
+        ensures unchanged { IsTrue (is_some (wait_refusal self.old.version name.now)) → self.new ≡ self.old }
     {
-        self.refuse(name)?;
-        for column in 0..COLUMN_COUNT {
+        if let Some(fault) = self.version.wait_refusal(name) {
+            return Err(fault);
+        }
+        for column in 0..LAST_COLUMN + 1 {
             self.build_tile(alloc, name, column)?;
         }
         Ok(self.version.number())
-    }
-
-    /// Refuses a name that is no derived layer's.
-    fn refuse(&self, name: &Name) -> Result<(), VersionFault>
-        ensures ok { OnOk result (wait_refusal self.now.version name.now ≡ None) }
-        ensures err { IfErr result (λ fault. wait_refusal self.now.version name.now ≡ Some fault) }
-    {
-        if !self.version.layers().stands(name) {
-            return Err(VersionFault::Layer(LayerFault::UnknownLayer));
-        }
-        if self.version.layers().stands_as_base(name) {
-            return Err(VersionFault::Layer(LayerFault::NotDerived));
-        }
-        Ok(())
     }
 
     /// Builds a tile, if it is pending.
@@ -82,6 +72,7 @@ impl Book {
         requires derived { IsTrue (stands_as_derived self.old.version.layers name.now) }
         requires free { tile_refusal self.old.version.layers name.now column ≡ None }
         ensures builds { BuildsUp self.old.version self.new.version }
+        ensures others { LeavesOthers name.now self.old.version self.new.version }
         ensures built { OnOk result (IsTrue (is_some (tile_at self.new.version.tiles name.now column))) }
         ensures err { IfErr result (λ fault. fault ≡ Layer OutOfMemory) }
     {

@@ -2,7 +2,7 @@
 ghost use Rattle.std.specs.Prelude.{◌≡◌, ◌<◌, ◌∷◌, [], length, IfOk};
 ghost use Rattle.script_form.specs.Replies.{error_line};
 ghost use Rattle.overlayd.specs.Session.{IsPlainSession};
-ghost use Rattle.overlayd.specs.Standing.{AnswersLine, TakesBytes, Finishes, EndsBy};
+ghost use Rattle.overlayd.specs.Loop.{AnswersLine, TakesBytes, Finishes, EndsBy};
 
 use crate::answering::answer;
 use crate::book::Book;

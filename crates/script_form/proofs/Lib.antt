@@ -5,3 +5,7 @@ pub mod LongLines
 pub mod Texts
 pub mod ReadLemmas
 pub mod TranscriptLemmas
+pub mod ShapeLemmas
+pub mod LineLaws
+pub mod JoinLaws
+mod Rows

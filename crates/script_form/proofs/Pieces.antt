@@ -21,17 +21,17 @@ with_last p [] = refl
 with_last p (q ∷ ps) = ap (λ xs. p ∷ xs) (with_last q ps)
 
 -- a list with its first
-record HasFirst (ps : List (List ℕ)) : Type 0 where
-  first : List ℕ
-  others : List (List ℕ)
-  is : ps ≡ first ∷ others
+pub record HasFirst (ps : List (List ℕ)) : Type 0 where
+  pub first : List ℕ
+  pub others : List (List ℕ)
+  pub is : ps ≡ first ∷ others
 
 onto_first-has_first : (b : ℕ) (ps : List (List ℕ)) → HasFirst (onto_first b ps)
 onto_first-has_first b [] = record { first = b ∷ []; others = []; is = refl }
 onto_first-has_first b (p ∷ ps) = record { first = b ∷ p; others = ps; is = refl }
 
 -- there is always a piece
-pieces_of-has_first : (bytes : List ℕ) → HasFirst (pieces_of bytes)
+pub pieces_of-has_first : (bytes : List ℕ) → HasFirst (pieces_of bytes)
 pieces_of-has_first [] = record { first = []; others = []; is = refl }
 pieces_of-has_first (b ∷ bytes) =
     elim (b == 10) as (λ t. HasFirst (cond t ([] ∷ pieces_of bytes) (onto_first b (pieces_of bytes)))) [

@@ -10,10 +10,10 @@ the_suc : (m : ℕ) → suc m ≡ 1 + m
 the_suc m = omega arith
 
 -- how many bytes pass a test, where the first does, and where it does not
-prefix_more : (test : ℕ → Bool) (b : ℕ) (bs : List ℕ) → test b ≡ true → suc (prefix_len test bs) ≡ prefix_len test (b ∷ bs)
+pub prefix_more : (test : ℕ → Bool) (b : ℕ) (bs : List ℕ) → test b ≡ true → suc (prefix_len test bs) ≡ prefix_len test (b ∷ bs)
 prefix_more test b bs holds = the_suc (prefix_len test bs) ∙ sym (cond-true (test b) (1 + prefix_len test bs) 0 holds)
 
-prefix_none : (test : ℕ → Bool) (b : ℕ) (bs : List ℕ) → test b ≡ false → 0 ≡ prefix_len test (b ∷ bs)
+pub prefix_none : (test : ℕ → Bool) (b : ℕ) (bs : List ℕ) → test b ≡ false → 0 ≡ prefix_len test (b ∷ bs)
 prefix_none test b bs fails = sym (cond-false (test b) (1 + prefix_len test bs) 0 fails)
 
 -- no gap stands first

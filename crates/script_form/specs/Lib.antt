@@ -2,8 +2,11 @@ pub mod Lines
 pub mod Requests
 pub mod Request
 pub mod Fault
+pub mod FaultText
 pub mod Replies
 pub mod Writing
 pub mod Reply
 pub mod Transcript
 pub mod Reading
+pub mod Shapes
+pub mod Laws

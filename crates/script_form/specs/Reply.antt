@@ -1,8 +1,7 @@
 -- Replies of the code as bytes.
-use Rattle.std.specs.Prelude.{◌≡◌, ℕ, ◌⊎◌, List, []}
+use Rattle.std.specs.Prelude.{ℕ, List, []}
 use Rattle.layer_book.specs.Place.{location}
 use Rattle.script_form.specs.Replies.{ok_line, error_line, location_line, built_line, verdict_line}
-use Rattle.script_form.specs.declared.fault.CommandFault.TheVariants.{OutOfMemory}
 use Rattle.script_form.specs.declared.reply.Reply.{Reply}
 use Rattle.script_form.specs.declared.reply.Reply.TheVariants.{Nothing, Accepted, Located, Built, Compared, Fault, Lines}
 
@@ -15,13 +14,3 @@ reply_text (Built number) = built_line number
 reply_text (Compared verdict) = verdict_line verdict
 reply_text (Fault fault) = error_line fault
 reply_text (Lines text) = text.items
-
--- the bytes of a reply, or those of `out of memory` in the place of a fault's
-abbrev pub IsTextOf : Reply → List ℕ → Type 0
-IsTextOf Nothing text = text ≡ []
-IsTextOf (Accepted number) text = text ≡ ok_line number
-IsTextOf (Located place) text = text ≡ location_line (location place)
-IsTextOf (Built number) text = text ≡ built_line number
-IsTextOf (Compared verdict) text = text ≡ verdict_line verdict
-IsTextOf (Fault fault) text = (text ≡ error_line fault) ⊎ (text ≡ error_line OutOfMemory)
-IsTextOf (Lines lines) text = text ≡ lines.items

@@ -2,6 +2,7 @@
 use Rattle.std.specs.Prelude.{ℕ, ℤ, pos, neg_ℤ, ◌+◌, ◌*◌, ◌-◌, ◌==◌, nat_le, Bool, true, false, not, ◌&&◌, ◌||◌, List, [], ◌∷◌, length, drop, fold, codes, bytes_eq, Option, Some, None, if◌then◌else◌, take_while}
 use Rattle.std.specs.List.{list_all, prefix_len}
 use Rattle.std.specs.Char.{is_ascii_digit}
+use Rattle.wkt_form.specs.Token.{is_blank}
 use Rattle.script_form.specs.Lines.{is_gap, is_skipped, is_too_long}
 
 -- a request: a name and a text, a name, a point with its denominator, a name and a column's number, or no more than its word
@@ -77,10 +78,6 @@ put_of rest =
     let name = take_while is_word_byte rest in
     let text = skip_while is_gap (skip_while is_word_byte rest) in
     if is_empty name || is_empty text then malformed else put name text
-
--- white space of a text
-abbrev pub is_blank : ℕ → Bool
-is_blank b = b == 32 || b == 9 || b == 13 || b == 10
 
 abbrev pub is_name_side : ℕ → Bool
 is_name_side b = is_word_byte b && not (b == 61)

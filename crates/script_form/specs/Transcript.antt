@@ -118,10 +118,28 @@ IsAnswered session before (verify name k) after made reply =
     WithName name made reply
     (Asked (finished_refusal (newest after) name (asked_column k)) made reply (IsVerdictTold (newest after) name (asked_column k) made reply))
 
--- one line: its history goes on from the one before, and it is answered there, or memory ran out
+-- whether a request takes memory: for the name in it, for what is made of it, or for the lines of its reply
+abbrev pub takes_memory : Request → Bool
+takes_memory nothing = false
+takes_memory too_long = false
+takes_memory malformed = false
+takes_memory (put name text) = true
+takes_memory (define name text) = true
+takes_memory (remove name) = true
+takes_memory (locate name x y w) = true
+takes_memory list_layers = true
+takes_memory (edges name k) = true
+takes_memory (wait name) = true
+takes_memory (verify name k) = true
+
+-- memory ran out for a request that takes some: nothing is made, and the reply is that fault
+abbrev pub IsOutOfMemory : Request → List Command → List ℕ → Type 0
+IsOutOfMemory request made reply = IsTrue (takes_memory request) × IsRefused OutOfMemory made reply
+
+-- one line: its history goes on from the one before, and it is answered there, or memory ran out for it
 pub record IsTurn (session : ℕ) (before : History) (line : List ℕ) (after : History) (made : List Command) (reply : List ℕ) : Type 0 where
   pub goes_on : BeginsWith after before
-  pub answered : IsRefused OutOfMemory made reply ⊎ IsAnswered session before (request_of line) after made reply
+  pub answered : IsOutOfMemory (request_of line) made reply ⊎ IsAnswered session before (request_of line) after made reply
 
 -- the lines in turn: the replies joined, and all that the session made, from what it had seen before to what it has seen then
 abbrev pub IsTranscript : ℕ → History → List (List ℕ) → History → List Command → List ℕ → Type 0

@@ -3,6 +3,7 @@ ghost use Rattle.std.specs.Prelude.{◌≡◌, Some};
 ghost use Rattle.script_form.specs.Fault.{code_of, text_of};
 ghost use Rattle.script_form.specs.declared.fault.CommandFault.TheVariants.{Wkt, Expression, Query, Version, OutOfMemory};
 
+use crate::fault_text::{FaultText, fault_text};
 use exact_point::fault::PointFault;
 use layer_expr::fault::ExprFault;
 use std::alloc::AllocError;
@@ -99,17 +100,10 @@ impl fmt::Display for Text {
     ghost output = { λ text. Some (text_of text.0) };
 
     fn fmt<W: fmt::Write>(&self, f: &mut fmt::Formatter<W>) -> fmt::Result {
-        match self.0 {
-            CommandFault::Wkt(fault) => write!(f, "{}", wkt_form::fault::Text(fault)),
-            CommandFault::Expression(fault) => write!(f, "{}", layer_expr::fault::Text(fault)),
-            CommandFault::Query(fault) => write!(f, "{}", exact_point::fault::Text(fault)),
-            CommandFault::Version(fault) => write!(f, "{}", version_core::fault::Text(fault)),
-            CommandFault::OutOfMemory => write!(f, "out of memory"),
-            CommandFault::CommandSyntax => write!(f, "command syntax"),
-            CommandFault::LineTooLong => write!(f, "line too long"),
-            CommandFault::ReadLimit => write!(f, "read limit"),
-            CommandFault::Read => write!(f, "read"),
-            CommandFault::Write => write!(f, "write"),
+        match fault_text(self.0) {
+            FaultText::Plain(text) => write!(f, "{text}"),
+            FaultText::At(text, number) => write!(f, "{text}{number}"),
+            FaultText::Ring(number, text) => write!(f, "ring {number}{text}"),
         }
     }
 }

@@ -2,6 +2,8 @@
 #![tactic(auto)]
 
 pub mod fault;
+pub mod fault_text;
+pub mod laws;
 pub mod line_buffer;
 pub mod number;
 pub mod reading;

@@ -1,18 +1,18 @@
 //! Replies as bytes of a writer.
-ghost use Rattle.std.specs.Prelude.{◌≡◌, ℕ, ◌⊎◌, List, ◌++◌, OnOk};
+ghost use Rattle.std.specs.Prelude.{◌≡◌, ◌+◌, ◌≤◌, ◌++◌};
+ghost use Rattle.arrayvec.specs.ArrayString.{array_string_len};
 ghost use Rattle.layer_book.specs.Place.{location};
 ghost use Rattle.script_form.specs.Replies.{ok_line, error_line, location_line, built_line, verdict_line};
-ghost use Rattle.script_form.specs.Reply.{IsTextOf};
-ghost use Rattle.script_form.specs.declared.fault.CommandFault.TheVariants.{OutOfMemory};
+ghost use Rattle.script_form.specs.Reply.{reply_text};
+ghost use Rattle.script_form.specs.FaultText.{shown, IsBrief};
 ghost use Rattle.script_form.specs.Writing.{Writes};
 
-use crate::fault::{CommandFault, Text};
+use crate::fault::CommandFault;
+use crate::fault_text::{FaultText, fault_text};
 use crate::reply::Reply;
 use arrayvec::ArrayString;
 use itoa::Buffer;
 use layer_book::direct_answer::Place;
-use std::fmt;
-use std::fmt::Write as _;
 use std::io::Write;
 use version_core::verifying::Verdict;
 
@@ -31,10 +31,9 @@ pub fn write_text<W: Write>(writer: &mut W, text: &[u8]) -> Result<(), CommandFa
     Ok(())
 }
 
-/// Writes the reply, without taking memory. Where a fault's line finds no room, `out of memory`
-/// stands in its place.
+/// Writes the reply, without taking memory.
 pub fn write_reply<W: Write>(writer: &mut W, reply: &Reply) -> Result<(), CommandFault>
-    ensures { (text : List ℕ) × IsTextOf reply.now text × Writes result (W.contents writer.old) (W.contents writer.new) text }
+    ensures { Writes result (W.contents writer.old) (W.contents writer.new) (reply_text reply.now) }
 {
     match reply {
         Reply::Nothing => Ok(()),
@@ -88,19 +87,38 @@ fn location_text(place: Place) -> &'static [u8]
     }
 }
 
+/// The line that tells a fault.
 fn error_text(fault: CommandFault) -> ArrayString<128>
-    ensures { (result.bytes ≡ error_line fault) ⊎ (result.bytes ≡ error_line OutOfMemory) }
+    ensures { result.bytes ≡ error_line fault }
 {
-    let mut text = ArrayString::new();
-    if format_error(&mut text, fault).is_err() {
-        text.clear();
-        text.push_str("error 40 out of memory\n");
-    }
-    text
+    let mut digits = Buffer::new();
+    let mut line = ArrayString::new();
+    line.push_str("error ");
+    line.push_str(digits.format(fault.code()));
+    line.push_str(" ");
+    push_text(&mut line, fault_text(fault));
+    line.push_str("\n");
+    line
 }
 
-fn format_error(text: &mut ArrayString<128>, fault: CommandFault) -> fmt::Result
-    ensures { OnOk result (text.new.bytes ≡ text.old.bytes ++ error_line fault) }
+/// Puts the text of a fault behind a line that has room for it.
+fn push_text(line: &mut ArrayString<128>, text: FaultText)
+    requires room { array_string_len line.old ≤ 60 }
+    requires brief { IsBrief text }
+    ensures bytes { line.new.bytes ≡ line.old.bytes ++ shown text }
+    ensures len { array_string_len line.new ≤ array_string_len line.old + 60 }
 {
-    write!(text, "error {} {}\n", fault.code(), Text(fault))
+    let mut digits = Buffer::new();
+    match text {
+        FaultText::Plain(text) => line.push_str(text),
+        FaultText::At(text, number) => {
+            line.push_str(text);
+            line.push_str(digits.format(number));
+        }
+        FaultText::Ring(number, text) => {
+            line.push_str("ring ");
+            line.push_str(digits.format(number));
+            line.push_str(text);
+        }
+    }
 }

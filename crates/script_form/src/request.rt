@@ -50,7 +50,7 @@ pub fn request_of(line: &[u8]) -> Request<'_>
 fn is_skipped(line: &[u8]) -> bool
     ensures { result ≡ is_skipped line.now }
 {
-    begins_comment(line) | all_gaps(line)
+    begins_comment(line) || all_gaps(line)
 }
 
 fn all_gaps(line: &[u8]) -> bool
@@ -160,7 +160,7 @@ fn put_of(rest: &[u8]) -> Request<'_>
 {
     let (name, rest) = split_word(rest);
     let text = behind_gaps(rest);
-    if name.is_empty() | text.is_empty() {
+    if name.is_empty() || text.is_empty() {
         return Request::Malformed;
     }
     Request::Put(name, text)

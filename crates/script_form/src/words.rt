@@ -1,8 +1,9 @@
 //! Words, parted by spaces and tabs.
 ghost use Rattle.std.specs.Prelude.{◌≡◌, ◌≤◌, ◌∷◌, [], length, IfNone, IfSome, take_while};
 ghost use Rattle.std.specs.List.{prefix_len};
+ghost use Rattle.wkt_form.specs.Token.{is_blank};
 ghost use Rattle.script_form.specs.Lines.{is_gap};
-ghost use Rattle.script_form.specs.Requests.{is_word_byte, is_blank, is_name_side, skip_while, words_of};
+ghost use Rattle.script_form.specs.Requests.{is_word_byte, is_name_side, skip_while, words_of};
 
 /// Whether the byte is a space or a tab.
 pub fn is_gap(byte: u8) -> bool
@@ -28,7 +29,7 @@ fn is_blank(byte: u8) -> bool
 fn is_name_side(byte: u8) -> bool
     ensures { result ≡ is_name_side byte }
 {
-    !is_gap(byte) & (byte != b'=')
+    !is_gap(byte) && byte != b'='
 }
 
 /// How many gaps the bytes begin with.

@@ -10,7 +10,7 @@ use Rattle.overlayd.proofs.answering.answer_list.Goals as goal
 pub returns-in_err-list : goal.returns-in_err-list
 returns-in_err-list c =
     let p = err_from_is_err_and c.from_residual.result c.from_residual.ensures.1 in
-    rw (p.1, p.2) (λ before holds. out_of_memory c.args.book.now before list_layers OutOfMemory holds refl)
+    rw (p.1, p.2) (λ before holds. out_of_memory c.args.book.now before list_layers OutOfMemory holds refl refl)
 
 pub returns : goal.returns
 returns c = list_told c.args.book.now _ (c.in_ok-list.ensures ∙ ap layers_text c.layers.ensures.value)

@@ -19,4 +19,4 @@ pub returns : goal.returns
 returns c =
     let named = c.in_ok-name.ensures.ok in
     let done = c.in_ok-number.ensures in
-    wait_told c.args.book.now c.build.new.self c.args.name.now _ _ named.0 named.1 done.builds done.ok.0 done.ok.1 (ap built_line (sym done.ok.2))
+    wait_told c.args.book.now c.build.new.self c.args.name.now _ _ named.0 named.1 done.builds done.accepted done.ok.0 (ap built_line (sym done.ok.1))

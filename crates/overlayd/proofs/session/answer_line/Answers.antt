@@ -1,7 +1,5 @@
-use Rattle.overlayd.proofs.Replaced.{turn_told}
+use Rattle.script_form.specs.Reply.{reply_text}
 use Rattle.overlayd.proofs.session.answer_line.Goals as goal
 
 pub returns : goal.returns
-returns g c =
-    let (text, is, writes) = c.write_reply.ensures in
-    (text, turn_told _ _ _ _ text is c.answer-reply.ensures, writes)
+returns g c = (reply_text c.answer-reply.result, c.answer-reply.ensures, c.write_reply.ensures)

@@ -1,6 +1,6 @@
 -- The bytes so far are taken.
 use Rattle.std.proofs.Common.{take}
-use Rattle.overlayd.specs.Standing.{TakesAll}
+use Rattle.overlayd.specs.Loop.{TakesAll}
 use Rattle.overlayd.proofs.session.take_bytes.Given as goal
 
 abbrev pub invariant-loop-byte : goal.invariant-loop-byte

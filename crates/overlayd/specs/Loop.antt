@@ -1,36 +1,14 @@
--- Where a session stands in its script, and what each of its steps makes of that.
-use Rattle.std.specs.Prelude.{◌≡◌, ℕ, ◌⊎◌, List, ◌++◌, map, take, Option, Result, MatchResult}
+-- The words of the loop over a script: where a session stands, and what each step makes of that. What a session promises is
+-- told in `Session`, without them.
+use Rattle.std.specs.Prelude.{◌≡◌, ℕ, ◌⊎◌, List, ◌++◌, take, Option, Result, MatchResult}
 use Rattle.std.specs.Io.KnownBytes.{Appends}
-use Rattle.overlay_terms.specs.Commands.{Command}
-use Rattle.overlay_terms.specs.Histories.{Version, Entry, History, GoesOnBy, AllFollow, newest, commands_in}
-use Rattle.overlay_terms.specs.KeptLaws.{IsExact}
 use Rattle.script_form.specs.declared.session_end.SessionEnd.{SessionEnd}
 use Rattle.script_form.specs.declared.session_end.SessionEnd.TheVariants.{End, Failed}
-use Rattle.overlayd.specs.declared.book.Book.{Book}
 use Rattle.script_form.specs.Lines.{line_room, ended_lines, unended, whole_lines}
 use Rattle.script_form.specs.Writing.{IsCutShort, Writes}
-use Rattle.script_form.specs.Transcript.{IsTurn}
+use Rattle.overlayd.specs.declared.book.Book.{Book}
 use Rattle.overlayd.specs.Session.{IsOwnRun, IsCutOff}
-
--- a book holds the newest version of a history, whose finished tiles are right
-pub record Holds (book : Book) (history : History) : Type 0 where
-  pub version : newest history ≡ book.version
-  pub exact : IsExact book.version
-
--- what a line makes of a history: the reply at its newest version, and entries for what is made and for nothing else
-pub record GoesOnIn (before : History) (line : List ℕ) (new : Book) (reply : List ℕ) : Type 0 where
-  pub after : History
-  pub made : List Command
-  pub turn : IsTurn 0 before line after made reply
-  pub holds : Holds new after
-  pub more : List Entry
-  pub goes_on : GoesOnBy before more after
-  pub follows : AllFollow (newest before) more
-  pub only : commands_in more ≡ map (λ command. (0, command)) made
-
--- whatever history the book holds the newest version of, the line goes on in it
-abbrev pub TakesTurn : Book → List ℕ → Book → List ℕ → Type 0
-TakesTurn old line new reply = (before : History) → Holds old before → GoesOnIn before line new reply
+use Rattle.overlayd.specs.Turn.{Holds, TakesTurn}
 
 -- a line is answered as its turn asks, and its reply is written
 abbrev pub AnswersLine : {A E : Type 0} → Result A E → Book → List ℕ → Book → Option (List ℕ) → Option (List ℕ) → Type 0
