@@ -1,15 +1,11 @@
 //! The polygon overlay server: a session on standard input and output.
 #![tactic(auto)]
 
-#[cfg(test)]
-mod answer_tests;
 mod answering;
 mod book;
 mod session;
 #[cfg(test)]
 mod session_tests;
-#[cfg(test)]
-mod tile_tests;
 
 use crate::session::run_plain;
 use script_form::SessionEnd;
