@@ -18,7 +18,7 @@ use Rattle.arrange.specs.declared.unit.Unit.{Unit}
 use Rattle.arrange.specs.declared.marked_seg.MarkedSeg.{MarkedSeg}
 use Rattle.arrange.specs.Marked.{marked_of}
 use Rattle.overlay_terms.proofs.InputLists.{any_from_Contains}
-use Rattle.arrange.specs.SameInput.{same_segment}
+use Rattle.overlay_terms.specs.SameInput.{same_segment}
 use Rattle.arrange.proofs.FoundLemmas.{contains_map, any_contains}
 use Rattle.arrange.proofs.RingEnds.{same_points}
 use Rattle.arrange.proofs.UnitLineLemmas.{same_whole_self}

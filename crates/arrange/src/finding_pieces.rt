@@ -6,7 +6,7 @@ ghost use Rattle.overlay_terms.specs.Column.{border};
 ghost use Rattle.overlay_terms.specs.TileLaws.{IsInput};
 ghost use Rattle.arrange.specs.Arrangement.{ArePieces, segments_in};
 ghost use Rattle.arrange.specs.NamedPlaces.{AreAlong};
-ghost use Rattle.arrange.specs.SameInput.{same_segment};
+ghost use Rattle.overlay_terms.specs.SameInput.{same_segment};
 ghost use Rattle.arrange.specs.HeldPieces.{HoldsPieces, HoldsOneMore, AreNeighbours};
 
 use crate::finding_nodes::places_along;

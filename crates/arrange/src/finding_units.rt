@@ -5,7 +5,7 @@ ghost use Rattle.overlay_terms.specs.Plane.{Segment};
 ghost use Rattle.overlay_terms.specs.Trees.{mask_bits};
 ghost use Rattle.arrange.specs.Marked.{AllProper, marked_of};
 ghost use Rattle.arrange.specs.Units.{AreUnits, IsUnit, cover_bits, covers};
-ghost use Rattle.arrange.specs.SameInput.{same_segment};
+ghost use Rattle.overlay_terms.specs.SameInput.{same_segment};
 ghost use Rattle.arrange.specs.UnitLists.{HaveGrown, stretches};
 
 use crate::marked_seg::MarkedSeg;

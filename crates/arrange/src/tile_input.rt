@@ -20,7 +20,7 @@ use std::marker::Model;
 const COLUMN_WIDTH: i64 = 131072;
 
 /// Whether a segment has a point in a column.
-fn touches(column: Column, seg: Seg) -> bool
+pub fn touches(column: Column, seg: Seg) -> bool
     ensures value { result ≡ touches column seg }
     ensures proper { IsProper seg }
 {
@@ -137,7 +137,8 @@ impl TileInput {
 }
 
 impl PartialEq for TileInput {
-    ghost use Rattle.arrange.specs.SameInput.{same_input, same_input-laws};
+    ghost use Rattle.overlay_terms.specs.SameInput.{same_input};
+    ghost use Rattle.arrange.specs.SameInput.{same_input-laws};
 
     ghost eq = { same_input };
 

@@ -8,7 +8,7 @@ use Rattle.std.proofs.lemmas.Bool.Decides.{nat_tests}
 use Rattle.overlay_terms.specs.Plane.{WholePoint}
 use Rattle.overlay_terms.specs.Trees.{Tree, leaves}
 use Rattle.overlay_terms.specs.Layers.{Name, Content, base, derived, Layer}
-use Rattle.overlay_terms.specs.Commands.{Refusal, refusal_of, place_of, stands, uses, or_else, when, is_crowded, refusal_of_put, refusal_of_use, refusal_of_uses, refusal_of_define, refusal_of_remove, stands_as_base, stands_as_derived, with_content, layers_max, unknown_layer, later_layer, not_base, not_derived, in_use, too_many_layers}
+use Rattle.overlay_terms.specs.Commands.{Refusal, refusal_of, index_of, stands, uses, or_else, when, is_crowded, refusal_of_put, refusal_of_use, refusal_of_uses, refusal_of_define, refusal_of_remove, stands_as_base, stands_as_derived, with_content, layers_max, unknown_layer, later_layer, not_base, not_derived, in_use, too_many_layers}
 use Rattle.overlay_terms.specs.Orderly.{used_names, is_among, is_orderly_after, IsOrderly}
 use Rattle.overlay_terms.specs.InputLaws.{IsRing}
 use Rattle.layer_book.specs.Layer.{others, keeping, HasRings, IsBook}
@@ -31,17 +31,17 @@ all_but p q r h (x ∷ xs) n a =
 
 -- a name that a layer in the place of another may use: one known from before, or of a layer before that place
 abbrev is_usable : List Name → List Layer → Name → Name → Bool
-is_usable known layers name used = is_among known used || nat_lt (place_of layers used) (place_of layers name)
+is_usable known layers name used = is_among known used || nat_lt (index_of layers used) (index_of layers name)
 
-by_places : (a b : Bool) (u n : ℕ) → (a || nat_lt (cond b 0 (u + 1)) (n + 1)) ≡ true → ((a || b) || nat_lt u n) ≡ true
-by_places true b u n h = refl
-by_places false true u n h = refl
-by_places false false u n h = grind (arith, nat_tests)
+by_indices : (a b : Bool) (u n : ℕ) → (a || nat_lt (cond b 0 (u + 1)) (n + 1)) ≡ true → ((a || b) || nat_lt u n) ≡ true
+by_indices true b u n h = refl
+by_indices false true u n h = refl
+by_indices false false u n h = grind (arith, nat_tests)
 
 usable_behind : (known : List Name) (layer : Layer) (layers : List Layer) (name used : Name) → bytes_eq layer.name name ≡ false → is_usable known (layer ∷ layers) name used ≡ true → is_usable (known ++ layer.name ∷ []) layers name used ≡ true
 usable_behind known layer layers name used other h =
-    rw (among-push known layer.name used) (by_places (is_among known used) (bytes_eq layer.name used) (place_of layers used) (place_of layers name)
-    (sym (ap (λ b. is_among known used || nat_lt (cond (bytes_eq layer.name used) 0 (place_of layers used + 1)) (cond b 0 (place_of layers name + 1))) other) ∙ h))
+    rw (among-push known layer.name used) (by_indices (is_among known used) (bytes_eq layer.name used) (index_of layers used) (index_of layers name)
+    (sym (ap (λ b. is_among known used || nat_lt (cond (bytes_eq layer.name used) 0 (index_of layers used + 1)) (cond b 0 (index_of layers name + 1))) other) ∙ h))
 
 not_below_zero : (a : Bool) (n : ℕ) → (a || nat_lt n 0) ≡ true → a ≡ true
 not_below_zero true n h = refl
@@ -63,7 +63,7 @@ replaced_orderly known (layer ∷ layers) name new h may =
         let gone : stands layers name ≡ false = subst (λ n. stands layers n ≡ false) same (apart known layer layers h) in
         head_from known (record { name = name; content = new }) (map (replaced name new) layers) (record {
           own = subst (λ n. is_among known n ≡ false) same head.own;
-          earlier = all_where (is_usable known (layer ∷ layers) name) (is_among known) (λ u k. not_below_zero _ _ (sym (ap (λ b. is_among known u || nat_lt (place_of (layer ∷ layers) u) (cond b 0 (place_of layers name + 1))) at) ∙ k)) (used_names new) may;
+          earlier = all_where (is_usable known (layer ∷ layers) name) (is_among known) (λ u k. not_below_zero _ _ (sym (ap (λ b. is_among known u || nat_lt (index_of (layer ∷ layers) u) (cond b 0 (index_of layers name + 1))) at) ∙ k)) (used_names new) may;
           behind = rw (replaced_absent name new layers gone) (subst (λ n. is_orderly_after (known ++ n ∷ []) layers ≡ true) same head.behind);
         })
     split false at next =
@@ -147,7 +147,7 @@ usable : (layers : List Layer) (name : Name) (names : List Name) → refusal_of_
 usable layers name [] h = refl
 usable layers name (used ∷ names) h =
     let parts = neither (refusal_of_use layers name used) (refusal_of_uses layers name names) h in
-    let here = neither (when (not (stands layers used)) unknown_layer) (when (nat_le (place_of layers name) (place_of layers used)) later_layer) parts.0 in
+    let here = neither (when (not (stands layers used)) unknown_layer) (when (nat_le (index_of layers name) (index_of layers used)) later_layer) parts.0 in
     let before = leb-false _ _ (no_reason _ _ here.1) in
     and_from _ _ (lt-ltb _ _ before) (usable layers name names parts.1)
 

@@ -8,30 +8,30 @@ use Rattle.std.proofs.lemmas.List.Sums.{fold_push}
 use Rattle.overlay_terms.specs.Plane.{Point}
 use Rattle.overlay_terms.specs.Trees.{Tree, truth, leaves}
 use Rattle.overlay_terms.specs.Layers.{Name, base, Layer, named}
-use Rattle.overlay_terms.specs.Commands.{place_of}
+use Rattle.overlay_terms.specs.Commands.{index_of}
 use Rattle.layer_book.specs.declared.question.Question.{Question}
 use Rattle.layer_book.specs.declared.question.Question.TheVariants.{IsInside, IsEdge}
 use Rattle.layer_book.specs.Question.{content_answer, answers, labelled, if_wanted, wanted_layers, content_at}
 
--- what stands beside a name is what stands at its place
-named_by_place : (layers : List Layer) (known : List Bool) (used : Name) → length known ≤ length layers → named false (labelled layers known) used ≡ unwrap_or (slice_get known (place_of layers used)) false
-named_by_place [] [] used h = refl
-named_by_place [] (v ∷ vs) used h = absurd (omega arith)
-named_by_place (layer ∷ layers) [] used h = refl
-named_by_place (layer ∷ layers) (v ∷ vs) used h = split (bytes_eq layer.name used) (named_by_place layers vs used (omega arith)) where
-  split : (b : Bool) → named false (labelled layers vs) used ≡ unwrap_or (slice_get vs (place_of layers used)) false → cond b v (named false (labelled layers vs) used) ≡ unwrap_or (slice_get (v ∷ vs) (cond b 0 (place_of layers used + 1))) false
+-- what stands beside a name is what stands at its index
+named_by_index : (layers : List Layer) (known : List Bool) (used : Name) → length known ≤ length layers → named false (labelled layers known) used ≡ unwrap_or (slice_get known (index_of layers used)) false
+named_by_index [] [] used h = refl
+named_by_index [] (v ∷ vs) used h = absurd (omega arith)
+named_by_index (layer ∷ layers) [] used h = refl
+named_by_index (layer ∷ layers) (v ∷ vs) used h = split (bytes_eq layer.name used) (named_by_index layers vs used (omega arith)) where
+  split : (b : Bool) → named false (labelled layers vs) used ≡ unwrap_or (slice_get vs (index_of layers used)) false → cond b v (named false (labelled layers vs) used) ≡ unwrap_or (slice_get (v ∷ vs) (cond b 0 (index_of layers used + 1))) false
   split true e = refl
   split false e = rw add-one e
 
 module _ (layers : List Layer) (known : List Bool) (h : length known ≤ length layers) where
-  by_place : (λ (used : Name). unwrap_or (slice_get known (place_of layers used)) false) ≡ named false (labelled layers known)
-  by_place j used = sym (named_by_place layers known used h) j
+  by_index : (λ (used : Name). unwrap_or (slice_get known (index_of layers used)) false) ≡ named false (labelled layers known)
+  by_index j used = sym (named_by_index layers known used h) j
 
-  pub inside_by_place : (t u : Tree Name) → t ≡ u → truth (λ used. unwrap_or (slice_get known (place_of layers used)) false) t ≡ truth (named false (labelled layers known)) u
-  inside_by_place t u e = ap (λ at. truth at t) by_place ∙ ap (truth (named false (labelled layers known))) e
+  pub inside_by_index : (t u : Tree Name) → t ≡ u → truth (λ used. unwrap_or (slice_get known (index_of layers used)) false) t ≡ truth (named false (labelled layers known)) u
+  inside_by_index t u e = ap (λ at. truth at t) by_index ∙ ap (truth (named false (labelled layers known))) e
 
-  pub edge_by_place : (t u : Tree Name) → t ≡ u → list_any (λ used. unwrap_or (slice_get known (place_of layers used)) false) (leaves t) ≡ list_any (named false (labelled layers known)) (leaves u)
-  edge_by_place t u e = ap (λ at. list_any at (leaves t)) by_place ∙ ap (λ v. list_any (named false (labelled layers known)) (leaves v)) e
+  pub edge_by_index : (t u : Tree Name) → t ≡ u → list_any (λ used. unwrap_or (slice_get known (index_of layers used)) false) (leaves t) ≡ list_any (named false (labelled layers known)) (leaves u)
+  edge_by_index t u e = ap (λ at. list_any at (leaves t)) by_index ∙ ap (λ v. list_any (named false (labelled layers known)) (leaves v)) e
 
 -- nothing is inside or on an edge of no rings
 pub nothing_there : (question : Question) (p : Point) (known : List (Name × Bool)) → content_answer question p known (base []) ≡ false

@@ -8,7 +8,7 @@ use Rattle.std.proofs.lemmas.Bool.Decides.{nat_tests}
 use Rattle.indexmap.specs.IndexMap.{insert_entry}
 use Rattle.overlay_terms.specs.Layers.{Name, Content}
 use Rattle.overlay_terms.specs.Layers as terms
-use Rattle.overlay_terms.specs.Commands.{place_of, stands, uses, with_content}
+use Rattle.overlay_terms.specs.Commands.{index_of, stands, uses, with_content}
 use Rattle.overlay_terms.specs.Orderly.{is_orderly_after}
 use Rattle.layer_book.specs.declared.layer.Layer.{Layer}
 use Rattle.layer_book.specs.Layer.{content, named_layer, layers_of, content_named, others}
@@ -19,10 +19,10 @@ same_length : (es : List (List ℕ × Layer)) → length (keys_of es) ≡ length
 same_length [] = refl
 same_length (e ∷ es) = ap suc (same_length es)
 
-pub place_is : (es : List (List ℕ × Layer)) (name : List ℕ) → position_or_len (bytes_eq name) (keys_of es) ≡ place_of (layers_of es) name
-place_is [] name = refl
-place_is (e ∷ es) name = rw (turned e.0 name) (split (bytes_eq name e.0) (place_is es name)) where
-  split : (b : Bool) → position_or_len (bytes_eq name) (keys_of es) ≡ place_of (layers_of es) name → cond (not b) (1 + position_or_len (bytes_eq name) (keys_of es)) 0 ≡ cond b 0 (place_of (layers_of es) name + 1)
+pub index_is : (es : List (List ℕ × Layer)) (name : List ℕ) → position_or_len (bytes_eq name) (keys_of es) ≡ index_of (layers_of es) name
+index_is [] name = refl
+index_is (e ∷ es) name = rw (turned e.0 name) (split (bytes_eq name e.0) (index_is es name)) where
+  split : (b : Bool) → position_or_len (bytes_eq name) (keys_of es) ≡ index_of (layers_of es) name → cond (not b) (1 + position_or_len (bytes_eq name) (keys_of es)) 0 ≡ cond b 0 (index_of (layers_of es) name + 1)
   split true h = refl
   split false h = omega (arith, h)
 
@@ -31,10 +31,10 @@ pick p n true h = (refl, (refl, grind (arith, nat_tests)))
 pick p n false h = (refl, tt)
 
 -- what a search among the keys says of the layers
-pub found : (es : List (List ℕ × Layer)) (name : List ℕ) (r : Option ℕ) → r ≡ position (bytes_eq name) (keys_of es) → (is_some r ≡ stands (layers_of es) name) × IfSome r (λ i. (i ≡ place_of (layers_of es) name) × (i < length (layers_of es)))
+pub found : (es : List (List ℕ × Layer)) (name : List ℕ) (r : Option ℕ) → r ≡ position (bytes_eq name) (keys_of es) → (is_some r ≡ stands (layers_of es) name) × IfSome r (λ i. (i ≡ index_of (layers_of es) name) × (i < length (layers_of es)))
 found es name r e =
-    let at : r ≡ cond (nat_lt (place_of (layers_of es) name) (length (layers_of es))) (Some (place_of (layers_of es) name)) None = e ∙ ap (λ k. cond (nat_lt k (length (keys_of es))) (Some k) None) (place_is es name) ∙ ap (λ n. cond (nat_lt (place_of (layers_of es) name) n) (Some (place_of (layers_of es) name)) None) (same_length es) in
-    rw (at, stands_is (layers_of es) name) (pick _ _ (nat_lt (place_of (layers_of es) name) (length (layers_of es))) refl)
+    let at : r ≡ cond (nat_lt (index_of (layers_of es) name) (length (layers_of es))) (Some (index_of (layers_of es) name)) None = e ∙ ap (λ k. cond (nat_lt k (length (keys_of es))) (Some k) None) (index_is es name) ∙ ap (λ n. cond (nat_lt (index_of (layers_of es) name) n) (Some (index_of (layers_of es) name)) None) (same_length es) in
+    rw (at, stands_is (layers_of es) name) (pick _ _ (nat_lt (index_of (layers_of es) name) (length (layers_of es))) refl)
 
 -- what a look-up finds is what stands under the name
 lookup_is : (es : List (List ℕ × Layer)) (name : List ℕ) → option_map content (lookup (bytes_eq name) es) ≡ content_named (layers_of es) name

@@ -8,13 +8,14 @@ use Rattle.overlay_terms.specs.Layers.{Name, Layer, base_of, reaches, layers_in_
 use Rattle.overlay_terms.specs.Tiles.{Input, input_of}
 use Rattle.overlay_terms.specs.Commands.{stands_as_derived}
 use Rattle.overlay_terms.proofs.KeptDerived.{derived_stands}
+use Rattle.overlay_terms.proofs.KeptBounds.{reach_rows, reaches_itself}
 use Rattle.arrange.specs.Marked.{kept_in}
 use Rattle.layer_expr.specs.StepList.{Reached, reached_of, numbered_steps, IsOrdered, ReachesAll}
 use Rattle.layer_expr.proofs.ReachedLayers.{numbered_are_in_reach, is_ordered_after-reached}
 use Rattle.layer_book.specs.Layer.{IsBook}
 use Rattle.layer_book.specs.Question.{marked_layers}
 use Rattle.layer_book.proofs.MarkedLayers.{rings_of}
-use Rattle.layer_book.proofs.MarkedReach.{reach_rows, in_reach, reaches_itself, uses_in_reach}
+use Rattle.layer_book.proofs.MarkedReach.{in_reach, uses_in_reach}
 use Rattle.layer_book.proofs.InReach.{passing_orderly, ends_all}
 
 -- no more are marked than there are
@@ -52,27 +53,20 @@ last_marked layers name ws lent m e =
     (or_left _ _ (ends_all (reaches layers) name layers [] orderly (reach_rows layers orderly) (λ n k. absurd (false≢true k)) (reaches_itself layers name orderly standing) m.is_derived false))
 
 -- their steps are those in reach
-steps_marked : (layers : List Layer) (name : Name) (ws : List Bool) (lent : List Reached) (steps : Steps) → IsMarked layers name ws → lent ≡ map reached_of (marked_layers ws layers) → steps ≡ numbered_steps lent → steps ≡ steps_in_reach layers name
+pub steps_marked : (layers : List Layer) (name : Name) (ws : List Bool) (lent : List Reached) (steps : Steps) → IsMarked layers name ws → lent ≡ map reached_of (marked_layers ws layers) → steps ≡ numbered_steps lent → steps ≡ steps_in_reach layers name
 steps_marked layers name ws lent steps m e made =
     made ∙ ap numbered_steps (e ∙ ap (map reached_of) m.exactly) ∙ numbered_are_in_reach layers name
 
 -- as many base layers are in reach as the steps know
-pub bases_counted : {X : Type 0} (f : X → List (List WholePoint)) (layers : List Layer) (name : Name) (ws : List Bool) (bases : List X) (lent : List Reached) (steps : Steps) → IsMarked layers name ws → map f bases ≡ rings_of (marked_layers ws layers) → lent ≡ map reached_of (marked_layers ws layers) → steps ≡ numbered_steps lent → length bases ≡ steps.bases
-bases_counted f layers name ws bases lent steps m b e made =
-    sym (length-map bases f) ∙ ap length (b ∙ ap rings_of m.exactly)
+pub bases_counted : {X : Type 0} (f : X → List (List WholePoint)) (layers : List Layer) (name : Name) (bases : List X) (steps : Steps) → map f bases ≡ rings_of (layers_in_reach layers name) → steps ≡ steps_in_reach layers name → length bases ≡ steps.bases
+bases_counted f layers name bases steps b e =
+    sym (length-map bases f) ∙ ap length b
     ∙ length-map (filter_map base_of (layers_in_reach layers name)) (λ (b : Name × List (List WholePoint)). b.1)
-    ∙ sym (ap (λ (s : Steps). s.bases) (steps_marked layers name ws lent steps m e made))
+    ∙ sym (ap (λ (s : Steps). s.bases) e)
 
 -- the input is that of the layer and column
-pub input_is : (layers : List Layer) (name : Name) (ws : List Bool) (column : ℕ) (bases : List (List (List WholePoint))) (lent : List Reached) (steps : Steps) (input : Input) → IsMarked layers name ws → bases ≡ rings_of (marked_layers ws layers) → lent ≡ map reached_of (marked_layers ws layers) → steps ≡ numbered_steps lent →
-    input ≡ record { column = column; marked = kept_in column (marked_segments bases); steps = steps } → input ≡ input_of layers name column
-input_is layers name ws column bases lent steps input m b e made is =
-    let rings = b ∙ ap rings_of m.exactly in
-    let numbered = steps_marked layers name ws lent steps m e made in
-    is ∙ (λ i. record { column = column; marked = kept_in column (marked_segments (rings i)); steps = numbered i })
-
--- the same of a result
-pub input_ok : {E : Type 0} (layers : List Layer) (name : Name) (ws : List Bool) (column : ℕ) (bases : List (List (List WholePoint))) (lent : List Reached) (steps : Steps) (result : Result Input E) → IsMarked layers name ws → bases ≡ rings_of (marked_layers ws layers) → lent ≡ map reached_of (marked_layers ws layers) → steps ≡ numbered_steps lent →
+pub input_ok : {E : Type 0} (layers : List Layer) (name : Name) (column : ℕ) (bases : List (List (List WholePoint))) (steps : Steps) (result : Result Input E) → bases ≡ rings_of (layers_in_reach layers name) → steps ≡ steps_in_reach layers name →
     IfOk result (λ input. input ≡ record { column = column; marked = kept_in column (marked_segments bases); steps = steps }) → IfOk result (λ input. input ≡ input_of layers name column)
-input_ok layers name ws column bases lent steps (Ok input) m b e made is = input_is layers name ws column bases lent steps input m b e made is
-input_ok layers name ws column bases lent steps (Err fault) m b e made is = tt
+input_ok layers name column bases steps (Ok input) b e is =
+    is ∙ (λ i. record { column = column; marked = kept_in column (marked_segments (b i)); steps = e i })
+input_ok layers name column bases steps (Err fault) b e is = tt

@@ -14,3 +14,5 @@ pub mod OverNames
 pub mod MarkedLayers
 pub mod InReach
 pub mod InputReach
+pub mod SameMarks
+pub mod TouchedLemmas

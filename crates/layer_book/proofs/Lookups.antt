@@ -4,7 +4,7 @@ use Rattle.std.specs.List.{list_any}
 use Rattle.std.specs.Option.{option_map}
 use Rattle.std.proofs.lemmas.Bool.{or_parts}
 use Rattle.overlay_terms.specs.Layers.{Name, Content, Layer}
-use Rattle.overlay_terms.specs.Commands.{Refusal, place_of, stands, is_derived, or_else, refusal_of_use, refusal_of_uses, stands_as_base, stands_as_derived}
+use Rattle.overlay_terms.specs.Commands.{Refusal, index_of, stands, is_derived, or_else, refusal_of_use, refusal_of_uses, stands_as_base, stands_as_derived}
 use Rattle.overlay_terms.specs.Orderly.{is_orderly_after}
 use Rattle.layer_book.specs.declared.fault.LayerFault.{LayerFault}
 use Rattle.layer_book.specs.Fault.{fault_of}
@@ -12,12 +12,12 @@ use Rattle.layer_book.specs.Layer.{content_named}
 use Rattle.layer_book.proofs.Names.{same_name}
 use Rattle.layer_book.proofs.Order.{head_of, apart, or_false}
 
--- the place of a name that no layer has
-pub absent_place : (layers : List Layer) (name : Name) → stands layers name ≡ false → place_of layers name ≡ length layers
-absent_place [] name h = refl
-absent_place (layer ∷ layers) name h =
+-- the index of a name that no layer has
+pub absent_index : (layers : List Layer) (name : Name) → stands layers name ≡ false → index_of layers name ≡ length layers
+absent_index [] name h = refl
+absent_index (layer ∷ layers) name h =
     let parts = or_parts (bytes_eq layer.name name) (stands layers name) h in
-    rw parts.0 (omega (arith, absent_place layers name parts.1))
+    rw parts.0 (omega (arith, absent_index layers name parts.1))
 
 -- whether there is a content and it passes
 abbrev pub passes : (Content → Bool) → Option Content → Bool

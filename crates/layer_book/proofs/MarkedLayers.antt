@@ -7,7 +7,7 @@ use Rattle.overlay_terms.specs.Plane.{WholePoint}
 use Rattle.overlay_terms.specs.Layers.{Name, Content, base, derived, Layer, base_of}
 use Rattle.layer_expr.specs.StepList.{Reached, reached_of}
 use Rattle.layer_book.specs.Layer.{rings_in}
-use Rattle.layer_book.specs.Question.{at_place, marked_layers}
+use Rattle.layer_book.specs.Question.{at_index, marked_layers}
 
 -- no layers
 pub marked_layers-nil : (ws : List Bool) → marked_layers ws [] ≡ []
@@ -22,7 +22,7 @@ in_front true b layer more front rest e = ap (λ ls. layer ∷ ls) e
 in_front false b layer more front rest e = e
 
 -- one layer more
-marked_next : (ws : List Bool) (layers : List Layer) (i : ℕ) (layer : Layer) → slice_get layers i ≡ Some layer → marked_layers ws (take (suc i) layers) ≡ marked_layers ws (take i layers) ++ cond (at_place ws i) (layer ∷ []) []
+marked_next : (ws : List Bool) (layers : List Layer) (i : ℕ) (layer : Layer) → slice_get layers i ≡ Some layer → marked_layers ws (take (suc i) layers) ≡ marked_layers ws (take i layers) ++ cond (at_index ws i) (layer ∷ []) []
 marked_next [] layers zero layer e = refl
 marked_next [] layers (suc i) layer e = refl
 marked_next (w ∷ ws) [] i layer e = cc
@@ -30,9 +30,9 @@ marked_next (w ∷ ws) (l ∷ layers) zero layer e =
     let same : l ≡ layer = cc in
     one_if w l (marked_layers ws []) (marked_layers-nil ws) ∙ ap (λ (m : Layer). cond w (m ∷ []) []) same
 marked_next (w ∷ ws) (l ∷ layers) (suc i) layer e =
-    in_front w (at_place ws i) l layer (marked_layers ws (take i layers)) (marked_layers ws (take (suc i) layers)) (marked_next ws layers i layer e)
+    in_front w (at_index ws i) l layer (marked_layers ws (take i layers)) (marked_layers ws (take (suc i) layers)) (marked_next ws layers i layer e)
 
-marked_more : (ws : List Bool) (layers : List Layer) (i : ℕ) (layer : Layer) → slice_get layers i ≡ Some layer → marked_layers ws (take (i + 1) layers) ≡ marked_layers ws (take i layers) ++ cond (at_place ws i) (layer ∷ []) []
+marked_more : (ws : List Bool) (layers : List Layer) (i : ℕ) (layer : Layer) → slice_get layers i ≡ Some layer → marked_layers ws (take (i + 1) layers) ≡ marked_layers ws (take i layers) ++ cond (at_index ws i) (layer ∷ []) []
 marked_more ws layers i layer e = ap (λ k. marked_layers ws (take k layers)) (add-one i) ∙ marked_next ws layers i layer e
 
 -- the rings of the base layers among some
@@ -50,7 +50,7 @@ rings_of-one layer = by_content layer.content where
   by_content (derived e) = refl
 
 -- a wanted layer's rings behind those before it
-pub rings_more : (ws : List Bool) (layers : List Layer) (i : ℕ) (layer : Layer) (old new : List (List (List WholePoint))) → slice_get layers i ≡ Some layer → at_place ws i ≡ true → old ≡ rings_of (marked_layers ws (take i layers)) → new ≡ old ++ rings_in layer.content → new ≡ rings_of (marked_layers ws (take (i + 1) layers))
+pub rings_more : (ws : List Bool) (layers : List Layer) (i : ℕ) (layer : Layer) (old new : List (List (List WholePoint))) → slice_get layers i ≡ Some layer → at_index ws i ≡ true → old ≡ rings_of (marked_layers ws (take i layers)) → new ≡ old ++ rings_in layer.content → new ≡ rings_of (marked_layers ws (take (i + 1) layers))
 rings_more ws layers i layer old new e w before made =
     made ∙ ap (λ rs. rs ++ rings_in layer.content) before ∙ ap (λ rs. rings_of (marked_layers ws (take i layers)) ++ rs) (sym (rings_of-one layer))
     ∙ sym (rings_of-append (marked_layers ws (take i layers)) (layer ∷ []))
@@ -58,7 +58,7 @@ rings_more ws layers i layer old new e w before made =
     ∙ ap rings_of (sym (marked_more ws layers i layer e))
 
 -- a wanted layer behind those before it
-pub reached_more : (ws : List Bool) (layers : List Layer) (i : ℕ) (layer : Layer) (old new : List Reached) → slice_get layers i ≡ Some layer → at_place ws i ≡ true → old ≡ map reached_of (marked_layers ws (take i layers)) → new ≡ old ++ reached_of layer ∷ [] → new ≡ map reached_of (marked_layers ws (take (i + 1) layers))
+pub reached_more : (ws : List Bool) (layers : List Layer) (i : ℕ) (layer : Layer) (old new : List Reached) → slice_get layers i ≡ Some layer → at_index ws i ≡ true → old ≡ map reached_of (marked_layers ws (take i layers)) → new ≡ old ++ reached_of layer ∷ [] → new ≡ map reached_of (marked_layers ws (take (i + 1) layers))
 reached_more ws layers i layer old new e w before made =
     made ∙ ap (λ rs. rs ++ reached_of layer ∷ []) before
     ∙ sym (map-append reached_of (marked_layers ws (take i layers)) (layer ∷ []))
@@ -66,7 +66,7 @@ reached_more ws layers i layer old new e w before made =
     ∙ ap (map reached_of) (sym (marked_more ws layers i layer e))
 
 -- a layer that is not wanted changes nothing
-pub marked_same : (ws : List Bool) (layers : List Layer) (i : ℕ) (layer : Layer) → slice_get layers i ≡ Some layer → at_place ws i ≡ false → marked_layers ws (take (i + 1) layers) ≡ marked_layers ws (take i layers)
+pub marked_same : (ws : List Bool) (layers : List Layer) (i : ℕ) (layer : Layer) → slice_get layers i ≡ Some layer → at_index ws i ≡ false → marked_layers ws (take (i + 1) layers) ≡ marked_layers ws (take i layers)
 marked_same ws layers i layer e w =
     marked_more ws layers i layer e ∙ ap (λ b. marked_layers ws (take i layers) ++ cond b (layer ∷ []) []) w ∙ append-nil (marked_layers ws (take i layers))
 
@@ -77,8 +77,8 @@ marked_whole ws layers i e = ap (marked_layers ws) (ap (λ k. take k layers) e �
   take_all [] = refl
   take_all (l ∷ ls) = ap (λ m. l ∷ m) (take_all ls)
 
--- the mark that is read at a place
-pub read_mark : (ws : List Bool) (i : ℕ) → at_place ws i ≡ get_or ws i false
+-- the mark that is read at an index
+pub read_mark : (ws : List Bool) (i : ℕ) → at_index ws i ≡ get_or ws i false
 read_mark [] zero = refl
 read_mark [] (suc i) = refl
 read_mark (w ∷ ws) zero = refl

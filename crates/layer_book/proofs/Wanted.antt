@@ -6,20 +6,20 @@ use Rattle.std.proofs.lemmas.List.Folds.{list_all-append}
 use Rattle.overlay_terms.specs.Plane.{Point}
 use Rattle.overlay_terms.specs.Trees.{Tree, leaf, combine, combined, truth, leaves}
 use Rattle.overlay_terms.specs.Layers.{Name, Content, base, derived, Layer, named}
-use Rattle.overlay_terms.specs.Commands.{place_of, stands}
+use Rattle.overlay_terms.specs.Commands.{index_of, stands}
 use Rattle.overlay_terms.specs.Orderly.{used_names, is_orderly_after}
 use Rattle.layer_book.specs.declared.question.Question.{Question}
 use Rattle.layer_book.specs.declared.question.Question.TheVariants.{IsInside, IsEdge}
-use Rattle.layer_book.specs.Question.{content_answer, answers, labelled, if_wanted, wanted_layers, at_place, is_wanted, IsClosed}
+use Rattle.layer_book.specs.Question.{content_answer, answers, labelled, if_wanted, wanted_layers, at_index, is_wanted, IsClosed}
 use Rattle.layer_book.proofs.Names.{same_name, own_name}
 use Rattle.layer_book.proofs.Order.{head_of, apart}
 
--- where a name stands, what is beside it is what is at its place
-pub named_at : (layers : List Layer) (known : List Bool) (name : Name) → stands layers name ≡ true → named false (labelled layers known) name ≡ at_place known (place_of layers name)
+-- where a name stands, what is beside it is what is at its index
+pub named_at : (layers : List Layer) (known : List Bool) (name : Name) → stands layers name ≡ true → named false (labelled layers known) name ≡ at_index known (index_of layers name)
 named_at [] known name h = cc
 named_at (layer ∷ layers) [] name h = refl
 named_at (layer ∷ layers) (v ∷ vs) name h = split (bytes_eq layer.name name) h (named_at layers vs name) where
-  split : (b : Bool) → (b || stands layers name) ≡ true → (stands layers name ≡ true → named false (labelled layers vs) name ≡ at_place vs (place_of layers name)) → cond b v (named false (labelled layers vs) name) ≡ at_place (v ∷ vs) (cond b 0 (place_of layers name + 1))
+  split : (b : Bool) → (b || stands layers name) ≡ true → (stands layers name ≡ true → named false (labelled layers vs) name ≡ at_index vs (index_of layers name)) → cond b v (named false (labelled layers vs) name) ≡ at_index (v ∷ vs) (cond b 0 (index_of layers name + 1))
   split true h next = refl
   split false h next = rw add-one (next h)
 
@@ -83,18 +83,18 @@ stands_at (l ∷ layers) zero layer e =
     subst (λ (m : Layer). stands (l ∷ layers) m.name ≡ true) same (or_left _ _ (own_name l.name))
 stands_at (l ∷ layers) (suc i) layer e = or_right _ _ (stands_at layers i layer e)
 
--- the place of the layer at a place
-pub place_at : (known : List Name) (layers : List Layer) (i : ℕ) (layer : Layer) → is_orderly_after known layers ≡ true → slice_get layers i ≡ Some layer → place_of layers layer.name ≡ i
-place_at known [] i layer h e = cc
-place_at known (l ∷ layers) zero layer h e =
+-- the index of the layer at an index
+pub index_at : (known : List Name) (layers : List Layer) (i : ℕ) (layer : Layer) → is_orderly_after known layers ≡ true → slice_get layers i ≡ Some layer → index_of layers layer.name ≡ i
+index_at known [] i layer h e = cc
+index_at known (l ∷ layers) zero layer h e =
     let same : l ≡ layer = cc in
-    subst (λ (m : Layer). place_of (l ∷ layers) m.name ≡ 0) same (ap (λ b. cond b 0 (place_of layers l.name + 1)) (own_name l.name))
-place_at known (l ∷ layers) (suc i) layer h e =
+    subst (λ (m : Layer). index_of (l ∷ layers) m.name ≡ 0) same (ap (λ b. cond b 0 (index_of layers l.name + 1)) (own_name l.name))
+index_at known (l ∷ layers) (suc i) layer h e =
     let other : bytes_eq l.name layer.name ≡ false = false_from_ne_true _ (λ same. both_ways (stands layers l.name) (apart known l layers h) (subst (λ n. stands layers n ≡ true) (sym (same_name l.name layer.name same)) (stands_at layers i layer e))) in
-    let next : place_of layers layer.name ≡ i = place_at (known ++ l.name ∷ []) layers i layer (head_of known l layers h).behind e in
-    ap (λ b. cond b 0 (place_of layers layer.name + 1)) other ∙ omega arith
+    let next : index_of layers layer.name ≡ i = index_at (known ++ l.name ∷ []) layers i layer (head_of known l layers h).behind e in
+    ap (λ b. cond b 0 (index_of layers layer.name + 1)) other ∙ omega arith
 
-marks_from : (is_in : Name → Bool) (ws : List Bool) (layers : List Layer) → ((i : ℕ) (layer : Layer) → slice_get layers i ≡ Some layer → (is_in layer.name ≡ at_place ws i) × (at_place ws i ≡ true → list_all is_in (used_names layer.content) ≡ true)) → length layers ≤ length ws → Marks is_in ws layers
+marks_from : (is_in : Name → Bool) (ws : List Bool) (layers : List Layer) → ((i : ℕ) (layer : Layer) → slice_get layers i ≡ Some layer → (is_in layer.name ≡ at_index ws i) × (at_index ws i ≡ true → list_all is_in (used_names layer.content) ≡ true)) → length layers ≤ length ws → Marks is_in ws layers
 marks_from is_in [] [] f h = tt
 marks_from is_in [] (layer ∷ layers) f h = absurd (omega arith)
 marks_from is_in (w ∷ ws) [] f h = tt
@@ -104,9 +104,9 @@ marks_from is_in (w ∷ ws) (layer ∷ layers) f h =
 
 marks_hold : (layers : List Layer) (ws : List Bool) → is_orderly_after [] layers ≡ true → length layers ≤ length ws → IsClosed layers ws → Marks (is_wanted layers ws) ws layers
 marks_hold layers ws h n closed =
-    marks_from (is_wanted layers ws) ws layers (λ i layer e. (ap (at_place ws) (place_at [] layers i layer h e), closed i layer e)) n
+    marks_from (is_wanted layers ws) ws layers (λ i layer e. (ap (at_index ws) (index_at [] layers i layer h e), closed i layer e)) n
 
 -- the answer of a wanted layer
-pub wanted_answer : (question : Question) (p : Point) (layers : List Layer) (ws known : List Bool) (name : Name) → is_orderly_after [] layers ≡ true → length layers ≤ length ws → IsClosed layers ws → stands layers name ≡ true → is_wanted layers ws name ≡ true → labelled layers known ≡ answers question (wanted_layers ws layers) p → at_place known (place_of layers name) ≡ named false (answers question layers p) name
+pub wanted_answer : (question : Question) (p : Point) (layers : List Layer) (ws known : List Bool) (name : Name) → is_orderly_after [] layers ≡ true → length layers ≤ length ws → IsClosed layers ws → stands layers name ≡ true → is_wanted layers ws name ≡ true → labelled layers known ≡ answers question (wanted_layers ws layers) p → at_index known (index_of layers name) ≡ named false (answers question layers p) name
 wanted_answer question p layers ws known name h n closed s w e =
     sym (named_at layers known name s) ∙ ap (λ found. named false found name) e ∙ agree_all (is_wanted layers ws) question p ws layers [] [] (marks_hold layers ws h n closed) (λ absent m is. refl) false name w

@@ -5,3 +5,4 @@ pub mod Place
 pub mod Listing
 pub mod Question
 pub mod TileRefusal
+pub mod Touching

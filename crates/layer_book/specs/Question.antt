@@ -5,7 +5,7 @@ use Rattle.std.specs.Option.{option_map_or}
 use Rattle.overlay_terms.specs.Plane.{Point, segments_of}
 use Rattle.overlay_terms.specs.Trees.{leaves}
 use Rattle.overlay_terms.specs.Layers.{Name, Content, base, derived, Layer, content_value, named}
-use Rattle.overlay_terms.specs.Commands.{place_of}
+use Rattle.overlay_terms.specs.Commands.{index_of}
 use Rattle.overlay_terms.specs.Orderly.{used_names}
 use Rattle.overlay_terms.specs.Laws.{is_on_any}
 use Rattle.layer_book.specs.declared.question.Question.{Question}
@@ -25,7 +25,7 @@ abbrev pub answers : Question → List Layer → Point → List (Name × Bool)
 answers question layers p =
     fold (λ known layer. known ++ (layer.name, content_answer question p known layer.content) ∷ []) [] layers
 
--- answers by place, each beside its layer's name
+-- answers by index, each beside its layer's name
 abbrev pub labelled : List Layer → List Bool → List (Name × Bool)
 labelled layers known = zip (map (λ (layer : Layer). layer.name) layers) known
 
@@ -39,26 +39,26 @@ wanted_layers [] layers = []
 wanted_layers (w ∷ ws) [] = []
 wanted_layers (w ∷ ws) (layer ∷ layers) = record { name = layer.name; content = if_wanted w layer.content } ∷ wanted_layers ws layers
 
--- what the layer at a place is made of
+-- what the layer at an index is made of
 abbrev pub content_at : List Layer → ℕ → Content
 content_at layers i = option_map_or (λ layer. layer.content) (slice_get layers i) (base [])
 
--- whether the layer at a place, or with a name, is wanted
-abbrev pub at_place : List Bool → ℕ → Bool
-at_place wanted i = unwrap_or (slice_get wanted i) false
+-- whether the layer at an index, or with a name, is wanted
+abbrev pub at_index : List Bool → ℕ → Bool
+at_index wanted i = unwrap_or (slice_get wanted i) false
 
 abbrev pub is_wanted : List Layer → List Bool → Name → Bool
-is_wanted layers wanted name = at_place wanted (place_of layers name)
+is_wanted layers wanted name = at_index wanted (index_of layers name)
 
 -- what a wanted layer names is wanted
 abbrev pub IsClosed : List Layer → List Bool → Type 0
 IsClosed layers wanted =
-    (i : ℕ) (layer : Layer) → slice_get layers i ≡ Some layer → at_place wanted i ≡ true →
+    (i : ℕ) (layer : Layer) → slice_get layers i ≡ Some layer → at_index wanted i ≡ true →
     list_all (is_wanted layers wanted) (used_names layer.content) ≡ true
 
 -- the marks, with the layers of some names marked too
 abbrev pub marked : List Layer → List Bool → List Name → List Bool
-marked layers wanted names = fold (λ marks used. slice_set marks (place_of layers used) true) wanted names
+marked layers wanted names = fold (λ marks used. slice_set marks (index_of layers used) true) wanted names
 
 -- the marked layers, in order
 abbrev pub marked_layers : List Bool → List Layer → List Layer

@@ -2,7 +2,7 @@
 ghost use Rattle.std.specs.Prelude.{◌≡◌, None, IfOk, IfErr};
 ghost use Rattle.std.specs.Option.{option_map};
 ghost use Rattle.overlay_terms.specs.Trees.{leaves};
-ghost use Rattle.overlay_terms.specs.Commands.{refusal_of, refusal_of_put, refusal_of_define, refusal_of_use, refusal_of_uses, refusal_of_remove, stands, stands_as_base, stands_as_derived, place_of, is_crowded, applied};
+ghost use Rattle.overlay_terms.specs.Commands.{refusal_of, refusal_of_put, refusal_of_define, refusal_of_use, refusal_of_uses, refusal_of_remove, stands, stands_as_base, stands_as_derived, index_of, is_crowded, applied};
 ghost use Rattle.layer_expr.specs.Expr.{tree};
 ghost use Rattle.layer_book.specs.Command.{command};
 ghost use Rattle.layer_book.specs.Fault.{RefusedBy, fault_of};
@@ -104,7 +104,7 @@ impl Layers {
         if !self.stands(used) {
             return Some(LayerFault::UnknownLayer);
         }
-        if self.place_of(defined) <= self.place_of(used) {
+        if self.index_of(defined) <= self.index_of(used) {
             return Some(LayerFault::LaterLayer);
         }
         None
@@ -129,12 +129,12 @@ impl Layers {
         self.find(name).is_some()
     }
 
-    /// The place of the layer with the name, or how many layers there are.
-    pub fn place_of(&self, name: &Name) -> usize
-        ensures { result ≡ place_of self.now name.now }
+    /// The index of the layer with the name, or how many layers there are.
+    pub fn index_of(&self, name: &Name) -> usize
+        ensures { result ≡ index_of self.now name.now }
     {
         match self.find(name) {
-            Some(place) => place,
+            Some(index) => index,
             None => self.len(),
         }
     }

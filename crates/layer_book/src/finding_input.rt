@@ -1,5 +1,6 @@
 //! The input of a tile.
-ghost use Rattle.std.specs.Prelude.{◌≡◌, true, None, Some, IfOk, IfErr};
+ghost use Rattle.std.specs.Prelude.{◌≡◌, true, None, Some, IfOk, IfErr, map, filter_map};
+ghost use Rattle.overlay_terms.specs.Layers.{base_of, layers_in_reach, steps_in_reach};
 ghost use Rattle.overlay_terms.specs.Commands.{stands_as_derived};
 ghost use Rattle.overlay_terms.specs.Tiles.{input_of};
 ghost use Rattle.layer_book.specs.Fault.{RefusedBy};
@@ -10,6 +11,7 @@ use crate::layers::Layers;
 use arrange::tile_input::TileInput;
 use layer_expr::name::Name;
 use layer_expr::step_list::StepList;
+use plane_base::base_layer::BaseLayer;
 use plane_base::column::Column;
 use std::alloc::{AllocError, Global};
 
@@ -54,10 +56,33 @@ impl Layers {
         requires { stands_as_derived self.now name.now ≡ true }
         ensures { IfOk result (λ input. input ≡ input_of self.now name.now column) }
     {
+        let bases = self.bases_in_reach(alloc, name)?;
+        let steps = self.steps_in_reach(alloc, name)?;
+        TileInput::of(alloc, column, &bases, steps)
+    }
+
+    /// The base layers that a derived layer reaches, in order.
+    pub(crate) fn bases_in_reach<'a>(
+        &'a self,
+        alloc: Global,
+        name: &Name,
+    ) -> Result<Vec<&'a BaseLayer>, AllocError>
+        requires { stands_as_derived self.now name.now ≡ true }
+        ensures { IfOk result (λ bases. map (λ b. b.now) bases.items ≡ map (λ b. b.1) (filter_map base_of (layers_in_reach self.now name.now))) }
+    {
         let wanted = self.reach(name);
         let bases = self.wanted_bases(alloc, &wanted)?;
+        Ok(bases)
+    }
+
+    /// The definitions that a derived layer reaches, in order.
+    pub(crate) fn steps_in_reach(&self, alloc: Global, name: &Name) -> Result<StepList, AllocError>
+        requires { stands_as_derived self.now name.now ≡ true }
+        ensures { IfOk result (λ steps. steps ≡ steps_in_reach self.now name.now) }
+    {
+        let wanted = self.reach(name);
         let layers = self.wanted_layers(alloc, &wanted)?;
         let steps = StepList::of(alloc, &layers)?;
-        TileInput::of(alloc, column, &bases, steps)
+        Ok(steps)
     }
 }

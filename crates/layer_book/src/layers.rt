@@ -2,7 +2,7 @@
 ghost use Rattle.std.specs.Prelude.{◌≡◌, ◌<◌, ◌↔◌, [], length, slice_get, is_some, None, false, IfSome, IfOk, OnOk, IsTrue, ◌++◌, ◌∷◌};
 ghost use Rattle.std.specs.List.{list_any};
 ghost use Rattle.std.specs.Option.{option_map};
-ghost use Rattle.overlay_terms.specs.Commands.{place_of, stands, uses, with_content, refusal_of, refusal_of_remove};
+ghost use Rattle.overlay_terms.specs.Commands.{index_of, stands, uses, with_content, refusal_of, refusal_of_remove};
 ghost use Rattle.overlay_terms.specs.Orderly.{IsOrderly};
 ghost use Rattle.layer_book.specs.Layer.{content, content_named, keeping, layers_of, named_layer, others, IsBook};
 
@@ -59,17 +59,17 @@ impl Layers {
         self.map.is_empty()
     }
 
-    /// The layer at a place, counted from 0, with its name.
-    pub fn at(&self, place: usize) -> Option<(&Name, &Layer)>
-        ensures { option_map (λ entry. record { name = entry.0.now; content = content entry.1.now }) result ≡ slice_get self.now place }
+    /// The layer at an index, counted from 0, with its name.
+    pub fn at(&self, index: usize) -> Option<(&Name, &Layer)>
+        ensures { option_map (λ entry. record { name = entry.0.now; content = content entry.1.now }) result ≡ slice_get self.now index }
     {
-        self.map.get_index(place)
+        self.map.get_index(index)
     }
 
-    /// The place of the layer with a name.
+    /// The index of the layer with a name.
     pub fn find(&self, name: &Name) -> Option<usize>
         ensures known { is_some result ≡ stands self.now name.now }
-        ensures place { IfSome result (λ place. (place ≡ place_of self.now name.now) × (place < length self.now)) }
+        ensures index { IfSome result (λ index. (index ≡ index_of self.now name.now) × (index < length self.now)) }
     {
         self.map.get_index_of(name)
     }

@@ -3,6 +3,7 @@
 
 pub mod applying;
 pub mod command;
+mod comparing;
 pub mod direct_answer;
 pub mod fault;
 pub mod finding_input;

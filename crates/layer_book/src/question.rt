@@ -4,7 +4,7 @@ ghost use Rattle.std.specs.List.{list_any};
 ghost use Rattle.overlay_terms.specs.Plane.{is_inside};
 ghost use Rattle.overlay_terms.specs.Trees.{truth, leaves};
 ghost use Rattle.overlay_terms.specs.Laws.{is_on_any};
-ghost use Rattle.overlay_terms.specs.Commands.{place_of};
+ghost use Rattle.overlay_terms.specs.Commands.{index_of};
 ghost use Rattle.exact_point.specs.Place.{place};
 ghost use Rattle.layer_expr.specs.Expr.{tree};
 ghost use Rattle.layer_book.specs.Layer.{content, IsBook};
@@ -26,7 +26,7 @@ pub enum Question {
 }
 
 impl Layers {
-    /// The answer of each layer, by its place. One that is not wanted counts as a layer of no rings.
+    /// The answer of each layer, by its index. One that is not wanted counts as a layer of no rings.
     pub fn answers(&self, question: Question, wanted: &[bool; 32], point: &HPoint) -> [bool; 32]
         ensures value { labelled self.now result ≡ answers question (wanted_layers wanted.now self.now) (place point.now) }
         ensures valid { IsBook self.now }
@@ -79,7 +79,7 @@ impl Layers {
     }
 
     fn node_inside(&self, node: &Node, known: &[bool]) -> bool
-        ensures { result ≡ truth (λ used. unwrap_or (slice_get known.now (place_of self.now used)) false) (tree node.now) }
+        ensures { result ≡ truth (λ used. unwrap_or (slice_get known.now (index_of self.now used)) false) (tree node.now) }
     {
         match node {
             Node::Leaf(used) => self.known_of(used, known),
@@ -98,7 +98,7 @@ impl Layers {
 
     /// Whether one of the names below a node has the answer true.
     fn node_edge(&self, node: &Node, known: &[bool]) -> bool
-        ensures { result ≡ list_any (λ used. unwrap_or (slice_get known.now (place_of self.now used)) false) (leaves (tree node.now)) }
+        ensures { result ≡ list_any (λ used. unwrap_or (slice_get known.now (index_of self.now used)) false) (leaves (tree node.now)) }
     {
         match node {
             Node::Leaf(used) => self.known_of(used, known),
@@ -112,9 +112,9 @@ impl Layers {
 
     /// What is known of the layer with a name.
     pub fn known_of(&self, name: &Name, known: &[bool]) -> bool
-        ensures { result ≡ unwrap_or (slice_get known.now (place_of self.now name.now)) false }
+        ensures { result ≡ unwrap_or (slice_get known.now (index_of self.now name.now)) false }
     {
-        known.get(self.place_of(name)).copied().unwrap_or(false)
+        known.get(self.index_of(name)).copied().unwrap_or(false)
     }
 }
 

@@ -1,12 +1,12 @@
 //! Which layers a layer reaches.
 ghost use Rattle.std.specs.Prelude.{◌≡◌, ◌<◌, length, slice_set, true, if◌then◌else◌};
 ghost use Rattle.overlay_terms.specs.Trees.{leaves};
-ghost use Rattle.overlay_terms.specs.Commands.{place_of, stands};
+ghost use Rattle.overlay_terms.specs.Commands.{index_of, stands};
 ghost use Rattle.overlay_terms.specs.Layers.{layers_in_reach};
 ghost use Rattle.overlay_terms.specs.Orderly.{used_names};
 ghost use Rattle.layer_expr.specs.Expr.{tree};
 ghost use Rattle.layer_book.specs.Layer.{IsBook};
-ghost use Rattle.layer_book.specs.Question.{at_place, content_at, is_wanted, marked, marked_layers, IsClosed};
+ghost use Rattle.layer_book.specs.Question.{at_index, content_at, is_wanted, marked, marked_layers, IsClosed};
 
 use crate::layer::Layer;
 use crate::layers::Layers;
@@ -14,7 +14,7 @@ use layer_expr::expr::Node;
 use layer_expr::name::Name;
 
 impl Layers {
-    /// The layers that a layer reaches, by their places: itself, what it names, what those name.
+    /// The layers that a layer reaches, by their indices: itself, what it names, what those name.
     pub fn reach(&self, name: &Name) -> [bool; 32]
         requires { stands self.now name.now ≡ true }
         ensures asked { is_wanted self.now result name.now ≡ true }
@@ -25,7 +25,7 @@ impl Layers {
         ensures valid { IsBook self.now }
     {
         let mut wanted = [false; 32];
-        mark(&mut wanted, self.place_of(name));
+        mark(&mut wanted, self.index_of(name));
         for i in (0..self.len()).rev() {
             self.mark_used(i, &mut wanted);
         }
@@ -35,7 +35,7 @@ impl Layers {
     /// Marks what a layer names, if it is marked itself.
     fn mark_used(&self, i: usize, wanted: &mut [bool; 32])
         requires { i < 32 }
-        ensures { wanted.new ≡ (if at_place wanted.old i then marked self.now wanted.old (used_names (content_at self.now i)) else wanted.old) }
+        ensures { wanted.new ≡ (if at_index wanted.old i then marked self.now wanted.old (used_names (content_at self.now i)) else wanted.old) }
     {
         if !wanted[i] {
             return;
@@ -50,7 +50,7 @@ impl Layers {
         ensures { wanted.new ≡ marked self.now wanted.old (leaves (tree node.now)) }
     {
         match node {
-            Node::Leaf(name) => mark(wanted, self.place_of(name)),
+            Node::Leaf(name) => mark(wanted, self.index_of(name)),
             Node::Combine(_, left, right) => {
                 self.mark_names(left, wanted);
                 self.mark_names(right, wanted);
@@ -59,10 +59,10 @@ impl Layers {
     }
 }
 
-fn mark(wanted: &mut [bool; 32], place: usize)
-    ensures { wanted.new ≡ slice_set wanted.old place true }
+fn mark(wanted: &mut [bool; 32], index: usize)
+    ensures { wanted.new ≡ slice_set wanted.old index true }
 {
-    if place < wanted.len() {
-        wanted[place] = true;
+    if index < wanted.len() {
+        wanted[index] = true;
     }
 }

@@ -1,31 +1,99 @@
-//! Which tiles a command makes pending.
-ghost use Rattle.std.specs.Prelude.{◌≡◌, bytes_eq};
+//! Which tiles a command touches: the inputs before and after it are compared by their parts.
+ghost use Rattle.std.specs.Prelude.{◌≡◌, true, not, None, map, bytes_eq, IfOk};
 ghost use Rattle.std.specs.List.{list_any};
-ghost use Rattle.overlay_terms.specs.Commands.{derived_over, is_touched};
+ghost use Rattle.overlay_terms.specs.Column.{columns};
+ghost use Rattle.overlay_terms.specs.Tiles.{input_of};
+ghost use Rattle.overlay_terms.specs.SameInput.{same_input};
+ghost use Rattle.overlay_terms.specs.Commands as terms;
+ghost use Rattle.overlay_terms.specs.Commands.{applied, refusal_of, stands_as_derived};
+ghost use Rattle.overlay_terms.specs.Touched.{derived_over, is_touched};
 ghost use Rattle.layer_book.specs.Command.{command};
+ghost use Rattle.layer_book.specs.Layer.{IsBook};
+ghost use Rattle.layer_book.specs.Touching.{touched_columns, touched_rows};
 
 use crate::command::Command;
+use crate::comparing::changed_columns;
 use crate::layers::Layers;
 use layer_expr::name::Name;
+use plane_base::column::Column;
+use std::alloc::{AllocError, Global};
 
 impl Layers {
-    /// Whether a command makes the tiles of a layer pending.
-    pub fn is_touched(&self, change: &Command, name: &Name) -> bool
-        ensures { result ≡ is_touched self.now (command change.now) name.now }
+    /// Which tiles a command touches: for each layer, by index, whether it touches the tile of each
+    /// column. The layers that it leaves are handed in.
+    pub fn touched_rows(
+        &self,
+        alloc: Global,
+        change: &Command,
+        after: &Layers,
+    ) -> Result<Vec<[bool; 17]>, AllocError>
+        requires accepted { refusal_of self.now (command change.now) ≡ None }
+        requires made { after.now ≡ applied self.now (command change.now) }
+        ensures { IfOk result (λ rows. rows.items ≡ touched_rows self.now (command change.now)) }
     {
-        match change {
-            Command::Put(put, _) => self.is_over(name, put),
-            Command::Define(defined, _) => {
-                if self.stands(defined) {
-                    self.is_over(name, defined)
-                } else {
-                    name.bytes() == defined.bytes()
-                }
-            }
-            Command::Remove(removed) => {
-                self.stands_as_derived(removed) && name.bytes() == removed.bytes()
+        let mut rows = Vec::new(alloc);
+        for i in 0..self.len() {
+            if let Some((name, _)) = self.at(i) {
+                let row = self.touched_columns(alloc, change, after, name)?;
+                rows.push(row)?;
             }
         }
+        Ok(rows)
+    }
+
+    /// Whether a command touches the tile of a layer and column, by the rows of all layers.
+    pub fn is_touched(&self, rows: &[[bool; 17]], name: &Name, column: Column) -> bool
+        ensures { (change : terms.Command) → rows.now ≡ touched_rows self.now change → result ≡ is_touched self.now change name.now column }
+    {
+        match rows.get(self.index_of(name)) {
+            Some(row) => row[usize::from(column.number())],
+            None => false,
+        }
+    }
+
+    /// In which columns a command touches the tile of a layer. No other layers than those that reach
+    /// the command's name are compared.
+    fn touched_columns(
+        &self,
+        alloc: Global,
+        change: &Command,
+        after: &Layers,
+        name: &Name,
+    ) -> Result<[bool; 17], AllocError>
+        requires book { IsBook self.now }
+        requires accepted { refusal_of self.now (command change.now) ≡ None }
+        requires made { after.now ≡ applied self.now (command change.now) }
+        ensures { IfOk result (λ row. row ≡ touched_columns self.now (command change.now) name.now) }
+    {
+        if !self.is_over(name, change.name()) {
+            return Ok([false; 17]);
+        }
+        if !after.stands_as_derived(name) {
+            return Ok([true; 17]);
+        }
+        let row = self.changed_columns(alloc, after, name)?;
+        Ok(row)
+    }
+
+    /// In which columns the tile of a derived layer has another input than among other layers.
+    fn changed_columns(
+        &self,
+        alloc: Global,
+        after: &Layers,
+        name: &Name,
+    ) -> Result<[bool; 17], AllocError>
+        requires before { stands_as_derived self.now name.now ≡ true }
+        requires afterwards { stands_as_derived after.now name.now ≡ true }
+        ensures { IfOk result (λ row. row ≡ map (λ k. not (same_input (input_of after.now name.now k) (input_of self.now name.now k))) columns) }
+    {
+        let old_steps = self.steps_in_reach(alloc, name)?;
+        let new_steps = after.steps_in_reach(alloc, name)?;
+        if !(new_steps == old_steps) {
+            return Ok([true; 17]);
+        }
+        let old_bases = self.bases_in_reach(alloc, name)?;
+        let new_bases = after.bases_in_reach(alloc, name)?;
+        Ok(changed_columns(&new_bases, &old_bases))
     }
 
     /// Whether a layer is derived and reaches another one, or is that one.

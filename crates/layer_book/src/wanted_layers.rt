@@ -13,7 +13,7 @@ use plane_base::base_layer::BaseLayer;
 use std::alloc::{AllocError, Global};
 
 impl Layers {
-    /// The base layers at the wanted places.
+    /// The base layers at the wanted indices.
     pub fn wanted_bases<'a>(
         &'a self,
         alloc: Global,
@@ -32,7 +32,7 @@ impl Layers {
         Ok(bases)
     }
 
-    /// The layers at the wanted places, each with its name and, where it is derived, its expression.
+    /// The layers at the wanted indices, each with its name and, where it is derived, its expression.
     pub fn wanted_layers<'a>(
         &'a self,
         alloc: Global,

@@ -92,7 +92,8 @@ impl StepList {
 }
 
 impl PartialEq for StepList {
-    ghost use Rattle.layer_expr.specs.SameSteps.{same_steps, same_steps-laws};
+    ghost use Rattle.overlay_terms.specs.SameInput.{same_steps};
+    ghost use Rattle.layer_expr.specs.SameSteps.{same_steps-laws};
 
     ghost eq = { same_steps };
 

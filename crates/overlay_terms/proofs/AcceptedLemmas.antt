@@ -8,7 +8,7 @@ use Rattle.std.proofs.lemmas.List.Sums.{length-filter, count_by-le-length}
 use Rattle.overlay_terms.specs.Trees.{leaves}
 use Rattle.overlay_terms.specs.Layers.{Name, Content, base, derived, Layer}
 use Rattle.overlay_terms.specs.Orderly.{used_names, is_among, is_orderly_after, IsOrderly}
-use Rattle.overlay_terms.specs.Commands.{Command, put, define, remove, Refusal, layers_max, place_of, stands, stands_as_base, stands_as_derived, uses, or_else, when, unknown_layer, not_base, not_derived, in_use, later_layer, too_many_layers, is_crowded, refusal_of_use, refusal_of_uses, refusal_of, applied, AllAccepted}
+use Rattle.overlay_terms.specs.Commands.{Command, put, define, remove, Refusal, layers_max, index_of, stands, stands_as_base, stands_as_derived, uses, or_else, when, unknown_layer, not_base, not_derived, in_use, later_layer, too_many_layers, is_crowded, refusal_of_use, refusal_of_uses, refusal_of, applied, AllAccepted}
 use Rattle.overlay_terms.specs.Laws.{AcceptedIsOrderly}
 use Rattle.overlay_terms.proofs.NameLemmas.{same_name, list_all_but, list_all_so, is_among-push}
 use Rattle.overlay_terms.proofs.OrderlyLemmas.{MayFollow, orderly_splits, orderly_joins, replaced_by, is_before, is_known, orderly-replaced, orderly-push}
@@ -120,14 +120,14 @@ pub record Stand (layers : List Layer) : Type 0 where
 
 -- whether a definition under a name may use another name
 abbrev is_usable : List Layer → Name → Name → Bool
-is_usable layers defined used = stands layers used && not (nat_le (place_of layers defined) (place_of layers used))
+is_usable layers defined used = stands layers used && not (nat_le (index_of layers defined) (index_of layers used))
 
 -- the names of an expression against which there is no reason
 all_usable : (layers : List Layer) (defined : Name) (names : List Name) → refusal_of_uses layers defined names ≡ None → list_all (is_usable layers defined) names ≡ true
 all_usable layers defined [] e = refl
 all_usable layers defined (used ∷ names) e =
     let both = no_reason (refusal_of_use layers defined used) (refusal_of_uses layers defined names) e in
-    let each = no_reason (when (not (stands layers used)) unknown_layer) (when (nat_le (place_of layers defined) (place_of layers used)) later_layer) both.first in
+    let each = no_reason (when (not (stands layers used)) unknown_layer) (when (nat_le (index_of layers defined) (index_of layers used)) later_layer) both.first in
     and_from _ _ (and_from _ _ (not-false (stands layers used) (not_when _ _ each.first)) (not_from_false _ (not_when _ _ each.second))) (all_usable layers defined names both.second)
 
 -- content that may stand under a name keeps orderly layers so
@@ -135,11 +135,11 @@ with_content_orderly : (layers : List Layer) (name : Name) (content : Content) (
     IsOrderly (if b then map (replaced_by name content) layers else layers ++ record { name = name; content = content } ∷ [])
 with_content_orderly layers name content true e orderly usable =
     orderly-replaced layers name content []
-    (list_all_so (is_usable layers name) (is_before [] layers name) (λ used u. (and_parts (stands layers used) (not (nat_le (place_of layers name) (place_of layers used))) u).1) (used_names content) usable)
+    (list_all_so (is_usable layers name) (is_before [] layers name) (λ used u. (and_parts (stands layers used) (not (nat_le (index_of layers name) (index_of layers used))) u).1) (used_names content) usable)
     orderly
 with_content_orderly layers name content false e orderly usable =
     orderly-push [] layers (record { name = name; content = content }) orderly e
-    (list_all_so (is_usable layers name) (is_known [] layers) (λ used u. (and_parts (stands layers used) (not (nat_le (place_of layers name) (place_of layers used))) u).0) (used_names content) usable)
+    (list_all_so (is_usable layers name) (is_known [] layers) (λ used u. (and_parts (stands layers used) (not (nat_le (index_of layers name) (index_of layers used))) u).0) (used_names content) usable)
 
 -- where it is not crowded, content under a name leaves room
 with_content_room : (layers : List Layer) (name : Name) (content : Content) (b : Bool) → stands layers name ≡ b → length layers ≤ layers_max → is_crowded layers name ≡ false →

@@ -10,12 +10,17 @@ use Rattle.overlay_terms.specs.Commands.{stands, uses}
 use Rattle.overlay_terms.proofs.NameLemmas.{same_name, name_itself, or_false}
 use Rattle.overlay_terms.proofs.OrderlyLemmas.{orderly_splits, is_known, is_known-cons}
 use Rattle.overlay_terms.proofs.TableLemmas.{rows_fixed}
-use Rattle.overlay_terms.proofs.ReachLemmas.{has_name, any-flat_map, known_push, is_reached, IsReachRow, AreReachRows, IsBounded, bounded_push, content_reach_of_uses}
+use Rattle.overlay_terms.proofs.ReachLemmas.{has_name, any-flat_map, known_push, is_reached, IsReachRow, AreReachRows, itself_all, IsBounded, bounded_push, content_reach_of_uses}
 
 -- what each layer reaches is a row of the whole table
-reach_rows : (layers : List Layer) → IsOrderly layers → AreReachRows (reaches layers) layers
+pub reach_rows : (layers : List Layer) → IsOrderly layers → AreReachRows (reaches layers) layers
 reach_rows layers orderly =
     rows_fixed [] (λ known layer. content_reach layer.name known layer.content) (λ known more layer h. content_reach_of_uses known more layer.name layer.content h) layers [] orderly
+
+-- a layer that stands reaches itself
+pub reaches_itself : (layers : List Layer) (name : Name) → IsOrderly layers → stands layers name ≡ true → is_reached (reaches layers) name name ≡ true
+reaches_itself layers name orderly standing =
+    itself_all (reaches layers) layers [] (reach_rows layers orderly) (λ n e. absurd (false≢true e)) name standing
 
 -- a name is not the other, where the other is not it
 pub differs_back : (a b : Name) → bytes_eq a b ≡ false → bytes_eq b a ≡ false

@@ -1,18 +1,20 @@
--- A command leaves a derived layer that it does not touch, and the inputs of its tiles, as they are.
-use Rattle.std.specs.Prelude.{◌≡◌, ℕ, Bool, true, false, not, ◌&&◌, List, [], ◌∷◌, ◌++◌, map, filter, filter_map, length, bytes_eq, if◌then◌else◌}
+-- What a command leaves: derived layers that do not reach its name, and the inputs of untouched tiles.
+use Rattle.std.specs.Prelude.{◌≡◌, ℕ, Bool, true, false, not, ◌&&◌, List, [], ◌∷◌, ◌++◌, map, filter, filter_map, length, None, bytes_eq, if◌then◌else◌}
 use Rattle.std.specs.List.{list_any}
 use Rattle.std.proofs.Common.{refl, ap, sym, ◌∙◌, append-nil}
-use Rattle.std.proofs.lemmas.Bool.{or_left, both_ways, false_from_ne_true}
+use Rattle.std.proofs.lemmas.Bool.{and_parts, and_from, or_left, both_ways, false_from_ne_true, false≢true}
 use Rattle.std.proofs.lemmas.List.Elements.{filter-append}
 use Rattle.std.proofs.lemmas.List.Folds.{list_any-append}
 use Rattle.std.proofs.lemmas.List.Sums.{fold-append}
 use Rattle.overlay_terms.specs.Column.{touches}
 use Rattle.overlay_terms.specs.Trees.{relabel}
 use Rattle.overlay_terms.specs.Layers.{Name, Content, base, derived, Layer, base_of, derived_of, named, content_reach, reaches, layers_in_reach, marked_segments, source_of}
-use Rattle.overlay_terms.specs.Tiles.{Input}
+use Rattle.overlay_terms.specs.Tiles.{Input, input_of}
+use Rattle.overlay_terms.specs.SameInput.{same_input, same_input-Decides}
 use Rattle.overlay_terms.specs.Orderly.{IsOrderly}
-use Rattle.overlay_terms.specs.Commands.{put, define, remove, is_derived, stands, stands_as_derived, uses, when, unknown_layer, not_base, in_use, too_many_layers, is_crowded, derived_over, reaches_name, is_touched}
-use Rattle.overlay_terms.specs.KeptLaws.{IsUntouched, UntouchedInputStays}
+use Rattle.overlay_terms.specs.Commands.{Command, put, define, remove, refusal_of, applied, is_derived, stands, stands_as_derived, uses, when, unknown_layer, not_base, in_use, too_many_layers, is_crowded}
+use Rattle.overlay_terms.specs.Touched.{tile_stays, is_touched, derived_over, reaches_name, name_of}
+use Rattle.overlay_terms.specs.KeptLaws.{IsUntouched, UntouchedInputStays, OnlyReachIsTouched}
 use Rattle.overlay_terms.proofs.NameLemmas.{same_name}
 use Rattle.overlay_terms.proofs.OrderlyLemmas.{replaced_by}
 use Rattle.overlay_terms.proofs.AcceptedLemmas.{without, no_reason, not_when}
@@ -20,7 +22,7 @@ use Rattle.overlay_terms.proofs.ReachLemmas.{has_name, is_reached}
 use Rattle.overlay_terms.proofs.DefinitionLemmas.{passing, passing_no}
 use Rattle.overlay_terms.proofs.KeptReach.{named-push_other, same_in_reach}
 use Rattle.overlay_terms.proofs.KeptDerived.{differ_replaced, differ_removed, derived_stands, still_replaced, still_without, derived_fails, stands_fails}
-use Rattle.overlay_terms.proofs.KeptBounds.{differs_back, reaches_standing, reaches_used}
+use Rattle.overlay_terms.proofs.KeptBounds.{differs_back, reaches_itself, reaches_standing, reaches_used}
 
 -- the input of the tile of a column, from the layers in reach
 abbrev input_over : ℕ → List Layer → Input
@@ -85,25 +87,60 @@ not_derived_name : (layers : List Layer) (name own : Name) → stands_as_derived
 not_derived_name layers name own none as_derived =
     false_from_ne_true (bytes_eq name own) (λ e. both_ways (stands_as_derived layers name) none (ap (stands_as_derived layers) (same_name name own e) ∙ as_derived))
 
--- the name of an untouched layer is not the one that is taken out
-not_removed_name : (layers : List Layer) (name own : Name) → stands_as_derived layers own ≡ true → is_touched layers (remove name) own ≡ false → bytes_eq own name ≡ false
-not_removed_name layers name own as_derived out = false_from_ne_true (bytes_eq own name) (λ e. both_ways (is_touched layers (remove name) own) out (touched e)) where
-  -- else it is touched
-  touched : bytes_eq own name ≡ true → is_touched layers (remove name) own ≡ true
-  touched e =
-      ap (λ b. list_any (bytes_eq own) (if b then name ∷ [] else [])) (ap (stands_as_derived layers) (sym (same_name own name e)) ∙ as_derived)
-      ∙ or_left (bytes_eq own name) false e
+-- the name of a derived layer that does not reach the one that is taken out is not that one
+not_removed_name : (layers : List Layer) (name own : Name) → IsOrderly layers → stands_as_derived layers own ≡ true → list_any (bytes_eq own) (derived_over layers name) ≡ false → bytes_eq own name ≡ false
+not_removed_name layers name own orderly as_derived out =
+    let standing = derived_stands layers own as_derived in
+    let apart : reaches_name layers own name ≡ false = derived_fails (λ n. reaches_name layers n name) layers own out as_derived in
+    false_from_ne_true (bytes_eq own name)
+    (λ e.
+    let same = same_name own name e in
+    both_ways (is_reached (reaches layers) own name)
+    (stands_fails (is_reached (reaches layers) own) layers name apart (ap (stands layers) (sym same) ∙ standing))
+    (ap (is_reached (reaches layers) own) (sym same) ∙ reaches_itself layers own orderly standing))
 
--- a command leaves what it does not touch
-pub untouched_input_stays : UntouchedInputStays
-untouched_input_stays layers (put name rings) own k orderly accepted as_derived out =
+-- an accepted command leaves a derived layer that does not reach its name as it is
+pub outside_stays : (layers : List Layer) (command : Command) (own : Name) (k : ℕ) → IsOrderly layers → refusal_of layers command ≡ None → stands_as_derived layers own ≡ true → list_any (bytes_eq own) (derived_over layers (name_of command)) ≡ false → IsUntouched layers (applied layers command) own k
+outside_stays layers (put name rings) own k orderly accepted as_derived out =
     let reasons = no_reason (when (stands_as_derived layers name) not_base) (when (is_crowded layers name) too_many_layers) accepted in
     let differ = not_derived_name layers name own (not_when _ _ reasons.first) as_derived in
     untouched_content layers name (base rings) own k (stands layers name) refl orderly as_derived (λ e. absurd (both_ways (bytes_eq name own) differ e)) (λ standing. out)
-untouched_input_stays layers (define name expression) own k orderly accepted as_derived out =
-    untouched_content layers name (derived expression) own k (stands layers name) refl orderly as_derived (λ e. refl)
-    (λ standing. ap (λ b. list_any (bytes_eq own) (if b then derived_over layers name else name ∷ [])) (sym standing) ∙ out)
-untouched_input_stays layers (remove name) own k orderly accepted as_derived out =
+outside_stays layers (define name expression) own k orderly accepted as_derived out =
+    untouched_content layers name (derived expression) own k (stands layers name) refl orderly as_derived (λ e. refl) (λ standing. out)
+outside_stays layers (remove name) own k orderly accepted as_derived out =
     let reasons = no_reason (when (not (stands layers name)) unknown_layer) (when (list_any (λ layer. uses name layer.content) layers) in_use) accepted in
-    let back = not_removed_name layers name own as_derived out in
+    let back = not_removed_name layers name own orderly as_derived out in
     untouched_removed layers name own k orderly (not_when _ _ reasons.second) as_derived (differs_back own name back) back
+
+-- of two tests, the second denied: the second holds where the first does
+kept_by : (d s : Bool) → d ≡ true → (d && not s) ≡ false → s ≡ true
+kept_by true true derived_layer out = refl
+kept_by true false derived_layer out = absurd (false≢true (sym out))
+kept_by false s derived_layer out = absurd (false≢true derived_layer)
+
+not_kept : (d s : Bool) → s ≡ true → (d && not s) ≡ false
+not_kept true true e = refl
+not_kept false true e = refl
+not_kept d false e = absurd (false≢true e)
+
+-- untouched is what keeps its input and stays derived
+pub untouched_input_stays : UntouchedInputStays
+untouched_input_stays layers command own k as_derived =
+    let after = applied layers command in
+    let decides = same_input-Decides (input_of after own k) (input_of layers own k) in (
+      λ out.
+          let parts = and_parts (stands_as_derived after own) (same_input (input_of after own k) (input_of layers own k)) (kept_by (stands_as_derived layers own) (tile_stays layers after own k) as_derived out) in
+          record { same_input = decides.0 parts.1; still_derived = parts.0 },
+      λ stays. not_kept (stands_as_derived layers own) (tile_stays layers after own k) (and_from _ _ stays.still_derived (decides.1 stays.same_input)),
+    )
+
+true_from_ne_false : (b : Bool) → (b ≡ false → ⊥) → b ≡ true
+true_from_ne_false true h = refl
+true_from_ne_false false h = absurd (h refl)
+
+-- what is touched reaches the command's name
+pub only_reach_is_touched : OnlyReachIsTouched
+only_reach_is_touched layers command own k orderly accepted touched =
+    let as_derived = (and_parts (stands_as_derived layers own) (not (tile_stays layers (applied layers command) own k)) touched).0 in
+    true_from_ne_false (list_any (bytes_eq own) (derived_over layers (name_of command)))
+    (λ out. both_ways (is_touched layers command own k) ((untouched_input_stays layers command own k as_derived).1 (outside_stays layers command own k orderly accepted as_derived out)) touched)

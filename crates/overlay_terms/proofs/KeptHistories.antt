@@ -6,7 +6,8 @@ use Rattle.overlay_terms.specs.Column.{column_count}
 use Rattle.overlay_terms.specs.Layers.{Name, Layer}
 use Rattle.overlay_terms.specs.Tiles.{input_of}
 use Rattle.overlay_terms.specs.Orderly.{IsOrderly}
-use Rattle.overlay_terms.specs.Commands.{Command, refusal_of, refusal_at, applied, when, version_max, version_limit, layers_max, is_touched, stands_as_derived}
+use Rattle.overlay_terms.specs.Commands.{Command, refusal_of, refusal_at, applied, when, version_max, version_limit, layers_max, stands_as_derived}
+use Rattle.overlay_terms.specs.Touched.{is_touched}
 use Rattle.overlay_terms.specs.Histories.{Tile, Finished, pieces_max, IsTileAt, tile_at, Version, Event, accepted, kept, durable_to, Follows, Entry, AllFollow, last_version}
 use Rattle.overlay_terms.specs.KeptLaws.{TilesFit, TilesAreExact, ExactnessStays, LayersStayOrderly, IsExact, HistoryIsExact, HistoryHasRoom}
 use Rattle.overlay_terms.proofs.NameLemmas.{same_name}
@@ -33,11 +34,11 @@ pub accepted_by_layers : (old : Version) (command : Command) → refusal_at old.
 accepted_by_layers old command e = (no_reason (refusal_of old.layers command) (when (old.number == version_max) version_limit) e).first
 
 -- a tile after a command was there before it, and is untouched
-right_after_command : (layers : List Layer) (command : Command) (name : Name) (k : ℕ) (tile : Tile) (b : Bool) (before : Option Tile) → IsOrderly layers → refusal_of layers command ≡ None → is_touched layers command name ≡ b → (before ≡ Some tile → IsRight layers name k tile) → (if b then None else before) ≡ Some tile → IsRight (applied layers command) name k tile
-right_after_command layers command name k tile true before orderly e touched right there = absurd (cc)
-right_after_command layers command name k tile false before orderly e untouched right there =
+right_after_command : (layers : List Layer) (command : Command) (name : Name) (k : ℕ) (tile : Tile) (b : Bool) (before : Option Tile) → is_touched layers command name k ≡ b → (before ≡ Some tile → IsRight layers name k tile) → (if b then None else before) ≡ Some tile → IsRight (applied layers command) name k tile
+right_after_command layers command name k tile true before touched right there = absurd (cc)
+right_after_command layers command name k tile false before untouched right there =
     let old = right there in
-    let stays = untouched_input_stays layers command name k orderly e old.derived_layer untouched in
+    let stays = (untouched_input_stays layers command name k old.derived_layer).0 untouched in
     record {
       derived_layer = stays.still_derived;
       known_column = old.known_column;
@@ -54,22 +55,22 @@ right_after_tile layers name column kept_tile other k tile true before here new 
 right_after_tile layers name column kept_tile other k tile false before away new right there = right there
 
 -- each tile is as it must be after what is published
-right_after : (old new : Version) (event : Event) → Follows old event new → IsOrderly old.layers → AreRight old.layers old.tiles → AreRight new.layers new.tiles
-right_after old new (accepted session command) follows orderly right name k tile e =
+right_after : (old new : Version) (event : Event) → Follows old event new → AreRight old.layers old.tiles → AreRight new.layers new.tiles
+right_after old new (accepted session command) follows right name k tile e =
     subst (λ layers. IsRight layers name k tile) (sym follows.layers)
-    (right_after_command old.layers command name k tile (is_touched old.layers command name) (tile_at old.tiles name k) orderly (accepted_by_layers old command follows.accepted_there) refl (right name k tile)
+    (right_after_command old.layers command name k tile (is_touched old.layers command name k) (tile_at old.tiles name k) refl (right name k tile)
     (sym (follows.tiles name k) ∙ e))
-right_after old new (kept name column tile) follows orderly right other k found e =
+right_after old new (kept name column tile) follows right other k found e =
     subst (λ layers. IsRight layers other k found) (sym follows.layers)
     (right_after_tile old.layers name column tile other k found (bytes_eq name other && (column == k)) (tile_at old.tiles other k) refl
     (record { derived_layer = follows.derived_layer; known_column = follows.known_column; exact = follows.right }) (right other k found) (sym (follows.tiles other k) ∙ e))
-right_after old new (durable_to number) follows orderly right name k tile e =
+right_after old new (durable_to number) follows right name k tile e =
     subst (λ layers. IsRight layers name k tile) (sym follows.layers) (right name k tile (sym (follows.tiles name k) ∙ e))
 
 -- what is published leaves exact tiles exact
 pub exactness_stays : ExactnessStays
 exactness_stays old new event follows orderly fit exact =
-    let right = right_after old new event follows orderly (are_right old fit exact) in
+    let right = right_after old new event follows (are_right old fit exact) in
     (λ name k tile e. ((right name k tile e).derived_layer, (right name k tile e).known_column), λ name k tile e. (right name k tile e).exact)
 
 -- what is published leaves orderly layers so, and leaves room

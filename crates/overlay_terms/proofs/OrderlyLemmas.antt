@@ -5,7 +5,7 @@ use Rattle.std.proofs.Common.{refl, ap, sym, ◌∙◌, subst, ⊎_elim, arith}
 use Rattle.std.proofs.lemmas.Bool.{and_parts, and_from, or_cases, or_left, or_right, not-true, not_from_false, leb-false, lt-leb}
 use Rattle.overlay_terms.specs.Layers.{Name, Content, Layer}
 use Rattle.overlay_terms.specs.Orderly.{used_names, is_among, is_orderly_after}
-use Rattle.overlay_terms.specs.Commands.{place_of, stands}
+use Rattle.overlay_terms.specs.Commands.{index_of, stands}
 use Rattle.overlay_terms.proofs.NameLemmas.{same_name, or_false, list_all_so, is_among-push}
 
 -- a layer that may stand behind layers of the given names
@@ -36,15 +36,15 @@ replaced_by name content layer = if bytes_eq layer.name name then record { name 
 
 -- whether a name stands before the place of another, or is known before
 abbrev pub is_before : List Name → List Layer → Name → Name → Bool
-is_before known layers name used = is_among known used || not (nat_le (place_of layers name) (place_of layers used))
+is_before known layers name used = is_among known used || not (nat_le (index_of layers name) (index_of layers used))
 
 -- the place of a name, where the first layer has it, and where it has it not
-place_here : (layer : Layer) (layers : List Layer) (name : Name) → bytes_eq layer.name name ≡ true → place_of (layer ∷ layers) name ≡ 0
-place_here layer layers name e = ap (λ b. if b then 0 else place_of layers name + 1) e
+place_here : (layer : Layer) (layers : List Layer) (name : Name) → bytes_eq layer.name name ≡ true → index_of (layer ∷ layers) name ≡ 0
+place_here layer layers name e = ap (λ b. if b then 0 else index_of layers name + 1) e
 
 -- the place of a name that the first layer has not
-place_later : (layer : Layer) (layers : List Layer) (name : Name) → bytes_eq layer.name name ≡ false → place_of (layer ∷ layers) name ≡ place_of layers name + 1
-place_later layer layers name e = ap (λ b. if b then 0 else place_of layers name + 1) e
+place_later : (layer : Layer) (layers : List Layer) (name : Name) → bytes_eq layer.name name ≡ false → index_of (layer ∷ layers) name ≡ index_of layers name + 1
+place_later layer layers name e = ap (λ b. if b then 0 else index_of layers name + 1) e
 
 -- a place that is not at or after another is before it
 place_below : (m n : ℕ) → not (nat_le m n) ≡ true → n < m
@@ -59,28 +59,28 @@ before_first_place : (known : List Name) (layer : Layer) (layers : List Layer) (
 before_first_place known layer layers name used here h =
     ⊎_elim (λ e. e)
     (λ e.
-    let low = place_below (place_of (layer ∷ layers) name) (place_of (layer ∷ layers) used) e in
+    let low = place_below (index_of (layer ∷ layers) name) (index_of (layer ∷ layers) used) e in
     let first = place_here layer layers name here in
     absurd (omega arith))
-    (or_cases (is_among known used) (not (nat_le (place_of (layer ∷ layers) name) (place_of (layer ∷ layers) used))) h)
+    (or_cases (is_among known used) (not (nat_le (index_of (layer ∷ layers) name) (index_of (layer ∷ layers) used))) h)
 
 -- a name before a later place, where the first layer has it or has it not
-before_later_by : (known : List Name) (layer : Layer) (layers : List Layer) (name used : Name) (b : Bool) → bytes_eq layer.name used ≡ b → place_of (layer ∷ layers) used < place_of layers name + 1 → is_before (known ++ layer.name ∷ []) layers name used ≡ true
+before_later_by : (known : List Name) (layer : Layer) (layers : List Layer) (name used : Name) (b : Bool) → bytes_eq layer.name used ≡ b → index_of (layer ∷ layers) used < index_of layers name + 1 → is_before (known ++ layer.name ∷ []) layers name used ≡ true
 before_later_by known layer layers name used true e h =
     or_left _ _ (is_among-push known layer.name used ∙ or_right (is_among known used) _ e)
 before_later_by known layer layers name used false e h =
     let later = place_later layer layers used e in
-    or_right (is_among (known ++ layer.name ∷ []) used) _ (below_place (place_of layers name) (place_of layers used) (omega arith))
+    or_right (is_among (known ++ layer.name ∷ []) used) _ (below_place (index_of layers name) (index_of layers used) (omega arith))
 
 -- what stands before a later layer is the first one, or stands before it among the rest
 before_later_place : (known : List Name) (layer : Layer) (layers : List Layer) (name used : Name) → bytes_eq layer.name name ≡ false → is_before known (layer ∷ layers) name used ≡ true → is_before (known ++ layer.name ∷ []) layers name used ≡ true
 before_later_place known layer layers name used elsewhere h =
     ⊎_elim (λ e. or_left _ _ (is_among-push known layer.name used ∙ or_left _ _ e))
     (λ e.
-    let low = place_below (place_of (layer ∷ layers) name) (place_of (layer ∷ layers) used) e in
+    let low = place_below (index_of (layer ∷ layers) name) (index_of (layer ∷ layers) used) e in
     let later = place_later layer layers name elsewhere in
     before_later_by known layer layers name used (bytes_eq layer.name used) refl (omega arith))
-    (or_cases (is_among known used) (not (nat_le (place_of (layer ∷ layers) name) (place_of (layer ∷ layers) used))) h)
+    (or_cases (is_among known used) (not (nat_le (index_of (layer ∷ layers) name) (index_of (layer ∷ layers) used))) h)
 
 -- what is known stays known
 still_known : (known : List Name) (layers : List Layer) (m name used : Name) → is_among known used ≡ true → is_before (known ++ m ∷ []) layers name used ≡ true

@@ -1,10 +1,9 @@
--- Commands: why one is refused, what it makes of the layers, and which tiles it makes pending.
-use Rattle.std.specs.Prelude.{◌≡◌, ℕ, ◌==◌, nat_le, Bool, false, true, not, ◌&&◌, List, [], ◌∷◌, ◌++◌, map, filter, fold, flat_map, length, Option, Some, None, bytes_eq, if◌then◌else◌, ◌+◌, ◌^◌}
+-- Commands: why one is refused, and what it makes of the layers.
+use Rattle.std.specs.Prelude.{◌≡◌, ℕ, ◌==◌, nat_le, Bool, false, true, not, ◌&&◌, List, [], ◌∷◌, ◌++◌, map, filter, fold, length, Option, Some, None, bytes_eq, if◌then◌else◌, ◌+◌, ◌^◌}
 use Rattle.std.specs.List.{list_any}
 use Rattle.overlay_terms.specs.Plane.{WholePoint}
-use Rattle.overlay_terms.specs.Column.{columns}
 use Rattle.overlay_terms.specs.Trees.{Tree, leaves}
-use Rattle.overlay_terms.specs.Layers.{Name, Content, base, derived, Layer, layers_in_reach}
+use Rattle.overlay_terms.specs.Layers.{Name, Content, base, derived, Layer}
 
 -- keep rings under a name, keep an expression under a name, or take a layer out
 pub data Command : Type 0 where
@@ -26,10 +25,10 @@ pub data Refusal : Type 0 where
 abbrev pub layers_max : ℕ
 layers_max = 32
 
--- the place of the layer with a name, from 0; how many layers there are where none has it
-abbrev pub place_of : List Layer → Name → ℕ
-place_of [] name = 0
-place_of (layer ∷ layers) name = if bytes_eq layer.name name then 0 else place_of layers name + 1
+-- the index of the layer with a name, from 0; how many layers there are where none has it
+abbrev pub index_of : List Layer → Name → ℕ
+index_of [] name = 0
+index_of (layer ∷ layers) name = if bytes_eq layer.name name then 0 else index_of layers name + 1
 
 -- whether a layer has the name
 abbrev pub stands : List Layer → Name → Bool
@@ -71,10 +70,10 @@ abbrev pub refusal_of_put : List Layer → Name → Option Refusal
 refusal_of_put layers name =
     or_else (when (stands_as_derived layers name) not_base) (when (is_crowded layers name) too_many_layers)
 
--- why a definition may not name a name: no layer has it; its layer stands at or after the place of the defined one
+-- why a definition may not name a name: no layer has it; its layer stands where the defined one does, or behind
 abbrev pub refusal_of_use : List Layer → Name → Name → Option Refusal
 refusal_of_use layers defined used =
-    or_else (when (not (stands layers used)) unknown_layer) (when (nat_le (place_of layers defined) (place_of layers used)) later_layer)
+    or_else (when (not (stands layers used)) unknown_layer) (when (nat_le (index_of layers defined) (index_of layers used)) later_layer)
 
 -- the first reason against the names of an expression, from left to right
 abbrev pub refusal_of_uses : List Layer → Name → List Name → Option Refusal
@@ -129,28 +128,3 @@ layers_after commands = fold applied [] commands
 abbrev pub AllAccepted : List Layer → List Command → Type 0
 AllAccepted layers [] = Unit {0}
 AllAccepted layers (command ∷ commands) = (refusal_of layers command ≡ None) × AllAccepted (applied layers command) commands
-
--- whether a layer reaches a name, itself or through others
-abbrev pub reaches_name : List Layer → Name → Name → Bool
-reaches_name layers from name = list_any (λ layer. bytes_eq layer.name name) (layers_in_reach layers from)
-
--- the derived layers that reach a name, in order
-abbrev pub derived_over : List Layer → Name → List Name
-derived_over layers name =
-    map (λ (layer : Layer). layer.name) (filter (λ (layer : Layer). is_derived layer.content && reaches_name layers layer.name name) layers)
-
--- the layers whose tiles a command makes pending: those that reach the name of a PUT, a defined layer and those that
--- reach it, a layer that is taken out
-abbrev pub touched_layers : List Layer → Command → List Name
-touched_layers layers (put name rings) = derived_over layers name
-touched_layers layers (define name expression) =
-    if stands layers name then derived_over layers name else name ∷ []
-touched_layers layers (remove name) = if stands_as_derived layers name then name ∷ [] else []
-
--- the tiles of those layers, in every column
-abbrev pub touched_tiles : List Layer → Command → List (Name × ℕ)
-touched_tiles layers command = flat_map (λ name. map (λ k. (name, k)) columns) (touched_layers layers command)
-
--- whether a command makes a layer's tiles pending
-abbrev pub is_touched : List Layer → Command → Name → Bool
-is_touched layers command name = list_any (bytes_eq name) (touched_layers layers command)

@@ -6,7 +6,8 @@ use Rattle.overlay_terms.specs.Plane.{Point}
 use Rattle.overlay_terms.specs.Column.{column_count, is_in_column}
 use Rattle.overlay_terms.specs.Layers.{Name, Layer}
 use Rattle.overlay_terms.specs.Tiles.{IsTileOf, pair_cmp, Input, input_of}
-use Rattle.overlay_terms.specs.Commands.{Command, refusal_at, applied, is_touched, stands_as_derived}
+use Rattle.overlay_terms.specs.Commands.{Command, refusal_at, applied, stands_as_derived}
+use Rattle.overlay_terms.specs.Touched.{is_touched}
 
 -- a finished tile: the ends of its pieces, or that it has too many
 pub data Tile : Type 0 where
@@ -71,7 +72,7 @@ pub record FollowsCommand (old : Version) (command : Command) (new : Version) : 
   pub accepted_there : refusal_at old.number old.layers command ≡ None
   pub number : new.number ≡ old.number + 1
   pub layers : new.layers ≡ applied old.layers command
-  pub tiles : (name : Name) (k : ℕ) → tile_at new.tiles name k ≡ (if is_touched old.layers command name then None else tile_at old.tiles name k)
+  pub tiles : (name : Name) (k : ℕ) → tile_at new.tiles name k ≡ (if is_touched old.layers command name k then None else tile_at old.tiles name k)
   pub durable : new.durable ≡ old.durable
 
 -- the version after a tile is kept: a pending tile of a derived layer, made of the layer's present input

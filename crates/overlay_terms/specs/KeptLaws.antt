@@ -1,22 +1,30 @@
--- Laws of the tiles that are kept: a command leaves the inputs of untouched tiles as they are, so each tile stays that of its input.
-use Rattle.std.specs.Prelude.{◌≡◌, ℕ, ◌<◌, ◌≤◌, false, IsTrue, List, length, Some, None}
+-- Laws of the tiles that are kept: the untouched tiles are those whose input stays, so each tile stays that of its input.
+use Rattle.std.specs.Prelude.{◌≡◌, ◌↔◌, ℕ, ◌<◌, ◌≤◌, false, IsTrue, List, length, Some, None, bytes_eq}
+use Rattle.std.specs.List.{list_any}
 use Rattle.overlay_terms.specs.Column.{column_count}
 use Rattle.overlay_terms.specs.Layers.{Name, Layer}
 use Rattle.overlay_terms.specs.Tiles.{input_of}
 use Rattle.overlay_terms.specs.Orderly.{IsOrderly}
-use Rattle.overlay_terms.specs.Commands.{Command, refusal_of, applied, layers_max, is_touched, stands_as_derived}
+use Rattle.overlay_terms.specs.Commands.{Command, refusal_of, applied, layers_max, stands_as_derived}
+use Rattle.overlay_terms.specs.Touched.{is_touched, derived_over, name_of}
 use Rattle.overlay_terms.specs.Histories.{Tile, Finished, pieces_max, IsTileAt, tile_at, Version, Event, Follows, History, IsHistory, newest}
 
--- what a command does not touch: the input of the tile of a layer and column, and that the layer is derived
+-- what a command does not change: the input of the tile of a layer and column, and that the layer is derived
 pub record IsUntouched (before after : List Layer) (name : Name) (k : ℕ) : Type 0 where
   pub same_input : input_of after name k ≡ input_of before name k
   pub still_derived : IsTrue (stands_as_derived after name)
 
--- an accepted command leaves a derived layer that it does not touch, and the inputs of its tiles, as they are
+-- a command leaves a tile of a derived layer untouched exactly where it leaves the tile's input as it is, and the layer derived
 abbrev pub UntouchedInputStays : Type 0
 UntouchedInputStays =
+    (layers : List Layer) (command : Command) (name : Name) (k : ℕ) → IsTrue (stands_as_derived layers name) →
+    (is_touched layers command name k ≡ false) ↔ IsUntouched layers (applied layers command) name k
+
+-- an accepted command touches tiles of those layers alone that reach the name that it puts, defines or takes out
+abbrev pub OnlyReachIsTouched : Type 0
+OnlyReachIsTouched =
     (layers : List Layer) (command : Command) (name : Name) (k : ℕ) → IsOrderly layers → refusal_of layers command ≡ None →
-    IsTrue (stands_as_derived layers name) → is_touched layers command name ≡ false → IsUntouched layers (applied layers command) name k
+    IsTrue (is_touched layers command name k) → IsTrue (list_any (bytes_eq name) (derived_over layers (name_of command)))
 
 -- tiles have their place among layers: each is of a derived layer that stands, and of a column that there is
 abbrev pub AreFitting : List Layer → List Finished → Type 0

@@ -6,6 +6,8 @@ pub mod Layers
 pub mod Column
 pub mod Tiles
 pub mod Commands
+pub mod SameInput
+pub mod Touched
 pub mod Orderly
 pub mod Histories
 pub mod TileLaws

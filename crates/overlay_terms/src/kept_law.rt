@@ -1,10 +1,15 @@
 //! Laws of the tiles that are kept: each function does nothing, and its contract is the law.
 
-ghost use Rattle.overlay_terms.specs.KeptLaws.{ExactnessStays, HistoryHasRoom, HistoryIsExact, LayersStayOrderly, UntouchedInputStays};
+ghost use Rattle.overlay_terms.specs.KeptLaws.{ExactnessStays, HistoryHasRoom, HistoryIsExact, LayersStayOrderly, OnlyReachIsTouched, UntouchedInputStays};
 
-/// An accepted command leaves a derived layer that it does not touch, and the inputs of its tiles, as they are.
+/// A command leaves a tile of a derived layer untouched exactly where it leaves the tile's input as it is, and the layer derived.
 pub fn untouched_input_stays()
     ensures { UntouchedInputStays }
+{}
+
+/// An accepted command touches tiles of those layers alone that reach the name that it puts, defines or takes out.
+pub fn only_reach_is_touched()
+    ensures { OnlyReachIsTouched }
 {}
 
 /// Where each tile of a version is that of its input, so is each tile of the next one, whatever is published.

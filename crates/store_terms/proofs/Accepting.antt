@@ -5,7 +5,7 @@ use Rattle.std.specs.List.{list_any, list_all}
 use Rattle.std.proofs.lemmas.Bool.{cases_Bool, and_parts, and_from, and_left, and_right, or_parts, not_from_false, lt-leb}
 use Rattle.overlay_terms.specs.Trees.{Tree, leaves}
 use Rattle.overlay_terms.specs.Layers.{Name, Content, base, derived, Layer}
-use Rattle.overlay_terms.specs.Commands.{unknown_layer, not_base, not_derived, later_layer, too_many_layers, place_of, stands, is_derived, stands_as_base, stands_as_derived, or_else, when, is_crowded, refusal_of_put, refusal_of_use, refusal_of_uses, refusal_of_define, layers_max}
+use Rattle.overlay_terms.specs.Commands.{unknown_layer, not_base, not_derived, later_layer, too_many_layers, index_of, stands, is_derived, stands_as_base, stands_as_derived, or_else, when, is_crowded, refusal_of_put, refusal_of_use, refusal_of_uses, refusal_of_define, layers_max}
 use Rattle.overlay_terms.specs.Orderly.{used_names, is_among}
 use Rattle.overlay_terms.proofs.OrderlyLemmas.{MayFollow}
 use Rattle.layer_expr.specs.Name.{is_name}
@@ -25,20 +25,20 @@ none_too p q so (l ∷ ls) none =
     let h = or_parts (p l) (list_any p ls) none in
     ap (λ b. b || list_any q ls) (so l h.0) ∙ none_too p q so ls h.1
 
-place_past : (layers : List Layer) (name : Name) → stands layers name ≡ false → place_of layers name ≡ length layers
-place_past [] name none = refl
-place_past (l ∷ ls) name none =
+index_past : (layers : List Layer) (name : Name) → stands layers name ≡ false → index_of layers name ≡ length layers
+index_past [] name none = refl
+index_past (l ∷ ls) name none =
     let h = or_parts (bytes_eq l.name name) (stands ls name) none in
-    ap (λ b. cond b 0 (place_of ls name + 1)) h.0 ∙ (let e = place_past ls name h.1 in omega (arith, e))
+    ap (λ b. cond b 0 (index_of ls name + 1)) h.0 ∙ (let e = index_past ls name h.1 in omega (arith, e))
 
-place_within : (layers : List Layer) (name : Name) → stands layers name ≡ true → place_of layers name < length layers
-place_within [] name some = absurd cc
-place_within (l ∷ ls) name some = ⊎_elim
-    (λ here. let e : place_of (l ∷ ls) name ≡ 0 = ap (λ b. cond b 0 (place_of ls name + 1)) here in omega (arith, e))
+index_within : (layers : List Layer) (name : Name) → stands layers name ≡ true → index_of layers name < length layers
+index_within [] name some = absurd cc
+index_within (l ∷ ls) name some = ⊎_elim
+    (λ here. let e : index_of (l ∷ ls) name ≡ 0 = ap (λ b. cond b 0 (index_of ls name + 1)) here in omega (arith, e))
     (λ there.
-    let e : place_of (l ∷ ls) name ≡ place_of ls name + 1 = ap (λ b. cond b 0 (place_of ls name + 1)) there in
+    let e : index_of (l ∷ ls) name ≡ index_of ls name + 1 = ap (λ b. cond b 0 (index_of ls name + 1)) there in
     let rest : stands ls name ≡ true = sym (ap (λ b. b || stands ls name) there) ∙ some in
-    let h = place_within ls name rest in
+    let h = index_within ls name rest in
     omega (arith, e, h))
     (cases_Bool (bytes_eq l.name name))
 
@@ -60,9 +60,9 @@ module _ (known : List Layer) (name : Name) (new : stands known name ≡ false) 
   use_accepted used among =
       let there : stands known used ≡ true = stands_among known used ∙ among in
       let first : not (stands known used) ≡ false = ap not there in
-      let before : nat_le (place_of known name) (place_of known used) ≡ false =
-      (let past = place_past known name new in let within = place_within known used there in lt-leb (place_of known name) (place_of known used) (omega (arith, past, within))) in
-      ap (λ b. or_else (when b unknown_layer) (when (nat_le (place_of known name) (place_of known used)) later_layer)) first ∙ ap (λ b. when b later_layer) before
+      let before : nat_le (index_of known name) (index_of known used) ≡ false =
+      (let past = index_past known name new in let within = index_within known used there in lt-leb (index_of known name) (index_of known used) (omega (arith, past, within))) in
+      ap (λ b. or_else (when b unknown_layer) (when (nat_le (index_of known name) (index_of known used)) later_layer)) first ∙ ap (λ b. when b later_layer) before
 
   uses_accepted : (uses : List Name) → list_all (is_among (names_of known)) uses ≡ true → refusal_of_uses known name uses ≡ None
   uses_accepted [] all = refl

@@ -7,14 +7,14 @@ use Rattle.overlay_terms.specs.Column.{column_count}
 use Rattle.overlay_terms.specs.Layers.{Name, Layer}
 use Rattle.std.specs.Option.{option_map}
 use Rattle.overlay_terms.specs.Tiles.{Input, input_of}
-use Rattle.overlay_terms.specs.Commands.{Refusal, Command, refusal_of, refusal_at, applied, when, version_max, version_limit, is_touched, stands_as_derived}
+use Rattle.overlay_terms.specs.Commands.{Refusal, Command, refusal_of, refusal_at, applied, when, version_max, version_limit, stands_as_derived}
+use Rattle.overlay_terms.specs.Touched.{is_touched}
 use Rattle.overlay_terms.specs.Histories.{Tile, Finished, Version, tile_at, IsTileAt, pieces_max, is_formed, FollowsCommand, FollowsTile}
-use Rattle.overlay_terms.specs.Orderly.{IsOrderly}
 use Rattle.overlay_terms.proofs.NameLemmas.{same_name}
 use Rattle.overlay_terms.proofs.AcceptedLemmas.{no_reason, not_when}
 use Rattle.overlay_terms.proofs.FormLemmas.{formed_at}
 use Rattle.overlay_terms.proofs.KeptCommands.{untouched_input_stays}
-use Rattle.arrange.specs.SameInput.{same_input, same_input-Decides}
+use Rattle.overlay_terms.specs.SameInput.{same_input, same_input-Decides}
 use Rattle.layer_book.specs.Fault.{fault_of}
 use Rattle.layer_book.specs.Layer.{IsBook}
 use Rattle.version_core.specs.Tiles.{is_of, untouched, AreDistinct}
@@ -37,11 +37,11 @@ pub raised : (number top : ℕ) → number ≤ top → number ≢ top → number
 raised number top low other = omega arith
 
 -- the tiles that a command leaves are of derived layers that stand
-fit_kept : (layers : List Layer) (command : Command) (tiles : List Finished) (name : Name) (k : ℕ) (tile : Tile) (b : Bool) → IsOrderly layers → refusal_of layers command ≡ None → is_touched layers command name ≡ b → (tile_at tiles name k ≡ Some tile → IsTrue (stands_as_derived layers name) × (k < column_count)) → (if not b then tile_at tiles name k else None) ≡ Some tile → IsTrue (stands_as_derived (applied layers command) name) × (k < column_count)
-fit_kept layers command tiles name k tile true orderly e touched fit there = absurd (cc)
-fit_kept layers command tiles name k tile false orderly e out fit there =
+fit_kept : (layers : List Layer) (command : Command) (tiles : List Finished) (name : Name) (k : ℕ) (tile : Tile) (b : Bool) → is_touched layers command name k ≡ b → (tile_at tiles name k ≡ Some tile → IsTrue (stands_as_derived layers name) × (k < column_count)) → (if not b then tile_at tiles name k else None) ≡ Some tile → IsTrue (stands_as_derived (applied layers command) name) × (k < column_count)
+fit_kept layers command tiles name k tile true touched fit there = absurd (cc)
+fit_kept layers command tiles name k tile false out fit there =
     let old = fit there in
-    ((untouched_input_stays layers command name k orderly e old.0 out).still_derived, old.1)
+    (((untouched_input_stays layers command name k old.0).0 out).still_derived, old.1)
 
 -- the tiles that a command leaves have their form
 formed_kept : (b : Bool) (before : Option Tile) (tile : Tile) (k : ℕ) → (before ≡ Some tile → IsTrue (is_formed tile k)) → (if not b then before else None) ≡ Some tile → IsTrue (is_formed tile k)
@@ -54,8 +54,8 @@ module _ (old : Version) (command : Command) (valid : IsVersion old) (accepted :
   next_of = record { number = old.number + 1; layers = layers; tiles = tiles; durable = old.durable }
 
   -- what is found among the tiles that are left
-  found_left : (name : Name) (k : ℕ) → tile_at tiles name k ≡ (if not (is_touched old.layers command name) then tile_at old.tiles name k else None)
-  found_left name k = ap (λ ts. tile_at ts name k) same_tiles ∙ tile_at-kept (λ n. not (is_touched old.layers command n)) old.tiles name k
+  found_left : (name : Name) (k : ℕ) → tile_at tiles name k ≡ (if not (is_touched old.layers command name k) then tile_at old.tiles name k else None)
+  found_left name k = ap (λ ts. tile_at ts name k) same_tiles ∙ tile_at-kept (λ n j. not (is_touched old.layers command n j)) old.tiles name k
 
   turned : (b : Bool) (before : Option Tile) → (if not b then before else None) ≡ (if b then None else before)
   turned true before = refl
@@ -70,10 +70,10 @@ module _ (old : Version) (command : Command) (valid : IsVersion old) (accepted :
         book = book;
         fit = λ name k tile e.
             subst (λ ls. IsTrue (stands_as_derived ls name) × (k < column_count)) (sym same_layers)
-            (fit_kept old.layers command old.tiles name k tile (is_touched old.layers command name) valid.book.orderly parts.by_layers refl (valid.fit name k tile) (sym (found_left name k) ∙ e));
+            (fit_kept old.layers command old.tiles name k tile (is_touched old.layers command name k) refl (valid.fit name k tile) (sym (found_left name k) ∙ e));
         formed = λ name k tile e.
-            formed_kept (is_touched old.layers command name) (tile_at old.tiles name k) tile k (valid.formed name k tile) (sym (found_left name k) ∙ e);
-        distinct = subst AreDistinct (sym same_tiles) (AllPairs-filter (λ a b. is_of b.name b.column a ≡ false) (λ f. not (is_touched old.layers command f.name)) old.tiles valid.distinct);
+            formed_kept (is_touched old.layers command name k) (tile_at old.tiles name k) tile k (valid.formed name k tile) (sym (found_left name k) ∙ e);
+        distinct = subst AreDistinct (sym same_tiles) (AllPairs-filter (λ a b. is_of b.name b.column a ≡ false) (λ f. not (is_touched old.layers command f.name f.column)) old.tiles valid.distinct);
       }
 
   pub next_follows : FollowsCommand old command next_of
@@ -81,7 +81,7 @@ module _ (old : Version) (command : Command) (valid : IsVersion old) (accepted :
     accepted_there = accepted;
     number = refl;
     layers = same_layers;
-    tiles = λ name k. found_left name k ∙ turned (is_touched old.layers command name) (tile_at old.tiles name k);
+    tiles = λ name k. found_left name k ∙ turned (is_touched old.layers command name k) (tile_at old.tiles name k);
     durable = refl;
   }
 

@@ -6,7 +6,7 @@ use Rattle.std.proofs.lemmas.Bool.{and_parts, eqb-true, false_from_ne_true}
 use Rattle.std.proofs.lemmas.Bool.Decides.{nat_tests}
 use Rattle.overlay_terms.specs.Column.{column_count}
 use Rattle.overlay_terms.specs.Layers.{Name, Layer}
-use Rattle.overlay_terms.specs.Commands.{place_of, stands_as_derived, version_max}
+use Rattle.overlay_terms.specs.Commands.{index_of, stands_as_derived, version_max}
 use Rattle.overlay_terms.specs.Histories.{Tile, Finished, Version, tile_at, is_formed}
 use Rattle.overlay_terms.specs.StoredTiles.{is_tile_before, AreStored}
 use Rattle.overlay_terms.proofs.NameLemmas.{same_name}
@@ -34,9 +34,9 @@ in_middle P (y ∷ xs) x ys all = in_middle P xs x ys (λ k d h. all (suc k) d (
 never_before : (layers : List Layer) (a b : Finished) → is_of b.name b.column a ≡ true → is_tile_before layers a b ≡ false
 never_before layers a b same =
     let parts = and_parts (bytes_eq a.name b.name) (a.column == b.column) same in
-    ap (λ n. nat_lt (place_of layers n) (place_of layers b.name) || (bytes_eq n b.name && nat_lt a.column b.column)) (same_name a.name b.name parts.0)
-    ∙ ap (λ k. nat_lt (place_of layers b.name) (place_of layers b.name) || (bytes_eq b.name b.name && nat_lt k b.column)) (eqb-true a.column b.column parts.1)
-    ∙ nor (place_of layers b.name) b.column (bytes_eq b.name b.name)
+    ap (λ n. nat_lt (index_of layers n) (index_of layers b.name) || (bytes_eq n b.name && nat_lt a.column b.column)) (same_name a.name b.name parts.0)
+    ∙ ap (λ k. nat_lt (index_of layers b.name) (index_of layers b.name) || (bytes_eq b.name b.name && nat_lt k b.column)) (eqb-true a.column b.column parts.1)
+    ∙ nor (index_of layers b.name) b.column (bytes_eq b.name b.name)
   where
     not_less : (n : ℕ) → nat_lt n n ≡ false
     not_less n = grind (arith, nat_tests)

@@ -5,7 +5,8 @@ use Rattle.std.proofs.Common.{zero, suc, ◌<◌, length, get_or, refl, ap, sym,
 use Rattle.std.proofs.lemmas.List.Quantifiers.{all_pairs_push}
 use Rattle.std.proofs.lemmas.Bool.{and_parts, both_ways, eqb-true}
 use Rattle.overlay_terms.specs.Layers.{Name, Layer}
-use Rattle.overlay_terms.specs.Commands.{Command, is_touched}
+use Rattle.overlay_terms.specs.Commands.{Command}
+use Rattle.overlay_terms.specs.Touched.{is_touched}
 use Rattle.overlay_terms.specs.Histories.{Tile, Finished, tile_at}
 use Rattle.overlay_terms.proofs.NameLemmas.{same_name}
 use Rattle.version_core.specs.Tiles.{is_of, untouched, AreDistinct}
@@ -15,16 +16,25 @@ none_either : (b : Bool) → ◌≡◌ {A = Option Tile} None (if b then None el
 none_either true = refl
 none_either false = refl
 
--- a tile of a name that the test does not keep is not found; others are found as before
-pub tile_at-kept : (keep : Name → Bool) (tiles : List Finished) (name : Name) (k : ℕ) → tile_at (filter (λ f. keep f.name) tiles) name k ≡ (if keep name then tile_at tiles name k else None)
-tile_at-kept keep [] name k = none_either (keep name)
-tile_at-kept keep (f ∷ fs) name k = split (bytes_eq f.name name && (f.column == k)) (keep f.name) (keep name) refl (λ e. ap keep (same_name f.name name (and_parts (bytes_eq f.name name) (f.column == k) e).0)) (tile_at-kept keep fs name k) where
-  split : (b t u : Bool) → (bytes_eq f.name name && (f.column == k)) ≡ b → (b ≡ true → t ≡ u) → tile_at (filter (λ g. keep g.name) fs) name k ≡ (if u then tile_at fs name k else None) →
-      tile_at (cond t (f ∷ filter (λ g. keep g.name) fs) (filter (λ g. keep g.name) fs)) name k ≡ (if u then (if b then Some f.tile else tile_at fs name k) else None)
-  split true true u at same next = ap (λ c. cond c (Some f.tile) (tile_at (filter (λ g. keep g.name) fs) name k)) at ∙ ap (λ c. cond c (Some f.tile) None) (same refl)
-  split true false u at same next = next ∙ ap (λ c. cond c (tile_at fs name k) None) (sym (same refl)) ∙ ap (λ c. cond c (Some f.tile) None) (same refl)
-  split false true u at same next = ap (λ c. cond c (Some f.tile) (tile_at (filter (λ g. keep g.name) fs) name k)) at ∙ next
-  split false false u at same next = next
+-- a tile that the test does not keep is not found; others are found as before
+pub tile_at-kept : (keep : Name → ℕ → Bool) (tiles : List Finished) (name : Name) (k : ℕ) → tile_at (filter (λ f. keep f.name f.column) tiles) name k ≡ (if keep name k then tile_at tiles name k else None)
+tile_at-kept keep [] name k = none_either (keep name k)
+tile_at-kept keep (f ∷ fs) name k =
+    split (bytes_eq f.name name && (f.column == k)) (keep f.name f.column) (keep name k) refl
+    (λ e.
+    let parts = and_parts (bytes_eq f.name name) (f.column == k) e in
+    ap (λ n. keep n f.column) (same_name f.name name parts.0) ∙ ap (keep name) (eqb-true f.column k parts.1))
+    (tile_at-kept keep fs name k)
+  where
+    rest : List Finished
+    rest = filter (λ (g : Finished). keep g.name g.column) fs
+
+    split : (b t u : Bool) → (bytes_eq f.name name && (f.column == k)) ≡ b → (b ≡ true → t ≡ u) → tile_at rest name k ≡ (if u then tile_at fs name k else None) →
+        tile_at (cond t (f ∷ rest) rest) name k ≡ (if u then (if b then Some f.tile else tile_at fs name k) else None)
+    split true true u at same next = ap (λ c. cond c (Some f.tile) (tile_at rest name k)) at ∙ ap (λ c. cond c (Some f.tile) None) (same refl)
+    split true false u at same next = next ∙ ap (λ c. cond c (tile_at fs name k) None) (sym (same refl)) ∙ ap (λ c. cond c (Some f.tile) None) (same refl)
+    split false true u at same next = ap (λ c. cond c (Some f.tile) (tile_at rest name k)) at ∙ next
+    split false false u at same next = next
 
 -- the name and the column of a tile that is found
 is_of_parts : (name : Name) (k : ℕ) (f : Finished) → is_of name k f ≡ true → (f.name ≡ name) × (f.column ≡ k)

@@ -2,7 +2,8 @@
 use Rattle.std.specs.Prelude.{◌≡◌, ℕ, ◌==◌, Bool, false, ◌&&◌, not, IsTrue, List, filter, Option, Some, bytes_eq}
 use Rattle.std.specs.List.{AllPairs}
 use Rattle.overlay_terms.specs.Layers.{Name, Layer}
-use Rattle.overlay_terms.specs.Commands.{Command, is_touched}
+use Rattle.overlay_terms.specs.Commands.{Command}
+use Rattle.overlay_terms.specs.Touched.{is_touched}
 use Rattle.overlay_terms.specs.Histories.{Finished, tile_at, is_formed}
 use Rattle.overlay_terms.specs.Histories as terms
 use Rattle.tile_build.specs.declared.tile.Tile.{Tile}
@@ -31,4 +32,4 @@ AreFormed tiles = (name : Name) (k : ℕ) (tile : terms.Tile) → tile_at tiles 
 
 -- the tiles that a command does not touch
 abbrev pub untouched : List Layer → Command → List Finished → List Finished
-untouched layers command tiles = filter (λ f. not (is_touched layers command f.name)) tiles
+untouched layers command tiles = filter (λ f. not (is_touched layers command f.name f.column)) tiles

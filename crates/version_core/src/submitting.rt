@@ -1,7 +1,7 @@
 //! What a command makes of a version.
 ghost use Rattle.std.specs.Prelude.{◌≡◌, ◌⊎◌, None, IfOk, IfErr, map};
 ghost use Rattle.std.specs.Option.{option_map};
-ghost use Rattle.overlay_terms.specs.Commands.{refusal_at};
+ghost use Rattle.overlay_terms.specs.Commands.{applied, refusal_at, refusal_of};
 ghost use Rattle.overlay_terms.specs.Histories.{FollowsCommand};
 ghost use Rattle.layer_book.specs.Command.{command};
 ghost use Rattle.layer_book.specs.Fault.{fault_of};
@@ -28,9 +28,9 @@ impl Version {
             Some(fault) => return Err(VersionFault::Layer(fault)),
             None => {}
         }
-        let layers = self.layers.apply(alloc, change)?;
+        let layers = self.layers.applied(alloc, change)?;
         prove!(layers.len() <= MAX_LAYERS);
-        let tiles = untouched(alloc, &self.tiles, &self.layers, change)?;
+        let tiles = untouched(alloc, &self.tiles, &self.layers, change, &layers)?;
         Ok(Version {
             number: self.number + 1,
             durable: self.durable,
@@ -59,12 +59,16 @@ fn untouched(
     tiles: &[FinishedTile],
     layers: &Layers,
     change: &Command,
+    after: &Layers,
 ) -> Result<Vec<FinishedTile>, AllocError>
+    requires accepted { refusal_of layers.now (command change.now) ≡ None }
+    requires made { after.now ≡ applied layers.now (command change.now) }
     ensures { IfOk result (λ kept. map finished kept.items ≡ untouched layers.now (command change.now) (map finished tiles.now)) }
 {
+    let touched = layers.touched_rows(alloc, change, after)?;
     let mut kept = Vec::new(alloc);
     for tile in tiles {
-        if !layers.is_touched(change, &tile.name) {
+        if !layers.is_touched(&touched, &tile.name, tile.column) {
             kept.push(tile.clone()?)?;
         }
     }

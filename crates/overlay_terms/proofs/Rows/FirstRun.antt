@@ -2,9 +2,9 @@
 use Rattle.std.proofs.Common.{◌≡◌, true, false, List, [], ◌∷◌, refl, map, length, codes}
 use Rattle.overlay_terms.specs.Plane.{segments_of, ring_step_count}
 use Rattle.overlay_terms.specs.Trees.{leaf, combine, intersection, base_bit, mask_bits, steps_value}
-use Rattle.overlay_terms.specs.Column.{columns}
 use Rattle.overlay_terms.specs.Layers.{Layer, value_of, answer_at, inside, outside, edge, steps_in_reach}
-use Rattle.overlay_terms.specs.Commands.{Command, put, define, AllAccepted, layers_after, touched_tiles}
+use Rattle.overlay_terms.specs.Commands.{Command, put, define, AllAccepted, layers_after}
+use Rattle.overlay_terms.specs.Touched.{touched_tiles}
 use Rattle.overlay_terms.proofs.Rows.Shared.{part, place, square, base_layer, made_layer}
 
 abbrev pub first_run : List Layer
@@ -21,8 +21,8 @@ each_command_is_accepted = (refl, (refl, (refl, tt)))
 the_commands_leave_three_layers : layers_after first_commands ≡ first_run
 the_commands_leave_three_layers = refl
 
-the_definition_leaves_seventeen_tiles_to_build : touched_tiles (base_layer (codes "A") (square 0 10 ∷ []) ∷ base_layer (codes "B") (square 5 15 ∷ []) ∷ []) (define (codes "I") (combine intersection (leaf (codes "A")) (leaf (codes "B")))) ≡ map (λ k. (codes "I", k)) columns
-the_definition_leaves_seventeen_tiles_to_build = refl
+the_definition_touches_no_tile_that_was_there : touched_tiles (base_layer (codes "A") (square 0 10 ∷ []) ∷ base_layer (codes "B") (square 5 15 ∷ []) ∷ []) (define (codes "I") (combine intersection (leaf (codes "A")) (leaf (codes "B")))) ≡ []
+the_definition_touches_no_tile_that_was_there = refl
 
 a_square_has_four_segments : length (segments_of (square 0 10 ∷ [])) ≡ 4
 a_square_has_four_segments = refl

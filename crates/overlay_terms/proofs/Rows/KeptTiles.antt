@@ -3,7 +3,8 @@ use Rattle.std.proofs.Common.{◌≡◌, true, false, [], ◌∷◌, refl, map, 
 use Rattle.overlay_terms.specs.Layers.{Marked, segments_in_reach}
 use Rattle.overlay_terms.specs.Tiles.{input_of}
 use Rattle.overlay_terms.specs.Trees.{leaf}
-use Rattle.overlay_terms.specs.Commands.{put, define, remove, applied, is_touched}
+use Rattle.overlay_terms.specs.Commands.{put, define, remove, applied}
+use Rattle.overlay_terms.specs.Touched.{is_touched}
 use Rattle.overlay_terms.specs.KeptLaws.{IsExact}
 use Rattle.overlay_terms.proofs.KeptHistories.{history_is_exact}
 use Rattle.overlay_terms.proofs.Rows.Shared.{square}
@@ -14,8 +15,11 @@ use Rattle.overlay_terms.proofs.Rows.TouchedTiles.{layers}
 a_put_leaves_what_does_not_reach_it : map (λ k. input_of (applied layers (put (codes "A") (square 1 9 ∷ []))) (codes "L") k) (8 ∷ 16 ∷ []) ≡ map (λ k. input_of layers (codes "L") k) (8 ∷ 16 ∷ [])
 a_put_leaves_what_does_not_reach_it = refl
 
-l_is_then_untouched : map (λ name. is_touched layers (put name []) (codes "L")) (codes "A" ∷ codes "B" ∷ codes "C" ∷ []) ≡ false ∷ true ∷ false ∷ []
+l_is_then_untouched : map (λ name. is_touched layers (put name []) (codes "L") 8) (codes "A" ∷ codes "B" ∷ codes "C" ∷ []) ≡ false ∷ true ∷ false ∷ []
 l_is_then_untouched = refl
+
+so_it_is_where_nothing_lies : map (is_touched layers (put (codes "B") []) (codes "L")) (7 ∷ 8 ∷ 9 ∷ []) ≡ false ∷ true ∷ false ∷ []
+so_it_is_where_nothing_lies = refl
 
 a_put_in_reach_changes_the_segments : map (λ (m : Marked). m.layer) (segments_in_reach (applied layers (put (codes "B") [])) (codes "L")) ≡ []
 a_put_in_reach_changes_the_segments = refl

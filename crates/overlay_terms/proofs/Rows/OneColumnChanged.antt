@@ -1,4 +1,4 @@
--- M is two squares in two columns, and N the same. The left square is made a little wider: one column has another input.
+-- M is two squares in two columns, and N the same. The left square is made a little wider: one column has another input, and one tile is touched.
 use Rattle.std.proofs.Common.{◌≡◌, ℕ, ℤ, pos, List, [], ◌∷◌, ◌++◌, refl, map, codes}
 use Rattle.std.specs.List.{range_with_len}
 use Rattle.overlay_terms.specs.Plane.{WholePoint}
@@ -7,6 +7,7 @@ use Rattle.overlay_terms.specs.Trees.{leaf, combine, intersection, base_bit}
 use Rattle.overlay_terms.specs.Layers.{Layer, Marked, steps_in_reach}
 use Rattle.overlay_terms.specs.Tiles.{Input, input_of}
 use Rattle.overlay_terms.specs.Commands.{put, define, applied}
+use Rattle.overlay_terms.specs.Touched.{touched_tiles}
 use Rattle.overlay_terms.proofs.Rows.Shared.{minus, square, rectangle, base_layer, same_layer}
 
 abbrev squares : ℕ → List (List WholePoint)
@@ -44,3 +45,12 @@ another_one_changes_the_steps_of_all = refl
 
 each_input_has_the_steps : map (λ (i : Input). i.steps) (inputs layers columns) ≡ map (λ _. record { bases = 1; definitions = leaf (base_bit 0) ∷ [] }) columns
 each_input_has_the_steps = refl
+
+the_put_touches_that_tile_alone : touched_tiles layers (put (codes "M") (squares 21)) ≡ (codes "N", 7) ∷ []
+the_put_touches_that_tile_alone = refl
+
+the_same_definition_touches_nothing : touched_tiles widened (define (codes "N") (leaf (codes "M"))) ≡ []
+the_same_definition_touches_nothing = refl
+
+the_other_one_touches_all_seventeen : touched_tiles widened (define (codes "N") (combine intersection (leaf (codes "M")) (leaf (codes "M")))) ≡ map (λ k. (codes "N", k)) columns
+the_other_one_touches_all_seventeen = refl

@@ -3,7 +3,7 @@ use Rattle.std.proofs.Common.{◌≡◌, ℕ, ◌+◌, ◌/◌, ◌%◌, Some, N
 use Rattle.std.specs.List.{range_with_len}
 use Rattle.overlay_terms.specs.Trees.{Tree, leaf, combine, intersection, union}
 use Rattle.overlay_terms.specs.Layers.{Name, Layer}
-use Rattle.overlay_terms.specs.Commands.{put, define, remove, unknown_layer, not_base, not_derived, later_layer, in_use, too_many_layers, refusal_of, place_of, applied}
+use Rattle.overlay_terms.specs.Commands.{put, define, remove, unknown_layer, not_base, not_derived, later_layer, in_use, too_many_layers, refusal_of, index_of, applied}
 use Rattle.overlay_terms.proofs.Rows.Shared.{square, base_layer}
 use Rattle.overlay_terms.proofs.Rows.FirstRun.{first_run}
 
@@ -85,5 +85,5 @@ thirty_one_layers_have_room = refl
 a_drop_makes_room : refusal_of (applied crowded (remove (codes "F07"))) (put (codes "X") []) ≡ None
 a_drop_makes_room = refl
 
-the_place_of_a_new_name_is_behind_all : map (place_of first_run) (codes "A" ∷ codes "I" ∷ codes "X" ∷ []) ≡ 0 ∷ 2 ∷ 3 ∷ []
+the_place_of_a_new_name_is_behind_all : map (index_of first_run) (codes "A" ∷ codes "I" ∷ codes "X" ∷ []) ≡ 0 ∷ 2 ∷ 3 ∷ []
 the_place_of_a_new_name_is_behind_all = refl

@@ -1,9 +1,9 @@
 -- After the first run the input of a tile of I is taken, and A is put anew: the tile is pending again, and its input is another one.
 use Rattle.std.proofs.Common.{◌≡◌, ℤ, pos, true, false, List, [], ◌∷◌, refl, map, codes}
-use Rattle.overlay_terms.specs.Column.{columns}
 use Rattle.overlay_terms.specs.Layers.{Marked}
 use Rattle.overlay_terms.specs.Tiles.{Input, input_of}
-use Rattle.overlay_terms.specs.Commands.{Command, put, applied, touched_layers, touched_tiles, is_touched}
+use Rattle.overlay_terms.specs.Commands.{Command, put, applied}
+use Rattle.overlay_terms.specs.Touched.{touched_tiles, is_touched}
 use Rattle.overlay_terms.proofs.Rows.Shared.{square, place, boundary_among}
 use Rattle.overlay_terms.proofs.Rows.FirstRun.{first_run}
 
@@ -20,13 +20,10 @@ the_input_that_was_taken = refl
 the_present_input_is_another_one : right_ends (input_of (applied first_run smaller) (codes "I") 8) ≡ pos 9 ∷ pos 9 ∷ pos 9 ∷ pos 0 ∷ pos 15 ∷ pos 15 ∷ pos 15 ∷ pos 5 ∷ []
 the_present_input_is_another_one = refl
 
-i_is_touched : touched_layers first_run smaller ≡ codes "I" ∷ []
-i_is_touched = refl
+that_tile_alone_is_touched : touched_tiles first_run smaller ≡ (codes "I", 8) ∷ []
+that_tile_alone_is_touched = refl
 
-in_all_seventeen_columns : touched_tiles first_run smaller ≡ map (λ k. (codes "I", k)) columns
-in_all_seventeen_columns = refl
-
-the_base_layers_have_no_tiles : map (is_touched first_run smaller) (codes "I" ∷ codes "A" ∷ codes "B" ∷ []) ≡ true ∷ false ∷ false ∷ []
+the_base_layers_have_no_tiles : map (λ name. is_touched first_run smaller name 8) (codes "I" ∷ codes "A" ∷ codes "B" ∷ []) ≡ true ∷ false ∷ false ∷ []
 the_base_layers_have_no_tiles = refl
 
 the_new_tile_is_smaller : boundary_among (place 5 5 ∷ place 5 9 ∷ place 9 5 ∷ place 9 9 ∷ []) (applied first_run smaller) (codes "I") 8 ≡ (place 5 5, place 5 9) ∷ (place 5 5, place 9 5) ∷ (place 5 9, place 9 9) ∷ (place 9 5, place 9 9) ∷ []

@@ -1,9 +1,10 @@
--- Which tiles a command makes pending, under definitions that name one another.
-use Rattle.std.proofs.Common.{◌≡◌, true, false, List, [], ◌∷◌, refl, map, length, codes}
+-- Which tiles a command touches, under definitions that name one another. All segments lie in column 8.
+use Rattle.std.proofs.Common.{◌≡◌, ℕ, true, false, List, [], ◌∷◌, ◌++◌, refl, map, reverse, codes}
 use Rattle.overlay_terms.specs.Column.{columns}
 use Rattle.overlay_terms.specs.Trees.{leaf, combine, intersection, union, difference, base_bit, definition}
 use Rattle.overlay_terms.specs.Layers.{Name, Layer, Marked, layers_in_reach, segments_in_reach, steps_in_reach}
-use Rattle.overlay_terms.specs.Commands.{put, define, remove, touched_layers, touched_tiles, reaches_name, derived_over}
+use Rattle.overlay_terms.specs.Commands.{put, define, remove}
+use Rattle.overlay_terms.specs.Touched.{touched_tiles, reaches_name, derived_over}
 use Rattle.overlay_terms.proofs.Rows.Shared.{square, base_layer, same_layer, made_layer}
 
 -- I is A & B, C stands alone, J is I | C, and L is B
@@ -36,32 +37,38 @@ numbers_count_what_is_in_reach = refl
 segments_carry_these_numbers : map (λ (m : Marked). m.layer) (segments_in_reach layers (codes "J")) ≡ 0 ∷ 0 ∷ 0 ∷ 0 ∷ 1 ∷ 1 ∷ 1 ∷ 1 ∷ 2 ∷ 2 ∷ 2 ∷ 2 ∷ []
 segments_carry_these_numbers = refl
 
-a_put_touches_what_stands_over_it : map (λ name. touched_layers layers (put name [])) (codes "A" ∷ codes "B" ∷ codes "C" ∷ []) ≡ (codes "I" ∷ codes "J" ∷ []) ∷ (codes "I" ∷ codes "J" ∷ codes "L" ∷ []) ∷ (codes "J" ∷ []) ∷ []
-a_put_touches_what_stands_over_it = refl
+abbrev in_all : Name → List (Name × ℕ)
+in_all name = map (λ k. (name, k)) columns
 
-a_new_base_layer_touches_nothing : touched_tiles layers (put (codes "X") []) ≡ []
+a_put_touches_what_stands_over_it_where_segments_change : map (λ name. touched_tiles layers (put name [])) (codes "A" ∷ codes "B" ∷ codes "C" ∷ []) ≡ ((codes "I", 8) ∷ (codes "J", 8) ∷ []) ∷ ((codes "I", 8) ∷ (codes "J", 8) ∷ (codes "L", 8) ∷ []) ∷ ((codes "J", 8) ∷ []) ∷ []
+a_put_touches_what_stands_over_it_where_segments_change = refl
+
+the_same_rings_touch_nothing : touched_tiles layers (put (codes "B") (square 5 15 ∷ [])) ≡ []
+the_same_rings_touch_nothing = refl
+
+the_order_of_segments_counts : touched_tiles layers (put (codes "C") (reverse (square 20 30) ∷ [])) ≡ (codes "J", 8) ∷ []
+the_order_of_segments_counts = refl
+
+a_new_base_layer_touches_nothing : touched_tiles layers (put (codes "X") (square 0 10 ∷ [])) ≡ []
 a_new_base_layer_touches_nothing = refl
 
-a_definition_touches_itself_and_what_stands_over_it : touched_layers layers (define (codes "I") (combine difference (leaf (codes "A")) (leaf (codes "B")))) ≡ codes "I" ∷ codes "J" ∷ []
-a_definition_touches_itself_and_what_stands_over_it = refl
+another_operation_touches_all_tiles_of_what_stands_over_it : touched_tiles layers (define (codes "I") (combine difference (leaf (codes "A")) (leaf (codes "B")))) ≡ in_all (codes "I") ++ in_all (codes "J")
+another_operation_touches_all_tiles_of_what_stands_over_it = refl
 
-a_definition_that_changes_nothing_touches_them_too : touched_layers layers (define (codes "I") (combine intersection (leaf (codes "A")) (leaf (codes "B")))) ≡ codes "I" ∷ codes "J" ∷ []
-a_definition_that_changes_nothing_touches_them_too = refl
+a_definition_that_changes_nothing_touches_nothing : touched_tiles layers (define (codes "I") (combine intersection (leaf (codes "A")) (leaf (codes "B")))) ≡ []
+a_definition_that_changes_nothing_touches_nothing = refl
 
-a_new_definition_touches_itself : touched_layers layers (define (codes "X") (leaf (codes "J"))) ≡ codes "X" ∷ []
-a_new_definition_touches_itself = refl
+another_base_layer_in_the_same_part_touches_where_segments_differ : touched_tiles layers (define (codes "L") (leaf (codes "A"))) ≡ (codes "L", 8) ∷ []
+another_base_layer_in_the_same_part_touches_where_segments_differ = refl
 
-in_each_column : touched_tiles layers (define (codes "X") (leaf (codes "J"))) ≡ map (λ k. (codes "X", k)) columns
-in_each_column = refl
+a_new_definition_touches_nothing : touched_tiles layers (define (codes "X") (leaf (codes "J"))) ≡ []
+a_new_definition_touches_nothing = refl
 
-a_drop_touches_what_is_dropped : touched_layers layers (remove (codes "L")) ≡ codes "L" ∷ []
-a_drop_touches_what_is_dropped = refl
+a_drop_touches_all_tiles_of_what_is_dropped : touched_tiles layers (remove (codes "L")) ≡ in_all (codes "L")
+a_drop_touches_all_tiles_of_what_is_dropped = refl
 
-a_base_layer_is_dropped_without_tiles : touched_layers layers (remove (codes "C")) ≡ []
+a_base_layer_is_dropped_without_tiles : touched_tiles (layers ++ base_layer (codes "D") (square 0 10 ∷ []) ∷ []) (remove (codes "D")) ≡ []
 a_base_layer_is_dropped_without_tiles = refl
-
-two_layers_have_34_tiles : length (touched_tiles layers (put (codes "A") [])) ≡ 34
-two_layers_have_34_tiles = refl
 
 j_reaches_a_through_i : map (reaches_name layers (codes "J")) (codes "A" ∷ codes "I" ∷ codes "J" ∷ codes "L" ∷ []) ≡ true ∷ true ∷ true ∷ false ∷ []
 j_reaches_a_through_i = refl

@@ -2,7 +2,7 @@ use Rattle.std.proofs.Common.{ap, sym, ◌∙◌, map}
 use Rattle.std.specs.List.{list_any}
 use Rattle.std.proofs.lemmas.Bool.{both_ways}
 use Rattle.arrange.specs.Marked.{marked_of}
-use Rattle.arrange.specs.SameInput.{same_segment}
+use Rattle.overlay_terms.specs.SameInput.{same_segment}
 use Rattle.arrange.specs.declared.unit.Unit.{Unit}
 use Rattle.arrange.proofs.UnitListLemmas.{grown_by_push, pushed_listed, test_by_listed, listed_by_test}
 use Rattle.arrange.proofs.finding_units.add_unit.Goals as goal

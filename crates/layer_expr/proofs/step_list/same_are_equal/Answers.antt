@@ -1,4 +1,4 @@
-use Rattle.layer_expr.specs.SameSteps.{same_steps-Decides}
+use Rattle.overlay_terms.specs.SameInput.{same_steps-Decides}
 use Rattle.layer_expr.proofs.step_list.same_are_equal.Goals as goal
 
 pub returns : goal.returns

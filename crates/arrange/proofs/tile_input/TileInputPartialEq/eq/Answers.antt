@@ -2,7 +2,7 @@ use Rattle.std.proofs.Common.{◌≡◌, Bool, ◌&&◌, map, sym, ◌∙◌}
 use Rattle.std.specs.Cmp.Derive.Mapped.{pointwise-map}
 use Rattle.std.specs.Cmp.Lexicographic.{pointwise}
 use Rattle.arrange.specs.Marked.{marked_of}
-use Rattle.arrange.specs.SameInput.{same_marked}
+use Rattle.overlay_terms.specs.SameInput.{same_marked}
 use Rattle.arrange.proofs.tile_input.TileInputPartialEq.eq.Goals as goal
 
 both : (x y z a b d : Bool) → x ≡ a → y ≡ b → z ≡ d → (x && y && z) ≡ (a && b && d)

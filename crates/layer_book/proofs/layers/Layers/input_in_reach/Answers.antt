@@ -1,38 +1,13 @@
-use Rattle.std.proofs.Common.{◌∙◌, ap, map, option_copied}
-use Rattle.overlay_terms.proofs.KeptDerived.{derived_stands}
-use Rattle.layer_expr.specs.StepList.{reached}
-use Rattle.layer_book.proofs.InputReach.{few_marked, ordered_marked, last_marked, bases_counted, input_ok}
+use Rattle.std.proofs.Common.{◌∙◌, ap, map}
+use Rattle.layer_book.proofs.InputReach.{bases_counted, input_ok}
 use Rattle.layer_book.proofs.layers.Layers.input_in_reach.Goals as goal
 
-pub reach-wanted-requires : goal.reach-wanted-requires
-reach-wanted-requires c = derived_stands c.args.self.now c.args.name.now c.requires
-
-pub of-requires-clause-few : goal.of-requires-clause-few
-of-requires-clause-few c =
-    few_marked (λ layer. (layer.0.now, option_copied layer.1)) c.args.self.now c.args.name.now c.reach-wanted.result c.deref.result.now
-    (record { book = c.reach-wanted.ensures.valid; is_derived = c.requires; exactly = c.reach-wanted.ensures.exactly })
-    (ap reached c.deref.ensures.value ∙ c.in_ok-layers.ensures)
-
-pub of-requires-clause-ordered : goal.of-requires-clause-ordered
-of-requires-clause-ordered c =
-    ordered_marked c.args.self.now c.args.name.now c.reach-wanted.result (reached c.deref.result.now)
-    (record { book = c.reach-wanted.ensures.valid; is_derived = c.requires; exactly = c.reach-wanted.ensures.exactly })
-    (ap reached c.deref.ensures.value ∙ c.in_ok-layers.ensures)
-
-pub of-requires-clause-reaches : goal.of-requires-clause-reaches
-of-requires-clause-reaches c =
-    last_marked c.args.self.now c.args.name.now c.reach-wanted.result (reached c.deref.result.now)
-    (record { book = c.reach-wanted.ensures.valid; is_derived = c.requires; exactly = c.reach-wanted.ensures.exactly })
-    (ap reached c.deref.ensures.value ∙ c.in_ok-layers.ensures)
-
-pub of-requires-2 : goal.of-requires-2
-of-requires-2 c =
-    bases_counted (λ b. b.now) c.args.self.now c.args.name.now c.reach-wanted.result c.deref-2.result.now (reached c.deref.result.now) c.in_ok-steps.steps
-    (record { book = c.reach-wanted.ensures.valid; is_derived = c.requires; exactly = c.reach-wanted.ensures.exactly })
-    (ap (map (λ b. b.now)) c.deref-2.ensures.value ∙ c.in_ok-bases.ensures) (ap reached c.deref.ensures.value ∙ c.in_ok-layers.ensures) c.in_ok-steps.ensures.steps
+pub of-requires : goal.of-requires
+of-requires c =
+    bases_counted (λ b. b.now) c.args.self.now c.args.name.now c.deref.result.now c.in_ok-steps.steps
+    (ap (map (λ b. b.now)) c.deref.ensures.value ∙ c.in_ok-bases.ensures) c.in_ok-steps.ensures
 
 pub returns : goal.returns
 returns c =
-    input_ok c.args.self.now c.args.name.now c.reach-wanted.result c.args.column (map (λ b. b.now) c.deref-2.result.now) (reached c.deref.result.now) c.in_ok-steps.steps c.of-2.result
-    (record { book = c.reach-wanted.ensures.valid; is_derived = c.requires; exactly = c.reach-wanted.ensures.exactly })
-    (ap (map (λ b. b.now)) c.deref-2.ensures.value ∙ c.in_ok-bases.ensures) (ap reached c.deref.ensures.value ∙ c.in_ok-layers.ensures) c.in_ok-steps.ensures.steps c.of-2.ensures
+    input_ok c.args.self.now c.args.name.now c.args.column (map (λ b. b.now) c.deref.result.now) c.in_ok-steps.steps c.of.result
+    (ap (map (λ b. b.now)) c.deref.ensures.value ∙ c.in_ok-bases.ensures) c.in_ok-steps.ensures c.of.ensures

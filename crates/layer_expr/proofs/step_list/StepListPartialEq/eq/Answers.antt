@@ -2,7 +2,7 @@ use Rattle.std.proofs.Common.{◌&&◌, map, sym, ap, ◌∙◌, eq-eqb}
 use Rattle.std.specs.Cmp.Derive.Mapped.{pointwise-map}
 use Rattle.std.specs.Cmp.Lexicographic.{pointwise}
 use Rattle.layer_expr.specs.Steps.{step_tree}
-use Rattle.layer_expr.specs.SameSteps.{same_definition}
+use Rattle.overlay_terms.specs.SameInput.{same_definition}
 use Rattle.layer_expr.proofs.step_list.StepListPartialEq.eq.Goals as goal
 
 pub returns-then-self-other : goal.returns-then-self-other

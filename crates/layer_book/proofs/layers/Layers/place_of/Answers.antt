@@ -1,6 +1,0 @@
-use Rattle.std.proofs.Common.{sym, ◌∙◌}
-use Rattle.layer_book.proofs.Lookups.{absent_place}
-use Rattle.layer_book.proofs.layers.Layers.place_of.Goals as goal
-
-pub returns-in-None : goal.returns-in-None
-returns-in-None c = c.len.ensures.value ∙ sym (absent_place c.args.self.now c.args.name.now (sym c.in-None.ensures.known))

@@ -1,0 +1,19 @@
+use Rattle.std.proofs.Common.{arith, sym}
+use Rattle.layer_book.specs.Command.{command}
+use Rattle.layer_book.specs.Touching.{touched_columns}
+use Rattle.layer_book.proofs.Lines.{none_there}
+use Rattle.layer_book.proofs.TouchedLemmas.{rows_more, rows_whole}
+use Rattle.layer_book.proofs.layers.Layers.touched_rows.Goals as goal
+use Rattle.layer_book.proofs.layers.Layers.touched_rows.Goals.{in-Some+in_ok-row+in_ok-push, in_default}
+
+pub loop-i-preserved : goal.loop-i-preserved
+loop-i-preserved c =
+    let layers = c.args.self.now in
+    elim c.match-at.branch [
+      | in-Some+in_ok-row+in_ok-push w ↦
+          rw w.rows-is (rows_more (touched_columns layers (command c.args.change.now)) layers c.loop-i.i _ c.loop-i.rows.items _ w.in_ok-row.row (sym w.in-Some.ensures) c.loop-i.invariant w.in_ok-row.ensures w.in_ok-push.ensures.items)
+      | in_default w ↦ absurd (none_there layers c.loop-i.i (omega (arith, c.len-i-end.ensures.value)) w.in_default.ensures)
+    ]
+
+pub returns : goal.returns
+returns c = rows_whole (touched_columns c.args.self.now (command c.args.change.now)) c.args.self.now c.loop-i.i c.loop-i.rows.items (omega (arith, c.len-i-end.ensures.value)) c.loop-i.invariant

@@ -1,0 +1,20 @@
+-- The tiles that a command touches, as a table: a row for each layer, with a mark for each column.
+use Rattle.std.specs.Prelude.{ℕ, Bool, List, map}
+use Rattle.overlay_terms.specs.Plane.{WholePoint}
+use Rattle.overlay_terms.specs.Column.{columns}
+use Rattle.overlay_terms.specs.Layers.{Name, Layer, Marked, marked_segments}
+use Rattle.overlay_terms.specs.Commands.{Command}
+use Rattle.overlay_terms.specs.Touched.{is_touched}
+use Rattle.arrange.specs.Marked.{kept_in}
+
+-- in which columns a command touches the tile of a layer
+abbrev pub touched_columns : List Layer → Command → Name → List Bool
+touched_columns layers command name = map (is_touched layers command name) columns
+
+-- the same of each layer
+abbrev pub touched_rows : List Layer → Command → List (List Bool)
+touched_rows layers command = map (λ (layer : Layer). touched_columns layers command layer.name) layers
+
+-- the segments of base layers that have a point in a column, with the layers' numbers
+abbrev pub marked_in : ℕ → List (List (List WholePoint)) → List Marked
+marked_in column bases = kept_in column (marked_segments bases)
