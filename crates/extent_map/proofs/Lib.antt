@@ -1,3 +1,4 @@
+mod Exclusive
 mod Gaps
 mod Plans
 mod Rows

@@ -40,3 +40,7 @@ pub record IsFull (taken : List Extent) (limit : ℕ) (lengths : List ℕ) : Typ
   pub are : lengths ≡ before ++ wanted ∷ behind
   pub planned : IsPlanned taken limit before runs
   pub none : NoFit (taken_with taken runs) limit (blocks_for wanted)
+
+-- where each length has found its run, none has found none
+abbrev pub PlannedIsNotFull : Type 0
+PlannedIsNotFull = (taken : List Extent) (limit : ℕ) (lengths : List ℕ) (runs : List Extent) → IsPlanned taken limit lengths runs → IsFull taken limit lengths → ⊥

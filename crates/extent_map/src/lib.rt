@@ -5,3 +5,4 @@ pub mod extent;
 pub mod extents;
 pub mod fault;
 mod first_fit;
+pub mod laws;
