@@ -1,17 +1,18 @@
 -- A script as lines.
-use Rattle.std.specs.Prelude.{ℕ, ◌==◌, nat_le, Bool, false, not, ◌||◌, List, [], ◌∷◌, ◌++◌, map, length, if◌then◌else◌}
+use Rattle.std.specs.Prelude.{ℕ, ◌+◌, ◌==◌, nat_le, Bool, false, not, ◌||◌, List, [], ◌∷◌, ◌++◌, map, length, if◌then◌else◌}
 use Rattle.std.specs.List.{list_all}
 
--- the most bytes of a line, without its ending, and of a script
+-- the most bytes of a line, without its ending
 abbrev pub line_max : ℕ
 line_max = 65536
 
+-- the most bytes of a script
 unfoldable pub script_max : ℕ
 script_max = 16777216
 
 -- as many bytes of a line, a CR with them, as tell whether it is too long
 unfoldable pub line_room : ℕ
-line_room = 65538
+line_room = line_max + 2
 
 -- a byte before the first of some pieces
 abbrev pub onto_first : ℕ → List (List ℕ) → List (List ℕ)

@@ -5,14 +5,14 @@ pub mod fault;
 pub mod fault_text;
 pub mod laws;
 pub mod line_buffer;
-pub mod number;
+mod number;
 pub mod reading;
 pub mod reply;
 pub mod reply_writer;
 pub mod request;
 pub mod script_reader;
 pub mod session_end;
-pub mod words;
+mod words;
 
 pub use fault::CommandFault;
 pub use line_buffer::LineBuffer;

@@ -2,11 +2,12 @@
 ghost use Rattle.std.specs.Prelude.{◌≡◌, ◌==◌, [], ◌∷◌, ◌++◌, length, take, IfOk};
 ghost use Rattle.script_form.specs.Lines.{line_room, without_cr};
 
+use crate::request::LINE_MAX;
 use std::alloc::{AllocError, Global};
 use std::marker::Model;
 
 /// The longest line, a CR, and one byte more.
-const LINE_ROOM: usize = 65_538;
+const LINE_ROOM: usize = LINE_MAX + 2;
 
 /// The bytes behind the last line feed, in room that is had once. A line that is too long is cut off
 /// where no further byte can make it another line.
