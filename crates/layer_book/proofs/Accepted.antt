@@ -1,8 +1,8 @@
 -- What an accepted command leaves is orderly, and not too many.
 use Rattle.std.proofs.Common.{◌≡◌, ℕ, ◌+◌, ◌≤◌, Bool, true, false, not, cond, ◌||◌, ◌&&◌, nat_lt, nat_le, List, [], ◌∷◌, ◌++◌, length, map, Option, Some, None, refl, ap, sym, ◌∙◌, subst, arith, bytes_eq, length-append, leb-false, lt-ltb}
-use Rattle.std.specs.Prelude.{All}
+use Rattle.std.specs.Prelude.{All, IsTrue}
 use Rattle.std.proofs.lemmas.List.{length-map}
-use Rattle.std.specs.List.{list_any, list_all}
+use Rattle.std.specs.List.{list_any, list_all, AllByRecursion}
 use Rattle.std.proofs.lemmas.Bool.{both_ways, and_parts, and_from, or_parts, or_from, false_from_ne_true}
 use Rattle.std.proofs.lemmas.Bool.Decides.{nat_tests}
 use Rattle.overlay_terms.specs.Plane.{WholePoint}
@@ -11,6 +11,7 @@ use Rattle.overlay_terms.specs.Layers.{Name, Content, base, derived, Layer}
 use Rattle.overlay_terms.specs.Commands.{Refusal, refusal_of, index_of, stands, uses, or_else, when, is_crowded, refusal_of_put, refusal_of_use, refusal_of_uses, refusal_of_define, refusal_of_remove, stands_as_base, stands_as_derived, with_content, layers_max, unknown_layer, later_layer, not_base, not_derived, in_use, too_many_layers}
 use Rattle.overlay_terms.specs.Orderly.{used_names, is_among, is_orderly_after, IsOrderly}
 use Rattle.overlay_terms.specs.InputLaws.{IsRing}
+use Rattle.layer_expr.specs.Name.{is_name}
 use Rattle.layer_book.specs.Layer.{others, keeping, HasRings, IsBook}
 use Rattle.layer_book.proofs.Names.{same_name, equal_names}
 use Rattle.layer_book.proofs.Order.{IsHead, head_of, head_from, or_false, apart, among-push, replaced_absent}
@@ -138,10 +139,40 @@ few_after layers name new few room = split (stands layers name) room where
   split true room = subst (λ n. n ≤ layers_max) (sym (length-map layers (replaced name new))) few
   split false room = rw (length-append layers (record { name = name; content = new } ∷ [])) (omega (arith, leb-false _ _ room))
 
-put_book : (layers : List Layer) (name : Name) (rings : List (List WholePoint)) → All IsRing rings → IsBook layers → refusal_of_put layers name ≡ None → IsBook (with_content layers name (base rings))
-put_book layers name rings own book h =
+-- each layer stands under a name
+abbrev AreNamed : List Layer → Type 0
+AreNamed layers = AllByRecursion (λ layer. IsTrue (is_name layer.name)) layers
+
+replaced_named : (layers : List Layer) (name : Name) (new : Content) → IsTrue (is_name name) → AreNamed layers → AreNamed (map (replaced name new) layers)
+replaced_named [] name new own all = tt
+replaced_named (layer ∷ layers) name new own all =
+    (split (bytes_eq layer.name name), replaced_named layers name new own all.1)
+  where
+    split : (b : Bool) → IsTrue (is_name (cond b (record { name = name; content = new }) layer).name)
+    split true = own
+    split false = all.0
+
+appended_named : (layers : List Layer) (name : Name) (new : Content) → IsTrue (is_name name) → AreNamed layers → AreNamed (layers ++ record { name = name; content = new } ∷ [])
+appended_named [] name new own all = (own, tt)
+appended_named (layer ∷ layers) name new own all = (all.0, appended_named layers name new own all.1)
+
+with_content_named : (layers : List Layer) (name : Name) (new : Content) → IsTrue (is_name name) → AreNamed layers → AreNamed (with_content layers name new)
+with_content_named layers name new own all = split (stands layers name) where
+  split : (b : Bool) → AreNamed (cond b (map (replaced name new) layers) (layers ++ record { name = name; content = new } ∷ []))
+  split true = replaced_named layers name new own all
+  split false = appended_named layers name new own all
+
+others_named : (layers : List Layer) (name : Name) → AreNamed layers → AreNamed (others layers name)
+others_named [] name all = tt
+others_named (layer ∷ layers) name all = split (bytes_eq layer.name name) (others_named layers name all.1) where
+  split : (b : Bool) → AreNamed (others layers name) → AreNamed (cond (not b) (layer ∷ others layers name) (others layers name))
+  split true rest = rest
+  split false rest = (all.0, rest)
+
+put_book : (layers : List Layer) (name : Name) (rings : List (List WholePoint)) → IsTrue (is_name name) → All IsRing rings → IsBook layers → refusal_of_put layers name ≡ None → IsBook (with_content layers name (base rings))
+put_book layers name rings is own book h =
     let parts = neither (when (stands_as_derived layers name) not_base) (when (is_crowded layers name) too_many_layers) h in
-    record { orderly = with_content_orderly layers name (base rings) book.orderly refl; few = few_after layers name (base rings) book.few (no_reason _ _ parts.1); rings = with_content_rings layers name (base rings) own book.rings }
+    record { orderly = with_content_orderly layers name (base rings) book.orderly refl; few = few_after layers name (base rings) book.few (no_reason _ _ parts.1); named = with_content_named layers name (base rings) is book.named; rings = with_content_rings layers name (base rings) own book.rings }
 
 usable : (layers : List Layer) (name : Name) (names : List Name) → refusal_of_uses layers name names ≡ None → list_all (is_usable [] layers name) names ≡ true
 usable layers name [] h = refl
@@ -151,17 +182,17 @@ usable layers name (used ∷ names) h =
     let before = leb-false _ _ (no_reason _ _ here.1) in
     and_from _ _ (lt-ltb _ _ before) (usable layers name names parts.1)
 
-define_book : (layers : List Layer) (name : Name) (expression : Tree Name) → IsBook layers → refusal_of_define layers name expression ≡ None → IsBook (with_content layers name (derived expression))
-define_book layers name expression book h =
+define_book : (layers : List Layer) (name : Name) (expression : Tree Name) → IsTrue (is_name name) → IsBook layers → refusal_of_define layers name expression ≡ None → IsBook (with_content layers name (derived expression))
+define_book layers name expression is book h =
     let parts = neither (when (stands_as_base layers name) not_derived) (or_else (refusal_of_uses layers name (leaves expression)) (when (is_crowded layers name) too_many_layers)) h in
     let others = neither (refusal_of_uses layers name (leaves expression)) (when (is_crowded layers name) too_many_layers) parts.1 in
-    record { orderly = with_content_orderly layers name (derived expression) book.orderly (usable layers name (leaves expression) others.0); few = few_after layers name (derived expression) book.few (no_reason _ _ others.1); rings = with_content_rings layers name (derived expression) tt book.rings }
+    record { orderly = with_content_orderly layers name (derived expression) book.orderly (usable layers name (leaves expression) others.0); few = few_after layers name (derived expression) book.few (no_reason _ _ others.1); named = with_content_named layers name (derived expression) is book.named; rings = with_content_rings layers name (derived expression) tt book.rings }
 
 pub remove_book : (layers : List Layer) (name : Name) → IsBook layers → refusal_of_remove layers name ≡ None → IsBook (others layers name)
 remove_book layers name book h =
     let parts = neither (when (not (stands layers name)) unknown_layer) (when (list_any (λ layer. uses name layer.content) layers) in_use) h in
-    record { orderly = others_orderly [] [] layers name (λ n other. refl) book.orderly (no_reason _ _ parts.1); few = omega (arith, length-others layers name, book.few); rings = others_rings layers name book.rings }
+    record { orderly = others_orderly [] [] layers name (λ n other. refl) book.orderly (no_reason _ _ parts.1); few = omega (arith, length-others layers name, book.few); named = others_named layers name book.named; rings = others_rings layers name book.rings }
 
-pub kept_book : (layers : List Layer) (name : Name) (new : Content) → HasRings new → IsBook layers → refusal_of layers (keeping name new) ≡ None → IsBook (with_content layers name new)
-kept_book layers name (base rings) own = put_book layers name rings own
-kept_book layers name (derived expression) own = define_book layers name expression
+pub kept_book : (layers : List Layer) (name : Name) (new : Content) → IsTrue (is_name name) → HasRings new → IsBook layers → refusal_of layers (keeping name new) ≡ None → IsBook (with_content layers name new)
+kept_book layers name (base rings) is own = put_book layers name rings is own
+kept_book layers name (derived expression) is own = define_book layers name expression is

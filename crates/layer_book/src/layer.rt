@@ -1,11 +1,12 @@
 //! One layer.
-ghost use Rattle.std.specs.Prelude.{◌≡◌};
+ghost use Rattle.std.specs.Prelude.{◌≡◌, IsTrue};
 ghost use Rattle.std.specs.List.{list_any};
 ghost use Rattle.overlay_terms.specs.Commands.{is_derived, uses};
 ghost use Rattle.overlay_terms.specs.Trees.{leaves};
 ghost use Rattle.std.specs.Str.{bytes_eq};
 ghost use Rattle.layer_book.specs.Layer.{content, HasRings};
 ghost use Rattle.layer_expr.specs.Expr.{tree};
+ghost use Rattle.layer_expr.specs.Name.{is_name};
 
 use layer_expr::expr::{Expr, Node};
 use layer_expr::name::Name;
@@ -32,11 +33,13 @@ impl Clone for Layer {
 }
 
 impl Layer {
-    /// Says of a layer what is true of each: the rings that it has are closed and in range. The call
-    /// does nothing.
-    pub(crate) fn known(&self)
-        ensures { HasRings (content self.now) }
+    /// Says of a layer under a name what is true of each: the name is one, and the rings that the
+    /// layer has are closed and in range. The call does nothing.
+    pub(crate) fn known(&self, name: &Name)
+        ensures name { IsTrue (is_name name.now) }
+        ensures rings { HasRings (content self.now) }
     {
+        name.bytes();
         match self {
             Layer::Base(rings) => {
                 rings.rings();
@@ -70,10 +73,6 @@ fn node_uses(node: &Node, name: &Name) -> bool
 {
     match node {
         Node::Leaf(used) => used == name,
-        Node::Combine(_, left, right) => {
-            let on_left = node_uses(left, name);
-            let on_right = node_uses(right, name);
-            on_left | on_right
-        }
+        Node::Combine(_, left, right) => { node_uses(left, name) || node_uses(right, name) }
     }
 }

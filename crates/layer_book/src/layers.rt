@@ -103,7 +103,7 @@ impl Layers {
         requires { refusal_of self.now (keeping name.now (content layer)) ≡ None }
         ensures { IfOk result (λ layers. layers ≡ with_content self.now name.now (content layer)) }
     {
-        layer.known();
+        layer.known(name);
         let mut map = copied(alloc, &self.map)?;
         map.insert(name.clone()?, layer)?;
         Ok(Layers { map })

@@ -18,3 +18,10 @@ pub mod reach;
 mod tests;
 pub mod touching;
 pub mod wanted_layers;
+
+pub use applying::MAX_LAYERS;
+pub use command::Command;
+pub use direct_answer::Place;
+pub use fault::LayerFault;
+pub use layer::Layer;
+pub use layers::Layers;

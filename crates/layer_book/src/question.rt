@@ -10,6 +10,7 @@ ghost use Rattle.layer_expr.specs.Expr.{tree};
 ghost use Rattle.layer_book.specs.Layer.{content, IsBook};
 ghost use Rattle.layer_book.specs.Question.{answers, content_answer, content_at, if_wanted, labelled, wanted_layers};
 
+use crate::applying::MAX_LAYERS;
 use crate::layer::Layer;
 use crate::layers::Layers;
 use exact_point::point::HPoint;
@@ -27,11 +28,16 @@ pub enum Question {
 
 impl Layers {
     /// The answer of each layer, by its index. One that is not wanted counts as a layer of no rings.
-    pub fn answers(&self, question: Question, wanted: &[bool; 32], point: &HPoint) -> [bool; 32]
+    pub fn answers(
+        &self,
+        question: Question,
+        wanted: &[bool; MAX_LAYERS],
+        point: &HPoint,
+    ) -> [bool; MAX_LAYERS]
         ensures value { labelled self.now result ≡ answers question (wanted_layers wanted.now self.now) (place point.now) }
         ensures valid { IsBook self.now }
     {
-        let mut known = [false; 32];
+        let mut known = [false; MAX_LAYERS];
         for i in 0..self.len() {
             known[i] = self.answer_at(question, i, wanted[i], &known[..i], point);
         }
@@ -87,9 +93,9 @@ impl Layers {
                 let l = self.node_inside(left, known);
                 let r = self.node_inside(right, known);
                 match operation {
-                    Operation::Intersection => l & r,
-                    Operation::Union => l | r,
-                    Operation::Difference => l & !r,
+                    Operation::Intersection => l && r,
+                    Operation::Union => l || r,
+                    Operation::Difference => l && !r,
                     Operation::SymDifference => l ^ r,
                 }
             }
@@ -103,9 +109,7 @@ impl Layers {
         match node {
             Node::Leaf(used) => self.known_of(used, known),
             Node::Combine(_, left, right) => {
-                let l = self.node_edge(left, known);
-                let r = self.node_edge(right, known);
-                l | r
+                self.node_edge(left, known) || self.node_edge(right, known)
             }
         }
     }

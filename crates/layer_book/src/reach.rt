@@ -8,6 +8,7 @@ ghost use Rattle.layer_expr.specs.Expr.{tree};
 ghost use Rattle.layer_book.specs.Layer.{IsBook};
 ghost use Rattle.layer_book.specs.Question.{at_index, content_at, is_wanted, marked, marked_layers, IsClosed};
 
+use crate::applying::MAX_LAYERS;
 use crate::layer::Layer;
 use crate::layers::Layers;
 use layer_expr::expr::Node;
@@ -15,16 +16,16 @@ use layer_expr::name::Name;
 
 impl Layers {
     /// The layers that a layer reaches, by their indices: itself, what it names, what those name.
-    pub fn reach(&self, name: &Name) -> [bool; 32]
+    pub fn reach(&self, name: &Name) -> [bool; MAX_LAYERS]
         requires { stands self.now name.now ≡ true }
         ensures asked { is_wanted self.now result name.now ≡ true }
         ensures closed { IsClosed self.now result }
-        ensures room { length result ≡ 32 }
+        ensures room { length result ≡ MAX_LAYERS }
         // Nothing else is marked.
         ensures exactly { marked_layers result self.now ≡ layers_in_reach self.now name.now }
         ensures valid { IsBook self.now }
     {
-        let mut wanted = [false; 32];
+        let mut wanted = [false; MAX_LAYERS];
         mark(&mut wanted, self.index_of(name));
         for i in (0..self.len()).rev() {
             self.mark_used(i, &mut wanted);
@@ -33,8 +34,8 @@ impl Layers {
     }
 
     /// Marks what a layer names, if it is marked itself.
-    fn mark_used(&self, i: usize, wanted: &mut [bool; 32])
-        requires { i < 32 }
+    fn mark_used(&self, i: usize, wanted: &mut [bool; MAX_LAYERS])
+        requires { i < MAX_LAYERS }
         ensures { wanted.new ≡ (if at_index wanted.old i then marked self.now wanted.old (used_names (content_at self.now i)) else wanted.old) }
     {
         if !wanted[i] {
@@ -46,7 +47,7 @@ impl Layers {
     }
 
     /// Marks the names below a node.
-    fn mark_names(&self, node: &Node, wanted: &mut [bool; 32])
+    fn mark_names(&self, node: &Node, wanted: &mut [bool; MAX_LAYERS])
         ensures { wanted.new ≡ marked self.now wanted.old (leaves (tree node.now)) }
     {
         match node {
@@ -59,7 +60,7 @@ impl Layers {
     }
 }
 
-fn mark(wanted: &mut [bool; 32], index: usize)
+fn mark(wanted: &mut [bool; MAX_LAYERS], index: usize)
     ensures { wanted.new ≡ slice_set wanted.old index true }
 {
     if index < wanted.len() {

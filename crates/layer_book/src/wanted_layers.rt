@@ -5,6 +5,7 @@ ghost use Rattle.layer_expr.specs.StepList.{reached, reached_of};
 ghost use Rattle.layer_book.specs.Layer.{content, named_layer, rings_in};
 ghost use Rattle.layer_book.specs.Question.{marked_layers};
 
+use crate::applying::MAX_LAYERS;
 use crate::layer::Layer;
 use crate::layers::Layers;
 use layer_expr::expr::Expr;
@@ -17,7 +18,7 @@ impl Layers {
     pub fn wanted_bases<'a>(
         &'a self,
         alloc: Global,
-        wanted: &[bool; 32],
+        wanted: &[bool; MAX_LAYERS],
     ) -> Result<Vec<&'a BaseLayer>, AllocError>
         ensures { IfOk result (λ bases. map (λ b. b.now) bases.items ≡ map (λ b. b.1) (filter_map base_of (marked_layers wanted.now self.now))) }
     {
@@ -36,7 +37,7 @@ impl Layers {
     pub fn wanted_layers<'a>(
         &'a self,
         alloc: Global,
-        wanted: &[bool; 32],
+        wanted: &[bool; MAX_LAYERS],
     ) -> Result<Vec<(&'a Name, Option<&'a Expr>)>, AllocError>
         ensures { IfOk result (λ layers. reached layers.items ≡ map reached_of (marked_layers wanted.now self.now)) }
     {

@@ -1,6 +1,6 @@
 -- What a finished tile tells of a point that is on no segment in reach.
 use Rattle.std.specs.Prelude.{◌≡◌, ℕ, ℤ, pos, ◌*ℤ◌, ◌≤ℤ◌, ◌<◌, int_le, int_lt, ◌+◌, Bool, false, not, IsTrue, List, Option, Some, None, IfSome}
-use Rattle.std.proofs.Common.{refl, ap, sym, subst, arith}
+use Rattle.std.proofs.Common.{refl, ap, sym, ◌∙◌, subst, arith}
 use Rattle.std.proofs.lemmas.Int.{ints}
 use Rattle.std.proofs.lemmas.Bool.{and_from}
 use Rattle.std.specs.List.{list_any}
@@ -15,6 +15,7 @@ use Rattle.overlay_terms.proofs.InputNumbers.{true_le, true_lt}
 use Rattle.tile_laws.proofs.ParityLaws.{input_parity_law}
 use Rattle.tile_build.specs.Tile.{answer_of}
 use Rattle.layer_book.specs.Layer.{IsBook}
+use Rattle.layer_book.specs.Place.{IsToldOf}
 use Rattle.version_core.specs.Locating.{told, IsAnswerByTile}
 
 -- layers as a version has them are sound
@@ -41,3 +42,9 @@ pub answer_is_value : (version : Version) (name : Name) (q : Point) (inside : Bo
 answer_is_value version name q inside book by low off exact =
     let off_it : IsOffLayer version.layers name by.column q = record { positive = omega (arith, ints); within = in_column by.column q by.within; off = ap not off } in
     subst (λ a. IfSome a (λ inside. inside ≡ value_of version.layers name q)) (sym by.is) (there_tells version name by.column (tile_at version.tiles name by.column) q book by.near off_it exact refl)
+
+-- what the tile of the point's column tells is told of the point
+pub is_told_of : (version : Version) (name : Name) (q : Point) (layers : List Layer) (told : Option Bool) → layers ≡ version.layers → IsBook version.layers → IsAnswerByTile version name q told → pos 1 ≤ℤ q.w → TilesAreExact version → IsToldOf layers name q told
+is_told_of version name q layers None e book by low exact = λ off. tt
+is_told_of version name q layers (Some inside) e book by low exact = λ off.
+    answer_is_value version name q inside book by low (sym (ap (λ ls. list_any (λ m. is_on m.segment q) (segments_in_reach ls name)) e) ∙ off) exact ∙ ap (λ ls. value_of ls name q) (sym e)
