@@ -1,6 +1,6 @@
 -- A piece on a segment that begins in the column is found among its places: its ends are neighbours there.
 use Rattle.std.proofs.Common.{◌≡◌, ◌≢◌, ℕ, ℤ, pos, ◌+◌, ◌<◌, ◌≤◌, ◌-ℤ◌, ◌*ℤ◌, ◌<ℤ◌, ◌≤ℤ◌, ◌⊎◌, inl, inr, int_le, int_lt, List, length, get_or, sym, ◌∙◌, subst, arith}
-use Rattle.std.specs.Prelude.{IsTrue, Contains, Any}
+use Rattle.std.specs.Prelude.{IsTrue, All, Contains, Any}
 use Rattle.std.proofs.lemmas.Int.{ints}
 use Rattle.std.proofs.lemmas.Bool.{and_parts, and_from, cases_lt, cases_eq}
 use Rattle.std.proofs.lemmas.List.{get_or_read}
@@ -10,17 +10,18 @@ use Rattle.std.specs.declared.cmp.Ordering.TheVariants.{Less}
 use Rattle.overlay_terms.specs.Plane.{Point, Segment, whole, point_cmp, same_place, is_on}
 use Rattle.overlay_terms.specs.Column.{border, is_in_column}
 use Rattle.overlay_terms.specs.Layers.{Marked}
-use Rattle.overlay_terms.specs.Tiles.{is_node, Input}
+use Rattle.overlay_terms.specs.Tiles.{is_node, IsPiece, Input}
 use Rattle.overlay_terms.specs.TileLaws.{IsInput, IsProper}
+use Rattle.overlay_terms.proofs.InputNumbers.{true_le, lt_true, x_in_order, least_through}
+use Rattle.overlay_terms.proofs.InputNodes.{IsIn, is_in, ends_within}
+use Rattle.exact_point.proofs.OnLine.{parallel_from_turn}
+use Rattle.exact_point.proofs.PlaceOrder.{same_self, alike_left, alike_right, not_before_self, not_after_less}
+use Rattle.exact_point.proofs.Nodes.{left_among, right_among}
 use Rattle.arrange.specs.Arrangement.{segments_in, is_in_closed_column}
 use Rattle.arrange.specs.NamedPlaces.{spot, AreAlong}
 use Rattle.arrange.specs.declared.named_place.NamedPlace.{NamedPlace}
-use Rattle.arrange.proofs.Orders.{le_test, lt_from, same_self, alike_left, alike_right, not_before_self}
-use Rattle.arrange.proofs.NodeGeometry.{parallel_from_turn}
-use Rattle.arrange.proofs.NodeSound.{IsKnown, is_left_end, is_right_end, named_is_node}
+use Rattle.arrange.proofs.NodeSound.{IsKnown, named_is_node}
 use Rattle.arrange.proofs.SortedPlaces.{spot_positive}
-use Rattle.arrange.proofs.PieceLemmas.{not_after_less}
-use Rattle.arrange.proofs.PieceEnds.{ends_inside}
 
 no_turn : (a b : ℤ) → (a *ℤ b) -ℤ (b *ℤ a) ≡ pos 0
 no_turn a b = omega (arith, ints, *ℤ_comm a b)
@@ -37,8 +38,8 @@ known_among input s valid among = record {
   same_way = parallel_from_turn s s (no_turn (s.right.x -ℤ s.left.x) (s.right.y -ℤ s.left.y));
   ahead = (proper_among input s valid among).first;
   holds = λ p h on. on;
-  left_end = is_left_end (segments_in input) s among (whole s.left) (same_self (whole s.left));
-  right_end = is_right_end (segments_in input) s among (whole s.right) (same_self (whole s.right));
+  left_end = left_among (segments_in input) s among;
+  right_end = right_among (segments_in input) s among;
 }
 
 -- a column is part of the closed column
@@ -46,10 +47,18 @@ closed_from : (k : ℕ) (p : Point) → IsTrue (is_in_column k p) → IsTrue (is
 closed_from k p c =
     let parts = and_parts (int_le (border k *ℤ p.w) p.x) (int_lt p.x (border (k + 1) *ℤ p.w)) c in
     and_from (int_le (border k *ℤ p.w) p.x) (int_le p.x (border (k + 1) *ℤ p.w)) parts.0
-    (le_test p.x (border (k + 1) *ℤ p.w) (at_most (lt_from p.x (border (k + 1) *ℤ p.w) parts.1)))
+    (true_le p.x (border (k + 1) *ℤ p.w) (at_most (lt_true p.x (border (k + 1) *ℤ p.w) parts.1)))
   where
     at_most : p.x <ℤ (border (k + 1) *ℤ p.w) → p.x ≤ℤ (border (k + 1) *ℤ p.w)
     at_most h = omega (arith, ints)
+
+-- a piece that begins in a column ends in the closed column
+closed_end : (k : ℕ) (segments : List Segment) (p r : Point) → All IsProper segments → pos 0 <ℤ p.w → IsTrue (is_in_column k p) → IsPiece segments p r → IsTrue (is_in_closed_column k r)
+closed_end k segments p r proper hp begins piece =
+    let within : IsIn k p = is_in k p hp begins in
+    and_from (int_le (border k *ℤ r.w) r.x) (int_le r.x (border (k + 1) *ℤ r.w))
+    (true_le (border k *ℤ r.w) r.x (least_through p r (border k) hp piece.to_positive (x_in_order p r piece.in_order) within.low))
+    (true_le r.x (border (k + 1) *ℤ r.w) (ends_within k segments p r proper within piece))
 
 -- two points are at neighbouring places of a list
 pub record AreNextTo (list : List NamedPlace) (p r : Point) : Type 0 where
@@ -70,7 +79,18 @@ module _ (input : Input) (s : Segment) (valid : IsInput input) (among : Contains
   to_there = along.complete r (record {
     positive = hr;
     on_segment = on_r;
-    in_column = ends_inside (segments_in input) s among (proper_among input s valid among) input.column p r hp hr on_p on_r in_order none begins;
+    in_column = closed_end input.column (segments_in input) p r (All-map IsProper (λ (m : Marked). m.segment) input.marked valid.proper) hp begins (record {
+      support = s;
+      among = among;
+      from_positive = hp;
+      to_positive = hr;
+      from_on = on_p;
+      to_on = on_r;
+      from_node = node_p;
+      to_node = node_r;
+      in_order = in_order;
+      none_between = none;
+    });
     node = node_r;
   })
 

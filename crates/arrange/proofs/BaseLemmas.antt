@@ -1,17 +1,23 @@
 -- Base layers one after another, and what they make of an input.
-use Rattle.std.specs.Prelude.{◌≡◌, ℕ, ◌+◌, ◌<◌, ◌≤◌, Bool, true, false, IsTrue, None, List, [], ◌∷◌, ◌++◌, length, map, get_or, take, All}
+use Rattle.std.specs.Prelude.{◌≡◌, ℕ, ◌+◌, ◌<◌, ◌≤◌, Bool, true, false, IsTrue, None, List, [], ◌∷◌, ◌++◌, length, map, get_or, take, All, Contains}
 use Rattle.std.proofs.Common.{refl, ap, sym, subst, ◌∙◌, cond, arith, append_assoc, append-nil, take_all, Bor}
 use Rattle.std.proofs.lemmas.List.{map_more, length-map, length-take-le}
-use Rattle.std.proofs.lemmas.List.Elements.{All-append, All-filter, All-map, filter-append}
+use Rattle.std.proofs.lemmas.List.Elements.{All-append, All-push, All-map, All-contains, Contains-get_or, filter-append}
 use Rattle.overlay_terms.specs.Plane.{WholePoint, segments_of}
 use Rattle.overlay_terms.specs.Column.{column_count, touches}
 use Rattle.overlay_terms.specs.Layers.{Marked, marked_segments}
 use Rattle.overlay_terms.specs.Trees.{Steps}
+use Rattle.overlay_terms.specs.Tiles.{Input}
 use Rattle.overlay_terms.specs.TileLaws.{IsInput, IsProper}
+use Rattle.overlay_terms.specs.InputLaws.{IsClosed}
+use Rattle.overlay_terms.proofs.ClosedLayers.{marked_from, from_even}
+use Rattle.overlay_terms.proofs.ClosedInputs.{closed_is_input}
+use Rattle.overlay_terms.proofs.Lists.{contains_map}
 use Rattle.plane_base.specs.BaseLayer.{rings_fault}
-use Rattle.arrange.specs.Marked.{marked_by, kept_in, AllProper}
-use Rattle.arrange.proofs.KeptLemmas.{mark, all_single}
-use Rattle.arrange.proofs.MarkedEnds.{marked_from, AllClosed, kept_even}
+use Rattle.plane_base.proofs.RingLemmas.{are_closed}
+use Rattle.arrange.specs.Marked.{marked_of, marked_by, kept_in, AllProper}
+use Rattle.arrange.specs.declared.marked_seg.MarkedSeg.{MarkedSeg}
+use Rattle.arrange.proofs.KeptLemmas.{mark}
 
 -- one more base layer behind others
 from_push : (n : ℕ) (bases : List (List (List WholePoint))) (rings : List (List WholePoint)) → marked_from n (bases ++ rings ∷ []) ≡ marked_from n bases ++ marked_by (n + length bases) rings
@@ -35,18 +41,18 @@ rings_of bases = map (λ b. b.now) bases
 pub record IsMadeOf (column : ℕ) (bases : List (List (List WholePoint))) (marked : List Marked) : Type 0 where
   pub kept : marked ≡ kept_in column (marked_segments bases)
   pub proper : AllProper (marked_segments bases)
-  pub closed : AllClosed bases
+  pub closed : All (All IsClosed) bases
 
 -- one more base layer
 made_push : (column n : ℕ) (bases : List (List (List WholePoint))) (rings : List (List WholePoint)) (now new : List Marked) → length bases ≡ n → IsMadeOf column bases now →
-    new ≡ now ++ kept_in column (marked_by n rings) → All IsProper (segments_of rings) → rings_fault rings ≡ None → IsMadeOf column (bases ++ rings ∷ []) new
+    new ≡ now ++ kept_in column (marked_by n rings) → All IsProper (segments_of rings) → All IsClosed rings → IsMadeOf column (bases ++ rings ∷ []) new
 made_push column n bases rings now new few made added proper valid = record {
   kept = added ∙ ap (λ ms. ms ++ kept_in column (marked_by n rings)) made.kept
       ∙ sym (filter-append (λ (m : Marked). touches column m.segment) (marked_segments bases) (marked_by n rings))
       ∙ ap (kept_in column) (sym (segments_push n bases rings few));
   proper = subst AllProper (sym (segments_push n bases rings few))
       (All-append (λ (m : Marked). IsProper m.segment) (marked_segments bases) (marked_by n rings) made.proper (All-map (λ (m : Marked). IsProper m.segment) (mark n) (segments_of rings) proper));
-  closed = All-append (λ b. rings_fault b ≡ None) bases (rings ∷ []) made.closed (all_single (λ b. rings_fault b ≡ None) rings valid);
+  closed = All-push (All IsClosed) bases rings made.closed valid;
 }
 
 -- as many as are taken
@@ -60,20 +66,11 @@ made_more column i j bases b now new h same e made added proper valid =
     let is : b ≡ get_or bases i b = e ∙ ap (λ k. get_or bases k b) same in
     let few : length (rings_of (take i bases)) ≡ i = taken bases i (omega arith) in
     let more = map_more (λ (r : Bor (List (List WholePoint))). r.now) bases i b h ∙ ap (λ r. rings_of (take i bases) ++ r.now ∷ []) (sym is) in
-    subst (λ bs. IsMadeOf column bs new) (sym more) (made_push column i (rings_of (take i bases)) b.now now new few made added proper valid)
+    subst (λ bs. IsMadeOf column bs new) (sym more) (made_push column i (rings_of (take i bases)) b.now now new few made added proper (are_closed b.now valid))
 
 -- all of them
 pub made_whole : (column i : ℕ) (bases : List (Bor (List (List WholePoint)))) (marked : List Marked) → length bases ≤ i → IsMadeOf column (rings_of (take i bases)) marked → IsMadeOf column (rings_of bases) marked
 made_whole column i bases marked h made = subst (λ bs. IsMadeOf column (rings_of bs) marked) (take_all i bases h) made
-
--- what is kept passes the test
-passes_by : (column : ℕ) (m : Marked) (ms : List Marked) (b : Bool) → touches column m.segment ≡ b → All (λ n. IsTrue (touches column n.segment)) ms → All (λ n. IsTrue (touches column n.segment)) (cond b (m ∷ ms) ms)
-passes_by column m ms true e h = All-append (λ n. IsTrue (touches column n.segment)) (m ∷ []) ms (all_single (λ n. IsTrue (touches column n.segment)) m e) h
-passes_by column m ms false e h = h
-
-kept_touches : (column : ℕ) (ms : List Marked) → All (λ m. IsTrue (touches column m.segment)) (kept_in column ms)
-kept_touches column [] = λ k d h. absurd (omega arith)
-kept_touches column (m ∷ ms) = passes_by column m (kept_in column ms) (touches column m.segment) refl (kept_touches column ms)
 
 -- layers are numbered from n on
 numbered : (n top : ℕ) (bases : List (List (List WholePoint))) → n + length bases ≤ top → All (λ m. m.layer < top) (marked_from n bases)
@@ -89,11 +86,12 @@ pub made_input : (column : ℕ) (bases : List (Bor (List (List WholePoint)))) (m
 made_input column bases marked steps small few count made =
     let rings = rings_of bases in
     let all : 0 + length rings ≤ steps.bases = omega (arith, length-map bases (λ (b : Bor (List (List WholePoint))). b.now)) in
-    rw made.kept (record {
-      column = small;
-      few = few;
-      touch = kept_touches column (marked_segments rings);
-      known = All-filter (λ (m : Marked). touches column m.segment) (λ (m : Marked). m.layer < steps.bases) (marked_segments rings) (numbered 0 steps.bases rings all);
-      proper = All-filter (λ (m : Marked). touches column m.segment) (λ (m : Marked). IsProper m.segment) (marked_segments rings) made.proper;
-      even = kept_even column rings made.closed made.proper;
-    })
+    rw made.kept (closed_is_input (marked_segments rings) steps column small few (numbered 0 steps.bases rings all) (record { proper = made.proper; even = λ k v. from_even 0 rings k v made.closed }))
+
+-- the layers of an input are below 32
+pub few_layers : (input : Input) (items : List MarkedSeg) → IsInput input → map marked_of items ≡ input.marked → All (λ m. m.layer < 32) items
+few_layers input items valid same = λ k d l.
+    let m = get_or items k d in
+    let there : Contains input.marked (marked_of m) = subst (λ ms. Contains ms (marked_of m)) same (contains_map marked_of items m (Contains-get_or items k d l)) in
+    let known = All-contains (λ m. m.layer < input.steps.bases) input.marked (marked_of m) valid.known there in
+    omega (arith, known, valid.few)

@@ -1,34 +1,33 @@
 -- Which places have been found, name by name.
-use Rattle.std.proofs.Common.{◌≡◌, ℕ, pos, ◌<ℤ◌, ◌<◌, false, ◌&&◌, ◌⊎◌, inl, inr, List, [], ◌∷◌, ◌++◌, length, get_or, take, map, append_assoc, zero, suc, ◌+◌, refl, ap, sym, ◌∙◌, subst, arith}
+use Rattle.std.proofs.Common.{◌≡◌, ℕ, pos, ◌*ℤ◌, ◌<ℤ◌, int_le, ◌<◌, false, ◌&&◌, ◌⊎◌, inl, inr, List, [], ◌∷◌, ◌++◌, length, get_or, take, map, append_assoc, zero, suc, ◌+◌, refl, ap, sym, ◌∙◌, subst, arith}
 use Rattle.std.specs.Prelude.{IsTrue, All, Any, Contains, flat_map}
+use Rattle.std.proofs.lemmas.Int.{ints}
 use Rattle.std.proofs.lemmas.Grind.{flat_map-append}
 use Rattle.std.proofs.lemmas.List.{take_more, map-append}
-use Rattle.std.proofs.lemmas.Bool.{and_from, both_ways}
+use Rattle.std.proofs.lemmas.Bool.{and_parts, and_from, both_ways}
 use Rattle.std.proofs.lemmas.List.Elements.{All-nil, All-push, All-weaker, Contains-append_left, Contains-append_right, Contains-append_cases, Contains-push_cases}
 use Rattle.std.proofs.lemmas.List.Quantifiers.{Any-push}
 use Rattle.overlay_terms.specs.Plane.{Point, Segment, same_place, is_on}
+use Rattle.overlay_terms.specs.Column.{border}
+use Rattle.overlay_terms.proofs.InputNumbers.{le_true, true_le, least_through, most_through}
+use Rattle.overlay_terms.proofs.Lists.{any_left}
+use Rattle.overlay_terms.proofs.PlaceLemmas.{places_alike}
 use Rattle.exact_point.specs.PointName.{HasPlace, IsPlaceOf, IsOnlyPlaceOf}
 use Rattle.exact_point.specs.declared.point_name.PointName.{PointName}
 use Rattle.exact_point.specs.declared.point_name.PointName.TheVariants.{Vertex, Cross, Border}
+use Rattle.exact_point.proofs.PlaceOrder.{on_same, same_turned}
 use Rattle.arrange.specs.Arrangement.{is_in_closed_column}
 use Rattle.arrange.specs.NamedPlaces.{spot, IsFound, AreFound, names_with}
 use Rattle.arrange.specs.declared.marked_seg.MarkedSeg.{MarkedSeg}
 use Rattle.arrange.specs.declared.named_place.NamedPlace.{NamedPlace}
-use Rattle.arrange.proofs.Orders.{on_same, closed_same, same_turned}
 
--- an element of a list with a property
-pub any_from : {X : Type 0} (P : X → Type 0) (xs : List X) (x : X) → Contains xs x → P x → Any P xs
-any_from P xs x c h = (c.0, x, c.1, c.2, h)
-
-pub any_contains : {X : Type 0} (P : X → Type 0) (xs : List X) (a : Any P xs) → Contains xs a.1
-any_contains P xs a = (a.0, a.2, a.3)
-
-pub any_left : {X : Type 0} (P : X → Type 0) (xs ys : List X) → Any P xs → Any P (xs ++ ys)
-any_left P xs ys a = any_from P (xs ++ ys) a.1 (Contains-append_left xs ys a.1 (any_contains P xs a)) a.4
-
-pub Contains-cons_cases : {X : Type 0} (a : X) (xs : List X) (x : X) → Contains (a ∷ xs) x → (a ≡ x) ⊎ Contains xs x
-Contains-cons_cases a xs x (zero, l, e) = inl e
-Contains-cons_cases a xs x (suc k, l, e) = inr (k, omega (arith, l), e)
+-- a closed column has both of two points at one place
+closed_same : (k : ℕ) (p q : Point) → pos 0 <ℤ p.w → pos 0 <ℤ q.w → IsTrue (same_place p q) → IsTrue (is_in_closed_column k p) → IsTrue (is_in_closed_column k q)
+closed_same k p q h l e c =
+    let parts = and_parts (int_le (border k *ℤ p.w) p.x) (int_le p.x (border (k + 1) *ℤ p.w)) c in
+    let x : p.x *ℤ q.w ≡ q.x *ℤ p.w = (places_alike p q h l e).x_level in
+    and_from _ _ (true_le (border k *ℤ q.w) q.x (least_through p q (border k) h l (omega (arith, ints, x)) (le_true _ _ parts.0)))
+    (true_le q.x (border (k + 1) *ℤ q.w) (most_through q p (border (k + 1)) l h (omega (arith, ints, x)) (le_true _ _ parts.1)))
 
 -- what stands for a place has one
 pub has_place : (name : PointName) (p : Point) → pos 0 <ℤ p.w → IsPlaceOf name p → HasPlace name
@@ -89,30 +88,6 @@ names_more own s items i x h e =
     ∙ ap (flat_map (names_with s)) (map-append seg (take i items) (get_or items i x ∷ []))
     ∙ flat_map-append (names_with s) (map seg (take i items)) (seg (get_or items i x) ∷ [])
     ∙ ap (λ y. flat_map (names_with s) (map seg (take i items)) ++ names_with s (seg y)) (sym e)))
-
--- a list that one of the lists has is in their union
-pub in_flat_map : {X Y : Type 0} (f : X → List Y) (xs : List X) (x : X) (y : Y) → Contains xs x → Contains (f x) y → Contains (flat_map f xs) y
-in_flat_map f [] x y c d = absurd (omega (arith, c.1))
-in_flat_map {X} {Y} f (a ∷ xs) x y c d = by (λ m. in_flat_map f xs x y m d) (Contains-cons_cases a xs x c) where
-  by : (Contains xs x → Contains (flat_map f xs) y) → (a ≡ x) ⊎ Contains xs x → Contains (f a ++ flat_map f xs) y
-  by more (inl e) = let Q : X → Type 0 = λ z. Contains (f z) y in Contains-append_left (f a) (flat_map f xs) y (subst Q (sym e) d)
-  by more (inr m) = Contains-append_right (f a) (flat_map f xs) y (more m)
-
--- what a union of lists has, one of them has
-pub from_flat_map : {X Y : Type 0} (f : X → List Y) (xs : List X) (y : Y) → Contains (flat_map f xs) y → (x : X) × Contains xs x × Contains (f x) y
-from_flat_map f [] y c = absurd (omega (arith, c.1))
-from_flat_map {X} {Y} f (a ∷ xs) y c = by (from_flat_map f xs y) (Contains-append_cases (f a) (flat_map f xs) y c) where
-  by : (Contains (flat_map f xs) y → (x : X) × Contains xs x × Contains (f x) y) → Contains (f a) y ⊎ Contains (flat_map f xs) y → (x : X) × Contains (a ∷ xs) x × Contains (f x) y
-  by more (inl d) = (a, (0, omega arith, refl), d)
-  by more (inr d) = let r = more d in (r.0, (suc r.1.0, omega (arith, r.1.1), r.1.2), r.2)
-
--- the image of what a list has is in the list of images
-pub contains_map : {X Y : Type 0} (f : X → Y) (xs : List X) (x : X) → Contains xs x → Contains (map f xs) (f x)
-contains_map f [] x c = absurd (omega (arith, c.1))
-contains_map {X} {Y} f (a ∷ xs) x c = by (contains_map f xs x) (Contains-cons_cases a xs x c) where
-  by : (Contains xs x → Contains (map f xs) (f x)) → (a ≡ x) ⊎ Contains xs x → Contains (f a ∷ map f xs) (f x)
-  by more (inl e) = (0, omega arith, ap f e)
-  by more (inr m) = let r = more m in (suc r.0, omega (arith, r.1), r.2)
 
 -- the same column under another name
 pub at_column : (j k : ℕ) (s : Segment) (more : List PointName) (a b : List NamedPlace) → j ≡ k

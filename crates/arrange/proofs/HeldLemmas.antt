@@ -9,14 +9,14 @@ use Rattle.overlay_terms.specs.Plane.{Point, Segment, point_cmp, same_place, is_
 use Rattle.overlay_terms.specs.Column.{is_in_column}
 use Rattle.overlay_terms.specs.Tiles.{is_node, IsPiece, Input}
 use Rattle.overlay_terms.specs.TileLaws.{IsInput}
+use Rattle.overlay_terms.proofs.Lists.{any_from, any_contains}
 use Rattle.exact_point.specs.PlaceOf.{place_of}
+use Rattle.exact_point.proofs.SameMiddle.{in_column_alike}
 use Rattle.arrange.specs.Arrangement.{segments_in}
 use Rattle.arrange.specs.NamedPlaces.{spot, AreAlong}
 use Rattle.arrange.specs.HeldPieces.{IsHeld, has_ends, AreNeighbours, IsBetween, HoldsPieces, HoldsOneMore, HoldsNeighbours}
 use Rattle.arrange.specs.declared.named_place.NamedPlace.{NamedPlace}
 use Rattle.arrange.specs.declared.held_piece.HeldPiece.{HeldPiece}
-use Rattle.arrange.proofs.Orders.{column_same}
-use Rattle.arrange.proofs.FoundLemmas.{any_from, any_contains}
 use Rattle.arrange.proofs.SortedPlaces.{spot_positive}
 use Rattle.arrange.proofs.NeighbourLemmas.{neighbours_piece, neighbours_support}
 use Rattle.arrange.proofs.AlongPieces.{known_among, proper_among, ends_next}
@@ -88,7 +88,7 @@ module _ (input : Input) (s : Segment) (valid : IsInput input) (among : Contains
       let next = ends_next input s valid among list along p r piece.from_positive piece.to_positive on.0 on.1 piece.from_node piece.to_node piece.in_order (subst N is piece.none_between) begins in
       let a : NamedPlace = get_or list next.at next.default in
       let b : NamedPlace = get_or list (next.at + 1) next.default in
-      let begins_a = column_same input.column p (spot a) piece.from_positive (spot_positive a) next.first begins in
+      let begins_a = sym (in_column_alike p (spot a) piece.from_positive (spot_positive a) next.first input.column) ∙ begins in
       let one = so_far.covered next.at next.default (omega (arith, next.within, whole_list)) next.within begins_a in
       any_from (λ h. IsTrue (has_ends p r h.piece)) held one.1 (any_contains (IsBetween a b) held one) (told_ends p r a b one.1 one.4 next.first next.second)
 

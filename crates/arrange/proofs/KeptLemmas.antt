@@ -2,8 +2,8 @@
 use Rattle.std.specs.Prelude.{◌≡◌, ℕ, zero, suc, ◌+◌, ◌<◌, pos, ◌+ℤ◌, true, false, List, [], ◌∷◌, ◌++◌, map, take, get_or, length, All}
 use Rattle.std.proofs.Common.{ap, sym, ◌∙◌, cond, arith, append_assoc, append-nil, subst}
 use Rattle.std.proofs.lemmas.Int.{ints}
-use Rattle.std.proofs.lemmas.List.{map_more, take_more, map-append}
-use Rattle.std.proofs.lemmas.List.Elements.{filter-append, All-append}
+use Rattle.std.proofs.lemmas.List.{map_more, map-append}
+use Rattle.std.proofs.lemmas.List.Elements.{filter-append, All-more}
 use Rattle.overlay_terms.specs.Plane.{Segment}
 use Rattle.overlay_terms.specs.Column.{border, touches}
 use Rattle.overlay_terms.specs.Layers.{Marked}
@@ -51,13 +51,6 @@ kept_more_no column layer segs i s before now h e apart was =
     ∙ ap (λ b. before ++ (kept ++ cond b (mark layer s ∷ []) [])) (sym apart)
     ∙ ap (λ xs. before ++ xs) (sym (kept_more column layer segs i s h e))
 
--- a fact of one element holds of the list of it alone
-pub all_single : {X : Type 0} (P : X → Type 0) (x : X) → P x → All P (x ∷ [])
-all_single P x p zero d h = p
-all_single P x p (suc k) d h = absurd (omega arith)
-
 -- one more proper segment
 pub proper_more : (segs : List Segment) (i : ℕ) (s : Segment) → i < length segs → s ≡ get_or segs i s → IsProper s → All IsProper (take i segs) → All IsProper (take (i + 1) segs)
-proper_more segs i s h e proper was =
-    subst (All IsProper) (sym (take_more segs i s h ∙ ap (λ t. take i segs ++ t ∷ []) (sym e)))
-    (All-append IsProper (take i segs) (s ∷ []) was (all_single IsProper s proper))
+proper_more segs i s h e proper was = All-more IsProper segs i s h was (subst IsProper e proper)

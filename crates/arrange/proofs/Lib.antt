@@ -1,6 +1,4 @@
-pub mod Orders
 pub mod FoundLemmas
-pub mod NodeGeometry
 pub mod NodeLemmas
 pub mod SortedPlaces
 pub mod NodeSound
@@ -8,15 +6,12 @@ pub mod PieceLemmas
 pub mod MaskLemmas
 pub mod NeighbourLemmas
 pub mod KeptLemmas
-pub mod RingEnds
-pub mod MarkedEnds
 pub mod BaseLemmas
 pub mod UnitLineLemmas
 pub mod UnitEndLemmas
 pub mod UnitNeighbours
 pub mod NeighbourSteps
 pub mod UnitListLemmas
-pub mod PieceEnds
 pub mod AlongPieces
 pub mod MadePieces
 pub mod HeldLemmas

@@ -11,6 +11,7 @@ use Rattle.overlay_terms.specs.Trees.{mask_bits}
 use Rattle.overlay_terms.specs.Layers.{Marked}
 use Rattle.overlay_terms.specs.Tiles.{is_node, midpoint, Input}
 use Rattle.overlay_terms.specs.TileLaws.{IsInput}
+use Rattle.overlay_terms.proofs.Lists.{contains_map}
 use Rattle.exact_point.specs.PlaceOf.{place_of}
 use Rattle.arrange.specs.Arrangement.{segments_in, on_bits}
 use Rattle.arrange.specs.NamedPlaces.{spot, names_along, IsFound}
@@ -21,7 +22,6 @@ use Rattle.arrange.specs.declared.marked_seg.MarkedSeg.{MarkedSeg}
 use Rattle.arrange.specs.declared.named_place.NamedPlace.{NamedPlace}
 use Rattle.arrange.specs.declared.piece.Elementary.{Elementary}
 use Rattle.arrange.specs.declared.held_piece.HeldPiece.{HeldPiece}
-use Rattle.arrange.proofs.FoundLemmas.{contains_map}
 use Rattle.arrange.proofs.MaskLemmas.{middle_mask}
 use Rattle.arrange.proofs.PieceLemmas.{middle_held}
 use Rattle.arrange.proofs.AlongPieces.{proper_among}
@@ -29,13 +29,6 @@ use Rattle.arrange.proofs.AlongPieces.{proper_among}
 -- the segments of the code are among those of the input
 there : (input : Input) (items : List MarkedSeg) (m : MarkedSeg) → map marked_of items ≡ input.marked → Contains items m → Contains input.marked (marked_of m)
 there input items m e c = let Q : List Marked → Type 0 = λ ms. Contains ms (marked_of m) in subst Q e (contains_map marked_of items m c)
-
--- base layers are numbered below 32
-pub small_layers : (input : Input) (items : List MarkedSeg) → IsInput input → map marked_of items ≡ input.marked → All (λ m. m.layer < 32) items
-small_layers input items valid e = λ k d l.
-    let m = get_or items k d in
-    let known = All-contains (λ m. m.layer < input.steps.bases) input.marked (marked_of m) valid.known (there input items m e (Contains-get_or items k d l)) in
-    omega (arith, known, valid.few)
 
 -- a place of the closed column left of the right border lies in the column
 pub begins_by : (input : Input) (s : Segment) (a : NamedPlace) (k : ℕ) (b : Bool) → IsFound input.column s (names_along input s) a → k ≡ input.column

@@ -11,51 +11,15 @@ use Rattle.overlay_terms.specs.Column.{border}
 use Rattle.overlay_terms.specs.Tiles.{IsPiece, Input}
 use Rattle.overlay_terms.proofs.Difference.{split, differences, same, mul_mono}
 use Rattle.overlay_terms.proofs.Ratios.{mul_less}
+use Rattle.overlay_terms.proofs.InputNumbers.{le_true, true_le, x_in_order, least_through, most_through}
 use Rattle.exact_point.proofs.Lexical.{Forward}
+use Rattle.exact_point.proofs.OnLine.{forward_from_less}
+use Rattle.exact_point.proofs.PlaceOrder.{alike_left, alike_right, not_before_self, same_self, not_after_less}
 use Rattle.arrange.specs.Arrangement.{segments_in, is_in_closed_column}
 use Rattle.arrange.specs.NamedPlaces.{spot, names_along, IsFound, AreAlong}
 use Rattle.arrange.specs.declared.named_place.NamedPlace.{NamedPlace}
-use Rattle.arrange.proofs.Orders.{le_from, le_test, alike_left, alike_right, not_before_self, same_self}
-use Rattle.arrange.proofs.NodeGeometry.{forward_from_less}
 use Rattle.arrange.proofs.NodeSound.{IsKnown, named_is_node}
 use Rattle.arrange.proofs.SortedPlaces.{spot_positive}
-use Rattle.arrange.proofs.PieceLemmas.{not_after_less}
-
-regroup : (a w v : ℤ) → (a *ℤ w) *ℤ v ≡ w *ℤ (a *ℤ v)
-regroup a w v = rw (split a, split w, split v) (simp differences (same _ _ _ _ (omega arith)))
-
-not_left : (x y a b : ℤ) → Forward (y -ℤ x) (b -ℤ a) → x ≤ℤ y
-not_left x y a b (inl h) = omega (arith, ints)
-not_left x y a b (inr h) = omega (arith, ints, h.0)
-
--- what is right of a line has only later points right of it
-pub right_later : (a : ℤ) (p q : Point) → pos 0 <ℤ p.w → pos 0 <ℤ q.w → point_cmp p q ≡ Less → (a *ℤ p.w) ≤ℤ p.x → (a *ℤ q.w) ≤ℤ q.x
-right_later a p q hp hq e low =
-    by_lt_z q.x (a *ℤ q.w)
-    (λ l. absurd (omega (
-      arith,
-      ints,
-      mul_mono (a *ℤ p.w) p.x q.w (omega (arith, ints)) low,
-      mul_less p.w q.x (a *ℤ q.w) hp l,
-      regroup a p.w q.w,
-      *ℤ_comm p.w q.x,
-      not_left (p.x *ℤ q.w) (q.x *ℤ p.w) (p.y *ℤ q.w) (q.y *ℤ p.w) (forward_from_less p q e),
-    )))
-    (λ l. l)
-
-left_earlier : (a : ℤ) (p q : Point) → pos 0 <ℤ p.w → pos 0 <ℤ q.w → point_cmp p q ≡ Less → q.x ≤ℤ (a *ℤ q.w) → p.x ≤ℤ (a *ℤ p.w)
-left_earlier a p q hp hq e high =
-    by_lt_z (a *ℤ p.w) p.x
-    (λ l. absurd (omega (
-      arith,
-      ints,
-      mul_mono q.x (a *ℤ q.w) p.w (omega (arith, ints)) high,
-      mul_less q.w (a *ℤ p.w) p.x hq l,
-      regroup a q.w p.w,
-      *ℤ_comm q.w p.x,
-      not_left (p.x *ℤ q.w) (q.x *ℤ p.w) (p.y *ℤ q.w) (q.y *ℤ p.w) (forward_from_less p q e),
-    )))
-    (λ l. l)
 
 -- between two points of a closed column is the closed column
 pub closed_between : (k : ℕ) (p q r : Point) → pos 0 <ℤ p.w → pos 0 <ℤ q.w → pos 0 <ℤ r.w → point_cmp p q ≡ Less → point_cmp q r ≡ Less
@@ -64,8 +28,8 @@ closed_between k p q r hp hq hr low high c d =
     let left = and_parts (int_le (border k *ℤ p.w) p.x) (int_le p.x (border (k + 1) *ℤ p.w)) c in
     let right = and_parts (int_le (border k *ℤ r.w) r.x) (int_le r.x (border (k + 1) *ℤ r.w)) d in
     and_from (int_le (border k *ℤ q.w) q.x) (int_le q.x (border (k + 1) *ℤ q.w))
-    (le_test (border k *ℤ q.w) q.x (right_later (border k) p q hp hq low (le_from (border k *ℤ p.w) p.x left.0)))
-    (le_test q.x (border (k + 1) *ℤ q.w) (left_earlier (border (k + 1)) q r hq hr high (le_from r.x (border (k + 1) *ℤ r.w) right.1)))
+    (true_le (border k *ℤ q.w) q.x (least_through p q (border k) hp hq (x_in_order p q low) (le_true (border k *ℤ p.w) p.x left.0)))
+    (true_le q.x (border (k + 1) *ℤ q.w) (most_through q r (border (k + 1)) hq hr (x_in_order q r high) (le_true r.x (border (k + 1) *ℤ r.w) right.1)))
 
 module _ (input : Input) (s : Segment) (among : Contains (segments_in input) s) (known : IsKnown input s) (list : List NamedPlace) (along : AreAlong input s list) (i : ℕ) (d : NamedPlace) (within : i + 1 < length list) where
   at_first : IsFound input.column s (names_along input s) (get_or list i d)

@@ -9,12 +9,12 @@ use Rattle.std.specs.declared.cmp.Ordering.TheVariants.{Less}
 use Rattle.overlay_terms.specs.Plane.{WholePoint, Segment, whole_cmp, segment_between}
 use Rattle.overlay_terms.specs.Layers.{Marked}
 use Rattle.overlay_terms.specs.TileLaws.{IsProper}
+use Rattle.overlay_terms.proofs.Lists.{contains_map}
 use Rattle.arrange.specs.Marked.{marked_of, AllProper}
 use Rattle.arrange.specs.Units.{covers, IsUnit}
 use Rattle.arrange.specs.UnitLists.{AreEndsOn, stretches}
 use Rattle.arrange.specs.declared.marked_seg.MarkedSeg.{MarkedSeg}
 use Rattle.arrange.specs.declared.unit.Unit.{Unit}
-use Rattle.arrange.proofs.FoundLemmas.{contains_map}
 use Rattle.arrange.proofs.UnitNeighbours.{stretch_at, neighbours_unit, unit_at}
 
 -- the points at a place of a list and just before it, as the code reads them

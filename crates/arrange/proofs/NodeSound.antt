@@ -8,9 +8,14 @@ use Rattle.std.proofs.lemmas.List.Elements.{Contains-append_cases, All-contains,
 use Rattle.std.proofs.lemmas.List.Kept.{AllPairs-cons}
 use Rattle.std.proofs.Math.IntN.{*ℤ_comm}
 use Rattle.overlay_terms.specs.TileLaws.{IsInput, IsProper}
+use Rattle.overlay_terms.proofs.Lists.{any_from, any_contains, Contains-cons_cases, from_flat_map, contains_map}
+use Rattle.overlay_terms.proofs.PointOrder.{same_points}
+use Rattle.overlay_terms.proofs.InputNodes.{border_node}
 use Rattle.exact_point.specs.PlaceOf.{place_of}
+use Rattle.exact_point.proofs.OnLine.{parallel_through, parallel_line, between_on, after_left, before_right, on_line, left_on_line, turn_from_parallel, parallel_from_turn, no_turn_back}
+use Rattle.exact_point.proofs.PlaceOrder.{one_positive, same_turned, same_through, level_from, level_test, same_self}
+use Rattle.exact_point.proofs.Nodes.{wide_too, node_at_end, end_among, crossing_is_node}
 use Rattle.arrange.proofs.SortedPlaces.{spot_positive}
-use Rattle.arrange.proofs.NodeLemmas.{wide_too}
 use Rattle.std.proofs.lemmas.List.Folds.{Any-from_list_any, list_any-from_Any}
 use Rattle.std.proofs.lemmas.List.FromFn.{get_or-range_with_len, length-range_with_len}
 use Rattle.std.specs.Ordering.{int_eq}
@@ -28,9 +33,6 @@ use Rattle.arrange.specs.Units.{IsUnit, is_end_along, is_collinear, covers}
 use Rattle.arrange.specs.Arrangement.{segments_in, IsNodeOn, AreNodesOn}
 use Rattle.arrange.specs.NamedPlaces.{spot, own_names, names_with, names_along, IsFound, AreAlong}
 use Rattle.arrange.specs.declared.named_place.NamedPlace.{NamedPlace}
-use Rattle.arrange.proofs.Orders.{one_positive, same_turned, same_through, level_from, level_test}
-use Rattle.arrange.proofs.FoundLemmas.{any_from, any_contains, Contains-cons_cases, from_flat_map, contains_map}
-use Rattle.arrange.proofs.NodeGeometry.{parallel_through, parallel_line, between_on, after_left, before_right, on_line, left_on_line, turn_from_parallel, parallel_from_turn}
 
 -- a segment of the input holds s, whose ends are ends of segments of the input
 pub record IsKnown (input : Input) (s : Segment) : Type 0 where
@@ -58,69 +60,24 @@ end_same segments v p h e ends =
     by s (inl l) = or_left _ _ (back s.left l)
     by s (inr r) = or_right (same_place p (whole s.left)) (same_place p (whole s.right)) (back s.right r)
 
--- each end of a segment is one
-pub is_left_end : (segments : List Segment) (s : Segment) → Contains segments s → (p : Point) → IsTrue (same_place (whole s.left) p) → IsTrue (is_end segments p)
-is_left_end segments s c p e =
-    list_any-from_Any (λ s. same_place p (whole s.left) || same_place p (whole s.right)) segments
-    (any_from (λ s. (same_place p (whole s.left) || same_place p (whole s.right)) ≡ true) segments s c (or_left _ _ (same_turned (whole s.left) p e)))
-
-pub is_right_end : (segments : List Segment) (s : Segment) → Contains segments s → (p : Point) → IsTrue (same_place (whole s.right) p) → IsTrue (is_end segments p)
-is_right_end segments s c p e =
-    list_any-from_Any (λ s. same_place p (whole s.left) || same_place p (whole s.right)) segments
-    (any_from (λ s. (same_place p (whole s.left) || same_place p (whole s.right)) ≡ true) segments s c
-    (or_right (same_place p (whole s.left)) (same_place p (whole s.right)) (same_turned (whole s.right) p e)))
-
-pub node_at_end : (segments : List Segment) (p : Point) → IsTrue (is_end segments p) → IsTrue (is_node segments p)
-node_at_end segments p e = or_left (is_end segments p || is_crossing segments p) (is_on_border segments p) (or_left (is_end segments p) (is_crossing segments p) e)
-
-node_at_crossing : (segments : List Segment) (p : Point) → IsTrue (is_crossing segments p) → IsTrue (is_node segments p)
-node_at_crossing segments p e = or_left (is_end segments p || is_crossing segments p) (is_on_border segments p) (or_right (is_end segments p) (is_crossing segments p) e)
-
-node_at_border : (segments : List Segment) (p : Point) → IsTrue (is_on_border segments p) → IsTrue (is_node segments p)
-node_at_border segments p e = or_right (is_end segments p || is_crossing segments p) (is_on_border segments p) e
-
--- two segments that are not parallel and hold a point make a crossing
-pub crossing_there : (segments : List Segment) (t u : Segment) (p : Point) → Contains segments t → Contains segments u → IsTrue (is_on t p) → IsTrue (is_on u p) → is_parallel t u ≡ false → IsTrue (is_node segments p)
-crossing_there segments t u p c d on_t on_u np =
-    node_at_crossing segments p (list_any-from_Any (λ s. is_on s p && list_any (λ t. is_on t p && not (is_parallel s t)) segments) segments
-    (any_from (λ s. (is_on s p && list_any (λ t. is_on t p && not (is_parallel s t)) segments) ≡ true) segments t c
-    (and_from (is_on t p) (list_any (λ r. is_on r p && not (is_parallel t r)) segments) on_t
-    (list_any-from_Any (λ r. is_on r p && not (is_parallel t r)) segments
-    (any_from (λ r. (is_on r p && not (is_parallel t r)) ≡ true) segments u d (and_from (is_on u p) (not (is_parallel t u)) on_u (not_from_false (is_parallel t u) np)))))))
-
--- a border that cuts a segment that is not vertical
-pub border_there : (segments : List Segment) (t : Segment) (j : ℕ) (p : Point) → Contains segments t → IsTrue (is_on t p) → is_vertical t ≡ false → j < column_count → p.x ≡ border j *ℤ p.w → IsTrue (is_node segments p)
-border_there segments t j p c on v known e =
-    node_at_border segments p (and_from (list_any (λ k. int_eq p.x (border k *ℤ p.w)) columns) (list_any (λ s. is_on s p && not (is_vertical s)) segments)
-    (list_any-from_Any (λ k. int_eq p.x (border k *ℤ p.w)) columns
-    (any_from (λ k. int_eq p.x (border k *ℤ p.w) ≡ true) columns j (j, omega (arith, length-range_with_len 0 column_count), omega (arith, get_or-range_with_len 0 column_count j j known))
-    (level_test p.x (border j *ℤ p.w) e)))
-    (list_any-from_Any (λ s. is_on s p && not (is_vertical s)) segments
-    (any_from (λ s. (is_on s p && not (is_vertical s)) ≡ true) segments t c (and_from (is_on t p) (not (is_vertical t)) on (not_from_false (is_vertical t) v)))))
-
 module _ (input : Input) (s : Segment) (known : IsKnown input s) (p : Point) (hp : pos 0 <ℤ p.w) (on_s : IsTrue (is_on s p)) where
   abbrev Node : Type 0
   Node = IsTrue (is_node (segments_in input) p)
 
   at_cut : (j : ℕ) → IsCutOf s j p → Node
   at_cut j cut =
-      border_there (segments_in input) known.holder j p known.among (known.holds p hp on_s) (false_from_ne_true _ (λ v. absurd (upright v))) cut.cut.known cut.on_border
+      border_node (segments_in input) known.holder j p cut.cut.known cut.on_border (known.holds p hp on_s)
+      (wide_too known.holder s known.ahead (turn_from_parallel known.holder s known.same_way) standing) known.among
     where
       narrow : (a b : ℤ) → a <ℤ (border j) → (border j) <ℤ b → a ≡ b → ⊥
       narrow a b l m e = omega (arith, ints)
 
-      flat : (a b : ℤ) → a <ℤ b → a ≡ b → ⊥
-      flat a b l e = omega (arith, ints)
-
-      upright : is_vertical known.holder ≡ true → ⊥
-      upright v =
-          let standing : is_vertical s ≡ false = false_from_ne_true _ (λ w. absurd (narrow s.left.x s.right.x cut.cut.after_left cut.cut.before_right (level_from s.left.x s.right.x w))) in
-          let wide = wide_too known.holder s known.ahead (turn_from_parallel known.holder s known.same_way) standing in
-          flat known.holder.left.x known.holder.right.x wide (level_from known.holder.left.x known.holder.right.x v)
+      standing : is_vertical s ≡ false
+      standing = false_from_ne_true _ (λ w. absurd (narrow s.left.x s.right.x cut.cut.after_left cut.cut.before_right (level_from s.left.x s.right.x w)))
 
   at_cross : (t : Segment) → Contains (segments_in input) t → IsCrossingOf s t p → Node
   at_cross t c k =
-      crossing_there (segments_in input) known.holder t p known.among c (known.holds p hp on_s) k.on_second
+      crossing_is_node (segments_in input) known.holder t p known.among c (known.holds p hp on_s) k.on_second
       (false_from_ne_true _ (λ e. both_ways _ k.not_parallel (parallel_through known.holder s t known.ahead known.same_way e)))
 
   own_node : (name : PointName) → Contains (own_names s input.column) name → IsPlaceOf name p → Node
@@ -152,11 +109,11 @@ module _ (input : Input) (s : Segment) (known : IsKnown input s) (p : Point) (hp
     third (inr d) = absurd (omega (arith, d.1))
 
     second : (Vertex t.right ≡ name) ⊎ Contains (Cross s t ∷ []) name → Node
-    second (inl e) = let Q : PointName → Type 0 = λ n. IsPlaceOf n p in node_at_end (segments_in input) p (is_right_end (segments_in input) t m p (subst Q (sym e) st))
+    second (inl e) = let Q : PointName → Type 0 = λ n. IsPlaceOf n p in node_at_end (segments_in input) p (end_among (segments_in input) t m p (or_right (same_place p (whole t.left)) (same_place p (whole t.right)) (same_turned (whole t.right) p (subst Q (sym e) st))))
     second (inr d) = third (Contains-cons_cases (Cross s t) [] name d)
 
     first : (Vertex t.left ≡ name) ⊎ Contains (Vertex t.right ∷ Cross s t ∷ []) name → Node
-    first (inl e) = let Q : PointName → Type 0 = λ n. IsPlaceOf n p in node_at_end (segments_in input) p (is_left_end (segments_in input) t m p (subst Q (sym e) st))
+    first (inl e) = let Q : PointName → Type 0 = λ n. IsPlaceOf n p in node_at_end (segments_in input) p (end_among (segments_in input) t m p (or_left (same_place p (whole t.left)) (same_place p (whole t.right)) (same_turned (whole t.left) p (subst Q (sym e) st))))
     first (inr d) = second (Contains-cons_cases (Vertex t.right) (Cross s t ∷ []) name d)
 
   -- what a name along a known segment stands for on it is a node
@@ -167,16 +124,9 @@ module _ (input : Input) (s : Segment) (known : IsKnown input s) (p : Point) (hp
     by (inr d) = let r = from_flat_map (names_with s) (segments_in input) name d in with_node r.0 r.1 name r.2 st
 
 -- ---- the units
-once : (a b : ℤ) → a ≡ b → a *ℤ pos 1 ≡ b *ℤ pos 1
-once a b e = ap (λ z. z *ℤ pos 1) e
-
 -- equal whole points are at one place
-same_as_points : (v w : WholePoint) → same_whole v w ≡ true → IsTrue (same_place (whole w) (whole v))
-same_as_points v w e =
-    let parts = and_parts (int_eq v.x w.x) (int_eq v.y w.y) e in
-    and_from (int_eq (w.x *ℤ pos 1) (v.x *ℤ pos 1)) (int_eq (w.y *ℤ pos 1) (v.y *ℤ pos 1))
-    (level_test (w.x *ℤ pos 1) (v.x *ℤ pos 1) (once w.x v.x (sym (level_from v.x w.x parts.0))))
-    (level_test (w.y *ℤ pos 1) (v.y *ℤ pos 1) (once w.y v.y (sym (level_from v.y w.y parts.1))))
+same_as_points : (v w : WholePoint) → same_whole v w ≡ true → IsTrue (same_place (whole v) (whole w))
+same_as_points v w e = subst (λ (u : WholePoint). IsTrue (same_place (whole v) (whole u))) (same_points v w e) (same_self (whole v))
 
 -- an end along a line is an end
 end_from_along : (marked : List Marked) (s : Segment) (v : WholePoint) → IsTrue (is_end_along marked s v) → IsTrue (is_end (map (λ m. m.segment) marked) (whole v))
@@ -187,14 +137,11 @@ end_from_along marked s v e =
     by which.1.segment there (or_cases (same_whole v which.1.segment.left) (same_whole v which.1.segment.right) tests.1)
   where
     by : (t : Segment) → Contains (map (λ m. m.segment) marked) t → (same_whole v t.left ≡ true) ⊎ (same_whole v t.right ≡ true) → IsTrue (is_end (map (λ m. m.segment) marked) (whole v))
-    by t c (inl f) = is_left_end (map (λ m. m.segment) marked) t c (whole v) (same_as_points v t.left f)
-    by t c (inr f) = is_right_end (map (λ m. m.segment) marked) t c (whole v) (same_as_points v t.right f)
+    by t c (inl f) = end_among (map (λ m. m.segment) marked) t c (whole v) (or_left _ _ (same_as_points v t.left f))
+    by t c (inr f) = end_among (map (λ m. m.segment) marked) t c (whole v) (or_right (same_place (whole v) (whole t.left)) _ (same_as_points v t.right f))
 
 way_turn : (a b l m x y u v : ℤ) → ((a *ℤ (v -ℤ (m *ℤ pos 1))) -ℤ (b *ℤ (u -ℤ (l *ℤ pos 1)))) -ℤ ((a *ℤ (y -ℤ (m *ℤ pos 1))) -ℤ (b *ℤ (x -ℤ (l *ℤ pos 1)))) ≡ (a *ℤ (v -ℤ y)) -ℤ (b *ℤ (u -ℤ x))
 way_turn a b l m x y u v = rw (split a, split b, split l, split m, split x, split y, split u, split v) (simp differences (same _ _ _ _ (omega arith)))
-
-turned_way : (a b c d : ℤ) → (a *ℤ d) -ℤ (b *ℤ c) ≡ pos 0 → (c *ℤ b) -ℤ (d *ℤ a) ≡ pos 0
-turned_way a b c d e = omega (arith, ints, e, *ℤ_comm a d, *ℤ_comm b c)
 
 -- the segment that covers a stretch holds it
 pub covering_turn : (t s : Segment) → IsTrue (is_on t (whole s.left)) → IsTrue (is_on t (whole s.right)) → turn_of t s ≡ pos 0
@@ -207,7 +154,7 @@ covering_turn t s on_left on_right =
 
 pub covering_holds : (t s : Segment) → whole_cmp s.left s.right ≡ Less → IsTrue (is_on t (whole s.left)) → IsTrue (is_on t (whole s.right)) → (p : Point) → pos 0 <ℤ p.w → IsTrue (is_on s p) → IsTrue (is_on t p)
 covering_holds t s ahead on_left on_right p hp on_s =
-    let turn = turned_way (t.right.x -ℤ t.left.x) (t.right.y -ℤ t.left.y) (s.right.x -ℤ s.left.x) (s.right.y -ℤ s.left.y) (covering_turn t s on_left on_right) in
+    let turn = no_turn_back t s (covering_turn t s on_left on_right) in
     let level = parallel_line s t (whole s.left) p ahead turn one_positive (left_on_line s) (on_line t (whole s.left) on_left) (on_line s p on_s) in
     between_on t (whole s.left) p (whole s.right) one_positive hp one_positive on_left on_right level (after_left s p on_s) (before_right s p hp on_s)
 

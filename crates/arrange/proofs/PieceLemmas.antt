@@ -5,16 +5,14 @@ use Rattle.std.proofs.lemmas.Int.{ints}
 use Rattle.std.proofs.lemmas.Bool.{and_parts, and_from}
 use Rattle.std.proofs.Math.IntN.{*ℤ_comm}
 use Rattle.std.specs.declared.cmp.Ordering.TheVariants.{Less}
+use Rattle.std.specs.Cmp.{both_ways}
 use Rattle.overlay_terms.specs.Plane.{Point, Segment, whole, whole_cmp, point_cmp, same_place, height_over, is_on}
 use Rattle.overlay_terms.specs.Tiles.{is_node, is_parallel, midpoint}
+use Rattle.overlay_terms.proofs.InputNumbers.{middle_positive}
 use Rattle.exact_point.specs.Crossing.{turn_of}
-use Rattle.arrange.proofs.Orders.{one_positive, same_self, alike_left, alike_right, less_through, not_before_self, Way, before, at, after, way_of, on_same}
-use Rattle.arrange.proofs.NodeGeometry.{parallel_line, between_on, within_on, after_left, before_right, on_line, left_on_line, right_on_line, turn_from_parallel, middle_line, middle_after, middle_before, middle_positive}
-use Rattle.arrange.proofs.NodeSound.{is_left_end, is_right_end, crossing_there, node_at_end}
-
--- a point before another is not after it
-pub not_after_less : (p q : Point) → pos 0 <ℤ p.w → pos 0 <ℤ q.w → point_cmp p q ≡ Less → point_cmp q p ≡ Less → ⊥
-not_after_less p q h k e f = not_before_self p p h h (same_self p) (less_through p q p h k h e f)
+use Rattle.exact_point.proofs.OnLine.{parallel_line, between_on, within_on, after_left, before_right, on_line, left_on_line, right_on_line, turn_from_parallel, middle_line, middle_after, middle_before, no_turn_back}
+use Rattle.exact_point.proofs.PlaceOrder.{not_after_less, one_positive, same_self, alike_left, alike_right, less_through, not_before_self, Way, before, at, after, way_of, on_same}
+use Rattle.exact_point.proofs.Nodes.{right_node, crossing_is_node, left_node}
 
 module _ (s : Segment) (ahead : whole_cmp s.left s.right ≡ Less) (segments : List Segment) (among : Contains segments s) (p r : Point) (hp : pos 0 <ℤ p.w) (hr : pos 0 <ℤ r.w)
     (on_p : IsTrue (is_on s p)) (on_r : IsTrue (is_on s r)) (in_order : point_cmp p r ≡ Less)
@@ -35,7 +33,7 @@ module _ (s : Segment) (ahead : whole_cmp s.left s.right ≡ Less) (segments : L
     by true e = turn_from_parallel s t e
     by false e =
         absurd (none (midpoint p r) hm (middle_on s on_p on_r) (middle_after p r hp in_order) (middle_before p r hr in_order)
-        (crossing_there segments s t (midpoint p r) among c (middle_on s on_p on_r) on_t e))
+        (crossing_is_node segments s t (midpoint p r) among c (middle_on s on_p on_r) on_t e))
 
   -- a point of the segment's line between the two ends of the piece that is an end of a segment lies at one of them
   no_end_between : (q : Point) → pos 0 <ℤ q.w → height_over s q ≡ pos 0 → IsTrue (is_node segments q) → point_cmp p q ≡ Less → point_cmp q r ≡ Less → ⊥
@@ -45,16 +43,13 @@ module _ (s : Segment) (ahead : whole_cmp s.left s.right ≡ Less) (segments : L
   -- the line of the one is the line of the other
   other_line : (t : Segment) → whole_cmp t.left t.right ≡ Less → IsTrue (is_on t (midpoint p r)) → turn_of s t ≡ pos 0 → (q : Point) → height_over t q ≡ pos 0 → height_over s q ≡ pos 0
   other_line t forward on_t turn q level =
-      parallel_line t s (midpoint p r) q forward (turned_way turn) hm (on_line t (midpoint p r) on_t) (on_line s (midpoint p r) (middle_on s on_p on_r)) level
-    where
-      turned_way : turn_of s t ≡ pos 0 → turn_of t s ≡ pos 0
-      turned_way e = omega (arith, ints, e, *ℤ_comm (s.right.x -ℤ s.left.x) (t.right.y -ℤ t.left.y), *ℤ_comm (s.right.y -ℤ s.left.y) (t.right.x -ℤ t.left.x))
+      parallel_line t s (midpoint p r) q forward (no_turn_back s t turn) hm (on_line t (midpoint p r) on_t) (on_line s (midpoint p r) (middle_on s on_p on_r)) level
 
   -- the left end of a segment that holds the middle is not behind the left end of the piece
   left_end_first : (t : Segment) → Contains segments t → whole_cmp t.left t.right ≡ Less → IsTrue (is_on t (midpoint p r)) → point_cmp p (whole t.left) ≡ Less → ⊥
   left_end_first t c forward on_t low =
       no_end_between (whole t.left) one_positive (other_line t forward on_t (along t c on_t) (whole t.left) (left_on_line t))
-      (node_at_end segments (whole t.left) (is_left_end segments t c (whole t.left) (same_self (whole t.left)))) low
+      (left_node segments t c) low
       (by (way_of (whole t.left) r one_positive hr))
     where
       by : Way (whole t.left) r → point_cmp (whole t.left) r ≡ Less
@@ -66,7 +61,7 @@ module _ (s : Segment) (ahead : whole_cmp s.left s.right ≡ Less) (segments : L
   right_end_last : (t : Segment) → Contains segments t → whole_cmp t.left t.right ≡ Less → IsTrue (is_on t (midpoint p r)) → point_cmp (whole t.right) r ≡ Less → ⊥
   right_end_last t c forward on_t high =
       no_end_between (whole t.right) one_positive (other_line t forward on_t (along t c on_t) (whole t.right) (right_on_line t))
-      (node_at_end segments (whole t.right) (is_right_end segments t c (whole t.right) (same_self (whole t.right))))
+      (right_node segments t c)
       (by (way_of p (whole t.right) hp one_positive)) high
     where
       by : Way p (whole t.right) → point_cmp p (whole t.right) ≡ Less
@@ -98,10 +93,5 @@ module _ (s : Segment) (ahead : whole_cmp s.left s.right ≡ Less) (segments : L
   -- the segments that hold the two ends of a piece are those that hold its middle
   pub middle_held : (t : Segment) → Contains segments t → whole_cmp t.left t.right ≡ Less → (is_on t p && is_on t r) ≡ is_on t (midpoint p r)
   middle_held t c forward =
-      agree (is_on t p && is_on t r) (is_on t (midpoint p r)) (λ e. let both = and_parts (is_on t p) (is_on t r) e in middle_on t both.0 both.1)
+      both_ways (is_on t p && is_on t r) (is_on t (midpoint p r)) (λ e. let both = and_parts (is_on t p) (is_on t r) e in middle_on t both.0 both.1)
       (λ e. let both = ends_on t c forward e in and_from (is_on t p) (is_on t r) both.0 both.1)
-    where
-      agree : (a b : Bool) → (a ≡ true → b ≡ true) → (b ≡ true → a ≡ true) → a ≡ b
-      agree true b f g = sym (f refl)
-      agree false true f g = g refl
-      agree false false f g = refl

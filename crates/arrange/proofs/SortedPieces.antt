@@ -15,15 +15,17 @@ use Rattle.std.specs.declared.cmp.Ordering.{Ordering}
 use Rattle.std.specs.declared.cmp.Ordering.TheVariants.{Less, Equal, Greater}
 use Rattle.overlay_terms.specs.Plane.{Point, Segment, whole_cmp, point_cmp, same_place, is_on}
 use Rattle.overlay_terms.specs.Tiles.{is_node, Input}
+use Rattle.overlay_terms.proofs.Lists.{any_from, any_contains, contains_map}
+use Rattle.overlay_terms.proofs.PointOrder.{both_equal}
 use Rattle.exact_point.specs.Crossing.{turn_of}
 use Rattle.exact_point.specs.Place.{place, hpoint_cmp}
 use Rattle.exact_point.specs.PlaceOf.{place_of}
+use Rattle.exact_point.proofs.PlaceOrder.{Way, before, at, after, way_of, same_from_equal, same_through, same_turned}
+use Rattle.exact_point.proofs.OnLine.{no_turn_back}
 use Rattle.arrange.specs.Arrangement.{segments_in, IsElementary, ComesBefore, ArePieces}
 use Rattle.arrange.specs.HeldPieces.{held_cmp, held_total, same_held, same_held_equiv, IsMadeAt, IsHeld, has_ends, HoldsPieces}
 use Rattle.arrange.specs.declared.piece.Elementary.{Elementary}
 use Rattle.arrange.specs.declared.held_piece.HeldPiece.{HeldPiece}
-use Rattle.arrange.proofs.Orders.{Way, before, at, after, way_of, same_from_equal, same_through, same_turned}
-use Rattle.arrange.proofs.FoundLemmas.{any_from, any_contains, contains_map}
 use Rattle.arrange.proofs.SortedPlaces.{strict_pairs, all_deduped, equal_from_test}
 use Rattle.arrange.proofs.NodeSound.{pairs_mapped}
 use Rattle.arrange.proofs.PieceLemmas.{no_shorter}
@@ -32,11 +34,6 @@ less_cases : (o i : Ordering) → ordering_then o i ≡ Less → (o ≡ Less) �
 less_cases Less i e = inl refl
 less_cases Equal i e = inr (refl, e)
 less_cases Greater i e = absurd (cc)
-
-equal_parts : (o i : Ordering) → ordering_then o i ≡ Equal → (o ≡ Equal) × (i ≡ Equal)
-equal_parts Less i e = absurd (cc)
-equal_parts Equal i e = (refl, e)
-equal_parts Greater i e = absurd (cc)
 
 less_ranked : (x y : ℤ) → int_cmp x y ≡ Less → x <ℤ y
 less_ranked x y e = int_ranked x y Less (sym e)
@@ -54,12 +51,6 @@ comes_before input a b h g e = by (less_cases (hpoint_cmp a.at b.at) (int_cmp (p
   by (inl f) = inl (sym (by_names input a b h g) ∙ f)
   by (inr f) = inr (sym (by_names input a b h g) ∙ f.0, less_ranked (pos 0) (turn_of a.piece.support b.piece.support) f.1)
 
-turned_back : (a b c d : ℤ) → (a *ℤ d) -ℤ (b *ℤ c) ≡ pos 0 → (c *ℤ b) -ℤ (d *ℤ a) ≡ pos 0
-turned_back a b c d e = omega (arith, ints, e, *ℤ_comm a d, *ℤ_comm b c)
-
-turn_back : (s t : Segment) → turn_of s t ≡ pos 0 → turn_of t s ≡ pos 0
-turn_back s t e = turned_back (s.right.x -ℤ s.left.x) (s.right.y -ℤ s.left.y) (t.right.x -ℤ t.left.x) (t.right.y -ℤ t.left.y) e
-
 -- on supports in one direction, no piece from the same place is shorter
 not_shorter : (input : Input) (d e : Elementary) (p r p' r' : Point) → whole_cmp d.support.left d.support.right ≡ Less → whole_cmp e.support.left e.support.right ≡ Less
     → IsMadeAt input d p r → IsMadeAt input e p' r' → IsTrue (same_place p p') → turn_of e.support d.support ≡ pos 0 → point_cmp r' r ≡ Less → ⊥
@@ -74,7 +65,7 @@ one_piece : (input : Input) (a b : HeldPiece) → IsHeld input a → IsHeld inpu
     → IsTrue (same_place (place_of a.piece.from) (place_of b.piece.from)) × IsTrue (same_place (place_of a.piece.to) (place_of b.piece.to))
 one_piece input a b h g e = (same_from, by (way_of (place_of a.piece.to) (place_of b.piece.to) h.made.piece.to_positive g.made.piece.to_positive)) where
   parts : (hpoint_cmp a.at b.at ≡ Equal) × (int_cmp (pos 0) (turn_of a.piece.support b.piece.support) ≡ Equal)
-  parts = equal_parts (hpoint_cmp a.at b.at) (int_cmp (pos 0) (turn_of a.piece.support b.piece.support)) (equal_from_test (held_cmp a b) e)
+  parts = both_equal (hpoint_cmp a.at b.at) (int_cmp (pos 0) (turn_of a.piece.support b.piece.support)) (equal_from_test (held_cmp a b) e)
 
   same_from : IsTrue (same_place (place_of a.piece.from) (place_of b.piece.from))
   same_from = same_from_equal (place_of a.piece.from) (place_of b.piece.from) h.made.piece.from_positive g.made.piece.from_positive (sym (by_names input a b h g) ∙ parts.0)
@@ -89,7 +80,7 @@ one_piece input a b h g e = (same_from, by (way_of (place_of a.piece.to) (place_
   by (at f) = f
   by (after f) =
       absurd (not_shorter input a.piece b.piece (place_of a.piece.from) (place_of a.piece.to) (place_of b.piece.from) (place_of b.piece.to) a.ahead b.ahead h.made g.made
-      same_from (turn_back a.piece.support b.piece.support turn) f)
+      same_from (no_turn_back a.piece.support b.piece.support turn) f)
 
 elementary : (input : Input) (h : HeldPiece) → IsHeld input h → IsElementary input h.piece
 elementary input h g = record {

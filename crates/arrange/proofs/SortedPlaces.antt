@@ -12,11 +12,11 @@ use Rattle.std.specs.declared.cmp.Ordering.{Ordering}
 use Rattle.std.specs.declared.cmp.Ordering.TheVariants.{Less, Equal, Greater}
 use Rattle.overlay_terms.specs.Plane.{Point, Segment, whole_cmp, same_place}
 use Rattle.overlay_terms.specs.Tiles.{Input}
+use Rattle.overlay_terms.proofs.Lists.{any_from, any_contains}
+use Rattle.exact_point.proofs.PlaceOrder.{same_from_equal, same_through}
 use Rattle.arrange.specs.Arrangement.{IsNodeOn}
 use Rattle.arrange.specs.NamedPlaces.{spot, named_cmp, named_total, same_named, same_named_equiv, names_along, IsFound, AreFound, AreAlong}
 use Rattle.arrange.specs.declared.named_place.NamedPlace.{NamedPlace}
-use Rattle.arrange.proofs.Orders.{same_from_equal, same_through}
-use Rattle.arrange.proofs.FoundLemmas.{any_from, any_contains}
 use Rattle.arrange.proofs.NodeLemmas.{node_found}
 
 -- in strictly rising order, each is before all later ones

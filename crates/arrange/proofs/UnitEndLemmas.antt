@@ -17,28 +17,18 @@ use Rattle.std.specs.declared.cmp.Ordering.TheVariants.{Less, Equal, Greater}
 use Rattle.overlay_terms.specs.Plane.{WholePoint, Segment, whole, whole_cmp, same_whole, is_on}
 use Rattle.overlay_terms.specs.Layers.{Marked}
 use Rattle.overlay_terms.proofs.InputLists.{Contains-filter, Contains-from_filter}
+use Rattle.overlay_terms.proofs.Lists.{Contains-cons_cases, in_flat_map, from_flat_map}
+use Rattle.overlay_terms.proofs.PointOrder.{same_points, whole_cmp_total, is_eq_then}
 use Rattle.arrange.specs.Units.{is_collinear}
 use Rattle.arrange.specs.UnitLists.{ends_from, IsEndOn, AreEndsOn}
 use Rattle.arrange.specs.declared.marked_seg.MarkedSeg.{MarkedSeg}
 use Rattle.arrange.specs.Marked.{marked_of}
-use Rattle.arrange.proofs.FoundLemmas.{Contains-cons_cases, in_flat_map, from_flat_map}
 use Rattle.arrange.proofs.SortedPlaces.{strict_pairs, all_deduped}
-use Rattle.arrange.proofs.RingEnds.{same_points}
 use Rattle.arrange.proofs.UnitLineLemmas.{end_of, is_end_of, same_whole_self}
-
--- the order of whole points is total
-pub whole_total : IsTotalOrder whole_cmp
-whole_total = then_total (on_total (λ (p : WholePoint). p.x) int_cmp_total) (on_total (λ (p : WholePoint). p.y) int_cmp_total)
-
--- comparisons one after the other end in Equal where both do
-both_equal : (o r : Ordering) → (is_eq o && is_eq r) ≡ is_eq (ordering_then o r)
-both_equal Less r = refl
-both_equal Equal r = refl
-both_equal Greater r = refl
 
 -- whole points are one where the order tells them not apart
 ties : (a b : WholePoint) → same_whole a b ≡ eq_by_cmp whole_cmp a b
-ties a b = both_equal (int_cmp a.x b.x) (int_cmp a.y b.y)
+ties a b = sym (is_eq_then (int_cmp a.x b.x) (int_cmp a.y b.y))
 
 same_turned : (a b : WholePoint) (x y : Bool) → same_whole a b ≡ x → same_whole b a ≡ y → (x ≡ true → y ≡ true) → (y ≡ true → x ≡ true) → x ≡ y
 same_turned a b true true e f g h = refl
@@ -107,7 +97,7 @@ pub ends_sorted : (s : Segment) (marked : List Marked) (found sorted list : List
 ends_sorted s marked found sorted list is moved up kept =
     subst (AreEndsOn marked s) (sym kept) (record {
       sound = all_deduped (IsEndOn marked s) same_whole sorted (All-permutation (IsEndOn marked s) found sorted moved all_found);
-      ordered = strict_pairs whole_cmp (dedup same_whole sorted) (IsStrictlySortedBy-dedup whole_total ties sorted up);
+      ordered = strict_pairs whole_cmp (dedup same_whole sorted) (IsStrictlySortedBy-dedup whole_cmp_total ties sorted up);
       complete = λ v end. Contains-dedup same_whole_equiv same_points sorted v
           (Contains-permutation found sorted v moved (subst (λ (l : List WholePoint). Contains l v) (sym is) (end_is_found s marked v end)));
     })
@@ -147,7 +137,7 @@ in_order list up i j d h k less = by (cases_order i j) where
 
   by : (i ≡ j) ⊎ ((i < j) ⊎ (j < i)) → i < j
   by (inl e) =
-      absurd (level (sym (tied_itself whole_total (get_or list j d)) ∙ subst (λ (n : ℕ). whole_cmp (get_or list n d) (get_or list j d) ≡ Less) e less))
+      absurd (level (sym (tied_itself whole_cmp_total (get_or list j d)) ∙ subst (λ (n : ℕ). whole_cmp (get_or list n d) (get_or list j d) ≡ Less) e less))
   by (inr (inl l)) = l
   by (inr (inr g)) =
-      absurd (above (sym (whole_total.antisymm (get_or list i d) (get_or list j d) ∙ ap ordering_reverse (up j i d g h)) ∙ less))
+      absurd (above (sym (whole_cmp_total.antisymm (get_or list i d) (get_or list j d) ∙ ap ordering_reverse (up j i d g h)) ∙ less))

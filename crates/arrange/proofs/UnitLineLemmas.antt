@@ -9,13 +9,13 @@ use Rattle.std.proofs.Math.IntN.{*ℤ_comm}
 use Rattle.std.specs.declared.cmp.Ordering.TheVariants.{Less}
 use Rattle.overlay_terms.specs.Plane.{WholePoint, Segment, whole, whole_cmp, same_whole, point_cmp, height_over, is_on}
 use Rattle.overlay_terms.specs.Layers.{Marked}
+use Rattle.overlay_terms.proofs.Lists.{any_from, any_contains}
+use Rattle.overlay_terms.proofs.PointOrder.{same_points}
 use Rattle.exact_point.specs.Crossing.{turn_of}
+use Rattle.exact_point.proofs.OnLine.{parallel_line, on_line, left_on_line, no_turn_back}
+use Rattle.exact_point.proofs.PlaceOrder.{one_positive, level_from, level_test}
 use Rattle.arrange.specs.Units.{is_collinear, is_end_along}
-use Rattle.arrange.proofs.Orders.{one_positive, level_from, level_test}
-use Rattle.arrange.proofs.FoundLemmas.{any_from, any_contains}
-use Rattle.arrange.proofs.NodeGeometry.{parallel_line, on_line, left_on_line}
 use Rattle.arrange.proofs.NodeSound.{covering_turn}
-use Rattle.arrange.proofs.RingEnds.{same_points}
 
 -- a whole point is itself
 pub same_whole_self : (v : WholePoint) → same_whole v v ≡ true
@@ -73,9 +73,6 @@ end_level marked s v e = by (end_of marked s v e) where
     which t tests (inl l) = ap (λ w. height_over s (whole w)) l ∙ level_from (height_over s (whole t.left)) (pos 0) tests.0
     which t tests (inr r) = ap (λ w. height_over s (whole w)) r ∙ level_from (height_over s (whole t.right)) (pos 0) tests.1
 
-turned_way : (a b c d : ℤ) → (a *ℤ d) -ℤ (b *ℤ c) ≡ pos 0 → (c *ℤ b) -ℤ (d *ℤ a) ≡ pos 0
-turned_way a b c d e = omega (arith, ints, e, *ℤ_comm a d, *ℤ_comm b c)
-
 -- what is on one line by two tests is on another
 both_levels : (s t u : Segment) → ((v : WholePoint) → height_over s (whole v) ≡ pos 0 → height_over t (whole v) ≡ pos 0) → is_collinear s u ≡ true → is_collinear t u ≡ true
 both_levels s t u h e =
@@ -91,7 +88,7 @@ module _ (t s : Segment) (t_ahead : whole_cmp t.left t.right ≡ Less) (s_ahead 
   -- the line of the stretch is that of the segment
   cover_level : (v : WholePoint) → height_over s (whole v) ≡ pos 0 → height_over t (whole v) ≡ pos 0
   cover_level v e =
-      let back : turn_of s t ≡ pos 0 = turned_way (t.right.x -ℤ t.left.x) (t.right.y -ℤ t.left.y) (s.right.x -ℤ s.left.x) (s.right.y -ℤ s.left.y) turns_not in
+      let back : turn_of s t ≡ pos 0 = no_turn_back t s turns_not in
       parallel_line s t (whole s.left) (whole v) s_ahead back one_positive (left_on_line s) (on_line t (whole s.left) on_left) e
 
   stretch_level : (v : WholePoint) → height_over t (whole v) ≡ pos 0 → height_over s (whole v) ≡ pos 0

@@ -12,6 +12,8 @@ use Rattle.overlay_terms.specs.Trees.{mask_bits}
 use Rattle.overlay_terms.specs.Layers.{Marked}
 use Rattle.overlay_terms.specs.Tiles.{Input}
 use Rattle.overlay_terms.specs.TileLaws.{IsInput}
+use Rattle.overlay_terms.proofs.Lists.{contains_map, any_contains}
+use Rattle.overlay_terms.proofs.PointOrder.{same_points}
 use Rattle.arrange.specs.Units.{covers, cover_bits, IsUnit, AreUnits}
 use Rattle.arrange.specs.UnitLists.{stretches, AreSomeUnits, HaveGrown}
 use Rattle.arrange.specs.declared.unit.Unit.{Unit}
@@ -19,8 +21,6 @@ use Rattle.arrange.specs.declared.marked_seg.MarkedSeg.{MarkedSeg}
 use Rattle.arrange.specs.Marked.{marked_of}
 use Rattle.overlay_terms.proofs.InputLists.{any_from_Contains}
 use Rattle.overlay_terms.specs.SameInput.{same_segment}
-use Rattle.arrange.proofs.FoundLemmas.{contains_map, any_contains}
-use Rattle.arrange.proofs.RingEnds.{same_points}
 use Rattle.arrange.proofs.UnitLineLemmas.{same_whole_self}
 
 -- a segment is itself, and one that passes the test for another is the other
@@ -120,14 +120,3 @@ have_all items i list h have = record {
       let within : a.0 < length items = omega (arith, length-map items marked_of, a.2) in
       let same : a.1 ≡ marked_of (get_or items a.0 some) = sym a.3 ∙ get_or-map marked_of items a.0 some a.1 within in
       have.complete s unit a.0 some (omega (arith, within, h)) (subst (λ (m : Marked). covers m.segment s ≡ true) same a.4)
-
--- the layers of an input are below 32
-pub few_layers : (input : Input) (items : List MarkedSeg) → IsInput input → map marked_of items ≡ input.marked → All (λ m. m.layer < 32) items
-few_layers input items valid same = λ k d l.
-    let within : k < length input.marked = omega (arith, ap length same, length-map items marked_of, l) in
-    let known : (get_or input.marked k (marked_of d)).layer < input.steps.bases = valid.known k (marked_of d) within in
-    let is : get_or (map marked_of items) k (marked_of d) ≡ marked_of (get_or items k d) = get_or-map marked_of items k d (marked_of d) l in
-    let low : (get_or items k d).layer < input.steps.bases =
-    subst (λ (m : Marked). m.layer < input.steps.bases) (ap (λ ms. get_or ms k (marked_of d)) (sym same) ∙ is) known in
-    let few = valid.few in
-    omega (arith, low, few)

@@ -8,16 +8,17 @@ use Rattle.std.specs.declared.cmp.Ordering.TheVariants.{Less}
 use Rattle.overlay_terms.specs.Plane.{WholePoint, Segment, whole, whole_cmp, point_cmp, is_on}
 use Rattle.overlay_terms.specs.Layers.{Marked}
 use Rattle.overlay_terms.proofs.InputLists.{any_from_Contains}
+use Rattle.overlay_terms.proofs.PointOrder.{whole_cmp_total}
+use Rattle.exact_point.proofs.OnLine.{between_on}
+use Rattle.exact_point.proofs.PlaceOrder.{one_positive}
 use Rattle.arrange.specs.Units.{covers, IsUnit}
 use Rattle.arrange.specs.UnitLists.{IsEndOn, AreEndsOn}
-use Rattle.arrange.proofs.Orders.{one_positive}
-use Rattle.arrange.proofs.NodeGeometry.{between_on}
 use Rattle.arrange.proofs.UnitLineLemmas.{whole_order, end_level, along_cover, along_stretch}
-use Rattle.arrange.proofs.UnitEndLemmas.{whole_total, in_order}
+use Rattle.arrange.proofs.UnitEndLemmas.{in_order}
 
 -- what comes after a point is not before it
 not_back : (a b : WholePoint) → whole_cmp a b ≡ Less → point_cmp (whole b) (whole a) ≡ Less → ⊥
-not_back a b h e = above (sym (whole_total.antisymm b a ∙ ap ordering_reverse h) ∙ whole_order b a ∙ e) where
+not_back a b h e = above (sym (whole_cmp_total.antisymm b a ∙ ap ordering_reverse h) ∙ whole_order b a ∙ e) where
   above : ordering_reverse Less ≡ Less → ⊥
   above e = cc
 

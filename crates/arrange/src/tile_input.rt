@@ -1,5 +1,5 @@
 //! What a tile is made of.
-ghost use Rattle.std.specs.Prelude.{◌≡◌, ◌≤◌, ◌++◌, None, All, map, length, IfOk, OnOk};
+ghost use Rattle.std.specs.Prelude.{◌≡◌, ◌<◌, ◌≤◌, ◌++◌, None, All, map, length, IfOk, OnOk};
 ghost use Rattle.overlay_terms.specs.Plane.{segments_of};
 ghost use Rattle.overlay_terms.specs.Column.{touches};
 ghost use Rattle.overlay_terms.specs.Layers.{marked_segments};
@@ -107,6 +107,7 @@ impl TileInput {
 
     pub fn marked(&self) -> &[MarkedSeg]
         ensures value { map marked_of result.now ≡ self.now.marked }
+        ensures few { All (λ m. m.layer < 32) result.now }
         ensures valid { IsInput self.now }
     {
         &self.marked

@@ -8,23 +8,19 @@ use Rattle.std.specs.Bool.{IsTrue}
 use Rattle.overlay_terms.specs.Plane.{Point, Segment, height_over, same_place}
 use Rattle.overlay_terms.specs.Column.{border}
 use Rattle.overlay_terms.proofs.Difference.{split, differences, same}
-use Rattle.exact_point.proofs.Lexical.{zero_factor}
+use Rattle.exact_point.proofs.Signs.{zero_factor}
 use Rattle.exact_point.proofs.OnSegment.{reached, is_reached, part_reached}
+use Rattle.exact_point.proofs.OnLine.{level_way}
 use Rattle.exact_point.specs.Crossing.{IsPartWay}
 use Rattle.exact_point.specs.PointName.{IsCutBy, IsCutOf}
 
-swapped : (a b l s x y w u v q : ℤ) → a *ℤ ((y *ℤ q) -ℤ (v *ℤ w)) ≡ ((((a *ℤ (y -ℤ (s *ℤ w))) -ℤ (b *ℤ (x -ℤ (l *ℤ w)))) *ℤ q) -ℤ (((a *ℤ (v -ℤ (s *ℤ q))) -ℤ (b *ℤ (u -ℤ (l *ℤ q)))) *ℤ w)) +ℤ (b *ℤ ((x *ℤ q) -ℤ (u *ℤ w)))
-swapped a b l s x y w u v q =
-    rw (split a, split b, split l, split s, split x, split y, split w, split u, split v, split q) (simp differences (same _ _ _ _ (omega arith)))
-
-at_border : (l r b : ℤ) → (l *ℤ (r -ℤ l)) +ℤ ((r -ℤ l) *ℤ (b -ℤ l)) ≡ b *ℤ (r -ℤ l)
+-- over a border, part of the way is the border's x
+pub at_border : (l r b : ℤ) → (l *ℤ (r -ℤ l)) +ℤ ((r -ℤ l) *ℤ (b -ℤ l)) ≡ b *ℤ (r -ℤ l)
 at_border l r b = rw (split l, split r, split b) (simp differences (same _ _ _ _ (omega arith)))
 
-either_way : (b w q : ℤ) → (b *ℤ w) *ℤ q ≡ (b *ℤ q) *ℤ w
+-- the last two of three factors turned round
+pub either_way : (b w q : ℤ) → (b *ℤ w) *ℤ q ≡ (b *ℤ q) *ℤ w
 either_way b w q = rw (split b, split w, split q) (simp differences (same _ _ _ _ (omega arith)))
-
-all_none : (q w b : ℤ) → ((pos 0 *ℤ q) -ℤ (pos 0 *ℤ w)) +ℤ (b *ℤ pos 0) ≡ pos 0
-all_none q w b = omega (arith, ints, zero-*ℤ q, zero-*ℤ w, *ℤ-zero b)
 
 -- two points of a line that is not vertical, over one x, are one place
 pub one_over_x : (s : Segment) (z p : Point) → s.left.x <ℤ s.right.x → height_over s z ≡ pos 0 → height_over s p ≡ pos 0 → z.x *ℤ p.w ≡ p.x *ℤ z.w → IsTrue (same_place z p)
@@ -33,12 +29,7 @@ one_over_x s z p wide h k ex =
     let b : ℤ = s.right.y -ℤ s.left.y in
     let apart : (z.x *ℤ p.w) -ℤ (p.x *ℤ z.w) ≡ pos 0 = omega (arith, ints) in
     let right : pos 0 <ℤ a = omega (arith, ints) in
-    let level : a *ℤ ((z.y *ℤ p.w) -ℤ (p.y *ℤ z.w)) ≡ pos 0 =
-    swapped a b s.left.x s.left.y z.x z.y z.w p.x p.y p.w
-    ∙ ap (λ n. ((n *ℤ p.w) -ℤ (height_over s p *ℤ z.w)) +ℤ (b *ℤ ((z.x *ℤ p.w) -ℤ (p.x *ℤ z.w)))) h
-    ∙ ap (λ n. ((pos 0 *ℤ p.w) -ℤ (n *ℤ z.w)) +ℤ (b *ℤ ((z.x *ℤ p.w) -ℤ (p.x *ℤ z.w)))) k
-    ∙ ap (λ n. ((pos 0 *ℤ p.w) -ℤ (pos 0 *ℤ z.w)) +ℤ (b *ℤ n)) apart
-    ∙ all_none p.w z.w b in
+    let level : a *ℤ ((z.y *ℤ p.w) -ℤ (p.y *ℤ z.w)) ≡ pos 0 = omega (arith, ints, level_way s p z k h, ap (λ n. b *ℤ n) apart, *ℤ-zero b) in
     let same_y = zero_factor ((z.y *ℤ p.w) -ℤ (p.y *ℤ z.w)) a right (*ℤ_comm ((z.y *ℤ p.w) -ℤ (p.y *ℤ z.w)) a ∙ level) in
     let ey : z.y *ℤ p.w ≡ p.y *ℤ z.w = omega (arith, ints, same_y) in
     and_from _ _ ((Decides-int_eq (z.x *ℤ p.w) (p.x *ℤ z.w)).1 ex) ((Decides-int_eq (z.y *ℤ p.w) (p.y *ℤ z.w)).1 ey)

@@ -36,11 +36,11 @@ same_denominator x a y b w v h e =
     ∙ ap (λ z. ordering_then (int_cmp (x *ℤ z) (a *ℤ w)) (int_cmp (y *ℤ z) (b *ℤ w))) e
 
 -- ---- three tests joined
-first_fails : (x y z : Bool) → x ≡ false → false ≡ (x && y && z)
+pub first_fails : (x y z : Bool) → x ≡ false → false ≡ (x && y && z)
 first_fails true y z e = cc
 first_fails false y z e = refl
 
-last_decides : (x y z b : Bool) → x ≡ true → y ≡ true → b ≡ z → b ≡ (x && y && z)
+pub last_decides : (x y z b : Bool) → x ≡ true → y ≡ true → b ≡ z → b ≡ (x && y && z)
 last_decides true true z b e f k = k
 last_decides true false z b e f k = cc
 last_decides false y z b e f k = cc

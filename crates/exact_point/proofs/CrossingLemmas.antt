@@ -10,7 +10,8 @@ use Rattle.overlay_terms.specs.Plane.{Point, Segment, same_place, whole_cmp}
 use Rattle.std.specs.declared.cmp.Ordering.TheVariants.{Less}
 use Rattle.overlay_terms.specs.Tiles.{is_parallel}
 use Rattle.overlay_terms.proofs.Difference.{split, differences, same, mul_mono}
-use Rattle.exact_point.proofs.Lexical.{Forward, NotBack, no_negative, no_negative_factor}
+use Rattle.exact_point.proofs.Signs.{no_negative_factor}
+use Rattle.exact_point.proofs.Lexical.{Forward, NotBack, no_negative}
 use Rattle.exact_point.proofs.OnSegment.{IsReached, reached, is_reached, part_reached, leads}
 use Rattle.exact_point.specs.Crossing.{IsCrossingOf, IsOnlyCrossingOf, CrossNowhere, IsPartWay, turn_of, lead_of}
 
@@ -52,7 +53,8 @@ rest_of w t v a = rw (split w, split t, split v, split a) (simp differences (sam
 spread : (w y x : ℤ) → w *ℤ (y -ℤ x) ≡ (w *ℤ y) -ℤ (w *ℤ x)
 spread w y x = rw (split w, split y, split x) (simp differences (same _ _ _ _ (omega arith)))
 
-to_end : (l r w x : ℤ) → ((r -ℤ l) *ℤ w) -ℤ (x -ℤ (l *ℤ w)) ≡ (r *ℤ w) -ℤ x
+-- from a place on to the right end
+pub to_end : (l r w x : ℤ) → ((r -ℤ l) *ℤ w) -ℤ (x -ℤ (l *ℤ w)) ≡ (r *ℤ w) -ℤ x
 to_end l r w x = rw (split l, split r, split w, split x) (simp differences (same _ _ _ _ (omega arith)))
 
 one_place : (l a t w v x : ℤ) → ((l *ℤ w) +ℤ (a *ℤ t)) *ℤ v ≡ ((x *ℤ w) -ℤ (w *ℤ (x -ℤ (l *ℤ v)))) +ℤ ((t *ℤ v) *ℤ a)

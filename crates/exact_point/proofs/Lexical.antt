@@ -7,8 +7,8 @@ use Rattle.std.specs.Bool.{IsTrue}
 use Rattle.std.specs.Ordering.{int_cmp, is_lt, is_gt, ordering_then, MatchOrdering}
 use Rattle.std.specs.declared.cmp.Ordering.{Ordering}
 use Rattle.std.specs.declared.cmp.Ordering.TheVariants.{Less, Equal, Greater}
-use Rattle.overlay_terms.proofs.Ratios.{mul_less}
 use Rattle.overlay_terms.proofs.Difference.{mul_pos, mul_mono}
+use Rattle.exact_point.proofs.Signs.{negative_times}
 
 -- the step (x, y) leads right, or straight up
 abbrev pub Forward : ℤ → ℤ → Type 0
@@ -76,9 +76,6 @@ pub is_not_after : (x a y b : ℤ) → NotBack (a -ℤ x) (b -ℤ y) → IsTrue 
 is_not_after x a y b = back_not_greater _ _ x a y b (int_ranks x a) (int_ranks y b)
 
 -- ---- factors
-negative_factor : (k a : ℤ) → k <ℤ pos 0 → pos 0 <ℤ a → (k *ℤ a) <ℤ pos 0
-negative_factor k a h l = omega (arith, ints, mul_less a k (pos 0) l h, *ℤ_comm k a, *ℤ-zero a)
-
 by_zero : (a b : ℤ) → b ≡ pos 0 → a *ℤ b ≡ pos 0
 by_zero a b e = ap (λ z. a *ℤ z) e ∙ *ℤ-zero a
 
@@ -96,10 +93,10 @@ stays_forward k a b h (inr (e, l)) =
 
 -- a multiple of a forward step that does not lead back is no negative one
 by_step : (k a b x y : ℤ) → k <ℤ pos 0 → Forward a b → k *ℤ a ≡ x → k *ℤ b ≡ y → NotBack x y → ⊥
-by_step k a b x y h (inl l) e f (inl m) = omega (arith, ints, negative_factor k a h l)
-by_step k a b x y h (inl l) e f (inr (m, n)) = omega (arith, ints, negative_factor k a h l)
+by_step k a b x y h (inl l) e f (inl m) = omega (arith, ints, negative_times k a h l)
+by_step k a b x y h (inl l) e f (inr (m, n)) = omega (arith, ints, negative_times k a h l)
 by_step k a b x y h (inr (g, l)) e f (inl m) = omega (arith, ints, by_zero k a g)
-by_step k a b x y h (inr (g, l)) e f (inr (m, n)) = omega (arith, ints, negative_factor k b h l)
+by_step k a b x y h (inr (g, l)) e f (inr (m, n)) = omega (arith, ints, negative_times k b h l)
 
 kept_by_factor : (m x y : ℤ) → pos 0 <ℤ m → NotBack x y → NotBack (m *ℤ x) (m *ℤ y)
 kept_by_factor m x y h (inl l) = inl (mul_pos m x h l)
@@ -109,12 +106,3 @@ kept_by_factor m x y h (inr (e, l)) =
 pub no_negative : (k a b m x y : ℤ) → pos 0 <ℤ m → Forward a b → NotBack x y → k *ℤ a ≡ m *ℤ x → k *ℤ b ≡ m *ℤ y → pos 0 ≤ℤ k
 no_negative k a b m x y h l n e f =
     by_lt_z k (pos 0) (λ s. absurd (by_step k a b (m *ℤ x) (m *ℤ y) s l e f (kept_by_factor m x y h n))) (λ s. s)
-
-pub zero_factor : (a b : ℤ) → pos 0 <ℤ b → a *ℤ b ≡ pos 0 → a ≡ pos 0
-zero_factor a b h e =
-    by_lt_z a (pos 0) (λ l. absurd (omega (arith, ints, negative_factor a b l h)))
-    (λ l. by_lt_z (pos 0) a (λ m. absurd (omega (arith, ints, mul_pos a b m h))) (λ m. omega (arith, ints)))
-
-pub no_negative_factor : (a b : ℤ) → pos 0 <ℤ b → pos 0 ≤ℤ (a *ℤ b) → pos 0 ≤ℤ a
-no_negative_factor a b h k =
-    by_lt_z a (pos 0) (λ l. absurd (omega (arith, ints, negative_factor a b l h))) (λ l. l)

@@ -1,6 +1,13 @@
+pub mod Signs
 pub mod PointBounds
 pub mod Lexical
 pub mod OnSegment
+pub mod PlaceOrder
+pub mod OnLine
+pub mod ByX
+pub mod Lines
+pub mod Nodes
+pub mod SameMiddle
 pub mod CrossingLemmas
 pub mod BorderLemmas
 pub mod ReducedLemmas

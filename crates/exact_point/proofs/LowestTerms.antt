@@ -11,7 +11,7 @@ use Rattle.std.specs.Int.{IsGcd}
 use Rattle.overlay_terms.specs.Plane.{Point}
 use Rattle.overlay_terms.proofs.Difference.{split, differences, same}
 use Rattle.exact_point.specs.Reduced.{IsLowest, LowestTermsAreOne}
-use Rattle.exact_point.proofs.Lexical.{zero_factor}
+use Rattle.exact_point.proofs.Signs.{zero_factor}
 
 -- ---- a factor of two numbers is one of their greatest common divisor
 mod_scaled : (k a b : ℕ) → 0 < k → 0 < b → k * (a % b) ≡ (k * a) % (k * b)

@@ -100,7 +100,7 @@ pub middle_along : (l : ℤ) (p q : Point) (a b d : ℤ) → a ≡ p.x -ℤ (l *
 middle_along l p q a b d ea eb ed =
     ed ∙ ap (λ z. (z *ℤ q.w) +ℤ (b *ℤ p.w)) ea ∙ ap (λ z. ((p.x -ℤ (l *ℤ p.w)) *ℤ q.w) +ℤ (z *ℤ p.w)) eb ∙ sym (middle_step l p.x q.x p.w q.w)
 
-second_fails : (x y z : Bool) → y ≡ false → false ≡ (x && y && z)
+pub second_fails : (x y z : Bool) → y ≡ false → false ≡ (x && y && z)
 second_fails true true z e = cc
 second_fails true false z e = refl
 second_fails false y z e = refl

@@ -13,10 +13,7 @@ use Rattle.overlay_terms.specs.Layers.{Marked}
 use Rattle.overlay_terms.specs.TileLaws.{ends_at, IsProper}
 use Rattle.overlay_terms.specs.InputLaws.{IsClosed, IsRing, segment_ends_at, LayersAreClosed}
 use Rattle.overlay_terms.proofs.ClosedRings.{bit, count-cons, count-append, rings_are_closed}
-
--- the order of whole points is total
-whole_cmp_total : IsTotalOrder whole_cmp
-whole_cmp_total = then_total (on_total (λ (p : WholePoint). p.x) int_cmp_total) (on_total (λ (p : WholePoint). p.y) int_cmp_total)
+use Rattle.overlay_terms.proofs.PointOrder.{whole_cmp_total}
 
 -- a whole point with coordinates in range
 abbrev IsPlaced : WholePoint → Type 0
@@ -105,17 +102,17 @@ from_proper n (rings ∷ bases) valid =
     (All-map (λ m. IsProper m.segment) (λ s. record { layer = n; segment = s }) (segments_of rings) (rings_proper rings (All-head (All IsRing) rings bases valid)))
     (from_proper (n + 1) bases (All-tail (All IsRing) rings bases valid))
 
--- each layer has an even number of ends at a whole point
-from_even : (n : ℕ) (bases : List (List (List WholePoint))) (k : ℕ) (v : WholePoint) → All (All IsRing) bases → ends_at (marked_from n bases) k v % 2 ≡ 0
-from_even n [] k v valid = refl
-from_even n (rings ∷ bases) k v valid =
-    let closed : All IsClosed rings = All-weaker IsRing IsClosed (λ ring valid_ring. valid_ring.closed) rings (All-head (All IsRing) rings bases valid) in
-    let one : ends_at (numbered n (segments_of rings)) k v % 2 ≡ 0 = numbered_even n k (segments_of rings) v (rings_are_closed rings v closed) in
-    let rest : ends_at (marked_from (n + 1) bases) k v % 2 ≡ 0 = from_even (n + 1) bases k v (All-tail (All IsRing) rings bases valid) in
+-- closed rings leave each layer an even number of ends at a whole point
+pub from_even : (n : ℕ) (bases : List (List (List WholePoint))) (k : ℕ) (v : WholePoint) → All (All IsClosed) bases → ends_at (marked_from n bases) k v % 2 ≡ 0
+from_even n [] k v closed = refl
+from_even n (rings ∷ bases) k v closed =
+    let one : ends_at (numbered n (segments_of rings)) k v % 2 ≡ 0 = numbered_even n k (segments_of rings) v (rings_are_closed rings v (All-head (All IsClosed) rings bases closed)) in
+    let rest : ends_at (marked_from (n + 1) bases) k v % 2 ≡ 0 = from_even (n + 1) bases k v (All-tail (All IsClosed) rings bases closed) in
     let both : ends_at (numbered n (segments_of rings) ++ marked_from (n + 1) bases) k v ≡ ends_at (numbered n (segments_of rings)) k v + ends_at (marked_from (n + 1) bases) k v = marked-append (numbered n (segments_of rings)) (marked_from (n + 1) bases) k v in
     omega arith
 
 -- the segments of base layers are closed
 pub layers_are_closed : LayersAreClosed
 layers_are_closed bases valid =
-    record { proper = from_proper 0 bases valid; even = λ k v. from_even 0 bases k v valid }
+    let closed : All (All IsClosed) bases = All-weaker (All IsRing) (All IsClosed) (λ rings all. All-weaker IsRing IsClosed (λ ring is. is.closed) rings all) bases valid in
+    record { proper = from_proper 0 bases valid; even = λ k v. from_even 0 bases k v closed }

@@ -10,6 +10,7 @@ use Rattle.std.proofs.lemmas.List.Elements.{All-head, All-tail}
 use Rattle.std.proofs.lemmas.List.Sums.{sum_by-cons, sum_by-append}
 use Rattle.overlay_terms.specs.Plane.{WholePoint, Segment, whole_cmp, same_whole, segment_between, ring_segments, segments_of}
 use Rattle.overlay_terms.specs.InputLaws.{IsClosed, segment_ends_at, RingsAreClosed}
+use Rattle.overlay_terms.proofs.PointOrder.{both_equal}
 
 -- one where a test holds
 abbrev pub bit : Bool → ℕ
@@ -34,12 +35,6 @@ ends-cons s rest v =
     let r : count_by (λ (t : Segment). same_whole t.right v) (s ∷ rest) ≡ at s.right v + count_by (λ t. same_whole t.right v) rest = count-cons (λ t. same_whole t.right v) s rest in
     omega arith
 
--- where one comparison after the other ends in Equal, both do
-both_equal : (o r : Ordering) → ordering_then o r ≡ Equal → (o ≡ Equal) × (r ≡ Equal)
-both_equal Less r e = absurd (cc)
-both_equal Equal r e = (refl, e)
-both_equal Greater r e = absurd (cc)
-
 -- whole points that compare Equal are at the same places
 at_same : (a b v : WholePoint) → whole_cmp a b ≡ Equal → at a v ≡ at b v
 at_same a b v e =
@@ -58,12 +53,12 @@ step_ends a b v rest Greater e =
     rw e (let more : segment_ends_at (record { left = b; right = a } ∷ rest) v ≡ (at b v + at a v) + segment_ends_at rest v = ends-cons (record { left = b; right = a }) rest v in omega arith)
 
 -- the last of some points, the first of which stands apart
-last_of : WholePoint → List WholePoint → WholePoint
+pub last_of : WholePoint → List WholePoint → WholePoint
 last_of a [] = a
 last_of a (b ∷ rest) = last_of b rest
 
 -- the last point is the one at the greatest place
-last_is : (a : WholePoint) (rest : List WholePoint) → slice_get (a ∷ rest) (length rest) ≡ Some (last_of a rest)
+pub last_is : (a : WholePoint) (rest : List WholePoint) → slice_get (a ∷ rest) (length rest) ≡ Some (last_of a rest)
 unfolding last_of
 last_is a [] = refl
 last_is a (b ∷ rest) = last_is b rest

@@ -14,7 +14,7 @@ use Rattle.overlay_terms.specs.Column.{border, columns, column_count, is_in_colu
 use Rattle.overlay_terms.specs.Tiles.{is_parallel, is_vertical, is_end, is_crossing, is_on_border, is_node, IsPiece}
 use Rattle.overlay_terms.specs.TileLaws.{IsProper}
 use Rattle.overlay_terms.proofs.Functions.{fun_ext}
-use Rattle.overlay_terms.proofs.InputNumbers.{last_turned, times_one, less_times, most_times, less, most, ranked, most_back, less_back, le_true, lt_true, false_eq, x_in_order, in_order_by_x, left_most, IsBetween, between_from_on, point_over, on_point_over, touches_at, border_found, most_through, least_through}
+use Rattle.overlay_terms.proofs.InputNumbers.{last_turned, times_one, less_times, most_times, less, most, ranked, most_back, less_back, le_true, lt_true, false_eq, x_in_order, in_order_by_x, left_most, IsWithinEnds, between_from_on, point_over, on_point_over, touches_at, border_found, most_through, least_through}
 use Rattle.overlay_terms.proofs.InputLists.{any_kept, any_from_Contains, Contains-from_filter, Contains-filter}
 
 -- a point of a column, its denominator positive
@@ -33,7 +33,7 @@ module _ (k : ℕ) (q : Point) (within : IsIn k q) where
   -- a segment with the point on it touches the column
   pub on_touches : (s : Segment) → is_on s q ≡ true → touches k s ≡ true
   on_touches s on =
-      let between : IsBetween s q = between_from_on s q on in
+      let between : IsWithinEnds s q = between_from_on s q on in
       touches_at k s q.x q.w within.positive between.from_left between.to_right within.low within.high
 
   -- a whole point that is the point has its x
@@ -81,7 +81,7 @@ module _ (k : ℕ) (q : Point) (within : IsIn k q) where
         ∙ ap (λ b. (is_end xs q || is_crossing xs q) || b) borders_agree
 
 -- a place on a border and on a segment that is not vertical is a node
-border_node : (xs : List Segment) (s : Segment) (j : ℕ) (q : Point) → j < column_count → q.x ≡ border j *ℤ q.w → is_on s q ≡ true → s.left.x <ℤ s.right.x → Contains xs s → is_node xs q ≡ true
+pub border_node : (xs : List Segment) (s : Segment) (j : ℕ) (q : Point) → j < column_count → q.x ≡ border j *ℤ q.w → is_on s q ≡ true → s.left.x <ℤ s.right.x → Contains xs s → is_node xs q ≡ true
 border_node xs s j q few e on slanted among =
     or_right (is_end xs q || is_crossing xs q) (is_on_border xs q)
     (and_from _ _ (border_found j q few e)
@@ -111,7 +111,7 @@ module _ (k : ℕ) (xs : List Segment) (p r : Point) (proper : All IsProper xs) 
   -- a segment of the piece begins left of the column's right border
   begins_left : piece.support.left.x <ℤ border (k + 1)
   begins_left =
-      let between : IsBetween piece.support p = between_from_on piece.support p piece.from_on in
+      let between : IsWithinEnds piece.support p = between_from_on piece.support p piece.from_on in
       let low : (piece.support.left.x *ℤ p.w) ≤ℤ p.x = between.from_left in
       let high : p.x <ℤ (border (k + 1) *ℤ p.w) = within.high in
       let both : (piece.support.left.x *ℤ p.w) <ℤ (border (k + 1) *ℤ p.w) = omega (arith, ints) in
@@ -124,7 +124,7 @@ module _ (k : ℕ) (xs : List Segment) (p r : Point) (proper : All IsProper xs) 
       let c : ℤ = border (k + 1) in
       let d : ℤ = piece.support.right.x -ℤ piece.support.left.x in
       let left : piece.support.left.x <ℤ border (k + 1) = begins_left in
-      let between : IsBetween piece.support r = between_from_on piece.support r piece.to_on in
+      let between : IsWithinEnds piece.support r = between_from_on piece.support r piece.to_on in
       let reach : r.x ≤ℤ (piece.support.right.x *ℤ r.w) = between.to_right in
       let over : (border (k + 1) *ℤ r.w) <ℤ (piece.support.right.x *ℤ r.w) = omega (arith, ints) in
       let right : border (k + 1) <ℤ piece.support.right.x = less_back (border (k + 1)) piece.support.right.x r.w piece.to_positive over in
@@ -155,7 +155,7 @@ module _ (k : ℕ) (xs ys : List Segment) (p r : Point) (agrees : Agrees k xs ys
   at_border : (q : Point) → pos 0 <ℤ q.w → is_on piece.support q ≡ true → q.x ≡ border (k + 1) *ℤ q.w → is_node xs q ≡ is_node ys q
   at_border q positive on e =
       let left : piece.support.left.x <ℤ border (k + 1) = begins_left k xs p r agrees.proper within piece in
-      let between : IsBetween piece.support q = between_from_on piece.support q on in
+      let between : IsWithinEnds piece.support q = between_from_on piece.support q on in
       let reach : q.x ≤ℤ (piece.support.right.x *ℤ q.w) = between.to_right in
       let over : (border (k + 1) *ℤ q.w) ≤ℤ (piece.support.right.x *ℤ q.w) = omega (arith, ints) in
       let right : border (k + 1) ≤ℤ piece.support.right.x = most_back (border (k + 1)) piece.support.right.x q.w positive over in

@@ -126,12 +126,12 @@ not_greater a b Equal r e h = let l : a ≡ b = int_ranked a b Equal e in omega 
 not_greater a b Greater r e h = absurd (false≢true h)
 
 -- a point on a segment has its x between the two ends
-pub record IsBetween (s : Segment) (p : Point) : Type 0 where
+pub record IsWithinEnds (s : Segment) (p : Point) : Type 0 where
   pub from_left : (s.left.x *ℤ p.w) ≤ℤ p.x
   pub to_right : p.x ≤ℤ (s.right.x *ℤ p.w)
 
 -- what lying on a segment says of the x
-pub between_from_on : (s : Segment) (p : Point) → is_on s p ≡ true → IsBetween s p
+pub between_from_on : (s : Segment) (p : Point) → is_on s p ≡ true → IsWithinEnds s p
 between_from_on s p h =
     let parts = and_parts (int_eq (height_over s p) (pos 0) && not (is_lt (point_cmp p (whole s.left)))) (not (is_gt (point_cmp p (whole s.right)))) h in
     let first = and_parts (int_eq (height_over s p) (pos 0)) (not (is_lt (point_cmp p (whole s.left)))) parts.0 in

@@ -15,10 +15,7 @@ use Rattle.std.proofs.lemmas.List.Sorted.{IsPermutation-reverse, list_any-IsPerm
 use Rattle.std.proofs.lemmas.List.Sums.{sum_by-append}
 use Rattle.overlay_terms.specs.Plane.{WholePoint, Point, Segment, whole_cmp, segment_between, ring_segments, segments_of, is_below, is_on}
 use Rattle.overlay_terms.specs.Laws.{DirectionHasNoMeaning, TwiceIsAllEdge, is_on_any}
-
--- the order of whole points is total
-whole_cmp_total : IsTotalOrder whole_cmp
-whole_cmp_total = then_total (on_total (λ (p : WholePoint). p.x) int_cmp_total) (on_total (λ (p : WholePoint). p.y) int_cmp_total)
+use Rattle.overlay_terms.proofs.PointOrder.{whole_cmp_total}
 
 -- the same, by how the two points compare
 same_by : (a b : WholePoint) (o r : Ordering) → whole_cmp a b ≡ o → whole_cmp b a ≡ r → r ≡ ordering_reverse o → segment_between (b, a) ≡ segment_between (a, b)

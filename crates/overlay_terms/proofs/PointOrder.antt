@@ -2,16 +2,39 @@
 use Rattle.std.specs.Prelude.{◌≡◌, pos, ◌<ℤ◌, true, ◌&&◌}
 use Rattle.std.proofs.Common.{refl, ap}
 use Rattle.std.specs.Cmp.{IsTotalOrder}
-use Rattle.std.specs.Ordering.{ordering_then, is_eq}
+use Rattle.std.specs.Ordering.{ordering_then, is_eq, int_eq}
 use Rattle.std.specs.declared.cmp.Ordering.{Ordering}
 use Rattle.std.specs.declared.cmp.Ordering.TheVariants.{Less, Equal, Greater}
-use Rattle.std.proofs.lemmas.Cmp.{on_total, then_total}
-use Rattle.std.proofs.lemmas.Bool.{false≢true}
-use Rattle.overlay_terms.specs.Plane.{Point, point_cmp}
+use Rattle.std.proofs.lemmas.Cmp.{on_total, then_total, int_cmp_total}
+use Rattle.std.proofs.lemmas.Bool.{false≢true, and_parts}
+use Rattle.std.proofs.lemmas.Bool.Decides.{Decides-int_eq}
+use Rattle.overlay_terms.specs.Plane.{WholePoint, Point, whole_cmp, same_whole, point_cmp}
 use Rattle.overlay_terms.specs.Laws.{OrderIsTotal}
 use Rattle.overlay_terms.proofs.Ratios.{Ratio, ratio_cmp_total}
 
 -- two comparisons, one after the other, end in Equal where both do
+pub is_eq_then : (o r : Ordering) → is_eq (ordering_then o r) ≡ (is_eq o && is_eq r)
+is_eq_then Less r = refl
+is_eq_then Equal r = refl
+is_eq_then Greater r = refl
+
+-- what ends in Equal is two that do
+pub both_equal : (o r : Ordering) → ordering_then o r ≡ Equal → (o ≡ Equal) × (r ≡ Equal)
+both_equal Less r e = absurd (cc)
+both_equal Equal r e = (refl, e)
+both_equal Greater r e = absurd (cc)
+
+-- the order of whole points is total
+pub whole_cmp_total : IsTotalOrder whole_cmp
+whole_cmp_total = then_total (on_total (λ (p : WholePoint). p.x) int_cmp_total) (on_total (λ (p : WholePoint). p.y) int_cmp_total)
+
+-- whole points that pass the test are one
+pub same_points : (a b : WholePoint) → same_whole a b ≡ true → a ≡ b
+same_points a b e =
+    let parts = and_parts (int_eq a.x b.x) (int_eq a.y b.y) e in
+    λ i. record { x = (Decides-int_eq a.x b.x).0 parts.0 i; y = (Decides-int_eq a.y b.y).0 parts.1 i }
+
+-- the same, as a test
 both_from_then : (o r : Ordering) → ordering_then o r ≡ Equal → (is_eq o && is_eq r) ≡ true
 both_from_then Less r e = absurd (cc)
 both_from_then Equal r e = ap is_eq e

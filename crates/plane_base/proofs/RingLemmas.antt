@@ -1,25 +1,19 @@
 -- Rings without a fault, whose points are in range, are rings.
 use Rattle.std.specs.Prelude.{◌≡◌, ℕ, ◌+◌, ◌-◌, ◌<◌, ◌≤◌, nat_lt, nat_le, Bool, true, false, List, [], ◌∷◌, ◌++◌, length, slice_get, Option, Some, None, All, if◌then◌else◌}
-use Rattle.std.specs.Ordering.{int_eq}
 use Rattle.std.proofs.Common.{zero, suc, get_or, take, refl, ap, sym, ◌∙◌, subst, arith}
-use Rattle.std.proofs.lemmas.Bool.{and_parts, ltb-false}
-use Rattle.std.proofs.lemmas.Bool.Decides.{Decides-int_eq}
-use Rattle.std.proofs.lemmas.List.{take_more}
-use Rattle.std.proofs.lemmas.List.Elements.{All-nil, All-cons, All-head, All-tail, All-append}
+use Rattle.std.proofs.lemmas.Bool.{ltb-false}
+use Rattle.std.proofs.lemmas.List.Elements.{All-nil, All-cons, All-head, All-tail, All-more}
 use Rattle.overlay_terms.specs.Plane.{WholePoint, same_whole, ring_step_count}
 use Rattle.overlay_terms.specs.InputLaws.{IsClosed, IsRing}
+use Rattle.overlay_terms.proofs.PointOrder.{same_points}
+use Rattle.overlay_terms.proofs.ClosedRings.{last_of, last_is}
 use Rattle.plane_base.specs.BaseLayer.{IsInRange, PointsInRange, is_closed, ring_fault, first_ring_fault, rings_fault, or_else}
 use Rattle.plane_base.specs.declared.fault.PlaneFault.{PlaneFault}
 use Rattle.plane_base.specs.declared.fault.PlaneFault.TheVariants.{RingOpen, RingShort, TooManySegments}
 
--- a fact of one element holds of the list of it alone
-all_single : {X : Type 0} (P : X → Type 0) (x : X) → P x → All P (x ∷ [])
-all_single P x p = All-cons P x [] p (All-nil P)
-
 -- a fact of the first elements and of the next one
 all_more : {X : Type 0} (P : X → Type 0) (xs : List X) (i : ℕ) (x : X) → i < length xs → x ≡ get_or xs i x → P x → All P (take i xs) → All P (take (i + 1) xs)
-all_more P xs i x h e p was =
-    subst (All P) (sym (take_more xs i x h ∙ ap (λ t. take i xs ++ t ∷ []) (sym e))) (All-append P (take i xs) (x ∷ []) was (all_single P x p))
+all_more P xs i x h e p was = All-more P xs i x h was (subst P e p)
 
 -- of some first points, at least two, all are in range, where a pair of neighbours is
 pub in_range_more : (ring : List WholePoint) (i : ℕ) (a b : WholePoint) → 1 ≤ i → i < length ring → a ≡ get_or ring (i - 1) a → b ≡ get_or ring i b → IsInRange a → IsInRange b → (1 < i → All IsInRange (take i ring)) → All IsInRange (take (i + 1) ring)
@@ -33,24 +27,6 @@ in_range_more ring (suc (suc j)) a b low high ea eb ra rb was =
 pub rings_more : (rings : List (List WholePoint)) (i : ℕ) (ring : List WholePoint) → i < length rings → ring ≡ get_or rings i ring → PointsInRange ring → All PointsInRange (take i rings) → All PointsInRange (take (i + 1) rings)
 rings_more = all_more PointsInRange
 
--- points that are found the same are one
-same_points : (a b : WholePoint) → same_whole a b ≡ true → a ≡ b
-same_points a b h =
-    let parts = and_parts (int_eq a.x b.x) (int_eq a.y b.y) h in
-    let x : a.x ≡ b.x = (Decides-int_eq a.x b.x).0 parts.0 in
-    let y : a.y ≡ b.y = (Decides-int_eq a.y b.y).0 parts.1 in
-    λ i. record { x = x i; y = y i }
-
--- the last of some points
-abbrev last_of : WholePoint → List WholePoint → WholePoint
-last_of a [] = a
-last_of a (b ∷ rest) = last_of b rest
-
--- the last of some points, by its place
-last_read : (a : WholePoint) (rest : List WholePoint) → slice_get (a ∷ rest) (length rest) ≡ Some (last_of a rest)
-last_read a [] = refl
-last_read a (b ∷ rest) = last_read b rest
-
 -- a place before the end of a list that has one more
 one_less : (n : ℕ) → suc n - 1 ≡ n
 one_less n = omega arith
@@ -59,8 +35,8 @@ one_less n = omega arith
 closed_ends : (ring : List WholePoint) → is_closed ring ≡ true → IsClosed ring
 closed_ends [] h = refl
 closed_ends (a ∷ rest) h =
-    let same : a ≡ last_of a rest = same_points a (last_of a rest) (rw (one_less (length rest), last_read a rest) at h) in
-    ap Some same ∙ sym (last_read a rest) ∙ ap (slice_get (a ∷ rest)) (sym (one_less (length rest)))
+    let same : a ≡ last_of a rest = same_points a (last_of a rest) (rw (one_less (length rest), last_is a rest) at h) in
+    ap Some same ∙ sym (last_is a rest) ∙ ap (slice_get (a ∷ rest)) (sym (one_less (length rest)))
 
 -- the first of two faults is none, where the first of both is
 first_none : (a b : Option PlaneFault) → or_else a b ≡ None → a ≡ None
@@ -92,3 +68,21 @@ rings_from at (ring ∷ rings) e in_range =
 pub are_rings : (rings : List (List WholePoint)) → rings_fault rings ≡ None → All PointsInRange rings → All IsRing rings
 are_rings rings e =
     rings_from 0 rings (first_none (first_ring_fault 0 rings) (if nat_le (ring_step_count rings) 2048 then None else Some TooManySegments) e)
+
+-- a ring without a fault is closed
+closed_by : (ring : List WholePoint) (at : ℕ) (short closed : Bool) → is_closed ring ≡ closed → (if short then Some (RingShort at) else (if closed then None else Some (RingOpen at))) ≡ None → IsClosed ring
+closed_by ring at true closed ends e = absurd (cc)
+closed_by ring at false false ends e = absurd (cc)
+closed_by ring at false true ends e = closed_ends ring ends
+
+-- rings without a fault are closed
+closed_from : (at : ℕ) (rings : List (List WholePoint)) → first_ring_fault at rings ≡ None → All IsClosed rings
+closed_from at [] e = All-nil IsClosed
+closed_from at (ring ∷ rings) e =
+    All-cons IsClosed ring rings (closed_by ring at (nat_lt (length ring) 4) (is_closed ring) refl (first_none (ring_fault at ring) (first_ring_fault (at + 1) rings) e))
+    (closed_from (at + 1) rings (second_none (ring_fault at ring) (first_ring_fault (at + 1) rings) e))
+
+-- rings that a base layer may have are closed
+pub are_closed : (rings : List (List WholePoint)) → rings_fault rings ≡ None → All IsClosed rings
+are_closed rings e =
+    closed_from 0 rings (first_none (first_ring_fault 0 rings) (if nat_le (ring_step_count rings) 2048 then None else Some TooManySegments) e)

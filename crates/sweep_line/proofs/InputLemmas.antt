@@ -15,16 +15,6 @@ use Rattle.exact_point.specs.PlaceOf.{place_of}
 use Rattle.sweep_line.specs.Label.{IsLabelled}
 use Rattle.sweep_line.proofs.ParityLemmas.{over_bits_from}
 
--- an input's segments have layers below 32
-pub layers_small : (input : Input) (marked : List MarkedSeg) → map marked_of marked ≡ input.marked → IsInput input → All (λ m. m.layer < 32) marked
-layers_small input marked e h k d l =
-    let known : All (λ (m : terms.Marked). m.layer < input.steps.bases) (map marked_of marked) = subst (λ ms. All (λ (m : terms.Marked). m.layer < input.steps.bases) ms) (sym e) h.known in
-    let long : length (map marked_of marked) ≡ length marked = simp length-map in
-    let here = known k (marked_of d) (omega (arith, long)) in
-    let at = get_or-map marked_of marked k d (marked_of d) l in
-    let small : (get_or marked k d).layer < input.steps.bases = subst (λ (m : terms.Marked). m.layer < input.steps.bases) at here in
-    omega (arith, h.few)
-
 -- a piece with the bits below it is labelled by them, and by those that its own mask changes
 pub labelled : (input : Input) (e : Elementary) (under : ℕ) (marked : List terms.Marked) → IsElementary input e → marked ≡ input.marked
     → ((k : ℕ) → k < 32 → mask_bits under k ≡ below_bits marked (midpoint (place_of e.from) (place_of e.to)) k)

@@ -8,18 +8,14 @@ use Rattle.std.specs.Ordering.{is_eq, ordering_then}
 use Rattle.std.specs.declared.cmp.Ordering.{Ordering}
 use Rattle.std.specs.declared.cmp.Ordering.TheVariants.{Less, Equal, Greater}
 use Rattle.overlay_terms.specs.Plane.{Point, same_place}
+use Rattle.overlay_terms.proofs.PointOrder.{is_eq_then}
 use Rattle.exact_point.specs.Place.{place, same_hpoint}
 use Rattle.exact_point.specs.declared.point.HPoint.{HPoint}
 use Rattle.tile_laws.proofs.AlikeLists.{alike_at}
 
-both_equal : (r s : Ordering) → is_eq (ordering_then r s) ≡ (is_eq r && is_eq s)
-both_equal Less s = refl
-both_equal Equal s = refl
-both_equal Greater s = refl
-
 -- equal points are those at one place
 pub same_places : (p q : HPoint) (a b : Point) (t : Bool) → place p ≡ a → place q ≡ b → t ≡ same_hpoint p q → t ≡ same_place a b
-same_places p q a b t e f h = h ∙ both_equal _ _ ∙ (λ i. same_place (e i) (f i))
+same_places p q a b t e f h = h ∙ is_eq_then _ _ ∙ (λ i. same_place (e i) (f i))
 
 -- what stands at a number of a list, and of its images
 pub mapped_at : {X Y : Type 0} (f : X → Y) (xs : List X) (i : ℕ) (x : X) → x ≡ get_or xs i x → f x ≡ get_or (map f xs) i (f x)

@@ -15,8 +15,8 @@ use Rattle.overlay_terms.specs.Layers.{Marked}
 use Rattle.overlay_terms.specs.Tiles.{IsPiece, under_of, over_of, IsBoundary}
 use Rattle.overlay_terms.specs.TileLaws.{IsProper}
 use Rattle.overlay_terms.proofs.InputLists.{any_from_Contains}
-use Rattle.tile_laws.proofs.PlaceOrder.{alike_left, alike_right}
-use Rattle.tile_laws.proofs.Lists.{any_contains}
+use Rattle.overlay_terms.proofs.Lists.{any_contains}
+use Rattle.exact_point.proofs.PlaceOrder.{alike_left, alike_right}
 use Rattle.tile_laws.proofs.Candidates.{candidates, IsAmong, node_among}
 use Rattle.tile_laws.proofs.NodesOver.{IsNodeOn, is_node_on, node_on_from, node_on_test, node_on_same}
 use Rattle.tile_laws.proofs.Ranks.{Told, yes, no, told}

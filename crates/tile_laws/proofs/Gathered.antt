@@ -3,8 +3,8 @@ use Rattle.std.specs.Prelude.{◌≡◌, zero, suc, ◌⊎◌, Bool, IsTrue, Lis
 use Rattle.std.proofs.Common.{inl, inr, refl, sym, subst, arith}
 use Rattle.std.proofs.lemmas.List.Elements.{All-nil, All-cons, All-head, All-tail, All-weaker}
 use Rattle.std.proofs.lemmas.List.Kept.{AllPairs-cons}
+use Rattle.overlay_terms.proofs.Lists.{Contains-cons_cases, none_in_empty}
 use Rattle.tile_laws.proofs.AlikeLists.{Ranks, any_cases, none_of_any, first_before, rest_ordered}
-use Rattle.tile_laws.proofs.Lists.{Contains-cons_cases, none_in_empty}
 
 -- elements that are compared: one comes before the other, or both are alike
 pub data Compared {X : Type 0} (same : X → X → Bool) (less : X → X → Type 0) (x y : X) : Type 0 where

@@ -1,27 +1,10 @@
 -- Segments over the x of a place, from the lowest to the highest just right of it.
-use Rattle.std.specs.Prelude.{ℕ, ℤ, pos, ◌%◌, ◌==◌, ◌+ℤ◌, ◌-ℤ◌, ◌*ℤ◌, int_le, int_lt, Bool, ◌&&◌, ◌||◌, List, count_by}
+use Rattle.std.specs.Prelude.{ℕ, ℤ, pos, ◌+◌, ◌%◌, ◌==◌, ◌*ℤ◌, int_le, int_lt, Bool, not, ◌&&◌, ◌||◌, if◌then◌else◌, true, IsTrue, List, map, count_by}
 use Rattle.std.specs.Ordering.{int_eq}
 use Rattle.overlay_terms.specs.Plane.{Point, Segment}
 use Rattle.overlay_terms.specs.Layers.{Marked}
-
--- a segment's width, and how much it rises
-abbrev pub width : Segment → ℤ
-width s = s.right.x -ℤ s.left.x
-
-abbrev pub rise : Segment → ℤ
-rise s = s.right.y -ℤ s.left.y
-
--- the height of the line of s over the x of q, times its width and the denominator of q
-abbrev pub line_height : Segment → Point → ℤ
-line_height s q = (rise s *ℤ (q.x -ℤ (s.left.x *ℤ q.w))) +ℤ (width s *ℤ (s.left.y *ℤ q.w))
-
--- how far t stands above s over the x of q, times both widths and the denominator
-abbrev pub gap : Segment → Segment → Point → ℤ
-gap s t q = (width s *ℤ line_height t q) -ℤ (width t *ℤ line_height s q)
-
--- how far t turns left from s
-abbrev pub turn : Segment → Segment → ℤ
-turn s t = (width s *ℤ rise t) -ℤ (rise s *ℤ width t)
+use Rattle.exact_point.specs.Crossing.{turn_of}
+use Rattle.exact_point.proofs.Lines.{gap}
 
 -- the segment passes over the x of q: from its left end on, before its right end
 abbrev pub is_over_x : Segment → Point → Bool
@@ -29,11 +12,11 @@ is_over_x s q = int_le (s.left.x *ℤ q.w) q.x && int_lt q.x (s.right.x *ℤ q.w
 
 -- s is under t just right of the x of q
 abbrev pub is_under : Segment → Segment → Point → Bool
-is_under s t q = int_lt (pos 0) (gap s t q) || (int_eq (gap s t q) (pos 0) && int_lt (pos 0) (turn s t))
+is_under s t q = int_lt (pos 0) (gap s t q) || (int_eq (gap s t q) (pos 0) && int_lt (pos 0) (turn_of s t))
 
 -- s and t lie on one line
 abbrev pub is_level : Segment → Segment → Point → Bool
-is_level s t q = int_eq (gap s t q) (pos 0) && int_eq (turn s t) (pos 0)
+is_level s t q = int_eq (gap s t q) (pos 0) && int_eq (turn_of s t) (pos 0)
 
 -- which base layers have an odd number of segments over the x of q that pass a test
 abbrev pub bits_where : (Segment → Bool) → List Marked → Point → ℕ → Bool

@@ -3,7 +3,7 @@ use Rattle.std.specs.Prelude.{◌≡◌, ◌⊎◌, pos, ◌<ℤ◌, Bool, true}
 use Rattle.std.proofs.Common.{inl, inr}
 use Rattle.std.specs.declared.cmp.Ordering.TheVariants.{Less}
 use Rattle.overlay_terms.specs.Plane.{Point, point_cmp}
-use Rattle.tile_laws.proofs.PlaceOrder.{Way, before, at, after, way_of, same_self, less_through, not_before_self, not_after_less}
+use Rattle.exact_point.proofs.PlaceOrder.{Way, before, at, after, way_of, same_self, less_through, not_before_self, not_after_less}
 use Rattle.tile_laws.proofs.NextNode.{IsOrdered}
 
 -- the first comes before the second

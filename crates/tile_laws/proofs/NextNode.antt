@@ -2,7 +2,7 @@
 use Rattle.std.specs.Prelude.{◌≡◌, ◌⊎◌, Bool, true, false, List, [], ◌∷◌, Contains}
 use Rattle.std.proofs.Common.{inl, inr, refl, sym, ◌∙◌, subst}
 use Rattle.std.proofs.lemmas.Bool.{false≢true}
-use Rattle.tile_laws.proofs.Lists.{Contains-cons_cases, none_in_empty, contains_first, contains_rest}
+use Rattle.overlay_terms.proofs.Lists.{Contains-cons_cases, none_in_empty, contains_first, contains_rest}
 
 -- one element comes before another, among those that pass a test: a strict order that can be decided
 pub record IsOrdered {X : Type 0} (good : X → Bool) (Before : X → X → Type 0) : Type 0 where

@@ -5,13 +5,14 @@ use Rattle.std.proofs.lemmas.Int.{ints}
 use Rattle.std.proofs.lemmas.Bool.{and_parts}
 use Rattle.overlay_terms.specs.Plane.{Point, Segment, height_over, point_cmp, same_place, is_on}
 use Rattle.overlay_terms.specs.Tiles.{IsPiece}
-use Rattle.overlay_terms.proofs.InputNumbers.{last_turned, most_times, less_back, le_true, lt_true, in_order_by_x, IsBetween, between_from_on}
+use Rattle.overlay_terms.proofs.InputNumbers.{last_turned, most_times, less_back, le_true, lt_true, in_order_by_x, IsWithinEnds, between_from_on}
 use Rattle.std.specs.declared.cmp.Ordering.TheVariants.{Less}
-use Rattle.tile_laws.proofs.JustRight.{width, is_stretch_over}
+use Rattle.exact_point.proofs.ByX.{less_after_most}
+use Rattle.exact_point.proofs.Lines.{width}
+use Rattle.exact_point.proofs.OnLine.{between_on, on_line}
+use Rattle.exact_point.proofs.PlaceOrder.{Way, before, at, after, way_of, not_after_less}
+use Rattle.tile_laws.proofs.JustRight.{is_stretch_over}
 use Rattle.tile_laws.proofs.Statements.{segments_in, OnePieceOver}
-use Rattle.tile_laws.proofs.PlaceOrder.{Way, before, at, after, way_of, not_after_less}
-use Rattle.tile_laws.proofs.OnLine.{between_on, on_line}
-use Rattle.tile_laws.proofs.ByX.{less_after_most}
 use Rattle.tile_laws.proofs.OneLine.{AreOnOneLine, level_parts, on_first_line, on_second_line}
 
 -- the ends of a stretch over the x of q
@@ -33,8 +34,8 @@ module _ (segments : List Segment) (q : Point) (hq : pos 0 <ℤ q.w) where
   -- a segment with a stretch over the x of q is not vertical
   wide : (s : Segment) (p r : Point) → pos 0 <ℤ p.w → pos 0 <ℤ r.w → IsTrue (is_on s p) → IsTrue (is_on s r) → IsOver p r q → pos 0 <ℤ width s
   wide s p r hp hr on_p on_r over =
-      let from : IsBetween s p = between_from_on s p on_p in
-      let to : IsBetween s r = between_from_on s r on_r in
+      let from : IsWithinEnds s p = between_from_on s p on_p in
+      let to : IsWithinEnds s r = between_from_on s r on_r in
       let l : (s.left.x *ℤ p.w) ≤ℤ p.x = from.from_left in
       let m : r.x ≤ℤ (s.right.x *ℤ r.w) = to.to_right in
       let order : (p.x *ℤ r.w) <ℤ (r.x *ℤ p.w) = less_after_most p.x p.w q.x q.w r.x r.w hp hq hr over.up_to over.past in

@@ -13,7 +13,8 @@ use Rattle.overlay_terms.proofs.StepLaws.{nothing_from_nothing}
 use Rattle.tile_laws.proofs.Statements.{segments_in, SidesAreKept, EachHasAPiece, OnePieceOver, ParityFromPieces}
 use Rattle.tile_laws.proofs.Counts.{count_alike, count_none, count_both, count_map}
 use Rattle.tile_laws.proofs.Ranks.{Told, yes, no, told}
-use Rattle.tile_laws.proofs.Stretches.{on_line, above_alike}
+use Rattle.exact_point.proofs.OnLine.{on_line}
+use Rattle.tile_laws.proofs.Stretches.{above_alike}
 use Rattle.tile_laws.proofs.UnderLemmas.{over_wide}
 use Rattle.tile_laws.proofs.RankedBits.{behind, below_none, no_bits, place_rank, lower_ranked, below_ranked}
 use Rattle.tile_laws.proofs.Edges.{Edge, ends, edges, ends_are}

@@ -16,7 +16,8 @@ use Rattle.tile_laws.proofs.JustRight.{is_over_x, is_level, is_stretch_over}
 use Rattle.tile_laws.proofs.Statements.{segments_in, SidesAreKept, PieceOver, EachHasAPiece, OnePieceOver}
 use Rattle.tile_laws.proofs.Counts.{same_tests, count_none, count_once}
 use Rattle.tile_laws.proofs.Ranks.{yes, no, told}
-use Rattle.tile_laws.proofs.Stretches.{IsStretch, stretch_told, on_line, stretch_over, stretch_level}
+use Rattle.exact_point.proofs.OnLine.{on_line}
+use Rattle.tile_laws.proofs.Stretches.{IsStretch, stretch_told, stretch_over, stretch_level}
 use Rattle.tile_laws.proofs.RankedBits.{rank_of, ranked_bits, bits_alike, under_ranked, up_to_ranked, level_ranked, ranked_level}
 use Rattle.tile_laws.proofs.Edges.{Edge, ends, support_of, edges, ends_are, pairs_from_map, any_behind, on_other, equal_places, equal_pairs, same_stretch}
 

@@ -8,12 +8,14 @@ use Rattle.overlay_terms.specs.Plane.{Point, Segment, whole, is_on}
 use Rattle.overlay_terms.specs.Column.{border, column_count, is_in_column}
 use Rattle.overlay_terms.specs.Tiles.{IsPiece}
 use Rattle.overlay_terms.specs.TileLaws.{IsProper}
-use Rattle.overlay_terms.proofs.InputNumbers.{less, most, ranked, times_one, last_turned, less_times, most_times, less_back, le_true, lt_true, true_le, true_lt, in_order_by_x, IsBetween, between_from_on, point_over, on_point_over}
+use Rattle.overlay_terms.proofs.InputNumbers.{less, most, ranked, times_one, last_turned, less_times, most_times, less_back, le_true, lt_true, true_le, true_lt, in_order_by_x, IsWithinEnds, between_from_on, point_over, on_point_over}
+use Rattle.overlay_terms.proofs.InputNodes.{border_node}
+use Rattle.exact_point.proofs.ByX.{less_after_most}
+use Rattle.exact_point.proofs.PlaceOrder.{one_positive}
+use Rattle.exact_point.proofs.Nodes.{left_node, right_node}
 use Rattle.tile_laws.proofs.JustRight.{is_stretch_over}
 use Rattle.tile_laws.proofs.Statements.{segments_in, EachHasAPiece}
-use Rattle.tile_laws.proofs.PlaceOrder.{one_positive}
-use Rattle.tile_laws.proofs.ByX.{less_after_most}
-use Rattle.tile_laws.proofs.NodesAlong.{left_on, right_on, left_node, right_node, border_node}
+use Rattle.tile_laws.proofs.NodesAlong.{left_on, right_on}
 use Rattle.tile_laws.proofs.NodesOver.{IsNodeOn, IsLastUpTo, IsFirstPast, last_up_to, first_past}
 
 -- not right of what is left of a line is left of it
@@ -65,7 +67,7 @@ module _ (segments : List Segment) (s : Segment) (k : ℕ) (q p : Point) (few : 
       let hd : pos 0 <ℤ (s.right.x -ℤ s.left.x) = omega (arith, ints) in
       let z : Point = point_over s (border k) in
       let on : IsTrue (is_on s z) = on_point_over s (border k) l cut in
-      let h : IsNodeOn segments s z = record { positive = hd; on_segment = on; node = border_node segments s among k z few refl on wide } in
+      let h : IsNodeOn segments s z = record { positive = hd; on_segment = on; node = border_node segments s k z few refl on wide among } in
       let near : ((c *ℤ d) *ℤ q.w) ≤ℤ (q.x *ℤ d) = rw (last_turned c d q.w) (most_times (c *ℤ q.w) q.x d hd low) in
       let up : (p.x *ℤ d) <ℤ ((c *ℤ d) *ℤ p.w) = rw (last_turned c d p.w) (less_times p.x (c *ℤ p.w) d hd m) in
       a.last z h near (in_order_by_x p z up)
@@ -76,7 +78,7 @@ module _ (segments : List Segment) (s : Segment) (k : ℕ) (q p : Point) (few : 
       elim (ranked p.x (border k *ℤ p.w)) [
         | less m ↦ absurd (elim (ranked s.left.x (border k)) [
           | less l ↦ not_before_border l m
-          | most l ↦ let between : IsBetween s p = between_from_on s p a.here.on_segment in let from : (s.left.x *ℤ p.w) ≤ℤ p.x = between.from_left in let more : (border k *ℤ p.w) ≤ℤ (s.left.x *ℤ p.w) = most_times (border k) s.left.x p.w a.here.positive l in omega (arith, ints)
+          | most l ↦ let between : IsWithinEnds s p = between_from_on s p a.here.on_segment in let from : (s.left.x *ℤ p.w) ≤ℤ p.x = between.from_left in let more : (border k *ℤ p.w) ≤ℤ (s.left.x *ℤ p.w) = most_times (border k) s.left.x p.w a.here.positive l in omega (arith, ints)
         ])
         | most m ↦ m
       ]

@@ -10,13 +10,13 @@ use Rattle.overlay_terms.specs.Tiles.{Input, below_bits}
 use Rattle.overlay_terms.proofs.Difference.{mul_pos}
 use Rattle.overlay_terms.proofs.Functions.{fun_ext}
 use Rattle.overlay_terms.proofs.InputNumbers.{lt_true, true_lt}
-use Rattle.tile_laws.proofs.JustRight.{width, gap, is_over_x, is_under, is_level, bits_where, under_bits, up_to_bits}
+use Rattle.exact_point.proofs.Lines.{width, gap, heights_give_gap}
+use Rattle.exact_point.proofs.Signs.{not_positive_times, positive_factor}
+use Rattle.tile_laws.proofs.JustRight.{is_over_x, is_under, is_level, bits_where, under_bits, up_to_bits}
 use Rattle.tile_laws.proofs.Statements.{segments_in}
-use Rattle.tile_laws.proofs.HeightForms.{not_positive_times, positive_factor}
 use Rattle.tile_laws.proofs.Counts.{same_tests, count_alike, count_none}
 use Rattle.tile_laws.proofs.Ranks.{yes, no, told, IsLower, rank, rank_level, under_is, level_from_rank, bound, below_is}
 use Rattle.tile_laws.proofs.UnderLemmas.{over_wide, under_orders, level_under, level_back, none_under, gap_from_under, under_from_gap}
-use Rattle.tile_laws.proofs.Stretches.{gap_from_heights}
 
 -- one more in front leaves what stood in a list in it
 more_in_front : {X : Type 0} (x : X) (xs : List X) (y : X) → Contains xs y → Contains (x ∷ xs) y
@@ -117,10 +117,10 @@ module _ (input : Input) (q : Point) (positive : pos 0 <ℤ q.w) where
   lower_lines = record {
     down = λ a b over_a over_b h under.
         true_lt (pos 0) (height_over a q)
-        (sinks (height_over a q) (width b) (height_over b q) (width a) (gap a b q) (over_wide q positive b over_b) (over_wide q positive a over_a) (gap_from_heights a b q) (lt_true (pos 0) (height_over b q) h) (gap_from_under q positive a b under));
+        (sinks (height_over a q) (width b) (height_over b q) (width a) (gap a b q) (over_wide q positive b over_b) (over_wide q positive a over_a) (heights_give_gap a b q) (lt_true (pos 0) (height_over b q) h) (gap_from_under q positive a b under));
     up = λ a b over_a over_b h out.
         under_from_gap q positive a b
-        (parted (height_over a q) (width b) (height_over b q) (width a) (gap a b q) (over_wide q positive b over_b) (over_wide q positive a over_a) (gap_from_heights a b q) (lt_true (pos 0) (height_over a q) h) (not_positive (height_over b q) out));
+        (parted (height_over a q) (width b) (height_over b q) (width a) (gap a b q) (over_wide q positive b over_b) (over_wide q positive a over_a) (heights_give_gap a b q) (lt_true (pos 0) (height_over a q) h) (not_positive (height_over b q) out));
   }
     where
       sinks : (h e k d g : ℤ) → pos 0 <ℤ e → pos 0 <ℤ d → (h *ℤ e) -ℤ (k *ℤ d) ≡ g → pos 0 <ℤ k → pos 0 ≤ℤ g → pos 0 <ℤ h

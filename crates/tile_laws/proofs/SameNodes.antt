@@ -11,7 +11,7 @@ use Rattle.overlay_terms.specs.Tiles.{is_parallel, is_vertical, is_end, is_cross
 use Rattle.overlay_terms.proofs.Functions.{fun_ext}
 use Rattle.overlay_terms.proofs.InputNumbers.{last_turned, most_back}
 use Rattle.overlay_terms.proofs.PlaceLemmas.{IsSamePlace, places_alike}
-use Rattle.tile_laws.proofs.PlaceOrder.{one_positive, level_from, level_test, same_turned, same_through, on_same}
+use Rattle.exact_point.proofs.PlaceOrder.{one_positive, level_from, level_test, same_turned, same_through, on_same}
 
 -- a positive factor may be dropped from an equation
 same_back : (a b w : ℤ) → pos 0 <ℤ w → a *ℤ w ≡ b *ℤ w → a ≡ b

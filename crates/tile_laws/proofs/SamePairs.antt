@@ -9,8 +9,9 @@ use Rattle.std.proofs.lemmas.Bool.{and_parts, and_from}
 use Rattle.std.proofs.lemmas.Cmp.{on_total, then_total}
 use Rattle.overlay_terms.specs.Plane.{Point, point_cmp, same_place}
 use Rattle.overlay_terms.specs.Tiles.{pair_cmp}
+use Rattle.overlay_terms.proofs.PointOrder.{both_equal}
+use Rattle.exact_point.proofs.PlaceOrder.{same_self, less_through, alike_left, turned, same_from_equal, equal_from_same}
 use Rattle.tile_laws.specs.SameTile.{same_pair, IsPositivePair}
-use Rattle.tile_laws.proofs.PlaceOrder.{same_self, less_through, alike_left, turned, same_from_equal, equal_from_same}
 use Rattle.tile_laws.proofs.AlikeLists.{Ranks}
 use Rattle.tile_laws.proofs.Gathered.{Compared, lower, level, higher}
 
@@ -47,12 +48,6 @@ pair_total = then_total (on_total first_of placed_total) (on_total second_of pla
 -- a pair as one of them
 abbrev placed : (a : Point × Point) → IsPositivePair a → PlacedPair
 placed a h = record { ends = a; positive = h }
-
--- two comparisons that end in Equal, one after the other
-both_equal : (o r : Ordering) → ordering_then o r ≡ Equal → (o ≡ Equal) × (r ≡ Equal)
-both_equal Less r e = absurd (cc)
-both_equal Equal r e = (refl, e)
-both_equal Greater r e = absurd (cc)
 
 -- pairs at the same places are equal in the order
 equal_pair : (a b : Point × Point) → IsPositivePair a → IsPositivePair b → IsTrue (same_pair a b) → pair_cmp a b ≡ Equal

@@ -6,7 +6,9 @@ use Rattle.std.proofs.lemmas.Int.{ints}
 use Rattle.std.proofs.lemmas.List.Elements.{All-nil, All-cons, All-weaker}
 use Rattle.overlay_terms.specs.Plane.{Point, Segment}
 use Rattle.overlay_terms.specs.Layers.{Marked}
-use Rattle.tile_laws.proofs.JustRight.{gap, turn, is_over_x, is_under, is_level, bits_where, under_bits, up_to_bits}
+use Rattle.exact_point.proofs.Lines.{gap}
+use Rattle.exact_point.specs.Crossing.{turn_of}
+use Rattle.tile_laws.proofs.JustRight.{is_over_x, is_under, is_level, bits_where, under_bits, up_to_bits}
 use Rattle.tile_laws.proofs.EvenRegion.{differ, odd, odd_same}
 use Rattle.tile_laws.proofs.SideCount.{odd_count, odd_differ, odd_agree}
 
@@ -37,7 +39,7 @@ up_to_split marked s q k =
     odd_count (λ m. (m.layer == k) && (is_over_x m.segment q && (is_under m.segment s q || is_level m.segment s q))) marked
     ∙ odd_same (λ m. (m.layer == k) && (is_over_x m.segment q && (is_under m.segment s q || is_level m.segment s q))) (λ m. differ ((m.layer == k) && (is_over_x m.segment q && is_under m.segment s q)) ((m.layer == k) && (is_over_x m.segment q && is_level m.segment s q))) marked
     (λ m. in_layer (m.layer == k) (is_over_x m.segment q && (is_under m.segment s q || is_level m.segment s q)) (is_over_x m.segment q && is_under m.segment s q) (is_over_x m.segment q && is_level m.segment s q)
-    (exclusive (is_over_x m.segment q) (gap m.segment s q) (turn m.segment s)))
+    (exclusive (is_over_x m.segment q) (gap m.segment s q) (turn_of m.segment s)))
     ∙ odd_differ (λ m. (m.layer == k) && (is_over_x m.segment q && is_under m.segment s q)) (λ m. (m.layer == k) && (is_over_x m.segment q && is_level m.segment s q)) marked
     ∙ ap (λ b. differ b (odd (λ m. (m.layer == k) && (is_over_x m.segment q && is_level m.segment s q)) marked)) (sym (odd_count (λ m. (m.layer == k) && (is_over_x m.segment q && is_under m.segment s q)) marked))
     ∙ ap (differ (under_bits marked s q k)) (sym (odd_count (λ m. (m.layer == k) && (is_over_x m.segment q && is_level m.segment s q)) marked))

@@ -12,8 +12,12 @@ use Rattle.overlay_terms.specs.Tiles.{is_parallel, is_end, is_crossing, is_on_bo
 use Rattle.overlay_terms.proofs.InputNumbers.{between_from_on, in_order_by_x}
 use Rattle.overlay_terms.proofs.InputLists.{any_from_Contains}
 use Rattle.exact_point.proofs.OnSegment.{reached}
-use Rattle.tile_laws.proofs.JustRight.{width, rise, turn}
-use Rattle.tile_laws.proofs.SidePlaces.{Left, AtMost, left_after, left_before, at_most_through, left_most}
+use Rattle.exact_point.proofs.PlaceOrder.{one_positive}
+use Rattle.exact_point.proofs.ByX.{Left, AtMost, left_after, left_before, at_most_through, left_most}
+use Rattle.exact_point.proofs.Lines.{width, rise}
+use Rattle.exact_point.specs.Crossing.{turn_of}
+use Rattle.exact_point.proofs.Nodes.{left_node, right_node, crossing_is_node}
+use Rattle.exact_point.proofs.OnLine.{no_turn_back, turn_from_parallel}
 use Rattle.tile_laws.proofs.SideMeeting.{Stretch, Apart, on_from_level}
 
 -- ---- over opaque numbers
@@ -25,43 +29,6 @@ to_by a x h = omega (arith, ints)
 
 wide_by : (l r : ℤ) → (l *ℤ pos 1) <ℤ (r *ℤ pos 1) → pos 0 <ℤ (r -ℤ l)
 wide_by l r h = omega (arith, ints)
-
--- equal products make no turn
-no_turn_by : (a b c d : ℤ) → a *ℤ d ≡ b *ℤ c → (c *ℤ b) -ℤ (d *ℤ a) ≡ pos 0
-no_turn_by a b c d e = omega (arith, ints, e, *ℤ_comm c b, *ℤ_comm d a)
-
-one : pos 0 <ℤ pos 1
-one = omega (arith, ints)
-
--- a number equals itself
-itself : (a : ℤ) → int_eq a a ≡ true
-itself a = (Decides-int_eq a a).1 refl
-
--- a place is the same as itself
-same_itself : (q : Point) → same_place q q ≡ true
-same_itself q = and_from (int_eq (q.x *ℤ q.w) (q.x *ℤ q.w)) (int_eq (q.y *ℤ q.w) (q.y *ℤ q.w)) (itself (q.x *ℤ q.w)) (itself (q.y *ℤ q.w))
-
--- an end of a segment of the list is a node
-pub end_is_node : (xs : List Segment) (t : Segment) (z : Point) → Contains xs t → (same_place z (whole t.left) || same_place z (whole t.right)) ≡ true → IsTrue (is_node xs z)
-end_is_node xs t z among h =
-    or_left (is_end xs z || is_crossing xs z) (is_on_border xs z)
-    (or_left (is_end xs z) (is_crossing xs z)
-    (any_from_Contains (λ (s : Segment). same_place z (whole s.left) || same_place z (whole s.right)) xs t among h))
-
--- a point on two segments of the list that are not parallel is a node
-pub crossing_is_node : (xs : List Segment) (s t : Segment) (z : Point) → Contains xs s → Contains xs t → IsTrue (is_on s z) → IsTrue (is_on t z) → is_parallel s t ≡ false → IsTrue (is_node xs z)
-crossing_is_node xs s t z among_s among_t on_s on_t crossed =
-    let other : list_any (λ (n : Segment). is_on n z && not (is_parallel s n)) xs ≡ true =
-    any_from_Contains (λ (n : Segment). is_on n z && not (is_parallel s n)) xs t among_t (and_from (is_on t z) (not (is_parallel s t)) on_t (not_from_false (is_parallel s t) crossed)) in
-    or_left (is_end xs z || is_crossing xs z) (is_on_border xs z)
-    (or_right (is_end xs z) (is_crossing xs z)
-    (any_from_Contains (λ (m : Segment). is_on m z && list_any (λ (n : Segment). is_on n z && not (is_parallel m n)) xs) xs s among_s
-    (and_from (is_on s z) (list_any (λ (n : Segment). is_on n z && not (is_parallel s n)) xs) on_s other)))
-
--- what a test of parallels says
-pub no_turn : (s t : Segment) → is_parallel s t ≡ true → turn t s ≡ pos 0
-no_turn s t h =
-    no_turn_by (width s) (rise s) (width t) (rise t) ((Decides-int_eq (width s *ℤ rise t) (rise s *ℤ width t)).0 h)
 
 module _ (xs : List Segment) (p r : Point) (piece : IsPiece xs p r) (ordered : Left p r) where
   from_left : AtMost (whole piece.support.left) p
@@ -75,8 +42,8 @@ module _ (xs : List Segment) (p r : Point) (piece : IsPiece xs p r) (ordered : L
   wide =
       let s : Segment = piece.support in
       wide_by s.left.x s.right.x
-      (left_before (whole s.left) r (whole s.right) one piece.to_positive one
-      (left_after (whole s.left) p r one piece.from_positive piece.to_positive from_left ordered) to_right)
+      (left_before (whole s.left) r (whole s.right) one_positive piece.to_positive one_positive
+      (left_after (whole s.left) p r one_positive piece.from_positive piece.to_positive from_left ordered) to_right)
 
   -- the piece is a stretch
   pub stretch_of : Stretch piece.support p r
@@ -95,24 +62,24 @@ module _ (xs : List Segment) (p r : Point) (piece : IsPiece xs p r) (ordered : L
   pub no_node : (z : Point) → pos 0 <ℤ z.w → Left p z → Left z r → height_over piece.support z ≡ pos 0 → IsTrue (is_node xs z) → ⊥
   no_node z positive after before level =
       let s : Segment = piece.support in
-      let low : AtMost (whole s.left) z = at_most_through (whole s.left) p z one piece.from_positive positive from_left (left_most p z after) in
-      let high : AtMost z (whole s.right) = at_most_through z r (whole s.right) positive piece.to_positive one (left_most z r before) to_right in
+      let low : AtMost (whole s.left) z = at_most_through (whole s.left) p z one_positive piece.from_positive positive from_left (left_most p z after) in
+      let high : AtMost z (whole s.right) = at_most_through z r (whole s.right) positive piece.to_positive one_positive (left_most z r before) to_right in
       piece.none_between z positive (on_from_level s z wide level low high) (in_order_by_x p z after) (in_order_by_x z r before)
 
   -- a place of its line strictly inside is on its segment
   pub on_support : (z : Point) → pos 0 <ℤ z.w → Left p z → Left z r → height_over piece.support z ≡ pos 0 → IsTrue (is_on piece.support z)
   on_support z positive after before level =
       let s : Segment = piece.support in
-      let low : AtMost (whole s.left) z = at_most_through (whole s.left) p z one piece.from_positive positive from_left (left_most p z after) in
-      let high : AtMost z (whole s.right) = at_most_through z r (whole s.right) positive piece.to_positive one (left_most z r before) to_right in
+      let low : AtMost (whole s.left) z = at_most_through (whole s.left) p z one_positive piece.from_positive positive from_left (left_most p z after) in
+      let high : AtMost z (whole s.right) = at_most_through z r (whole s.right) positive piece.to_positive one_positive (left_most z r before) to_right in
       on_from_level s z wide level low high
 
   module _ (t : Segment) (among : Contains xs t) where
     -- a common point strictly inside is on a parallel
-    no_crossing : (z : Point) → pos 0 <ℤ z.w → Left p z → Left z r → height_over piece.support z ≡ pos 0 → IsTrue (is_on t z) → turn t piece.support ≡ pos 0
+    no_crossing : (z : Point) → pos 0 <ℤ z.w → Left p z → Left z r → height_over piece.support z ≡ pos 0 → IsTrue (is_on t z) → turn_of t piece.support ≡ pos 0
     no_crossing z positive after before level on =
         elim (cases_Bool (is_parallel piece.support t)) [
-          | inl parallel ↦ no_turn piece.support t parallel
+          | inl parallel ↦ no_turn_back piece.support t (turn_from_parallel piece.support t parallel)
           | inr crossed ↦ absurd (no_node z positive after before level
               (crossing_is_node xs piece.support t z piece.among among (on_support z positive after before level) on crossed))
         ]
@@ -122,9 +89,7 @@ module _ (xs : List Segment) (p r : Point) (piece : IsPiece xs p r) (ordered : L
     apart_of = record {
       no_crossing = no_crossing;
       no_left = λ after before level.
-          no_node (whole t.left) one after before level
-          (end_is_node xs t (whole t.left) among (or_left (same_place (whole t.left) (whole t.left)) (same_place (whole t.left) (whole t.right)) (same_itself (whole t.left))));
+          no_node (whole t.left) one_positive after before level (left_node xs t among);
       no_right = λ after before level.
-          no_node (whole t.right) one after before level
-          (end_is_node xs t (whole t.right) among (or_right (same_place (whole t.right) (whole t.left)) (same_place (whole t.right) (whole t.right)) (same_itself (whole t.right))));
+          no_node (whole t.right) one_positive after before level (right_node xs t among);
     }

@@ -1,40 +1,22 @@
 -- A segment on the line of a stretch that is over one x of it is over all of them.
 use Rattle.std.specs.Prelude.{◌≡◌, ℤ, pos, ◌+ℤ◌, ◌-ℤ◌, ◌*ℤ◌, ◌<ℤ◌, ◌≤ℤ◌, int_lt, Bool, true, false, not, ◌&&◌}
 use Rattle.std.specs.Ordering.{int_eq}
+use Rattle.std.specs.Cmp.{both_ways}
 use Rattle.std.proofs.Common.{refl, ap, sym, ◌∙◌, arith, inl, inr}
 use Rattle.std.proofs.lemmas.Int.{ints, by_lt_z}
 use Rattle.std.proofs.lemmas.Bool.Decides.{Decides-int_eq}
-use Rattle.std.proofs.Math.IntN.{zero-*ℤ}
 use Rattle.overlay_terms.specs.Plane.{WholePoint, Point, Segment, whole, height_over}
 use Rattle.exact_point.proofs.Lexical.{Forward}
-use Rattle.tile_laws.proofs.JustRight.{width, rise, gap, turn, is_over_x, is_level}
-use Rattle.tile_laws.proofs.LineForms.{form_moves, zero_factor}
-use Rattle.tile_laws.proofs.SidePlaces.{Left, AtMost, left_after, left_before}
-use Rattle.tile_laws.proofs.SideForms.{offset, gap_form, heights_give_gap, left_on_line, right_on_line}
+use Rattle.exact_point.proofs.PlaceOrder.{one_positive}
+use Rattle.exact_point.proofs.ByX.{Left, AtMost, left_after, left_before}
+use Rattle.exact_point.proofs.Lines.{width, rise, gap, flat_gap, on_second}
+use Rattle.exact_point.proofs.OnLine.{left_on_line, right_on_line}
+use Rattle.exact_point.specs.Crossing.{turn_of}
+use Rattle.tile_laws.proofs.JustRight.{is_over_x, is_level}
 use Rattle.tile_laws.proofs.SideMeeting.{Stretch, Apart}
 use Rattle.tile_laws.proofs.SideStrip.{is_past, past_true, over_by_past}
 
--- ---- over opaque numbers
--- a form without slope that is 0 at one place is 0 at each
-flat : (a b x w y v : ℤ) → pos 0 <ℤ w → a ≡ pos 0 → ((a *ℤ x) +ℤ (b *ℤ w)) ≡ pos 0 → ((a *ℤ y) +ℤ (b *ℤ v)) ≡ pos 0
-flat a b x w y v hw none zero =
-    zero_factor ((a *ℤ y) +ℤ (b *ℤ v)) w hw
-    (form_moves a b x w y v ∙ omega (arith, ints, ap (λ z. z *ℤ v) zero, zero-*ℤ v, ap (λ z. z *ℤ ((y *ℤ w) -ℤ (x *ℤ v))) none, zero-*ℤ ((y *ℤ w) -ℤ (x *ℤ v))))
-
--- an end of one line that is level with the other line
-pub level_end : (ht ws hs wt g : ℤ) → pos 0 <ℤ wt → ht ≡ pos 0 → (ht *ℤ ws) -ℤ (hs *ℤ wt) ≡ g → g ≡ pos 0 → hs ≡ pos 0
-level_end ht ws hs wt g wide level e none =
-    zero_factor hs wt wide (omega (arith, ints, e, none, ap (λ z. z *ℤ ws) level, zero-*ℤ ws))
-
-one : pos 0 <ℤ pos 1
-one = omega (arith, ints)
-
 -- ---- over tests
-pub one_test : (a b : Bool) → (a ≡ true → b ≡ true) → (b ≡ true → a ≡ true) → a ≡ b
-one_test true b h k = sym (h refl)
-one_test false true h k = k refl
-one_test false false h k = refl
-
 -- over both or neither, where on one line
 over_level : (o n g h t : Bool) → (t ≡ true → g ≡ h) → (t ≡ true → g ≡ true → o ≡ n) → (o && (g && t)) ≡ (n && (h && t))
 over_level o n g h t e f = grind (arith, e, f)
@@ -48,20 +30,15 @@ never_over false q e = e
 over_none : (o n g h : Bool) → o ≡ false → n ≡ false → (o && g) ≡ (n && h)
 over_none o n g h e f = grind (arith, e, f)
 
--- ---- lines without a turn
-pub flat_gap : (t s : Segment) (q z : Point) → pos 0 <ℤ q.w → turn t s ≡ pos 0 → gap t s q ≡ pos 0 → gap t s z ≡ pos 0
-flat_gap t s q z positive none zero =
-    gap_form t s z ∙ flat (turn t s) (offset t s) q.x q.w z.x z.w positive none (sym (gap_form t s q) ∙ zero)
-
 module _ (s t : Segment) (p r u v : Point) (stretch : Stretch s p r) (apart : Apart s t p r) (u_positive : pos 0 <ℤ u.w) (v_positive : pos 0 <ℤ v.w) (begin : AtMost p u) (later : Left u v) (end : Left v r) where
   -- a whole point that does not lie strictly inside is past both places or neither
   past_alike : (e : WholePoint) → (Left p (whole e) → Left (whole e) r → ⊥) → is_past u e ≡ is_past v e
   past_alike e outside =
-      one_test (is_past u e) (is_past v e)
+      both_ways (is_past u e) (is_past v e)
       (λ h. by_lt_z v.x (e.x *ℤ v.w)
       (λ after. is_after v e after)
-      (λ most. absurd (outside (left_after p u (whole e) stretch.from_positive u_positive one begin (past_true u e h)) (left_after (whole e) v r one v_positive stretch.to_positive (at_most v.x (e.x *ℤ v.w) most) end))))
-      (λ h. is_after u e (drop_one u.x (e.x *ℤ u.w) (left_before u v (whole e) u_positive v_positive one later (most_of (v.x *ℤ pos 1) (e.x *ℤ v.w) (past_true v e h)))))
+      (λ most. absurd (outside (left_after p u (whole e) stretch.from_positive u_positive one_positive begin (past_true u e h)) (left_after (whole e) v r one_positive v_positive stretch.to_positive (at_most v.x (e.x *ℤ v.w) most) end))))
+      (λ h. is_after u e (drop_one u.x (e.x *ℤ u.w) (left_before u v (whole e) u_positive v_positive one_positive later (most_of (v.x *ℤ pos 1) (e.x *ℤ v.w) (past_true v e h)))))
     where
       is_after : (q : Point) (e : WholePoint) → q.x <ℤ (e.x *ℤ q.w) → is_past q e ≡ true
       is_after q e h = test q.x (e.x *ℤ q.w) h
@@ -79,12 +56,10 @@ module _ (s t : Segment) (p r u v : Point) (stretch : Stretch s p r) (apart : Ap
       drop_one a b h = omega (arith, ints)
 
   -- on one line with the stretch, it is over both places or neither
-  cover : pos 0 <ℤ width t → turn t s ≡ pos 0 → gap t s u ≡ pos 0 → is_over_x t u ≡ is_over_x t v
+  cover : pos 0 <ℤ width t → turn_of t s ≡ pos 0 → gap t s u ≡ pos 0 → is_over_x t u ≡ is_over_x t v
   cover wide none zero =
-      let left_level : height_over s (whole t.left) ≡ pos 0 =
-      level_end (height_over t (whole t.left)) (width s) (height_over s (whole t.left)) (width t) (gap t s (whole t.left)) wide (left_on_line t) (heights_give_gap t s (whole t.left)) (flat_gap t s u (whole t.left) u_positive none zero) in
-      let right_level : height_over s (whole t.right) ≡ pos 0 =
-      level_end (height_over t (whole t.right)) (width s) (height_over s (whole t.right)) (width t) (gap t s (whole t.right)) wide (right_on_line t) (heights_give_gap t s (whole t.right)) (flat_gap t s u (whole t.right) u_positive none zero) in
+      let left_level : height_over s (whole t.left) ≡ pos 0 = on_second t s (whole t.left) wide (left_on_line t) (flat_gap t s u (whole t.left) u_positive none zero) in
+      let right_level : height_over s (whole t.right) ≡ pos 0 = on_second t s (whole t.right) wide (right_on_line t) (flat_gap t s u (whole t.right) u_positive none zero) in
       over_by_past t u
       ∙ ap (λ b. not b && is_past u t.right) (past_alike t.left (λ after before. apart.no_left after before left_level))
       ∙ ap (λ b. not (is_past v t.left) && b) (past_alike t.right (λ after before. apart.no_right after before right_level))
@@ -93,12 +68,12 @@ module _ (s t : Segment) (p r u v : Point) (stretch : Stretch s p r) (apart : Ap
   -- over an x and on the line, at one place of the stretch as at the other
   pub level_kept : Forward (width t) (rise t) → (is_over_x t u && is_level t s u) ≡ (is_over_x t v && is_level t s v)
   level_kept (inl wide) =
-      over_level (is_over_x t u) (is_over_x t v) (int_eq (gap t s u) (pos 0)) (int_eq (gap t s v) (pos 0)) (int_eq (turn t s) (pos 0))
-      (λ e. let none : turn t s ≡ pos 0 = (Decides-int_eq (turn t s) (pos 0)).0 e in
-      one_test (int_eq (gap t s u) (pos 0)) (int_eq (gap t s v) (pos 0))
+      over_level (is_over_x t u) (is_over_x t v) (int_eq (gap t s u) (pos 0)) (int_eq (gap t s v) (pos 0)) (int_eq (turn_of t s) (pos 0))
+      (λ e. let none : turn_of t s ≡ pos 0 = (Decides-int_eq (turn_of t s) (pos 0)).0 e in
+      both_ways (int_eq (gap t s u) (pos 0)) (int_eq (gap t s v) (pos 0))
       (λ h. (Decides-int_eq (gap t s v) (pos 0)).1 (flat_gap t s u v u_positive none ((Decides-int_eq (gap t s u) (pos 0)).0 h)))
       (λ h. (Decides-int_eq (gap t s u) (pos 0)).1 (flat_gap t s v u v_positive none ((Decides-int_eq (gap t s v) (pos 0)).0 h))))
-      (λ e h. cover wide ((Decides-int_eq (turn t s) (pos 0)).0 e) ((Decides-int_eq (gap t s u) (pos 0)).0 h))
+      (λ e h. cover wide ((Decides-int_eq (turn_of t s) (pos 0)).0 e) ((Decides-int_eq (gap t s u) (pos 0)).0 h))
   level_kept (inr upright) =
       over_none (is_over_x t u) (is_over_x t v) (is_level t s u) (is_level t s v) (no_x u) (no_x v)
     where

@@ -4,13 +4,14 @@ use Rattle.std.proofs.Common.{ap, sym, ◌∙◌, arith, inl, inr}
 use Rattle.std.proofs.lemmas.Int.{ints, by_lt_z}
 use Rattle.std.proofs.Math.IntN.{*ℤ_comm, *ℤ-zero, zero-*ℤ}
 use Rattle.overlay_terms.specs.Plane.{Point, Segment, whole, height_over, is_on}
-use Rattle.overlay_terms.proofs.Difference.{split, differences, same}
+use Rattle.overlay_terms.proofs.Difference.{split, differences, same, mul_pos}
 use Rattle.exact_point.proofs.Lexical.{NotBack}
 use Rattle.exact_point.proofs.OnSegment.{is_reached}
-use Rattle.tile_laws.proofs.JustRight.{width, gap, turn}
-use Rattle.tile_laws.proofs.LineForms.{positive_times, zero_factor}
-use Rattle.tile_laws.proofs.SidePlaces.{Left, AtMost, left_after, left_before, at_most_through}
-use Rattle.tile_laws.proofs.SideForms.{gap_form, heights_give_gap, place_over, over_on_line, over_no_gap}
+use Rattle.exact_point.proofs.ByX.{Left, AtMost, left_after, left_before, at_most_through}
+use Rattle.exact_point.proofs.Lines.{width, gap, gap_form, on_first, place_over, over_on_line, over_no_gap}
+use Rattle.exact_point.proofs.Signs.{zero_factor}
+use Rattle.exact_point.specs.Crossing.{turn_of}
+use Rattle.exact_point.proofs.CrossingLemmas.{to_end}
 
 -- a stretch of a segment that is not vertical, from p to r
 pub record Stretch (s : Segment) (p r : Point) : Type 0 where
@@ -25,7 +26,7 @@ pub record Stretch (s : Segment) (p r : Point) : Type 0 where
 
 -- nothing of t crosses s or ends on it strictly inside the stretch
 pub record Apart (s t : Segment) (p r : Point) : Type 0 where
-  pub no_crossing : (z : Point) → pos 0 <ℤ z.w → Left p z → Left z r → height_over s z ≡ pos 0 → IsTrue (is_on t z) → turn t s ≡ pos 0
+  pub no_crossing : (z : Point) → pos 0 <ℤ z.w → Left p z → Left z r → height_over s z ≡ pos 0 → IsTrue (is_on t z) → turn_of t s ≡ pos 0
   pub no_left : Left p (whole t.left) → Left (whole t.left) r → height_over s (whole t.left) ≡ pos 0 → ⊥
   pub no_right : Left p (whole t.right) → Left (whole t.right) r → height_over s (whole t.right) ≡ pos 0 → ⊥
 
@@ -42,10 +43,6 @@ back_parts d e x y w = rw (split d, split e, split x, split y, split w) (simp di
 level_back : (d e x y w : ℤ) → pos 0 <ℤ d → (d *ℤ y) -ℤ (e *ℤ x) ≡ pos 0 → (d *ℤ w) -ℤ x ≡ pos 0 → (e *ℤ w) -ℤ y ≡ pos 0
 level_back d e x y w h level none =
     zero_factor ((e *ℤ w) -ℤ y) d h (*ℤ_comm ((e *ℤ w) -ℤ y) d ∙ back_parts d e x y w ∙ omega (arith, ints, level, ap (λ z. e *ℤ z) none, *ℤ-zero e))
-
--- from a place on to the right end
-to_end : (l r w x : ℤ) → ((r -ℤ l) *ℤ w) -ℤ (x -ℤ (l *ℤ w)) ≡ (r *ℤ w) -ℤ x
-to_end l r w x = rw (split l, split r, split w, split x) (simp differences (same _ _ _ _ (omega arith)))
 
 -- not back from a place whose x is at most: right of it, or over it and level with it
 not_back : (x y : ℤ) → pos 0 ≤ℤ x → (x ≡ pos 0 → y ≡ pos 0) → NotBack x y
@@ -95,15 +92,14 @@ pub over_most : (s : Segment) (q : Point) → AtMost (place_over s q.x q.w) q
 over_most s q = most_same _ _ (sym (same_x q.x q.w (width s)))
 
 -- over an x strictly inside the stretch and between the ends of t, no gap between the lines means that they are parallel
-pub no_gap_inside : (s t : Segment) (p r q : Point) → Stretch s p r → Apart s t p r → pos 0 <ℤ width t → pos 0 <ℤ q.w → Left p q → Left q r → AtMost (whole t.left) q → AtMost q (whole t.right) → gap t s q ≡ pos 0 → turn t s ≡ pos 0
+pub no_gap_inside : (s t : Segment) (p r q : Point) → Stretch s p r → Apart s t p r → pos 0 <ℤ width t → pos 0 <ℤ q.w → Left p q → Left q r → AtMost (whole t.left) q → AtMost q (whole t.right) → gap t s q ≡ pos 0 → turn_of t s ≡ pos 0
 no_gap_inside s t p r q stretch apart wide positive after before low high none =
     let z : Point = place_over s q.x q.w in
-    let z_positive : pos 0 <ℤ z.w = positive_times q.w (width s) positive stretch.wide in
+    let z_positive : pos 0 <ℤ z.w = mul_pos q.w (width s) positive stretch.wide in
     let one : pos 0 <ℤ pos 1 = omega (arith, ints) in
     let s_level : height_over s z ≡ pos 0 = over_on_line s q.x q.w in
     let z_gap : gap t s z ≡ pos 0 = over_no_gap t s q.x q.w (sym (gap_form t s q) ∙ none) in
-    let t_level : height_over t z ≡ pos 0 =
-    zero_factor (height_over t z) (width s) stretch.wide (difference_none (height_over t z *ℤ width s) (height_over s z *ℤ width t) (heights_give_gap t s z ∙ z_gap) (ap (λ n. n *ℤ width t) s_level ∙ zero-*ℤ (width t))) in
+    let t_level : height_over t z ≡ pos 0 = on_first t s z stretch.wide s_level z_gap in
     apart.no_crossing z z_positive
     (left_before p q z stretch.from_positive positive z_positive after (over_least s q))
     (left_after z q r z_positive positive stretch.to_positive (over_most s q) before)
@@ -111,6 +107,3 @@ no_gap_inside s t p r q stretch apart wide positive after before low high none =
     (on_from_level t z wide t_level
     (at_most_through (whole t.left) q z one positive z_positive low (over_least s q))
     (at_most_through z q (whole t.right) z_positive positive one (over_most s q) high))
-  where
-    difference_none : (a b : ℤ) → a -ℤ b ≡ pos 0 → b ≡ pos 0 → a ≡ pos 0
-    difference_none a b h k = omega (arith, ints)

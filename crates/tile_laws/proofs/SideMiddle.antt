@@ -7,25 +7,30 @@ use Rattle.std.proofs.lemmas.Bool.{and_parts, and_from, false_from_ne_true, both
 use Rattle.std.proofs.lemmas.Bool.Decides.{Decides-int_eq}
 use Rattle.std.proofs.Math.IntN.{zero-*ℤ}
 use Rattle.overlay_terms.specs.Plane.{Point, Segment, whole, height_over, is_below, is_on}
-use Rattle.overlay_terms.proofs.InputNumbers.{IsBetween, between_from_on}
+use Rattle.overlay_terms.proofs.InputNumbers.{IsWithinEnds, between_from_on}
 use Rattle.exact_point.proofs.Lexical.{Forward}
 use Rattle.exact_point.proofs.OnSegment.{reached}
-use Rattle.tile_laws.proofs.JustRight.{width, rise, gap, turn, is_over_x, is_under, is_level}
-use Rattle.tile_laws.proofs.LineForms.{positive_times, not_positive_times, zero_factor}
-use Rattle.tile_laws.proofs.SidePlaces.{Left, AtMost, left_after, left_before, left_most}
-use Rattle.tile_laws.proofs.SideForms.{heights_give_gap, right_on_line}
+use Rattle.overlay_terms.proofs.Difference.{mul_pos}
+use Rattle.exact_point.proofs.PlaceOrder.{one_positive}
+use Rattle.exact_point.proofs.ByX.{Left, AtMost, left_after, left_before, left_most}
+use Rattle.exact_point.proofs.Lines.{width, rise, gap, heights_give_gap, flat_gap, gap_at, on_first, on_second}
+use Rattle.exact_point.proofs.OnLine.{right_on_line}
+use Rattle.exact_point.proofs.Signs.{not_positive_times, zero_factor}
+use Rattle.exact_point.specs.Crossing.{turn_of}
+use Rattle.tile_laws.proofs.JustRight.{is_over_x, is_under, is_level}
 use Rattle.tile_laws.proofs.SideMeeting.{Stretch, Apart, on_from_level}
 use Rattle.tile_laws.proofs.SideOrder.{under_is_above}
 use Rattle.tile_laws.proofs.SideStrip.{is_past, past_true, past_false, over_by_past}
 use Rattle.tile_laws.proofs.SideUpright.{upright_turn}
-use Rattle.tile_laws.proofs.SideLevel.{flat_gap, level_end, one_test, never_over}
+use Rattle.tile_laws.proofs.Counts.{same_tests}
+use Rattle.tile_laws.proofs.SideLevel.{never_over}
 
 -- ---- over opaque numbers
 -- on the one line, the height over the other is the gap, but for a positive factor
 height_sign : (ht ws hs wt g : ℤ) → pos 0 <ℤ ws → hs ≡ pos 0 → (ht *ℤ ws) -ℤ (hs *ℤ wt) ≡ g → int_lt (pos 0) ht ≡ int_lt (pos 0) g
 height_sign ht ws hs wt g wide level e =
     by_lt_z (pos 0) ht
-    (λ h. above h (omega (arith, ints, e, ap (λ z. z *ℤ wt) level, zero-*ℤ wt, positive_times ht ws h wide)))
+    (λ h. above h (omega (arith, ints, e, ap (λ z. z *ℤ wt) level, zero-*ℤ wt, mul_pos ht ws h wide)))
     (λ h. not_above h (omega (arith, ints, e, ap (λ z. z *ℤ wt) level, zero-*ℤ wt, not_positive_times ht ws h wide)))
   where
     above : pos 0 <ℤ ht → pos 0 <ℤ g → int_lt (pos 0) ht ≡ int_lt (pos 0) g
@@ -33,14 +38,6 @@ height_sign ht ws hs wt g wide level e =
 
     not_above : ht ≤ℤ pos 0 → g ≤ℤ pos 0 → int_lt (pos 0) ht ≡ int_lt (pos 0) g
     not_above h k = grind (arith, ints, h, k)
-
--- on both lines is no gap between them
-no_heights : (ht ws hs wt g : ℤ) → hs ≡ pos 0 → ht ≡ pos 0 → (ht *ℤ ws) -ℤ (hs *ℤ wt) ≡ g → g ≡ pos 0
-no_heights ht ws hs wt g level other e = omega (arith, ints, e, ap (λ z. z *ℤ wt) level, zero-*ℤ wt, ap (λ z. z *ℤ ws) other, zero-*ℤ ws)
-
--- on the one line where there is no gap is on the other
-no_height : (ht ws hs wt g : ℤ) → pos 0 <ℤ ws → hs ≡ pos 0 → g ≡ pos 0 → (ht *ℤ ws) -ℤ (hs *ℤ wt) ≡ g → ht ≡ pos 0
-no_height ht ws hs wt g wide level none e = zero_factor ht ws wide (omega (arith, ints, e, none, ap (λ z. z *ℤ wt) level, zero-*ℤ wt))
 
 -- ---- over tests
 guarded : (o a b : Bool) → (o ≡ true → a ≡ b) → (o && a) ≡ (o && b)
@@ -64,9 +61,6 @@ to_by a x h = omega (arith, ints)
 not_past : (x a : ℤ) → a ≤ℤ x → int_lt x a ≡ false
 not_past x a h = grind (arith, ints, h)
 
-one : pos 0 <ℤ pos 1
-one = omega (arith, ints)
-
 module _ (s t : Segment) (p r z : Point) (stretch : Stretch s p r) (apart : Apart s t p r) (positive : pos 0 <ℤ z.w) (after : Left p z) (before : Left z r) (level : height_over s z ≡ pos 0) where
   -- a segment over its x reaches from left of it to right of it
   reach_left : is_over_x t z ≡ true → AtMost (whole t.left) z
@@ -81,7 +75,7 @@ module _ (s t : Segment) (p r z : Point) (stretch : Stretch s p r) (apart : Apar
       left_most z (whole t.right) (past_true z t.right (and_parts (not (is_past z t.left)) (is_past z t.right) (sym (over_by_past t z) ∙ over)).1)
 
   -- a segment on it is parallel
-  on_parallel : is_on t z ≡ true → turn t s ≡ pos 0
+  on_parallel : is_on t z ≡ true → turn_of t s ≡ pos 0
   on_parallel on = apart.no_crossing z positive after before level on
 
   module _ (wide : pos 0 <ℤ width t) where
@@ -95,25 +89,25 @@ module _ (s t : Segment) (p r z : Point) (stretch : Stretch s p r) (apart : Apar
     -- over its x, on it is on one line
     on_level : is_over_x t z ≡ true → is_on t z ≡ is_level t s z
     on_level over =
-        one_test (is_on t z) (is_level t s z)
-        (λ on. and_from (int_eq (gap t s z) (pos 0)) (int_eq (turn t s) (pos 0))
-        ((Decides-int_eq (gap t s z) (pos 0)).1 (no_heights (height_over t z) (width s) (height_over s z) (width t) (gap t s z) level (reached t z on).level (heights_give_gap t s z)))
-        ((Decides-int_eq (turn t s) (pos 0)).1 (on_parallel on)))
+        same_tests (is_on t z) (is_level t s z)
+        (λ on. and_from (int_eq (gap t s z) (pos 0)) (int_eq (turn_of t s) (pos 0))
+        ((Decides-int_eq (gap t s z) (pos 0)).1 (gap_at t s z (reached t z on).level level))
+        ((Decides-int_eq (turn_of t s) (pos 0)).1 (on_parallel on)))
         (λ h. on_from_level t z wide
-        (no_height (height_over t z) (width s) (height_over s z) (width t) (gap t s z) stretch.wide level ((Decides-int_eq (gap t s z) (pos 0)).0 (and_parts (int_eq (gap t s z) (pos 0)) (int_eq (turn t s) (pos 0)) h).0) (heights_give_gap t s z))
+        (on_first t s z stretch.wide level ((Decides-int_eq (gap t s z) (pos 0)).0 (and_parts (int_eq (gap t s z) (pos 0)) (int_eq (turn_of t s) (pos 0)) h).0))
         (reach_left over) (reach_right over))
 
     -- a segment on it that is not over its x would end on it
     not_over_not_on : is_over_x t z ≡ false → is_on t z ≡ true → ⊥
     not_over_not_on out on =
-        let between : IsBetween t z = between_from_on t z on in
+        let between : IsWithinEnds t z = between_from_on t z on in
         let low : is_past z t.left ≡ false = not_past z.x (t.left.x *ℤ z.w) between.from_left in
         let past : is_past z t.right ≡ false = second_false (is_past z t.left) (is_past z t.right) low (sym (over_by_past t z) ∙ out) in
         let most : AtMost (whole t.right) z = past_false z t.right past in
         let least : AtMost z (whole t.right) = to_by (t.right.x *ℤ z.w) z.x between.to_right in
-        let none : gap t s z ≡ pos 0 = no_heights (height_over t z) (width s) (height_over s z) (width t) (gap t s z) level (reached t z on).level (heights_give_gap t s z) in
-        apart.no_right (left_before p z (whole t.right) stretch.from_positive positive one after least) (left_after (whole t.right) z r one positive stretch.to_positive most before)
-        (level_end (height_over t (whole t.right)) (width s) (height_over s (whole t.right)) (width t) (gap t s (whole t.right)) wide (right_on_line t) (heights_give_gap t s (whole t.right)) (flat_gap t s z (whole t.right) positive (on_parallel on) none))
+        let none : gap t s z ≡ pos 0 = gap_at t s z (reached t z on).level level in
+        apart.no_right (left_before p z (whole t.right) stretch.from_positive positive one_positive after least) (left_after (whole t.right) z r one_positive positive stretch.to_positive most before)
+        (on_second t s (whole t.right) wide (right_on_line t) (flat_gap t s z (whole t.right) positive (on_parallel on) none))
 
     -- below it or on it is under or on one line
     near_slanted : (is_below t z || is_on t z) ≡ (is_over_x t z && (is_under t s z || is_level t s z))

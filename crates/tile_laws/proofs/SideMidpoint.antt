@@ -7,9 +7,8 @@ use Rattle.overlay_terms.specs.Plane.{Point, Segment, height_over}
 use Rattle.overlay_terms.specs.Tiles.{midpoint}
 use Rattle.overlay_terms.proofs.Difference.{split, whole_is, differences, same}
 use Rattle.overlay_terms.proofs.InputNumbers.{twice_of, last_turned, less_times}
-use Rattle.tile_laws.proofs.JustRight.{width, rise}
-use Rattle.tile_laws.proofs.SidePlaces.{Left}
-use Rattle.tile_laws.proofs.SideForms.{base, height_form, line_form}
+use Rattle.exact_point.proofs.ByX.{Left}
+use Rattle.exact_point.proofs.Lines.{width, rise, base, height_form, line_form}
 
 -- the mean of a / w and b / v, times both
 mean_times : (a b w v z : ℤ) → ((a *ℤ v) +ℤ (b *ℤ w)) *ℤ z ≡ ((a *ℤ v) *ℤ z) +ℤ ((b *ℤ w) *ℤ z)

@@ -5,11 +5,13 @@ use Rattle.std.proofs.Common.{ap, sym, ◌∙◌, arith}
 use Rattle.std.proofs.lemmas.Int.{ints, by_lt_z}
 use Rattle.std.proofs.Math.IntN.{zero-*ℤ}
 use Rattle.overlay_terms.specs.Plane.{WholePoint, Point, Segment, whole, height_over}
-use Rattle.tile_laws.proofs.JustRight.{gap, turn, is_over_x, is_under}
-use Rattle.tile_laws.proofs.LineForms.{form_moves, positive_times, negative_times, not_negative_times, not_positive_times}
+use Rattle.overlay_terms.proofs.Difference.{mul_pos}
+use Rattle.exact_point.proofs.ByX.{Left, AtMost, le_not}
+use Rattle.exact_point.proofs.Lines.{gap, form_moves, offset, gap_form}
+use Rattle.exact_point.proofs.Signs.{negative_times, not_negative_times, one_sign}
+use Rattle.exact_point.specs.Crossing.{turn_of}
+use Rattle.tile_laws.proofs.JustRight.{is_over_x, is_under}
 use Rattle.tile_laws.proofs.EvenRegion.{differ}
-use Rattle.tile_laws.proofs.SidePlaces.{Left, AtMost, le_not}
-use Rattle.tile_laws.proofs.SideForms.{offset, gap_form}
 
 -- a whole point lies right of a place, by x
 abbrev pub is_past : Point → WholePoint → Bool
@@ -79,22 +81,9 @@ level_form a b x w y v e =
     times_none : (z : ℤ) → z *ℤ pos 0 ≡ pos 0
     times_none z = omega (arith, ints)
 
--- two numbers have one sign where positive factors make them equal
-one_sign : (g h w v : ℤ) → pos 0 <ℤ w → pos 0 <ℤ v → h *ℤ w ≡ g *ℤ v → int_lt (pos 0) g ≡ int_lt (pos 0) h
-one_sign g h w v hw hv e =
-    by_lt_z (pos 0) g
-    (λ k. by_lt_z (pos 0) h (λ l. both_above k l) (λ l. absurd (omega (arith, ints, e, positive_times g v k hv, not_positive_times h w l hw))))
-    (λ k. by_lt_z (pos 0) h (λ l. absurd (omega (arith, ints, e, positive_times h w l hw, not_positive_times g v k hv))) (λ l. none_above k l))
-  where
-    both_above : pos 0 <ℤ g → pos 0 <ℤ h → int_lt (pos 0) g ≡ int_lt (pos 0) h
-    both_above k l = grind (arith, ints, k, l)
-
-    none_above : g ≤ℤ pos 0 → h ≤ℤ pos 0 → int_lt (pos 0) g ≡ int_lt (pos 0) h
-    none_above k l = grind (arith, ints, k, l)
-
 -- the gap has one sign over one x
 pub gap_sign : (t s : Segment) (q z : Point) → pos 0 <ℤ q.w → pos 0 <ℤ z.w → q.x *ℤ z.w ≡ z.x *ℤ q.w → int_lt (pos 0) (gap t s q) ≡ int_lt (pos 0) (gap t s z)
 gap_sign t s q z hq hz e =
     ap (λ g. int_lt (pos 0) g) (gap_form t s q)
-    ∙ one_sign ((turn t s *ℤ q.x) +ℤ (offset t s *ℤ q.w)) ((turn t s *ℤ z.x) +ℤ (offset t s *ℤ z.w)) q.w z.w hq hz (level_form (turn t s) (offset t s) q.x q.w z.x z.w e)
+    ∙ one_sign ((turn_of t s *ℤ q.x) +ℤ (offset t s *ℤ q.w)) ((turn_of t s *ℤ z.x) +ℤ (offset t s *ℤ z.w)) q.w z.w hq hz (level_form (turn_of t s) (offset t s) q.x q.w z.x z.w e)
     ∙ ap (λ g. int_lt (pos 0) g) (sym (gap_form t s z))

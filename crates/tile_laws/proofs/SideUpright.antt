@@ -4,13 +4,13 @@ use Rattle.std.proofs.Common.{ap, ◌∙◌, arith, inr}
 use Rattle.std.proofs.lemmas.Int.{ints, by_lt_z}
 use Rattle.std.proofs.Math.IntN.{*ℤ-zero, zero-*ℤ}
 use Rattle.overlay_terms.specs.Plane.{WholePoint, Point, Segment, whole, height_over, is_on}
-use Rattle.overlay_terms.proofs.Difference.{split, whole_is, differences, same}
+use Rattle.overlay_terms.proofs.Difference.{split, whole_is, differences, same, mul_pos}
 use Rattle.exact_point.proofs.OnSegment.{is_reached}
-use Rattle.tile_laws.proofs.JustRight.{width, rise, is_under}
-use Rattle.tile_laws.proofs.LineForms.{positive_times}
+use Rattle.exact_point.proofs.PlaceOrder.{one_positive}
+use Rattle.exact_point.proofs.ByX.{Left, AtMost, left_after, left_before}
+use Rattle.exact_point.proofs.Lines.{width, rise, base, height_form, line_form, place_over, over_on_line}
+use Rattle.tile_laws.proofs.JustRight.{is_under}
 use Rattle.tile_laws.proofs.EvenRegion.{differ}
-use Rattle.tile_laws.proofs.SidePlaces.{Left, AtMost, left_after, left_before}
-use Rattle.tile_laws.proofs.SideForms.{base, height_form, line_form, place_over, over_on_line}
 use Rattle.tile_laws.proofs.SideMeeting.{Stretch, Apart, over_least, over_most}
 use Rattle.tile_laws.proofs.SideStrip.{is_past, strip_parity, past_true, past_false, signs_by_past}
 
@@ -20,7 +20,7 @@ upright_level d e x y f g = omega (arith, ints, ap (λ z. z *ℤ y) f, zero-*ℤ
 
 -- from a vertical line each other one turns
 pub upright_turn : (d e f g : ℤ) → d ≡ pos 0 → pos 0 <ℤ f → pos 0 <ℤ g → (d *ℤ e) -ℤ (f *ℤ g) ≡ pos 0 → ⊥
-upright_turn d e f g none up wide k = omega (arith, ints, k, ap (λ z. z *ℤ e) none, zero-*ℤ e, positive_times f g up wide)
+upright_turn d e f g none up wide k = omega (arith, ints, k, ap (λ z. z *ℤ e) none, zero-*ℤ e, mul_pos f g up wide)
 
 one_way : (l d : ℤ) → (l *ℤ d) -ℤ (l *ℤ (pos 1 *ℤ d)) ≡ pos 0
 one_way l d = rw (split l, split d, whole_is 0, whole_is 1) (simp differences (same _ _ _ _ (omega arith)))
@@ -45,7 +45,7 @@ taller_by d m n y = rw (split d, split m, split n, split y) (simp differences (s
 
 -- where the lower end is not under the line, the upper end is not
 taller : (d m n y h k : ℤ) → pos 0 <ℤ d → pos 0 <ℤ (n -ℤ m) → h ≡ (d *ℤ m) -ℤ y → k ≡ (d *ℤ n) -ℤ y → pos 0 ≤ℤ h → pos 0 ≤ℤ k
-taller d m n y h k wide up e f low = omega (arith, ints, e, f, taller_by d m n y, positive_times (n -ℤ m) d up wide)
+taller d m n y h k wide up e f low = omega (arith, ints, e, f, taller_by d m n y, mul_pos (n -ℤ m) d up wide)
 
 both_low : (a b : ℤ) → a <ℤ pos 0 → b <ℤ pos 0 → int_lt a (pos 0) ≡ int_lt b (pos 0)
 both_low a b h k = grind (arith, ints, h, k)
@@ -56,9 +56,6 @@ both_high a b h k = grind (arith, ints, h, k)
 -- where both ends are past a border or neither, only the ends within the strip count
 upright_signs : (p q r s tu tv ta tb : Bool) → q ≡ p → s ≡ r → (p ≡ true → r ≡ false → ta ≡ tb) → differ ((not p && q) && tu) (differ ((not r && s) && tv) (differ ((p && not r) && ta) ((q && not s) && tb))) ≡ false
 upright_signs p q r s tu tv ta tb e f h = grind (arith, e, f, h)
-
-one : pos 0 <ℤ pos 1
-one = omega (arith, ints)
 
 -- the height of a whole point over a line
 whole_height : (s : Segment) (e : WholePoint) → height_over s (whole e) ≡ (width s *ℤ e.y) -ℤ ((rise s *ℤ e.x) +ℤ (base s *ℤ pos 1))
@@ -89,13 +86,13 @@ module _ (s t : Segment) (p r u v : Point) (stretch : Stretch s p r) (apart : Ap
   not_across : Left u (whole t.left) → AtMost (whole t.left) v → height_over s (whole t.left) <ℤ pos 0 → pos 0 ≤ℤ height_over s (whole t.right) → ⊥
   not_across after before low high =
       let z : Point = place_over s t.left.x (pos 1) in
-      let z_positive : pos 0 <ℤ z.w = positive_times (pos 1) (width s) one stretch.wide in
-      let after_p : Left p (whole t.left) = left_after p u (whole t.left) stretch.from_positive u_positive one begin after in
-      let before_r : Left (whole t.left) r = left_after (whole t.left) v r one v_positive stretch.to_positive before end in
+      let z_positive : pos 0 <ℤ z.w = mul_pos (pos 1) (width s) one_positive stretch.wide in
+      let after_p : Left p (whole t.left) = left_after p u (whole t.left) stretch.from_positive u_positive one_positive begin after in
+      let before_r : Left (whole t.left) r = left_after (whole t.left) v r one_positive v_positive stretch.to_positive before end in
       upright_turn (width t) (rise s) (rise t) (width s) upright up stretch.wide
       (apart.no_crossing z z_positive
-      (left_before p (whole t.left) z stretch.from_positive one z_positive after_p (over_least s (whole t.left)))
-      (left_after z (whole t.left) r z_positive one stretch.to_positive (over_most s (whole t.left)) before_r)
+      (left_before p (whole t.left) z stretch.from_positive one_positive z_positive after_p (over_least s (whole t.left)))
+      (left_after z (whole t.left) r z_positive one_positive stretch.to_positive (over_most s (whole t.left)) before_r)
       (over_on_line s t.left.x (pos 1))
       (on_upright low high))
 

@@ -13,10 +13,12 @@ use Rattle.overlay_terms.proofs.InputNumbers.{le_true, lt_true, true_le, true_lt
 use Rattle.overlay_terms.proofs.InputNodes.{IsIn, is_in, ends_within}
 use Rattle.exact_point.proofs.Lexical.{Forward}
 use Rattle.exact_point.proofs.OnSegment.{leads}
-use Rattle.tile_laws.proofs.JustRight.{width, rise, is_over_x, is_under, is_level, bits_where, under_bits, up_to_bits}
+use Rattle.exact_point.proofs.PlaceOrder.{one_positive}
+use Rattle.exact_point.proofs.ByX.{Left, AtMost, left_after, left_before, at_most_through}
+use Rattle.exact_point.proofs.Lines.{width, rise}
+use Rattle.tile_laws.proofs.JustRight.{is_over_x, is_under, is_level, bits_where, under_bits, up_to_bits}
 use Rattle.tile_laws.proofs.Statements.{segments_in, SidesAreKept}
 use Rattle.tile_laws.proofs.EvenRegion.{differ}
-use Rattle.tile_laws.proofs.SidePlaces.{Left, AtMost, left_after, left_before, at_most_through}
 use Rattle.tile_laws.proofs.SideMeeting.{Stretch, Apart}
 use Rattle.tile_laws.proofs.SideStrip.{is_past, is_in_strip, strip_parity, past_true, past_false}
 use Rattle.tile_laws.proofs.SideSlanted.{slanted_even}
@@ -28,9 +30,6 @@ use Rattle.tile_laws.proofs.SideMiddle.{below_is_under, near_is_up_to}
 use Rattle.tile_laws.proofs.SideMidpoint.{after_first, before_second, middle_level}
 use Rattle.tile_laws.proofs.SideBits.{all_in_map, up_to_split, bits_agree}
 
-one : pos 0 <ℤ pos 1
-one = omega (arith, ints)
-
 -- ---- a whole point between two lines
 from_by : (a x : ℤ) → a ≤ℤ x → a ≤ℤ (x *ℤ pos 1)
 from_by a x h = omega (arith, ints)
@@ -39,10 +38,10 @@ from_by a x h = omega (arith, ints)
 -- which is not right of the other
 between_borders : (b c : ℤ) (p u v r : Point) (e : WholePoint) → pos 0 <ℤ p.w → pos 0 <ℤ u.w → pos 0 <ℤ v.w → pos 0 <ℤ r.w → (b *ℤ p.w) ≤ℤ p.x → AtMost p u → Left u (whole e) → AtMost (whole e) v → Left v r → r.x ≤ℤ (c *ℤ r.w) → (int_le (b *ℤ pos 1) e.x && int_lt e.x (c *ℤ pos 1)) ≡ true
 between_borders b c p u v r e hp hu hv hr low begin after before end high =
-    let lower : AtMost (record { x = b; y = pos 0; w = pos 1 }) u = at_most_through (record { x = b; y = pos 0; w = pos 1 }) p u one hp hu (from_by (b *ℤ p.w) p.x low) begin in
-    let left : Left (record { x = b; y = pos 0; w = pos 1 }) (whole e) = left_after (record { x = b; y = pos 0; w = pos 1 }) u (whole e) one hu one lower after in
-    let inner : Left (whole e) r = left_after (whole e) v r one hv hr before end in
-    let right : Left (whole e) (record { x = c; y = pos 0; w = pos 1 }) = left_before (whole e) r (record { x = c; y = pos 0; w = pos 1 }) one hr one inner (to_by r.x (c *ℤ r.w) high) in
+    let lower : AtMost (record { x = b; y = pos 0; w = pos 1 }) u = at_most_through (record { x = b; y = pos 0; w = pos 1 }) p u one_positive hp hu (from_by (b *ℤ p.w) p.x low) begin in
+    let left : Left (record { x = b; y = pos 0; w = pos 1 }) (whole e) = left_after (record { x = b; y = pos 0; w = pos 1 }) u (whole e) one_positive hu one_positive lower after in
+    let inner : Left (whole e) r = left_after (whole e) v r one_positive hv hr before end in
+    let right : Left (whole e) (record { x = c; y = pos 0; w = pos 1 }) = left_before (whole e) r (record { x = c; y = pos 0; w = pos 1 }) one_positive hr one_positive inner (to_by r.x (c *ℤ r.w) high) in
     and_from (int_le (b *ℤ pos 1) e.x) (int_lt e.x (c *ℤ pos 1)) (first b e.x left) (second e.x c right)
   where
     to_by : (x a : ℤ) → x ≤ℤ a → (x *ℤ pos 1) ≤ℤ a

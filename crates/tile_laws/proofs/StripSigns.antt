@@ -1,8 +1,10 @@
 -- The four signs of a segment in a strip: it begins at a and ends at b, the strip is after u and up to v.
 use Rattle.std.proofs.Common.{◌≡◌, ap, Bool, true, false, cond, not, ◌&&◌, arith, ◌⊎◌, inl, inr}
 use Rattle.std.proofs.lemmas.Int.{ints, by_lt_z}
+use Rattle.overlay_terms.proofs.Difference.{mul_pos}
+use Rattle.exact_point.proofs.Lines.{Under, kept, form_moves}
+use Rattle.exact_point.proofs.Signs.{not_positive_times}
 use Rattle.tile_laws.proofs.EvenRegion.{differ}
-use Rattle.tile_laws.proofs.LineForms.{Under, kept, form_moves, positive_times, not_positive_times}
 use lib.IntN.{ℤ, pos, ◌+ℤ◌, ◌-ℤ◌, ◌*ℤ◌, zero-*ℤ}
 use lib.Signed.{◌<ℤ◌, ◌≤ℤ◌, lt_z}
 
@@ -40,7 +42,7 @@ stays_low a b x w y v hw hv gap z k =
       arith,
       ints,
       form_moves a b x w y v,
-      positive_times (a *ℤ y +ℤ b *ℤ v) w l hw,
+      mul_pos (a *ℤ y +ℤ b *ℤ v) w l hw,
       ap (λ t. t *ℤ v) z,
       zero-*ℤ v,
       not_positive_times a (y *ℤ w -ℤ x *ℤ v) k gap,

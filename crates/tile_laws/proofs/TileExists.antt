@@ -7,10 +7,10 @@ use Rattle.std.proofs.lemmas.List.Elements.{All-map, All-weaker, All-contains}
 use Rattle.overlay_terms.specs.Plane.{Point, Segment, same_place}
 use Rattle.overlay_terms.specs.Tiles.{Input, IsBoundary, pair_cmp, IsTileOf}
 use Rattle.overlay_terms.specs.TileLaws.{IsInput, IsProper}
+use Rattle.overlay_terms.proofs.Lists.{in_flat_map, contains_map}
 use Rattle.tile_laws.specs.SameTile.{same_pair, IsPositivePair}
 use Rattle.tile_laws.specs.TileExists.{EachHasItsTile, SomeAreNoMore, MoreIsOversize}
 use Rattle.tile_laws.proofs.Statements.{segments_in}
-use Rattle.tile_laws.proofs.Lists.{in_flat_map, contains_map}
 use Rattle.tile_laws.proofs.Candidates.{candidates, IsAmong, node_among}
 use Rattle.tile_laws.proofs.Shorter.{no_longer}
 use Rattle.tile_laws.proofs.Gathered.{Gathered, gather}

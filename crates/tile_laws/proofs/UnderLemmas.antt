@@ -3,13 +3,16 @@ use Rattle.std.specs.Prelude.{◌≡◌, ℤ, pos, ◌+ℤ◌, ◌-ℤ◌, ◌*�
 use Rattle.std.specs.Ordering.{int_eq}
 use Rattle.std.proofs.Common.{ap, sym, ◌∙◌, arith, ◌⊎◌, inl, inr}
 use Rattle.std.proofs.lemmas.Int.{ints, by_lt_z}
+use Rattle.std.proofs.Math.IntN.{zero-*ℤ}
 use Rattle.std.proofs.lemmas.Bool.{and_parts, and_from, or_cases, or_left, or_right, both_ways, false_from_ne_true}
 use Rattle.std.proofs.lemmas.Bool.Decides.{Decides-int_eq}
 use Rattle.overlay_terms.specs.Plane.{Point, Segment}
 use Rattle.overlay_terms.proofs.Difference.{mul_pos}
 use Rattle.overlay_terms.proofs.InputNumbers.{less_back, le_true, lt_true, true_lt}
-use Rattle.tile_laws.proofs.JustRight.{width, rise, line_height, gap, turn, is_over_x, is_under, is_level}
-use Rattle.tile_laws.proofs.HeightForms.{forms_add, turns_add, turn_back, zero_times, not_positive_times, zero_factor}
+use Rattle.exact_point.proofs.Lines.{width, rise, line_height, gap, forms_add, turns_add, turn_back}
+use Rattle.exact_point.proofs.Signs.{not_positive_times, zero_factor}
+use Rattle.exact_point.specs.Crossing.{turn_of}
+use Rattle.tile_laws.proofs.JustRight.{is_over_x, is_under, is_level}
 use Rattle.tile_laws.proofs.Ranks.{Orders}
 
 -- a line stands over another just right of a place: it is higher there, or as high and turns up
@@ -70,7 +73,7 @@ between_lines g12 a12 g23 a23 g13 a13 d e f hd he hf sums turns h =
     by_height : Over g13 a13 → g12 ≤ℤ pos 0 → g23 ≤ℤ pos 0 → Over g12 a12 ⊎ Over g23 a23
     by_height (higher up) l m = absurd (one_positive g12 g23 g13 d e f hd he hf sums up l m)
     by_height (turning level up) l m =
-        let zeros = both_zero g12 g23 d f hd hf l m (sym sums ∙ ap (λ z. z *ℤ e) level ∙ zero_times e) in
+        let zeros = both_zero g12 g23 d f hd hf l m (sym sums ∙ ap (λ z. z *ℤ e) level ∙ zero-*ℤ e) in
         between_turns g12 a12 g23 a23 a13 d e f hd he hf turns zeros.0 zeros.1 up
 
 -- lines of which neither is over the other are one
@@ -111,44 +114,44 @@ module _ (q : Point) (positive : pos 0 <ℤ q.w) where
   gaps : (s t : Segment) → gap s t q +ℤ gap t s q ≡ pos 0
   gaps s t = difference_back (width s *ℤ line_height t q) (width t *ℤ line_height s q)
 
-  turns : (s t : Segment) → turn s t +ℤ turn t s ≡ pos 0
+  turns : (s t : Segment) → turn_of s t +ℤ turn_of t s ≡ pos 0
   turns s t = turn_back (width s) (rise s) (width t) (rise t)
 
   -- segments are ordered by which is under which
   pub under_orders : Orders (λ s. is_over_x s q) (λ s t. is_under s t q)
   under_orders = record {
-    apart = λ a b oa ob h k. not_both (gap a b q) (turn a b) (gap b a q) (turn b a) (gaps a b) (turns a b) (over_told (gap a b q) (turn a b) h) (over_told (gap b a q) (turn b a) k);
+    apart = λ a b oa ob h k. not_both (gap a b q) (turn_of a b) (gap b a q) (turn_of b a) (gaps a b) (turns a b) (over_told (gap a b q) (turn_of a b) h) (over_told (gap b a q) (turn_of b a) k);
     between = λ a b c oa ob oc h.
         split_told a b c
-        (between_lines (gap a b q) (turn a b) (gap b c q) (turn b c) (gap a c q) (turn a c) (width a) (width b) (width c) (over_wide a oa) (over_wide b ob) (over_wide c oc)
+        (between_lines (gap a b q) (turn_of a b) (gap b c q) (turn_of b c) (gap a c q) (turn_of a c) (width a) (width b) (width c) (over_wide a oa) (over_wide b ob) (over_wide c oc)
         (forms_add (width a) (line_height a q) (width b) (line_height b q) (width c) (line_height c q))
         (turns_add (width a) (rise a) (width b) (rise b) (width c) (rise c))
-        (over_told (gap a c q) (turn a c) h));
+        (over_told (gap a c q) (turn_of a c) h));
   }
     where
-      split_told : (a b c : Segment) → Over (gap a b q) (turn a b) ⊎ Over (gap b c q) (turn b c) → (is_under a b q ≡ true) ⊎ (is_under b c q ≡ true)
-      split_told a b c (inl h) = inl (over_test (gap a b q) (turn a b) h)
-      split_told a b c (inr h) = inr (over_test (gap b c q) (turn b c) h)
+      split_told : (a b c : Segment) → Over (gap a b q) (turn_of a b) ⊎ Over (gap b c q) (turn_of b c) → (is_under a b q ≡ true) ⊎ (is_under b c q ≡ true)
+      split_told a b c (inl h) = inl (over_test (gap a b q) (turn_of a b) h)
+      split_told a b c (inr h) = inr (over_test (gap b c q) (turn_of b c) h)
 
   -- of two segments on one line neither is under the other
   pub level_under : (s t : Segment) → is_level s t q ≡ true → is_under s t q ≡ false
   level_under s t h =
-      let parts = and_parts (int_eq (gap s t q) (pos 0)) (int_eq (turn s t) (pos 0)) h in
-      false_from_ne_true (is_under s t q) (λ k. no_over (gap s t q) (turn s t) ((Decides-int_eq (gap s t q) (pos 0)).0 parts.0) ((Decides-int_eq (turn s t) (pos 0)).0 parts.1) (over_told (gap s t q) (turn s t) k))
+      let parts = and_parts (int_eq (gap s t q) (pos 0)) (int_eq (turn_of s t) (pos 0)) h in
+      false_from_ne_true (is_under s t q) (λ k. no_over (gap s t q) (turn_of s t) ((Decides-int_eq (gap s t q) (pos 0)).0 parts.0) ((Decides-int_eq (turn_of s t) (pos 0)).0 parts.1) (over_told (gap s t q) (turn_of s t) k))
     where
       no_over : (g a : ℤ) → g ≡ pos 0 → a ≡ pos 0 → Over g a → ⊥
       no_over g a e f (higher l) = omega (arith, ints)
       no_over g a e f (turning k l) = omega (arith, ints)
 
   -- the test for one line, by the two differences
-  pub level_test : (s t : Segment) → gap s t q ≡ pos 0 → turn s t ≡ pos 0 → is_level s t q ≡ true
-  level_test s t e f = and_from _ _ ((Decides-int_eq (gap s t q) (pos 0)).1 e) ((Decides-int_eq (turn s t) (pos 0)).1 f)
+  pub level_test : (s t : Segment) → gap s t q ≡ pos 0 → turn_of s t ≡ pos 0 → is_level s t q ≡ true
+  level_test s t e f = and_from _ _ ((Decides-int_eq (gap s t q) (pos 0)).1 e) ((Decides-int_eq (turn_of s t) (pos 0)).1 f)
 
   -- one line, the other way round
   pub level_back : (s t : Segment) → is_level s t q ≡ true → is_level t s q ≡ true
   level_back s t h =
-      let parts = and_parts (int_eq (gap s t q) (pos 0)) (int_eq (turn s t) (pos 0)) h in
-      level_test t s (other (gap s t q) (gap t s q) (gaps s t) ((Decides-int_eq (gap s t q) (pos 0)).0 parts.0)) (other (turn s t) (turn t s) (turns s t) ((Decides-int_eq (turn s t) (pos 0)).0 parts.1))
+      let parts = and_parts (int_eq (gap s t q) (pos 0)) (int_eq (turn_of s t) (pos 0)) h in
+      level_test t s (other (gap s t q) (gap t s q) (gaps s t) ((Decides-int_eq (gap s t q) (pos 0)).0 parts.0)) (other (turn_of s t) (turn_of t s) (turns s t) ((Decides-int_eq (turn_of s t) (pos 0)).0 parts.1))
     where
       other : (a b : ℤ) → a +ℤ b ≡ pos 0 → a ≡ pos 0 → b ≡ pos 0
       other a b e f = omega (arith, ints)
@@ -156,14 +159,14 @@ module _ (q : Point) (positive : pos 0 <ℤ q.w) where
   -- segments of which neither is under the other are on one line
   pub none_under : (s t : Segment) → is_under s t q ≡ false → is_under t s q ≡ false → is_level s t q ≡ true
   none_under s t no_st no_ts =
-      let zeros = level_lines (gap s t q) (turn s t) (gap t s q) (turn t s) (gaps s t) (turns s t)
-      (λ h. both_ways (is_under s t q) no_st (over_test (gap s t q) (turn s t) h))
-      (λ h. both_ways (is_under t s q) no_ts (over_test (gap t s q) (turn t s) h)) in
+      let zeros = level_lines (gap s t q) (turn_of s t) (gap t s q) (turn_of t s) (gaps s t) (turns s t)
+      (λ h. both_ways (is_under s t q) no_st (over_test (gap s t q) (turn_of s t) h))
+      (λ h. both_ways (is_under t s q) no_ts (over_test (gap t s q) (turn_of t s) h)) in
       level_test s t zeros.0 zeros.1
 
   -- a line that is under another is no higher
   pub gap_from_under : (s t : Segment) → is_under s t q ≡ true → pos 0 ≤ℤ gap s t q
-  gap_from_under s t h = no_lower (gap s t q) (turn s t) (over_told (gap s t q) (turn s t) h)
+  gap_from_under s t h = no_lower (gap s t q) (turn_of s t) (over_told (gap s t q) (turn_of s t) h)
     where
       no_lower : (g a : ℤ) → Over g a → pos 0 ≤ℤ g
       no_lower g a (higher l) = omega (arith, ints)
@@ -171,4 +174,4 @@ module _ (q : Point) (positive : pos 0 <ℤ q.w) where
 
   -- a line that is lower is under another
   pub under_from_gap : (s t : Segment) → pos 0 <ℤ gap s t q → is_under s t q ≡ true
-  under_from_gap s t h = over_test (gap s t q) (turn s t) (higher h)
+  under_from_gap s t h = over_test (gap s t q) (turn_of s t) (higher h)

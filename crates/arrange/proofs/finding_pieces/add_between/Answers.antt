@@ -1,8 +1,8 @@
-use Rattle.arrange.proofs.MadePieces.{small_layers, begins_by, begins_not, one_more, no_more}
+use Rattle.arrange.proofs.MadePieces.{begins_by, begins_not, one_more, no_more}
 use Rattle.arrange.proofs.finding_pieces.add_between.Goals as goal
 
 pub mask_over-mask-requires : goal.mask_over-mask-requires
-mask_over-mask-requires c = small_layers c.args.input.now c.marked.result.now c.marked.ensures.valid c.marked.ensures.value
+mask_over-mask-requires c = c.marked.ensures.few
 
 pub invariant_of-push : goal.invariant_of-push
 invariant_of-push c = record { ahead = c.requires.neighbours.ahead }

@@ -4,8 +4,8 @@ use Rattle.std.specs.List.{list_any}
 use Rattle.std.proofs.lemmas.List.Folds.{Any-from_list_any}
 use Rattle.overlay_terms.specs.Plane.{Segment}
 use Rattle.overlay_terms.specs.SameInput.{same_segment, same_segment-Decides}
+use Rattle.overlay_terms.proofs.Lists.{any_contains, contains_map}
 use Rattle.arrange.specs.declared.marked_seg.MarkedSeg.{MarkedSeg}
-use Rattle.arrange.proofs.FoundLemmas.{any_contains, contains_map}
 use Rattle.arrange.proofs.HeldLemmas.{held_already}
 use Rattle.arrange.proofs.finding_pieces.add_pieces_along.Goals as goal
 

@@ -6,13 +6,13 @@ use Rattle.std.proofs.lemmas.List.Filters.{dedup_is}
 use Rattle.std.proofs.lemmas.Simd.{map-map}
 use Rattle.overlay_terms.specs.Plane.{Segment}
 use Rattle.overlay_terms.specs.Layers as terms
+use Rattle.overlay_terms.proofs.Lists.{contains_map}
 use Rattle.arrange.specs.Arrangement.{ArePieces}
 use Rattle.arrange.specs.HeldPieces.{HoldsPieces, same_held}
 use Rattle.arrange.specs.Marked.{marked_of}
 use Rattle.arrange.specs.declared.marked_seg.MarkedSeg.{MarkedSeg}
 use Rattle.arrange.specs.declared.held_piece.HeldPiece.{HeldPiece}
 use Rattle.arrange.specs.declared.piece.Elementary.{Elementary}
-use Rattle.arrange.proofs.FoundLemmas.{contains_map}
 use Rattle.arrange.proofs.SortedPieces.{pieces_once}
 use Rattle.arrange.proofs.finding_pieces.pieces.Goals as goal
 

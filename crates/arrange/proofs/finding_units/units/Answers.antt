@@ -2,11 +2,11 @@ use Rattle.std.proofs.Common.{◌≤◌, length, map, List, subst, arith}
 use Rattle.overlay_terms.specs.Layers.{Marked}
 use Rattle.arrange.specs.Marked.{marked_of}
 use Rattle.arrange.specs.Units.{AreUnits}
-use Rattle.arrange.proofs.UnitListLemmas.{few_layers, have_more, have_all}
+use Rattle.arrange.proofs.UnitListLemmas.{have_more, have_all}
 use Rattle.arrange.proofs.finding_units.units.Goals as goal
 
 pub add_units-requires-clause-layers : goal.add_units-requires-clause-layers
-add_units-requires-clause-layers c = few_layers c.args.input.now c.marked-marked.result.now c.marked-marked.ensures.valid c.marked-marked.ensures.value
+add_units-requires-clause-layers c = c.marked-marked.ensures.few
 
 pub loop-m-preserved : goal.loop-m-preserved
 loop-m-preserved c =

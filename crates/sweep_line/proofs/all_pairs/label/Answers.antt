@@ -8,11 +8,11 @@ use Rattle.arrange.specs.Marked.{marked_of}
 use Rattle.arrange.specs.declared.piece.Elementary.{Elementary}
 use Rattle.sweep_line.specs.Label.{IsLabelled}
 use Rattle.sweep_line.specs.declared.labelled.Labelled.{Labelled}
-use Rattle.sweep_line.proofs.InputLemmas.{layers_small, labelled}
+use Rattle.sweep_line.proofs.InputLemmas.{labelled}
 use Rattle.sweep_line.proofs.all_pairs.label.Goals as goal
 
 pub under_mask-under-requires-clause-known : goal.under_mask-under-requires-clause-known
-under_mask-under-requires-clause-known c = layers_small c.args.input.now c.marked.result.now c.marked.ensures.value c.marked.ensures.valid
+under_mask-under-requires-clause-known c = c.marked.ensures.few
 
 pub loop-piece-preserved : goal.loop-piece-preserved
 loop-piece-preserved c =

@@ -6,8 +6,7 @@ use Rattle.overlay_terms.specs.TileLaws.{is_pair_below}
 use Rattle.exact_point.specs.Place.{place}
 use Rattle.exact_point.specs.PlaceOf.{place_of}
 use Rattle.exact_point.specs.NamedPiece.{NamedPiece, ends_of}
-use Rattle.exact_point.proofs.OnSegment.{reached}
-use Rattle.tile_build.proofs.PieceLemmas.{IsStretch, below_by_height, right_of, left_of, gt_is, le_from, not_le_from, lt_from, not_lt_from}
+use Rattle.tile_build.proofs.PieceLemmas.{below_by_height, right_of, left_of, gt_is, le_from, not_le_from, lt_from, not_lt_from}
 use Rattle.tile_build.proofs.piece.Piece.is_below.Goals as goal
 
 pub returns-then-is_gt : goal.returns-then-is_gt
@@ -38,13 +37,7 @@ returns c =
     let left : is_gt (int_cmp (p.x *ℤ q.w) (q.x *ℤ p.w)) ≡ false = sym (ap is_gt x) ∙ sym c.is_gt.ensures ∙ c.if-is_gt.false in
     let z : c.x_cmp-2.result ≡ int_cmp (q.x *ℤ r.w) (r.x *ℤ q.w) = c.x_cmp-2.ensures ∙ ap (λ (z : Point). int_cmp (q.x *ℤ z.w) (z.x *ℤ q.w)) c.known_point-2.ensures.value in
     let right : is_ge (int_cmp (q.x *ℤ r.w) (r.x *ℤ q.w)) ≡ false = sym (ap is_ge z) ∙ sym c.is_ge.ensures ∙ c.if-is_ge.false in
-    let h : IsStretch s p r = record {
-      p_positive = c.self.invariant.from_positive;
-      r_positive = c.self.invariant.to_positive;
-      p_on = reached s p c.self.invariant.from_on;
-      r_on = reached s r c.self.invariant.to_on;
-    } in
     let positive : pos 0 <ℤ q.w = omega (arith, ints, c.args.query.now.w_low) in
     c.is_gt-2.ensures ∙ ap is_gt c.side.ensures ∙ gt_is (height_over s q) (pos 0)
-    ∙ below_by_height s p r q h positive (le_from (p.x *ℤ q.w) (q.x *ℤ p.w) left) (lt_from (q.x *ℤ r.w) (r.x *ℤ q.w) right)
+    ∙ below_by_height s p r q c.self.invariant.from_positive c.self.invariant.to_positive positive c.self.invariant.from_on c.self.invariant.to_on (le_from (p.x *ℤ q.w) (q.x *ℤ p.w) left) (lt_from (q.x *ℤ r.w) (r.x *ℤ q.w) right)
     ∙ ap (λ (n : NamedPiece). is_pair_below q (ends_of n)) c.self.view_is

@@ -13,7 +13,7 @@ use Rattle.overlay_terms.proofs.Difference.{split, whole_is, differences, same}
 use Rattle.overlay_terms.proofs.Functions.{fun_ext}
 use Rattle.overlay_terms.proofs.InputNumbers.{turned, le_true, true_le, least_through, middle_positive}
 use Rattle.overlay_terms.proofs.PlaceLemmas.{IsSamePlace, places_alike, below_alike, on_alike}
-use Rattle.tile_laws.proofs.PlaceOrder.{level_test, same_turned}
+use Rattle.exact_point.proofs.PlaceOrder.{level_test, same_turned}
 
 -- ---- the column
 -- an equation as at most

@@ -14,24 +14,24 @@ abbrev pub AtMost : Point → Point → Type 0
 AtMost p q = (p.x *ℤ q.w) ≤ℤ (q.x *ℤ p.w)
 
 -- a / w is at most b / v, and that is less than c / u
-pub most_less : (a w b v c u : ℤ) → pos 0 <ℤ w → pos 0 <ℤ v → pos 0 <ℤ u → (a *ℤ v) ≤ℤ (b *ℤ w) → (b *ℤ u) <ℤ (c *ℤ v) → (a *ℤ u) <ℤ (c *ℤ w)
-most_less a w b v c u hw hv hu h k =
+pub less_after_most : (a w b v c u : ℤ) → pos 0 <ℤ w → pos 0 <ℤ v → pos 0 <ℤ u → (a *ℤ v) ≤ℤ (b *ℤ w) → (b *ℤ u) <ℤ (c *ℤ v) → (a *ℤ u) <ℤ (c *ℤ w)
+less_after_most a w b v c u hw hv hu h k =
     let one : ((a *ℤ v) *ℤ u) ≤ℤ ((b *ℤ w) *ℤ u) = most_times (a *ℤ v) (b *ℤ w) u hu h in
     let two : ((b *ℤ u) *ℤ w) <ℤ ((c *ℤ v) *ℤ w) = less_times (b *ℤ u) (c *ℤ v) w hw k in
     let both : ((a *ℤ u) *ℤ v) <ℤ ((c *ℤ w) *ℤ v) = omega (arith, ints, last_turned a v u, last_turned b w u, last_turned c v w) in
     less_back (a *ℤ u) (c *ℤ w) v hv both
 
 -- a / w is less than b / v, and that is at most c / u
-pub less_most : (a w b v c u : ℤ) → pos 0 <ℤ w → pos 0 <ℤ v → pos 0 <ℤ u → (a *ℤ v) <ℤ (b *ℤ w) → (b *ℤ u) ≤ℤ (c *ℤ v) → (a *ℤ u) <ℤ (c *ℤ w)
-less_most a w b v c u hw hv hu h k =
+pub less_before_most : (a w b v c u : ℤ) → pos 0 <ℤ w → pos 0 <ℤ v → pos 0 <ℤ u → (a *ℤ v) <ℤ (b *ℤ w) → (b *ℤ u) ≤ℤ (c *ℤ v) → (a *ℤ u) <ℤ (c *ℤ w)
+less_before_most a w b v c u hw hv hu h k =
     let one : ((a *ℤ v) *ℤ u) <ℤ ((b *ℤ w) *ℤ u) = less_times (a *ℤ v) (b *ℤ w) u hu h in
     let two : ((b *ℤ u) *ℤ w) ≤ℤ ((c *ℤ v) *ℤ w) = most_times (b *ℤ u) (c *ℤ v) w hw k in
     let both : ((a *ℤ u) *ℤ v) <ℤ ((c *ℤ w) *ℤ v) = omega (arith, ints, last_turned a v u, last_turned b w u, last_turned c v w) in
     less_back (a *ℤ u) (c *ℤ w) v hv both
 
 -- a / w is at most b / v, and that is at most c / u
-pub most_most : (a w b v c u : ℤ) → pos 0 <ℤ w → pos 0 <ℤ v → pos 0 <ℤ u → (a *ℤ v) ≤ℤ (b *ℤ w) → (b *ℤ u) ≤ℤ (c *ℤ v) → (a *ℤ u) ≤ℤ (c *ℤ w)
-most_most a w b v c u hw hv hu h k =
+pub most_after_most : (a w b v c u : ℤ) → pos 0 <ℤ w → pos 0 <ℤ v → pos 0 <ℤ u → (a *ℤ v) ≤ℤ (b *ℤ w) → (b *ℤ u) ≤ℤ (c *ℤ v) → (a *ℤ u) ≤ℤ (c *ℤ w)
+most_after_most a w b v c u hw hv hu h k =
     let one : ((a *ℤ v) *ℤ u) ≤ℤ ((b *ℤ w) *ℤ u) = most_times (a *ℤ v) (b *ℤ w) u hu h in
     let two : ((b *ℤ u) *ℤ w) ≤ℤ ((c *ℤ v) *ℤ w) = most_times (b *ℤ u) (c *ℤ v) w hw k in
     let both : ((a *ℤ u) *ℤ v) ≤ℤ ((c *ℤ w) *ℤ v) = omega (arith, ints, last_turned a v u, last_turned b w u, last_turned c v w) in
@@ -39,15 +39,15 @@ most_most a w b v c u hw hv hu h k =
 
 -- a place not right of one that lies left of a third
 pub left_after : (p q r : Point) → pos 0 <ℤ p.w → pos 0 <ℤ q.w → pos 0 <ℤ r.w → AtMost p q → Left q r → Left p r
-left_after p q r hp hq hr = most_less p.x p.w q.x q.w r.x r.w hp hq hr
+left_after p q r hp hq hr = less_after_most p.x p.w q.x q.w r.x r.w hp hq hr
 
 -- a place left of one that does not lie right of a third
 pub left_before : (p q r : Point) → pos 0 <ℤ p.w → pos 0 <ℤ q.w → pos 0 <ℤ r.w → Left p q → AtMost q r → Left p r
-left_before p q r hp hq hr = less_most p.x p.w q.x q.w r.x r.w hp hq hr
+left_before p q r hp hq hr = less_before_most p.x p.w q.x q.w r.x r.w hp hq hr
 
 -- places in order
 pub at_most_through : (p q r : Point) → pos 0 <ℤ p.w → pos 0 <ℤ q.w → pos 0 <ℤ r.w → AtMost p q → AtMost q r → AtMost p r
-at_most_through p q r hp hq hr = most_most p.x p.w q.x q.w r.x r.w hp hq hr
+at_most_through p q r hp hq hr = most_after_most p.x p.w q.x q.w r.x r.w hp hq hr
 
 -- a place left of another is not right of it
 pub left_most : (p q : Point) → Left p q → AtMost p q

@@ -1,7 +1,7 @@
 -- What lists, their images and their unions contain.
 use Rattle.std.specs.Prelude.{◌≡◌, zero, suc, ◌⊎◌, List, [], ◌∷◌, ◌++◌, map, flat_map, Any, Contains}
 use Rattle.std.proofs.Common.{inl, inr, refl, ap, sym, subst, arith}
-use Rattle.std.proofs.lemmas.List.Elements.{Contains-append_left, Contains-append_right}
+use Rattle.std.proofs.lemmas.List.Elements.{Contains-append_left, Contains-append_right, Contains-append_cases}
 
 -- an element of a list with a property
 pub any_from : {X : Type 0} (P : X → Type 0) (xs : List X) (x : X) → Contains xs x → P x → Any P xs
@@ -10,6 +10,10 @@ any_from P xs x c h = (c.0, x, c.1, c.2, h)
 -- what has the property stands in the list
 pub any_contains : {X : Type 0} (P : X → Type 0) (xs : List X) (a : Any P xs) → Contains xs a.1
 any_contains P xs a = (a.0, a.2, a.3)
+
+-- an element with a property in the first of two lists
+pub any_left : {X : Type 0} (P : X → Type 0) (xs ys : List X) → Any P xs → Any P (xs ++ ys)
+any_left P xs ys a = any_from P (xs ++ ys) a.1 (Contains-append_left xs ys a.1 (any_contains P xs a)) a.4
 
 -- an element is the first, or stands in the rest
 pub Contains-cons_cases : {X : Type 0} (a : X) (xs : List X) (x : X) → Contains (a ∷ xs) x → (a ≡ x) ⊎ Contains xs x
@@ -35,6 +39,14 @@ in_flat_map {X} {Y} f (a ∷ xs) x y c d = by (λ m. in_flat_map f xs x y m d) (
   by : (Contains xs x → Contains (flat_map f xs) y) → (a ≡ x) ⊎ Contains xs x → Contains (f a ++ flat_map f xs) y
   by more (inl e) = let Q : X → Type 0 = λ z. Contains (f z) y in Contains-append_left (f a) (flat_map f xs) y (subst Q (sym e) d)
   by more (inr m) = Contains-append_right (f a) (flat_map f xs) y (more m)
+
+-- what a union of lists has, one of them has
+pub from_flat_map : {X Y : Type 0} (f : X → List Y) (xs : List X) (y : Y) → Contains (flat_map f xs) y → (x : X) × Contains xs x × Contains (f x) y
+from_flat_map f [] y c = absurd (none_in_empty y c)
+from_flat_map {X} {Y} f (a ∷ xs) y c = by (from_flat_map f xs y) (Contains-append_cases (f a) (flat_map f xs) y c) where
+  by : (Contains (flat_map f xs) y → (x : X) × Contains xs x × Contains (f x) y) → Contains (f a) y ⊎ Contains (flat_map f xs) y → (x : X) × Contains (a ∷ xs) x × Contains (f x) y
+  by more (inl d) = (a, contains_first a xs, d)
+  by more (inr d) = let r = more d in (r.0, contains_rest a xs r.0 r.1, r.2)
 
 -- the image of what a list has is in the list of images
 pub contains_map : {X Y : Type 0} (f : X → Y) (xs : List X) (x : X) → Contains xs x → Contains (map f xs) (f x)
