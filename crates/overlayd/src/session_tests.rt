@@ -169,7 +169,7 @@ fn a_write_fault_is_told_behind_a_write_that_was_refused(rt: HostRuntime) {
             let is_cut = writes < 11;
             assert_eq!(rt; end, SessionEnd::Failed(if is_cut { 49 } else { 48 }));
             assert_eq!(rt; writer.refused, u64::from(is_cut), "at write {writes}");
-            let told = text.len().min(6 * writes);
+            let told = text.len().min(writes.saturating_mul(6));
             assert_eq!(rt; writer.text.as_slice(), &text[..told], "at write {writes}");
         }
     }
