@@ -5,15 +5,14 @@ use Rattle.std.specs.Cmp.{both_ways}
 use Rattle.std.specs.Option.{option_map_or}
 use Rattle.std.proofs.lemmas.Bool.{and_parts, or_cases, false≢true}
 use Rattle.overlay_terms.specs.Trees.{leaves}
-use Rattle.overlay_terms.specs.Layers.{Name, Content, base, derived, Layer, named, content_reach, reaches, layers_in_reach}
+use Rattle.overlay_terms.specs.Layers.{Name, Content, base, derived, Layer, named, reaches, layers_in_reach}
 use Rattle.overlay_terms.specs.Orderly.{used_names, is_among, is_orderly_after}
 use Rattle.overlay_terms.specs.Commands.{index_of, stands}
 use Rattle.overlay_terms.proofs.NameLemmas.{same_name, or_false}
 use Rattle.overlay_terms.proofs.OrderlyLemmas.{orderly_splits, is_known, is_known-cons}
-use Rattle.overlay_terms.proofs.TableLemmas.{rows_fixed}
 use Rattle.overlay_terms.proofs.KeptBounds.{reach_rows, reaches_itself}
 use Rattle.overlay_terms.proofs.DefinitionLemmas.{passing}
-use Rattle.overlay_terms.proofs.ReachLemmas.{has_name, any-flat_map, is_reached, IsReachRow, AreReachRows, UsesReached, known_push, content_reach_of_uses, closed_all, itself_all, uses_all}
+use Rattle.overlay_terms.proofs.ReachLemmas.{has_name, any-flat_map, is_reached, IsReachRow, AreReachRows, UsesReached, known_push, closed_all, uses_all}
 use Rattle.layer_book.specs.Question.{content_at, at_index, is_wanted, marked, marked_layers, IsClosed}
 use Rattle.layer_book.proofs.Answering.{layer_there}
 use Rattle.layer_book.proofs.Wanted.{index_at}

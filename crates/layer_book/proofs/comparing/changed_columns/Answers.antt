@@ -1,4 +1,4 @@
-use Rattle.std.proofs.Common.{not, map, ap, sym, ◌∙◌, arith}
+use Rattle.std.proofs.Common.{not, map, ap, ◌∙◌, arith}
 use Rattle.std.specs.Cmp.Lexicographic.{pointwise}
 use Rattle.overlay_terms.specs.SameInput.{same_marked}
 use Rattle.layer_book.specs.Touching.{marked_in}

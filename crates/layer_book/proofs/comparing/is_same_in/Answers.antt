@@ -1,4 +1,4 @@
-use Rattle.std.proofs.Common.{sym, ◌∙◌, refl, arith}
+use Rattle.std.proofs.Common.{sym, ◌∙◌, arith}
 use Rattle.layer_book.proofs.SameMarks.{told_skipped, told_more, told_other, told_short, told_all}
 use Rattle.layer_book.proofs.comparing.is_same_in.Goals as goal
 use Rattle.layer_book.proofs.comparing.is_same_in.Goals.{then-next-old-via-then-next-old, then-next-old-via-else-next-old+then-not-is_same, then-touches+else-next-old+else-not-is_same, else-touches}

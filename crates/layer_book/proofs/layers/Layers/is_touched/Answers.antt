@@ -1,4 +1,4 @@
-use Rattle.std.proofs.Common.{ap, sym, ◌∙◌, arith}
+use Rattle.std.proofs.Common.{◌∙◌, arith}
 use Rattle.layer_book.proofs.TouchedLemmas.{row_tells, no_row_tells}
 use Rattle.layer_book.proofs.layers.Layers.is_touched.Goals as goal
 

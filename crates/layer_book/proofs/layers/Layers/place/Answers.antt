@@ -1,4 +1,4 @@
-use Rattle.std.proofs.Common.{refl, ap, sym, ◌∙◌, if◌then◌else◌}
+use Rattle.std.proofs.Common.{ap, sym, ◌∙◌, if◌then◌else◌}
 use Rattle.overlay_terms.specs.Layers.{inside, outside}
 use Rattle.exact_point.specs.Place.{place}
 use Rattle.layer_book.proofs.Edges.{on_edge, off_edge, edge_there, told_value}

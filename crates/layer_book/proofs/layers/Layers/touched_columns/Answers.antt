@@ -4,7 +4,7 @@ use Rattle.overlay_terms.specs.Column.{columns}
 use Rattle.overlay_terms.specs.Tiles.{input_of}
 use Rattle.overlay_terms.specs.SameInput.{same_input}
 use Rattle.overlay_terms.specs.Commands.{stands_as_derived}
-use Rattle.overlay_terms.specs.Touched.{derived_over, name_of}
+use Rattle.overlay_terms.specs.Touched.{derived_over}
 use Rattle.layer_book.specs.Command.{command}
 use Rattle.layer_book.proofs.OverNames.{over_derived}
 use Rattle.layer_book.proofs.TouchedLemmas.{none_touched, all_touched, changed_touched}
