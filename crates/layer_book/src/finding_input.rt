@@ -1,6 +1,7 @@
 //! The input of a tile.
 ghost use Rattle.std.specs.Prelude.{◌≡◌, true, None, Some, IfOk, IfErr, map, filter_map};
 ghost use Rattle.overlay_terms.specs.Layers.{base_of, layers_in_reach, steps_in_reach};
+ghost use Rattle.overlay_terms.specs.Column.{column_numbered};
 ghost use Rattle.overlay_terms.specs.Commands.{stands_as_derived};
 ghost use Rattle.overlay_terms.specs.Tiles.{input_of};
 ghost use Rattle.layer_book.specs.Fault.{RefusedBy};
@@ -20,19 +21,19 @@ impl Layers {
     /// before any memory is taken.
     pub fn input(&self, alloc: Global, name: &Name, column: u8) -> Result<TileInput, LayerFault>
         ensures ok { IfOk result (λ input. input ≡ input_of self.now name.now column) }
-        ensures accepted { IfOk result (λ _. tile_refusal self.now name.now column ≡ None) }
-        ensures refused { IfErr result (RefusedBy LayerFault.OutOfMemory (tile_refusal self.now name.now column)) }
+        ensures accepted { IfOk result (λ _. tile_refusal self.now name.now (column_numbered column) ≡ None) }
+        ensures refused { IfErr result (RefusedBy LayerFault.OutOfMemory (tile_refusal self.now name.now (column_numbered column))) }
     {
-        let column = self.tile_column(name, u64::from(column))?;
+        let column = self.tile_column(name, Column::new(u64::from(column)))?;
         Ok(self.input_in_reach(alloc, name, column)?)
     }
 
-    /// The column with a number, for a layer that has tiles.
-    pub fn tile_column(&self, name: &Name, number: u64) -> Result<Column, LayerFault>
-        ensures ok { IfOk result (λ column. column ≡ number) }
-        ensures accepted { IfOk result (λ _. tile_refusal self.now name.now number ≡ None) }
+    /// The column of a tile that there is: the layer has tiles, and the column is one.
+    pub fn tile_column(&self, name: &Name, column: Option<Column>) -> Result<Column, LayerFault>
+        ensures ok { IfOk result (λ found. column ≡ Some found) }
+        ensures accepted { IfOk result (λ _. tile_refusal self.now name.now column ≡ None) }
         ensures derived { IfOk result (λ _. stands_as_derived self.now name.now ≡ true) }
-        ensures refused { IfErr result (λ fault. tile_refusal self.now name.now number ≡ Some fault) }
+        ensures refused { IfErr result (λ fault. tile_refusal self.now name.now column ≡ Some fault) }
     {
         if !self.stands(name) {
             return Err(LayerFault::UnknownLayer);
@@ -40,14 +41,14 @@ impl Layers {
         if self.stands_as_base(name) {
             return Err(LayerFault::NotDerived);
         }
-        match Column::new(number) {
-            Some(column) => Ok(column),
+        match column {
+            Some(found) => Ok(found),
             None => Err(LayerFault::BadColumn),
         }
     }
 
     /// The input of the tile of a derived layer.
-    fn input_in_reach(
+    pub fn input_in_reach(
         &self,
         alloc: Global,
         name: &Name,

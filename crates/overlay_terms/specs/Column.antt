@@ -1,5 +1,5 @@
 -- The columns of the plane: vertical strips, each without its right border. Their number and width stand here alone.
-use Rattle.std.specs.Prelude.{ℕ, ℤ, pos, ◌+◌, ◌*◌, ◌-ℤ◌, ◌*ℤ◌, ◌<ℤ◌, ◌≤ℤ◌, neg_ℤ, int_le, int_lt, Bool, ◌&&◌, List}
+use Rattle.std.specs.Prelude.{ℕ, ℤ, pos, ◌+◌, ◌*◌, ◌-ℤ◌, ◌*ℤ◌, ◌<ℤ◌, ◌≤ℤ◌, neg_ℤ, int_le, int_lt, Bool, ◌&&◌, List, nat_lt, Option, Some, None, if◌then◌else◌}
 use Rattle.std.specs.List.{range_with_len}
 use Rattle.overlay_terms.specs.Plane.{Point, Segment, coordinate_max}
 
@@ -14,6 +14,10 @@ column_width = 131072
 -- the numbers of the columns
 abbrev pub columns : List ℕ
 columns = range_with_len 0 column_count
+
+-- the column with a number, if there is one
+abbrev pub column_numbered : ℕ → Option ℕ
+column_numbered number = if nat_lt number column_count then Some number else None
 
 -- the left border of a column
 abbrev pub border : ℕ → ℤ

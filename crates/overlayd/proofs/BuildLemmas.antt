@@ -1,10 +1,10 @@
 -- What a build of a layer's tiles makes, and where it is not refused.
 use Rattle.std.proofs.Common.{◌≡◌, ℕ, ◌+◌, ◌<◌, ◌≤◌, Bool, true, false, not, cond, ◌&&◌, ◌==◌, List, Option, Some, None, refl, sym, ap, subst, ◌∙◌, ◌⊎◌, inl, inr, arith}
-use Rattle.std.specs.Prelude.{is_some, nat_le, bytes_eq}
+use Rattle.std.specs.Prelude.{is_some, nat_lt, bytes_eq}
 use Rattle.std.proofs.lemmas.Option.{none-some}
 use Rattle.std.proofs.lemmas.Bool.{cases_lt, true≢false, false≢true}
 use Rattle.std.proofs.lemmas.Bool.Decides.{nat_tests}
-use Rattle.overlay_terms.specs.Column.{column_count}
+use Rattle.overlay_terms.specs.Column.{column_count, column_numbered}
 use Rattle.overlay_terms.specs.Layers.{Name}
 use Rattle.overlay_terms.specs.Layers as layers
 use Rattle.overlay_terms.specs.Commands.{stands, stands_as_base, stands_as_derived}
@@ -49,22 +49,25 @@ only_memory o fault free (inl memory) = memory.0
 only_memory o fault free (inr refused) = absurd (some_none fault (sym refused ∙ free))
 
 -- a derived layer whose tiles may be waited for
-by_tests : (there based late : Bool) → cond (not there) (Some (Layer layer_fault.UnknownLayer)) (cond based (Some (Layer layer_fault.NotDerived)) None) ≡ None → late ≡ false
-    → ((there ≡ true) × (based ≡ false)) × (cond (not there) (Some layer_fault.UnknownLayer) (cond based (Some layer_fault.NotDerived) (cond late (Some layer_fault.BadColumn) None)) ≡ None)
-by_tests true false false free before = ((refl, refl), refl)
-by_tests true false true free before = absurd (true≢false before)
-by_tests true true late free before = absurd (some_none (Layer layer_fault.NotDerived) free)
-by_tests false based late free before = absurd (some_none (Layer layer_fault.UnknownLayer) free)
+by_tests : (there based near : Bool) → cond (not there) (Some (Layer layer_fault.UnknownLayer)) (cond based (Some (Layer layer_fault.NotDerived)) None) ≡ None → near ≡ true
+    → ((there ≡ true) × (based ≡ false)) × (cond (not there) (Some layer_fault.UnknownLayer) (cond based (Some layer_fault.NotDerived) (cond near None (Some layer_fault.BadColumn))) ≡ None)
+by_tests true false true free before = ((refl, refl), refl)
+by_tests true false false free before = absurd (true≢false (sym before))
+by_tests true true near free before = absurd (some_none (Layer layer_fault.NotDerived) free)
+by_tests false based near free before = absurd (some_none (Layer layer_fault.UnknownLayer) free)
 
-not_late : (k : ℕ) → k < column_count → nat_le column_count k ≡ false
-not_late k h = grind (arith, nat_tests, h)
+near_column : (k : ℕ) → k < column_count → is_some (column_numbered k) ≡ true
+near_column k h = ap (λ b. is_some (cond b (Some k) None)) (near k h)
+  where
+    near : (k : ℕ) → k < column_count → nat_lt k column_count ≡ true
+    near k h = grind (arith, nat_tests, h)
 
-pub free_tile : (version : Version) (name : Name) (k : ℕ) → wait_refusal version name ≡ None → k < column_count → tile_refusal version.layers name k ≡ None
-free_tile version name k free h = (by_tests (stands version.layers name) (stands_as_base version.layers name) (nat_le column_count k) free (not_late k h)).1
+pub free_tile : (version : Version) (name : Name) (k : ℕ) → wait_refusal version name ≡ None → k < column_count → tile_refusal version.layers name (column_numbered k) ≡ None
+free_tile version name k free h = (by_tests (stands version.layers name) (stands_as_base version.layers name) (is_some (column_numbered k)) free (near_column k h)).1
 
 pub derived_layer : (version : Version) (name : Name) → wait_refusal version name ≡ None → stands_as_derived version.layers name ≡ true
 derived_layer version name free =
-    let there = (by_tests (stands version.layers name) (stands_as_base version.layers name) false free refl).0 in
+    let there = (by_tests (stands version.layers name) (stands_as_base version.layers name) true free refl).0 in
     derived_from_stands version.layers name there.0 there.1
 
 -- refusals depend on the layers alone

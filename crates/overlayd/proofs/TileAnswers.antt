@@ -33,7 +33,7 @@ asked_none : (o : Option VersionFault) (made : List Command) (reply : List ℕ) 
 asked_none o made reply T is answered = subst (λ r. Asked r made reply T) (sym is) answered
 
 -- what holds of a book's version, a name and a column holds of the newest version, of the name as it was read and of the column as it was asked for
-moved : (P : versions.Version → List ℕ → ℕ → Type 0) (version new : versions.Version) (known name : List ℕ) (n k : ℕ)
+moved : (P : versions.Version → List ℕ → Option ℕ → Type 0) (version new : versions.Version) (known name : List ℕ) (n k : Option ℕ)
     → new ≡ version → known ≡ name → n ≡ k → P version known n → P new name k
 moved P version new known name n k is same number h =
     subst (λ v. P v name k) (sym is) (subst (λ m. P version m k) same (subst (λ m. P version known m) number h))
@@ -63,7 +63,7 @@ wait_unnamed book name fault refused before holds =
 
 -- ==== EDGES
 
-pub edges_refused : (book : Book) (name known : List ℕ) (k : ℤ) (n : ℕ) (wrong : VersionFault) → known ≡ name → n ≡ asked_column k → IsTrue (is_name name)
+pub edges_refused : (book : Book) (name known : List ℕ) (k : ℤ) (n : Option ℕ) (wrong : VersionFault) → known ≡ name → n ≡ asked_column k → IsTrue (is_name name)
     → ((wrong ≡ Layer layer_fault.OutOfMemory) × (edges_refusal book.version known n ≡ None)) ⊎ (edges_refusal book.version known n ≡ Some wrong) → Answers book (edges name k) book (error_line (Version wrong))
 edges_refused book name known k n wrong same number named refused before holds =
     elim refused [
@@ -73,7 +73,7 @@ edges_refused book name known k n wrong same number named refused before holds =
           (inr (inr (named, asked_some _ wrong _ (moved (λ v m c. edges_refusal v m c ≡ Some wrong) book.version (newest before) known name n (asked_column k) holds.version same number by))))
     ]
 
-pub edges_told : (book : Book) (name known : List ℕ) (k : ℤ) (n : ℕ) (reply : List ℕ) → known ≡ name → n ≡ asked_column k → IsTrue (is_name name)
+pub edges_told : (book : Book) (name known : List ℕ) (k : ℤ) (n : Option ℕ) (reply : List ℕ) → known ≡ name → n ≡ asked_column k → IsTrue (is_name name)
     → edges_refusal book.version known n ≡ None → AreEdges book.version known n reply → Answers book (edges name k) book reply
 edges_told book name known k n reply same number named free told before holds =
     answers_there book before (edges name k) reply holds
@@ -85,7 +85,7 @@ edges_told book name known k n reply same number named free told before holds =
 
 -- ==== VERIFY
 
-pub verify_refused : (book : Book) (name known : List ℕ) (k : ℤ) (n : ℕ) (wrong : VersionFault) → known ≡ name → n ≡ asked_column k → IsTrue (is_name name)
+pub verify_refused : (book : Book) (name known : List ℕ) (k : ℤ) (n : Option ℕ) (wrong : VersionFault) → known ≡ name → n ≡ asked_column k → IsTrue (is_name name)
     → ((wrong ≡ Layer layer_fault.OutOfMemory) × (finished_refusal book.version known n ≡ None)) ⊎ (finished_refusal book.version known n ≡ Some wrong) → Answers book (verify name k) book (error_line (Version wrong))
 verify_refused book name known k n wrong same number named refused before holds =
     elim refused [
@@ -95,7 +95,7 @@ verify_refused book name known k n wrong same number named refused before holds 
           (inr (inr (named, asked_some _ wrong _ (moved (λ v m c. finished_refusal v m c ≡ Some wrong) book.version (newest before) known name n (asked_column k) holds.version same number by))))
     ]
 
-pub verify_told : (book : Book) (name known : List ℕ) (k : ℤ) (n : ℕ) (verdict : Verdict) → known ≡ name → n ≡ asked_column k → IsTrue (is_name name)
+pub verify_told : (book : Book) (name known : List ℕ) (k : ℤ) (n : Option ℕ) (verdict : Verdict) → known ≡ name → n ≡ asked_column k → IsTrue (is_name name)
     → finished_refusal book.version known n ≡ None → IsVerdict book.version known n verdict → Answers book (verify name k) book (verdict_line verdict)
 verify_told book name known k n verdict same number named free right before holds =
     answers_there book before (verify name k) (verdict_line verdict) holds
@@ -120,7 +120,7 @@ wait_refused old new name known wrong same named builds refused before holds =
       | inl memory ↦ inl (refl, record { nothing_made = refl; told = ap (λ f. error_line (Version f)) memory.0 })
       | inr by ↦
           let by_new = same_refusal old.version new.version known builds ∙ by in
-          inr (inr (named, asked_some _ wrong _ (moved (λ v m c. wait_refusal v m ≡ Some wrong) new.version (newest after) known name 0 0 is same refl by_new)))
+          inr (inr (named, asked_some _ wrong _ (moved (λ v m c. wait_refusal v m ≡ Some wrong) new.version (newest after) known name None None is same refl by_new)))
     ])
 
 pub wait_told : (old new : Book) (name known : List ℕ) (reply : List ℕ) → known ≡ name → IsTrue (is_name name) → BuildsUp old.version new.version
@@ -129,10 +129,10 @@ wait_told old new name known reply same named builds free built told before hold
     answers_built old new before (wait name) reply holds builds
     (λ after is. inr (inr (
       named,
-      asked_none _ [] reply _ (moved (λ v m c. wait_refusal v m ≡ None) new.version (newest after) known name 0 0 is same refl (same_refusal old.version new.version known builds ∙ free))
+      asked_none _ [] reply _ (moved (λ v m c. wait_refusal v m ≡ None) new.version (newest after) known name None None is same refl (same_refusal old.version new.version known builds ∙ free))
           (record {
             nothing_made = refl;
-            built = moved (λ v m c. IsBuilt v m) new.version (newest after) known name 0 0 is same refl built;
+            built = moved (λ v m c. IsBuilt v m) new.version (newest after) known name None None is same refl built;
             told = told ∙ ap (λ (v : versions.Version). built_line v.number) (sym is);
           }),
     )))

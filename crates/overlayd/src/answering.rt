@@ -11,7 +11,7 @@ ghost use Rattle.layer_book.specs.Command.{command};
 use crate::book::Book;
 use exact_point::query::QueryPoint;
 use layer_book::command::Command;
-use plane_base::column::LAST_COLUMN;
+use plane_base::column::Column;
 use script_form::{
     CommandFault, Reply, Request, read_define, read_name, read_put, read_remove, request_of,
 };
@@ -112,7 +112,7 @@ fn answer_edges(alloc: Global, book: &Book, name: &[u8], number: i64) -> Result<
     ensures { Answers book.now (edges name.now number) book.now (result_text result) }
 {
     let name = read_name(alloc, name)?;
-    let lines = book.version.edges(alloc, &name, column_number(number))?;
+    let lines = book.version.edges_in(alloc, &name, asked_column(number))?;
     Ok(Reply::Lines(lines))
 }
 
@@ -135,17 +135,16 @@ fn answer_verify(
     ensures { Answers book.now (verify name.now number) book.now (result_text result) }
 {
     let name = read_name(alloc, name)?;
-    let verdict = book.version.verify(alloc, &name, column_number(number))?;
+    let verdict = book.version.verify_in(alloc, &name, asked_column(number))?;
     Ok(Reply::Compared(verdict))
 }
 
-/// The number of a column as it was asked for. No column has a number below 0.
-fn column_number(number: i64) -> u64
+/// The column that was asked for, if there is one. None has a number below 0.
+fn asked_column(number: i64) -> Option<Column>
     ensures { result ≡ asked_column number }
 {
     if number < 0 {
-        u64::from(LAST_COLUMN) + 1
-    } else {
-        number as u64
+        return None;
     }
+    Column::new(number as u64)
 }

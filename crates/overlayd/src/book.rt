@@ -1,5 +1,6 @@
 //! The version that a session has come to.
 ghost use Rattle.std.specs.Prelude.{◌≡◌, ◌⊎◌, Some, None, IfOk, IfErr, OnOk, OnErr, IsTrue, is_some};
+ghost use Rattle.overlay_terms.specs.Column.{column_numbered};
 ghost use Rattle.overlay_terms.specs.Commands.{refusal_at, stands_as_derived};
 ghost use Rattle.overlay_terms.specs.Histories.{tile_at, FollowsCommand, empty_version, BuildsUp};
 ghost use Rattle.layer_book.specs.Command.{command};
@@ -70,7 +71,7 @@ impl Book {
     /// Builds a tile, if it is pending.
     fn build_tile(&mut self, alloc: Global, name: &Name, column: u8) -> Result<(), VersionFault>
         requires derived { IsTrue (stands_as_derived self.old.version.layers name.now) }
-        requires free { tile_refusal self.old.version.layers name.now column ≡ None }
+        requires free { tile_refusal self.old.version.layers name.now (column_numbered column) ≡ None }
         ensures builds { BuildsUp self.old.version self.new.version }
         ensures others { LeavesOthers name.now self.old.version self.new.version }
         ensures built { OnOk result (IsTrue (is_some (tile_at self.new.version.tiles name.now column))) }

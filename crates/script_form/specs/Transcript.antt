@@ -4,7 +4,7 @@ use Rattle.overlay_terms.specs.Plane.{Point, WholePoint}
 use Rattle.overlay_terms.specs.Trees.{Tree}
 use Rattle.overlay_terms.specs.Layers.{answer_at}
 use Rattle.overlay_terms.specs.Commands.{Refusal, Command, stands, refusal_at}
-use Rattle.overlay_terms.specs.Column.{column_count}
+use Rattle.overlay_terms.specs.Column.{column_numbered}
 use Rattle.overlay_terms.specs.Commands as terms
 use Rattle.overlay_terms.specs.Histories.{Event, accepted, Entry, History, GoesOnBy, BeginsWith, newest}
 use Rattle.overlay_terms.specs.Histories as versions
@@ -64,21 +64,21 @@ abbrev pub Asked : Option VersionFault → List Command → List ℕ → Type 0 
 Asked (Some fault) made reply answered = IsRefused (Version fault) made reply
 Asked None made reply answered = answered
 
--- the number of a column as it was asked for; none has a number below 0
-abbrev pub asked_column : ℤ → ℕ
-asked_column (pos k) = k
-asked_column (negsuc k) = column_count
+-- the column with a number as it was asked for, if there is one; none has a number below 0
+abbrev pub asked_column : ℤ → Option ℕ
+asked_column (pos k) = column_numbered k
+asked_column (negsuc k) = None
 
 -- the pieces of a tile, line by line
-pub record IsEdgesTold (version : versions.Version) (name : List ℕ) (k : ℕ) (made : List Command) (reply : List ℕ) : Type 0 where
+pub record IsEdgesTold (version : versions.Version) (name : List ℕ) (column : Option ℕ) (made : List Command) (reply : List ℕ) : Type 0 where
   pub nothing_made : made ≡ []
-  pub told : AreEdges version name k reply
+  pub told : AreEdges version name column reply
 
 -- whether the finished tile is that of its present input
-pub record IsVerdictTold (version : versions.Version) (name : List ℕ) (k : ℕ) (made : List Command) (reply : List ℕ) : Type 0 where
+pub record IsVerdictTold (version : versions.Version) (name : List ℕ) (column : Option ℕ) (made : List Command) (reply : List ℕ) : Type 0 where
   pub nothing_made : made ≡ []
   pub verdict : Verdict
-  pub right : IsVerdict version name k verdict
+  pub right : IsVerdict version name column verdict
   pub told : reply ≡ verdict_line verdict
 
 -- no tile of a layer is pending, and the reply is the number of the version

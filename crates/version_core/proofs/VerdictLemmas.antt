@@ -1,6 +1,7 @@
 -- A verdict on a held tile, from a tile of the same input.
-use Rattle.std.specs.Prelude.{◌≡◌, ◌↔◌, ℕ, Bool, true, false, IsTrue, Some}
-use Rattle.std.proofs.Common.{refl, sym, subst, ◌∙◌}
+use Rattle.std.specs.Prelude.{◌≡◌, ◌↔◌, ℕ, Bool, true, false, IsTrue, Option, Some}
+use Rattle.std.proofs.Common.{refl, ap, sym, subst, ◌∙◌}
+use Rattle.std.proofs.lemmas.Option.{same_Some}
 use Rattle.std.proofs.lemmas.Bool.{false≢true}
 use Rattle.std.proofs.lemmas.List.Elements.{All-weaker}
 use Rattle.overlay_terms.specs.Plane.{Point}
@@ -30,13 +31,12 @@ same_told true = (λ e. refl, λ e. refl)
 same_told false = (λ e. cc, λ e. absurd (false≢true e))
 
 -- the verdict is right
-pub is_verdict : (version : Version) (name : Name) (k : ℕ) (held built : Tile) (same : Bool) → tile_at version.tiles name k ≡ Some held → IsTileAt pieces_max (input_of version.layers name k) built → same ≡ same_tile held built → HasPositiveEnds held → IsVerdict version name k (verdict_of same)
-is_verdict version name k held built same at right is positive tile e =
-    let one : held ≡ tile = some_is (sym at ∙ e) in
-    let both : IsTrue same ↔ IsTileAt pieces_max (input_of version.layers name k) held = told (input_of version.layers name k) held built same right is positive in (
+pub is_verdict : (version : Version) (name : Name) (column : Option ℕ) (k : ℕ) (held built : Tile) (same : Bool) → column ≡ Some k → tile_at version.tiles name k ≡ Some held → IsTileAt pieces_max (input_of version.layers name k) built → same ≡ same_tile held built → HasPositiveEnds held → IsVerdict version name column (verdict_of same)
+is_verdict version name column k held built same here at right is positive j tile there e =
+    let level : j ≡ k = same_Some j k (sym there ∙ here) in
+    let one : held ≡ tile = same_Some held tile (sym at ∙ ap (λ m. tile_at version.tiles name m) (sym level) ∙ e) in
+    let both : IsTrue same ↔ IsTileAt pieces_max (input_of version.layers name k) held = told (input_of version.layers name k) held built same right is positive in
+    subst (λ m. (verdict_of same ≡ Same) ↔ IsTileAt pieces_max (input_of version.layers name m) tile) (sym level) (
       λ v. subst (IsTileAt pieces_max (input_of version.layers name k)) one (both.0 ((same_told same).0 v)),
       λ h. (same_told same).1 (both.1 (subst (IsTileAt pieces_max (input_of version.layers name k)) (sym one) h)),
     )
-  where
-    some_is : {a b : Tile} → Some a ≡ Some b → a ≡ b
-    some_is e = cc

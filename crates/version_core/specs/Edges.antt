@@ -15,10 +15,15 @@ abbrev pub tile_absence : Option Tile → Option VersionFault
 tile_absence None = Some Pending
 tile_absence (Some tile) = None
 
+-- the finished tile of a layer in a column, if there are both
+abbrev pub tile_in : Version → Name → Option ℕ → Option Tile
+tile_in version name None = None
+tile_in version name (Some k) = tile_at version.tiles name k
+
 -- why there is no finished tile of a layer and column: there is no such tile; it is pending
-abbrev pub finished_refusal : Version → Name → ℕ → Option VersionFault
-finished_refusal version name k =
-    option_or (option_map Layer (tile_refusal version.layers name k)) (tile_absence (tile_at version.tiles name k))
+abbrev pub finished_refusal : Version → Name → Option ℕ → Option VersionFault
+finished_refusal version name column =
+    option_or (option_map Layer (tile_refusal version.layers name column)) (tile_absence (tile_in version name column))
 
 -- why a finished tile cannot be written: it has too many pieces
 abbrev pub size_refusal : Option Tile → Option VersionFault
@@ -27,8 +32,8 @@ size_refusal (Some (pieces ends)) = None
 size_refusal (Some oversize) = Some Oversize
 
 -- why the edges of a tile are refused: there is no such tile; it is pending; it has too many pieces
-abbrev pub edges_refusal : Version → Name → ℕ → Option VersionFault
-edges_refusal version name k = option_or (finished_refusal version name k) (size_refusal (tile_at version.tiles name k))
+abbrev pub edges_refusal : Version → Name → Option ℕ → Option VersionFault
+edges_refusal version name column = option_or (finished_refusal version name column) (size_refusal (tile_in version name column))
 
 -- a point as `x y w`
 abbrev pub point_text : Point → List ℕ
@@ -62,7 +67,7 @@ pub record IsTextOf (ends : List (Point × Point)) (text : List ℕ) : Type 0 wh
   pub is : text ≡ edges_text lows
 
 -- the text is that of the pieces of a finished tile
-pub record AreEdges (version : Version) (name : Name) (k : ℕ) (text : List ℕ) : Type 0 where
+pub record AreEdges (version : Version) (name : Name) (column : Option ℕ) (text : List ℕ) : Type 0 where
   pub ends : List (Point × Point)
-  pub finished : tile_at version.tiles name k ≡ Some (pieces ends)
+  pub finished : tile_in version name column ≡ Some (pieces ends)
   pub written : IsTextOf ends text

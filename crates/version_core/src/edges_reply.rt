@@ -1,11 +1,12 @@
 //! The edges of a tile as text.
 ghost use Rattle.std.specs.Prelude.{◌≡◌, ◌++◌, None, Some, map, IfOk, IfErr, OnOk, string_bytes};
+ghost use Rattle.overlay_terms.specs.Column.{column_numbered};
 ghost use Rattle.overlay_terms.specs.Histories.{tile_at};
 ghost use Rattle.exact_point.specs.NamedPiece.{ends_of};
 ghost use Rattle.exact_point.specs.Place.{place};
 ghost use Rattle.layer_book.specs.Fault.{RefusedBy};
 ghost use Rattle.tile_build.specs.Tile.{tile_of};
-ghost use Rattle.version_core.specs.Edges.{AreEdges, IsTextOf, edge_line, edges_refusal, finished_refusal, point_text};
+ghost use Rattle.version_core.specs.Edges.{AreEdges, IsTextOf, edge_line, edges_refusal, point_text, tile_absence};
 
 use crate::fault::VersionFault;
 use crate::version::Version;
@@ -13,6 +14,7 @@ use exact_point::point::HPoint;
 use exact_point::reducing::reduced;
 use layer_book::fault::LayerFault;
 use layer_expr::name::Name;
+use plane_base::column::Column;
 use std::alloc::{AllocError, Global};
 use tile_build::piece::Piece;
 use tile_build::tile::Tile;
@@ -20,23 +22,36 @@ use tile_build::tile::Tile;
 impl Version {
     /// The pieces of a tile, counted and then a line for each.
     pub fn edges(&self, alloc: Global, name: &Name, number: u64) -> Result<Vec<u8>, VersionFault>
-        ensures ok { IfOk result (λ text. AreEdges self.now name.now number text.items) }
-        ensures accepted { IfOk result (λ _. edges_refusal self.now name.now number ≡ None) }
-        ensures refused { IfErr result (RefusedBy (VersionFault.Layer LayerFault.OutOfMemory) (edges_refusal self.now name.now number)) }
+        ensures ok { IfOk result (λ text. AreEdges self.now name.now (column_numbered number) text.items) }
+        ensures accepted { IfOk result (λ _. edges_refusal self.now name.now (column_numbered number) ≡ None) }
+        ensures refused { IfErr result (RefusedBy (VersionFault.Layer LayerFault.OutOfMemory) (edges_refusal self.now name.now (column_numbered number))) }
     {
-        match self.finished_tile(name, number)? {
+        self.edges_in(alloc, name, Column::new(number))
+    }
+
+    /// The same for a column, where it is one.
+    pub fn edges_in(
+        &self,
+        alloc: Global,
+        name: &Name,
+        column: Option<Column>,
+    ) -> Result<Vec<u8>, VersionFault>
+        ensures ok { IfOk result (λ text. AreEdges self.now name.now column text.items) }
+        ensures accepted { IfOk result (λ _. edges_refusal self.now name.now column ≡ None) }
+        ensures refused { IfErr result (RefusedBy (VersionFault.Layer LayerFault.OutOfMemory) (edges_refusal self.now name.now column)) }
+    {
+        let column = self.layers().tile_column(name, column)?;
+        match self.finished_tile(name, column)? {
             Tile::Pieces(pieces) => Ok(written(alloc, pieces)?),
             Tile::Oversize => Err(VersionFault::Oversize),
         }
     }
 
-    /// The finished tile of a layer and column.
-    pub fn finished_tile(&self, name: &Name, number: u64) -> Result<&Tile, VersionFault>
-        ensures ok { IfOk result (λ tile. tile_at self.now.tiles name.now number ≡ Some (tile_of tile.now)) }
-        ensures accepted { IfOk result (λ _. finished_refusal self.now name.now number ≡ None) }
-        ensures refused { IfErr result (λ fault. finished_refusal self.now name.now number ≡ Some fault) }
+    /// The finished tile of a layer in a column.
+    pub(crate) fn finished_tile(&self, name: &Name, column: Column) -> Result<&Tile, VersionFault>
+        ensures ok { IfOk result (λ tile. tile_at self.now.tiles name.now column ≡ Some (tile_of tile.now)) }
+        ensures err { IfErr result (λ fault. tile_absence (tile_at self.now.tiles name.now column) ≡ Some fault) }
     {
-        let column = self.layers().tile_column(name, number)?;
         match self.tile(name, column.number()) {
             Some(tile) => Ok(tile),
             None => Err(VersionFault::Pending),

@@ -1,7 +1,9 @@
 //! Keeping a built tile.
-ghost use Rattle.std.specs.Prelude.{◌≡◌, ◌↔◌, IsTrue, IfOk, IfErr};
-ghost use Rattle.overlay_terms.specs.Histories.{FollowsTile};
+ghost use Rattle.std.specs.Prelude.{◌≡◌, ◌↔◌, ◌<◌, IsTrue, IfOk, IfErr};
+ghost use Rattle.overlay_terms.specs.Column.{column_count};
+ghost use Rattle.overlay_terms.specs.Histories.{FollowsTile, IsTileAt, pieces_max};
 ghost use Rattle.version_core.specs.Finish.{IfKept, IsAwaited, IsKept, IsPending};
+ghost use Rattle.version_core.specs.Tiles.{finished};
 
 use crate::fault::VersionFault;
 use crate::tiles::{FinishedTile, copied};
@@ -73,10 +75,8 @@ impl Version {
         if self.tile(name, column).is_some() {
             return Ok(false);
         }
-        match self.layers().input(alloc, name, column) {
-            Ok(present) => Ok(*input == present),
-            Err(_) => Err(AllocError),
-        }
+        let present = self.layers().input_in_reach(alloc, name, input.column())?;
+        Ok(*input == present)
     }
 
     /// The version with a built tile more, which is awaited.
@@ -87,11 +87,7 @@ impl Version {
         let layers = self.layers.try_copy(alloc)?;
         prove!(layers.len() <= MAX_LAYERS);
         let mut tiles = copied(alloc, &self.tiles)?;
-        tiles.push(FinishedTile {
-            name: name.clone()?,
-            column: built.input().column(),
-            tile: Arc::new(alloc, built.tile().try_copy(alloc)?)?,
-        })?;
+        tiles.push(kept_tile(alloc, name, built)?)?;
         Ok(Version {
             number: self.number,
             durable: self.durable,
@@ -99,4 +95,18 @@ impl Version {
             tiles,
         })
     }
+}
+
+/// A built tile under the name of its layer, as versions share it.
+fn kept_tile(alloc: Global, name: &Name, built: &Built) -> Result<FinishedTile, AllocError>
+    ensures value { IfOk result (λ held. finished held ≡ record { name = name.now; column = built.now.0.column; tile = built.now.1 }) }
+    ensures right { IsTileAt pieces_max built.now.0 built.now.1 }
+    ensures known { built.now.0.column < column_count }
+{
+    let column = built.input().column();
+    Ok(FinishedTile {
+        name: name.clone()?,
+        column,
+        tile: Arc::new(alloc, built.tile().try_copy(alloc)?)?,
+    })
 }

@@ -15,3 +15,8 @@ mod tests;
 pub mod tiles;
 pub mod verifying;
 pub mod version;
+
+pub use fault::VersionFault;
+pub use finishing::Finish;
+pub use verifying::Verdict;
+pub use version::{VERSION_MAX, Version};
