@@ -1,0 +1,4 @@
+mod Failing
+mod Tails
+mod DefinitionLemmas
+mod NameBytes

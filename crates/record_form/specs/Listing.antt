@@ -1,0 +1,17 @@
+-- Entries of the catalog in code as those of the definitions.
+use Rattle.std.specs.Prelude.{List, map}
+use Rattle.std.proofs.Common.{inl, inr}
+use Rattle.store_terms.specs.Catalog as terms
+use Rattle.record_form.specs.declared.catalog.Listed.{Listed}
+use Rattle.record_form.specs.declared.catalog.Records.{Records}
+use Rattle.record_form.specs.declared.catalog.Records.TheVariants.{Base, Derived}
+
+abbrev pub records_of : Records → terms.Records
+records_of (Base extent) = inl extent
+records_of (Derived extent tiles) = inr (extent, tiles.items)
+
+abbrev pub listed_of : Listed → terms.Listed
+listed_of l = record { name = l.name.items; records = records_of l.records }
+
+abbrev pub listing_of : List Listed → List terms.Listed
+listing_of ls = map listed_of ls

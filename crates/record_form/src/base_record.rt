@@ -1,0 +1,117 @@
+//! The records of base layers: how many rings, and for each how many points, and its points.
+ghost use Rattle.std.specs.Prelude.{◌≡◌, ◌<◌, ◌^◌, ◌++◌, ◌∷◌, [], length, Some, IfOk, IfErr, OnOk};
+ghost use Rattle.overlay_terms.specs.Plane.{WholePoint};
+ghost use Rattle.record_form.specs.Answers.{Fails, Gives, Reads};
+ghost use Rattle.store_terms.specs.Fields.{read_many};
+ghost use Rattle.store_terms.specs.BaseRecord.{whole_point, ring as spelled, rings as spelled_rings, base_of_record};
+ghost use Rattle.store_terms.specs.Image.{or_fault};
+ghost use Rattle.store_terms.specs.declared.damage.Damage.TheVariants.{LayerForm};
+
+use crate::bytes::{point_at, put_point, put_two_bytes, two_bytes_at};
+use crate::fault::{ReadFault, RecordFault};
+use plane_base::base_layer::{BaseLayer, Ring};
+use plane_base::fault::PlaneFault;
+use plane_base::point::Pt;
+use std::alloc::{AllocError, Global};
+use store_terms::damage::Damage;
+
+/// The base layer that a base record spells.
+pub fn read_base(alloc: Global, bytes: &[u8]) -> Result<BaseLayer, RecordFault>
+    ensures { Reads (λ layer. layer) result (or_fault LayerForm (base_of_record bytes.now)) }
+{
+    match base_in(alloc, bytes) {
+        Ok(layer) => Ok(layer),
+        Err(fault) => Err(fault.told(Damage::LayerForm)),
+    }
+}
+
+/// The base layer that all of the bytes spell.
+fn base_in(alloc: Global, bytes: &[u8]) -> Result<BaseLayer, ReadFault>
+    ensures { Gives (λ layer. layer) result (base_of_record bytes.now) }
+{
+    let (count, rest) = two_bytes_at(bytes)?;
+    let (rings, rest) = rings_at(alloc, count, rest)?;
+    if !rest.is_empty() {
+        return Err(ReadFault::Form);
+    }
+    match BaseLayer::new(alloc, rings) {
+        Ok(layer) => Ok(layer),
+        Err(PlaneFault::OutOfMemory) => Err(ReadFault::Memory),
+        Err(_) => Err(ReadFault::Form),
+    }
+}
+
+/// So many rings, one behind another, and what follows them.
+fn rings_at(alloc: Global, count: u16, bytes: &[u8]) -> Result<(Vec<Ring>, &[u8]), ReadFault>
+    ensures { Gives (λ x. (x.0.items, x.1.now)) result (read_many spelled.read count bytes.now) }
+{
+    let mut rings = Vec::new(alloc);
+    let mut rest = bytes;
+    for _ in 0..count {
+        let (ring, after) = ring_at(alloc, rest)?;
+        rings.push(ring)?;
+        rest = after;
+    }
+    Ok((rings, rest))
+}
+
+fn ring_at(alloc: Global, bytes: &[u8]) -> Result<(Ring, &[u8]), ReadFault>
+    ensures { Gives (λ x. (x.0, x.1.now)) result (spelled.read bytes.now) }
+{
+    let (count, rest) = two_bytes_at(bytes)?;
+    let (points, rest) = points_at(alloc, count, rest)?;
+    Ok((Ring::new(points), rest))
+}
+
+/// So many points, one behind another, and what follows them.
+fn points_at(alloc: Global, count: u16, bytes: &[u8]) -> Result<(Vec<Pt>, &[u8]), ReadFault>
+    ensures { Gives (λ x. (x.0.items, x.1.now)) result (read_many whole_point.read count bytes.now) }
+{
+    let mut points = Vec::new(alloc);
+    let mut rest = bytes;
+    for _ in 0..count {
+        rest = push_point(&mut points, rest)?;
+    }
+    Ok((points, rest))
+}
+
+/// Adds the point at the front of some bytes, and gives what follows it.
+fn push_point<'a>(points: &mut Vec<Pt>, bytes: &'a [u8]) -> Result<&'a [u8], ReadFault>
+    ensures ok { IfOk result (λ rest. (p : WholePoint) × (whole_point.read bytes.now ≡ Some (p, rest.now)) × (points.new.items ≡ points.old.items ++ p ∷ [])) }
+    ensures err { IfErr result (λ fault. Fails fault (whole_point.read bytes.now)) }
+{
+    match point_at(bytes) {
+        Ok((point, rest)) => {
+            points.push(point)?;
+            Ok(rest)
+        }
+        Err(fault) => Err(fault),
+    }
+}
+
+/// The record of a base layer.
+pub fn write_base(alloc: Global, layer: &BaseLayer) -> Result<Vec<u8>, AllocError>
+    ensures spelled { IfOk result (λ v. v.items ≡ spelled_rings.text layer.now) }
+    ensures reads_back { IfOk result (λ v. base_of_record v.items ≡ Some layer.now) }
+{
+    let rings = layer.rings();
+    let mut out = Vec::new(alloc);
+    put_two_bytes(&mut out, rings.len() as u16)?;
+    for ring in rings {
+        put_ring(&mut out, ring)?;
+    }
+    Ok(out)
+}
+
+/// Writes a ring behind some bytes.
+fn put_ring(out: &mut Vec<u8>, ring: &Ring) -> Result<(), AllocError>
+    requires { length ring.now < 2 ^ 16 }
+    ensures { OnOk result (out.new.items ≡ out.old.items ++ spelled.text ring.now) }
+{
+    let points = ring.points();
+    put_two_bytes(out, points.len() as u16)?;
+    for point in points {
+        put_point(out, *point)?;
+    }
+    Ok(())
+}

@@ -1,0 +1,9 @@
+//! The records of the store: what their bytes stand for, and how they are written.
+#![tactic(auto)]
+
+pub mod base_record;
+mod bytes;
+pub mod catalog;
+pub mod definition_record;
+pub mod fault;
+pub mod root_body;
