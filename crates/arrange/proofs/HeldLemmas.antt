@@ -14,7 +14,7 @@ use Rattle.exact_point.specs.PlaceOf.{place_of}
 use Rattle.exact_point.proofs.SameMiddle.{in_column_alike}
 use Rattle.arrange.specs.Arrangement.{segments_in}
 use Rattle.arrange.specs.NamedPlaces.{spot, AreAlong}
-use Rattle.arrange.specs.HeldPieces.{IsHeld, has_ends, AreNeighbours, IsBetween, HoldsPieces, HoldsOneMore, HoldsNeighbours}
+use Rattle.arrange.specs.HeldPieces.{IsHeld, has_ends, AreNeighbours, RunsBetween, HoldsPieces, HoldsOneMore, HoldsNeighbours}
 use Rattle.arrange.specs.declared.named_place.NamedPlace.{NamedPlace}
 use Rattle.arrange.specs.declared.held_piece.HeldPiece.{HeldPiece}
 use Rattle.arrange.proofs.SortedPlaces.{spot_positive}
@@ -26,7 +26,7 @@ pub any_kept : (P : HeldPiece → Type 0) (xs ys : List HeldPiece) → ((h : Hel
 any_kept P xs ys keep a = any_from P ys a.1 (keep a.1 (any_contains P xs a)) a.4
 
 -- a piece between two places has two points at these as its ends
-told_ends : (p r : Point) (a b : NamedPlace) (h : HeldPiece) → IsBetween a b h → IsTrue (same_place p (spot a)) → IsTrue (same_place r (spot b)) → IsTrue (has_ends p r h.piece)
+told_ends : (p r : Point) (a b : NamedPlace) (h : HeldPiece) → RunsBetween a b h → IsTrue (same_place p (spot a)) → IsTrue (same_place r (spot b)) → IsTrue (has_ends p r h.piece)
 told_ends p r a b h ends first second =
     let F : Point → Type 0 = λ z. IsTrue (same_place p z) in
     let T : Point → Type 0 = λ z. IsTrue (same_place r z) in
@@ -65,17 +65,17 @@ next_pair input places i j a b before held more e within is_a is_b so_far new = 
   covered = λ n d l m begins. by n d l m begins (cases_eq n i);
 } where
   by : (n : ℕ) (d : NamedPlace) → n + 1 < j + 1 → n + 1 < length places → IsTrue (is_in_column input.column (spot (get_or places n d))) → (n ≡ i) ⊎ (n ≢ i)
-      → Any (IsBetween (get_or places n d) (get_or places (n + 1) d)) more
+      → Any (RunsBetween (get_or places n d) (get_or places (n + 1) d)) more
   by n d l m begins (inl f) =
       let first : get_or places n d ≡ a = ap (λ k. get_or places k d) f ∙ sym (get_or_read places i a (omega (arith, e, within)) is_a d) in
       let same_index : n + 1 ≡ j = omega (arith, f, e) in
       let second : get_or places (n + 1) d ≡ b = ap (λ k. get_or places k d) same_index ∙ sym (get_or_read places j b within is_b d) in
       let C : NamedPlace → Type 0 = λ z. IsTrue (is_in_column input.column (spot z)) in
-      let F : NamedPlace → Type 0 = λ z. Any (IsBetween z b) more in
-      let T : NamedPlace → Type 0 = λ z. Any (IsBetween (get_or places n d) z) more in
+      let F : NamedPlace → Type 0 = λ z. Any (RunsBetween z b) more in
+      let T : NamedPlace → Type 0 = λ z. Any (RunsBetween (get_or places n d) z) more in
       subst T (sym second) (subst F (sym first) (new.covered (subst C first begins)))
   by n d l m begins (inr f) =
-      any_kept (IsBetween (get_or places n d) (get_or places (n + 1) d)) held more new.kept (so_far.covered n d (omega (arith, f, l, e)) m begins)
+      any_kept (RunsBetween (get_or places n d) (get_or places (n + 1) d)) held more new.kept (so_far.covered n d (omega (arith, f, l, e)) m begins)
 
 module _ (input : Input) (s : Segment) (valid : IsInput input) (among : Contains (segments_in input) s) (list : List NamedPlace) (along : AreAlong input s list)
     (before held : List HeldPiece) (i : ℕ) (whole_list : length list ≤ i) (so_far : HoldsNeighbours input list i before held) where
@@ -90,7 +90,7 @@ module _ (input : Input) (s : Segment) (valid : IsInput input) (among : Contains
       let b : NamedPlace = get_or list (next.at + 1) next.default in
       let begins_a = sym (in_column_alike p (spot a) piece.from_positive (spot_positive a) next.first input.column) ∙ begins in
       let one = so_far.covered next.at next.default (omega (arith, next.within, whole_list)) next.within begins_a in
-      any_from (λ h. IsTrue (has_ends p r h.piece)) held one.1 (any_contains (IsBetween a b) held one) (told_ends p r a b one.1 one.4 next.first next.second)
+      any_from (λ h. IsTrue (has_ends p r h.piece)) held one.1 (any_contains (RunsBetween a b) held one) (told_ends p r a b one.1 one.4 next.first next.second)
 
   pub segment_held : (supports : List Segment) → HoldsPieces input supports before → HoldsPieces input (supports ++ s ∷ []) held
   segment_held supports h = record {

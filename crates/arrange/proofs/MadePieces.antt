@@ -17,7 +17,7 @@ use Rattle.arrange.specs.Arrangement.{segments_in, on_bits}
 use Rattle.arrange.specs.NamedPlaces.{spot, names_along, IsFound}
 use Rattle.arrange.specs.Marked.{marked_of}
 use Rattle.arrange.specs.Masks.{held_bits}
-use Rattle.arrange.specs.HeldPieces.{IsMadeAt, IsHeld, AreNeighbours, IsBetween, HoldsOneMore}
+use Rattle.arrange.specs.HeldPieces.{IsMadeAt, IsHeld, AreNeighbours, RunsBetween, HoldsOneMore}
 use Rattle.arrange.specs.declared.marked_seg.MarkedSeg.{MarkedSeg}
 use Rattle.arrange.specs.declared.named_place.NamedPlace.{NamedPlace}
 use Rattle.arrange.specs.declared.piece.Elementary.{Elementary}
@@ -86,7 +86,7 @@ module _ (input : Input) (s : Segment) (a b : NamedPlace) (n : AreNeighbours inp
       record {
         sound = λ all. All-push (IsHeld input) before h all (record { from_named = n.from_found.named; to_named = n.to_found.named; placed = n.from_found.told; made = made_named });
         kept = λ g c. Contains-append_left before (h ∷ []) g c;
-        covered = λ i. Any-push (IsBetween a b) before h (n.from_found.told, n.to_found.told);
+        covered = λ i. Any-push (RunsBetween a b) before h (n.from_found.told, n.to_found.told);
       }
 
 -- no piece begins there

@@ -85,18 +85,18 @@ pub record AreNeighbours (input : Input) (s : Segment) (a b : NamedPlace) : Type
   pub supported : piece.support ≡ s
 
 -- a piece from one place to another
-abbrev pub IsBetween : NamedPlace → NamedPlace → HeldPiece → Type 0
-IsBetween a b h = (spot a ≡ place_of h.piece.from) × (spot b ≡ place_of h.piece.to)
+abbrev pub RunsBetween : NamedPlace → NamedPlace → HeldPiece → Type 0
+RunsBetween a b h = (spot a ≡ place_of h.piece.from) × (spot b ≡ place_of h.piece.to)
 
 -- a further piece: the one between two neighbours, if it begins in the column
 pub record HoldsOneMore (input : Input) (a b : NamedPlace) (before held : List HeldPiece) : Type 0 where
   pub sound : All (IsHeld input) before → All (IsHeld input) held
   pub kept : (h : HeldPiece) → Contains before h → Contains held h
-  pub covered : IsTrue (is_in_column input.column (spot a)) → Any (IsBetween a b) held
+  pub covered : IsTrue (is_in_column input.column (spot a)) → Any (RunsBetween a b) held
 
 -- further pieces: those between the neighbours among the first places that begin in the column
 pub record HoldsNeighbours (input : Input) (places : List NamedPlace) (i : ℕ) (before held : List HeldPiece) : Type 0 where
   pub sound : All (IsHeld input) before → All (IsHeld input) held
   pub kept : (h : HeldPiece) → Contains before h → Contains held h
   pub covered : (j : ℕ) (d : NamedPlace) → j + 1 < i → j + 1 < length places → IsTrue (is_in_column input.column (spot (get_or places j d)))
-      → Any (IsBetween (get_or places j d) (get_or places (j + 1) d)) held
+      → Any (RunsBetween (get_or places j d) (get_or places (j + 1) d)) held

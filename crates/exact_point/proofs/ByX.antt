@@ -53,6 +53,14 @@ at_most_through p q r hp hq hr = most_after_most p.x p.w q.x q.w r.x r.w hp hq h
 pub left_most : (p q : Point) → Left p q → AtMost p q
 left_most p q h = omega (arith, ints)
 
+-- a number that is at most a fraction's, as a place's
+pub from_whole : (a x : ℤ) → a ≤ℤ x → a ≤ℤ (x *ℤ pos 1)
+from_whole a x h = omega (arith, ints)
+
+-- and one that is at least it
+pub to_whole : (a x : ℤ) → x ≤ℤ a → (x *ℤ pos 1) ≤ℤ a
+to_whole a x h = omega (arith, ints)
+
 -- at most is not above
 pub le_not : (a b : ℤ) → int_le a b ≡ not (int_lt b a)
 le_not a b = grind (arith, ints)

@@ -9,9 +9,10 @@ use Rattle.std.proofs.lemmas.Option.{unwrap_or-slice_get}
 use Rattle.overlay_terms.specs.Trees.{Tree, leaf, combine, combined, truth, leaves, relabel, Source, base_bit, definition, source_value, last_or, steps_value}
 use Rattle.overlay_terms.specs.Layers.{Name, named}
 use Rattle.overlay_terms.specs.Orderly.{is_among}
+use Rattle.overlay_terms.proofs.NameLemmas.{same_name, name_itself}
 use Rattle.layer_expr.specs.StepList.{Reached, definitions_of, source_among, is_ordered_after, values_after, evaluated, numbered_steps, stands_before, IsOrdered, ReachesAll}
 use Rattle.layer_expr.proofs.StepLemmas.{last_or-push}
-use Rattle.layer_expr.proofs.StepOrder.{head, AreNumbered, source_among-numbers, same, itself, is_among-push, below-push}
+use Rattle.layer_expr.proofs.StepOrder.{head, AreNumbered, source_among-numbers, is_among-push, below-push}
 
 abbrev names_of : List (Name × Bool) → List Name
 names_of known = map (λ entry. entry.0) known
@@ -25,7 +26,7 @@ named-old (first ∷ known) entry name =
     ]
 
 named-new : (known : List (Name × Bool)) (name : Name) (value : Bool) → is_among (names_of known) name ≡ false → named false (known ++ (name, value) ∷ []) name ≡ value
-named-new [] name value h = ap (λ b. cond b value false) (itself name)
+named-new [] name value h = ap (λ b. cond b value false) (name_itself name)
 named-new (first ∷ known) name value h =
     let apart = or_parts (bytes_eq first.0 name) (is_among (names_of known) name) h in
     ap (λ b. cond b first.1 (named false (known ++ (name, value) ∷ []) name)) apart.0 ∙ named-new known name value apart.1
@@ -63,7 +64,7 @@ module _ (at : Name → Source) (bits : ℕ → Bool) where
         value = λ n h.
             elim (or_cases (is_among (names_of known) n) (bytes_eq name n) (sym (is_among-push (names_of known) name n) ∙ ap (λ ns. is_among ns n) (sym names) ∙ h)) [
               | inl old ↦ named-old known (name, bits p) n old ∙ agree.value n old
-              | inr found_now ↦ subst (λ m. named false (known ++ (name, bits p) ∷ []) m ≡ source_value bits found (at m)) (same name n found_now) (named-new known name (bits p) new ∙ sym (ap (source_value bits found) here))
+              | inr found_now ↦ subst (λ m. named false (known ++ (name, bits p) ∷ []) m ≡ source_value bits found (at m)) (same_name name n found_now) (named-new known name (bits p) new ∙ sym (ap (source_value bits found) here))
             ];
         below = λ n h. below-push at (names_of known) name p (length found) (p + 1) (length found) (omega arith) (omega arith) agree.below (ap (stands_before (p + 1) (length found)) here ∙ lt-ltb p (p + 1) (omega arith)) n (ap (λ ns. is_among ns n) (sym names) ∙ h);
       }
@@ -76,7 +77,7 @@ module _ (at : Name → Source) (bits : ℕ → Bool) where
         value = λ n h.
             elim (or_cases (is_among (names_of known) n) (bytes_eq name n) (sym (is_among-push (names_of known) name n) ∙ ap (λ ns. is_among ns n) (sym names) ∙ h)) [
               | inl old ↦ named-old known (name, v) n old ∙ agree.value n old ∙ sym (source_value-push bits found v p (at n) (agree.below n old))
-              | inr found_now ↦ subst (λ m. named false (known ++ (name, v) ∷ []) m ≡ source_value bits (found ++ v ∷ []) (at m)) (same name n found_now) (named-new known name v new ∙ sym (ap (source_value bits (found ++ v ∷ [])) here ∙ source_value-last bits found v))
+              | inr found_now ↦ subst (λ m. named false (known ++ (name, v) ∷ []) m ≡ source_value bits (found ++ v ∷ []) (at m)) (same_name name n found_now) (named-new known name v new ∙ sym (ap (source_value bits (found ++ v ∷ [])) here ∙ source_value-last bits found v))
             ];
         below = λ n h. below-push at (names_of known) name p (length found) p (length (found ++ v ∷ [])) (omega arith) (omega (arith, longer)) agree.below (ap (stands_before p (length (found ++ v ∷ []))) here ∙ lt-ltb (length found) (length (found ++ v ∷ [])) (omega (arith, longer))) n (ap (λ ns. is_among ns n) (sym names) ∙ h);
       }

@@ -3,32 +3,22 @@ use Rattle.std.proofs.Common.{◌≡◌, ℕ, inl, inr, ◌+◌, ◌≤◌, Bool
 use Rattle.std.specs.List.{list_all}
 use Rattle.std.proofs.lemmas.Bool.{or_parts, or_cases, or_from, and_parts, and_from, not-true, false_from_ne_true, false≢true, ltb-true, lt-ltb}
 use Rattle.std.proofs.lemmas.List.Folds.{list_all-append, list_any-append}
-use Rattle.std.proofs.lemmas.Slice.Eq.{bytes_eq-Decides}
 use Rattle.overlay_terms.specs.Trees.{Tree, leaf, combine, leaves, relabel, Source, base_bit, definition}
 use Rattle.overlay_terms.specs.Layers.{Name, source_of}
 use Rattle.overlay_terms.specs.Orderly.{is_among}
+use Rattle.overlay_terms.proofs.NameLemmas.{same_name, name_itself, or_false}
 use Rattle.layer_expr.specs.StepList.{Reached, base_names, definitions_of, source_among, names_in, is_ordered_after, stands_before, names_earlier}
 use Rattle.layer_expr.proofs.NameNumbers.{among, first_of, first_of-miss, first_of-absent, among-miss, definition_names}
 
-pub same : (a b : Name) → bytes_eq a b ≡ true → a ≡ b
-same a b = (bytes_eq-Decides a b).0
-
-pub itself : (a : Name) → bytes_eq a a ≡ true
-itself a = (bytes_eq-Decides a a).1 refl
-
-or-false : (b : Bool) → (b || false) ≡ b
-or-false true = refl
-or-false false = refl
-
 pub is_among-push : (names : List Name) (other name : Name) → is_among (names ++ other ∷ []) name ≡ (is_among names name || bytes_eq other name)
 is_among-push names other name =
-    list_any-append (λ n. bytes_eq n name) names (other ∷ []) ∙ ap (λ b. is_among names name || b) (or-false (bytes_eq other name))
+    list_any-append (λ n. bytes_eq n name) names (other ∷ []) ∙ ap (λ b. is_among names name || b) (or_false (bytes_eq other name))
 
 is_among-push_old : (names : List Name) (other name : Name) → is_among names name ≡ true → is_among (names ++ other ∷ []) name ≡ true
 is_among-push_old names other name h = is_among-push names other name ∙ rw h refl
 
 is_among-push_new : (names : List Name) (name : Name) → is_among (names ++ name ∷ []) name ≡ true
-is_among-push_new names name = is_among-push names name name ∙ rw (itself name) (or_true (is_among names name)) where
+is_among-push_new names name = is_among-push names name name ∙ rw (name_itself name) (or_true (is_among names name)) where
   or_true : (b : Bool) → (b || true) ≡ true
   or_true true = refl
   or_true false = refl
@@ -53,7 +43,7 @@ later_differ : (known : List Name) (layers : List Reached) (name : Name) → is_
 later_differ known [] name h k = refl
 later_differ known ((other, None) ∷ layers) name h k =
     let first = head known (other, None) layers h in
-    or_from (bytes_eq other name) (is_among (base_names layers) name) (false_from_ne_true (bytes_eq other name) (λ e. false≢true (sym first.new ∙ ap (is_among known) (same other name e) ∙ k))) (later_differ (known ++ other ∷ []) layers name first.rest (is_among-push_old known other name k))
+    or_from (bytes_eq other name) (is_among (base_names layers) name) (false_from_ne_true (bytes_eq other name) (λ e. false≢true (sym first.new ∙ ap (is_among known) (same_name other name e) ∙ k))) (later_differ (known ++ other ∷ []) layers name first.rest (is_among-push_old known other name k))
 later_differ known ((other, Some e) ∷ layers) name h k =
     let first = head known (other, Some e) layers h in
     later_differ (known ++ other ∷ []) layers name first.rest (is_among-push_old known other name k)
@@ -73,7 +63,7 @@ are_numbered bases definitions known ((name, None) ∷ layers) apart h =
     let others = are_numbered (bases ++ name ∷ []) definitions (known ++ name ∷ []) layers more first.rest in
     let here : first_of name (definitions ++ definition_names layers) (bases ++ name ∷ base_names layers) 0 ≡ base_bit (length bases) =
     first_of-miss name (definitions ++ definition_names layers) bases (name ∷ base_names layers) 0 (apart name first.new).0
-    ∙ ap (λ b. cond b (base_bit (0 + length bases)) (first_of name (definitions ++ definition_names layers) (base_names layers) (0 + length bases + 1))) (itself name)
+    ∙ ap (λ b. cond b (base_bit (0 + length bases)) (first_of name (definitions ++ definition_names layers) (base_names layers) (0 + length bases + 1))) (name_itself name)
     ∙ ap base_bit (omega arith) in
     (here, rw (append_assoc bases (name ∷ []) (base_names layers), length-append bases (name ∷ [])) at others)
 are_numbered bases definitions known ((name, Some e) ∷ layers) apart h =
@@ -86,7 +76,7 @@ are_numbered bases definitions known ((name, Some e) ∷ layers) apart h =
     let here : first_of name (definitions ++ name ∷ definition_names layers) (bases ++ base_names layers) 0 ≡ definition (length definitions) =
     first_of-absent name (definitions ++ name ∷ definition_names layers) (bases ++ base_names layers) 0 absent
     ∙ among-miss name definitions (name ∷ definition_names layers) 0 (apart name first.new).1
-    ∙ ap (λ b. cond b (definition (0 + length definitions)) (among name (definition_names layers) (0 + length definitions + 1))) (itself name)
+    ∙ ap (λ b. cond b (definition (0 + length definitions)) (among name (definition_names layers) (0 + length definitions + 1))) (name_itself name)
     ∙ ap definition (omega arith) in
     (here, rw (append_assoc definitions (name ∷ []) (definition_names layers), length-append definitions (name ∷ [])) at others)
 
@@ -109,7 +99,7 @@ pub below-push : (at : Name → Source) (known : List Name) (name : Name) (p q r
 below-push at known name p q r s few less below here n h =
     elim (or_cases (is_among known n) (bytes_eq name n) (sym (is_among-push known name n) ∙ h)) [
       | inl old ↦ stands_before-more p q r s (at n) few less (below n old)
-      | inr new ↦ subst (λ m. stands_before r s (at m) ≡ true) (same name n new) here
+      | inr new ↦ subst (λ m. stands_before r s (at m) ≡ true) (same_name name n new) here
     ]
 
 earlier_after : (at : Name → Source) (known : List Name) (p q bases : ℕ) (layers : List Reached) → ((n : Name) → is_among known n ≡ true → stands_before p q (at n) ≡ true) → AreNumbered at p q layers → is_ordered_after known layers ≡ true → p + length (base_names layers) ≡ bases → names_earlier bases q (map (λ d. relabel at d.1) (definitions_of layers)) ≡ true

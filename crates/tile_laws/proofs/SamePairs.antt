@@ -49,6 +49,14 @@ pair_total = then_total (on_total first_of placed_total) (on_total second_of pla
 abbrev placed : (a : Point × Point) → IsPositivePair a → PlacedPair
 placed a h = record { ends = a; positive = h }
 
+-- the order of pairs, turned round
+pub pair_turned : (a b : Point × Point) → IsPositivePair a → IsPositivePair b → pair_cmp a b ≡ ordering_reverse (pair_cmp b a)
+pair_turned a b h k = pair_total.antisymm (placed a h) (placed b k)
+
+-- a pair before one that is before a third
+pub pair_through : (a b c : Point × Point) → IsPositivePair a → IsPositivePair b → IsPositivePair c → pair_cmp a b ≡ Less → pair_cmp b c ≡ Less → pair_cmp a c ≡ Less
+pair_through a b c h k l = pair_total.trans (placed a h) (placed b k) (placed c l)
+
 -- pairs at the same places are equal in the order
 equal_pair : (a b : Point × Point) → IsPositivePair a → IsPositivePair b → IsTrue (same_pair a b) → pair_cmp a b ≡ Equal
 equal_pair a b h k e =
@@ -73,7 +81,7 @@ pairs_rank = record {
   turned = λ a b h k e. same_from b a k h (pair_total.antisymm (placed b k) (placed a h) ∙ ap ordering_reverse (equal_pair a b h k e));
   same_through = λ a b c h k l e f. same_from a c h l (pair_total.congr (placed a h) (placed b k) (placed c l) (equal_pair a b h k e) ∙ equal_pair b c k l f);
   apart = λ a b h k e. not_both (pair_cmp a b) (equal_pair a b h k e);
-  through = λ a b c h k l. pair_total.trans (placed a h) (placed b k) (placed c l);
+  through = pair_through;
   alike_left = λ a b c h k l e less. sym (pair_total.congr (placed a h) (placed b k) (placed c l) (equal_pair a b h k e)) ∙ less;
   alike_right = λ a b c h k l e less.
       pair_total.antisymm (placed c l) (placed b k)

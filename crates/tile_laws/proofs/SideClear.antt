@@ -13,7 +13,7 @@ use Rattle.overlay_terms.proofs.InputNumbers.{between_from_on, in_order_by_x}
 use Rattle.overlay_terms.proofs.InputLists.{any_from_Contains}
 use Rattle.exact_point.proofs.OnSegment.{reached}
 use Rattle.exact_point.proofs.PlaceOrder.{one_positive}
-use Rattle.exact_point.proofs.ByX.{Left, AtMost, left_after, left_before, at_most_through, left_most}
+use Rattle.exact_point.proofs.ByX.{Left, AtMost, left_after, left_before, at_most_through, left_most, from_whole, to_whole}
 use Rattle.exact_point.proofs.Lines.{width, rise}
 use Rattle.exact_point.specs.Crossing.{turn_of}
 use Rattle.exact_point.proofs.Nodes.{left_node, right_node, crossing_is_node}
@@ -21,21 +21,15 @@ use Rattle.exact_point.proofs.OnLine.{no_turn_back, turn_from_parallel}
 use Rattle.tile_laws.proofs.SideMeeting.{Stretch, Apart, on_from_level}
 
 -- ---- over opaque numbers
-from_by : (a x : ℤ) → a ≤ℤ x → a ≤ℤ (x *ℤ pos 1)
-from_by a x h = omega (arith, ints)
-
-to_by : (a x : ℤ) → x ≤ℤ a → (x *ℤ pos 1) ≤ℤ a
-to_by a x h = omega (arith, ints)
-
 wide_by : (l r : ℤ) → (l *ℤ pos 1) <ℤ (r *ℤ pos 1) → pos 0 <ℤ (r -ℤ l)
 wide_by l r h = omega (arith, ints)
 
 module _ (xs : List Segment) (p r : Point) (piece : IsPiece xs p r) (ordered : Left p r) where
   from_left : AtMost (whole piece.support.left) p
-  from_left = from_by (piece.support.left.x *ℤ p.w) p.x (between_from_on piece.support p piece.from_on).from_left
+  from_left = from_whole (piece.support.left.x *ℤ p.w) p.x (between_from_on piece.support p piece.from_on).from_left
 
   to_right : AtMost r (whole piece.support.right)
-  to_right = to_by (piece.support.right.x *ℤ r.w) r.x (between_from_on piece.support r piece.to_on).to_right
+  to_right = to_whole (piece.support.right.x *ℤ r.w) r.x (between_from_on piece.support r piece.to_on).to_right
 
   -- its segment is not vertical
   wide : pos 0 <ℤ width piece.support

@@ -12,7 +12,7 @@ use Rattle.exact_point.proofs.Lexical.{Forward}
 use Rattle.exact_point.proofs.OnSegment.{reached}
 use Rattle.overlay_terms.proofs.Difference.{mul_pos}
 use Rattle.exact_point.proofs.PlaceOrder.{one_positive}
-use Rattle.exact_point.proofs.ByX.{Left, AtMost, left_after, left_before, left_most}
+use Rattle.exact_point.proofs.ByX.{Left, AtMost, left_after, left_before, left_most, to_whole}
 use Rattle.exact_point.proofs.Lines.{width, rise, gap, heights_give_gap, flat_gap, gap_at, on_first, on_second}
 use Rattle.exact_point.proofs.OnLine.{right_on_line}
 use Rattle.exact_point.proofs.Signs.{not_positive_times, zero_factor}
@@ -51,12 +51,6 @@ on_by false a b n l e f h = h refl
 
 second_false : (p q : Bool) → p ≡ false → (not p && q) ≡ false → q ≡ false
 second_false p q h e = grind (arith, h, e)
-
-from_by : (a x : ℤ) → a ≤ℤ x → a ≤ℤ (x *ℤ pos 1)
-from_by a x h = omega (arith, ints)
-
-to_by : (a x : ℤ) → x ≤ℤ a → (x *ℤ pos 1) ≤ℤ a
-to_by a x h = omega (arith, ints)
 
 not_past : (x a : ℤ) → a ≤ℤ x → int_lt x a ≡ false
 not_past x a h = grind (arith, ints, h)
@@ -104,7 +98,7 @@ module _ (s t : Segment) (p r z : Point) (stretch : Stretch s p r) (apart : Apar
         let low : is_past z t.left ≡ false = not_past z.x (t.left.x *ℤ z.w) between.from_left in
         let past : is_past z t.right ≡ false = second_false (is_past z t.left) (is_past z t.right) low (sym (over_by_past t z) ∙ out) in
         let most : AtMost (whole t.right) z = past_false z t.right past in
-        let least : AtMost z (whole t.right) = to_by (t.right.x *ℤ z.w) z.x between.to_right in
+        let least : AtMost z (whole t.right) = to_whole (t.right.x *ℤ z.w) z.x between.to_right in
         let none : gap t s z ≡ pos 0 = gap_at t s z (reached t z on).level level in
         apart.no_right (left_before p z (whole t.right) stretch.from_positive positive one_positive after least) (left_after (whole t.right) z r one_positive positive stretch.to_positive most before)
         (on_second t s (whole t.right) wide (right_on_line t) (flat_gap t s z (whole t.right) positive (on_parallel on) none))

@@ -14,7 +14,7 @@ use Rattle.overlay_terms.proofs.InputNodes.{IsIn, is_in, ends_within}
 use Rattle.exact_point.proofs.Lexical.{Forward}
 use Rattle.exact_point.proofs.OnSegment.{leads}
 use Rattle.exact_point.proofs.PlaceOrder.{one_positive}
-use Rattle.exact_point.proofs.ByX.{Left, AtMost, left_after, left_before, at_most_through}
+use Rattle.exact_point.proofs.ByX.{Left, AtMost, left_after, left_before, at_most_through, from_whole, to_whole}
 use Rattle.exact_point.proofs.Lines.{width, rise}
 use Rattle.tile_laws.proofs.JustRight.{is_over_x, is_under, is_level, bits_where, under_bits, up_to_bits}
 use Rattle.tile_laws.proofs.Statements.{segments_in, SidesAreKept}
@@ -31,22 +31,16 @@ use Rattle.tile_laws.proofs.SideMidpoint.{after_first, before_second, middle_lev
 use Rattle.tile_laws.proofs.SideBits.{all_in_map, up_to_split, bits_agree}
 
 -- ---- a whole point between two lines
-from_by : (a x : ℤ) → a ≤ℤ x → a ≤ℤ (x *ℤ pos 1)
-from_by a x h = omega (arith, ints)
-
 -- a whole point right of u and not right of v lies between the borders, where u is not left of the one and v is left of r,
 -- which is not right of the other
 between_borders : (b c : ℤ) (p u v r : Point) (e : WholePoint) → pos 0 <ℤ p.w → pos 0 <ℤ u.w → pos 0 <ℤ v.w → pos 0 <ℤ r.w → (b *ℤ p.w) ≤ℤ p.x → AtMost p u → Left u (whole e) → AtMost (whole e) v → Left v r → r.x ≤ℤ (c *ℤ r.w) → (int_le (b *ℤ pos 1) e.x && int_lt e.x (c *ℤ pos 1)) ≡ true
 between_borders b c p u v r e hp hu hv hr low begin after before end high =
-    let lower : AtMost (record { x = b; y = pos 0; w = pos 1 }) u = at_most_through (record { x = b; y = pos 0; w = pos 1 }) p u one_positive hp hu (from_by (b *ℤ p.w) p.x low) begin in
+    let lower : AtMost (record { x = b; y = pos 0; w = pos 1 }) u = at_most_through (record { x = b; y = pos 0; w = pos 1 }) p u one_positive hp hu (from_whole (b *ℤ p.w) p.x low) begin in
     let left : Left (record { x = b; y = pos 0; w = pos 1 }) (whole e) = left_after (record { x = b; y = pos 0; w = pos 1 }) u (whole e) one_positive hu one_positive lower after in
     let inner : Left (whole e) r = left_after (whole e) v r one_positive hv hr before end in
-    let right : Left (whole e) (record { x = c; y = pos 0; w = pos 1 }) = left_before (whole e) r (record { x = c; y = pos 0; w = pos 1 }) one_positive hr one_positive inner (to_by r.x (c *ℤ r.w) high) in
+    let right : Left (whole e) (record { x = c; y = pos 0; w = pos 1 }) = left_before (whole e) r (record { x = c; y = pos 0; w = pos 1 }) one_positive hr one_positive inner (to_whole (c *ℤ r.w) r.x high) in
     and_from (int_le (b *ℤ pos 1) e.x) (int_lt e.x (c *ℤ pos 1)) (first b e.x left) (second e.x c right)
   where
-    to_by : (x a : ℤ) → x ≤ℤ a → (x *ℤ pos 1) ≤ℤ a
-    to_by x a h = omega (arith, ints)
-
     first : (a x : ℤ) → (a *ℤ pos 1) <ℤ (x *ℤ pos 1) → int_le (a *ℤ pos 1) x ≡ true
     first a x h = true_le (a *ℤ pos 1) x (omega (arith, ints))
 
