@@ -1,9 +1,9 @@
 -- A plan that stands is not full.
-use Rattle.std.proofs.Common.{◌≡◌, ◌⊎◌, inl, inr, ⊎_elim, ℕ, ◌+◌, ◌<◌, ◌≤◌, List, [], ◌∷◌, ◌++◌, refl, sym, ◌∙◌, subst, arith}
+use Rattle.std.proofs.Common.{◌≡◌, inl, inr, ⊎_elim, ℕ, List, [], ◌∷◌, ◌++◌, sym, ◌∙◌, subst, arith}
 use Rattle.std.proofs.lemmas.Bool.{cases_lt}
 use Rattle.extent_map.specs.declared.extent.Extent.{Extent}
-use Rattle.extent_map.specs.Extents.{IsApart, IsFree, AreAlike}
-use Rattle.extent_map.specs.FirstFit.{blocks_for, IsFirstFit, NoFit, IsPlanned, taken_with, IsFull, PlannedIsNotFull}
+use Rattle.extent_map.specs.Extents.{IsApart, AreAlike}
+use Rattle.extent_map.specs.FirstFit.{blocks_for, IsFirstFit, NoFit, IsPlanned, taken_with, PlannedIsNotFull}
 use Rattle.extent_map.proofs.Gaps.{alike_self}
 
 -- of what is alike there is one lowest run
