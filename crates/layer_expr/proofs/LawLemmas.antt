@@ -1,25 +1,30 @@
 -- A text has one tree or one first fault, and never both.
 use Rattle.std.proofs.Common.{◌≡◌, ℕ, zero, suc, ◌+◌, ◌<◌, ◌≤◌, ◌⊎◌, inl, inr, Bool, true, false, List, [], ◌∷◌, ◌++◌, length, take, refl, ap, sym, subst, ◌∙◌, append_assoc, arith}
 use Rattle.std.specs.Prelude.{IsTrue, Option, Some, None, All, slice_get, is_some}
+use Rattle.std.proofs.lemmas.List.{length-map}
 use Rattle.std.proofs.lemmas.Option.{slice_get_within, get_or_from_slice_get}
 use Rattle.overlay_terms.specs.Trees.{Tree}
 use Rattle.layer_expr.specs.declared.fault.ExprFault.{ExprFault}
 use Rattle.layer_expr.specs.declared.fault.ExprFault.TheVariants.{ExprSyntax, ExprTooLong, BadName}
 use Rattle.layer_expr.specs.Token.{Token, tokens_of}
-use Rattle.layer_expr.specs.Grammar.{Written, is_grouped, written_kinds, written_tree, IsSum, IsBegun, is_name_short, IsGoodSoFar, IsFaultAt, IsRefusedBy, ReadsAs}
+use Rattle.layer_expr.specs.Grammar.{written_tree, IsSum, IsBegun, is_name_short, IsGoodSoFar, IsFaultAt, IsRefusedBy, ReadsAs}
 use Rattle.layer_expr.specs.Standing.{Standing, moved, finished, at_start}
-use Rattle.layer_expr.specs.Spelling.{canonical}
+use Rattle.layer_expr.specs.Spelling.{canonical, expression_text}
 use Rattle.layer_expr.specs.Reader.{is_good}
 use Rattle.layer_expr.proofs.StandingLemmas.{T, one_spelling, false_is_true}
-use Rattle.layer_expr.proofs.SpellingLemmas.{shortest}
+use Rattle.layer_expr.proofs.SpellingLemmas.{size, shortest, text_size, read_is_expression}
 use Rattle.layer_expr.proofs.ReadingLemmas.{IsAt, is_at_start, goes_on, too_long, cannot_stand, long_name, ends_early, ends_whole}
 
 pub one_tree : (bytes : List ℕ) (t u : Tree (List ℕ)) → ReadsAs bytes t → ReadsAs bytes u → t ≡ u
 one_tree bytes t u h k =
     h.3 ∙ ap written_tree (one_spelling h.0 k.0 h.1.grouped k.1.grouped (sym h.1.spelled ∙ k.1.spelled)) ∙ sym k.3
 
-pub fewest : (w : Written) (tree : Tree (List ℕ)) → IsTrue (is_grouped w) → written_tree w ≡ tree → length (written_kinds (canonical tree)) ≤ length (written_kinds w)
-fewest w tree g e = subst (λ t. length (written_kinds (canonical t)) ≤ length (written_kinds w)) e (shortest w g).few
+pub fewest : (bytes : List ℕ) (tree : Tree (List ℕ)) → ReadsAs bytes tree → length (tokens_of (expression_text tree)) ≤ length (tokens_of bytes)
+fewest bytes tree h =
+    let w = h.0 in
+    let sized : length (tokens_of bytes) ≡ size w = sym (length-map (tokens_of bytes) (λ (u : Token). u.kind)) ∙ ap length h.1.spelled in
+    let few : size (canonical tree) ≤ size w = subst (λ t. size (canonical t) ≤ size w) (sym h.3) (shortest w h.1.grouped).few in
+    omega (arith, text_size tree (read_is_expression bytes tree h), sized, few)
 
 -- the first tokens among the first of more
 more_taken : (ts : List Token) (i j : ℕ) → i < j → (rest : List Token) × (take j ts ≡ take (suc i) ts ++ rest)

@@ -246,13 +246,23 @@ good_kinds (joined o l r) =
     ∙ ap (λ b. list_all is_name (leaves (written_tree l)) && b) (good_kinds r)
     ∙ sym (list_all-append is_name (leaves (written_tree l)) (leaves (written_tree r)))
 
+-- the tokens of what is written
+text_spells : (t : Tree (List ℕ)) → IsTrue (list_all is_name (leaves t)) → kinds_of (tokens_of (expression_text t)) ≡ written_kinds (canonical t)
+text_spells t h =
+    let w = canonical t in
+    let names : AreNames w = subst (λ u. IsTrue (list_all is_name (leaves u))) (sym (canonical_tree t)) h in
+    kinds_placed false 0 (written_text w) ∙ ap (kinds_in false) (sym (append-nil (written_text w))) ∙ text_kinds w [] names tt ∙ append-nil (written_kinds w)
+
+pub text_size : (t : Tree (List ℕ)) → IsExpression t → length (tokens_of (expression_text t)) ≡ size (canonical t)
+text_size t h = sym (length-map (tokens_of (expression_text t)) (λ (u : Token). u.kind)) ∙ ap length (text_spells t h.0)
+
 pub reads_back : (t : Tree (List ℕ)) → IsExpression t → ReadsAs (expression_text t) t
 reads_back t h =
     let w = canonical t in
     let ts = tokens_of (expression_text t) in
     let names : AreNames w = subst (λ u. IsTrue (list_all is_name (leaves u))) (sym (canonical_tree t)) h.0 in
-    let kinds : kinds_of ts ≡ written_kinds w = kinds_placed false 0 (written_text w) ∙ ap (kinds_in false) (sym (append-nil (written_text w))) ∙ text_kinds w [] names tt ∙ append-nil (written_kinds w) in
-    let sized : length ts ≡ length (written_kinds w) = sym (length-map ts (λ (u : Token). u.kind)) ∙ ap length kinds in
+    let kinds : kinds_of ts ≡ written_kinds w = text_spells t h.0 in
+    let sized : length ts ≡ length (written_kinds w) = text_size t h in
     let good : IsTrue (list_all is_good (kinds_of ts)) = ap (list_all is_good) kinds ∙ good_kinds w ∙ names in
     let spells : Spells ts w = record { grouped = canonical_grouped t; spelled = kinds } in
     let begun : IsBegun ts = ([], (w, subst (λ us. Spells us w) (sym (append-nil ts)) spells)) in

@@ -1,9 +1,10 @@
 -- Laws of reading and writing expressions.
-use Rattle.std.specs.Prelude.{◌≡◌, ◌⊎◌, ℕ, ◌≤◌, IsTrue, List, length}
+use Rattle.std.specs.Prelude.{◌≡◌, ◌⊎◌, ℕ, ◌≤◌, List, length}
 use Rattle.overlay_terms.specs.Trees.{Tree}
 use Rattle.layer_expr.specs.declared.fault.ExprFault.{ExprFault}
-use Rattle.layer_expr.specs.Grammar.{Written, is_grouped, written_kinds, written_tree, ReadsAs, IsRefusedBy}
-use Rattle.layer_expr.specs.Spelling.{canonical, expression_text, IsExpression}
+use Rattle.layer_expr.specs.Token.{tokens_of}
+use Rattle.layer_expr.specs.Grammar.{ReadsAs, IsRefusedBy}
+use Rattle.layer_expr.specs.Spelling.{expression_text, IsExpression}
 
 -- what is written for an expression reads back as the same tree
 abbrev pub WrittenReadsBack : Type 0
@@ -13,10 +14,10 @@ WrittenReadsBack = (tree : Tree (List ℕ)) → IsExpression tree → ReadsAs (e
 abbrev pub ReadIsExpression : Type 0
 ReadIsExpression = (bytes : List ℕ) (tree : Tree (List ℕ)) → ReadsAs bytes tree → IsExpression tree
 
--- what is written has no more tokens than any other spelling of the tree
+-- the text that is written has no more tokens than any other that reads as the same tree
 abbrev pub FewestTokens : Type 0
 FewestTokens =
-    (w : Written) (tree : Tree (List ℕ)) → IsTrue (is_grouped w) → written_tree w ≡ tree → length (written_kinds (canonical tree)) ≤ length (written_kinds w)
+    (bytes : List ℕ) (tree : Tree (List ℕ)) → ReadsAs bytes tree → length (tokens_of (expression_text tree)) ≤ length (tokens_of bytes)
 
 -- a text has one tree
 abbrev pub OneTree : Type 0

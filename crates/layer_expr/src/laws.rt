@@ -11,7 +11,7 @@ pub fn read_is_expression()
     ensures { ReadIsExpression }
 {}
 
-/// What is written has no more tokens than any other spelling of the tree.
+/// The text that is written has no more tokens than any other that reads as the same tree.
 pub fn fewest_tokens()
     ensures { FewestTokens }
 {}

@@ -17,3 +17,10 @@ pub mod steps;
 #[cfg(test)]
 mod tests;
 pub mod writing;
+
+pub use expr::{Expr, Node, Operation};
+pub use fault::ExprFault;
+pub use name::{NAME_MAX, Name, is_well_formed};
+pub use reading::read_expr;
+pub use step_list::StepList;
+pub use writing::write_expr;

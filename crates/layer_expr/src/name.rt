@@ -7,7 +7,10 @@ use crate::fault::ExprFault;
 use std::alloc::{AllocError, Global};
 use std::marker::Model;
 
-/// A name of 1 to 32 bytes: a letter, then letters, digits and underscores.
+/// The most bytes of a name.
+pub const NAME_MAX: usize = 32;
+
+/// A name of at least one byte: a letter, then letters, digits and underscores.
 #[derive(Debug, Drop)]
 pub struct Name {
     bytes: Vec<u8>,
@@ -57,7 +60,7 @@ impl Clone for Name {
 pub fn is_well_formed(bytes: &[u8]) -> bool
     ensures { result ≡ is_name bytes.now }
 {
-    starts_with_letter(bytes) & (bytes.len() <= 32) & all_name_bytes(bytes)
+    starts_with_letter(bytes) && bytes.len() <= NAME_MAX && all_name_bytes(bytes)
 }
 
 fn starts_with_letter(bytes: &[u8]) -> bool
@@ -79,5 +82,5 @@ fn all_name_bytes(bytes: &[u8]) -> bool
 pub(crate) fn goes_on(b: u8) -> bool
     ensures { result ≡ is_name_byte b }
 {
-    b.is_ascii_alphanumeric() | (b == b'_')
+    b.is_ascii_alphanumeric() || b == b'_'
 }

@@ -6,7 +6,7 @@ use Rattle.std.proofs.lemmas.List.{map-append, take_all, take_at, length-append}
 use Rattle.std.proofs.lemmas.Option.{slice_get_past}
 use Rattle.wkt_form.specs.declared.fault.WktFault.{WktFault}
 use Rattle.wkt_form.specs.declared.fault.WktFault.TheVariants as faults
-use Rattle.wkt_form.specs.declared.place.Place.TheVariants as places
+use Rattle.wkt_form.specs.declared.state.State.TheVariants as states
 use Rattle.wkt_form.specs.Token.{Kind, Token, tokens_of}
 use Rattle.wkt_form.specs.Seen.{seen_from}
 use Rattle.wkt_form.specs.Reading.{Reading, with_tokens, nothing_read}
@@ -61,7 +61,7 @@ not_begun_from_walk tokens e begun =
     let nowhere : ◌≡◌ {A = Option Progress} None (Some (whole begun.1.0)) = sym split ∙ all in
     cc
 
-whole_at_end : (at : Progress) (z : ℤ) → (reading_of at z).place ≡ places.End → (text : WrittenText) × (at ≡ whole text)
+whole_at_end : (at : Progress) (z : ℤ) → (reading_of at z).state ≡ states.End → (text : WrittenText) × (at ≡ whole text)
 whole_at_end (whole text) z e = (text, refl)
 whole_at_end nothing z e = absurd (cc)
 whole_at_end members z e = absurd (cc)
@@ -76,10 +76,10 @@ whole_at_end (polygon_end ps p) z e = absurd (cc)
 -- ==== What the reader answers
 
 -- a reading that ends is that of a text
-pub wkt_from_end : (bytes : List ℕ) (r : Reading) → with_tokens nothing_read (seen_from 0 bytes) ≡ Ok r → r.place ≡ places.End → IsWktOf bytes r.rings
+pub wkt_from_end : (bytes : List ℕ) (r : Reading) → with_tokens nothing_read (seen_from 0 bytes) ≡ Ok r → r.state ≡ states.End → IsWktOf bytes r.rings
 wkt_from_end bytes r e at_end =
     let end : Ends nothing (tokens_of bytes) r = subst (Outcome nothing (tokens_of bytes)) e (tokens_outcome nothing (pos 0) (tokens_of bytes) tt) in
-    let found = whole_at_end end.last end.first (sym (ap (λ (s : Reading). s.place) end.is) ∙ at_end) in
+    let found = whole_at_end end.last end.first (sym (ap (λ (s : Reading). s.state) end.is) ∙ at_end) in
     let there = at_some (walk nothing (kinds_of (tokens_of bytes))) (Reached nothing (kinds_of (tokens_of bytes))) (whole found.0) (end.read ∙ ap Some found.1) (reached nothing (kinds_of (tokens_of bytes)) tt) in (
       found.0,
       record { right = there.1; spelled = sym there.0 },
@@ -88,14 +88,14 @@ wkt_from_end bytes r e at_end =
     )
 
 -- a reading that goes to the end of the tokens, and does not end, has the fault that the text is not whole
-pub fault_from_unfinished : (bytes : List ℕ) (r : Reading) → with_tokens nothing_read (seen_from 0 bytes) ≡ Ok r → ¬ (r.place ≡ places.End) → IsFirstFault bytes (faults.Syntax (length bytes))
+pub fault_from_unfinished : (bytes : List ℕ) (r : Reading) → with_tokens nothing_read (seen_from 0 bytes) ≡ Ok r → ¬ (r.state ≡ states.End) → IsFirstFault bytes (faults.Syntax (length bytes))
 fault_from_unfinished bytes r e unfinished =
     let tokens = tokens_of bytes in
     let end : Ends nothing tokens r = subst (Outcome nothing tokens) e (tokens_outcome nothing (pos 0) tokens tt) in
     let all : take (length tokens) tokens ≡ tokens = take_all (length tokens) tokens (omega arith) in
     let no_text : ¬ (IsText tokens) = λ spelled.
     let last_whole : end.last ≡ whole spelled.0 = same_some (sym end.read ∙ text_walks tokens spelled.0 spelled.1) in
-    unfinished (ap (λ (s : Reading). s.place) (end.is ∙ ap (λ at. reading_of at end.first) last_whole)) in (
+    unfinished (ap (λ (s : Reading). s.state) (end.is ∙ ap (λ at. reading_of at end.first) last_whole)) in (
       length tokens,
       record {
         begun = subst IsBegun (sym all) (begun_from_walk tokens end.last end.read);

@@ -5,5 +5,6 @@ pub mod Simulation
 pub mod FirstFault
 pub mod WritingLemmas
 pub mod OneMeaning
+pub mod Deciding
 pub mod WrittenNumbers
 pub mod RoundTrip

@@ -13,7 +13,7 @@ use Rattle.wkt_form.specs.declared.fault.WktFault.TheVariants as faults
 use Rattle.wkt_form.specs.Fault.{of_rings}
 use Rattle.wkt_form.specs.Token.{Token, tokens_of}
 use Rattle.wkt_form.specs.Grammar.{WrittenText, text_rings, IsText, IsBegun, number_fault, IsGoodSoFar, IsFaultAt, IsFirstFault, IsWktOf}
-use Rattle.wkt_form.specs.Laws.{SpellsOneLayer, HasOneFault, ReadOrRefused}
+use Rattle.wkt_form.specs.Laws.{SpellsOneLayer, HasOneFault, NeverBoth}
 use Rattle.wkt_form.proofs.Progress.{Progress, whole}
 use Rattle.wkt_form.proofs.FirstFault.{text_walks}
 
@@ -67,7 +67,7 @@ no_fault_of_text bytes layer fault text (first) =
       by_token (Some t) e (inl stuck) = stuck.0 (begun_front (tokens_of bytes) (first.0 + 1) (begun_text (tokens_of bytes) (text.0, text.1)))
       by_token (Some t) e (inr wrong) = number_clash t fault (good_at (tokens_of bytes) first.0 t text.2 e) wrong.1
 
--- two faults at one place are one
+-- two faults at one position are one
 fault_at_place : (bytes : List ℕ) (i : ℕ) (o : Option Token) (f g : WktFault) → IsFaultAt bytes i o f → IsFaultAt bytes i o g → f ≡ g
 fault_at_place bytes i None f g a b = a.1 ∙ sym b.1
 fault_at_place bytes i (Some t) f g (inl a) (inl b) = a.1 ∙ sym b.1
@@ -77,7 +77,7 @@ fault_at_place bytes i (Some t) f g (inr a) (inr b) = same_some (sym a.1 ∙ b.1
   same_some : Some f ≡ Some g → f ≡ g
   same_some e = cc
 
--- a fault at a place, and tokens that are good beyond it, leave only the end of the tokens
+-- a fault at a position, and tokens that are good beyond it, leave only the end of the tokens
 earlier : (bytes : List ℕ) (i j : ℕ) (o : Option Token) (f g : WktFault) → i < j → slice_get (tokens_of bytes) i ≡ o → IsFaultAt bytes i o f → IsGoodSoFar (take j (tokens_of bytes)) → IsFaultAt bytes j (slice_get (tokens_of bytes) j) g → f ≡ g
 earlier bytes i j None f g before e a good b =
     a.1 ∙ sym (end_fault (slice_get (tokens_of bytes) j) refl b) where
@@ -111,9 +111,9 @@ has_one_fault bytes f g (inr a) (inr b) =
       same_some : {v w : PlaneFault} → Some v ≡ Some w → v ≡ w
       same_some e = cc
 
-pub read_or_refused : ReadOrRefused
-read_or_refused bytes layer fault reads (inl first) = no_fault_of_text bytes layer fault reads.0 first
-read_or_refused bytes layer fault reads (inr wrong) =
+pub never_both : NeverBoth
+never_both bytes layer fault reads (inl first) = no_fault_of_text bytes layer fault reads.0 first
+never_both bytes layer fault reads (inr wrong) =
     clash (sym reads.1 ∙ ap rings_fault (wkt_once bytes layer wrong.0 reads.0 wrong.2) ∙ wrong.3) where
       clash : {v : PlaneFault} → ◌≡◌ {A = Option PlaneFault} None (Some v) → ⊥
       clash e = cc

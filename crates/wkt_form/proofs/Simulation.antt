@@ -11,8 +11,8 @@ use Rattle.overlay_terms.specs.Plane.{WholePoint}
 use Rattle.wkt_form.specs.declared.fault.WktFault.{WktFault}
 use Rattle.wkt_form.specs.declared.fault.WktFault.TheVariants as faults
 use Rattle.wkt_form.specs.declared.number.Number.TheVariants.{Whole, Fraction, OutOfRange}
-use Rattle.wkt_form.specs.declared.place.Place.{Place}
-use Rattle.wkt_form.specs.declared.place.Place.TheVariants as places
+use Rattle.wkt_form.specs.declared.state.State.{State}
+use Rattle.wkt_form.specs.declared.state.State.TheVariants as states
 use Rattle.wkt_form.specs.declared.token.Symbol.{Symbol}
 use Rattle.wkt_form.specs.declared.token.Symbol.TheVariants as symbols
 use Rattle.wkt_form.specs.Number.{is_number, is_whole, number_value, is_coordinate}
@@ -47,16 +47,16 @@ is_text_several (polygons ps) = true
 
 -- the reading of a progress, with the first number of a point
 abbrev pub reading_of : Progress → ℤ → Reading
-reading_of nothing z = record { place = places.Start; several = false; first = z; points = []; rings = [] }
-reading_of members z = record { place = places.Members; several = true; first = z; points = []; rings = [] }
-reading_of (polygon_due f) z = record { place = places.Polygon; several = is_several f; first = z; points = []; rings = frame_rings f }
-reading_of (ring_due f rs) z = record { place = places.Ring; several = is_several f; first = z; points = []; rings = rings_so_far f rs }
-reading_of (first_due f rs ps) z = record { place = places.First; several = is_several f; first = z; points = ring_points ps; rings = rings_so_far f rs }
-reading_of (second_due f rs ps x) z = record { place = places.Second; several = is_several f; first = z; points = ring_points ps; rings = rings_so_far f rs }
-reading_of (point_end f rs ps p) z = record { place = places.PointEnd; several = is_several f; first = z; points = ring_points (ps ++ p ∷ []); rings = rings_so_far f rs }
-reading_of (ring_end f rs r) z = record { place = places.RingEnd; several = is_several f; first = z; points = []; rings = rings_so_far f (rs ++ r ∷ []) }
-reading_of (polygon_end ps p) z = record { place = places.PolygonEnd; several = true; first = z; points = []; rings = flat_map polygon_rings (ps ++ p ∷ []) }
-reading_of (whole text) z = record { place = places.End; several = is_text_several text; first = z; points = []; rings = text_rings text }
+reading_of nothing z = record { state = states.Start; several = false; first = z; points = []; rings = [] }
+reading_of members z = record { state = states.Members; several = true; first = z; points = []; rings = [] }
+reading_of (polygon_due f) z = record { state = states.Polygon; several = is_several f; first = z; points = []; rings = frame_rings f }
+reading_of (ring_due f rs) z = record { state = states.Ring; several = is_several f; first = z; points = []; rings = rings_so_far f rs }
+reading_of (first_due f rs ps) z = record { state = states.First; several = is_several f; first = z; points = ring_points ps; rings = rings_so_far f rs }
+reading_of (second_due f rs ps x) z = record { state = states.Second; several = is_several f; first = z; points = ring_points ps; rings = rings_so_far f rs }
+reading_of (point_end f rs ps p) z = record { state = states.PointEnd; several = is_several f; first = z; points = ring_points (ps ++ p ∷ []); rings = rings_so_far f rs }
+reading_of (ring_end f rs r) z = record { state = states.RingEnd; several = is_several f; first = z; points = []; rings = rings_so_far f (rs ++ r ∷ []) }
+reading_of (polygon_end ps p) z = record { state = states.PolygonEnd; several = true; first = z; points = []; rings = flat_map polygon_rings (ps ++ p ∷ []) }
+reading_of (whole text) z = record { state = states.End; several = is_text_several text; first = z; points = []; rings = text_rings text }
 
 -- behind the first number of a point its value is kept
 abbrev pub IsFirst : Progress → ℤ → Type 0
@@ -99,8 +99,8 @@ rings_push f rs r =
     append_assoc (frame_rings f) (map (map point_of) rs) (ring_points r ∷ []) ∙ ap (λ all. frame_rings f ++ all) (sym (map-append (map point_of) rs (r ∷ [])))
 
 -- a reading by its parts
-abbrev with_rings : Place → Bool → ℤ → List WholePoint → List (List WholePoint) → Result Reading WktFault
-with_rings place b z ps rs = Ok (record { place = place; several = b; first = z; points = ps; rings = rs })
+abbrev with_rings : State → Bool → ℤ → List WholePoint → List (List WholePoint) → Result Reading WktFault
+with_rings state b z ps rs = Ok (record { state = state; several = b; first = z; points = ps; rings = rs })
 
 one_token : (at : Progress) (z : ℤ) (symbol : Symbol) (kind : Kind) (offset : ℕ) → Means symbol kind → IsFirst at z → Answers offset (with_kind at symbol (run_bytes kind)) (symbol_fault offset symbol) (with_token (reading_of at z) (record { at = offset; symbol = symbol }))
 one_token nothing z symbols.Polygon kind offset e i = (z, tt, refl)
@@ -109,25 +109,25 @@ one_token members z symbols.Empty kind offset e i = (z, tt, refl)
 one_token members z symbols.Open kind offset e i = (z, tt, refl)
 one_token (polygon_due one) z symbols.Empty kind offset e i = (z, tt, refl)
 one_token (polygon_due (several ps)) z symbols.Empty kind offset e i =
-    (z, tt, ap (with_rings places.PolygonEnd true z []) (sym (append-nil (flat_map polygon_rings ps)) ∙ polygon_rings_push ps empty))
+    (z, tt, ap (with_rings states.PolygonEnd true z []) (sym (append-nil (flat_map polygon_rings ps)) ∙ polygon_rings_push ps empty))
 one_token (polygon_due one) z symbols.Open kind offset e i = (z, tt, refl)
 one_token (polygon_due (several ps)) z symbols.Open kind offset e i =
-    (z, tt, ap (with_rings places.Ring true z []) (sym (append-nil (flat_map polygon_rings ps))))
+    (z, tt, ap (with_rings states.Ring true z []) (sym (append-nil (flat_map polygon_rings ps))))
 one_token (ring_due f rs) z symbols.Open kind offset e i = (z, tt, refl)
 one_token (first_due f rs ps) z (symbols.Number (Whole w)) kind offset e i = (w, worth_whole (run_bytes kind) w e.2, refl)
 one_token (first_due f rs ps) z (symbols.Number Fraction) kind offset e i = refl
 one_token (first_due f rs ps) z (symbols.Number OutOfRange) kind offset e i = refl
 one_token (second_due f rs ps x) z (symbols.Number (Whole w)) kind offset e i =
-    (z, tt, ap (λ all. with_rings places.PointEnd (is_several f) z all (rings_so_far f rs)) (points_push ps x (run_bytes kind) z w i (worth_whole (run_bytes kind) w e.2)))
+    (z, tt, ap (λ all. with_rings states.PointEnd (is_several f) z all (rings_so_far f rs)) (points_push ps x (run_bytes kind) z w i (worth_whole (run_bytes kind) w e.2)))
 one_token (second_due f rs ps x) z (symbols.Number Fraction) kind offset e i = refl
 one_token (second_due f rs ps x) z (symbols.Number OutOfRange) kind offset e i = refl
 one_token (point_end f rs ps p) z symbols.Comma kind offset e i = (z, tt, refl)
 one_token (point_end f rs ps p) z symbols.Close kind offset e i =
-    (z, tt, ap (with_rings places.RingEnd (is_several f) z []) (rings_push f rs (ps ++ p ∷ [])))
+    (z, tt, ap (with_rings states.RingEnd (is_several f) z []) (rings_push f rs (ps ++ p ∷ [])))
 one_token (ring_end f rs r) z symbols.Comma kind offset e i = (z, tt, refl)
 one_token (ring_end one rs r) z symbols.Close kind offset e i = (z, tt, refl)
 one_token (ring_end (several ps) rs r) z symbols.Close kind offset e i =
-    (z, tt, ap (with_rings places.PolygonEnd true z []) (polygon_rings_push ps (rings (rs ++ r ∷ []))))
+    (z, tt, ap (with_rings states.PolygonEnd true z []) (polygon_rings_push ps (rings (rs ++ r ∷ []))))
 one_token (polygon_end ps p) z symbols.Comma kind offset e i = (z, tt, refl)
 one_token (polygon_end ps p) z symbols.Close kind offset e i = (z, tt, refl)
 one_token at z (symbols.Number (Whole w)) kind offset e i = refl

@@ -25,9 +25,9 @@ text_of (RingShort ring) = codes "ring " ++ (decimal ring ++ codes " short")
 text_of TooManySegments = codes "too many segments"
 text_of OutOfMemory = codes "out of memory"
 
--- a fault of the rings as a fault of their text; a coordinate out of range has a place in the text, and is no fault of rings
+-- a fault of the rings as a fault of their text; rings have points in range, so that a coordinate is none of them
 abbrev pub of_rings : PlaneFault → WktFault
-of_rings plane.CoordRange = OutOfMemory
+of_rings plane.CoordRange = CoordRange 0
 of_rings (plane.RingOpen ring) = RingOpen ring
 of_rings (plane.RingShort ring) = RingShort ring
 of_rings plane.TooManySegments = TooManySegments

@@ -1,5 +1,5 @@
 -- What holds of all texts: each has one meaning or one fault, and what is written of a layer is read as it.
-use Rattle.std.specs.Prelude.{◌≡◌, ℕ, List, None}
+use Rattle.std.specs.Prelude.{◌≡◌, ◌⊎◌, ℕ, List, None}
 use Rattle.std.specs.List.{All}
 use Rattle.overlay_terms.specs.Plane.{WholePoint, InRange}
 use Rattle.plane_base.specs.BaseLayer.{rings_fault}
@@ -16,8 +16,13 @@ abbrev pub HasOneFault : Type 0
 HasOneFault = (bytes : List ℕ) (f g : WktFault) → IsRefusedBy bytes f → IsRefusedBy bytes g → f ≡ g
 
 -- no bytes are both read and refused
+abbrev pub NeverBoth : Type 0
+NeverBoth = (bytes : List ℕ) (layer : List (List WholePoint)) (fault : WktFault) → ReadsAs bytes layer → ¬ (IsRefusedBy bytes fault)
+
+-- all bytes are read or refused
 abbrev pub ReadOrRefused : Type 0
-ReadOrRefused = (bytes : List ℕ) (layer : List (List WholePoint)) (fault : WktFault) → ReadsAs bytes layer → IsRefusedBy bytes fault → ⊥
+ReadOrRefused =
+    (bytes : List ℕ) → ((layer : List (List WholePoint)) × ReadsAs bytes layer) ⊎ ((fault : WktFault) × IsRefusedBy bytes fault)
 
 -- both coordinates of each point of the rings are in range
 abbrev pub AreInRange : List (List WholePoint) → Type 0

@@ -5,6 +5,6 @@ pub mod Grammar
 pub mod Spelling
 pub mod Symbol
 pub mod Seen
-pub mod Place
+pub mod State
 pub mod Reading
 pub mod Laws

@@ -59,7 +59,9 @@ impl From<PlaneFault> for WktFault {
             PlaneFault::RingOpen(ring) => WktFault::RingOpen(ring),
             PlaneFault::RingShort(ring) => WktFault::RingShort(ring),
             PlaneFault::TooManySegments => WktFault::TooManySegments,
-            PlaneFault::CoordRange | PlaneFault::OutOfMemory => WktFault::OutOfMemory,
+            // The points of rings are in range, so this is none of their faults.
+            PlaneFault::CoordRange => WktFault::CoordRange(0),
+            PlaneFault::OutOfMemory => WktFault::OutOfMemory,
         }
     }
 }

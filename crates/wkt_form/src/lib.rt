@@ -5,11 +5,15 @@ mod coordinate;
 pub mod fault;
 pub mod laws;
 mod number;
-mod place;
 mod point;
 mod reader;
 pub mod reading;
+mod state;
 #[cfg(test)]
 mod tests;
 mod token;
 pub mod writing;
+
+pub use fault::WktFault;
+pub use reading::read_wkt;
+pub use writing::write_wkt;

@@ -5,8 +5,8 @@ ghost use Rattle.wkt_form.specs.Reading.{Reading};
 
 use crate::coordinate::Coordinate;
 use crate::fault::WktFault;
-use crate::place::{Place, next_place};
 use crate::point::{point, whole_at};
+use crate::state::{State, next_state};
 use crate::token::{Symbol, Token};
 use plane_base::base_layer::Ring;
 use plane_base::point::Pt;
@@ -17,7 +17,7 @@ use std::mem;
 /// The rings so far, and what the next token is read by.
 #[derive(Drop)]
 pub struct Reader {
-    place: Place,
+    state: State,
     /// Whether the text is a `MULTIPOLYGON` of some polygons.
     several: bool,
     /// The first number of the point that is being read.
@@ -29,19 +29,19 @@ pub struct Reader {
 impl Model for Reader {
     ghost Value = { Reading };
 
-    ghost view = { λ r. record { place = r.place; several = r.several; first = r.first; points = r.points.items; rings = r.rings.items } };
+    ghost view = { λ r. record { state = r.state; several = r.several; first = r.first; points = r.points.items; rings = r.rings.items } };
 }
 
 impl Reader {
     ghost use Rattle.std.specs.Prelude.{◌≡◌, ◌⊎◌, ◌++◌, ◌∷◌, [], ℤ, Ok, Err, OnOk, IfOk, IfErr, IfSome, IfNone, pos, ◌≢◌};
     ghost use Rattle.wkt_form.specs.Reading.{Reading, with_token, with_symbol, with_number, with_close, nothing_read};
-    ghost use Rattle.wkt_form.specs.declared.place.Place.TheVariants as places;
+    ghost use Rattle.wkt_form.specs.declared.state.State.TheVariants as states;
 
     pub fn new(alloc: Global) -> Reader
         ensures { result ≡ nothing_read }
     {
         Reader {
-            place: Place::Start,
+            state: State::Start,
             several: false,
             first: Coordinate::ZERO,
             points: Vec::new(alloc),
@@ -55,9 +55,9 @@ impl Reader {
         ensures err { IfErr result (λ fault. (fault ≡ WktFault.OutOfMemory) ⊎ (with_token self.old token ≡ Err fault)) }
     {
         let stuck = WktFault::Syntax(token.at);
-        let place = next_place(self.place, self.several, token.symbol).ok_or(stuck)?;
+        let state = next_state(self.state, self.several, token.symbol).ok_or(stuck)?;
         self.add(alloc, token)?;
-        self.place = place;
+        self.state = state;
         Ok(())
     }
 
@@ -79,8 +79,8 @@ impl Reader {
     fn add_number(&mut self, value: Coordinate) -> Result<(), AllocError>
         ensures { OnOk result (self.new ≡ with_number self.old value) }
     {
-        match self.place {
-            Place::First => self.first = value,
+        match self.state {
+            State::First => self.first = value,
             _ => self.points.push(point(self.first, value))?,
         }
         Ok(())
@@ -90,7 +90,7 @@ impl Reader {
     fn close(&mut self, alloc: Global) -> Result<(), AllocError>
         ensures { OnOk result (self.new ≡ with_close self.old) }
     {
-        if let Place::PointEnd = self.place {
+        if let State::PointEnd = self.state {
             let points = mem::replace(&mut self.points, Vec::new(alloc));
             self.rings.push(Ring::new(points))?;
         }
@@ -99,11 +99,11 @@ impl Reader {
 
     /// The rings, if the text is whole.
     pub fn into_rings(self) -> Option<Vec<Ring>>
-        ensures some { IfSome result (λ rings. (self.place ≡ places.End) × (rings.items ≡ self.rings)) }
-        ensures none { IfNone result (self.place ≢ places.End) }
+        ensures some { IfSome result (λ rings. (self.state ≡ states.End) × (rings.items ≡ self.rings)) }
+        ensures none { IfNone result (self.state ≢ states.End) }
     {
-        match self.place {
-            Place::End => Some(self.rings),
+        match self.state {
+            State::End => Some(self.rings),
             _ => None,
         }
     }

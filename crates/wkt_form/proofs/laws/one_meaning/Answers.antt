@@ -1,5 +1,5 @@
-use Rattle.wkt_form.proofs.OneMeaning.{spells_one_layer, has_one_fault, read_or_refused}
+use Rattle.wkt_form.proofs.OneMeaning.{spells_one_layer, has_one_fault, never_both}
 use Rattle.wkt_form.proofs.laws.one_meaning.Goals as goal
 
 pub returns : goal.returns
-returns c = record { layer = spells_one_layer; fault = has_one_fault; not_both = read_or_refused }
+returns c = record { layer = spells_one_layer; fault = has_one_fault; never_both = never_both }
