@@ -1,6 +1,6 @@
 -- Base layers one after another, and what they make of an input.
-use Rattle.std.specs.Prelude.{◌≡◌, ℕ, ◌+◌, ◌<◌, ◌≤◌, Bool, true, false, IsTrue, None, List, [], ◌∷◌, ◌++◌, length, map, get_or, take, All, Contains}
-use Rattle.std.proofs.Common.{refl, ap, sym, subst, ◌∙◌, cond, arith, append_assoc, append-nil, take_all, Bor}
+use Rattle.std.specs.Prelude.{◌≡◌, ℕ, ◌+◌, ◌<◌, ◌≤◌, None, List, [], ◌∷◌, ◌++◌, length, map, get_or, take, All, Contains}
+use Rattle.std.proofs.Common.{ap, sym, subst, ◌∙◌, arith, append_assoc, append-nil, take_all, Bor}
 use Rattle.std.proofs.lemmas.List.{map_more, length-map, length-take-le}
 use Rattle.std.proofs.lemmas.List.Elements.{All-append, All-push, All-map, All-contains, Contains-get_or, filter-append}
 use Rattle.overlay_terms.specs.Plane.{WholePoint, segments_of}

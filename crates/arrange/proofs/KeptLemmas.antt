@@ -1,5 +1,5 @@
 -- The segments with a point in a column, one more at a time.
-use Rattle.std.specs.Prelude.{◌≡◌, ℕ, zero, suc, ◌+◌, ◌<◌, pos, ◌+ℤ◌, true, false, List, [], ◌∷◌, ◌++◌, map, take, get_or, length, All}
+use Rattle.std.specs.Prelude.{◌≡◌, ℕ, ◌+◌, ◌<◌, pos, ◌+ℤ◌, true, false, List, [], ◌∷◌, ◌++◌, map, take, get_or, length, All}
 use Rattle.std.proofs.Common.{ap, sym, ◌∙◌, cond, arith, append_assoc, append-nil, subst}
 use Rattle.std.proofs.lemmas.Int.{ints}
 use Rattle.std.proofs.lemmas.List.{map_more, map-append}

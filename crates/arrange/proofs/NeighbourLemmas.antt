@@ -1,19 +1,13 @@
 -- Neighbours among the places along a segment of the input are the ends of a piece.
-use Rattle.std.proofs.Common.{◌≡◌, ◌≢◌, ℕ, ℤ, pos, ◌+◌, ◌<◌, ◌≤◌, ◌-ℤ◌, ◌*ℤ◌, ◌<ℤ◌, ◌≤ℤ◌, ◌⊎◌, inl, inr, int_le, List, length, get_or, refl, sym, ◌∙◌, subst, arith}
+use Rattle.std.proofs.Common.{◌≡◌, ◌≢◌, ℕ, ℤ, pos, ◌+◌, ◌<◌, ◌≤◌, ◌*ℤ◌, ◌<ℤ◌, ◌⊎◌, inl, inr, int_le, List, length, get_or, refl, sym, ◌∙◌, subst, arith}
 use Rattle.std.specs.Prelude.{IsTrue, Contains}
-use Rattle.std.proofs.lemmas.Int.{ints, by_lt_z}
 use Rattle.std.proofs.lemmas.Bool.{and_parts, and_from, cases_lt, cases_eq}
-use Rattle.std.proofs.Math.IntN.{*ℤ_comm}
 use Rattle.std.proofs.lemmas.List.{get_or_read}
 use Rattle.std.specs.declared.cmp.Ordering.TheVariants.{Less}
 use Rattle.overlay_terms.specs.Plane.{Point, Segment, point_cmp, same_place}
 use Rattle.overlay_terms.specs.Column.{border}
 use Rattle.overlay_terms.specs.Tiles.{IsPiece, Input}
-use Rattle.overlay_terms.proofs.Difference.{split, differences, same, mul_mono}
-use Rattle.overlay_terms.proofs.Ratios.{mul_less}
 use Rattle.overlay_terms.proofs.InputNumbers.{le_true, true_le, x_in_order, least_through, most_through}
-use Rattle.exact_point.proofs.Lexical.{Forward}
-use Rattle.exact_point.proofs.OnLine.{forward_from_less}
 use Rattle.exact_point.proofs.PlaceOrder.{alike_left, alike_right, not_before_self, same_self, not_after_less}
 use Rattle.arrange.specs.Arrangement.{segments_in, is_in_closed_column}
 use Rattle.arrange.specs.NamedPlaces.{spot, names_along, IsFound, AreAlong}

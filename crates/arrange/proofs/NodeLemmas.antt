@@ -1,32 +1,22 @@
 -- The places that are found along a segment are its nodes.
-use Rattle.std.proofs.Common.{◌≡◌, ◌≢◌, ℕ, ℤ, pos, ◌+◌, ◌<◌, ◌-ℤ◌, ◌*ℤ◌, ◌<ℤ◌, ◌≤ℤ◌, int_le, Bool, true, false, not, ◌&&◌, ◌||◌, ◌⊎◌, inl, inr, List, refl, ap, sym, ◌∙◌, subst, lit<, arith}
+use Rattle.std.proofs.Common.{◌≡◌, ◌≢◌, ℕ, ℤ, pos, ◌+◌, ◌<◌, ◌*ℤ◌, ◌<ℤ◌, ◌≤ℤ◌, int_le, ◌⊎◌, inl, inr, List, refl, ap, sym, ◌∙◌, subst, lit<, arith}
 use Rattle.std.specs.Prelude.{IsTrue, Any, Contains, flat_map}
-use Rattle.std.specs.List.{list_any}
 use Rattle.std.proofs.lemmas.Int.{ints, by_lt_z}
-use Rattle.std.proofs.lemmas.Bool.{cases_eq, or_cases, and_parts, not-true, both_ways}
+use Rattle.std.proofs.lemmas.Bool.{cases_eq, and_parts}
 use Rattle.std.proofs.lemmas.List.Elements.{Contains-append_left, Contains-append_right}
-use Rattle.std.proofs.lemmas.List.Folds.{Any-from_list_any}
 use Rattle.std.proofs.lemmas.List.FromFn.{get_or-range_with_len, length-range_with_len}
-use Rattle.std.proofs.Math.IntN.{*ℤ_comm, zero-*ℤ}
-use Rattle.std.specs.Ordering.{int_eq}
-use Rattle.std.proofs.lemmas.Bool.Decides.{Decides-int_eq}
 use Rattle.std.specs.declared.cmp.Ordering.TheVariants.{Less}
-use Rattle.overlay_terms.specs.Plane.{Point, Segment, whole, whole_cmp, same_place, is_on}
+use Rattle.overlay_terms.specs.Plane.{Point, Segment, whole, whole_cmp, same_place}
 use Rattle.overlay_terms.specs.Column.{border, columns, column_count}
-use Rattle.overlay_terms.specs.Tiles.{is_end, is_crossing, is_on_border, is_parallel, is_vertical, Input}
-use Rattle.overlay_terms.proofs.Ratios.{mul_less}
+use Rattle.overlay_terms.specs.Tiles.{Input}
 use Rattle.overlay_terms.proofs.InputNumbers.{le_true, most_back, between_from_on}
-use Rattle.overlay_terms.proofs.Lists.{any_contains, in_flat_map}
-use Rattle.exact_point.proofs.Signs.{zero_factor}
-use Rattle.exact_point.proofs.Lexical.{Forward, NotBack}
-use Rattle.exact_point.proofs.OnSegment.{reached, leads}
+use Rattle.overlay_terms.proofs.Lists.{in_flat_map}
 use Rattle.exact_point.proofs.BorderLemmas.{one_over_x}
-use Rattle.exact_point.specs.Crossing.{turn_of}
 use Rattle.exact_point.specs.PointName.{IsPlaceOf, IsCutOf}
 use Rattle.exact_point.specs.declared.point_name.PointName.{PointName}
 use Rattle.exact_point.specs.declared.point_name.PointName.TheVariants.{Vertex, Cross, Border}
-use Rattle.exact_point.proofs.OnLine.{parallel_through, turn_from_parallel, left_on_line, right_on_line, on_line}
-use Rattle.exact_point.proofs.PlaceOrder.{same_turned, level_from}
+use Rattle.exact_point.proofs.OnLine.{left_on_line, right_on_line, on_line}
+use Rattle.exact_point.proofs.PlaceOrder.{same_turned}
 use Rattle.exact_point.proofs.Nodes.{NodeCause, at_left, at_right, across, over_border, node_cause}
 use Rattle.arrange.specs.Arrangement.{segments_in, IsNodeOn}
 use Rattle.arrange.specs.NamedPlaces.{spot, own_names, names_with, names_along, AreFound}

@@ -1,29 +1,26 @@
 -- The places that the names along a known segment stand for are nodes.
-use Rattle.std.proofs.Common.{◌≡◌, ℕ, ℤ, pos, ◌+◌, ◌<◌, ◌-ℤ◌, ◌*ℤ◌, ◌<ℤ◌, true, false, not, ◌&&◌, ◌||◌, ◌⊎◌, inl, inr, List, [], ◌∷◌, map, get_or, suc, ap, sym, ◌∙◌, subst, arith}
+use Rattle.std.proofs.Common.{◌≡◌, ℕ, ℤ, pos, ◌+◌, ◌<◌, ◌-ℤ◌, ◌*ℤ◌, ◌<ℤ◌, true, false, ◌&&◌, ◌||◌, ◌⊎◌, inl, inr, List, [], ◌∷◌, map, get_or, suc, ap, sym, ◌∙◌, subst, arith}
 use Rattle.std.specs.Prelude.{IsTrue, All, Any, Contains, flat_map}
-use Rattle.std.specs.List.{list_any, AllPairs}
+use Rattle.std.specs.List.{AllPairs}
 use Rattle.std.proofs.lemmas.Int.{ints}
-use Rattle.std.proofs.lemmas.Bool.{or_cases, or_left, or_right, and_parts, and_from, not_from_false, false_from_ne_true, both_ways}
+use Rattle.std.proofs.lemmas.Bool.{or_cases, or_left, or_right, and_parts, false_from_ne_true, both_ways}
 use Rattle.std.proofs.lemmas.List.Elements.{Contains-append_cases, All-contains, All-map, All-weaker}
 use Rattle.std.proofs.lemmas.List.Kept.{AllPairs-cons}
-use Rattle.std.proofs.Math.IntN.{*ℤ_comm}
 use Rattle.overlay_terms.specs.TileLaws.{IsInput, IsProper}
 use Rattle.overlay_terms.proofs.Lists.{any_from, any_contains, Contains-cons_cases, from_flat_map, contains_map}
 use Rattle.overlay_terms.proofs.PointOrder.{same_points}
 use Rattle.overlay_terms.proofs.InputNodes.{border_node}
 use Rattle.exact_point.specs.PlaceOf.{place_of}
 use Rattle.exact_point.proofs.OnLine.{parallel_through, parallel_line, between_on, after_left, before_right, on_line, left_on_line, turn_from_parallel, parallel_from_turn, no_turn_back}
-use Rattle.exact_point.proofs.PlaceOrder.{one_positive, same_turned, same_through, level_from, level_test, same_self}
+use Rattle.exact_point.proofs.PlaceOrder.{one_positive, same_turned, same_through, level_from, same_self}
 use Rattle.exact_point.proofs.Nodes.{wide_too, node_at_end, end_among, crossing_is_node}
 use Rattle.arrange.proofs.SortedPlaces.{spot_positive}
 use Rattle.std.proofs.lemmas.List.Folds.{Any-from_list_any, list_any-from_Any}
-use Rattle.std.proofs.lemmas.List.FromFn.{get_or-range_with_len, length-range_with_len}
-use Rattle.std.specs.Ordering.{int_eq}
 use Rattle.std.specs.declared.cmp.Ordering.TheVariants.{Less}
 use Rattle.overlay_terms.specs.Plane.{WholePoint, Point, Segment, whole, whole_cmp, point_cmp, same_place, same_whole, height_over, is_on}
-use Rattle.overlay_terms.specs.Column.{border, columns, column_count}
+use Rattle.overlay_terms.specs.Column.{border}
 use Rattle.overlay_terms.specs.Layers.{Marked}
-use Rattle.overlay_terms.specs.Tiles.{is_node, is_end, is_crossing, is_on_border, is_parallel, is_vertical, Input}
+use Rattle.overlay_terms.specs.Tiles.{is_node, is_end, is_parallel, is_vertical, Input}
 use Rattle.overlay_terms.proofs.Difference.{split, differences, same}
 use Rattle.exact_point.specs.Crossing.{turn_of, IsCrossingOf}
 use Rattle.exact_point.specs.PointName.{HasPlace, IsPlaceOf, IsCutOf}

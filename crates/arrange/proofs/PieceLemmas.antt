@@ -1,9 +1,7 @@
 -- What the middle of a piece says of the segments that hold it, and when two pieces are one.
-use Rattle.std.proofs.Common.{◌≡◌, pos, ◌-ℤ◌, ◌<ℤ◌, Bool, true, false, ◌&&◌, List, refl, sym, ◌∙◌, arith}
+use Rattle.std.proofs.Common.{◌≡◌, pos, ◌<ℤ◌, Bool, true, false, ◌&&◌, List, refl, sym, ◌∙◌}
 use Rattle.std.specs.Prelude.{IsTrue, Contains}
-use Rattle.std.proofs.lemmas.Int.{ints}
 use Rattle.std.proofs.lemmas.Bool.{and_parts, and_from}
-use Rattle.std.proofs.Math.IntN.{*ℤ_comm}
 use Rattle.std.specs.declared.cmp.Ordering.TheVariants.{Less}
 use Rattle.std.specs.Cmp.{both_ways}
 use Rattle.overlay_terms.specs.Plane.{Point, Segment, whole, whole_cmp, point_cmp, same_place, height_over, is_on}
@@ -11,7 +9,7 @@ use Rattle.overlay_terms.specs.Tiles.{is_node, is_parallel, midpoint}
 use Rattle.overlay_terms.proofs.InputNumbers.{middle_positive}
 use Rattle.exact_point.specs.Crossing.{turn_of}
 use Rattle.exact_point.proofs.OnLine.{parallel_line, between_on, within_on, after_left, before_right, on_line, left_on_line, right_on_line, turn_from_parallel, middle_line, middle_after, middle_before, no_turn_back}
-use Rattle.exact_point.proofs.PlaceOrder.{not_after_less, one_positive, same_self, alike_left, alike_right, less_through, not_before_self, Way, before, at, after, way_of, on_same}
+use Rattle.exact_point.proofs.PlaceOrder.{not_after_less, one_positive, alike_left, alike_right, less_through, Way, before, at, after, way_of, on_same}
 use Rattle.exact_point.proofs.Nodes.{right_node, crossing_is_node, left_node}
 
 module _ (s : Segment) (ahead : whole_cmp s.left s.right ≡ Less) (segments : List Segment) (among : Contains segments s) (p r : Point) (hp : pos 0 <ℤ p.w) (hr : pos 0 <ℤ r.w)

@@ -1,6 +1,6 @@
 -- Lists of units as they grow.
 use Rattle.std.proofs.Common.{◌≡◌, ◌+◌, ◌<◌, ◌≤◌, ◌⊎◌, inl, inr, true, ℕ, List, [], ◌∷◌, ◌++◌, length, get_or, map, ap, sym, ◌∙◌, subst, arith}
-use Rattle.std.specs.Prelude.{IsTrue, All, Any, Contains}
+use Rattle.std.specs.Prelude.{IsTrue, Any, Contains}
 use Rattle.std.specs.List.{list_any}
 use Rattle.std.proofs.lemmas.Bool.{and_parts, and_from, cases_eq}
 use Rattle.std.proofs.lemmas.List.{map-append, get_or-map, length-map, get_or_read}
@@ -10,8 +10,6 @@ use Rattle.std.proofs.lemmas.List.Folds.{Any-from_list_any}
 use Rattle.overlay_terms.specs.Plane.{Segment, same_whole}
 use Rattle.overlay_terms.specs.Trees.{mask_bits}
 use Rattle.overlay_terms.specs.Layers.{Marked}
-use Rattle.overlay_terms.specs.Tiles.{Input}
-use Rattle.overlay_terms.specs.TileLaws.{IsInput}
 use Rattle.overlay_terms.proofs.Lists.{contains_map, any_contains}
 use Rattle.overlay_terms.proofs.PointOrder.{same_points}
 use Rattle.arrange.specs.Units.{covers, cover_bits, IsUnit, AreUnits}

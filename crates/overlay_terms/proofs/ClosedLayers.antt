@@ -1,12 +1,10 @@
 -- The segments of base layers are proper, and each whole point is an end of an even number of each layer's segments.
 use Rattle.std.specs.Prelude.{◌≡◌, ℕ, ◌+◌, ◌%◌, ◌==◌, Bool, true, false, ◌&&◌, List, [], ◌∷◌, ◌++◌, map, flat_map, count_by, All}
 use Rattle.std.specs.List.{cons_option, enumerate_from}
-use Rattle.std.specs.Cmp.{IsTotalOrder}
 use Rattle.std.specs.Ordering.{ordering_reverse}
 use Rattle.std.specs.declared.cmp.Ordering.{Ordering}
 use Rattle.std.specs.declared.cmp.Ordering.TheVariants.{Less, Equal, Greater}
 use Rattle.std.proofs.Common.{refl, ap, sym, ◌∙◌, arith}
-use Rattle.std.proofs.lemmas.Cmp.{on_total, then_total, int_cmp_total}
 use Rattle.std.proofs.lemmas.List.Elements.{All-nil, All-cons, All-head, All-tail, All-append, All-map, All-weaker, All-same}
 use Rattle.overlay_terms.specs.Plane.{WholePoint, Segment, whole_cmp, same_whole, segment_between, ring_segments, segments_of, InRange}
 use Rattle.overlay_terms.specs.Layers.{Marked}

@@ -1,7 +1,7 @@
 -- Closed rings leave each whole point an end of an even number of segments.
 use Rattle.std.specs.Prelude.{◌≡◌, ℕ, ◌+◌, ◌%◌, Bool, ◌&&◌, List, [], ◌∷◌, ◌++◌, length, count_by, slice_get, Some}
 use Rattle.std.specs.List.{cons_option}
-use Rattle.std.specs.Ordering.{int_cmp, int_eq, ordering_then}
+use Rattle.std.specs.Ordering.{int_cmp, int_eq}
 use Rattle.std.specs.Cmp.{int_ranked}
 use Rattle.std.specs.declared.cmp.Ordering.{Ordering}
 use Rattle.std.specs.declared.cmp.Ordering.TheVariants.{Less, Equal, Greater}

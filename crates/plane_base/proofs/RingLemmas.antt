@@ -1,9 +1,9 @@
 -- Rings without a fault, whose points are in range, are rings.
-use Rattle.std.specs.Prelude.{◌≡◌, ℕ, ◌+◌, ◌-◌, ◌<◌, ◌≤◌, nat_lt, nat_le, Bool, true, false, List, [], ◌∷◌, ◌++◌, length, slice_get, Option, Some, None, All, if◌then◌else◌}
+use Rattle.std.specs.Prelude.{◌≡◌, ℕ, ◌+◌, ◌-◌, ◌<◌, ◌≤◌, nat_lt, nat_le, Bool, true, false, List, [], ◌∷◌, length, slice_get, Option, Some, None, All, if◌then◌else◌}
 use Rattle.std.proofs.Common.{zero, suc, get_or, take, refl, ap, sym, ◌∙◌, subst, arith}
 use Rattle.std.proofs.lemmas.Bool.{ltb-false}
 use Rattle.std.proofs.lemmas.List.Elements.{All-nil, All-cons, All-head, All-tail, All-more}
-use Rattle.overlay_terms.specs.Plane.{WholePoint, same_whole, ring_step_count}
+use Rattle.overlay_terms.specs.Plane.{WholePoint, ring_step_count}
 use Rattle.overlay_terms.specs.InputLaws.{IsClosed, IsRing}
 use Rattle.overlay_terms.proofs.PointOrder.{same_points}
 use Rattle.overlay_terms.proofs.ClosedRings.{last_of, last_is}

@@ -1,14 +1,9 @@
 -- The layers of an input's segments, for masks of 32 bits, and the masks of a piece.
-use Rattle.std.proofs.Common.{◌≡◌, ℕ, ◌<◌, List, length, map, get_or, ap, sym, subst, ◌∙◌, arith}
-use Rattle.std.proofs.lemmas.List.{get_or-map, length-map}
-use Rattle.std.specs.Prelude.{All}
+use Rattle.std.proofs.Common.{◌≡◌, ℕ, ◌<◌, List, ap, ◌∙◌}
 use Rattle.std.specs.Int.RustNames.{bit_xor}
 use Rattle.overlay_terms.specs.Layers as terms
 use Rattle.overlay_terms.specs.Tiles.{Input, midpoint, below_bits}
 use Rattle.overlay_terms.specs.Trees.{mask_bits}
-use Rattle.overlay_terms.specs.TileLaws.{IsInput}
-use Rattle.arrange.specs.Marked.{marked_of}
-use Rattle.arrange.specs.declared.marked_seg.MarkedSeg.{MarkedSeg}
 use Rattle.arrange.specs.declared.piece.Elementary.{Elementary}
 use Rattle.arrange.specs.Arrangement.{IsElementary}
 use Rattle.exact_point.specs.PlaceOf.{place_of}

@@ -1,5 +1,5 @@
 -- A piece is below a point between its ends by x exactly where the point is above the line of its segment.
-use Rattle.std.proofs.Common.{◌≡◌, ℤ, pos, ◌*ℤ◌, ◌<ℤ◌, sym, ap, ◌∙◌, refl, arith, true, false, Bool, ◌&&◌, not, cond}
+use Rattle.std.proofs.Common.{◌≡◌, ℤ, pos, ◌*ℤ◌, ◌<ℤ◌, sym, ◌∙◌, refl, arith, true, false, Bool, not, cond}
 use Rattle.std.proofs.lemmas.Int.{ints}
 use Rattle.std.proofs.lemmas.Bool.{and_from}
 use Rattle.std.specs.Prelude.{int_lt, int_le, IsTrue}

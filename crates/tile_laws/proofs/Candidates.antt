@@ -1,16 +1,13 @@
 -- A finite list of places that has the place of each node on a segment.
-use Rattle.std.specs.Prelude.{◌≡◌, ◌≢◌, ℕ, ℤ, pos, ◌+ℤ◌, ◌-ℤ◌, ◌*ℤ◌, ◌<ℤ◌, ◌⊎◌, int_lt, Bool, true, false, not, ◌&&◌, ◌||◌, if◌then◌else◌, IsTrue, List, [], ◌∷◌, ◌++◌, map, flat_map, Contains}
-use Rattle.std.specs.List.{list_any}
-use Rattle.std.specs.Ordering.{int_eq}
-use Rattle.std.proofs.Common.{inl, inr, refl, ap, sym, ◌∙◌, lit<, arith}
+use Rattle.std.specs.Prelude.{◌≡◌, ◌≢◌, ℕ, ℤ, pos, ◌+ℤ◌, ◌-ℤ◌, ◌*ℤ◌, ◌<ℤ◌, int_lt, Bool, true, false, if◌then◌else◌, IsTrue, List, [], ◌∷◌, ◌++◌, map, flat_map, Contains}
+use Rattle.std.proofs.Common.{refl, ap, sym, ◌∙◌, lit<, arith}
 use Rattle.std.proofs.lemmas.Int.{ints}
-use Rattle.std.proofs.lemmas.Bool.{or_cases, and_parts, not-true, both_ways}
+use Rattle.std.proofs.lemmas.Bool.{both_ways}
 use Rattle.std.proofs.lemmas.List.Elements.{Contains-append_left, Contains-append_right}
-use Rattle.std.proofs.lemmas.List.Folds.{Any-from_list_any}
 use Rattle.std.specs.declared.cmp.Ordering.TheVariants.{Less}
 use Rattle.overlay_terms.specs.Plane.{Point, Segment, whole, whole_cmp, same_place, is_on}
 use Rattle.overlay_terms.specs.Column.{border, columns}
-use Rattle.overlay_terms.specs.Tiles.{is_parallel, is_vertical, is_end, is_crossing, is_on_border, is_node}
+use Rattle.overlay_terms.specs.Tiles.{is_parallel, is_node}
 use Rattle.overlay_terms.proofs.Difference.{split, differences, same}
 use Rattle.overlay_terms.proofs.InputNumbers.{lt_true}
 use Rattle.exact_point.specs.Crossing.{turn_of, lead_of}
@@ -18,9 +15,9 @@ use Rattle.exact_point.specs.PlaceOf.{part_way, crossing_place, cut_place}
 use Rattle.exact_point.proofs.OnSegment.{reached}
 use Rattle.exact_point.proofs.CrossingLemmas.{one_crossing, turn_back}
 use Rattle.exact_point.proofs.BorderLemmas.{one_over_x, at_border, either_way}
-use Rattle.overlay_terms.proofs.Lists.{any_contains, in_flat_map, contains_map}
-use Rattle.exact_point.proofs.OnLine.{parallel_through, parallel_from_turn, on_line}
-use Rattle.exact_point.proofs.PlaceOrder.{one_positive, level_from, same_turned}
+use Rattle.overlay_terms.proofs.Lists.{in_flat_map, contains_map}
+use Rattle.exact_point.proofs.OnLine.{parallel_from_turn, on_line}
+use Rattle.exact_point.proofs.PlaceOrder.{one_positive, same_turned}
 use Rattle.exact_point.proofs.Nodes.{NodeCause, at_left, at_right, across, over_border, node_cause}
 
 -- the ends of a segment, and where it crosses another

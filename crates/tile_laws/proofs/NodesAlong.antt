@@ -1,14 +1,8 @@
 -- The ends of a segment that is not vertical lie on it.
-use Rattle.std.specs.Prelude.{◌≡◌, ℕ, pos, ◌<◌, ◌*ℤ◌, ◌<ℤ◌, not, ◌&&◌, ◌||◌, IsTrue, List, Contains}
-use Rattle.std.specs.List.{list_any}
-use Rattle.std.specs.Ordering.{int_eq}
-use Rattle.std.proofs.lemmas.Bool.{and_from, or_left, or_right}
+use Rattle.std.specs.Prelude.{◌≡◌, pos, ◌<◌, ◌<ℤ◌, IsTrue}
 use Rattle.std.specs.declared.cmp.Ordering.TheVariants.{Less}
-use Rattle.overlay_terms.specs.Plane.{Point, Segment, whole, same_place, point_cmp, is_on}
-use Rattle.overlay_terms.specs.Column.{border, columns, column_count}
-use Rattle.overlay_terms.specs.Tiles.{is_vertical, is_end, is_crossing, is_on_border, is_node}
+use Rattle.overlay_terms.specs.Plane.{Segment, whole, point_cmp, is_on}
 use Rattle.overlay_terms.proofs.InputNumbers.{less_times, in_order_by_x}
-use Rattle.overlay_terms.proofs.InputLists.{any_from_Contains}
 use Rattle.exact_point.proofs.OnLine.{within_on, left_on_line, right_on_line}
 use Rattle.exact_point.proofs.PlaceOrder.{one_positive, same_self, not_before_self, not_after_less}
 

@@ -1,20 +1,15 @@
 -- A piece is a stretch, and no segment of its list crosses it or ends on it strictly inside.
-use Rattle.std.specs.Prelude.{◌≡◌, ℤ, pos, ◌-ℤ◌, ◌*ℤ◌, ◌<ℤ◌, ◌≤ℤ◌, true, false, not, ◌&&◌, ◌||◌, IsTrue, List, Contains}
-use Rattle.std.specs.List.{list_any}
-use Rattle.std.specs.Ordering.{int_eq}
-use Rattle.std.proofs.Common.{refl, arith, inl, inr}
+use Rattle.std.specs.Prelude.{◌≡◌, ℤ, pos, ◌-ℤ◌, ◌*ℤ◌, ◌<ℤ◌, IsTrue, List, Contains}
+use Rattle.std.proofs.Common.{arith, inl, inr}
 use Rattle.std.proofs.lemmas.Int.{ints}
-use Rattle.std.proofs.Math.IntN.{*ℤ_comm}
-use Rattle.std.proofs.lemmas.Bool.{and_from, or_left, or_right, cases_Bool, not_from_false}
-use Rattle.std.proofs.lemmas.Bool.Decides.{Decides-int_eq}
-use Rattle.overlay_terms.specs.Plane.{Point, Segment, whole, same_place, height_over, is_on}
-use Rattle.overlay_terms.specs.Tiles.{is_parallel, is_end, is_crossing, is_on_border, is_node, IsPiece}
+use Rattle.std.proofs.lemmas.Bool.{cases_Bool}
+use Rattle.overlay_terms.specs.Plane.{Point, Segment, whole, height_over, is_on}
+use Rattle.overlay_terms.specs.Tiles.{is_parallel, is_node, IsPiece}
 use Rattle.overlay_terms.proofs.InputNumbers.{between_from_on, in_order_by_x}
-use Rattle.overlay_terms.proofs.InputLists.{any_from_Contains}
 use Rattle.exact_point.proofs.OnSegment.{reached}
 use Rattle.exact_point.proofs.PlaceOrder.{one_positive}
 use Rattle.exact_point.proofs.ByX.{Left, AtMost, left_after, left_before, at_most_through, left_most, from_whole, to_whole}
-use Rattle.exact_point.proofs.Lines.{width, rise}
+use Rattle.exact_point.proofs.Lines.{width}
 use Rattle.exact_point.specs.Crossing.{turn_of}
 use Rattle.exact_point.proofs.Nodes.{left_node, right_node, crossing_is_node}
 use Rattle.exact_point.proofs.OnLine.{no_turn_back, turn_from_parallel}

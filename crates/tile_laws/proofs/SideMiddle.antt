@@ -15,7 +15,7 @@ use Rattle.exact_point.proofs.PlaceOrder.{one_positive}
 use Rattle.exact_point.proofs.ByX.{Left, AtMost, left_after, left_before, left_most, to_whole}
 use Rattle.exact_point.proofs.Lines.{width, rise, gap, heights_give_gap, flat_gap, gap_at, on_first, on_second}
 use Rattle.exact_point.proofs.OnLine.{right_on_line}
-use Rattle.exact_point.proofs.Signs.{not_positive_times, zero_factor}
+use Rattle.exact_point.proofs.Signs.{not_positive_times}
 use Rattle.exact_point.specs.Crossing.{turn_of}
 use Rattle.tile_laws.proofs.JustRight.{is_over_x, is_under, is_level}
 use Rattle.tile_laws.proofs.SideMeeting.{Stretch, Apart, on_from_level}

@@ -5,7 +5,6 @@ use Rattle.std.proofs.Common.{ap, sym, ◌∙◌, arith}
 use Rattle.std.proofs.lemmas.Int.{ints, by_lt_z}
 use Rattle.std.proofs.Math.IntN.{zero-*ℤ}
 use Rattle.overlay_terms.specs.Plane.{WholePoint, Point, Segment, whole, height_over}
-use Rattle.overlay_terms.proofs.Difference.{mul_pos}
 use Rattle.exact_point.proofs.ByX.{Left, AtMost, le_not}
 use Rattle.exact_point.proofs.Lines.{gap, form_moves, offset, gap_form}
 use Rattle.exact_point.proofs.Signs.{negative_times, not_negative_times, one_sign}
