@@ -1,1 +1,3 @@
 pub mod Label
+pub mod Status
+pub mod Sweep

@@ -1,7 +1,10 @@
 //! What lies under and over each piece of a column.
 #![tactic(auto)]
 
-pub mod all_pairs;
+pub mod counting;
 pub mod labelled;
+pub mod labelling;
+pub mod status;
+pub use labelling::label;
 #[cfg(test)]
 mod tests;

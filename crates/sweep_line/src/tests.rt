@@ -1,5 +1,5 @@
 //! Labels of the pieces of two squares, worked by hand.
-use crate::all_pairs::label;
+use crate::label;
 use crate::labelled::Labelled;
 use arrange::finding_pieces::pieces;
 use arrange::tile_input::TileInput;

@@ -34,6 +34,12 @@ pub mod SideMiddle
 pub mod SideMidpoint
 pub mod SideBits
 pub mod SidesKept
+pub mod UprightSides
+pub mod StepUp
+pub mod Lying
+pub mod EndCounts
+pub mod LeftSide
+pub mod RayLaw
 pub mod ParityLaws
 pub mod AlikeLists
 pub mod Shorter

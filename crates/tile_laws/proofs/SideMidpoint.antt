@@ -15,12 +15,12 @@ mean_times : (a b w v z : ℤ) → ((a *ℤ v) +ℤ (b *ℤ w)) *ℤ z ≡ ((a *
 mean_times a b w v z = rw (split a, split b, split w, split v, split z) (simp differences (same _ _ _ _ (omega arith)))
 
 -- the mean is more than the lesser
-after_by : (a b w v : ℤ) → pos 0 <ℤ w → (a *ℤ v) <ℤ (b *ℤ w) → (a *ℤ (pos 2 *ℤ (w *ℤ v))) <ℤ (((a *ℤ v) +ℤ (b *ℤ w)) *ℤ w)
+pub after_by : (a b w v : ℤ) → pos 0 <ℤ w → (a *ℤ v) <ℤ (b *ℤ w) → (a *ℤ (pos 2 *ℤ (w *ℤ v))) <ℤ (((a *ℤ v) +ℤ (b *ℤ w)) *ℤ w)
 after_by a b w v positive h =
     omega (arith, ints, twice_of a w v, mean_times a b w v w, last_turned a w v, less_times (a *ℤ v) (b *ℤ w) w positive h)
 
 -- the mean is less than the greater
-before_by : (a b w v : ℤ) → pos 0 <ℤ v → (a *ℤ v) <ℤ (b *ℤ w) → (((a *ℤ v) +ℤ (b *ℤ w)) *ℤ v) <ℤ (b *ℤ (pos 2 *ℤ (w *ℤ v)))
+pub before_by : (a b w v : ℤ) → pos 0 <ℤ v → (a *ℤ v) <ℤ (b *ℤ w) → (((a *ℤ v) +ℤ (b *ℤ w)) *ℤ v) <ℤ (b *ℤ (pos 2 *ℤ (w *ℤ v)))
 before_by a b w v positive h =
     omega (arith, ints, twice_of b w v, mean_times a b w v v, last_turned b w v, less_times (a *ℤ v) (b *ℤ w) v positive h)
 
@@ -33,7 +33,7 @@ pub before_second : (p r : Point) → pos 0 <ℤ r.w → Left p r → Left (midp
 before_second p r = before_by p.x r.x p.w r.w
 
 -- the height of the mean is the mean of the heights, times both denominators
-height_of_mean : (d e b x y w u v q : ℤ) → (d *ℤ ((y *ℤ q) +ℤ (v *ℤ w))) -ℤ ((e *ℤ ((x *ℤ q) +ℤ (u *ℤ w))) +ℤ (b *ℤ (pos 2 *ℤ (w *ℤ q)))) ≡ (((d *ℤ y) -ℤ ((e *ℤ x) +ℤ (b *ℤ w))) *ℤ q) +ℤ (((d *ℤ v) -ℤ ((e *ℤ u) +ℤ (b *ℤ q))) *ℤ w)
+pub height_of_mean : (d e b x y w u v q : ℤ) → (d *ℤ ((y *ℤ q) +ℤ (v *ℤ w))) -ℤ ((e *ℤ ((x *ℤ q) +ℤ (u *ℤ w))) +ℤ (b *ℤ (pos 2 *ℤ (w *ℤ q)))) ≡ (((d *ℤ y) -ℤ ((e *ℤ x) +ℤ (b *ℤ w))) *ℤ q) +ℤ (((d *ℤ v) -ℤ ((e *ℤ u) +ℤ (b *ℤ q))) *ℤ w)
 height_of_mean d e b x y w u v q =
     rw (split d, split e, split b, split x, split y, split w, split u, split v, split q, whole_is 2) (simp differences (same _ _ _ _ (omega arith)))
 
@@ -41,7 +41,7 @@ none_of_both : (m n : ℤ) → (pos 0 *ℤ m) +ℤ (pos 0 *ℤ n) ≡ pos 0
 none_of_both m n = omega (arith, ints, zero-*ℤ m, zero-*ℤ n)
 
 -- the height over a line as a form
-as_form : (s : Segment) (q : Point) → height_over s q ≡ (width s *ℤ q.y) -ℤ ((rise s *ℤ q.x) +ℤ (base s *ℤ q.w))
+pub as_form : (s : Segment) (q : Point) → height_over s q ≡ (width s *ℤ q.y) -ℤ ((rise s *ℤ q.x) +ℤ (base s *ℤ q.w))
 as_form s q = height_form s q ∙ ap (λ z. (width s *ℤ q.y) -ℤ z) (line_form s q)
 
 -- on a line that holds both

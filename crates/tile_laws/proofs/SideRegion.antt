@@ -35,12 +35,12 @@ region_even f k marked h =
     even_within is_one f (layer_ends k marked) one_itself (λ u. respects (is_one u)) (respects f) (λ e holds. even_there k e marked (h e holds))
 
 -- ---- the four signs of all segments of a layer
-layered : (b a c d e : Bool) → differ a (differ c (differ d e)) ≡ false → differ (b && a) (differ (b && c) (differ (b && d) (b && e))) ≡ false
+pub layered : (b a c d e : Bool) → differ a (differ c (differ d e)) ≡ false → differ (b && a) (differ (b && c) (differ (b && d) (b && e))) ≡ false
 layered true a c d e h = h
 layered false a c d e h = refl
 
 -- an even number of four, the last two of them even together, leaves the first two alike
-alike_from : (a c d : Bool) → differ a (differ c d) ≡ false → d ≡ false → a ≡ c
+pub alike_from : (a c d : Bool) → differ a (differ c d) ≡ false → d ≡ false → a ≡ c
 alike_from a c d h e = grind (arith, h, e)
 
 module _ (s : Segment) (u v : Point) (marked : List Marked) (k : ℕ) where

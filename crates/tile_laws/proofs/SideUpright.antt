@@ -15,7 +15,7 @@ use Rattle.tile_laws.proofs.SideMeeting.{Stretch, Apart, over_least, over_most}
 use Rattle.tile_laws.proofs.SideStrip.{is_past, strip_parity, past_true, past_false, signs_by_past}
 
 -- ---- over opaque numbers
-upright_level : (d e x y : ℤ) → d ≡ pos 0 → x ≡ pos 0 → (d *ℤ y) -ℤ (e *ℤ x) ≡ pos 0
+pub upright_level : (d e x y : ℤ) → d ≡ pos 0 → x ≡ pos 0 → (d *ℤ y) -ℤ (e *ℤ x) ≡ pos 0
 upright_level d e x y f g = omega (arith, ints, ap (λ z. z *ℤ y) f, zero-*ℤ y, ap (λ z. e *ℤ z) g, *ℤ-zero e)
 
 -- from a vertical line each other one turns

@@ -1,3 +1,4 @@
 pub mod SameTile
 pub mod TileExists
 pub mod LayerTile
+pub mod Rays

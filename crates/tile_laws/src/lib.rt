@@ -4,4 +4,5 @@
 pub mod held_tile;
 pub mod layer_tile;
 pub mod parity;
+pub mod rays;
 pub mod tile_exists;

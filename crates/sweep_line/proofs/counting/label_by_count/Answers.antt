@@ -9,7 +9,7 @@ use Rattle.arrange.specs.declared.piece.Elementary.{Elementary}
 use Rattle.sweep_line.specs.Label.{IsLabelled}
 use Rattle.sweep_line.specs.declared.labelled.Labelled.{Labelled}
 use Rattle.sweep_line.proofs.InputLemmas.{labelled}
-use Rattle.sweep_line.proofs.all_pairs.label.Goals as goal
+use Rattle.sweep_line.proofs.counting.label_by_count.Goals as goal
 
 pub under_mask-under-requires-clause-known : goal.under_mask-under-requires-clause-known
 under_mask-under-requires-clause-known c = c.marked.ensures.few

@@ -3,7 +3,7 @@ use Rattle.std.proofs.Math.Pow.{pow-lt}
 use Rattle.std.specs.Int.RustNames.{bit_xor}
 use Rattle.overlay_terms.specs.Trees.{mask_bits}
 use Rattle.sweep_line.proofs.ParityLemmas.{toggled_bit}
-use Rattle.sweep_line.proofs.all_pairs.toggled.Goals as goal
+use Rattle.sweep_line.proofs.counting.toggled.Goals as goal
 
 small : (x : ℕ) → x < 4294967296 → 1 * x % 4294967296 ≡ x
 small x h = omega arith

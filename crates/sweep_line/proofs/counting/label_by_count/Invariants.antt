@@ -1,7 +1,7 @@
 use Rattle.std.proofs.Common.{◌≡◌, map, take}
 use Rattle.std.specs.Prelude.{All}
 use Rattle.sweep_line.specs.Label.{IsLabelled}
-use Rattle.sweep_line.proofs.all_pairs.label.Given as goal
+use Rattle.sweep_line.proofs.counting.label_by_count.Given as goal
 
 abbrev pub invariant-loop-piece : goal.invariant-loop-piece
 invariant-loop-piece l = record {

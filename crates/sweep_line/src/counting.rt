@@ -1,4 +1,4 @@
-//! Labels by counting over all segments.
+//! Labels by counting over all segments: the plain program beside the sweep.
 ghost use Rattle.std.specs.Prelude.{◌≡◌, ℕ, ◌<◌, map, All, IfOk, if◌then◌else◌, not, ◌==◌};
 ghost use Rattle.overlay_terms.specs.Tiles.{below_bits, midpoint};
 ghost use Rattle.overlay_terms.specs.Trees.{mask_bits};
@@ -18,7 +18,7 @@ use exact_point::point::HPoint;
 use std::alloc::{AllocError, Global};
 
 /// The pieces of an input with their sides, in the order of the pieces.
-pub fn label(
+pub fn label_by_count(
     alloc: Global,
     input: &TileInput,
     pieces: Vec<Elementary>,

@@ -3,7 +3,7 @@ use Rattle.overlay_terms.specs.Tiles.{below_bits, midpoint}
 use Rattle.arrange.specs.Marked.{marked_of}
 use Rattle.exact_point.specs.Place.{place}
 use Rattle.exact_point.specs.PlaceOf.{place_of}
-use Rattle.sweep_line.proofs.all_pairs.under_mask.Goals as goal
+use Rattle.sweep_line.proofs.counting.under_mask.Goals as goal
 
 pub returns : goal.returns
 returns c k l =

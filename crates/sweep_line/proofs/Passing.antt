@@ -1,0 +1,162 @@
+-- What the sweep learns at the left end of a piece: which entries stand under it, and what lies under it.
+use Rattle.std.proofs.Common.{◌≡◌, ℕ, ℤ, zero, suc, pos, ◌+◌, ◌<◌, ◌≤◌, ◌+ℤ◌, ◌-ℤ◌, ◌*ℤ◌, ◌<ℤ◌, ◌≤ℤ◌, neg_ℤ, Bool, true, false, ◌&&◌, ◌||◌, List, [], ◌∷◌, ◌++◌, length, map, filter, take, get_or, inl, inr, ◌⊎◌, refl, ap, sym, subst, ◌∙◌, arith}
+use Rattle.std.specs.Prelude.{int_lt, int_le, IsTrue, All, Any, Contains}
+use Rattle.std.specs.Ordering.{int_eq}
+use Rattle.std.specs.List.{AllPairs, AllWithin}
+use Rattle.std.specs.List.Sorted.{IsPartitionedBy, IsPartitionPoint}
+use Rattle.std.specs.declared.cmp.Ordering.TheVariants.{Less, Equal}
+use Rattle.std.proofs.lemmas.Int.{ints, by_lt_z}
+use Rattle.std.proofs.lemmas.Bool.{and_parts, or_cases, both_ways, true_from_ne_false}
+use Rattle.std.proofs.lemmas.Bool.Decides.{Decides-int_eq}
+use Rattle.std.proofs.lemmas.List.{get_or-take, length-take-le, get_or_default}
+use Rattle.std.proofs.lemmas.List.Elements.{All-map, All-weaker, All-contains, All-filter, All-take, filter_passes, All-from_get_or}
+use Rattle.std.proofs.lemmas.List.Kept.{AllPairs-filter}
+use Rattle.std.proofs.Math.IntN.{zero-*ℤ, *ℤ_comm}
+use Rattle.overlay_terms.specs.Plane.{Point, Segment, point_cmp, same_place, height_over, is_on}
+use Rattle.overlay_terms.specs.Column.{is_in_column}
+use Rattle.overlay_terms.specs.Trees.{mask_bits}
+use Rattle.overlay_terms.specs.Tiles.{Input, midpoint, below_bits, over_bits}
+use Rattle.overlay_terms.specs.TileLaws.{IsInput}
+use Rattle.overlay_terms.proofs.Difference.{split, differences, same, diff-neg}
+use Rattle.overlay_terms.proofs.InputNumbers.{lt_true, true_lt, x_in_order}
+use Rattle.overlay_terms.proofs.InputLists.{Contains-filter, Contains-from_filter}
+use Rattle.overlay_terms.proofs.PlaceLemmas.{places_alike}
+use Rattle.exact_point.specs.Crossing.{turn_of}
+use Rattle.exact_point.specs.Place.{place}
+use Rattle.exact_point.specs.PlaceOf.{place_of}
+use Rattle.exact_point.proofs.Lexical.{Forward, forward}
+use Rattle.arrange.specs.Arrangement.{segments_in, IsElementary, ArePieces, ComesBefore}
+use Rattle.arrange.specs.declared.piece.Elementary.{Elementary}
+use Rattle.tile_laws.proofs.JustRight.{is_over_x, is_under, is_level, is_stretch_over}
+use Rattle.tile_laws.proofs.Statements.{PieceOver}
+use Rattle.tile_laws.proofs.SideMidpoint.{as_form}
+use Rattle.tile_laws.proofs.UprightSides.{height_moves}
+use Rattle.tile_laws.proofs.UnderLemmas.{over_wide}
+use Rattle.tile_laws.proofs.PiecesOver.{each_has_a_piece}
+use Rattle.tile_laws.proofs.Stretches.{IsStretch, stretch_told}
+use Rattle.tile_laws.proofs.Edges.{same_stretch}
+use Rattle.tile_laws.proofs.StepUp.{IsLowerTest, level_tests, AreBelow, step_up, none_below}
+use Rattle.tile_laws.proofs.Lying.{Lies, IsOver, stretches, over_it, other_over, other_level, sides_by}
+use Rattle.exact_point.proofs.Lines.{width, rise, base}
+use Rattle.exact_point.proofs.PlaceOrder.{on_same, same_turned, same_from_equal}
+use Rattle.exact_point.proofs.ByX.{Left, AtMost, left_after, at_most_through}
+use Rattle.exact_point.proofs.Signs.{not_negative_times, negative_times}
+use Rattle.exact_point.proofs.OnLine.{on_line}
+use Rattle.sweep_line.specs.Status.{goes_on, passes_under, is_passed}
+use Rattle.sweep_line.specs.Sweep.{IsEntryOf, StandsUnder, IsSwept}
+use Rattle.sweep_line.specs.declared.status.Entry.{Entry}
+use Rattle.sweep_line.proofs.ListLemmas.{pairs_map, pairs_take, all_first, among_first, image_at}
+
+-- ---- over opaque numbers
+-- a place under one of a line over the same x has a height below 0
+under_height : (h k d w v n m : ℤ) → pos 0 <ℤ w → pos 0 <ℤ d → h *ℤ w ≡ ((k *ℤ v) +ℤ (d *ℤ n)) -ℤ m → k ≡ pos 0 → m ≡ pos 0 → n <ℤ pos 0 → h <ℤ pos 0
+under_height h k d w v n m hw hd e none level low =
+    by_lt_z h (pos 0) (λ l. l)
+    (λ l. absurd (omega (arith, ints, e, level, ap (λ z. z *ℤ v) none, zero-*ℤ v, not_negative_times h w l hw, negative_times n d low hd, *ℤ_comm d n)))
+
+-- a turn, the other way round, and of a segment from itself
+turn_back : (a b c d : ℤ) → (c *ℤ b) -ℤ (d *ℤ a) ≡ neg_ℤ ((a *ℤ d) -ℤ (b *ℤ c))
+turn_back a b c d = rw (split a, split b, split c, split d) (simp (diff-neg, differences) (same _ _ _ _ (omega arith)))
+
+not_both_turns : (x y : ℤ) → x ≡ neg_ℤ y → pos 0 <ℤ x → pos 0 <ℤ y → ⊥
+not_both_turns x y e h k = omega (arith, ints)
+
+own_turn : (a b : ℤ) → (a *ℤ b) -ℤ (b *ℤ a) ≡ pos 0
+own_turn a b = none (a *ℤ b) (b *ℤ a) (*ℤ_comm a b)
+  where
+    none : (x y : ℤ) → x ≡ y → x -ℤ y ≡ pos 0
+    none x y e = omega (arith, ints)
+
+no_product : (e a b : ℤ) → a ≡ b → e *ℤ (a -ℤ b) ≡ pos 0
+no_product e a b h = ap (λ z. e *ℤ z) (none a b h) ∙ *ℤ_comm e (pos 0) ∙ zero-*ℤ e
+  where
+    none : (x y : ℤ) → x ≡ y → x -ℤ y ≡ pos 0
+    none x y e = omega (arith, ints)
+
+-- ---- what passes under a place
+-- it has the place on its line or above
+passes_high : (q : Point) (s t : Segment) → passes_under q s t ≡ true → pos 0 ≤ℤ height_over t q
+passes_high q s t h = by (or_cases (int_lt (pos 0) (height_over t q)) (int_eq (height_over t q) (pos 0) && int_lt (pos 0) (turn_of t s)) h) where
+  flat : (z : ℤ) → z ≡ pos 0 → pos 0 ≤ℤ z
+  flat z e = omega (arith, ints)
+
+  more : (z : ℤ) → pos 0 <ℤ z → pos 0 ≤ℤ z
+  more z e = omega (arith, ints)
+
+  by : (int_lt (pos 0) (height_over t q) ≡ true) ⊎ ((int_eq (height_over t q) (pos 0) && int_lt (pos 0) (turn_of t s)) ≡ true) → pos 0 ≤ℤ height_over t q
+  by (inl k) = more (height_over t q) (lt_true (pos 0) (height_over t q) k)
+  by (inr k) = flat (height_over t q) ((Decides-int_eq (height_over t q) (pos 0)).0 (and_parts (int_eq (height_over t q) (pos 0)) (int_lt (pos 0) (turn_of t s)) k).0)
+
+-- and where it is on the line, the other turns left from it
+passes_turn : (q : Point) (s t : Segment) → passes_under q s t ≡ true → height_over t q ≡ pos 0 → pos 0 <ℤ turn_of t s
+passes_turn q s t h e = by (or_cases (int_lt (pos 0) (height_over t q)) (int_eq (height_over t q) (pos 0) && int_lt (pos 0) (turn_of t s)) h) where
+  no_more : (z : ℤ) → z ≡ pos 0 → pos 0 <ℤ z → ⊥
+  no_more z e k = omega (arith, ints)
+
+  by : (int_lt (pos 0) (height_over t q) ≡ true) ⊎ ((int_eq (height_over t q) (pos 0) && int_lt (pos 0) (turn_of t s)) ≡ true) → pos 0 <ℤ turn_of t s
+  by (inl k) = absurd (no_more (height_over t q) e (lt_true (pos 0) (height_over t q) k))
+  by (inr k) = lt_true (pos 0) (turn_of t s) (and_parts (int_eq (height_over t q) (pos 0)) (int_lt (pos 0) (turn_of t s)) k).1
+
+-- nothing passes under itself where it begins
+pub not_itself : (q : Point) (s : Segment) → height_over s q ≡ pos 0 → passes_under q s s ≡ true → ⊥
+not_itself q s e h = no_more (turn_of s s) (own_turn (width s) (rise s)) (passes_turn q s s h e)
+  where
+    no_more : (z : ℤ) → z ≡ pos 0 → pos 0 <ℤ z → ⊥
+    no_more z e k = omega (arith, ints)
+
+-- which of two numbers is the smaller
+pub data Order (i j : ℕ) : Type 0 where
+  before : i < j → Order i j
+  equal : i ≡ j → Order i j
+  behind : j < i → Order i j
+
+pub order_of : (i j : ℕ) → Order i j
+order_of zero zero = equal refl
+order_of zero (suc j) = before (omega arith)
+order_of (suc i) zero = behind (omega arith)
+order_of (suc i) (suc j) = up (order_of i j)
+  where
+    up : Order i j → Order (suc i) (suc j)
+    up (before h) = before (omega (arith, h))
+    up (equal h) = equal (omega (arith, h))
+    up (behind h) = behind (omega (arith, h))
+
+-- a piece that begins in the column, by its segment
+pub lies : (input : Input) (p : Elementary) → IsElementary input p → Lies input p.support (place_of p.from) (place_of p.to)
+lies input p is = record { piece = is.piece; from_on = is.from_on; to_on = is.to_on }
+
+-- a piece over the x of the left end of another that comes before it does not pass under it
+pub not_known : (input : Input) (e p : Elementary) → IsElementary input e → IsElementary input p → IsOver input p.support (place_of p.from) (place_of p.to) (place_of e.from) → ComesBefore e p → passes_under (place_of e.from) e.support p.support ≡ true → ⊥
+not_known input e p he hp over (inr turned) h =
+    let q : Point = place_of e.from in
+    let from : Point = place_of p.from in
+    let one : IsTrue (same_place q from) = same_from_equal q from he.piece.from_positive hp.piece.from_positive turned.0 in
+    let on : IsTrue (is_on p.support q) = on_same p.support q from he.piece.from_positive hp.piece.from_positive one ∙ hp.from_on in
+    not_both_turns (turn_of p.support e.support) (turn_of e.support p.support) (turn_back (width e.support) (rise e.support) (width p.support) (rise p.support))
+    (passes_turn q e.support p.support h (on_line p.support q on)) turned.1
+not_known input e p he hp over (inl first) h =
+    let q : Point = place_of e.from in
+    let u : Point = place_of p.from in
+    let t : Segment = p.support in
+    let ahead : (q.x *ℤ u.w) ≤ℤ (u.x *ℤ q.w) = x_in_order q u first in
+    let level : q.x *ℤ u.w ≡ u.x *ℤ q.w = one_x (q.x *ℤ u.w) (u.x *ℤ q.w) ahead over.begun in
+    let up : pos 0 <ℤ ((u.y *ℤ q.w) -ℤ (q.y *ℤ u.w)) = by_y (q.x *ℤ u.w) (u.x *ℤ q.w) (q.y *ℤ u.w) (u.y *ℤ q.w) (forward (q.x *ℤ u.w) (u.x *ℤ q.w) (q.y *ℤ u.w) (u.y *ℤ q.w) first) level in
+    let low : height_over t q <ℤ pos 0 =
+    under_height (height_over t q) (height_over t u) (width t) u.w q.w ((q.y *ℤ u.w) -ℤ (u.y *ℤ q.w)) (rise t *ℤ ((q.x *ℤ u.w) -ℤ (u.x *ℤ q.w))) hp.piece.from_positive (over_wide q he.piece.from_positive t (over_it input t u (place_of p.to) q over))
+    (ap (λ z. z *ℤ u.w) (as_form t q) ∙ height_moves (width t) (rise t) (base t) u.x u.y u.w q.x q.y q.w ∙ ap (λ z. ((z *ℤ q.w) +ℤ (width t *ℤ ((q.y *ℤ u.w) -ℤ (u.y *ℤ q.w)))) -ℤ (rise t *ℤ ((q.x *ℤ u.w) -ℤ (u.x *ℤ q.w)))) (sym (as_form t u)))
+    (on_line t u hp.from_on) (no_product (rise t) (q.x *ℤ u.w) (u.x *ℤ q.w) level) (down (q.y *ℤ u.w) (u.y *ℤ q.w) up) in
+    not_low (height_over t q) low (passes_high q e.support t h)
+  where
+    one_x : (a b : ℤ) → a ≤ℤ b → b ≤ℤ a → a ≡ b
+    one_x a b h k = omega (arith, ints)
+
+    by_y : (a b c d : ℤ) → Forward (b -ℤ a) (d -ℤ c) → a ≡ b → pos 0 <ℤ (d -ℤ c)
+    by_y a b c d (inl h) e = absurd (omega (arith, ints, h, e))
+    by_y a b c d (inr h) e = h.1
+
+    down : (a b : ℤ) → pos 0 <ℤ (b -ℤ a) → (a -ℤ b) <ℤ pos 0
+    down a b h = omega (arith, ints)
+
+    not_low : (z : ℤ) → z <ℤ pos 0 → pos 0 ≤ℤ z → ⊥
+    not_low z h k = omega (arith, ints)
+
