@@ -5,16 +5,10 @@ pub mod finding_nodes;
 pub mod finding_pieces;
 pub mod finding_units;
 mod held_piece;
-#[cfg(test)]
-mod input_tests;
 pub mod marked_seg;
 mod masking;
 mod named_place;
 pub mod piece;
-#[cfg(test)]
-mod piece_tests;
 pub mod tile_input;
 pub mod unit;
 mod unit_ends;
-#[cfg(test)]
-mod unit_tests;

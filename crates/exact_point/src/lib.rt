@@ -5,15 +5,9 @@ mod arithmetic;
 pub mod crossing;
 pub mod fault;
 pub mod middle;
-#[cfg(test)]
-mod middle_tests;
 pub mod order;
-#[cfg(test)]
-mod place_tests;
 pub mod point;
 pub mod point_name;
 pub mod query;
 pub mod reducing;
 pub mod side;
-#[cfg(test)]
-mod tests;

@@ -10,12 +10,8 @@ pub mod name_key;
 mod reader;
 pub mod reading;
 pub mod step_list;
-#[cfg(test)]
-mod step_tests;
 pub mod step_value;
 pub mod steps;
-#[cfg(test)]
-mod tests;
 pub mod writing;
 
 pub use expr::{Expr, Node, Operation};

@@ -159,4 +159,3 @@ not_known input e p he hp over (inl first) h =
 
     not_low : (z : ℤ) → z <ℤ pos 0 → pos 0 ≤ℤ z → ⊥
     not_low z h k = omega (arith, ints)
-

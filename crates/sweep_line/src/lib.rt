@@ -5,6 +5,5 @@ pub mod counting;
 pub mod labelled;
 pub mod labelling;
 pub mod status;
+
 pub use labelling::label;
-#[cfg(test)]
-mod tests;

@@ -3,9 +3,5 @@
 
 pub mod building;
 pub mod built;
-#[cfg(test)]
-mod cap_tests;
 pub mod piece;
-#[cfg(test)]
-mod tests;
 pub mod tile;

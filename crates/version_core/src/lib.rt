@@ -10,8 +10,6 @@ pub mod pending_tiles;
 pub mod reporting;
 pub mod restoring;
 pub mod submitting;
-#[cfg(test)]
-mod tests;
 pub mod tiles;
 pub mod verifying;
 pub mod version;

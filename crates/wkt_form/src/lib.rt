@@ -9,8 +9,6 @@ mod point;
 mod reader;
 pub mod reading;
 mod state;
-#[cfg(test)]
-mod tests;
 mod token;
 pub mod writing;
 

@@ -1,15 +1,60 @@
-//! Tables of worked cases.
-use crate::crossing::cross_of;
-use crate::fault::{PointFault, Text};
-use crate::point::HPoint;
-use crate::point_name::PointName;
-use crate::query::QueryPoint;
-use crate::reducing::reduced;
-use crate::side::{below, on, side};
+//! Exact places, worked by hand and with fractions of Python.
+use exact_point::crossing::cross_of;
+use exact_point::fault::PointFault;
+use exact_point::middle::below_middle;
+use exact_point::point::HPoint;
+use exact_point::point_name::PointName;
+use exact_point::query::QueryPoint;
+use exact_point::reducing::reduced;
+use exact_point::side::{below, on, side};
 use plane_base::point::{Pt, Seg};
 use std::cmp::Ordering;
 use std::process::Abort;
-use std::test::Fail;
+
+type Ends = (i64, i64, i64, i64);
+
+/// Two segments, for the place where they cross.
+type Crossing = (Ends, Ends);
+
+const CENTRE: Crossing = (
+    (-1048576, -1048576, 1048576, 1048576),
+    (-1048576, 1048576, 1048576, -1048576),
+);
+
+const UPPER_LEFT: Crossing = (
+    (-1048576, 1048576, 1048576, -1048576),
+    (-1048576, -1048576, -1048576, 1048576),
+);
+
+const LOWER_RIGHT: Crossing = (
+    (-1048576, 1048576, 1048576, -1048576),
+    (1048575, -1048576, 1048576, 1048576),
+);
+
+const LOWER_RIGHT_IN: Crossing = (
+    (-1048576, 1048576, 1048576, -1048576),
+    (1048574, -1048576, 1048576, 1048576),
+);
+
+const LEFT: Crossing = (
+    (-1048576, 1048576, 1048576, -1048576),
+    (-1048576, -1048576, -1048575, 1048576),
+);
+
+const LEFT_IN: Crossing = (
+    (-1048576, 1048576, 1048576, -1048576),
+    (-1048576, -1048576, -1048574, 1048576),
+);
+
+const RIGHT_MIRRORED: Crossing = (
+    (-1048576, 1048576, 1048576, -1048576),
+    (1048575, -1048576, 1048576, 1048575),
+);
+
+const LEFT_MIRRORED: Crossing = (
+    (-1048576, 1048576, 1048576, -1048576),
+    (-1048576, -1048575, -1048575, 1048576),
+);
 
 /// The point with these coordinates.
 fn at(rt: &impl Abort, x: i64, y: i64) -> Pt {
@@ -17,7 +62,7 @@ fn at(rt: &impl Abort, x: i64, y: i64) -> Pt {
 }
 
 /// The segment between the first two numbers and the last two.
-fn seg(rt: &impl Abort, ends: (i64, i64, i64, i64)) -> Seg {
+fn seg(rt: &impl Abort, ends: Ends) -> Seg {
     Seg::of(at(rt, ends.0, ends.1), at(rt, ends.2, ends.3)).expect(rt, "two points")
 }
 
@@ -34,7 +79,7 @@ fn lowest(p: Option<HPoint>) -> Option<(i128, i128, i128)> {
 
 #[test]
 fn segments_cross_at_one_exact_place(rt: HostRuntime) {
-    for (a, b, want) in [
+    for &(a, b, want) in &[
         ((0, 0, 3, 1), (1, -1, 1, 3), Some((3, 1, 3))),
         ((1, -1, 1, 3), (0, 0, 3, 1), Some((3, 1, 3))),
         (
@@ -85,7 +130,7 @@ fn segments_cross_at_one_exact_place(rt: HostRuntime) {
 
 #[test]
 fn a_border_is_named_strictly_between_the_ends(rt: HostRuntime) {
-    for (ends, column, want) in [
+    for &(ends, column, want) in &[
         ((-10, -10, 10, -10), 8, Some((0, -10, 1))),
         ((0, 0, 10, 0), 8, None),
         ((-10, 0, 0, 0), 8, None),
@@ -115,7 +160,7 @@ fn a_border_is_named_strictly_between_the_ends(rt: HostRuntime) {
 #[test]
 fn vertices_and_crossings_have_names(rt: HostRuntime) {
     let (a, b) = (seg(&rt, (0, 0, 3, 1)), seg(&rt, (1, -1, 1, 3)));
-    for (name, want) in [
+    for &(name, want) in &[
         (PointName::Vertex(at(&rt, 5, -7)), Some((5, -7, 1))),
         (PointName::Vertex(at(&rt, 0, 0)), Some((0, 0, 1))),
         (PointName::Cross(a, b), Some((3, 1, 3))),
@@ -127,7 +172,7 @@ fn vertices_and_crossings_have_names(rt: HostRuntime) {
 
 #[test]
 fn points_are_ordered_by_x_and_then_by_y(rt: HostRuntime) {
-    for (p, q, want) in [
+    for &(p, q, want) in &[
         ((2, 2, 4), (1, 1, 2), Ordering::Equal),
         ((1, 1, 2), (1, 0, 1), Ordering::Less),
         ((-1, 0, 3), (-1, 0, 2), Ordering::Greater),
@@ -150,7 +195,7 @@ fn points_are_ordered_by_x_and_then_by_y(rt: HostRuntime) {
 
 #[test]
 fn a_segment_is_below_up_to_its_right_end(rt: HostRuntime) {
-    for (ends, p, want_side, want_below, want_on) in [
+    for &(ends, p, want_side, want_below, want_on) in &[
         ((0, 0, 4, 2), (2, 1, 1), Ordering::Equal, false, true),
         ((0, 0, 4, 2), (2, 2, 1), Ordering::Greater, true, false),
         ((0, 0, 4, 2), (2, 0, 1), Ordering::Less, false, false),
@@ -205,7 +250,7 @@ fn a_segment_is_below_up_to_its_right_end(rt: HostRuntime) {
 
 #[test]
 fn a_query_has_a_denominator_up_to_1024(rt: HostRuntime) {
-    for (x, y, w, good) in [
+    for &(x, y, w, good) in &[
         (0, 0, 1, true),
         (0, 0, 0, false),
         (0, 0, -1, false),
@@ -234,7 +279,7 @@ fn a_query_has_a_denominator_up_to_1024(rt: HostRuntime) {
 
 #[test]
 fn points_are_reduced_to_lowest_terms(rt: HostRuntime) {
-    for (x, y, w, want) in [
+    for &(x, y, w, want) in &[
         (14, 14, 2, (7, 7, 1)),
         (3, 1, 3, (3, 1, 3)),
         (0, 0, 1024, (0, 0, 1)),
@@ -251,10 +296,200 @@ fn points_are_reduced_to_lowest_terms(rt: HostRuntime) {
     }
 }
 
+/// Where two segments cross, in large numbers.
+fn crossing(rt: &impl Abort, two: Crossing) -> HPoint {
+    cross_of(&seg(rt, two.0), &seg(rt, two.1)).expect(rt, "they cross")
+}
+
 #[test]
-fn a_fault_has_its_number_and_text(rt: HostRuntime) -> Result<(), Fail> {
-    let fault = PointFault::PointRange;
-    let line = format!(in rt.alloc(); "error {} {}", fault.code(), Text(fault))?;
-    assert_eq!(rt; line.as_str(), "error 20 point out of range");
-    Ok(())
+fn a_segment_is_below_the_middle_of_two_points(rt: HostRuntime) {
+    for &(ends, from, to, want) in &[
+        ((0, 0, 4, 2), (0, 2, 1), (4, 2, 1), true),
+        ((0, 0, 4, 2), (0, 0, 1), (4, 2, 1), false),
+        ((0, 0, 4, 2), (0, 0, 1), (4, 1, 1), false),
+        ((0, 0, 4, 2), (-2, 4, 1), (2, 4, 1), true),
+        ((0, 0, 4, 2), (-3, 4, 1), (2, 4, 1), false),
+        ((0, 0, 4, 2), (2, 4, 1), (6, 4, 1), false),
+        ((0, 0, 4, 2), (2, 4, 1), (5, 4, 1), true),
+        ((0, 0, 4, 2), (1, 2, 3), (5, 3, 2), true),
+        ((0, 0, 4, 2), (1, -9, 1), (3, 11, 1), false),
+        ((0, 0, 4, 2), (1, -9, 1), (3, 13, 1), true),
+        ((0, 0, 4, 2), (-1, 5, 1024), (1, -5, 1024), false),
+        ((0, 0, 4, 2), (-1, 6, 1024), (1, -5, 1024), true),
+        ((0, 0, 4, 2), (-2, 6, 1024), (1, -5, 1024), false),
+        ((3, 0, 3, 5), (2, 1, 1), (4, 9, 1), false),
+        ((3, 0, 3, 5), (3, 6, 1), (3, 9, 1), false),
+        (
+            (-1048576, -1048576, 1048576, 1048576),
+            (1073741823, 1073741822, 1024),
+            (-1073741823, -1073741822, 1024),
+            false,
+        ),
+        (
+            (-1048576, -1048576, 1048576, 1048576),
+            (1073741823, 1073741822, 1024),
+            (-1072693247, -1072693246, 1023),
+            true,
+        ),
+        (
+            (-1048576, -1048576, 1048576, 1048576),
+            (1073741823, 1073741824, 1024),
+            (-1048576, -1048576, 1),
+            true,
+        ),
+    ] {
+        let segment = seg(&rt, ends);
+        let (p, q) = (
+            point(&rt, from.0, from.1, from.2),
+            point(&rt, to.0, to.1, to.2),
+        );
+        assert_eq!(rt;
+            below_middle(&segment, &p, &q),
+            want,
+            "{ends:?} below {from:?} and {to:?}"
+        );
+        assert_eq!(rt;
+            below_middle(&segment, &q, &p),
+            want,
+            "{ends:?} below {to:?} and {from:?}"
+        );
+    }
+}
+
+#[test]
+fn the_middle_of_two_crossings_is_exact(rt: HostRuntime) {
+    for &(ends, from, to, want) in &[
+        (
+            (-1048576, -1048576, 1048576, -1048576),
+            CENTRE,
+            CENTRE,
+            true,
+        ),
+        ((-1048576, 1048576, 1048576, 1048576), CENTRE, CENTRE, false),
+        (
+            (-1048576, -1048576, 1048576, -1048575),
+            CENTRE,
+            CENTRE,
+            true,
+        ),
+        ((-1048576, -1048576, 0, 1048576), CENTRE, CENTRE, false),
+        ((0, -1048576, 1048576, -1048576), CENTRE, CENTRE, true),
+        ((-1048576, -1048576, 0, -1048576), CENTRE, CENTRE, false),
+        (
+            (-1048576, -1048576, 1048576, 1048576),
+            CENTRE,
+            CENTRE,
+            false,
+        ),
+        ((-1048576, -1048576, 1048576, 1048575), CENTRE, CENTRE, true),
+        (
+            (-1048576, -1048575, 1048576, 1048576),
+            CENTRE,
+            CENTRE,
+            false,
+        ),
+        (
+            (-1048576, -1048576, 1048576, 1048576),
+            UPPER_LEFT,
+            UPPER_LEFT,
+            true,
+        ),
+        (
+            (-1048575, -1048576, 1048576, 1048576),
+            UPPER_LEFT,
+            UPPER_LEFT,
+            false,
+        ),
+        (
+            (-1048576, -1048576, 1048576, 1048576),
+            LOWER_RIGHT,
+            LEFT,
+            false,
+        ),
+        (
+            (-1048576, -1048576, 1048576, 1048576),
+            LOWER_RIGHT_IN,
+            LEFT,
+            true,
+        ),
+        (
+            (-1048576, -1048576, 1048576, 1048576),
+            LOWER_RIGHT,
+            LEFT_IN,
+            false,
+        ),
+        (
+            (-1048576, -1048576, 1048576, 1048575),
+            LOWER_RIGHT,
+            LEFT,
+            true,
+        ),
+        (
+            (-1048576, -1048576, 1048576, 1048575),
+            LOWER_RIGHT,
+            LEFT_IN,
+            false,
+        ),
+        (
+            (-1048576, -1048576, 1048576, 1048575),
+            LOWER_RIGHT_IN,
+            LEFT,
+            true,
+        ),
+        (
+            (-1048576, -1048575, 1048576, 1048576),
+            LOWER_RIGHT,
+            LEFT,
+            false,
+        ),
+        (
+            (-1048576, -1048575, 1048576, 1048576),
+            LOWER_RIGHT_IN,
+            LEFT,
+            true,
+        ),
+        (
+            (-1048576, -1048576, 1048576, 1048576),
+            RIGHT_MIRRORED,
+            LEFT_MIRRORED,
+            false,
+        ),
+        (
+            (-1048576, -1048576, 1048576, 1048575),
+            RIGHT_MIRRORED,
+            LEFT_MIRRORED,
+            true,
+        ),
+        (
+            (0, -5, 1048576, 1048576),
+            RIGHT_MIRRORED,
+            LEFT_MIRRORED,
+            true,
+        ),
+        (
+            (-1048576, -1048576, 0, -5),
+            RIGHT_MIRRORED,
+            LEFT_MIRRORED,
+            false,
+        ),
+        (
+            (-1048576, -1048576, 1, -5),
+            RIGHT_MIRRORED,
+            LEFT_MIRRORED,
+            true,
+        ),
+    ] {
+        let segment = seg(&rt, ends);
+        let (p, q) = (crossing(&rt, from), crossing(&rt, to));
+        assert_eq!(rt;
+            below_middle(&segment, &p, &q),
+            want,
+            "{ends:?} below {from:?} and {to:?}"
+        );
+        assert_eq!(rt;
+            below_middle(&segment, &q, &p),
+            want,
+            "{ends:?} below {to:?} and {from:?}"
+        );
+    }
 }

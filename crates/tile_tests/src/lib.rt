@@ -1,0 +1,17 @@
+//! Tests of the crates from points to versions, by calls that no script reaches.
+#![tactic(auto)]
+
+#[cfg(test)]
+mod arrangement_tests;
+#[cfg(test)]
+mod layer_tests;
+#[cfg(test)]
+mod place_tests;
+#[cfg(test)]
+mod point_tests;
+#[cfg(test)]
+mod testing;
+#[cfg(test)]
+mod tile_tests;
+#[cfg(test)]
+mod version_tests;

@@ -1,0 +1,103 @@
+//! Whole points, segments, columns and base layers, worked by hand.
+use plane_base::base_layer::{BaseLayer, Ring};
+use plane_base::column::{Column, column_of};
+use plane_base::fault::PlaneFault;
+use plane_base::point::{Pt, Seg};
+use std::process::Abort;
+use std::test::Fail;
+
+/// The point with these coordinates.
+fn at(rt: &impl Abort, x: i64, y: i64) -> Pt {
+    Pt::new(x, y).expect(rt, "in range")
+}
+
+#[test]
+fn coordinates_end_at_a_power_of_two(rt: HostRuntime) {
+    for &(x, y, good) in &[
+        (1048576, -1048576, true),
+        (-1048576, 1048576, true),
+        (1048577, 0, false),
+        (-1048577, 0, false),
+        (0, 1048577, false),
+        (0, -1048577, false),
+        (i64::MIN, i64::MAX, false),
+    ] {
+        let want = if good {
+            Ok((x, y))
+        } else {
+            Err(PlaneFault::CoordRange)
+        };
+        assert_eq!(rt; Pt::new(x, y).map(|p| (p.x(), p.y())), want, "at {x} {y}");
+    }
+}
+
+#[test]
+fn a_segment_has_its_left_end_first(rt: HostRuntime) {
+    for &(ax, ay, bx, by, want) in &[
+        (3, 1, 0, 0, Some((0, 0, 3, 1))),
+        (5, 9, 5, -9, Some((5, -9, 5, 9))),
+        (0, 4, 4, 0, Some((0, 4, 4, 0))),
+        (7, 7, 7, 7, None),
+    ] {
+        let seg = Seg::of(at(&rt, ax, ay), at(&rt, bx, by));
+        let got = seg.map(|s| (s.left().x(), s.left().y(), s.right().x(), s.right().y()));
+        assert_eq!(rt; got, want, "from {ax} {ay} to {bx} {by}");
+    }
+}
+
+#[test]
+fn columns_are_counted_from_the_left(rt: HostRuntime) {
+    for &(x, w, want) in &[
+        (1048576, 1, Some(16)),
+        (-1, 3, Some(7)),
+        (1048577, 1, None),
+        (-1048577, 1, None),
+        (-1048576, 1, Some(0)),
+        (131071, 1, Some(8)),
+        (131072, 1, Some(9)),
+        (393215, 3, Some(8)),
+        (9223372036854775808, 8796093022208, Some(16)),
+        (9223372036854775807, 8796093022208, Some(15)),
+    ] {
+        assert_eq!(rt; column_of(x, w).map(|c| c.number()), want, "at {x} / {w}");
+    }
+}
+
+#[test]
+fn a_column_begins_at_its_border(rt: HostRuntime) {
+    for &(number, want) in &[
+        (0, Some(-1048576)),
+        (7, Some(-131072)),
+        (8, Some(0)),
+        (16, Some(1048576)),
+        (17, None),
+        (u64::MAX, None),
+    ] {
+        assert_eq!(rt;
+            Column::new(number).map(|c| c.border()),
+            want,
+            "of {number}"
+        );
+    }
+}
+
+#[test]
+fn equal_points_give_no_segment_and_rings_give_their_points_back(
+    rt: HostRuntime,
+) -> Result<(), Fail> {
+    let mut points = Vec::new(rt.alloc());
+    for &(x, y) in &[(0, 0), (3, 0), (3, 0), (0, 3), (0, 0)] {
+        points.push(at(&rt, x, y))?;
+    }
+    let mut rings = Vec::new(rt.alloc());
+    rings.push(Ring::new(points))?;
+    let layer = BaseLayer::new(rt.alloc(), rings)?;
+    assert_eq!(rt; layer.rings().len(), 1);
+    assert_eq!(rt; layer.rings()[0].points().len(), 5);
+    assert_eq!(rt; layer.segs().len(), 3);
+    assert_eq!(rt;
+        layer.segs().first().copied(),
+        Seg::of(at(&rt, 0, 0), at(&rt, 3, 0))
+    );
+    Ok(())
+}

@@ -1,0 +1,64 @@
+//! Versions by their calls: pending tiles and late results.
+use crate::testing::{SHIFTED, SQUARE, define, input_in, put};
+use layer_book::command::Command;
+use layer_expr::name::Name;
+use std::alloc::Global;
+use std::test::Fail;
+use tile_build::built::Built;
+use version_core::finishing::Finish;
+use version_core::version::Version;
+
+/// The version after a command.
+fn after(alloc: Global, version: Version, change: Command) -> Result<Version, Fail> {
+    Ok(version.submit(alloc, &change)?)
+}
+
+/// The squares A from 0 to 10 and B from 5 to 15.
+fn squares(alloc: Global) -> Result<Version, Fail> {
+    let one = after(alloc, Version::empty(alloc), put(alloc, "A", SQUARE)?)?;
+    after(alloc, one, put(alloc, "B", SHIFTED)?)
+}
+
+/// The same, and I where both are.
+fn overlap(alloc: Global) -> Result<Version, Fail> {
+    let bases = squares(alloc)?;
+    after(alloc, bases, define(alloc, "I", "A & B")?)
+}
+
+/// The tile of I in column 8, from the present layers.
+fn built(alloc: Global, version: &Version) -> Result<Built, Fail> {
+    let input = input_in(alloc, version.layers(), "I", 8)?;
+    Ok(Built::new(alloc, input)?)
+}
+
+/// The version that keeps a tile of I, if the tile is not stale.
+fn with_tile(alloc: Global, version: &Version, tile: Built) -> Result<Option<Version>, Fail> {
+    let name = Name::new(alloc, b"I")?;
+    match version.finish(alloc, &name, tile)? {
+        Finish::Kept(next) => Ok(Some(next)),
+        Finish::Stale => Ok(None),
+    }
+}
+
+#[test]
+fn a_new_layer_has_all_tiles_pending(rt: HostRuntime) -> Result<(), Fail> {
+    let list = overlap(rt.alloc())?.pending(rt.alloc())?;
+    assert_eq!(rt; list.len(), 17);
+    for (index, (name, column)) in list.iter().enumerate() {
+        assert!(rt; name.bytes() == b"I".as_slice());
+        assert_eq!(rt; usize::from(*column), index);
+    }
+    Ok(())
+}
+
+#[test]
+fn a_late_result_is_stale_and_a_fresh_one_is_kept(rt: HostRuntime) -> Result<(), Fail> {
+    let version = overlap(rt.alloc())?;
+    let late = built(rt.alloc(), &version)?;
+    let smaller = put(rt.alloc(), "A", "POLYGON ((0 0, 9 0, 9 9, 0 9, 0 0))")?;
+    let changed = after(rt.alloc(), version, smaller)?;
+    assert!(rt; with_tile(rt.alloc(), &changed, late)?.is_none());
+    let fresh = built(rt.alloc(), &changed)?;
+    assert!(rt; with_tile(rt.alloc(), &changed, fresh)?.is_some());
+    Ok(())
+}
