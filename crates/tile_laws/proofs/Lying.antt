@@ -151,18 +151,18 @@ module _ (input : Input) where
     between =
         by_lt_z (q.x *ℤ z.w) (z.x *ℤ q.w)
         (λ after.
-            let ordered : Left u v = left_after u q v b.lies.piece.from_positive b.positive b.lies.piece.to_positive b.begun b.goes_on in
-            let inside : Left u z = left_after u q z b.lies.piece.from_positive b.positive d.positive b.begun after in
-            let wide = over_wide q a.positive s' (support_over s p r q a) in
-            let from : IsOverX s' q = over_x_told s' q (support_over s p r q a) in
-            let to : IsOverX s' z = over_x_told s' z (other_over s p r z c s' a.lies.piece.from_on a.lies.piece.to_on) in
-            let low : AtMost (whole s'.left) q = begin_by (s'.left.x *ℤ q.w) q.x from.from_left in
-            let high : AtMost z (whole s'.right) = close_by (s'.right.x *ℤ z.w) z.x to.before_right in
-            let begin : AtMost (whole s'.left) z = begin_by (s'.left.x *ℤ z.w) z.x to.from_left in
-            let is_stretch = stretch_of (segments_in input) u v b.lies.piece ordered in
-            let is_apart = apart_of (segments_in input) u v b.lies.piece ordered s' a.lies.piece.among in
-            order_kept t' s' u v is_stretch is_apart wide q z b.positive d.positive b.begun after d.goes_on low high
-            ∙ sym (under_is_above t' s' u v is_stretch is_apart wide z d.positive inside d.goes_on begin high))
+        let ordered : Left u v = left_after u q v b.lies.piece.from_positive b.positive b.lies.piece.to_positive b.begun b.goes_on in
+        let inside : Left u z = left_after u q z b.lies.piece.from_positive b.positive d.positive b.begun after in
+        let wide = over_wide q a.positive s' (support_over s p r q a) in
+        let from : IsOverX s' q = over_x_told s' q (support_over s p r q a) in
+        let to : IsOverX s' z = over_x_told s' z (other_over s p r z c s' a.lies.piece.from_on a.lies.piece.to_on) in
+        let low : AtMost (whole s'.left) q = begin_by (s'.left.x *ℤ q.w) q.x from.from_left in
+        let high : AtMost z (whole s'.right) = close_by (s'.right.x *ℤ z.w) z.x to.before_right in
+        let begin : AtMost (whole s'.left) z = begin_by (s'.left.x *ℤ z.w) z.x to.from_left in
+        let is_stretch = stretch_of (segments_in input) u v b.lies.piece ordered in
+        let is_apart = apart_of (segments_in input) u v b.lies.piece ordered s' a.lies.piece.among in
+        order_kept t' s' u v is_stretch is_apart wide q z b.positive d.positive b.begun after d.goes_on low high
+        ∙ sym (under_is_above t' s' u v is_stretch is_apart wide z d.positive inside d.goes_on begin high))
         (λ back. under_same_x s' t' q z a.positive c.positive (equal (q.x *ℤ z.w) (z.x *ℤ q.w) later back))
       where
         equal : (a b : ℤ) → a ≤ℤ b → b ≤ℤ a → a ≡ b

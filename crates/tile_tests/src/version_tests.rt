@@ -62,3 +62,13 @@ fn a_late_result_is_stale_and_a_fresh_one_is_kept(rt: HostRuntime) -> Result<(),
     assert!(rt; with_tile(rt.alloc(), &changed, fresh)?.is_some());
     Ok(())
 }
+
+#[test]
+fn a_report_raises_the_durable_number_up_to_the_version(rt: HostRuntime) -> Result<(), Fail> {
+    let version = overlap(rt.alloc())?;
+    for &(number, want) in &[(0, 0), (2, 2), (3, 3), (4, 0)] {
+        let reported = version.durable_to(rt.alloc(), number)?;
+        assert_eq!(rt; reported.durable(), want, "after {number}");
+    }
+    Ok(())
+}
