@@ -10,6 +10,8 @@ mod place_tests;
 #[cfg(test)]
 mod point_tests;
 #[cfg(test)]
+mod sweep_tests;
+#[cfg(test)]
 mod testing;
 #[cfg(test)]
 mod tile_tests;

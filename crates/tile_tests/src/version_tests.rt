@@ -8,6 +8,12 @@ use tile_build::built::Built;
 use version_core::finishing::Finish;
 use version_core::version::Version;
 
+const TWO_SQUARES: &str =
+    "MULTIPOLYGON (((0 0, 10 0, 10 10, 0 10, 0 0)), ((-20 0, -10 0, -10 10, -20 10, -20 0)))";
+
+const LEFT_ONE_MOVED: &str =
+    "MULTIPOLYGON (((0 0, 10 0, 10 10, 0 10, 0 0)), ((-21 0, -10 0, -10 10, -21 10, -21 0)))";
+
 /// The version after a command.
 fn after(alloc: Global, version: Version, change: Command) -> Result<Version, Fail> {
     Ok(version.submit(alloc, &change)?)
@@ -70,5 +76,45 @@ fn a_report_raises_the_durable_number_up_to_the_version(rt: HostRuntime) -> Resu
         let reported = version.durable_to(rt.alloc(), number)?;
         assert_eq!(rt; reported.durable(), want, "after {number}");
     }
+    Ok(())
+}
+
+/// The version that keeps the tile of N in a column.
+fn with_column(alloc: Global, version: Version, column: u8) -> Result<Version, Fail> {
+    let input = input_in(alloc, version.layers(), "N", column)?;
+    let tile = Built::new(alloc, input)?;
+    match version.finish(alloc, &Name::new(alloc, b"N")?, tile)? {
+        Finish::Kept(next) => Ok(next),
+        Finish::Stale => Ok(version),
+    }
+}
+
+/// Two squares as M, and N = M with all its tiles.
+fn two_squares_built(alloc: Global) -> Result<Version, Fail> {
+    let one = after(alloc, Version::empty(alloc), put(alloc, "M", TWO_SQUARES)?)?;
+    let mut version = after(alloc, one, define(alloc, "N", "M")?)?;
+    for column in 0..17 {
+        version = with_column(alloc, version, column)?;
+    }
+    Ok(version)
+}
+
+/// How many tiles are pending, and the column of the first.
+fn pending(alloc: Global, version: &Version) -> Result<(usize, Option<u8>), Fail> {
+    let list = version.pending(alloc)?;
+    Ok((list.len(), list.first().map(|tile| tile.1)))
+}
+
+#[test]
+fn a_put_that_changes_one_column_leaves_the_others_built(rt: HostRuntime) -> Result<(), Fail> {
+    let alloc = rt.alloc();
+    let built = two_squares_built(alloc)?;
+    assert_eq!(rt; pending(alloc, &built)?, (0, None));
+    let moved = after(alloc, built, put(alloc, "M", LEFT_ONE_MOVED)?)?;
+    assert_eq!(rt; pending(alloc, &moved)?, (1, Some(7)));
+    let again = after(alloc, moved, define(alloc, "N", "M")?)?;
+    assert_eq!(rt; pending(alloc, &again)?, (1, Some(7)));
+    let other = after(alloc, again, define(alloc, "N", "M & M")?)?;
+    assert_eq!(rt; pending(alloc, &other)?, (17, Some(0)));
     Ok(())
 }
