@@ -81,11 +81,11 @@ fn units_end_at_the_ends_of_collinear_segments(rt: HostRuntime) -> Result<(), Fa
 #[test]
 fn the_nodes_of_two_crossing_squares_are_counted_by_unit(rt: HostRuntime) -> Result<(), Fail> {
     let input = input_of(rt.alloc(), SQUARE, SHIFTED, "A & B", 8)?;
-    let mut counts = [0, 0, 0, 0];
+    let mut counts = [0usize; 4];
     for unit in &units(rt.alloc(), &input)? {
         let count = nodes_on(rt.alloc(), unit, &input)?.len();
         if count < 4 {
-            counts[count] += 1;
+            counts[count] = counts[count].saturating_add(1);
         }
     }
     // four sides are crossed once
