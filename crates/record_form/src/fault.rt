@@ -1,11 +1,14 @@
 //! Why a record is not read.
-ghost use Rattle.std.specs.Prelude.{◌≡◌};
+ghost use Rattle.std.specs.Prelude.{◌≡◌, Some};
 ghost use Rattle.record_form.specs.Answers.{failed_as, told_as};
+ghost use Rattle.record_form.specs.Fault.{code_of, text_of};
 ghost use Rattle.record_form.specs.declared.fault.ReadFault.TheVariants.{Memory};
 
 use layer_expr::fault::ExprFault;
 use std::alloc::{AllocError, AllocFailed};
+use std::fmt;
 use store_terms::damage::Damage;
+use thiserror::Error;
 
 /// Why some bytes of a record are not read.
 #[derive(Clone, Copy)]
@@ -16,10 +19,45 @@ pub(crate) enum ReadFault {
 }
 
 /// Why a record is not read.
-#[derive(Clone, Copy, Debug)]
+#[derive(Clone, Copy, Debug, PartialEq, Eq, Error)]
+#[error("{}", Text(*self))]
 pub enum RecordFault {
+    /// What is wrong with the bytes.
     Damaged(Damage),
     OutOfMemory,
+}
+
+impl RecordFault {
+    /// The number under which the fault is printed.
+    pub fn code(&self) -> u8
+        ensures { result ≡ code_of self.now }
+    {
+        match self {
+            RecordFault::Damaged(damage) => match damage.code() {
+                None => 32,
+                Some(_) => 33,
+            },
+            RecordFault::OutOfMemory => 40,
+        }
+    }
+}
+
+/// The text of a fault, as a reply says it behind the number.
+#[derive(Clone, Copy, Debug)]
+pub struct Text(pub RecordFault);
+
+impl fmt::Display for Text {
+    ghost output = { λ text. Some (text_of text.0) };
+
+    fn fmt<W: fmt::Write>(&self, f: &mut fmt::Formatter<W>) -> fmt::Result {
+        match self.0 {
+            RecordFault::Damaged(damage) => match damage.code() {
+                None => write!(f, "not a store"),
+                Some(code) => write!(f, "damaged {code}"),
+            },
+            RecordFault::OutOfMemory => write!(f, "out of memory"),
+        }
+    }
 }
 
 impl ReadFault {
