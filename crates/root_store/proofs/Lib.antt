@@ -1,0 +1,7 @@
+pub mod Reading
+pub mod Kept
+pub mod Steps
+pub mod Plan
+pub mod Healed
+pub mod Filed
+pub mod Blank

@@ -1,0 +1,28 @@
+-- A new file.
+use Rattle.std.specs.Prelude.{◌≡◌, ℕ, List, [], ◌∷◌, length, take}
+use Rattle.disk_model.specs.Disk.{part}
+use Rattle.store_terms.specs.declared.root.Root.{Root}
+use Rattle.store_terms.specs.Roots.{body_text}
+use Rattle.store_terms.specs.StandsFor.{gate, open_gate, body_at}
+use Rattle.root_store.specs.Kept.{Kept, Rest}
+
+-- the root of a store that holds nothing, and the body that stands beside it
+abbrev pub first_root : Root
+first_root = record { sequence = 0; version = 0; catalog = record { block = 2; size = 2 } }
+
+abbrev pub second_root : Root
+second_root = record { sequence = 1; version = 0; catalog = record { block = 2; size = 2 } }
+
+abbrev pub nothing_kept : Kept
+nothing_kept = record { root = first_root; extents = record { block = 2; size = 2 } ∷ []; held = record { number = 0; layers = []; tiles = [] } }
+
+-- three blocks with both bodies and an empty catalog, whatever the gates
+pub record IsBlank (file : List ℕ) : Type 0 where
+  pub size : length file ≡ 12288
+  pub first : part file (body_at 0) 40 ≡ take 40 (body_text first_root)
+  pub second : part file (body_at 1) 40 ≡ take 40 (body_text second_root)
+  pub catalog : part file 8192 2 ≡ 0 ∷ 0 ∷ []
+
+-- with its first gate open it is a store that holds nothing
+abbrev pub BlankIsAtRest : Type 0
+BlankIsAtRest = (file : List ℕ) → IsBlank file → gate file 0 ≡ open_gate → Rest nothing_kept file

@@ -1,0 +1,37 @@
+-- What opening knows of a file that it has read, and what the completing write makes of it.
+use Rattle.std.specs.Prelude.{◌≡◌, ℕ, ◌+◌, ◌*◌, ◌^◌, ◌<◌, ◌≤◌, List, length, Ok}
+use Rattle.overlay_terms.specs.Commands.{version_max}
+use Rattle.disk_model.specs.Disk.{Holds, Torn}
+use Rattle.store_terms.specs.Places.{block_size}
+use Rattle.store_terms.specs.declared.root.Root.{Root}
+use Rattle.store_terms.specs.Roots.{body_text, ours, sequence_max}
+use Rattle.store_terms.specs.Image.{Held, held_of}
+use Rattle.store_terms.specs.Frame.{extents_of}
+use Rattle.store_terms.specs.StandsFor.{gate, open_gate, body, body_at}
+use Rattle.root_store.specs.Kept.{Kept, own, other, Live, Shut, Rest}
+
+-- a root with what it names in a file
+abbrev pub kept_of : List ℕ → Root → Held → Kept
+kept_of file r held = record { root = r; extents = extents_of file r; held = held }
+
+-- what opening has read of the root that it takes
+pub record IsTaken (file : List ℕ) (r : Root) : Type 0 where
+  pub long : block_size * 2 ≤ length file
+  pub opened : gate file (own r) ≡ open_gate
+  pub spelt : body file (own r) ≡ ours r
+  pub bounded : r.sequence ≤ sequence_max
+  pub numbered : r.version ≤ version_max
+
+-- a root that is taken, and what it holds, is live
+abbrev pub TakenIsLive : Type 0
+TakenIsLive = (file : List ℕ) (r : Root) (held : Held) → IsTaken file r → held_of file r ≡ Ok held → Live (kept_of file r held) file
+
+-- the twin of a root: the next sequence, and the same version and catalog
+abbrev pub twin : Root → Root
+twin r = record { sequence = r.sequence + 1; version = r.version; catalog = r.catalog }
+
+-- the twin's body behind the shut gate, put whole, leaves the store at rest
+abbrev pub TwinHeals : Type 0
+TwinHeals =
+    (x : Kept) (old new : List ℕ) → x.root.sequence < sequence_max → x.root.catalog.block < 2 ^ 64 → x.root.catalog.size < 2 ^ 32 → Shut x old
+    → Torn (body_at (other x.root)) 48 old new → Holds new (body_at (other x.root)) (body_text (twin x.root)) → Rest x new

@@ -1,0 +1,73 @@
+-- What a root names, and what a file has that stands for it, at rest and while a commit is under way.
+use Rattle.std.specs.Prelude.{◌≡◌, ◌≢◌, ◌⊎◌, ℕ, ◌+◌, ◌*◌, ◌%◌, ◌<◌, ◌≤◌, true, List, length, Ok}
+use Rattle.std.specs.List.{AllByRecursion}
+use Rattle.overlay_terms.specs.Commands.{version_max}
+use Rattle.store_terms.specs.declared.root.Extent.{Extent}
+use Rattle.store_terms.specs.declared.root.Root.{Root}
+use Rattle.store_terms.specs.Places.{block_size, is_placed}
+use Rattle.store_terms.specs.Roots.{ours, sequence_max}
+use Rattle.store_terms.specs.Image.{Held, held_of}
+use Rattle.store_terms.specs.Frame.{extents_of}
+use Rattle.store_terms.specs.StandsFor.{gate, open_gate, body, StandsFor}
+
+-- a root with the extents that it names, and what it holds
+pub record Kept : Type 0 where
+  pub root : Root
+  pub extents : List Extent
+  pub held : Held
+
+-- the slot of a root, and the other one
+abbrev pub own : Root → ℕ
+own r = r.sequence % 2
+
+abbrev pub other : Root → ℕ
+other r = (r.sequence + 1) % 2
+
+-- the slot's body is this root, and what it names is there: open the gate, and nothing is missing
+pub record Named (k : ℕ) (x : Kept) (file : List ℕ) : Type 0 where
+  pub long : block_size * 2 ≤ length file
+  pub spelt : body file k ≡ ours x.root
+  pub bounded : x.root.sequence ≤ sequence_max
+  pub numbered : x.root.version ≤ version_max
+  pub parity : x.root.sequence % 2 ≡ k
+  pub extents : extents_of file x.root ≡ x.extents
+  pub placed : AllByRecursion (λ e. is_placed file e ≡ true) x.extents
+  pub holds : held_of file x.root ≡ Ok x.held
+
+-- a root whose gate may come open beside r: an older one, or one that names the same
+pub record Harmless (k : ℕ) (r : Root) (file : List ℕ) : Type 0 where
+  pub root : Root
+  pub spelt : body file k ≡ ours root
+  pub bounded : root.sequence ≤ sequence_max
+  pub numbered : root.version ≤ version_max
+  pub parity : root.sequence % 2 ≡ k
+  pub older : (root.sequence < r.sequence) ⊎ ((root.version ≡ r.version) × (root.catalog ≡ r.catalog))
+
+-- the root is open and whole
+pub record Live (x : Kept) (file : List ℕ) : Type 0 where
+  pub opened : gate file (own x.root) ≡ open_gate
+  pub named : Named (own x.root) x file
+
+-- whatever the other gate holds, the file stands for x
+pub record Rest (x : Kept) (file : List ℕ) : Type 0 where
+  pub live : Live x file
+  pub harmless : Harmless (other x.root) x.root file
+
+-- the other gate is shut, so behind it, and in free blocks, anything may stand
+pub record Shut (x : Kept) (file : List ℕ) : Type 0 where
+  pub live : Live x file
+  pub closed : gate file (other x.root) ≢ open_gate
+
+-- as a store stands between commits; at the last sequence there is no commit more
+abbrev pub Calm : Kept → List ℕ → Type 0
+Calm x file = Rest x file ⊎ (Shut x file × (sequence_max ≤ x.root.sequence))
+
+-- both roots are whole, and the newer one's gate decides
+pub record Ready (x y : Kept) (file : List ℕ) : Type 0 where
+  pub live : Live x file
+  pub named : Named (other x.root) y file
+  pub after : y.root.sequence ≡ x.root.sequence + 1
+
+-- the file stands for one of the two
+abbrev pub Either : Kept → Kept → List ℕ → Type 0
+Either x y file = StandsFor x.held file ⊎ StandsFor y.held file

@@ -1,0 +1,106 @@
+-- What is known of a store between the calls of its disk.
+use Rattle.std.specs.Prelude.{◌≡◌, ◌⊎◌, ℕ, ◌+◌, ◌-◌, ◌<◌, ◌≤◌, Bool, true, false, List, length, drop, Result, IfOk, OnErr}
+use Rattle.std.specs.List.{AllByRecursion}
+use Rattle.disk_model.specs.declared.disk.Disk.{Ghosts}
+use Rattle.disk_model.specs.Moments.{Leaves, LeavesOnly}
+use Rattle.extent_map.specs.declared.extent.Extent as runs
+use Rattle.extent_map.specs.Extents.{IsFree}
+use Rattle.extent_map.specs.Taken.{taken_of}
+use Rattle.store_terms.specs.declared.root.Extent.{Extent}
+use Rattle.store_terms.specs.Places.{blocks}
+use Rattle.store_terms.specs.StandsFor.{gate, open_gate}
+use Rattle.root_store.specs.declared.fault.StoreFault.{StoreFault}
+use Rattle.root_store.specs.declared.fault.StoreFault.TheVariants as faults
+use Rattle.root_store.specs.declared.phase.Phase.{Phase}
+use Rattle.root_store.specs.declared.phase.Phase.TheVariants.{Idle, Close, Settle, Put, Open, Finish, Failed}
+use Rattle.root_store.specs.declared.phase.Progress.{Progress}
+use Rattle.root_store.specs.declared.phase.Progress.TheVariants as progress
+use Rattle.root_store.specs.declared.commit.Commit.{Commit}
+use Rattle.root_store.specs.Kept.{Kept, other, Rest, Shut, Calm, Ready, Either}
+use Rattle.root_store.specs.Planning.{Leads, Spare}
+
+-- what blocks are free of the runs that are taken are free of the extents, and no others
+pub record IsMapOf (extents : List Extent) (taken : List runs.Extent) : Type 0 where
+  pub there : (start need : ℕ) → IsFree taken start need → AllByRecursion (λ e. (start + need ≤ e.block) ⊎ (e.block + blocks e.size ≤ start)) extents
+  pub back : (start need : ℕ) → AllByRecursion (λ e. (start + need ≤ e.block) ⊎ (e.block + blocks e.size ≤ start)) extents → IsFree taken start need
+
+module _ {D : Type 0} (g : Ghosts D) where
+  -- the store stands for x
+  pub record Stands (s : Commit D) (x : Kept) : Type 0 where
+    pub honest : g.is_honest s.disk
+    pub idle : s.phase ≡ Idle
+    pub root : s.root ≡ x.root
+    pub room : IsMapOf x.extents (taken_of s.room.map)
+    pub leaves : Leaves g s.disk (Calm x)
+
+  -- what is known before the call that a phase is named for
+  abbrev pub Before : Phase → Commit D → Kept → Kept → Type 0
+  Before Idle s x y = ⊥
+  Before Close s x y = Leaves g s.disk (Rest x) × ((file : List ℕ) → Shut x file → Leads (Ready x y) (drop s.next s.plan.items) file) × Spare (Shut x) (drop s.next s.plan.items)
+  Before Settle s x y =
+      Leaves g s.disk (Rest x) × (gate (g.seen s.disk) (other x.root) ≡ 0) × ((file : List ℕ) → Shut x file → Leads (Ready x y) (drop s.next s.plan.items) file)
+      × Spare (Shut x) (drop s.next s.plan.items)
+  Before Put s x y = Leaves g s.disk (Shut x) × Leads (Ready x y) (drop s.next s.plan.items) (g.seen s.disk) × Spare (Shut x) (drop s.next s.plan.items)
+  Before Open s x y = Leaves g s.disk (Ready x y)
+  Before Finish s x y = Leaves g s.disk (Ready x y) × (gate (g.seen s.disk) (other x.root) ≡ open_gate)
+  Before Failed s x y = Leaves g s.disk (Either x y)
+
+  -- a commit from x to y is under way
+  pub record Runs (s : Commit D) (x y : Kept) : Type 0 where
+    pub honest : g.is_honest s.disk
+    pub root : s.root ≡ x.root
+    pub next_root : s.next_root ≡ y.root
+    pub next_room : IsMapOf y.extents (taken_of s.next_room.map)
+    pub before : Before s.phase s x y
+
+  -- what a step answers, and where it leaves the store
+  abbrev pub Outcome : Commit D → Progress → Kept → Kept → Type 0
+  Outcome new progress.Idle x y = ⊥
+  Outcome new progress.Going x y = Runs new x y
+  Outcome new (progress.Done number) x y = Stands new y × (number ≡ y.root.version)
+
+  -- a step of a commit from x to y: a stop at any moment of it leaves x or y
+  pub record Stepped (old new : Commit D) (result : Result Progress StoreFault) (x y : Kept) : Type 0 where
+    pub moments : LeavesOnly g old.disk new.disk (Either x y)
+    pub ok : IfOk result (λ p. Outcome new p x y)
+    -- open the disk again
+    pub err : OnErr result (Leaves g new.disk (Either x y) × (new.phase ≡ Failed))
+
+-- whether a commit is under way
+abbrev pub is_busy : Phase → Bool
+is_busy Idle = false
+is_busy Close = true
+is_busy Settle = true
+is_busy Put = true
+is_busy Open = true
+is_busy Finish = true
+is_busy Failed = false
+
+-- the fault that a step answers: that of an earlier call, or the device's
+abbrev pub fault_in : Phase → StoreFault
+fault_in Idle = faults.Device
+fault_in Close = faults.Device
+fault_in Settle = faults.Device
+fault_in Put = faults.Device
+fault_in Open = faults.Device
+fault_in Finish = faults.Device
+fault_in Failed = faults.Failed
+
+-- the device calls that are left until Done
+abbrev pub calls_in : Phase → ℕ → ℕ → ℕ
+calls_in Idle n i = 0
+calls_in Close n i = (n - i) + 5
+calls_in Settle n i = (n - i) + 4
+calls_in Put n i = (n - i) + 3
+calls_in Open n i = 2
+calls_in Finish n i = 1
+calls_in Failed n i = 0
+
+abbrev pub calls_left : {D : Type 0} → Commit D → ℕ
+calls_left s = calls_in s.phase (length s.plan.items) s.next
+
+-- a step leaves one call fewer, and Done is the answer of the last
+abbrev pub Counts : Progress → ℕ → ℕ → Type 0
+Counts progress.Idle old new = (old ≡ 0) × (new ≡ 0)
+Counts progress.Going old new = (old ≡ new + 1) × (0 < new)
+Counts (progress.Done number) old new = (old ≡ 1) × (new ≡ 0)

@@ -1,0 +1,119 @@
+//! A store, and a commit of it, one device call a step.
+ghost use Rattle.std.specs.Prelude.{◌≡◌, ◌↔◌, ◌+◌, ◌*◌, ◌%◌, IfOk, OnErr, IsErrOf, IfErr};
+ghost use Rattle.disk_model.specs.Disk.{Failed};
+ghost use Rattle.root_store.specs.Kept.{Kept};
+ghost use Rattle.root_store.specs.Running.{Runs, Stepped, Counts, calls_left, is_busy, fault_in};
+
+use crate::fault::StoreFault;
+use crate::phase::{Phase, Progress};
+use crate::room::Room;
+use crate::write::Write;
+use disk_model::disk::Disk;
+use std::mem;
+use store_terms::root::Root;
+
+/// The value of a gate that is open, and the one that a commit shuts it with.
+const GATE_OPEN: u8 = 0xA7;
+
+const GATE_CLOSED: u8 = 0;
+
+/// How many bytes a block has.
+const BLOCK: usize = 4096;
+
+/// A store on a disk: its live root with the blocks that it takes, and the commit that is under way.
+#[derive(Drop)]
+pub struct Commit<D: Disk> {
+    pub(crate) disk: D,
+    /// What the file stands for while no commit is under way.
+    pub(crate) root: Root,
+    pub(crate) room: Room,
+    pub(crate) phase: Phase,
+    /// What the file stands for after the commit.
+    pub(crate) next_root: Root,
+    pub(crate) next_room: Room,
+    /// The writes of the commit: records, catalog, body.
+    pub(crate) plan: Vec<Write>,
+    /// How many of them are made.
+    pub(crate) next: usize,
+}
+
+/// Where the gate of the slot stands that the root is not in.
+fn other_gate(root: Root) -> usize
+    ensures { result ≡ 4096 * ((root.sequence + 1) % 2) }
+{
+    if root.sequence % 2 == 0 { BLOCK } else { 0 }
+}
+
+impl<D: Disk> Commit<D> {
+    /// Whether a commit is under way: from the `begin` that was taken to the step that answers `Done` or fails.
+    pub fn busy(&self) -> bool
+        ensures { result ≡ is_busy self.now.phase }
+    {
+        !matches!(self.phase, Phase::Idle | Phase::Failed)
+    }
+
+    /// The disk, as the calls have left it.
+    pub fn into_disk(self) -> D
+        ensures { result ≡ self.disk }
+    {
+        self.disk
+    }
+
+    /// Makes one device call; none where no commit is under way.
+    pub fn step(&mut self) -> Result<Progress, StoreFault>
+        // Where a commit from x to y is under way, a crash at any moment of the call leaves x or y.
+        ensures moves { (x y : Kept) → Runs D.Disk self.old x y → Stepped D.Disk self.old self.new result x y }
+        ensures honest { D.is_honest self.new.disk ↔ D.is_honest self.old.disk }
+        // One device call fewer is left, until Done.
+        ensures counted { IfOk result (λ p. Counts p (calls_left self.old) (calls_left self.new)) }
+        ensures idle { self.old.phase ≡ Phase.Idle → (result ≡ Ok Progress.Idle) × (self.new ≡ self.old) }
+        ensures stuck { self.old.phase ≡ Phase.Failed → (result ≡ Err StoreFault.Failed) × (self.new ≡ self.old) }
+        ensures failed { OnErr result (self.new.phase ≡ Phase.Failed) }
+        ensures errors { IfErr result (λ fault. fault ≡ fault_in self.old.phase) }
+        ensures cause { D.is_honest self.old.disk → IsErrOf result StoreFault.Device → Failed (D.faults self.old.disk) (D.faults self.new.disk) }
+    {
+        match self.phase {
+            Phase::Idle => Ok(Progress::Idle),
+            Phase::Failed => Err(StoreFault::Failed),
+            Phase::Close => {
+                self.phase = Phase::Failed;
+                self.disk.write_at(other_gate(self.root), &[GATE_CLOSED])?;
+                self.phase = Phase::Settle;
+                Ok(Progress::Going)
+            }
+            Phase::Settle => {
+                self.phase = Phase::Failed;
+                self.disk.sync()?;
+                self.phase = Phase::Put;
+                Ok(Progress::Going)
+            }
+            Phase::Put => {
+                self.phase = Phase::Failed;
+                if self.next < self.plan.len() {
+                    let write = &self.plan[self.next];
+                    self.disk.write_at(write.at, &write.bytes)?;
+                    self.next += 1;
+                    self.phase = Phase::Put;
+                } else {
+                    self.disk.sync()?;
+                    self.phase = Phase::Open;
+                }
+                Ok(Progress::Going)
+            }
+            Phase::Open => {
+                self.phase = Phase::Failed;
+                self.disk.write_at(other_gate(self.root), &[GATE_OPEN])?;
+                self.phase = Phase::Finish;
+                Ok(Progress::Going)
+            }
+            Phase::Finish => {
+                self.phase = Phase::Failed;
+                self.disk.sync()?;
+                self.root = self.next_root;
+                mem::swap(&mut self.room, &mut self.next_room);
+                self.phase = Phase::Idle;
+                Ok(Progress::Done(self.root.version))
+            }
+        }
+    }
+}

@@ -1,0 +1,9 @@
+//! A store in a file of two root slots: a crash at any moment leaves the old content or the new one.
+#![tactic(auto)]
+
+pub mod commit;
+pub mod fault;
+pub mod laws;
+pub mod phase;
+pub mod room;
+pub mod write;
