@@ -1,3 +1,4 @@
 pub mod Answers
 pub mod Fault
+pub mod Image
 pub mod Listing

@@ -6,4 +6,5 @@ mod bytes;
 pub mod catalog;
 pub mod definition_record;
 pub mod fault;
+pub mod image;
 pub mod root_body;
