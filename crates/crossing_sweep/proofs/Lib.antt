@@ -1,0 +1,10 @@
+pub mod Lean
+pub mod Meeting
+pub mod Keeping
+pub mod AtNode
+pub mod Near
+pub mod Strip
+pub mod Below
+pub mod NextCrossing
+pub mod Inputs
+pub mod LeaningLaws

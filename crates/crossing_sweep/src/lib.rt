@@ -1,0 +1,4 @@
+//! Crossings found from neighbours alone: what the sweep over the units of a column stands on.
+#![tactic(auto)]
+
+pub mod leaning;
