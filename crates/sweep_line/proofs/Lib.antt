@@ -5,3 +5,4 @@ pub mod Passing
 pub mod SideTests
 pub mod Sweeping
 pub mod PassLemmas
+pub mod EndLemmas

@@ -1,3 +1,4 @@
 pub mod Label
+pub mod RightEnds
 pub mod Status
 pub mod Sweep

@@ -1,18 +1,26 @@
 -- The pieces over an x, as the status of the sweep keeps them.
-use Rattle.std.specs.Prelude.{ℤ, pos, ◌*ℤ◌, int_lt, Bool, ◌&&◌, ◌||◌}
+use Rattle.std.specs.Prelude.{◌≡◌, ℕ, ℤ, pos, ◌<◌, ◌≤◌, ◌<ℤ◌, ◌*ℤ◌, int_lt, Bool, not, ◌&&◌, ◌||◌, List, length, get_or, count_by}
+use Rattle.std.specs.List.{remove}
 use Rattle.std.specs.Ordering.{int_eq}
 use Rattle.overlay_terms.specs.Plane.{Point, Segment, height_over}
 use Rattle.exact_point.specs.Place.{place}
 use Rattle.exact_point.specs.Crossing.{turn_of}
+use Rattle.exact_point.specs.declared.point.HPoint.{HPoint}
+use Rattle.sweep_line.specs.RightEnds.{lies_right}
 use Rattle.sweep_line.specs.declared.status.Entry.{Entry}
-
--- the point of the line y = 0 with the x of a point
-abbrev pub foot_of : Point → Point
-foot_of p = record { x = p.x; y = pos 0; w = p.w }
 
 -- the piece ends right of a point, by x
 abbrev pub goes_on : Point → Entry → Bool
-goes_on q e = int_lt (q.x *ℤ (place e.to).w) ((place e.to).x *ℤ q.w)
+goes_on q e = lies_right q e.to
+
+-- up to each x there stand at least as many right ends as pieces that end there
+abbrev pub HasEndsFor : List Entry → List HPoint → Type 0
+HasEndsFor entries ends = (q : Point) → pos 0 <ℤ q.w → count_by (λ e. not (goes_on q e)) entries ≤ count_by (λ v. not (lies_right q v)) ends
+
+-- one of some pieces has been taken out, whose right end has the x of a point
+abbrev pub HasLostOne : Point → List Entry → List Entry → Type 0
+HasLostOne end old new =
+    (k : ℕ) × (e : Entry) × (k < length old) × (get_or old k e ≡ e) × ((place e.to).x *ℤ end.w ≡ end.x *ℤ (place e.to).w) × (new ≡ remove old k)
 
 -- a segment passes under a point, or through it, and then another turns left from it
 abbrev pub passes_under : Point → Segment → Segment → Bool

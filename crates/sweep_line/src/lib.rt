@@ -4,6 +4,7 @@
 pub mod counting;
 pub mod labelled;
 pub mod labelling;
+mod right_ends;
 pub mod status;
 
 pub use labelling::label;

@@ -1,13 +1,15 @@
 //! The pieces over an x of the column, from the lowest to the highest.
-ghost use Rattle.std.specs.Prelude.{◌≡◌, ℕ, suc, ◌≤◌, [], length, filter, get_or, int_lt, true, false, OnOk, ◌*ℤ◌};
+ghost use Rattle.std.specs.Prelude.{◌≡◌, ℕ, suc, ◌<◌, ◌≤◌, [], length, filter, get_or, true, false, OnOk, ◌*ℤ◌};
+ghost use Rattle.std.specs.Ordering.{int_eq};
 ghost use Rattle.std.specs.List.{insert};
 ghost use Rattle.std.specs.List.Sorted.{IsPartitionedBy, IsPartitionPoint};
 ghost use Rattle.exact_point.specs.Place.{place};
-ghost use Rattle.sweep_line.specs.Status.{goes_on, is_passed, foot_of};
+ghost use Rattle.sweep_line.specs.Status.{HasLostOne, goes_on, is_passed};
 
+use crate::right_ends::{RightEnds, is_left};
 use exact_point::crossing::direction_cmp;
 use exact_point::point::HPoint;
-use exact_point::side::side;
+use exact_point::side::{side, x_cmp};
 use plane_base::point::Seg;
 use std::alloc::{AllocError, Global};
 use std::cmp::Ordering;
@@ -26,15 +28,19 @@ pub struct Entry {
 #[derive(Drop)]
 pub struct Status {
     entries: Vec<Entry>,
+    ends: RightEnds,
 }
 
 impl Model for Status {
     ghost use Rattle.std.specs.Prelude.{List};
+    ghost use Rattle.sweep_line.specs.Status.{HasEndsFor};
     ghost use Rattle.sweep_line.specs.declared.status.Entry.{Entry};
 
     ghost Value = { List Entry };
 
     ghost view = { λ s. s.entries.items };
+
+    ghost invariant = { λ s. HasEndsFor s.entries.items s.ends };
 }
 
 impl Status {
@@ -44,6 +50,7 @@ impl Status {
     {
         Status {
             entries: Vec::new(alloc),
+            ends: RightEnds::new(alloc),
         }
     }
 
@@ -51,7 +58,26 @@ impl Status {
     pub fn leave(&mut self, at: &HPoint)
         ensures { self.new ≡ filter (goes_on (place at.now)) self.old }
     {
+        while self.take_out_next(at) {}
+    }
+
+    /// Takes out a piece that does not go on to the right of a point, found by its right end, and
+    /// says that there may be more. Where the order of the pieces does not lead to it, all that do
+    /// not go on are taken out at once.
+    fn take_out_next(&mut self, at: &HPoint) -> bool
+        ensures more { result ≡ true → filter (goes_on (place at.now)) self.new ≡ filter (goes_on (place at.now)) self.old }
+        ensures fewer { result ≡ true → length self.new < length self.old }
+        ensures done { result ≡ false → self.new ≡ filter (goes_on (place at.now)) self.old }
+    {
+        let Some(end) = self.ends.next_up_to(at) else {
+            return false;
+        };
+        if take_out_at(&mut self.entries, &end) {
+            self.ends.drop_next();
+            return true;
+        }
         self.entries.retain(|entry| is_left(at, &entry.to));
+        false
     }
 
     /// How many pieces, from the lowest on, a piece of the segment that begins at the point has
@@ -84,9 +110,30 @@ impl Status {
         requires { place ≤ length self.old }
         ensures { OnOk result (self.new ≡ insert self.old place entry) }
     {
+        self.ends.add(entry.to)?;
         self.entries.insert(place, entry)?;
         Ok(())
     }
+}
+
+/// Takes out the lowest piece that does not pass under a point, if it ends over the x of the point.
+fn take_out_at(entries: &mut Vec<Entry>, end: &HPoint) -> bool
+    ensures yes { result ≡ true → HasLostOne (place end.now) entries.old.items entries.new.items }
+    ensures no { result ≡ false → entries.new.items ≡ entries.old.items }
+{
+    let place = entries.partition_point(|entry| side(&entry.support, end).is_gt());
+    if place < entries.len() && ends_over(&entries[place], end) {
+        let _ = entries.remove(place);
+        return true;
+    }
+    false
+}
+
+/// Whether a piece ends over the x of a point.
+fn ends_over(entry: &Entry, at: &HPoint) -> bool
+    ensures { result ≡ int_eq ((place entry.now.to).x *ℤ (place at.now).w) ((place at.now).x *ℤ (place entry.now.to).w) }
+{
+    x_cmp(&entry.to, at).is_eq()
 }
 
 /// Whether a piece of the status stands under one of the segment that begins at the point.
@@ -97,23 +144,5 @@ fn stands_under(entry: &Entry, at: &HPoint, support: &Seg) -> bool
         Ordering::Greater => true,
         Ordering::Equal => direction_cmp(&entry.support, support).is_lt(),
         Ordering::Less => false,
-    }
-}
-
-/// Whether one point lies left of another, by x alone.
-fn is_left(p: &HPoint, q: &HPoint) -> bool
-    ensures { result ≡ int_lt ((place p.now).x *ℤ (place q.now).w) ((place q.now).x *ℤ (place p.now).w) }
-{
-    foot(p).cmp(&foot(q)).is_lt()
-}
-
-/// The point of the line y = 0 over which, or under which, a point lies.
-fn foot(p: &HPoint) -> HPoint
-    ensures { place result ≡ foot_of (place p.now) }
-{
-    HPoint {
-        x: p.x,
-        y: 0,
-        w: p.w,
     }
 }
