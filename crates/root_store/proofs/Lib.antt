@@ -5,3 +5,6 @@ pub mod Plan
 pub mod Healed
 pub mod Filed
 pub mod Blank
+mod FindingLemmas
+mod TakenLemmas
+mod HealingLemmas

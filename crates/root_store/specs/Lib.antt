@@ -5,3 +5,6 @@ pub mod Running
 pub mod Filing
 pub mod Healing
 pub mod Creating
+pub mod Looking
+pub mod Finding
+pub mod Opening

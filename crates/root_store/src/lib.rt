@@ -3,7 +3,11 @@
 
 pub mod commit;
 pub mod fault;
+mod fetching;
+mod finding;
+mod healing;
 pub mod laws;
+mod load_fault;
 pub mod phase;
 pub mod room;
 pub mod write;
