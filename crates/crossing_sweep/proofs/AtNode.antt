@@ -78,7 +78,7 @@ pub over_those : (a b : Segment) (r : Point) → pos 0 <ℤ width a → pos 0 <�
 over_those a b r wide_a wide_b under over = inl (below_form (height_over a r) (height_over b r) (width a) (width b) (gap a b r) wide_a wide_b (heights_give_gap a b r) under over)
 
 -- ---- two that pass by on one side
-module _ (n : ℤ) (hn : pos 0 <ℤ n) (a b : Segment) (r : Point) (hr : pos 0 <ℤ r.w) (fit_a : IsFit n a) (fit_b : IsFit n b) (on_a : Reaches n a r r) (on_b : Reaches n b r r) (near : IsMeeting b a → IsNear n r (meeting b a)) where
+module _ (n : ℤ) (hn : pos 0 <ℤ n) (a b : Segment) (r : Point) (hr : pos 0 <ℤ r.w) (fit_a : IsFit n a) (fit_b : IsFit n b) (on_a : Reaches n a r r) (on_b : Reaches n b r r) (near : pos 0 <ℤ turn_of b a → IsMeeting b a → IsNear n r (meeting b a)) where
   -- two that are equally high over the place and turn to one another meet there, so the first holds it
   meet_there : gap (lean_segment n a) (lean_segment n b) (lean n r) ≡ pos 0 → turn_of (lean_segment n a) (lean_segment n b) <ℤ pos 0 → height_over a r ≡ pos 0
   meet_there none right =
@@ -86,7 +86,7 @@ module _ (n : ℤ) (hn : pos 0 <ℤ n) (a b : Segment) (r : Point) (hr : pos 0 <
       let met : Crosses n b a (lean n r) =
       crosses n b a (lean n r) hn hr fit_b.wide fit_a.wide fit_b.ahead fit_a.ahead up
       on_b.from on_b.to on_a.from on_a.to (sym (gap_form (lean_segment n b) (lean_segment n a) (lean n r)) ∙ gap_turned (lean_segment n a) (lean_segment n b) (lean n r) none) in
-      let there : IsTrue (same_place (meeting b a) r) = one_place n r (meeting b a) hn (near met.crossing) met.over in
+      let there : IsTrue (same_place (meeting b a) r) = one_place n r (meeting b a) hn (near up met.crossing) met.over in
       (reached a r (sym (on_same a (meeting b a) r up hr there) ∙ met.crossing.at.on_second)).level
     where
       turn_back : (a b c d : ℤ) → (c *ℤ b) -ℤ (d *ℤ a) ≡ neg_ℤ ((a *ℤ d) -ℤ (b *ℤ c))

@@ -121,7 +121,7 @@ not_under h k d e g hd he form more none =
     (λ l. absurd (omega (arith, ints, form, more, ap (λ z. z *ℤ d) none, zero-*ℤ d, negative_times h e l he)))
     (λ l. l)
 
-gap_most : (a b : Segment) (r : Point) → IsBefore a b r → pos 0 ≤ℤ gap a b r
+pub gap_most : (a b : Segment) (r : Point) → IsBefore a b r → pos 0 ≤ℤ gap a b r
 gap_most a b r (inl h) = omega (arith, ints, h)
 gap_most a b r (inr (e, h)) = omega (arith, ints, e)
 

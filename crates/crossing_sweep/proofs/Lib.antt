@@ -5,6 +5,9 @@ pub mod AtNode
 pub mod Near
 pub mod Strip
 pub mod Below
-pub mod NextCrossing
 pub mod Inputs
 pub mod LeaningLaws
+pub mod Pairs
+pub mod StretchLemmas
+pub mod StatusLemmas
+pub mod TurnLemmas

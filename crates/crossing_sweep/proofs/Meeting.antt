@@ -3,7 +3,7 @@ use Rattle.std.proofs.Common.{◌≡◌, ℤ, pos, ◌+ℤ◌, ◌-ℤ◌, ◌*�
 use Rattle.std.proofs.lemmas.Int.{ints, by_lt_z}
 use Rattle.std.proofs.Math.IntN.{zero-*ℤ, *ℤ-zero, *ℤ_comm}
 use Rattle.overlay_terms.specs.Plane.{Point, Segment, whole}
-use Rattle.overlay_terms.proofs.Difference.{split, differences, same, mul_pos}
+use Rattle.overlay_terms.proofs.Difference.{split, differences, same, mul_pos, diff, diff-neg, whole_is}
 use Rattle.overlay_terms.proofs.InputNumbers.{most_back}
 use Rattle.exact_point.specs.Crossing.{IsCrossingOf, turn_of, lead_of}
 use Rattle.exact_point.specs.PlaceOf.{part_way}
@@ -29,14 +29,14 @@ first_meets a b l m c d x y = zero_of _ (rw (split a, split b, split l, split m,
     open_zero : pos 0 ≡ pos 0
     open_zero = refl
 
-    zero_of : (z : ℤ) → z ≡ Rattle.overlay_terms.proofs.Difference.diff 0 0 → z ≡ pos 0
-    zero_of z h = h ∙ sym (Rattle.overlay_terms.proofs.Difference.whole_is 0)
+    zero_of : (z : ℤ) → z ≡ diff 0 0 → z ≡ pos 0
+    zero_of z h = h ∙ sym (whole_is 0)
 
 second_meets : (a b l m c d x y : ℤ) → ((((a *ℤ d) -ℤ (b *ℤ c)) *ℤ x) +ℤ ((((x -ℤ l) *ℤ b) -ℤ ((y -ℤ m) *ℤ a)) *ℤ c)) +ℤ ((a *ℤ ((c *ℤ y) -ℤ (d *ℤ x))) -ℤ (c *ℤ ((a *ℤ m) -ℤ (b *ℤ l)))) ≡ pos 0
 second_meets a b l m c d x y = zero_of _ (rw (split a, split b, split l, split m, split c, split d, split x, split y) (simp differences (same _ _ 0 0 (omega arith))))
   where
-    zero_of : (z : ℤ) → z ≡ Rattle.overlay_terms.proofs.Difference.diff 0 0 → z ≡ pos 0
-    zero_of z h = h ∙ sym (Rattle.overlay_terms.proofs.Difference.whole_is 0)
+    zero_of : (z : ℤ) → z ≡ diff 0 0 → z ≡ pos 0
+    zero_of z h = h ∙ sym (whole_is 0)
 
 spread : (t o l m d x w : ℤ) → (t *ℤ (x -ℤ (l *ℤ w))) -ℤ ((m *ℤ d) *ℤ w) ≡ ((t *ℤ x) +ℤ (o *ℤ w)) -ℤ ((((t *ℤ l) +ℤ (m *ℤ d)) +ℤ o) *ℤ w)
 spread t o l m d x w = rw (split t, split o, split l, split m, split d, split x, split w) (simp differences (same _ _ _ _ (omega arith)))
@@ -188,7 +188,7 @@ back_by n d e h near sum =
     up d h = omega (arith, ints, h)
 
     negated : (n d : ℤ) → n *ℤ neg_ℤ d ≡ neg_ℤ (n *ℤ d)
-    negated n d = rw (split n, split d) (simp (Rattle.overlay_terms.proofs.Difference.diff-neg, differences) (same _ _ _ _ (omega arith)))
+    negated n d = rw (split n, split d) (simp (diff-neg, differences) (same _ _ _ _ (omega arith)))
 
 leaned_across : (n x y w u v z : ℤ) → (((n *ℤ u) +ℤ v) *ℤ w) -ℤ (((n *ℤ x) +ℤ y) *ℤ z) ≡ (n *ℤ ((u *ℤ w) -ℤ (x *ℤ z))) +ℤ ((v *ℤ w) -ℤ (y *ℤ z))
 leaned_across n x y w u v z = rw (split n, split x, split y, split w, split u, split v, split z) (simp differences (same _ _ _ _ (omega arith)))

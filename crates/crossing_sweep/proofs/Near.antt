@@ -1,16 +1,10 @@
--- Places with small numbers lie near one another, so for them the order of places and the order by x in the leaned plane are one; and no node between two places means no crossing between.
-use Rattle.std.proofs.Common.{◌≡◌, ℤ, pos, ◌+ℤ◌, ◌-ℤ◌, ◌*ℤ◌, ◌<ℤ◌, ◌≤ℤ◌, neg_ℤ, List, arith}
-use Rattle.std.specs.Prelude.{IsTrue, Contains}
+-- Places with small numbers lie near one another, so for them the order of places and the order by x in the leaned plane are one.
+use Rattle.std.proofs.Common.{◌≡◌, ℤ, pos, ◌+ℤ◌, ◌-ℤ◌, ◌*ℤ◌, ◌<ℤ◌, ◌≤ℤ◌, neg_ℤ, arith}
 use Rattle.std.proofs.lemmas.Int.{ints}
-use Rattle.overlay_terms.specs.Plane.{Point, Segment}
-use Rattle.overlay_terms.specs.Tiles.{is_node}
+use Rattle.overlay_terms.specs.Plane.{Point}
 use Rattle.overlay_terms.proofs.Difference.{split, differences, same, diff-neg, mul_pos}
 use Rattle.overlay_terms.proofs.InputNumbers.{most_times}
-use Rattle.exact_point.proofs.Lexical.{Forward}
-use Rattle.exact_point.proofs.Nodes.{crossing_is_node}
-use Rattle.crossing_sweep.specs.Leaning.{IsNear, across, up_to}
-use Rattle.crossing_sweep.proofs.Meeting.{IsMeeting, meeting, before_from_lean}
-use Rattle.crossing_sweep.proofs.Keeping.{CrossNotBetween}
+use Rattle.crossing_sweep.specs.Leaning.{IsNear}
 
 -- the denominator is positive and at most w, and y lies from - m to m
 pub record IsBounded (m w : ℤ) (p : Point) : Type 0 where
@@ -52,13 +46,3 @@ small_are_near n m w p q hm large hp hq = record {
 
     over : (a b c n : ℤ) → a ≤ℤ c → neg_ℤ c ≤ℤ b → (c +ℤ c) <ℤ n → (a -ℤ b) <ℤ n
     over a b c n h k l = omega (arith, ints, h, k, l)
-
--- no node of a list of segments lies strictly between two places
-abbrev pub NoNodeBetween : List Segment → Point → Point → Type 0
-NoNodeBetween xs q r = (p : Point) → pos 0 <ℤ p.w → IsTrue (is_node xs p) → Forward (across q p) (up_to q p) → Forward (across p r) (up_to p r) → ⊥
-
--- so no two of them cross strictly between
-pub not_between : (n : ℤ) (xs : List Segment) (a b : Segment) (q r : Point) → pos 0 <ℤ n → Contains xs a → Contains xs b → NoNodeBetween xs q r → (IsMeeting a b → IsNear n q (meeting a b) × IsNear n (meeting a b) r) → CrossNotBetween n a b q r
-not_between n xs a b q r hn among_a among_b none near left crossing after before =
-    none (meeting a b) left (crossing_is_node xs a b (meeting a b) among_a among_b crossing.at.on_first crossing.at.on_second crossing.at.not_parallel)
-    (before_from_lean n q (meeting a b) hn (near crossing).0 after) (before_from_lean n (meeting a b) r hn (near crossing).1 before)

@@ -11,7 +11,7 @@ use Rattle.overlay_terms.specs.Plane.{WholePoint, Point, Segment, whole, point_c
 use Rattle.overlay_terms.specs.Tiles.{is_node, IsPiece}
 use Rattle.overlay_terms.proofs.Difference.{split, differences, same, diff-neg}
 use Rattle.exact_point.specs.Crossing.{turn_of}
-use Rattle.exact_point.proofs.Lexical.{Forward, forward}
+use Rattle.exact_point.proofs.Lexical.{Forward, forward, NotBack}
 use Rattle.exact_point.proofs.Signs.{zero_factor, positive_factor}
 use Rattle.exact_point.proofs.OnSegment.{reached}
 use Rattle.exact_point.proofs.PlaceOrder.{same_self, one_positive, not_after_less}
@@ -147,11 +147,11 @@ module _ (n : ℤ) (hn : pos 0 <ℤ n) (xs : List Segment) (p r : Point) (piece 
         (λ l. absurd (meets_right z hz after before low high (sym (gap_form t' s' z) ∙ gap_none (height_over t' z) (height_over s' z) (width t') (width s') (gap t' s' z) (heights_give_gap t' s' z) on_t level) (more_by (turn_of t' s') (turn_of s' t') (turn_back (width s') (rise s') (width t') (rise t')) l)))
         (λ l. none_by (turn_of t' s') (turn_of s' t') (turn_back (width s') (rise s') (width t') (rise t')) h l))
       where
-        not_left : (l x w : ℤ) → Rattle.exact_point.proofs.Lexical.NotBack (x -ℤ (l *ℤ w)) (x -ℤ x) → (l *ℤ w) ≤ℤ (x *ℤ pos 1)
+        not_left : (l x w : ℤ) → NotBack (x -ℤ (l *ℤ w)) (x -ℤ x) → (l *ℤ w) ≤ℤ (x *ℤ pos 1)
         not_left l x w (inl h) = omega (arith, ints, h)
         not_left l x w (inr (e, h)) = omega (arith, ints, e)
 
-        forget : (x y z : ℤ) → Rattle.exact_point.proofs.Lexical.NotBack x y → pos 0 ≤ℤ x
+        forget : (x y z : ℤ) → NotBack x y → pos 0 ≤ℤ x
         forget x y z (inl h) = omega (arith, ints, h)
         forget x y z (inr (e, h)) = omega (arith, ints, e)
 

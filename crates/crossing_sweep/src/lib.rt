@@ -2,3 +2,4 @@
 #![tactic(auto)]
 
 pub mod leaning;
+pub mod status;
