@@ -1,0 +1,21 @@
+-- Which version is stored, and what of it.
+use Rattle.std.specs.Prelude.{◌≡◌, ℕ, Result, Ok, Err}
+use Rattle.overlay_terms.specs.Layers.{Name}
+use Rattle.overlay_terms.specs.Histories.{Version, tile_at}
+use Rattle.store_terms.specs.Image.{Held}
+use Rattle.root_store.specs.declared.fault.StoreFault.{StoreFault}
+use Rattle.root_store.specs.declared.phase.Progress.{Progress}
+use Rattle.root_store.specs.declared.phase.Progress.TheVariants.{Idle, Going, Done}
+
+-- the number of the version that is stored after a step: only one that answers Done changes it, to the number of its commit
+abbrev pub stored_after : Result Progress StoreFault → ℕ → ℕ
+stored_after (Ok (Done number)) old = number
+stored_after (Ok Going) old = old
+stored_after (Ok Idle) old = old
+stored_after (Err fault) old = old
+
+-- what a store holds is a version: its number, its layers, and each of its finished tiles and no other
+pub record IsImageOf (version : Version) (x : Held) : Type 0 where
+  pub number : x.number ≡ version.number
+  pub layers : x.layers ≡ version.layers
+  pub tiles : (name : Name) (k : ℕ) → tile_at x.tiles name k ≡ tile_at version.tiles name k

@@ -1,0 +1,69 @@
+//! A store, and the number of the version that is stored.
+ghost use Rattle.std.specs.Prelude.{◌≡◌, ◌↔◌, IfOk, OnErr, IsErrOf, IfErr};
+ghost use Rattle.disk_model.specs.Disk.{Failed};
+ghost use Rattle.root_store.specs.Kept.{Kept};
+ghost use Rattle.root_store.specs.Running.{Runs, Stepped, Counts, calls_left, is_busy, fault_in};
+ghost use Rattle.flush_core.specs.Stored.{stored_after};
+
+use disk_model::disk::Disk;
+use root_store::commit::Commit;
+use root_store::fault::StoreFault;
+use root_store::phase::{Phase, Progress};
+
+/// A store to which versions are written, and the number of the one that was written last.
+#[derive(Drop)]
+pub struct Flusher<D: Disk> {
+    pub(crate) commit: Commit<D>,
+    pub(crate) stored: u64,
+}
+
+impl<D: Disk> Flusher<D> {
+    /// A store that was made or opened, with the number of the version that it holds.
+    pub fn new(commit: Commit<D>, stored: u64) -> Flusher<D>
+        ensures { result ≡ record { commit = commit; stored = stored } }
+    {
+        Flusher { commit, stored }
+    }
+
+    /// Whether a commit is under way.
+    pub fn busy(&self) -> bool
+        ensures { result ≡ is_busy self.now.commit.phase }
+    {
+        self.commit.busy()
+    }
+
+    /// The number of the version that is stored: that of the last commit that is done.
+    pub fn stored(&self) -> u64
+        ensures { result ≡ self.now.stored }
+    {
+        self.stored
+    }
+
+    /// The disk, as the calls have left it.
+    pub fn into_disk(self) -> D
+        ensures { result ≡ self.commit.disk }
+    {
+        self.commit.into_disk()
+    }
+
+    /// Makes one device call; none where no commit is under way.
+    pub fn step(&mut self) -> Result<Progress, StoreFault>
+        // Where a commit from x to y is under way, a crash at any moment of the call leaves x or y.
+        ensures moves { (x y : Kept) → Runs D.Disk self.old.commit x y → Stepped D.Disk self.old.commit self.new.commit result x y }
+        ensures stored { self.new.stored ≡ stored_after result self.old.stored }
+        ensures honest { D.is_honest self.new.commit.disk ↔ D.is_honest self.old.commit.disk }
+        // One device call fewer is left, until Done.
+        ensures counted { IfOk result (λ p. Counts p (calls_left self.old.commit) (calls_left self.new.commit)) }
+        ensures idle { self.old.commit.phase ≡ Phase.Idle → (result ≡ Ok Progress.Idle) × (self.new ≡ self.old) }
+        ensures stuck { self.old.commit.phase ≡ Phase.Failed → (result ≡ Err StoreFault.Failed) × (self.new ≡ self.old) }
+        ensures failed { OnErr result (self.new.commit.phase ≡ Phase.Failed) }
+        ensures errors { IfErr result (λ fault. fault ≡ fault_in self.old.commit.phase) }
+        ensures cause { D.is_honest self.old.commit.disk → IsErrOf result StoreFault.Device → Failed (D.faults self.old.commit.disk) (D.faults self.new.commit.disk) }
+    {
+        let progress = self.commit.step()?;
+        if let Progress::Done(number) = progress {
+            self.stored = number;
+        }
+        Ok(progress)
+    }
+}

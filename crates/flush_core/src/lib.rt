@@ -1,0 +1,4 @@
+//! Versions on a disk: a commit of one version after the other.
+#![tactic(auto)]
+
+pub mod flusher;

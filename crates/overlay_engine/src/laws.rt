@@ -1,0 +1,29 @@
+//! Laws over the definitions: each function does nothing, and its contract is the law.
+ghost use Rattle.overlay_engine.specs.Laws.{BegunCovers, CoveredStays, EventsCover, OpenedRecovers, OpeningIsCovered};
+
+use disk_model::disk::Disk;
+
+/// What is published keeps a store covering: for the commands with the accepted one, where one is accepted.
+pub fn events_cover<D: Disk>()
+    ensures { EventsCover D.Disk }
+{}
+
+/// A store that covers a version leaves, whenever the machine crashes, a file that is covered.
+pub fn crash_is_covered<D: Disk>()
+    ensures { CoveredStays D.Disk }
+{}
+
+/// A store that was opened on a disk of which each outcome is covered covers what its file stands for.
+pub fn opened_recovers<D: Disk>()
+    ensures { OpenedRecovers D.Disk }
+{}
+
+/// While a file is opened, a crash leaves what was covered before.
+pub fn opening_is_covered<D: Disk>()
+    ensures { OpeningIsCovered D.Disk }
+{}
+
+/// A commit of the present version that begins leaves the store covering the same commands.
+pub fn begun_covers<D: Disk>()
+    ensures { BegunCovers D.Disk }
+{}
