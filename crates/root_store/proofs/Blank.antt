@@ -1,13 +1,15 @@
 -- A new file with its first gate open.
-use Rattle.std.proofs.Common.{◌≡◌, inr, ℕ, ◌+◌, ◌/◌, ◌&&◌, nat_le, true, [], ◌∷◌, Ok, refl, ◌∙◌, ap, arith}
+use Rattle.std.proofs.Common.{get_or, ◌≡◌, inl, inr, ℕ, ◌+◌, ◌<◌, ◌/◌, ◌&&◌, nat_le, true, List, length, [], ◌∷◌, Ok, refl, ◌∙◌, ap, arith}
+use Rattle.disk_model.specs.Disk.{Holds, Torn}
+use Rattle.disk_model.proofs.Ranges.{part_same, part_kept, part_written, part_written_front}
 use Rattle.store_terms.specs.Catalog.{catalog_of_record}
 use Rattle.store_terms.specs.Places.{blocks, is_placed}
-use Rattle.store_terms.specs.Roots.{body_in}
+use Rattle.store_terms.specs.Roots.{body_in, body_text}
 use Rattle.store_terms.specs.Image.{listing_of}
 use Rattle.store_terms.specs.Frame.{listed_extents}
 use Rattle.store_terms.specs.Spelled.{Spells}
 use Rattle.store_terms.proofs.SpelledLemmas.{spelled_is_held, listing_spelled}
-use Rattle.root_store.specs.Creating.{first_root, second_root, nothing_kept, BlankIsAtRest}
+use Rattle.root_store.specs.Creating.{first_root, second_root, nothing_kept, IsBlank, BlankIsAtRest}
 use Rattle.store_terms.proofs.BodyLemmas.{body_again}
 
 pub blank_is_at_rest : BlankIsAtRest
@@ -39,3 +41,39 @@ blank_is_at_rest file blank opened =
         older = inr (refl, refl);
       };
     }
+
+-- both bodies and the catalog, put into so many bytes
+pub blank_made : (zero one two three : List ℕ) → length zero ≡ 12288 → Torn 16 48 zero one → Holds one 16 (body_text first_root) → Torn 4112 48 one two → Holds two 4112 (body_text second_root)
+    → Torn 8192 2 two three → Holds three 8192 (0 ∷ 0 ∷ []) → IsBlank three
+blank_made zero one two three size torn1 held1 torn2 held2 torn3 held3 =
+    let s1 : length one ≡ 12288 = omega (arith, torn1.no_shorter, torn1.no_longer, size) in
+    let s2 : length two ≡ 12288 = omega (arith, torn2.no_shorter, torn2.no_longer, s1) in
+    record {
+      size = omega (arith, torn3.no_shorter, torn3.no_longer, s2);
+      first = part_kept two three 8192 2 16 40 torn3 (omega (arith, s2)) (inr (omega arith)) ∙ part_kept one two 4112 48 16 40 torn2 (omega (arith, s1)) (inr (omega arith))
+          ∙ part_written_front one 16 40 (body_text first_root) (omega arith) held1;
+      second = part_kept two three 8192 2 4112 40 torn3 (omega (arith, s2)) (inr (omega arith)) ∙ part_written_front two 4112 40 (body_text second_root) (omega arith) held2;
+      catalog = part_written three 8192 (0 ∷ 0 ∷ []) held3;
+    }
+
+-- a file that a blank was put into, from its start
+pub blank_put : (old new bytes : List ℕ) → length old ≡ 0 → IsBlank bytes → Torn 0 (length bytes) old new → Holds new 0 bytes → IsBlank new
+blank_put old new bytes empty blank torn held =
+    let size : length new ≡ 12288 = omega (arith, torn.no_longer, held.within, empty, blank.size) in
+    let same : (k : ℕ) → k < 12288 → get_or new k 0 ≡ get_or bytes k 0 = λ k h.
+    let e : k ≡ 0 + k = omega arith in ap (λ (n : ℕ). get_or new n 0) e ∙ held.each k (omega (arith, blank.size)) in
+    record {
+      size = size;
+      first = part_same bytes new 16 40 (omega (arith, blank.size)) (omega (arith, size)) (λ i h. same (16 + i) (omega arith)) ∙ blank.first;
+      second = part_same bytes new 4112 40 (omega (arith, blank.size)) (omega (arith, size)) (λ i h. same (4112 + i) (omega arith)) ∙ blank.second;
+      catalog = part_same bytes new 8192 2 (omega (arith, blank.size)) (omega (arith, size)) (λ i h. same (8192 + i) (omega arith)) ∙ blank.catalog;
+    }
+
+-- the first gate may be anything
+pub blank_kept : (old new : List ℕ) → IsBlank old → Torn 0 1 old new → IsBlank new
+blank_kept old new blank torn = record {
+  size = omega (arith, torn.no_shorter, torn.no_longer, blank.size);
+  first = part_kept old new 0 1 16 40 torn (omega (arith, blank.size)) (inl (omega arith)) ∙ blank.first;
+  second = part_kept old new 0 1 4112 40 torn (omega (arith, blank.size)) (inl (omega arith)) ∙ blank.second;
+  catalog = part_kept old new 0 1 8192 2 torn (omega (arith, blank.size)) (inl (omega arith)) ∙ blank.catalog;
+}

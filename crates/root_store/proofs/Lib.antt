@@ -8,3 +8,4 @@ pub mod Blank
 mod FindingLemmas
 mod TakenLemmas
 mod HealingLemmas
+pub mod Rooms

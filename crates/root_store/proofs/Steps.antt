@@ -7,7 +7,7 @@ use Rattle.disk_model.specs.Moments.{Leaves, LeavesOnly}
 use Rattle.disk_model.proofs.Runs.{started, goes_on}
 use Rattle.root_store.specs.declared.write.Write.{Write}
 use Rattle.store_terms.specs.StandsFor.{gate, gate_at}
-use Rattle.std.specs.Prelude.{IsErr}
+use Rattle.std.specs.Prelude.{IsErr, OnOk}
 use Rattle.root_store.specs.declared.fault.StoreFault.{StoreFault}
 use Rattle.root_store.specs.declared.phase.Progress.{Progress}
 use Rattle.root_store.specs.declared.phase.Phase.TheVariants.{Failed}
@@ -27,6 +27,11 @@ module _ {D : Type 0} (g : Ghosts D) where
 
   pub leaves_synced : (new : D) (file : List ℕ) (P : List ℕ → Type 0) → Only file (g.may_leave new) → P file → Leaves g new P
   leaves_synced new file P only here c left = subst P (sym (only c left)) here
+
+  -- the last sync of a run
+  pub synced : {T E : Type 0} (new : D) (file : List ℕ) (P : List ℕ → Type 0) (result : Result T E) → OnOk result (Only file (g.may_leave new)) → P file → OnOk result (Leaves g new P)
+  synced new file P (Ok x) only here = leaves_synced new file P only here
+  synced new file P (Err e) only here = tt
 
   pub leaves_weaker : (disk : D) (P Q : List ℕ → Type 0) → ((c : List ℕ) → P c → Q c) → Leaves g disk P → Leaves g disk Q
   leaves_weaker disk P Q wider all c left = wider c (all c left)

@@ -1,9 +1,11 @@
 -- A new file.
-use Rattle.std.specs.Prelude.{◌≡◌, ℕ, List, [], ◌∷◌, length, take}
+use Rattle.std.specs.Prelude.{◌≡◌, ℕ, List, [], ◌∷◌, length, take, ◌==◌, nat_lt, not, if◌then◌else◌, Option, Some, None}
 use Rattle.disk_model.specs.Disk.{part}
 use Rattle.store_terms.specs.declared.root.Root.{Root}
 use Rattle.store_terms.specs.Roots.{body_text}
 use Rattle.store_terms.specs.StandsFor.{gate, open_gate, body_at}
+use Rattle.root_store.specs.declared.fault.StoreFault.{StoreFault}
+use Rattle.root_store.specs.declared.fault.StoreFault.TheVariants.{Device, Full, Damaged, NotEmpty, Failed, SequenceLimit, OutOfMemory}
 use Rattle.root_store.specs.Kept.{Kept, Rest}
 
 -- the root of a store that holds nothing, and the body that stands beside it
@@ -26,3 +28,17 @@ pub record IsBlank (file : List ℕ) : Type 0 where
 -- with its first gate open it is a store that holds nothing
 abbrev pub BlankIsAtRest : Type 0
 BlankIsAtRest = (file : List ℕ) → IsBlank file → gate file 0 ≡ open_gate → Rest nothing_kept file
+
+-- why no store is made of a file: it is not empty, or there is no block for the catalog
+abbrev pub refusal_of_new : List ℕ → ℕ → Option StoreFault
+refusal_of_new file max_blocks = if not (length file == 0) then Some NotEmpty else if nat_lt max_blocks 3 then Some Full else None
+
+-- a fault tells the reason, unless the device failed or memory ran out
+abbrev pub Tells : StoreFault → Option StoreFault → Type 0
+Tells Device reason = Unit {0}
+Tells OutOfMemory reason = Unit {0}
+Tells Full reason = reason ≡ Some Full
+Tells NotEmpty reason = reason ≡ Some NotEmpty
+Tells (Damaged damage) reason = ⊥
+Tells Failed reason = ⊥
+Tells SequenceLimit reason = ⊥

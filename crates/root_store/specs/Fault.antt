@@ -1,8 +1,17 @@
 -- The faults of a store: their numbers and texts.
 use Rattle.std.specs.Prelude.{ℕ, List, ◌++◌, codes, decimal, Option, Some, None}
+use Rattle.extent_map.specs.declared.fault.ExtentFault.{ExtentFault}
+use Rattle.extent_map.specs.declared.fault.ExtentFault.TheVariants as extents
 use Rattle.store_terms.specs.Damage as damages
+use Rattle.store_terms.specs.declared.damage.Damage.TheVariants as damage
 use Rattle.root_store.specs.declared.fault.StoreFault.{StoreFault}
 use Rattle.root_store.specs.declared.fault.StoreFault.TheVariants.{Device, Full, Damaged, NotEmpty, Failed, SequenceLimit, OutOfMemory}
+
+-- a fault of extents, as one of a store
+abbrev pub fault_of_extents : ExtentFault → StoreFault
+fault_of_extents extents.Full = Full
+fault_of_extents extents.Overlap = Damaged damage.Overlap
+fault_of_extents extents.OutOfMemory = OutOfMemory
 
 -- the number of what is wrong with a file: one where it is no store, another where its damage has a code
 abbrev pub code_of_damage : Option ℕ → ℕ

@@ -1,5 +1,5 @@
 -- What is known of a store between the calls of its disk.
-use Rattle.std.specs.Prelude.{◌≡◌, ◌⊎◌, ℕ, ◌+◌, ◌-◌, ◌<◌, ◌≤◌, Bool, true, false, List, length, drop, Result, IfOk, OnErr}
+use Rattle.std.specs.Prelude.{◌≡◌, ◌⊎◌, ℕ, ◌+◌, ◌-◌, ◌<◌, ◌≤◌, Bool, true, false, List, [], ◌∷◌, length, drop, Result, IfOk, OnErr}
 use Rattle.std.specs.List.{AllByRecursion}
 use Rattle.disk_model.specs.declared.disk.Disk.{Ghosts}
 use Rattle.disk_model.specs.Moments.{Leaves, LeavesOnly}
@@ -18,6 +18,13 @@ use Rattle.root_store.specs.declared.phase.Progress.TheVariants as progress
 use Rattle.root_store.specs.declared.commit.Commit.{Commit}
 use Rattle.root_store.specs.Kept.{Kept, other, Rest, Shut, Calm, Ready, Either}
 use Rattle.root_store.specs.Planning.{Leads, Spare}
+
+-- the runs of some extents, one for each, in order
+abbrev pub AreRunsOf : List Extent → List runs.Extent → Type 0
+AreRunsOf [] [] = Unit {0}
+AreRunsOf [] (r ∷ rs) = ⊥
+AreRunsOf (e ∷ es) [] = ⊥
+AreRunsOf (e ∷ es) (r ∷ rs) = (r.block ≡ e.block) × (r.blocks ≡ blocks e.size) × AreRunsOf es rs
 
 -- what blocks are free of the runs that are taken are free of the extents, and no others
 pub record IsMapOf (extents : List Extent) (taken : List runs.Extent) : Type 0 where

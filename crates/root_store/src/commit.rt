@@ -13,7 +13,7 @@ use std::mem;
 use store_terms::root::Root;
 
 /// The value of a gate that is open, and the one that a commit shuts it with.
-const GATE_OPEN: u8 = 0xA7;
+pub(crate) const GATE_OPEN: u8 = 0xA7;
 
 const GATE_CLOSED: u8 = 0;
 

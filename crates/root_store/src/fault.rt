@@ -1,9 +1,10 @@
 //! What a store refuses.
 ghost use Rattle.std.specs.Prelude.{◌≡◌, Some};
-ghost use Rattle.root_store.specs.Fault.{code_of, text_of};
+ghost use Rattle.root_store.specs.Fault.{code_of, text_of, fault_of_extents};
 ghost use Rattle.root_store.specs.declared.fault.StoreFault.TheVariants.{Device, OutOfMemory};
 
 use disk_model::fault::DiskFault;
+use extent_map::fault::ExtentFault;
 use std::alloc::{AllocError, AllocFailed};
 use std::fmt;
 use store_terms::damage::Damage;
@@ -51,6 +52,18 @@ impl From<DiskFault> for StoreFault {
 
     fn from(_: DiskFault) -> StoreFault {
         StoreFault::Device
+    }
+}
+
+impl From<ExtentFault> for StoreFault {
+    ghost from_gives = { λ fault e. e ≡ fault_of_extents fault };
+
+    fn from(fault: ExtentFault) -> StoreFault {
+        match fault {
+            ExtentFault::Full => StoreFault::Full,
+            ExtentFault::Overlap => StoreFault::Damaged(Damage::Overlap),
+            ExtentFault::OutOfMemory => StoreFault::OutOfMemory,
+        }
     }
 }
 

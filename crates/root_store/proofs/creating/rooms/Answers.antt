@@ -1,0 +1,12 @@
+use Rattle.std.proofs.Common.{[], ◌∷◌}
+use Rattle.extent_map.specs.Taken.{taken_of}
+use Rattle.root_store.specs.Running.{AreRunsOf}
+use Rattle.root_store.specs.Creating.{nothing_kept}
+use Rattle.root_store.proofs.Rooms.{map_of_runs}
+use Rattle.root_store.proofs.creating.rooms.Goals as goal
+
+pub returns-clause-room : goal.returns-clause-room
+returns-clause-room c =
+    let run = c.in-Some.run' in
+    let are : AreRunsOf nothing_kept.extents (run ∷ []) = (c.in-Some.ensures.block, c.in-Some.ensures.blocks, tt) in
+    map_of_runs nothing_kept.extents (run ∷ []) (taken_of c.in_ok-room.room.map) are c.in_ok-room.ensures.taken

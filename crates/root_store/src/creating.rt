@@ -1,0 +1,159 @@
+//! Making a store of an empty file.
+ghost use Rattle.std.specs.Prelude.{◌≡◌, ◌≢◌, ◌↔◌, ◌+◌, ◌≤◌, ◌∷◌, [], length, None, OnOk, IfOk, IfErr, IsErrOf, MatchResult};
+ghost use Rattle.disk_model.specs.Disk.{Holds, Torn, Fewer, Failed, CountsFailure};
+ghost use Rattle.disk_model.specs.Moments.{Leaves};
+ghost use Rattle.extent_map.specs.Taken.{taken_of, limit_of};
+ghost use Rattle.root_store.specs.Kept.{Rest};
+ghost use Rattle.root_store.specs.Running.{Stands, IsMapOf};
+ghost use Rattle.root_store.specs.Creating.{nothing_kept, IsBlank, refusal_of_new, Tells};
+
+use crate::commit::{Commit, GATE_OPEN};
+use crate::fault::StoreFault;
+use crate::open_fault::OpenFault;
+use crate::phase::Phase;
+use crate::room::Room;
+use disk_model::disk::Disk;
+use disk_model::fault::DiskFault;
+use extent_map::extent::Extent as Run;
+use record_form::root_body::write_body;
+use std::alloc::{AllocError, Global};
+use store_terms::root::{Extent, Root};
+
+/// Where the empty catalog of a new store lies.
+const CATALOG: Extent = Extent { block: 2, size: 2 };
+
+/// The root of a new store.
+const FIRST: Root = Root {
+    sequence: 0,
+    version: 0,
+    catalog: CATALOG,
+};
+
+/// The root that stands beside it, behind a gate that is shut.
+const TWIN: Root = Root {
+    sequence: 1,
+    version: 0,
+    catalog: CATALOG,
+};
+
+/// Puts bytes in the place of others.
+fn put(file: &mut Vec<u8>, at: usize, bytes: &[u8])
+    requires { at + length bytes.now ≤ length file.old.items }
+    ensures holds { Holds file.new.items at bytes.now }
+    ensures others { Torn at (length bytes.now) file.old.items file.new.items }
+{
+    file[at..at + bytes.len()].copy_from_slice(bytes);
+}
+
+fn zeros(alloc: Global, size: usize) -> Result<Vec<u8>, AllocError>
+    ensures { IfOk result (λ v. length v.items ≡ size) }
+{
+    vec![in alloc; 0; size]
+}
+
+/// Three blocks: two slots with shut gates, and an empty catalog.
+fn blank(alloc: Global) -> Result<Vec<u8>, AllocError>
+    ensures { IfOk result (λ v. IsBlank v.items) }
+{
+    let mut file = zeros(alloc, 12288)?;
+    put(&mut file, 16, &write_body(FIRST));
+    put(&mut file, 4112, &write_body(TWIN));
+    put(&mut file, 8192, &[0, 0]);
+    Ok(file)
+}
+
+/// Refuses a file that is not empty, and a limit that leaves no block for the catalog.
+fn check<D: Disk>(disk: &mut D, max_blocks: u32) -> Result<(), StoreFault>
+    ensures honest { D.is_honest disk.new ↔ D.is_honest disk.old }
+    ensures answer { D.is_honest disk.old → MatchResult result (λ _. refusal_of_new (D.seen disk.old) max_blocks ≡ None) (λ fault. Tells fault (refusal_of_new (D.seen disk.old) max_blocks)) }
+    ensures seen { D.is_honest disk.old → D.seen disk.new ≡ D.seen disk.old }
+    ensures crash { D.is_honest disk.old → Fewer (D.may_leave disk.old) (D.may_leave disk.new) }
+    ensures cause { D.is_honest disk.old → IsErrOf result StoreFault.Device → Failed (D.faults disk.old) (D.faults disk.new) }
+    ensures count { D.is_honest disk.old → OnOk result (D.faults disk.new ≡ D.faults disk.old) }
+{
+    if disk.length()? != 0 {
+        return Err(StoreFault::NotEmpty);
+    }
+    if max_blocks < 3 {
+        return Err(StoreFault::Full);
+    }
+    Ok(())
+}
+
+/// Writes a new store into an empty file, and then opens its gate.
+fn format<D: Disk>(disk: &mut D, bytes: &[u8]) -> Result<(), DiskFault>
+    requires { IsBlank bytes.now }
+    ensures honest { D.is_honest disk.new ↔ D.is_honest disk.old }
+    ensures ready { D.is_honest disk.old → length (D.seen disk.old) ≡ 0 → OnOk result (Leaves D.Disk disk.new (Rest nothing_kept)) }
+    ensures cause { D.is_honest disk.old → CountsFailure result (D.faults disk.old) (D.faults disk.new) }
+{
+    disk.write_at(0, bytes)?;
+    disk.sync()?;
+    disk.write_at(0, &[GATE_OPEN])?;
+    disk.sync()
+}
+
+/// The runs that a new store takes, and none.
+fn rooms(alloc: Global, max_blocks: u32) -> Result<(Room, Room), StoreFault>
+    ensures room { IfOk result (λ rooms. IsMapOf nothing_kept.extents (taken_of rooms.0.map)) }
+    ensures limit { IfOk result (λ rooms. limit_of rooms.0.map ≡ max_blocks) }
+    ensures err { IfErr result (λ fault. fault ≡ StoreFault.OutOfMemory) }
+{
+    let Some(run) = Run::new(2, 1) else {
+        unreachable!()
+    };
+    let room = Room::of(alloc, &[run], max_blocks)?;
+    let none = Room::of(alloc, &[], max_blocks)?;
+    Ok((room, none))
+}
+
+/// Makes a store on a disk, once its memory is there.
+fn prepare<D: Disk>(
+    alloc: Global,
+    disk: &mut D,
+    max_blocks: u32,
+) -> Result<(Room, Room), StoreFault>
+    ensures honest { D.is_honest disk.new ↔ D.is_honest disk.old }
+    ensures ready { D.is_honest disk.old → IfOk result (λ rooms. Leaves D.Disk disk.new (Rest nothing_kept)) }
+    ensures room { IfOk result (λ rooms. IsMapOf nothing_kept.extents (taken_of rooms.0.map)) }
+    ensures limit { IfOk result (λ rooms. limit_of rooms.0.map ≡ max_blocks) }
+    ensures answer { D.is_honest disk.old → MatchResult result (λ _. refusal_of_new (D.seen disk.old) max_blocks ≡ None) (λ fault. Tells fault (refusal_of_new (D.seen disk.old) max_blocks)) }
+    ensures unchanged { D.is_honest disk.old → refusal_of_new (D.seen disk.old) max_blocks ≢ None → (D.seen disk.new ≡ D.seen disk.old) × Fewer (D.may_leave disk.old) (D.may_leave disk.new) }
+    ensures cause { D.is_honest disk.old → IsErrOf result StoreFault.Device → Failed (D.faults disk.old) (D.faults disk.new) }
+{
+    check(disk, max_blocks)?;
+    let bytes = blank(alloc)?;
+    let rooms = rooms(alloc, max_blocks)?;
+    format(disk, &bytes)?;
+    Ok(rooms)
+}
+
+/// Makes a store that holds nothing of a file that is empty, by five device calls. The file may have at most so many
+/// blocks. A crash before the last of them may leave a file that is no store.
+pub fn create<D: Disk>(
+    alloc: Global,
+    mut disk: D,
+    max_blocks: u32,
+) -> Result<Commit<D>, OpenFault<D>>
+    ensures ok { D.is_honest disk → IfOk result (λ store. Stands D.Disk store nothing_kept) }
+    ensures limit { IfOk result (λ store. limit_of store.room.map ≡ max_blocks) }
+    ensures answer { D.is_honest disk → MatchResult result (λ _. refusal_of_new (D.seen disk) max_blocks ≡ None) (λ refused. Tells refused.fault (refusal_of_new (D.seen disk) max_blocks)) }
+    ensures honest { MatchResult result (λ store. D.is_honest store.disk ↔ D.is_honest disk) (λ refused. D.is_honest refused.disk ↔ D.is_honest disk) }
+    // A file that is refused stays as it is.
+    ensures unchanged { D.is_honest disk → refusal_of_new (D.seen disk) max_blocks ≢ None → IfErr result (λ refused. (D.seen refused.disk ≡ D.seen disk) × Fewer (D.may_leave disk) (D.may_leave refused.disk)) }
+    ensures cause { D.is_honest disk → IfErr result (λ refused. refused.fault ≡ StoreFault.Device → Failed (D.faults disk) (D.faults refused.disk)) }
+{
+    match prepare(alloc, &mut disk, max_blocks) {
+        Ok((room, next_room)) => Ok(Commit {
+            disk,
+            root: FIRST,
+            room,
+            phase: Phase::Idle,
+            next_root: FIRST,
+            next_room,
+            plan: Vec::new(alloc),
+            next: 0,
+        }),
+        Err(fault) => Err(OpenFault { fault, disk }),
+    }
+}

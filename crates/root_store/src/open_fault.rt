@@ -1,0 +1,10 @@
+//! What a disk is handed back with.
+
+use crate::fault::StoreFault;
+
+/// Why no store is made or opened, and the disk as the calls have left it.
+#[derive(Drop)]
+pub struct OpenFault<D> {
+    pub fault: StoreFault,
+    pub disk: D,
+}
