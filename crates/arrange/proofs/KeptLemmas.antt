@@ -11,10 +11,6 @@ use Rattle.overlay_terms.specs.TileLaws.{IsProper}
 use Rattle.arrange.specs.declared.marked_seg.MarkedSeg.{MarkedSeg}
 use Rattle.arrange.specs.Marked.{marked_of, kept_in}
 
--- a column's right border lies a width after its left one
-pub border_next : (k : ℕ) → border (k + 1) ≡ border k +ℤ pos 131072
-border_next k = omega (arith, ints)
-
 -- a segment with the number of its layer
 abbrev pub mark : ℕ → Segment → Marked
 mark layer s = record { layer = layer; segment = s }

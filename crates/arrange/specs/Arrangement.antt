@@ -5,7 +5,7 @@ use Rattle.std.specs.declared.cmp.Ordering.TheVariants.{Less, Equal}
 use Rattle.overlay_terms.specs.Plane.{Point, Segment, point_cmp, same_place, is_on}
 use Rattle.overlay_terms.specs.Column.{border, is_in_column}
 use Rattle.overlay_terms.specs.Trees.{mask_bits}
-use Rattle.overlay_terms.specs.Layers.{Marked}
+use Rattle.overlay_terms.specs.Layers.{layers_max, Marked}
 use Rattle.overlay_terms.specs.Tiles.{is_node, IsPiece, midpoint, Input}
 use Rattle.exact_point.specs.Crossing.{turn_of}
 use Rattle.exact_point.specs.PointName.{HasPlace}
@@ -50,7 +50,7 @@ pub record IsElementary (input : Input) (e : Elementary) : Type 0 where
   pub to_on : IsTrue (is_on e.support (place_of e.to))
   pub piece : IsPiece (segments_in input) (place_of e.from) (place_of e.to)
   pub begins : IsTrue (is_in_column input.column (place_of e.from))
-  pub mask : (k : ℕ) → k < 32 → mask_bits e.mask k ≡ on_bits input.marked (midpoint (place_of e.from) (place_of e.to)) k
+  pub mask : (k : ℕ) → k < layers_max → mask_bits e.mask k ≡ on_bits input.marked (midpoint (place_of e.from) (place_of e.to)) k
 
 -- by the left end, then by direction, the vertical one last
 abbrev pub ComesBefore : Elementary → Elementary → Type 0

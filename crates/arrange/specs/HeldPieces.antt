@@ -8,6 +8,7 @@ use Rattle.std.proofs.lemmas.Cmp.{on_total, then_total}
 use Rattle.overlay_terms.specs.Plane.{Point, Segment, whole_cmp, same_place, is_on}
 use Rattle.overlay_terms.specs.Column.{is_in_column}
 use Rattle.overlay_terms.specs.Trees.{mask_bits}
+use Rattle.overlay_terms.specs.Layers.{layers_max}
 use Rattle.overlay_terms.specs.Tiles.{IsPiece, midpoint, Input}
 use Rattle.exact_point.specs.Crossing.{turn_of}
 use Rattle.exact_point.specs.Place.{place, hpoint_cmp, hpoint_cmp_total}
@@ -56,7 +57,7 @@ pub record IsMadeAt (input : Input) (e : Elementary) (p r : Point) : Type 0 wher
   pub piece : IsPiece (segments_in input) p r
   pub supported : piece.support ≡ e.support
   pub begins : IsTrue (is_in_column input.column p)
-  pub mask : (k : ℕ) → k < 32 → mask_bits e.mask k ≡ on_bits input.marked (midpoint p r) k
+  pub mask : (k : ℕ) → k < layers_max → mask_bits e.mask k ≡ on_bits input.marked (midpoint p r) k
 
 -- a piece with its left end's place
 pub record IsHeld (input : Input) (h : HeldPiece) : Type 0 where

@@ -12,11 +12,8 @@ ghost use Rattle.arrange.specs.NamedPlaces.{AreFound, AreAlong, own_names, names
 use crate::named_place::{NamedPlace, Places};
 use crate::tile_input::TileInput;
 use crate::unit::Unit;
-use exact_point::point::HPoint;
-use exact_point::point_name::PointName;
-use exact_point::side::{border_side, on};
-use plane_base::column::Column;
-use plane_base::point::Seg;
+use exact_point::{HPoint, PointName, border_side, on};
+use plane_base::{Column, Seg};
 use std::alloc::{AllocError, Global};
 use std::cmp::Ordering;
 
@@ -92,6 +89,7 @@ fn offer(found: &mut Places, name: PointName, seg: &Seg, column: Column) -> Resu
     if let Some(at) = name.point() {
         let is_on = on(seg, &at);
         let is_within = is_within(column, &at);
+        // Eager, so that a place makes one case: both tests are a few products.
         if is_on & is_within {
             found.push(NamedPlace { name, at })?;
         }
@@ -105,6 +103,7 @@ fn is_within(column: Column, p: &HPoint) -> bool
 {
     let from_left = border_side(column, p);
     let to_right = is_up_to(column, p);
+    // Eager, so that one equation says all: both sides are known by then.
     from_left.is_ge() & to_right
 }
 

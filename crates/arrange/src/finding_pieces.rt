@@ -16,10 +16,8 @@ use crate::masking::mask_over;
 use crate::named_place::NamedPlace;
 use crate::piece::Elementary;
 use crate::tile_input::TileInput;
-use exact_point::point::HPoint;
-use exact_point::side::border_side;
-use plane_base::column::Column;
-use plane_base::point::Seg;
+use exact_point::{HPoint, border_side};
+use plane_base::{Column, Seg};
 use std::alloc::{AllocError, Global};
 
 /// The elementary pieces whose left ends lie in the column, by left end, then by direction, the

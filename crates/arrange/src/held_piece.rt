@@ -4,8 +4,7 @@ ghost use Rattle.std.specs.declared.cmp.Ordering.TheVariants.{Less};
 ghost use Rattle.overlay_terms.specs.Plane.{whole_cmp};
 
 use crate::piece::Elementary;
-use exact_point::crossing::direction_cmp;
-use exact_point::point::HPoint;
+use exact_point::{HPoint, direction_cmp};
 use std::cmp::Ordering;
 
 /// A piece and the place of its left end. The order is by that place, then by direction, the

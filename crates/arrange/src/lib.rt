@@ -12,3 +12,11 @@ pub mod piece;
 pub mod tile_input;
 pub mod unit;
 mod unit_ends;
+
+pub use finding_nodes::nodes_on;
+pub use finding_pieces::pieces;
+pub use finding_units::units;
+pub use marked_seg::MarkedSeg;
+pub use piece::Elementary;
+pub use tile_input::{TileInput, touches};
+pub use unit::Unit;

@@ -1,7 +1,7 @@
 //! Segments with the layer that they come from.
-use plane_base::point::Seg;
+use plane_base::Seg;
 
-/// A segment, and the number of its base layer among those that a layer reaches, from 0 to 31.
+/// A segment, and the number of its base layer among those that a layer reaches, from 0 on.
 #[derive(Clone, Copy, Debug, PartialEq, Eq)]
 pub struct MarkedSeg {
     pub layer: u8,

@@ -1,7 +1,6 @@
 //! Places of the arrangement with their names.
-use exact_point::point::HPoint;
-use exact_point::point_name::PointName;
-use plane_base::point::Pt;
+use exact_point::{HPoint, PointName};
+use plane_base::Pt;
 use smallvec::SmallVec;
 use std::cmp::Ordering;
 

@@ -1,6 +1,6 @@
 //! Pieces of the arrangement.
-use exact_point::point_name::PointName;
-use plane_base::point::Seg;
+use exact_point::PointName;
+use plane_base::Seg;
 
 /// A piece between two neighbouring nodes on a segment, its left end first, with a bit for each
 /// base layer that has an odd number of segments over it.

@@ -2,7 +2,7 @@
 ghost use Rattle.std.specs.Prelude.{◌≡◌, ◌<◌, ◌≤◌, ◌++◌, None, All, map, length, IfOk, OnOk};
 ghost use Rattle.overlay_terms.specs.Plane.{segments_of};
 ghost use Rattle.overlay_terms.specs.Column.{touches};
-ghost use Rattle.overlay_terms.specs.Layers.{marked_segments};
+ghost use Rattle.overlay_terms.specs.Layers.{layers_max, marked_segments};
 ghost use Rattle.overlay_terms.specs.TileLaws.{IsInput, IsProper};
 ghost use Rattle.plane_base.specs.BaseLayer.{rings_fault};
 ghost use Rattle.arrange.specs.Marked.{marked_of, marked_by, kept_in};
@@ -10,22 +10,18 @@ ghost use Rattle.arrange.specs.SameInput.{SameInputsAreEqual};
 
 use crate::marked_seg::MarkedSeg;
 use layer_expr::step_list::StepList;
-use plane_base::base_layer::BaseLayer;
-use plane_base::column::{Column, LAST_COLUMN};
-use plane_base::point::Seg;
+use plane_base::{BaseLayer, COLUMN_COUNT, Column, Seg};
 use std::alloc::{AllocError, Global};
 use std::marker::Model;
-
-/// How wide a column is.
-const COLUMN_WIDTH: i64 = 131072;
 
 /// Whether a segment has a point in a column.
 pub fn touches(column: Column, seg: Seg) -> bool
     ensures value { result ≡ touches column seg }
     ensures proper { IsProper seg }
 {
+    // Eager, so that one equation says all: neither side costs more than a comparison.
     let after = column.border() <= seg.right().x();
-    let before = seg.left().x() < column.border() + COLUMN_WIDTH;
+    let before = seg.left().x() < column.end();
     after & before
 }
 
@@ -86,7 +82,7 @@ impl TileInput {
         requires { length bases.now ≡ steps.bases }
         ensures { IfOk result (λ input. input ≡ record { column = column; marked = kept_in column (marked_segments (map (λ b. b.now) bases.now)); steps = steps }) }
     {
-        prove!(column.number() <= LAST_COLUMN);
+        prove!(column.number() < COLUMN_COUNT);
         let mut marked = Vec::new(alloc);
         for layer in 0..steps.bases() {
             add_segments(&mut marked, column, layer, bases[usize::from(layer)])?;
@@ -107,7 +103,7 @@ impl TileInput {
 
     pub fn marked(&self) -> &[MarkedSeg]
         ensures value { map marked_of result.now ≡ self.now.marked }
-        ensures few { All (λ m. m.layer < 32) result.now }
+        ensures few { All (λ m. m.layer < layers_max) result.now }
         ensures valid { IsInput self.now }
     {
         &self.marked
@@ -149,6 +145,7 @@ impl PartialEq for TileInput {
         let column = self.column == other.column;
         let marked = self.marked == other.marked;
         let steps = self.steps == other.steps;
+        // Eager, so that one equation says all: inputs are compared once for each tile.
         column & marked & steps
     }
 }

@@ -51,5 +51,6 @@ fn is_collinear(seg: &Seg, other: &Seg) -> bool
 {
     let left = side(seg, &HPoint::of(other.left()));
     let right = side(seg, &HPoint::of(other.right()));
+    // Eager, so that one equation says all: both sides are known by then.
     left.is_eq() & right.is_eq()
 }

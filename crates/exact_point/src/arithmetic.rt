@@ -1,7 +1,7 @@
 //! Exact sums and products of bounded numbers, one or two operations each.
 ghost use Rattle.std.specs.Prelude.{◌≡◌, ℕ, ◌^◌, ◌*◌, ◌+ℤ◌, ◌-ℤ◌, ◌*ℤ◌, ◌≤ℤ◌, pos};
 ghost use Rattle.overlay_terms.specs.Within.{IsWithin};
-ghost use Rattle.overlay_terms.specs.Plane.{InRange};
+ghost use Rattle.overlay_terms.specs.Plane.{denominator_max, InRange};
 
 /// How far a coordinate lies after another.
 pub(crate) fn minus(a: i64, b: i64) -> i128
@@ -17,7 +17,7 @@ pub(crate) fn minus(a: i64, b: i64) -> i128
 pub(crate) fn scaled(x: i64, w: i128) -> i128
     requires x_small { InRange x }
     requires w_low { pos 0 ≤ℤ w }
-    requires w_small { IsWithin (2 ^ 43) w }
+    requires w_small { IsWithin denominator_max w }
     ensures value { result ≡ x *ℤ w }
     ensures small { IsWithin (2 ^ 63) result }
 {
@@ -47,7 +47,7 @@ pub(crate) fn sum(a: i128, b: i128) -> i128
 /// The product of a coordinate and a denominator.
 pub(crate) fn product(a: i128, w: i128) -> i128
     requires a_small { IsWithin (2 ^ 63) a }
-    requires w_small { IsWithin (2 ^ 43) w }
+    requires w_small { IsWithin denominator_max w }
     ensures value { result ≡ a *ℤ w }
     ensures small { IsWithin (2 ^ 106) result }
 {
@@ -69,9 +69,9 @@ pub(crate) fn cross(a: i128, b: i128, c: i128, d: i128) -> i128
 /// The sum of two products.
 pub(crate) fn sum_of_products(a: i128, v: i128, b: i128, w: i128) -> i128
     requires a_small { IsWithin (2 ^ 78) a }
-    requires v_small { IsWithin (2 ^ 43) v }
+    requires v_small { IsWithin denominator_max v }
     requires b_small { IsWithin (2 ^ 78) b }
-    requires w_small { IsWithin (2 ^ 43) w }
+    requires w_small { IsWithin denominator_max w }
     ensures value { result ≡ (a *ℤ v) +ℤ (b *ℤ w) }
     ensures small { IsWithin (2 ^ 122) result }
 {
@@ -95,7 +95,7 @@ pub(crate) fn whole_cross(a: i128, b: i128, c: i128, d: i128) -> i128
     requires c_small { IsWithin (2 ^ 21) c }
     requires d_small { IsWithin (2 ^ 21) d }
     ensures value { result ≡ a *ℤ d -ℤ b *ℤ c }
-    ensures small { IsWithin (2 ^ 43) result }
+    ensures small { IsWithin denominator_max result }
 {
     a * d - b * c
 }

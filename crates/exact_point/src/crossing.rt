@@ -1,7 +1,7 @@
 //! Where two segments cross, and places along a segment.
 ghost use Rattle.std.specs.Prelude.{◌≡◌, ◌^◌, ◌+ℤ◌, ◌-ℤ◌, ◌*ℤ◌, ◌<ℤ◌, ◌≤ℤ◌, ◌↔◌, pos, neg_ℤ, IsTrue, IfSome, IsNone};
 ghost use Rattle.std.specs.Ordering.{int_cmp};
-ghost use Rattle.overlay_terms.specs.Plane.{InRange, Point, same_place, whole_cmp};
+ghost use Rattle.overlay_terms.specs.Plane.{coordinate_max, denominator_max, InRange, Point, same_place, whole_cmp};
 ghost use Rattle.overlay_terms.specs.Within.{IsWithin};
 ghost use Rattle.exact_point.specs.Place.{place};
 ghost use Rattle.exact_point.specs.PlaceOf.{crossing_place, part_way as way_place};
@@ -9,7 +9,7 @@ ghost use Rattle.exact_point.specs.Crossing.{IsCrossingOf, IsOnlyCrossingOf, Cro
 
 use crate::arithmetic::{minus, product, scaled, sum, whole_cross};
 use crate::point::HPoint;
-use plane_base::point::Seg;
+use plane_base::Seg;
 use std::cmp::Ordering;
 
 /// The place where two segments meet, unless they are parallel or have no common point.
@@ -32,7 +32,7 @@ pub fn cross_of(a: &Seg, b: &Seg) -> Option<HPoint>
 fn meeting(a: &Seg, b: &Seg, left: i128) -> Option<HPoint>
     requires positive { pos 0 <ℤ left }
     requires value { left ≡ turn_of a.now b.now }
-    requires small { IsWithin (2 ^ 43) left }
+    requires small { IsWithin denominator_max left }
     ensures meets { IfSome result (λ z. IsCrossingOf a.now b.now (place z)) }
     ensures only { IfSome result (λ z. IsOnlyCrossingOf a.now b.now (place z)) }
     ensures none { IsNone result → CrossNowhere a.now b.now }
@@ -66,7 +66,7 @@ pub fn direction_cmp(a: &Seg, b: &Seg) -> Ordering
 /// How far the second segment turns left from the first, as the cross product of their directions.
 fn turn(a: &Seg, b: &Seg) -> i128
     ensures value { result ≡ turn_of a.now b.now }
-    ensures small { IsWithin (2 ^ 43) result }
+    ensures small { IsWithin denominator_max result }
 {
     let (first, second) = (a.right(), b.right());
     whole_cross(
@@ -82,7 +82,7 @@ fn lead(from: &Seg, to: &Seg, direction: &Seg) -> i128
     ensures value { result ≡ lead_of from.now to.now direction.now }
     ensures from_ahead { whole_cmp from.now.left from.now.right ≡ Ordering.Less }
     ensures to_ahead { whole_cmp to.now.left to.now.right ≡ Ordering.Less }
-    ensures small { IsWithin (2 ^ 43) result }
+    ensures small { IsWithin denominator_max result }
 {
     let (begin, end) = (direction.left(), direction.right());
     whole_cross(
@@ -98,7 +98,7 @@ pub(crate) fn part_way(seg: &Seg, t: i128, w: i128) -> HPoint
     requires t_low { pos 0 ≤ℤ t }
     requires t_high { t ≤ℤ w }
     requires w_low { pos 1 ≤ℤ w }
-    requires w_high { w ≤ℤ pos 8796093022208 }
+    requires w_high { w ≤ℤ pos denominator_max }
     ensures { IsPartWay seg.now t w (place result) }
 {
     let (left, right) = (seg.left(), seg.right());
@@ -115,10 +115,10 @@ fn between(from: i64, to: i64, t: i128, w: i128) -> i128
     requires to_small { InRange to }
     requires t_low { pos 0 ≤ℤ t }
     requires t_high { t ≤ℤ w }
-    requires w_high { w ≤ℤ pos 8796093022208 }
+    requires w_high { w ≤ℤ pos denominator_max }
     ensures value { result ≡ (from *ℤ w) +ℤ ((to -ℤ from) *ℤ t) }
-    ensures low { neg_ℤ (pos 1048576 *ℤ w) ≤ℤ result }
-    ensures high { result ≤ℤ (pos 1048576 *ℤ w) }
+    ensures low { neg_ℤ (pos coordinate_max *ℤ w) ≤ℤ result }
+    ensures high { result ≤ℤ (pos coordinate_max *ℤ w) }
 {
     sum(scaled(from, w), product(minus(to, from), t))
 }

@@ -11,3 +11,12 @@ pub mod point_name;
 pub mod query;
 pub mod reducing;
 pub mod side;
+
+pub use crossing::{cross_of, direction_cmp};
+pub use fault::PointFault;
+pub use middle::below_middle;
+pub use point::HPoint;
+pub use point_name::PointName;
+pub use query::QueryPoint;
+pub use reducing::reduced;
+pub use side::{below, border_side, on, x_cmp};

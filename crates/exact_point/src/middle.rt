@@ -2,13 +2,13 @@
 ghost use Rattle.std.specs.Prelude.{◌≡◌, ◌^◌, ◌+ℤ◌, ◌-ℤ◌, ◌*ℤ◌, pos, int_lt};
 ghost use Rattle.overlay_terms.specs.Within.{IsWithin};
 ghost use Rattle.exact_point.specs.Place.{place};
-ghost use Rattle.overlay_terms.specs.Plane.{is_below};
+ghost use Rattle.overlay_terms.specs.Plane.{denominator_max, is_below};
 ghost use Rattle.overlay_terms.specs.Tiles.{midpoint};
 
 use crate::arithmetic::{by_256, offset, scaled, sum_of_products};
 use crate::point::HPoint;
 use crate::side::{along, height};
-use plane_base::point::Seg;
+use plane_base::Seg;
 
 /// Whether the segment is below the middle of two points.
 pub fn below_middle(seg: &Seg, from: &HPoint, to: &HPoint) -> bool
@@ -40,9 +40,9 @@ fn past_right(seg: &Seg, p: &HPoint) -> i128
 /// Whether a sum of two products is positive. Either may be too large for its type.
 fn is_sum_positive(a: i128, v: i128, b: i128, w: i128) -> bool
     requires a_small { IsWithin (2 ^ 86) a }
-    requires v_small { IsWithin (2 ^ 43) v }
+    requires v_small { IsWithin denominator_max v }
     requires b_small { IsWithin (2 ^ 86) b }
-    requires w_small { IsWithin (2 ^ 43) w }
+    requires w_small { IsWithin denominator_max w }
     ensures { result ≡ int_lt (pos 0) ((a *ℤ v) +ℤ (b *ℤ w)) }
 {
     let (first, second) = (by_256(a), by_256(b));
@@ -59,5 +59,6 @@ fn is_positive(high: i128, low: i128) -> bool
 {
     let (carry, rest) = by_256(low);
     let whole = high + carry;
+    // Eager, so that one equation says all: neither side costs more than a comparison.
     (whole > 0) | ((whole >= 0) & (rest > 0))
 }

@@ -1,8 +1,9 @@
 //! Points in homogeneous coordinates.
 ghost use Rattle.std.specs.Prelude.{◌≡◌, pos, neg_ℤ, ◌≤ℤ◌, ◌*ℤ◌};
+ghost use Rattle.overlay_terms.specs.Plane.{coordinate_max, denominator_max};
 
 use crate::arithmetic::product;
-use plane_base::point::Pt;
+use plane_base::Pt;
 use std::cmp::Ordering;
 
 /// The point (x / w, y / w).
@@ -12,11 +13,11 @@ pub struct HPoint {
     pub y: i128,
     pub w: i128,
     pub ghost w_low: { pos 1 ≤ℤ w },
-    pub ghost w_high: { w ≤ℤ pos 8796093022208 },
-    pub ghost x_low: { neg_ℤ (pos 1048576 *ℤ w) ≤ℤ x },
-    pub ghost x_high: { x ≤ℤ (pos 1048576 *ℤ w) },
-    pub ghost y_low: { neg_ℤ (pos 1048576 *ℤ w) ≤ℤ y },
-    pub ghost y_high: { y ≤ℤ (pos 1048576 *ℤ w) },
+    pub ghost w_high: { w ≤ℤ pos denominator_max },
+    pub ghost x_low: { neg_ℤ (pos coordinate_max *ℤ w) ≤ℤ x },
+    pub ghost x_high: { x ≤ℤ (pos coordinate_max *ℤ w) },
+    pub ghost y_low: { neg_ℤ (pos coordinate_max *ℤ w) ≤ℤ y },
+    pub ghost y_high: { y ≤ℤ (pos coordinate_max *ℤ w) },
 }
 
 impl HPoint {

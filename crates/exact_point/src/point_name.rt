@@ -8,8 +8,7 @@ ghost use Rattle.exact_point.specs.PointName.{IsPlaceOf, IsOnlyPlaceOf, HasPlace
 use crate::arithmetic::minus;
 use crate::crossing::{cross_of, part_way};
 use crate::point::HPoint;
-use plane_base::column::Column;
-use plane_base::point::{Pt, Seg};
+use plane_base::{Column, Pt, Seg};
 
 /// A place, named by what makes it.
 #[derive(Clone, Copy, Debug, PartialEq, Eq)]

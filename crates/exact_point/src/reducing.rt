@@ -2,7 +2,7 @@
 ghost use Prim.Native.Nat.{◌∣◌};
 ghost use Rattle.std.specs.Prelude.{◌≡◌, ◌^◌, ◌<◌, ◌≤◌, ◌*ℤ◌, pos, unsigned_abs, IsTrue};
 ghost use Rattle.std.specs.Int.{IsGcd};
-ghost use Rattle.overlay_terms.specs.Plane.{same_place};
+ghost use Rattle.overlay_terms.specs.Plane.{denominator_max, same_place};
 ghost use Rattle.exact_point.specs.Place.{place};
 ghost use Rattle.exact_point.specs.Reduced.{IsDivisorOf, IsLowest, LowestTermsAreOne};
 
@@ -30,7 +30,7 @@ pub fn lowest_terms_are_one()
 fn divisor(p: &HPoint) -> u128
     ensures value { IsDivisorOf (place p.now) result }
     ensures positive { 0 < result }
-    ensures small { result ≤ 2 ^ 43 }
+    ensures small { result ≤ denominator_max }
 {
     let of_place = gcd(p.x.unsigned_abs(), p.y.unsigned_abs());
     gcd(of_place, p.w.unsigned_abs())

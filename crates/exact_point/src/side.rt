@@ -8,8 +8,7 @@ ghost use Rattle.overlay_terms.specs.Plane.{whole, point_cmp, height_over, side_
 
 use crate::arithmetic::{cross, minus, offset, product, scaled};
 use crate::point::HPoint;
-use plane_base::column::Column;
-use plane_base::point::{Pt, Seg};
+use plane_base::{Column, Pt, Seg};
 use std::cmp::Ordering;
 
 /// How far a point lies to the right of the left end, times its denominator.
@@ -66,6 +65,7 @@ pub fn on(seg: &Seg, p: &HPoint) -> bool
     }
     let from_left = cmp_whole(p, seg.left());
     let from_right = cmp_whole(p, seg.right());
+    // Eager, so that one equation says all: both orders are there already.
     !from_left.is_lt() & !from_right.is_gt()
 }
 

@@ -10,7 +10,7 @@ use Rattle.overlay_terms.specs.Orderly.{used_names, is_among, is_orderly_after}
 use Rattle.layer_book.specs.Question.{content_at, at_index, is_wanted, marked}
 use Rattle.layer_book.proofs.Names.{stands_is}
 use Rattle.layer_book.proofs.Order.{head_of, among-push}
-use Rattle.layer_book.proofs.Accepted.{all_where}
+use Rattle.overlay_terms.proofs.NameLemmas.{list_all_so}
 use Rattle.layer_book.proofs.Answering.{layer_there}
 
 set_keeps : (ws : List Bool) (i k : ℕ) → at_index ws k ≡ true → at_index (slice_set ws i true) k ≡ true
@@ -74,9 +74,9 @@ used_before known [] i layer h e = cc
 used_before known (l ∷ layers) zero layer h e =
     let same : l ≡ layer = cc in
     subst (λ (m : Layer). list_all (λ u. is_among known u || before (l ∷ layers) 0 u) (used_names m.content) ≡ true) same
-    (all_where (is_among known) (λ u. is_among known u || before (l ∷ layers) 0 u) (λ u k. or_left _ _ k) (used_names l.content) (head_of known l layers h).earlier)
+    (list_all_so (is_among known) (λ u. is_among known u || before (l ∷ layers) 0 u) (λ u k. or_left _ _ k) (used_names l.content) (head_of known l layers h).earlier)
 used_before known (l ∷ layers) (suc i) layer h e =
-    all_where (λ u. is_among (known ++ l.name ∷ []) u || before layers i u) (λ u. is_among known u || before (l ∷ layers) (suc i) u)
+    list_all_so (λ u. is_among (known ++ l.name ∷ []) u || before layers i u) (λ u. is_among known u || before (l ∷ layers) (suc i) u)
     (λ u k. by_indices (is_among known u) (bytes_eq l.name u) (index_of layers u) i (sym (ap (λ b. b || before layers i u) (among-push known l.name u)) ∙ k))
     (used_names layer.content) (used_before (known ++ l.name ∷ []) layers i layer (head_of known l layers h).behind e)
 
@@ -106,7 +106,7 @@ closed_on layers ws k l true n at ek near closed i layer from e m =
           subst (λ (one : Layer). list_all (is_wanted layers (marked layers ws (used_names l.content))) (used_names one.content) ≡ true) same (marked_all layers ws (used_names l.content) k (omega arith) near)
       | inr other ↦ elim other [
         | inl later ↦
-            all_where (is_wanted layers ws) (is_wanted layers (marked layers ws (used_names l.content))) (λ u w. marked_keeps layers ws (used_names l.content) (index_of layers u) w) (used_names layer.content)
+            list_all_so (is_wanted layers ws) (is_wanted layers (marked layers ws (used_names l.content))) (λ u w. marked_keeps layers ws (used_names l.content) (index_of layers u) w) (used_names layer.content)
             (closed i layer (omega arith) e (sym (marked_beyond layers ws (used_names l.content) k i from near) ∙ m))
         | inr earlier ↦ absurd (omega arith)
       ]

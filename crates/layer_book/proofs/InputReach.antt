@@ -35,19 +35,19 @@ pub record IsMarked (layers : List Layer) (name : Name) (ws : List Bool) : Type 
 pub few_marked : {X : Type 0} (f : X → Reached) (layers : List Layer) (name : Name) (ws : List Bool) (lent : List X) → IsMarked layers name ws → map f lent ≡ map reached_of (marked_layers ws layers) → length lent ≤ 32
 few_marked f layers name ws lent m e =
     let count : length lent ≡ length (marked_layers ws layers) = sym (length-map lent f) ∙ ap length e ∙ length-map (marked_layers ws layers) reached_of in
-    omega (arith, count, marked_few ws layers, m.book.few)
+    omega (arith, count, marked_few ws layers, m.book.sound.few)
 
 -- they are in order
 pub ordered_marked : (layers : List Layer) (name : Name) (ws : List Bool) (lent : List Reached) → IsMarked layers name ws → lent ≡ map reached_of (marked_layers ws layers) → IsOrdered lent
 ordered_marked layers name ws lent m e =
     let standing = derived_stands layers name m.is_derived in
     subst IsOrdered (sym (e ∙ ap (map reached_of) m.exactly))
-    (is_ordered_after-reached [] (layers_in_reach layers name) ∙ passing_orderly (in_reach layers name) layers [] [] (λ n. refl) m.book.orderly (uses_in_reach layers name m.book.orderly standing))
+    (is_ordered_after-reached [] (layers_in_reach layers name) ∙ passing_orderly (in_reach layers name) layers [] [] (λ n. refl) m.book.sound.orderly (uses_in_reach layers name m.book.sound.orderly standing))
 
 -- the last is derived
 pub last_marked : (layers : List Layer) (name : Name) (ws : List Bool) (lent : List Reached) → IsMarked layers name ws → lent ≡ map reached_of (marked_layers ws layers) → ReachesAll lent
 last_marked layers name ws lent m e =
-    let orderly = m.book.orderly in
+    let orderly = m.book.sound.orderly in
     let standing = derived_stands layers name m.is_derived in
     subst ReachesAll (sym (e ∙ ap (map reached_of) m.exactly))
     (or_left _ _ (ends_all (reaches layers) name layers [] orderly (reach_rows layers orderly) (λ n k. absurd (false≢true k)) (reaches_itself layers name orderly standing) m.is_derived false))

@@ -1,10 +1,10 @@
 -- What stands under a name, and the first reason against some names.
 use Rattle.std.proofs.Common.{◌≡◌, Bool, true, false, not, cond, ◌||◌, ◌&&◌, List, [], ◌∷◌, ◌++◌, length, Option, Some, None, refl, ap, sym, ◌∙◌, subst, arith, bytes_eq}
 use Rattle.std.specs.List.{list_any}
-use Rattle.std.specs.Option.{option_map}
+use Rattle.std.specs.Option.{option_map, option_or}
 use Rattle.std.proofs.lemmas.Bool.{or_parts}
 use Rattle.overlay_terms.specs.Layers.{Name, Content, Layer}
-use Rattle.overlay_terms.specs.Commands.{Refusal, index_of, stands, is_derived, or_else, refusal_of_use, refusal_of_uses, stands_as_base, stands_as_derived}
+use Rattle.overlay_terms.specs.Commands.{Refusal, index_of, stands, is_derived, refusal_of_use, refusal_of_uses, stands_as_base, stands_as_derived}
 use Rattle.overlay_terms.specs.Orderly.{is_orderly_after}
 use Rattle.layer_book.specs.declared.fault.LayerFault.{LayerFault}
 use Rattle.layer_book.specs.Fault.{fault_of}
@@ -47,20 +47,20 @@ as_base layers name found h e = named_passes (λ c. not (is_derived c)) [] layer
 pub as_derived : (layers : List Layer) (name : Name) (found : Option Content) → is_orderly_after [] layers ≡ true → found ≡ content_named layers name → stands_as_derived layers name ≡ passes is_derived found
 as_derived layers name found h e = named_passes is_derived [] layers name h ∙ ap (passes is_derived) (sym e)
 
-or_else-assoc : (a b c : Option Refusal) → or_else (or_else a b) c ≡ or_else a (or_else b c)
-or_else-assoc None b c = refl
-or_else-assoc (Some a) b c = refl
+or_assoc : (a b c : Option Refusal) → option_or (option_or a b) c ≡ option_or a (option_or b c)
+or_assoc None b c = refl
+or_assoc (Some a) b c = refl
 
-uses-append : (layers : List Layer) (defined : Name) (xs ys : List Name) → refusal_of_uses layers defined (xs ++ ys) ≡ or_else (refusal_of_uses layers defined xs) (refusal_of_uses layers defined ys)
+uses-append : (layers : List Layer) (defined : Name) (xs ys : List Name) → refusal_of_uses layers defined (xs ++ ys) ≡ option_or (refusal_of_uses layers defined xs) (refusal_of_uses layers defined ys)
 uses-append layers defined [] ys = refl
 uses-append layers defined (x ∷ xs) ys =
-    ap (or_else (refusal_of_use layers defined x)) (uses-append layers defined xs ys) ∙ sym (or_else-assoc (refusal_of_use layers defined x) (refusal_of_uses layers defined xs) (refusal_of_uses layers defined ys))
+    ap (option_or (refusal_of_use layers defined x)) (uses-append layers defined xs ys) ∙ sym (or_assoc (refusal_of_use layers defined x) (refusal_of_uses layers defined xs) (refusal_of_uses layers defined ys))
 
-first_stays : (a b : Option Refusal) (fault : LayerFault) → Some fault ≡ option_map fault_of a → Some fault ≡ option_map fault_of (or_else a b)
+first_stays : (a b : Option Refusal) (fault : LayerFault) → Some fault ≡ option_map fault_of a → Some fault ≡ option_map fault_of (option_or a b)
 first_stays None b fault h = cc
 first_stays (Some a) b fault h = h
 
-next_counts : (a b : Option Refusal) (found : Option LayerFault) → None ≡ option_map fault_of a → found ≡ option_map fault_of b → found ≡ option_map fault_of (or_else a b)
+next_counts : (a b : Option Refusal) (found : Option LayerFault) → None ≡ option_map fault_of a → found ≡ option_map fault_of b → found ≡ option_map fault_of (option_or a b)
 next_counts None b found h e = e
 next_counts (Some a) b found h e = cc
 

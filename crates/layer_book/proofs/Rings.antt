@@ -8,7 +8,7 @@ use Rattle.overlay_terms.specs.InputLaws.{IsRing}
 use Rattle.layer_book.specs.Layer.{HasRings, others}
 
 -- the rings of each base layer are closed and in range
-abbrev AreRings : List Layer → Type 0
+abbrev pub AreRings : List Layer → Type 0
 AreRings layers = All (λ b. All IsRing b.1) (filter_map base_of layers)
 
 rings_cons : (layer : Layer) (layers : List Layer) → HasRings layer.content → AreRings layers → AreRings (layer ∷ layers)

@@ -2,10 +2,10 @@
 use Rattle.std.specs.Prelude.{ℕ, ◌≤◌, not, List, [], ◌∷◌, map, filter, filter_map, length, Option, Some, None, bytes_eq, if◌then◌else◌, All, IsTrue}
 use Rattle.std.specs.List.{AllByRecursion}
 use Rattle.overlay_terms.specs.Plane.{WholePoint}
-use Rattle.overlay_terms.specs.Layers.{Content, base, derived, base_of}
+use Rattle.overlay_terms.specs.Layers.{layers_max, Content, base, derived, base_of}
 use Rattle.overlay_terms.specs.Layers as terms
-use Rattle.overlay_terms.specs.Commands.{Command, put, define, layers_max}
-use Rattle.overlay_terms.specs.Orderly.{IsOrderly}
+use Rattle.overlay_terms.specs.Commands.{Command, put, define}
+use Rattle.overlay_terms.specs.LayerParity.{AreSound}
 use Rattle.overlay_terms.specs.InputLaws.{IsRing}
 use Rattle.layer_expr.specs.Name.{is_name}
 use Rattle.layer_book.specs.declared.layer.Layer.{Layer}
@@ -29,12 +29,10 @@ abbrev pub HasRings : Content → Type 0
 HasRings (base rings) = All IsRing rings
 HasRings (derived expression) = Unit {0}
 
--- layers as commands leave them: orderly, not too many, each under a name, and the rings of base layers closed and in range
+-- layers as commands leave them: sound, and each under a name
 pub record IsBook (layers : List terms.Layer) : Type 0 where
-  pub orderly : IsOrderly layers
-  pub few : length layers ≤ layers_max
+  pub sound : AreSound layers
   pub named : AllByRecursion (λ layer. IsTrue (is_name layer.name)) layers
-  pub rings : All (λ b. All IsRing b.1) (filter_map base_of layers)
 
 -- the rings of a base layer, as a list of one; none of a derived one
 abbrev pub rings_in : Content → List (List (List WholePoint))

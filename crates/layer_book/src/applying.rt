@@ -11,12 +11,10 @@ use crate::command::Command;
 use crate::fault::LayerFault;
 use crate::layer::Layer;
 use crate::layers::Layers;
+use layer_expr::MAX_LAYERS;
 use layer_expr::expr::{Expr, Node};
 use layer_expr::name::Name;
 use std::alloc::{AllocError, Global};
-
-/// The most layers that stand at a time.
-pub const MAX_LAYERS: usize = 32;
 
 impl Layers {
     /// The layers after a command. A refusal is the first reason that applies, and comes before any

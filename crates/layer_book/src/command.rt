@@ -5,7 +5,7 @@ ghost use Rattle.layer_book.specs.Command.{command};
 
 use layer_expr::expr::Expr;
 use layer_expr::name::Name;
-use plane_base::base_layer::BaseLayer;
+use plane_base::BaseLayer;
 use std::sync::Arc;
 
 /// A change of the layers.

@@ -6,18 +6,17 @@ ghost use Rattle.overlay_terms.specs.Column.{columns, touches};
 ghost use Rattle.overlay_terms.specs.SameInput.{same_marked, same_segment};
 ghost use Rattle.layer_book.specs.Touching.{marked_in};
 
-use arrange::tile_input::touches;
-use plane_base::base_layer::BaseLayer;
-use plane_base::column::Column;
-use plane_base::point::Seg;
+use crate::touching::COLUMNS;
+use arrange::touches;
+use plane_base::{BaseLayer, COLUMN_COUNT, Column, Seg};
 
 /// In which columns as many base layers have other segments.
-pub(crate) fn changed_columns(new: &[&BaseLayer], old: &[&BaseLayer]) -> [bool; 17]
+pub(crate) fn changed_columns(new: &[&BaseLayer], old: &[&BaseLayer]) -> [bool; COLUMNS]
     requires { length new.now ≡ length old.now }
     ensures { result ≡ map (λ k. not (pointwise same_marked (marked_in k (map (λ b. b.now) new.now)) (marked_in k (map (λ b. b.now) old.now)))) columns }
 {
-    let mut changed = [false; 17];
-    for number in 0..17u8 {
+    let mut changed = [false; COLUMNS];
+    for number in 0..COLUMN_COUNT {
         if let Some(column) = Column::new(u64::from(number)) {
             changed[usize::from(number)] = !are_same_in(column, new, old);
         }

@@ -7,12 +7,11 @@ ghost use Rattle.layer_book.specs.Layer.{IsBook};
 ghost use Rattle.layer_book.specs.Place.{location, IsToldOf};
 ghost use Rattle.layer_book.specs.Question.{answers, is_wanted, IsClosed};
 
-use crate::applying::MAX_LAYERS;
 use crate::fault::LayerFault;
 use crate::layers::Layers;
 use crate::question::Question;
-use exact_point::point::HPoint;
-use exact_point::query::QueryPoint;
+use exact_point::{HPoint, QueryPoint};
+use layer_expr::MAX_LAYERS;
 use layer_expr::name::Name;
 
 /// Where a point lies: in a layer, outside, or on a segment of a base layer that it reaches.

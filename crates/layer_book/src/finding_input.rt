@@ -9,11 +9,10 @@ ghost use Rattle.layer_book.specs.TileRefusal.{tile_refusal};
 
 use crate::fault::LayerFault;
 use crate::layers::Layers;
-use arrange::tile_input::TileInput;
+use arrange::TileInput;
 use layer_expr::name::Name;
 use layer_expr::step_list::StepList;
-use plane_base::base_layer::BaseLayer;
-use plane_base::column::Column;
+use plane_base::{BaseLayer, Column};
 use std::alloc::{AllocError, Global};
 
 impl Layers {

@@ -10,7 +10,7 @@ ghost use Rattle.layer_expr.specs.Name.{is_name};
 
 use layer_expr::expr::{Expr, Node};
 use layer_expr::name::Name;
-use plane_base::base_layer::BaseLayer;
+use plane_base::BaseLayer;
 use std::alloc::AllocError;
 use std::sync::Arc;
 

@@ -12,7 +12,7 @@ use layer_expr::name::Name;
 use std::alloc::{AllocError, Global};
 use std::marker::Model;
 
-/// Named layers in order of creation, at most 32. Each definition names earlier layers alone.
+/// Named layers in order of creation, at most `MAX_LAYERS`. Each definition names earlier layers alone.
 #[derive(Debug, Drop)]
 pub struct Layers {
     map: IndexMap<Name, Layer>,

@@ -15,9 +15,9 @@ pub mod reach;
 pub mod touching;
 pub mod wanted_layers;
 
-pub use applying::MAX_LAYERS;
 pub use command::Command;
 pub use direct_answer::Place;
 pub use fault::LayerFault;
 pub use layer::Layer;
+pub use layer_expr::MAX_LAYERS;
 pub use layers::Layers;

@@ -10,14 +10,13 @@ ghost use Rattle.layer_expr.specs.Expr.{tree};
 ghost use Rattle.layer_book.specs.Layer.{content, IsBook};
 ghost use Rattle.layer_book.specs.Question.{answers, content_answer, content_at, if_wanted, labelled, wanted_layers};
 
-use crate::applying::MAX_LAYERS;
 use crate::layer::Layer;
 use crate::layers::Layers;
-use exact_point::point::HPoint;
-use exact_point::side::{below, on};
+use exact_point::{HPoint, below, on};
+use layer_expr::MAX_LAYERS;
 use layer_expr::expr::{Node, Operation};
 use layer_expr::name::Name;
-use plane_base::point::Seg;
+use plane_base::Seg;
 
 /// Whether a layer holds a point, or whether a segment that it reaches does.
 #[derive(Clone, Copy, Debug, PartialEq, Eq)]

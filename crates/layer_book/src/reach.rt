@@ -8,9 +8,9 @@ ghost use Rattle.layer_expr.specs.Expr.{tree};
 ghost use Rattle.layer_book.specs.Layer.{IsBook};
 ghost use Rattle.layer_book.specs.Question.{at_index, content_at, is_wanted, marked, marked_layers, IsClosed};
 
-use crate::applying::MAX_LAYERS;
 use crate::layer::Layer;
 use crate::layers::Layers;
+use layer_expr::MAX_LAYERS;
 use layer_expr::expr::Node;
 use layer_expr::name::Name;
 

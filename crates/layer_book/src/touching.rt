@@ -15,8 +15,11 @@ use crate::command::Command;
 use crate::comparing::changed_columns;
 use crate::layers::Layers;
 use layer_expr::name::Name;
-use plane_base::column::Column;
+use plane_base::{COLUMN_COUNT, Column};
 use std::alloc::{AllocError, Global};
+
+/// How many columns a row has: all of them.
+pub(crate) const COLUMNS: usize = COLUMN_COUNT as usize;
 
 impl Layers {
     /// Which tiles a command touches: for each layer, by index, whether it touches the tile of each
@@ -26,7 +29,7 @@ impl Layers {
         alloc: Global,
         change: &Command,
         after: &Layers,
-    ) -> Result<Vec<[bool; 17]>, AllocError>
+    ) -> Result<Vec<[bool; COLUMNS]>, AllocError>
         requires accepted { refusal_of self.now (command change.now) ≡ None }
         requires made { after.now ≡ applied self.now (command change.now) }
         ensures { IfOk result (λ rows. rows.items ≡ touched_rows self.now (command change.now)) }
@@ -42,7 +45,7 @@ impl Layers {
     }
 
     /// Whether a command touches the tile of a layer and column, by the rows of all layers.
-    pub fn is_touched(&self, rows: &[[bool; 17]], name: &Name, column: Column) -> bool
+    pub fn is_touched(&self, rows: &[[bool; COLUMNS]], name: &Name, column: Column) -> bool
         ensures { (change : terms.Command) → rows.now ≡ touched_rows self.now change → result ≡ is_touched self.now change name.now column }
     {
         match rows.get(self.index_of(name)) {
@@ -59,17 +62,17 @@ impl Layers {
         change: &Command,
         after: &Layers,
         name: &Name,
-    ) -> Result<[bool; 17], AllocError>
+    ) -> Result<[bool; COLUMNS], AllocError>
         requires book { IsBook self.now }
         requires accepted { refusal_of self.now (command change.now) ≡ None }
         requires made { after.now ≡ applied self.now (command change.now) }
         ensures { IfOk result (λ row. row ≡ touched_columns self.now (command change.now) name.now) }
     {
         if !self.is_over(name, change.name()) {
-            return Ok([false; 17]);
+            return Ok([false; COLUMNS]);
         }
         if !after.stands_as_derived(name) {
-            return Ok([true; 17]);
+            return Ok([true; COLUMNS]);
         }
         let row = self.changed_columns(alloc, after, name)?;
         Ok(row)
@@ -81,7 +84,7 @@ impl Layers {
         alloc: Global,
         after: &Layers,
         name: &Name,
-    ) -> Result<[bool; 17], AllocError>
+    ) -> Result<[bool; COLUMNS], AllocError>
         requires before { stands_as_derived self.now name.now ≡ true }
         requires afterwards { stands_as_derived after.now name.now ≡ true }
         ensures { IfOk result (λ row. row ≡ map (λ k. not (same_input (input_of after.now name.now k) (input_of self.now name.now k))) columns) }
@@ -89,7 +92,7 @@ impl Layers {
         let old_steps = self.steps_in_reach(alloc, name)?;
         let new_steps = after.steps_in_reach(alloc, name)?;
         if !(new_steps == old_steps) {
-            return Ok([true; 17]);
+            return Ok([true; COLUMNS]);
         }
         let old_bases = self.bases_in_reach(alloc, name)?;
         let new_bases = after.bases_in_reach(alloc, name)?;

@@ -5,12 +5,12 @@ ghost use Rattle.layer_expr.specs.StepList.{reached, reached_of};
 ghost use Rattle.layer_book.specs.Layer.{content, named_layer, rings_in};
 ghost use Rattle.layer_book.specs.Question.{marked_layers};
 
-use crate::applying::MAX_LAYERS;
 use crate::layer::Layer;
 use crate::layers::Layers;
+use layer_expr::MAX_LAYERS;
 use layer_expr::expr::Expr;
 use layer_expr::name::Name;
-use plane_base::base_layer::BaseLayer;
+use plane_base::BaseLayer;
 use std::alloc::{AllocError, Global};
 
 impl Layers {

@@ -10,7 +10,8 @@ use Rattle.overlay_terms.specs.Trees.{intersection, union, difference, sym_diffe
 use Rattle.layer_expr.specs.declared.fault.ExprFault.{ExprFault}
 use Rattle.layer_expr.specs.declared.fault.ExprFault.TheVariants.{ExprSyntax, ExprTooLong, BadName, OutOfMemory}
 use Rattle.layer_expr.specs.Name.{name_max, is_name, is_name_byte, first_is_letter}
-use Rattle.layer_expr.specs.Token.{Kind, name, operator, open_bracket, close_bracket, stray, Token, is_blank, name_front, sign_kind, tokens_after, tokens_of}
+use Rattle.overlay_terms.specs.Blank.{is_blank}
+use Rattle.layer_expr.specs.Token.{Kind, name, operator, open_bracket, close_bracket, stray, Token, name_front, sign_kind, tokens_after, tokens_of}
 use Rattle.layer_expr.specs.Grammar.{kinds_of, IsSum, IsBegun, is_name_short, IsGoodSoFar, IsFaultAt, IsRefusedBy, ReadsAs}
 use Rattle.layer_expr.specs.Standing.{Standing, at_start, moved, behind_all, finished}
 use Rattle.layer_expr.specs.Reader.{is_good, IsStepFault, IsEndFault}

@@ -4,7 +4,8 @@ use Rattle.std.specs.Prelude.{slice_range}
 use Rattle.std.specs.Char.{is_ascii_alphabetic}
 use Rattle.std.proofs.lemmas.Bool.Decides.{nat_tests}
 use Rattle.layer_expr.specs.Name.{is_name_byte}
-use Rattle.layer_expr.specs.Token.{name, is_blank, name_front, tokens_after}
+use Rattle.overlay_terms.specs.Blank.{is_blank}
+use Rattle.layer_expr.specs.Token.{name, name_front, tokens_after}
 
 pub name_more : (b : ℕ) (bs : List ℕ) → is_name_byte b ≡ true → name_front (b ∷ bs) ≡ b ∷ name_front bs
 name_more b bs h = rw h

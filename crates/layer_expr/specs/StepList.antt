@@ -3,7 +3,7 @@ use Rattle.std.specs.Prelude.{◌≡◌, ℕ, ◌+◌, ◌≤◌, nat_lt, Bool, 
 use Rattle.std.specs.Borrow.{Bor}
 use Rattle.std.specs.List.{list_all, filter_map, enumerate_from}
 use Rattle.overlay_terms.specs.Trees.{Tree, truth, leaves, relabel, Source, base_bit, definition, Steps, steps_value, last_or}
-use Rattle.overlay_terms.specs.Layers.{Name, Content, base, derived, Layer, named, source_of, base_of, derived_of, layers_in_reach, steps_in_reach}
+use Rattle.overlay_terms.specs.Layers.{layers_max, Name, Content, base, derived, Layer, named, source_of, base_of, derived_of, layers_in_reach, steps_in_reach}
 use Rattle.overlay_terms.specs.Orderly.{is_among}
 
 -- a layer in reach: its name, and its expression where it is derived
@@ -81,10 +81,10 @@ abbrev pub names_earlier : ℕ → ℕ → List (Tree Source) → Bool
 names_earlier bases place definitions =
     list_all (λ d. list_all (stands_before bases d.0) (leaves d.1)) (enumerate_from place definitions)
 
--- at most 32 base layers and 32 definitions, each over base layers and earlier definitions
+-- no more base layers and no more definitions than layers may stand, each over base layers and earlier definitions
 pub record IsStepList (steps : Steps) : Type 0 where
-  pub few_bases : steps.bases ≤ 32
-  pub few_definitions : length steps.definitions ≤ 32
+  pub few_bases : steps.bases ≤ layers_max
+  pub few_definitions : length steps.definitions ≤ layers_max
   pub earlier : IsTrue (names_earlier steps.bases 0 steps.definitions)
 
 -- a layer with its name and, where it is derived, its expression

@@ -1,6 +1,7 @@
 -- The tokens of an expression: names, operators and brackets, with white space between.
 use Rattle.std.specs.Prelude.{ℕ, ◌+◌, ◌==◌, Bool, false, true, ◌&&◌, ◌||◌, List, [], ◌∷◌, if◌then◌else◌}
 use Rattle.std.specs.Char.{is_ascii_alphabetic}
+use Rattle.overlay_terms.specs.Blank.{is_blank}
 use Rattle.overlay_terms.specs.Trees.{Operation, intersection, union, difference, sym_difference}
 use Rattle.layer_expr.specs.Name.{is_name_byte}
 
@@ -16,10 +17,6 @@ pub data Kind : Type 0 where
 pub record Token : Type 0 where
   pub at : ℕ
   pub kind : Kind
-
--- space, tab, CR and LF
-abbrev pub is_blank : ℕ → Bool
-is_blank b = b == 32 || b == 9 || b == 13 || b == 10
 
 -- the name that begins the bytes: as long as letters, digits and `_` go on
 abbrev pub name_front : List ℕ → List ℕ

@@ -1,11 +1,13 @@
 //! The tokens of an expression, found one after another.
 ghost use Rattle.std.specs.Prelude.{◌≡◌, ℕ, ◌+◌, ◌<◌, ◌≤◌, [], ◌∷◌, length, drop, false, IfNone, IfSome, slice_index};
-ghost use Rattle.layer_expr.specs.Token.{is_blank, name_front, sign_kind, tokens_after};
+ghost use Rattle.overlay_terms.specs.Blank.{is_blank};
+ghost use Rattle.layer_expr.specs.Token.{name_front, sign_kind, tokens_after};
 ghost use Rattle.layer_expr.specs.Name.{is_name_byte};
 ghost use Rattle.layer_expr.specs.Lexeme.{kind_of_sign, token_in};
 
 use crate::expr::Operation;
 use crate::name::goes_on;
+use overlay_terms::blank::is_blank;
 
 /// What a token is.
 #[derive(Clone, Copy, Debug, PartialEq, Eq)]
@@ -68,7 +70,7 @@ fn skip_blanks(bytes: &[u8], from: usize) -> usize
 {
     let mut at = from;
     while at < bytes.len() {
-        if !is_white_space(bytes[at]) {
+        if !is_blank(bytes[at]) {
             return at;
         }
         at += 1;
@@ -89,13 +91,6 @@ fn name_end(bytes: &[u8], from: usize) -> usize
         end += 1;
     }
     end
-}
-
-/// Space, tab, CR and LF.
-fn is_white_space(byte: u8) -> bool
-    ensures { result ≡ is_blank byte }
-{
-    (byte == b' ') | (byte == b'\t') | (byte == b'\r') | (byte == b'\n')
 }
 
 fn sign_of(byte: u8) -> Sign

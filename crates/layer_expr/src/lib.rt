@@ -19,4 +19,5 @@ pub use fault::ExprFault;
 pub use name::{NAME_MAX, Name, is_well_formed};
 pub use reading::read_expr;
 pub use step_list::StepList;
+pub use steps::MAX_LAYERS;
 pub use writing::write_expr;

@@ -1,5 +1,6 @@
 //! Layers in reach as a list of definitions, with numbers for names.
 ghost use Rattle.std.specs.Prelude.{◌≡◌, ℕ, Bool, false, ◌≤◌, ◌<◌, length, filter, position, is_none, is_some, not, bytes_eq, take_while, IfOk, IfSome, map};
+ghost use Rattle.overlay_terms.specs.Layers.{layers_max};
 ghost use Rattle.overlay_terms.specs.Trees.{relabel, steps_value, mask_bits};
 ghost use Rattle.layer_expr.specs.Expr.{tree};
 ghost use Rattle.layer_expr.specs.SameSteps.{SameAreEqual};
@@ -42,7 +43,7 @@ impl StepList {
     /// The definitions among layers in reach, in order of creation, the layer asked last. A layer with no expression
     /// is a base layer.
     pub fn of(alloc: Global, layers: &[(&Name, Option<&Expr>)]) -> Result<StepList, AllocError>
-        requires few { length layers.now ≤ 32 }
+        requires few { length layers.now ≤ layers_max }
         requires ordered { IsOrdered (reached layers.now) }
         requires reaches { ReachesAll (reached layers.now) }
         ensures steps { IfOk result (λ steps. steps ≡ numbered_steps (reached layers.now)) }
@@ -59,7 +60,7 @@ impl StepList {
     /// How many base layers there are: bits of a mask, from 0.
     pub fn bases(&self) -> u8
         ensures value { result ≡ self.now.bases }
-        ensures few { result ≤ 32 }
+        ensures few { result ≤ layers_max }
     {
         self.bases
     }
@@ -68,8 +69,8 @@ impl StepList {
     pub fn value(&self, mask: u32) -> bool
         ensures value { result ≡ steps_value self.now (mask_bits mask) }
 
-        // Only the first 32 bits count.
-        ensures known { (bits : ℕ → Bool) → ((k : ℕ) → k < 32 → mask_bits mask k ≡ bits k) → result ≡ steps_value self.now bits }
+        // Only the bits of as many layers as may stand count.
+        ensures known { (bits : ℕ → Bool) → ((k : ℕ) → k < layers_max → mask_bits mask k ≡ bits k) → result ≡ steps_value self.now bits }
         ensures nothing { mask ≡ 0 → result ≡ false }
     {
         let last_base = self.bases.saturating_sub(1);
@@ -123,7 +124,7 @@ fn definitions_among(
     alloc: Global,
     layers: &[(&Name, Option<&Expr>)],
 ) -> Result<Vec<StepNode>, AllocError>
-    requires { length layers.now ≤ 32 }
+    requires { length layers.now ≤ layers_max }
     ensures { IfOk result (λ definitions. map step_tree definitions.items ≡ (numbered_steps (reached layers.now)).definitions) }
 {
     let mut definitions = Vec::new(alloc);
@@ -141,7 +142,7 @@ pub(crate) fn numbered(
     node: &Node,
     layers: &[(&Name, Option<&Expr>)],
 ) -> Result<StepNode, AllocError>
-    requires { length layers.now ≤ 32 }
+    requires { length layers.now ≤ layers_max }
     ensures { IfOk result
         (λ definition. step_tree definition ≡ relabel (source_among (reached layers.now)) (tree node.now)) }
 {
@@ -157,7 +158,7 @@ pub(crate) fn numbered(
 
 /// What a name stands for among layers in reach.
 fn source_named(name: &Name, layers: &[(&Name, Option<&Expr>)]) -> Source
-    requires { length layers.now ≤ 32 }
+    requires { length layers.now ≤ layers_max }
     ensures { source result ≡ source_among (reached layers.now) name.now }
 {
     match base_number(name, layers) {

@@ -1,14 +1,15 @@
 //! What definitions are, over the bits of the base layers.
 ghost use Rattle.std.specs.Prelude.{◌≡◌, ◌≤◌, ◌<◌, map, length, false};
+ghost use Rattle.overlay_terms.specs.Layers.{layers_max};
 ghost use Rattle.overlay_terms.specs.Trees.{truth, source_value, mask_bits, definition_values, last_or};
 ghost use Rattle.layer_expr.specs.Steps.{step_tree, source};
 
 use crate::expr::Operation;
-use crate::steps::{Source, StepNode};
+use crate::steps::{MAX_LAYERS, Source, StepNode};
 
 /// Whether bit k of a mask is set.
 pub(crate) fn is_bit_set(mask: u32, k: u8) -> bool
-    requires { k < 32 }
+    requires { k < layers_max }
     ensures { result ≡ mask_bits mask k }
 {
     (mask >> k) & 1 == 1
@@ -45,10 +46,10 @@ fn node_value(node: &StepNode, mask: u32, known: &[bool]) -> bool
 
 /// What the last of some definitions is, or the given bit where there is none.
 pub(crate) fn last_value(definitions: &[StepNode], mask: u32, default: bool) -> bool
-    requires { length definitions.now ≤ 32 }
+    requires { length definitions.now ≤ layers_max }
     ensures { result ≡ last_or default (definition_values (mask_bits mask) (map step_tree definitions.now)) }
 {
-    let mut known = [false; 32];
+    let mut known = [false; MAX_LAYERS];
     let mut last = default;
     for (k, node) in definitions.iter().enumerate() {
         last = node_value(node, mask, &known[..k]);

@@ -1,14 +1,18 @@
 //! Definitions over numbered layers.
 ghost use Rattle.std.specs.Prelude.{◌<◌};
+ghost use Rattle.overlay_terms.specs.Layers.{layers_max};
 
 use crate::expr::Operation;
 use std::alloc::{AllocError, Global};
 
-/// The number of a base layer, below 32.
+/// The most layers that stand at a time: as many as a mask has bits.
+pub const MAX_LAYERS: usize = 32;
+
+/// The number of a base layer, below how many layers may stand.
 #[derive(Clone, Copy, Debug, PartialEq, Eq)]
 pub struct BaseBit {
     pub number: u8,
-    pub ghost small: { number < 32 },
+    pub ghost small: { number < layers_max },
 }
 
 /// What a leaf of a definition stands for.
@@ -55,9 +59,7 @@ impl PartialEq for StepNode {
         match (self, other) {
             (StepNode::Leaf(source), StepNode::Leaf(other)) => *source == *other,
             (StepNode::Combine(o, l, r), StepNode::Combine(p, m, s)) => {
-                let same_left = **l == **m;
-                let same_right = **r == **s;
-                (*o == *p) & same_left & same_right
+                *o == *p && **l == **m && **r == **s
             }
             _ => false,
         }

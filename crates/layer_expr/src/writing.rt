@@ -41,7 +41,7 @@ fn write_node(node: &Node, in_brackets: bool, text: &mut Vec<u8>) -> Result<(), 
 fn left_in_brackets(o: Operation, left: &Node) -> bool
     ensures { result ≡ left_needs_brackets (operation o) (level_of (canonical (tree left.now))) }
 {
-    is_times(o) & is_loose(left)
+    is_times(o) && is_loose(left)
 }
 
 /// Whether a right operand needs brackets: a sum, and a product under `&`.

@@ -6,9 +6,11 @@ use Rattle.std.proofs.lemmas.Bool.{and_parts, and_from, and_left, or_parts, not_
 use Rattle.std.proofs.lemmas.List.{length-map, length_push}
 use Rattle.std.proofs.lemmas.List.Sums.{length-filter, count_by-le-length}
 use Rattle.overlay_terms.specs.Trees.{leaves}
-use Rattle.overlay_terms.specs.Layers.{Name, Content, base, derived, Layer}
+use Rattle.overlay_terms.specs.Layers.{layers_max, Name, Content, base, derived, Layer}
 use Rattle.overlay_terms.specs.Orderly.{used_names, is_among, is_orderly_after, IsOrderly}
-use Rattle.overlay_terms.specs.Commands.{Command, put, define, remove, Refusal, layers_max, index_of, stands, stands_as_base, stands_as_derived, uses, or_else, when, unknown_layer, not_base, not_derived, in_use, later_layer, too_many_layers, is_crowded, refusal_of_use, refusal_of_uses, refusal_of, applied, AllAccepted}
+use Rattle.std.specs.Option.{option_or}
+use Rattle.overlay_terms.proofs.Options.{both_absent}
+use Rattle.overlay_terms.specs.Commands.{Command, put, define, remove, Refusal, index_of, stands, stands_as_base, stands_as_derived, uses, when, unknown_layer, not_base, not_derived, in_use, later_layer, too_many_layers, is_crowded, refusal_of_use, refusal_of_uses, refusal_of, applied, AllAccepted}
 use Rattle.overlay_terms.specs.Laws.{AcceptedIsOrderly}
 use Rattle.overlay_terms.proofs.NameLemmas.{same_name, list_all_but, list_all_so, is_among-push}
 use Rattle.overlay_terms.proofs.OrderlyLemmas.{MayFollow, orderly_splits, orderly_joins, replaced_by, is_before, is_known, orderly-replaced, orderly-push}
@@ -98,16 +100,6 @@ orderly-removed [] name known less h orderly unused = refl
 orderly-removed (layer ∷ layers) name known less h orderly unused =
     removed_in_front layer layers name (bytes_eq layer.name name) refl (orderly-removed layers name) known less h orderly unused
 
--- of two reasons none applies
-pub record NoReason (a b : Option Refusal) : Type 0 where
-  pub first : a ≡ None
-  pub second : b ≡ None
-
--- where no reason applies first, neither does
-pub no_reason : (a b : Option Refusal) → or_else a b ≡ None → NoReason a b
-no_reason (Some reason) b e = absurd (cc)
-no_reason None b e = record { first = refl; second = e }
-
 -- a reason that does not apply has a test that fails
 pub not_when : (test : Bool) (reason : Refusal) → when test reason ≡ None → test ≡ false
 not_when true reason e = absurd (cc)
@@ -126,8 +118,8 @@ is_usable layers defined used = stands layers used && not (nat_le (index_of laye
 all_usable : (layers : List Layer) (defined : Name) (names : List Name) → refusal_of_uses layers defined names ≡ None → list_all (is_usable layers defined) names ≡ true
 all_usable layers defined [] e = refl
 all_usable layers defined (used ∷ names) e =
-    let both = no_reason (refusal_of_use layers defined used) (refusal_of_uses layers defined names) e in
-    let each = no_reason (when (not (stands layers used)) unknown_layer) (when (nat_le (index_of layers defined) (index_of layers used)) later_layer) both.first in
+    let both = both_absent (refusal_of_use layers defined used) (refusal_of_uses layers defined names) e in
+    let each = both_absent (when (not (stands layers used)) unknown_layer) (when (nat_le (index_of layers defined) (index_of layers used)) later_layer) both.first in
     and_from _ _ (and_from _ _ (not-false (stands layers used) (not_when _ _ each.first)) (not_from_false _ (not_when _ _ each.second))) (all_usable layers defined names both.second)
 
 -- content that may stand under a name keeps orderly layers so
@@ -154,21 +146,21 @@ with_content_room layers name content false e room roomy =
 pub step_orderly : (layers : List Layer) (command : Command) → refusal_of layers command ≡ None → IsOrderly layers → IsOrderly (applied layers command)
 step_orderly layers (put name rings) e orderly = with_content_orderly layers name (base rings) (stands layers name) refl orderly refl
 step_orderly layers (define name expression) e orderly =
-    let reasons = no_reason (when (stands_as_base layers name) not_derived) (or_else (refusal_of_uses layers name (leaves expression)) (when (is_crowded layers name) too_many_layers)) e in
-    let later = no_reason (refusal_of_uses layers name (leaves expression)) (when (is_crowded layers name) too_many_layers) reasons.second in
+    let reasons = both_absent (when (stands_as_base layers name) not_derived) (option_or (refusal_of_uses layers name (leaves expression)) (when (is_crowded layers name) too_many_layers)) e in
+    let later = both_absent (refusal_of_uses layers name (leaves expression)) (when (is_crowded layers name) too_many_layers) reasons.second in
     with_content_orderly layers name (derived expression) (stands layers name) refl orderly (all_usable layers name (leaves expression) later.first)
 step_orderly layers (remove name) e orderly =
-    let reasons = no_reason (when (not (stands layers name)) unknown_layer) (when (list_any (λ layer. uses name layer.content) layers) in_use) e in
+    let reasons = both_absent (when (not (stands layers name)) unknown_layer) (when (list_any (λ layer. uses name layer.content) layers) in_use) e in
     orderly-removed layers name [] [] (record { same_others = λ n. refl }) orderly (not_when _ _ reasons.second)
 
 -- an accepted command leaves at most so many layers, where there are
 pub step_room : (layers : List Layer) (command : Command) → refusal_of layers command ≡ None → length layers ≤ layers_max → length (applied layers command) ≤ layers_max
 step_room layers (put name rings) e room =
-    let reasons = no_reason (when (stands_as_derived layers name) not_base) (when (is_crowded layers name) too_many_layers) e in
+    let reasons = both_absent (when (stands_as_derived layers name) not_base) (when (is_crowded layers name) too_many_layers) e in
     with_content_room layers name (base rings) (stands layers name) refl room (not_when _ _ reasons.second)
 step_room layers (define name expression) e room =
-    let reasons = no_reason (when (stands_as_base layers name) not_derived) (or_else (refusal_of_uses layers name (leaves expression)) (when (is_crowded layers name) too_many_layers)) e in
-    let later = no_reason (refusal_of_uses layers name (leaves expression)) (when (is_crowded layers name) too_many_layers) reasons.second in
+    let reasons = both_absent (when (stands_as_base layers name) not_derived) (option_or (refusal_of_uses layers name (leaves expression)) (when (is_crowded layers name) too_many_layers)) e in
+    let later = both_absent (refusal_of_uses layers name (leaves expression)) (when (is_crowded layers name) too_many_layers) reasons.second in
     with_content_room layers name (derived expression) (stands layers name) refl room (not_when _ _ later.second)
 step_room layers (remove name) e room =
     omega (arith, room, length-filter (λ (layer : Layer). not (bytes_eq layer.name name)) layers, count_by-le-length (λ (layer : Layer). not (bytes_eq layer.name name)) layers)

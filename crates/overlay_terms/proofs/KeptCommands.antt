@@ -17,7 +17,8 @@ use Rattle.overlay_terms.specs.Touched.{tile_stays, is_touched, derived_over, re
 use Rattle.overlay_terms.specs.KeptLaws.{IsUntouched, UntouchedInputStays, OnlyReachIsTouched}
 use Rattle.overlay_terms.proofs.NameLemmas.{same_name}
 use Rattle.overlay_terms.proofs.OrderlyLemmas.{replaced_by}
-use Rattle.overlay_terms.proofs.AcceptedLemmas.{without, no_reason, not_when}
+use Rattle.overlay_terms.proofs.AcceptedLemmas.{without, not_when}
+use Rattle.overlay_terms.proofs.Options.{both_absent}
 use Rattle.overlay_terms.proofs.ReachLemmas.{has_name, is_reached}
 use Rattle.overlay_terms.proofs.DefinitionLemmas.{passing, passing_no}
 use Rattle.overlay_terms.proofs.KeptReach.{named-push_other, same_in_reach}
@@ -102,13 +103,13 @@ not_removed_name layers name own orderly as_derived out =
 -- an accepted command leaves a derived layer that does not reach its name as it is
 pub outside_stays : (layers : List Layer) (command : Command) (own : Name) (k : ℕ) → IsOrderly layers → refusal_of layers command ≡ None → stands_as_derived layers own ≡ true → list_any (bytes_eq own) (derived_over layers (name_of command)) ≡ false → IsUntouched layers (applied layers command) own k
 outside_stays layers (put name rings) own k orderly accepted as_derived out =
-    let reasons = no_reason (when (stands_as_derived layers name) not_base) (when (is_crowded layers name) too_many_layers) accepted in
+    let reasons = both_absent (when (stands_as_derived layers name) not_base) (when (is_crowded layers name) too_many_layers) accepted in
     let differ = not_derived_name layers name own (not_when _ _ reasons.first) as_derived in
     untouched_content layers name (base rings) own k (stands layers name) refl orderly as_derived (λ e. absurd (both_ways (bytes_eq name own) differ e)) (λ standing. out)
 outside_stays layers (define name expression) own k orderly accepted as_derived out =
     untouched_content layers name (derived expression) own k (stands layers name) refl orderly as_derived (λ e. refl) (λ standing. out)
 outside_stays layers (remove name) own k orderly accepted as_derived out =
-    let reasons = no_reason (when (not (stands layers name)) unknown_layer) (when (list_any (λ layer. uses name layer.content) layers) in_use) accepted in
+    let reasons = both_absent (when (not (stands layers name)) unknown_layer) (when (list_any (λ layer. uses name layer.content) layers) in_use) accepted in
     let back = not_removed_name layers name own orderly as_derived out in
     untouched_removed layers name own k orderly (not_when _ _ reasons.second) as_derived (differs_back own name back) back
 

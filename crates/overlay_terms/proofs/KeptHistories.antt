@@ -3,15 +3,16 @@ use Rattle.std.specs.Prelude.{◌≡◌, ℕ, ◌<◌, ◌==◌, ◌≤◌, Bool
 use Rattle.std.proofs.Common.{refl, sym, ◌∙◌, subst}
 use Rattle.std.proofs.lemmas.Bool.{and_parts, eqb-true}
 use Rattle.overlay_terms.specs.Column.{column_count}
-use Rattle.overlay_terms.specs.Layers.{Name, Layer}
+use Rattle.overlay_terms.specs.Layers.{layers_max, Name, Layer}
 use Rattle.overlay_terms.specs.Tiles.{input_of}
 use Rattle.overlay_terms.specs.Orderly.{IsOrderly}
-use Rattle.overlay_terms.specs.Commands.{Command, refusal_of, refusal_at, applied, when, version_max, version_limit, layers_max, stands_as_derived}
+use Rattle.overlay_terms.specs.Commands.{Command, refusal_of, refusal_at, applied, when, version_max, version_limit, stands_as_derived}
 use Rattle.overlay_terms.specs.Touched.{is_touched}
 use Rattle.overlay_terms.specs.Histories.{Tile, Finished, pieces_max, IsTileAt, tile_at, Version, Event, accepted, kept, durable_to, Follows, Entry, AllFollow, last_version}
 use Rattle.overlay_terms.specs.KeptLaws.{TilesFit, TilesAreExact, ExactnessStays, LayersStayOrderly, IsExact, HistoryIsExact, HistoryHasRoom}
 use Rattle.overlay_terms.proofs.NameLemmas.{same_name}
-use Rattle.overlay_terms.proofs.AcceptedLemmas.{no_reason, step_orderly, step_room}
+use Rattle.overlay_terms.proofs.AcceptedLemmas.{step_orderly, step_room}
+use Rattle.overlay_terms.proofs.Options.{both_absent}
 use Rattle.overlay_terms.proofs.KeptCommands.{untouched_input_stays}
 
 -- what a tile of a layer and column must be: its layer is derived, its column is there, and it is that of its input
@@ -31,7 +32,7 @@ are_right version fit exact name k tile e =
 
 -- a command that is accepted at a version is accepted by its layers
 pub accepted_by_layers : (old : Version) (command : Command) → refusal_at old.number old.layers command ≡ None → refusal_of old.layers command ≡ None
-accepted_by_layers old command e = (no_reason (refusal_of old.layers command) (when (old.number == version_max) version_limit) e).first
+accepted_by_layers old command e = (both_absent (refusal_of old.layers command) (when (old.number == version_max) version_limit) e).first
 
 -- a tile after a command was there before it, and is untouched
 right_after_command : (layers : List Layer) (command : Command) (name : Name) (k : ℕ) (tile : Tile) (b : Bool) (before : Option Tile) → is_touched layers command name k ≡ b → (before ≡ Some tile → IsRight layers name k tile) → (if b then None else before) ≡ Some tile → IsRight (applied layers command) name k tile

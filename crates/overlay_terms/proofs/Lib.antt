@@ -4,6 +4,7 @@ pub mod Ratios
 pub mod Meet
 mod Rows
 pub mod Functions
+pub mod Options
 pub mod Lists
 pub mod StepLaws
 pub mod EdgeLemmas

@@ -1,9 +1,10 @@
 -- Commands: why one is refused, and what it makes of the layers.
 use Rattle.std.specs.Prelude.{◌≡◌, ℕ, ◌==◌, nat_le, Bool, false, true, not, ◌&&◌, List, [], ◌∷◌, ◌++◌, map, filter, fold, length, Option, Some, None, bytes_eq, if◌then◌else◌, ◌+◌, ◌^◌}
 use Rattle.std.specs.List.{list_any}
+use Rattle.std.specs.Option.{option_or}
 use Rattle.overlay_terms.specs.Plane.{WholePoint}
 use Rattle.overlay_terms.specs.Trees.{Tree, leaves}
-use Rattle.overlay_terms.specs.Layers.{Name, Content, base, derived, Layer}
+use Rattle.overlay_terms.specs.Layers.{layers_max, Name, Content, base, derived, Layer}
 
 -- keep rings under a name, keep an expression under a name, or take a layer out
 pub data Command : Type 0 where
@@ -20,10 +21,6 @@ pub data Refusal : Type 0 where
   in_use : Refusal
   too_many_layers : Refusal
   version_limit : Refusal
-
--- the most layers that stand at a time
-abbrev pub layers_max : ℕ
-layers_max = 32
 
 -- the index of the layer with a name, from 0; how many layers there are where none has it
 abbrev pub index_of : List Layer → Name → ℕ
@@ -52,11 +49,6 @@ abbrev pub uses : Name → Content → Bool
 uses name (base rings) = false
 uses name (derived expression) = list_any (λ used. bytes_eq used name) (leaves expression)
 
--- the first of two reasons
-abbrev pub or_else : Option Refusal → Option Refusal → Option Refusal
-or_else (Some reason) next = Some reason
-or_else None next = next
-
 -- the reason, where the test holds
 abbrev pub when : Bool → Refusal → Option Refusal
 when test reason = if test then Some reason else None
@@ -65,32 +57,32 @@ when test reason = if test then Some reason else None
 abbrev pub is_crowded : List Layer → Name → Bool
 is_crowded layers name = not (stands layers name) && nat_le layers_max (length layers)
 
--- why a PUT is refused: the name is a derived layer's; it is new and there are 32 layers
+-- why a PUT is refused: the name is a derived layer's; it is new and there is no room
 abbrev pub refusal_of_put : List Layer → Name → Option Refusal
 refusal_of_put layers name =
-    or_else (when (stands_as_derived layers name) not_base) (when (is_crowded layers name) too_many_layers)
+    option_or (when (stands_as_derived layers name) not_base) (when (is_crowded layers name) too_many_layers)
 
 -- why a definition may not name a name: no layer has it; its layer stands where the defined one does, or behind
 abbrev pub refusal_of_use : List Layer → Name → Name → Option Refusal
 refusal_of_use layers defined used =
-    or_else (when (not (stands layers used)) unknown_layer) (when (nat_le (index_of layers defined) (index_of layers used)) later_layer)
+    option_or (when (not (stands layers used)) unknown_layer) (when (nat_le (index_of layers defined) (index_of layers used)) later_layer)
 
 -- the first reason against the names of an expression, from left to right
 abbrev pub refusal_of_uses : List Layer → Name → List Name → Option Refusal
 refusal_of_uses layers defined [] = None
 refusal_of_uses layers defined (used ∷ others) =
-    or_else (refusal_of_use layers defined used) (refusal_of_uses layers defined others)
+    option_or (refusal_of_use layers defined used) (refusal_of_uses layers defined others)
 
--- why a DEFINE is refused: the name is a base layer's; a name in the expression; the name is new and there are 32 layers
+-- why a DEFINE is refused: the name is a base layer's; a name in the expression; the name is new and there is no room
 abbrev pub refusal_of_define : List Layer → Name → Tree Name → Option Refusal
 refusal_of_define layers name expression =
-    or_else (when (stands_as_base layers name) not_derived)
-    (or_else (refusal_of_uses layers name (leaves expression)) (when (is_crowded layers name) too_many_layers))
+    option_or (when (stands_as_base layers name) not_derived)
+    (option_or (refusal_of_uses layers name (leaves expression)) (when (is_crowded layers name) too_many_layers))
 
 -- why a DROP is refused: no layer has the name; a definition names it
 abbrev pub refusal_of_remove : List Layer → Name → Option Refusal
 refusal_of_remove layers name =
-    or_else (when (not (stands layers name)) unknown_layer)
+    option_or (when (not (stands layers name)) unknown_layer)
     (when (list_any (λ layer. uses name layer.content) layers) in_use)
 
 -- why a command is refused: the first reason that applies
@@ -106,7 +98,7 @@ version_max = 2 ^ 62
 -- the same at a version: its number may be the last
 abbrev pub refusal_at : ℕ → List Layer → Command → Option Refusal
 refusal_at number layers command =
-    or_else (refusal_of layers command) (when (number == version_max) version_limit)
+    option_or (refusal_of layers command) (when (number == version_max) version_limit)
 
 -- what stands under a name is replaced in its place, or stands last
 abbrev pub with_content : List Layer → Name → Content → List Layer

@@ -3,7 +3,7 @@ use Rattle.std.specs.Prelude.{◌≡◌, ℕ, ◌+◌, ◌-◌, ◌%◌, ◌<◌
 use Rattle.overlay_terms.specs.Plane.{WholePoint, Segment, same_whole, segments_of, InRange}
 use Rattle.overlay_terms.specs.Column.{column_count, touches}
 use Rattle.overlay_terms.specs.Trees.{Steps}
-use Rattle.overlay_terms.specs.Layers.{Name, Layer, Marked, base_of, marked_segments}
+use Rattle.overlay_terms.specs.Layers.{layers_max, Name, Layer, Marked, base_of, marked_segments}
 use Rattle.overlay_terms.specs.Tiles.{input_of}
 use Rattle.overlay_terms.specs.TileLaws.{AreClosed, IsInput}
 
@@ -32,11 +32,11 @@ LayersAreClosed = (bases : List (List (List WholePoint))) → All (All IsRing) b
 -- of closed segments, those with a point in a column are the input of a tile
 abbrev pub ClosedIsInput : Type 0
 ClosedIsInput =
-    (marked : List Marked) (steps : Steps) (k : ℕ) → k < column_count → steps.bases ≤ 32 → All (λ m. m.layer < steps.bases) marked → AreClosed marked →
+    (marked : List Marked) (steps : Steps) (k : ℕ) → k < column_count → steps.bases ≤ layers_max → All (λ m. m.layer < steps.bases) marked → AreClosed marked →
     IsInput (record { column = k; marked = filter (λ m. touches k m.segment) marked; steps = steps })
 
--- where the rings of base layers are rings, and there are at most 32 layers, the input of the tile of a layer and column is an input
+-- where the rings of base layers are rings, and no more layers than may stand, the input of the tile of a layer and column is an input
 abbrev pub InputOfIsInput : Type 0
 InputOfIsInput =
-    (layers : List Layer) (name : Name) (k : ℕ) → k < column_count → length layers ≤ 32 → All (λ b. All IsRing b.1) (filter_map base_of layers) →
+    (layers : List Layer) (name : Name) (k : ℕ) → k < column_count → length layers ≤ layers_max → All (λ b. All IsRing b.1) (filter_map base_of layers) →
     IsInput (input_of layers name k)

@@ -2,10 +2,10 @@
 use Rattle.std.specs.Prelude.{◌≡◌, ◌↔◌, ℕ, ◌<◌, ◌≤◌, false, IsTrue, List, length, Some, None, bytes_eq}
 use Rattle.std.specs.List.{list_any}
 use Rattle.overlay_terms.specs.Column.{column_count}
-use Rattle.overlay_terms.specs.Layers.{Name, Layer}
+use Rattle.overlay_terms.specs.Layers.{layers_max, Name, Layer}
 use Rattle.overlay_terms.specs.Tiles.{input_of}
 use Rattle.overlay_terms.specs.Orderly.{IsOrderly}
-use Rattle.overlay_terms.specs.Commands.{Command, refusal_of, applied, layers_max, stands_as_derived}
+use Rattle.overlay_terms.specs.Commands.{Command, refusal_of, applied, stands_as_derived}
 use Rattle.overlay_terms.specs.Touched.{is_touched, derived_over, name_of}
 use Rattle.overlay_terms.specs.Histories.{Tile, Finished, pieces_max, IsTileAt, tile_at, Version, Event, Follows, History, IsHistory, newest}
 
@@ -50,7 +50,7 @@ ExactnessStays =
     (old new : Version) (event : Event) → Follows old event new → IsOrderly old.layers → TilesFit old → TilesAreExact old →
     TilesFit new × TilesAreExact new
 
--- what is published leaves orderly layers orderly, and no more than 32 where there were no more
+-- what is published leaves orderly layers orderly, and no more than may stand where there were no more
 abbrev pub LayersStayOrderly : Type 0
 LayersStayOrderly =
     (old new : Version) (event : Event) → Follows old event new →
@@ -66,7 +66,7 @@ pub record IsExact (version : Version) : Type 0 where
 abbrev pub HistoryIsExact : Type 0
 HistoryIsExact = (history : History) → IsHistory history → IsExact history.start → IsExact (newest history)
 
--- the newest version of a history has at most 32 layers where its first one has
+-- the newest version of a history has no more layers than may stand where its first one has
 abbrev pub HistoryHasRoom : Type 0
 HistoryHasRoom =
     (history : History) → IsHistory history → length history.start.layers ≤ layers_max → length (newest history).layers ≤ layers_max

@@ -5,9 +5,9 @@ use Rattle.std.specs.Ordering.{ordering_reverse}
 use Rattle.std.specs.declared.cmp.Ordering.TheVariants.{Less, Equal}
 use Rattle.overlay_terms.specs.Plane.{WholePoint, Point, Segment, segments_of, ring_segments, is_inside, is_on, point_cmp, same_place}
 use Rattle.overlay_terms.specs.Trees.{Steps, steps_value}
-use Rattle.overlay_terms.specs.Layers.{Name, Layer, value_of, base_of, layers_in_reach, segments_in_reach, steps_in_reach, answer_at, edge}
+use Rattle.overlay_terms.specs.Layers.{layers_max, Name, Layer, value_of, base_of, layers_in_reach, segments_in_reach, steps_in_reach, answer_at, edge}
 use Rattle.overlay_terms.specs.Tiles.{below_bits}
-use Rattle.overlay_terms.specs.Commands.{Command, AllAccepted, layers_after, layers_max}
+use Rattle.overlay_terms.specs.Commands.{Command, AllAccepted, layers_after}
 use Rattle.overlay_terms.specs.Orderly.{IsOrderly}
 
 -- whether a point lies on one of some segments

@@ -2,16 +2,16 @@
 use Rattle.std.specs.Prelude.{◌≡◌, ℕ, pos, ◌%◌, ◌==◌, ◌<◌, ◌≤◌, ◌<ℤ◌, IsTrue, List, length, filter_map, count_by, All}
 use Rattle.overlay_terms.specs.Plane.{Point}
 use Rattle.overlay_terms.specs.Column.{column_count, is_in_column}
-use Rattle.overlay_terms.specs.Layers.{Name, Layer, value_of, base_of, segments_in_reach, steps_in_reach}
+use Rattle.overlay_terms.specs.Layers.{layers_max, Name, Layer, value_of, base_of, segments_in_reach, steps_in_reach}
 use Rattle.overlay_terms.specs.Tiles.{IsTileOf, input_of}
 use Rattle.overlay_terms.specs.Orderly.{IsOrderly}
 use Rattle.overlay_terms.specs.TileLaws.{is_pair_below, is_off}
 use Rattle.overlay_terms.specs.InputLaws.{IsRing}
 
--- layers as commands leave them: orderly, at most 32, and each ring of a base layer closed and in range
+-- layers as commands leave them: orderly, not too many, and each ring of a base layer closed and in range
 pub record AreSound (layers : List Layer) : Type 0 where
   pub orderly : IsOrderly layers
-  pub few : length layers ≤ 32
+  pub few : length layers ≤ layers_max
   pub rings : All (λ b. All IsRing b.1) (filter_map base_of layers)
 
 -- a point of a column, off the segments that a layer reaches

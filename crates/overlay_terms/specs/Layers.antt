@@ -4,6 +4,10 @@ use Rattle.std.specs.List.{list_any, enumerate_from, filter_map}
 use Rattle.overlay_terms.specs.Plane.{WholePoint, Point, Segment, segments_of, is_inside, is_on}
 use Rattle.overlay_terms.specs.Trees.{Tree, truth, leaves, relabel, Source, base_bit, definition, Steps}
 
+-- the most layers that stand at a time
+abbrev pub layers_max : ℕ
+layers_max = 32
+
 -- the bytes of a name
 abbrev pub Name : Type 0
 Name = List ℕ

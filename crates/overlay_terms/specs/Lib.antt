@@ -1,4 +1,5 @@
 pub mod Within
+pub mod Blank
 pub mod Plane
 pub mod Trees
 pub mod TreeCode

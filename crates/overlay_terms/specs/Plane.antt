@@ -1,5 +1,5 @@
 -- Points, segments, and what lies below, on and inside. Rings are those of ISO 19125-1:2004, 6.1.7 and 6.1.11; insides are taken even-odd.
-use Rattle.std.specs.Prelude.{ℕ, ℤ, pos, ◌-◌, ◌%◌, ◌==◌, ◌*ℤ◌, ◌-ℤ◌, ◌≤ℤ◌, neg_ℤ, int_le, int_lt, Bool, ◌&&◌, not, List, length, drop, zip, sum_by, count_by, filter_map, flat_map, Option, Some, None}
+use Rattle.std.specs.Prelude.{ℕ, ℤ, pos, ◌-◌, ◌^◌, ◌%◌, ◌==◌, ◌*ℤ◌, ◌-ℤ◌, ◌≤ℤ◌, neg_ℤ, int_le, int_lt, Bool, ◌&&◌, not, List, length, drop, zip, sum_by, count_by, filter_map, flat_map, Option, Some, None}
 use Rattle.std.specs.Ordering.{int_cmp, ordering_then, is_lt, is_gt, int_eq}
 use Rattle.std.specs.declared.cmp.Ordering.{Ordering}
 use Rattle.std.specs.declared.cmp.Ordering.TheVariants.{Less, Equal, Greater}
@@ -44,7 +44,7 @@ same_place p q = int_eq (p.x *ℤ q.w) (q.x *ℤ p.w) && int_eq (p.y *ℤ q.w) (
 abbrev pub coordinate_max : ℕ
 coordinate_max = 1048576
 
--- a coordinate lies from -2^20 to 2^20
+-- a coordinate lies between these two
 abbrev pub InRange : ℤ → Type 0
 InRange n = (neg_ℤ (pos coordinate_max) ≤ℤ n) × (n ≤ℤ pos coordinate_max)
 
@@ -52,6 +52,10 @@ InRange n = (neg_ℤ (pos coordinate_max) ≤ℤ n) × (n ≤ℤ pos coordinate_
 abbrev pub height_over : Segment → Point → ℤ
 height_over s p =
     (s.right.x -ℤ s.left.x) *ℤ (p.y -ℤ s.left.y *ℤ p.w) -ℤ (s.right.y -ℤ s.left.y) *ℤ (p.x -ℤ s.left.x *ℤ p.w)
+
+-- the greatest denominator of a place that two segments or a segment and a border make, 2^43
+abbrev pub denominator_max : ℕ
+denominator_max = 2 ^ 43
 
 -- the point against the line of the segment: Greater above
 abbrev pub side_of : Segment → Point → Ordering
@@ -90,6 +94,10 @@ segments_of rings = flat_map ring_segments rings
 -- how many steps the rings have, those between equal points included
 abbrev pub ring_step_count : List (List WholePoint) → ℕ
 ring_step_count rings = sum_by (λ ring. length ring - 1) rings
+
+-- the most steps that the rings of a base layer have
+abbrev pub steps_max : ℕ
+steps_max = 2048
 
 -- even-odd: an odd number of segments is below the point
 abbrev pub is_inside : List Segment → Point → Bool

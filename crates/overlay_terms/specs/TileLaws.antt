@@ -5,7 +5,7 @@ use Rattle.std.specs.declared.cmp.Ordering.TheVariants.{Less}
 use Rattle.overlay_terms.specs.Plane.{WholePoint, Point, Segment, whole, whole_cmp, same_whole, is_on, InRange}
 use Rattle.overlay_terms.specs.Column.{column_count, is_in_column, touches}
 use Rattle.overlay_terms.specs.Trees.{Steps, steps_value}
-use Rattle.overlay_terms.specs.Layers.{Marked}
+use Rattle.overlay_terms.specs.Layers.{layers_max, Marked}
 use Rattle.overlay_terms.specs.Tiles.{below_bits, IsTileOf, Input}
 
 -- the line between two points passes under a third: from the left one's x on, before the right one's, and strictly below
@@ -36,7 +36,7 @@ pub record AreClosed (marked : List Marked) : Type 0 where
 -- point in the column is an end of an even number of each layer's segments
 pub record IsInput (input : Input) : Type 0 where
   pub column : input.column < column_count
-  pub few : input.steps.bases ≤ 32
+  pub few : input.steps.bases ≤ layers_max
   pub touch : All (λ m. IsTrue (touches input.column m.segment)) input.marked
   pub known : All (λ m. m.layer < input.steps.bases) input.marked
   pub proper : All (λ m. IsProper m.segment) input.marked

@@ -32,7 +32,7 @@ pub fn same_place_same_answer()
     ensures { SamePlaceSameAnswer }
 {}
 
-/// What accepted commands leave has no name twice, and each definition is over earlier layers; there are at most 32.
+/// What accepted commands leave has no name twice, and each definition is over earlier layers; there are no more than may stand.
 pub fn accepted_is_orderly()
     ensures { AcceptedIsOrderly }
 {}

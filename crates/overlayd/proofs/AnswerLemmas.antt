@@ -1,5 +1,6 @@
 -- What is answered to each request, from what its name and text are read as and what the book makes of its command.
 use Rattle.std.proofs.Common.{◌≡◌, ℕ, ℤ, ◌+◌, Bool, true, false, IsTrue, List, [], ◌∷◌, Option, Some, None, refl, sym, ap, subst, ◌∙◌, ◌⊎◌, inl, inr}
+use Rattle.std.specs.Option.{option_map}
 use Rattle.std.proofs.lemmas.Bool.{false≢true}
 use Rattle.overlay_terms.specs.Plane.{Point}
 use Rattle.overlay_terms.specs.Layers.{Location, answer_at}
@@ -17,9 +18,9 @@ use Rattle.layer_expr.specs.Grammar as expr
 use Rattle.wkt_form.specs.Grammar as wkt
 use Rattle.wkt_form.specs.declared.fault.WktFault.{WktFault}
 use Rattle.wkt_form.specs.declared.fault.WktFault.TheVariants as wkt_fault
-use Rattle.layer_book.specs.Fault.{fault_of}
+use Rattle.layer_book.specs.Fault.{fault_of, RefusedBy}
 use Rattle.layer_book.specs.Listing.{layers_text}
-use Rattle.version_core.specs.Fault.{ReportsAt}
+use Rattle.version_core.specs.Fault as version_fault
 use Rattle.version_core.specs.declared.fault.VersionFault.{VersionFault}
 use Rattle.version_core.specs.declared.fault.VersionFault.TheVariants.{Layer}
 use Rattle.layer_book.specs.declared.fault.LayerFault.TheVariants as layer_fault
@@ -36,13 +37,13 @@ use Rattle.overlayd.proofs.HistoryLemmas.{stays, answers_there, out_of_memory}
 
 -- ==== Commands
 
-reported : (o : Option Refusal) (fault : VersionFault) → ReportsAt o fault → (refusal : Refusal) × (o ≡ Some refusal) × (fault ≡ Layer (fault_of refusal))
-reported None fault none = absurd none
-reported (Some refusal) fault is = (refusal, refl, is)
+reported : (o : Option Refusal) (fault : VersionFault) → option_map version_fault.fault_of o ≡ Some fault → (refusal : Refusal) × (o ≡ Some refusal) × (fault ≡ Layer (fault_of refusal))
+reported None fault e = absurd (cc)
+reported (Some refusal) fault e = (refusal, refl, cc)
 
 -- a refused command leaves the history as it is
 refused_there : (book : Book) (before : History) (command : Command) (wrong : VersionFault)
-    → Holds book before → ((wrong ≡ Layer layer_fault.OutOfMemory) × (refusal_at book.version.number book.version.layers command ≡ None)) ⊎ ReportsAt (refusal_at book.version.number book.version.layers command) wrong
+    → Holds book before → RefusedBy (Layer layer_fault.OutOfMemory) (option_map version_fault.fault_of (refusal_at book.version.number book.version.layers command)) wrong
     → IsRefused OutOfMemory [] (error_line (Version wrong)) ⊎ IsSubmitted 0 before command before [] (error_line (Version wrong))
 refused_there book before command wrong holds refused =
     elim refused [
@@ -55,7 +56,7 @@ refused_there book before command wrong holds refused =
     ]
 
 pub submits_refused : (old new : Book) (command : Command) (wrong : VersionFault)
-    → new ≡ old → ((wrong ≡ Layer layer_fault.OutOfMemory) × (refusal_at old.version.number old.version.layers command ≡ None)) ⊎ ReportsAt (refusal_at old.version.number old.version.layers command) wrong
+    → new ≡ old → RefusedBy (Layer layer_fault.OutOfMemory) (option_map version_fault.fault_of (refusal_at old.version.number old.version.layers command)) wrong
     → Submits old command new (error_line (Version wrong))
 submits_refused old new command wrong same refused before holds =
     let there : Holds new before = subst (λ (b : Book). Holds b before) (sym same) holds in

@@ -9,9 +9,9 @@ ghost use Rattle.overlayd.specs.Answering.{Answers, Submits, result_text};
 ghost use Rattle.layer_book.specs.Command.{command};
 
 use crate::book::Book;
-use exact_point::query::QueryPoint;
+use exact_point::QueryPoint;
 use layer_book::command::Command;
-use plane_base::column::Column;
+use plane_base::Column;
 use script_form::{
     CommandFault, Reply, Request, read_define, read_name, read_put, read_remove, request_of,
 };

@@ -1,5 +1,6 @@
 //! The version that a session has come to.
 ghost use Rattle.std.specs.Prelude.{◌≡◌, ◌⊎◌, Some, None, IfOk, IfErr, OnOk, OnErr, IsTrue, is_some};
+ghost use Rattle.std.specs.Option.{option_map};
 ghost use Rattle.overlay_terms.specs.Column.{column_numbered};
 ghost use Rattle.overlay_terms.specs.Commands.{refusal_at, stands_as_derived};
 ghost use Rattle.overlay_terms.specs.Histories.{tile_at, FollowsCommand, empty_version, BuildsUp};
@@ -7,16 +8,16 @@ ghost use Rattle.layer_book.specs.Command.{command};
 ghost use Rattle.layer_book.specs.Fault.{RefusedBy};
 ghost use Rattle.layer_book.specs.TileRefusal.{tile_refusal};
 ghost use Rattle.layer_book.specs.declared.fault.LayerFault.TheVariants.{OutOfMemory};
-ghost use Rattle.version_core.specs.Fault.{ReportsAt};
+ghost use Rattle.version_core.specs.Fault.{fault_of};
 ghost use Rattle.version_core.specs.declared.fault.VersionFault.TheVariants.{Layer};
 ghost use Rattle.version_core.specs.Building.{IsBuilt, wait_refusal};
 ghost use Rattle.overlayd.specs.Building.{LeavesOthers};
 
 use layer_book::command::Command;
 use layer_expr::name::Name;
-use plane_base::column::LAST_COLUMN;
+use plane_base::COLUMN_COUNT;
 use std::alloc::Global;
-use tile_build::built::Built;
+use tile_build::Built;
 use version_core::fault::VersionFault;
 use version_core::finishing::Finish;
 use version_core::version::Version;
@@ -41,7 +42,7 @@ impl Book {
     /// the first reason that applies, and leaves the book as it was.
     pub fn submit(&mut self, alloc: Global, change: &Command) -> Result<u64, VersionFault>
         ensures ok { IfOk result (λ number. FollowsCommand self.old.version (command change.now) self.new.version × (self.new.version.number ≡ number)) }
-        ensures refused { IfErr result (λ fault. ((fault ≡ Layer OutOfMemory) × (refusal_at self.old.version.number self.old.version.layers (command change.now) ≡ None)) ⊎ ReportsAt (refusal_at self.old.version.number self.old.version.layers (command change.now)) fault) }
+        ensures refused { IfErr result (RefusedBy (Layer OutOfMemory) (option_map fault_of (refusal_at self.old.version.number self.old.version.layers (command change.now)))) }
         ensures unchanged { OnErr result (self.new ≡ self.old) }
     {
         let next = self.version.submit(alloc, change)?;
@@ -62,7 +63,7 @@ impl Book {
         if let Some(fault) = self.version.wait_refusal(name) {
             return Err(fault);
         }
-        for column in 0..LAST_COLUMN + 1 {
+        for column in 0..COLUMN_COUNT {
             self.build_tile(alloc, name, column)?;
         }
         Ok(self.version.number())

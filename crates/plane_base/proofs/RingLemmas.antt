@@ -3,11 +3,12 @@ use Rattle.std.specs.Prelude.{◌≡◌, ℕ, ◌+◌, ◌-◌, ◌<◌, ◌≤�
 use Rattle.std.proofs.Common.{zero, suc, get_or, take, refl, ap, sym, ◌∙◌, subst, arith}
 use Rattle.std.proofs.lemmas.Bool.{ltb-false}
 use Rattle.std.proofs.lemmas.List.Elements.{All-nil, All-cons, All-head, All-tail, All-more}
-use Rattle.overlay_terms.specs.Plane.{WholePoint, ring_step_count}
+use Rattle.overlay_terms.specs.Plane.{WholePoint, ring_step_count, steps_max}
 use Rattle.overlay_terms.specs.InputLaws.{IsClosed, IsRing}
+use Rattle.overlay_terms.proofs.Options.{both_absent}
 use Rattle.overlay_terms.proofs.PointOrder.{same_points}
 use Rattle.overlay_terms.proofs.ClosedRings.{last_of, last_is}
-use Rattle.plane_base.specs.BaseLayer.{IsInRange, PointsInRange, is_closed, ring_fault, first_ring_fault, rings_fault, or_else}
+use Rattle.plane_base.specs.BaseLayer.{IsInRange, PointsInRange, is_closed, ring_fault, first_ring_fault, rings_fault}
 use Rattle.plane_base.specs.declared.fault.PlaneFault.{PlaneFault}
 use Rattle.plane_base.specs.declared.fault.PlaneFault.TheVariants.{RingOpen, RingShort, TooManySegments}
 
@@ -38,16 +39,6 @@ closed_ends (a ∷ rest) h =
     let same : a ≡ last_of a rest = same_points a (last_of a rest) (rw (one_less (length rest), last_is a rest) at h) in
     ap Some same ∙ sym (last_is a rest) ∙ ap (slice_get (a ∷ rest)) (sym (one_less (length rest)))
 
--- the first of two faults is none, where the first of both is
-first_none : (a b : Option PlaneFault) → or_else a b ≡ None → a ≡ None
-first_none None b e = refl
-first_none (Some x) b e = absurd (cc)
-
--- the second of two faults is none, where the first of both is
-second_none : (a b : Option PlaneFault) → or_else a b ≡ None → b ≡ None
-second_none None b e = e
-second_none (Some x) b e = absurd (cc)
-
 -- a ring without a fault, by its length and whether it is closed
 ring_by : (ring : List WholePoint) (at : ℕ) (short closed : Bool) → nat_lt (length ring) 4 ≡ short → is_closed ring ≡ closed → (if short then Some (RingShort at) else (if closed then None else Some (RingOpen at))) ≡ None → PointsInRange ring → IsRing ring
 ring_by ring at true closed few ends e in_range = absurd (cc)
@@ -61,13 +52,13 @@ rings_from : (at : ℕ) (rings : List (List WholePoint)) → first_ring_fault at
 rings_from at [] e in_range = All-nil IsRing
 rings_from at (ring ∷ rings) e in_range =
     All-cons IsRing ring rings
-    (ring_by ring at (nat_lt (length ring) 4) (is_closed ring) refl refl (first_none (ring_fault at ring) (first_ring_fault (at + 1) rings) e) (All-head PointsInRange ring rings in_range))
-    (rings_from (at + 1) rings (second_none (ring_fault at ring) (first_ring_fault (at + 1) rings) e) (All-tail PointsInRange ring rings in_range))
+    (ring_by ring at (nat_lt (length ring) 4) (is_closed ring) refl refl (both_absent (ring_fault at ring) (first_ring_fault (at + 1) rings) e).first (All-head PointsInRange ring rings in_range))
+    (rings_from (at + 1) rings (both_absent (ring_fault at ring) (first_ring_fault (at + 1) rings) e).second (All-tail PointsInRange ring rings in_range))
 
 -- rings that a base layer may have, whose points are in range, are rings
 pub are_rings : (rings : List (List WholePoint)) → rings_fault rings ≡ None → All PointsInRange rings → All IsRing rings
 are_rings rings e =
-    rings_from 0 rings (first_none (first_ring_fault 0 rings) (if nat_le (ring_step_count rings) 2048 then None else Some TooManySegments) e)
+    rings_from 0 rings (both_absent (first_ring_fault 0 rings) (if nat_le (ring_step_count rings) steps_max then None else Some TooManySegments) e).first
 
 -- a ring without a fault is closed
 closed_by : (ring : List WholePoint) (at : ℕ) (short closed : Bool) → is_closed ring ≡ closed → (if short then Some (RingShort at) else (if closed then None else Some (RingOpen at))) ≡ None → IsClosed ring
@@ -79,10 +70,10 @@ closed_by ring at false true ends e = closed_ends ring ends
 closed_from : (at : ℕ) (rings : List (List WholePoint)) → first_ring_fault at rings ≡ None → All IsClosed rings
 closed_from at [] e = All-nil IsClosed
 closed_from at (ring ∷ rings) e =
-    All-cons IsClosed ring rings (closed_by ring at (nat_lt (length ring) 4) (is_closed ring) refl (first_none (ring_fault at ring) (first_ring_fault (at + 1) rings) e))
-    (closed_from (at + 1) rings (second_none (ring_fault at ring) (first_ring_fault (at + 1) rings) e))
+    All-cons IsClosed ring rings (closed_by ring at (nat_lt (length ring) 4) (is_closed ring) refl (both_absent (ring_fault at ring) (first_ring_fault (at + 1) rings) e).first)
+    (closed_from (at + 1) rings (both_absent (ring_fault at ring) (first_ring_fault (at + 1) rings) e).second)
 
 -- rings that a base layer may have are closed
 pub are_closed : (rings : List (List WholePoint)) → rings_fault rings ≡ None → All IsClosed rings
 are_closed rings e =
-    closed_from 0 rings (first_none (first_ring_fault 0 rings) (if nat_le (ring_step_count rings) 2048 then None else Some TooManySegments) e)
+    closed_from 0 rings (both_absent (first_ring_fault 0 rings) (if nat_le (ring_step_count rings) steps_max then None else Some TooManySegments) e).first

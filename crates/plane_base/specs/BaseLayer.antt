@@ -1,5 +1,6 @@
 use Rattle.std.specs.Prelude.{ℕ, Bool, false, ◌+◌, ◌-◌, List, [], ◌∷◌, length, nat_lt, nat_le, if◌then◌else◌, Option, Some, None, slice_get, ◌<◌, All}
-use Rattle.overlay_terms.specs.Plane.{WholePoint, InRange, ring_step_count, same_whole}
+use Rattle.std.specs.Option.{option_or}
+use Rattle.overlay_terms.specs.Plane.{WholePoint, InRange, ring_step_count, steps_max, same_whole}
 use Rattle.plane_base.specs.declared.fault.PlaneFault.{PlaneFault}
 use Rattle.plane_base.specs.declared.fault.PlaneFault.TheVariants.{RingOpen, RingShort, TooManySegments}
 
@@ -24,17 +25,12 @@ abbrev pub ring_fault : ℕ → List WholePoint → Option PlaneFault
 ring_fault at ring =
     if nat_lt (length ring) 4 then Some (RingShort at) else (if is_closed ring then None else Some (RingOpen at))
 
--- the first of two faults
-abbrev pub or_else : Option PlaneFault → Option PlaneFault → Option PlaneFault
-or_else (Some fault) next = Some fault
-or_else None next = next
-
 -- the first fault of the rings, the first of which stands at the given place
 abbrev pub first_ring_fault : ℕ → List (List WholePoint) → Option PlaneFault
 first_ring_fault at [] = None
-first_ring_fault at (ring ∷ rings) = or_else (ring_fault at ring) (first_ring_fault (at + 1) rings)
+first_ring_fault at (ring ∷ rings) = option_or (ring_fault at ring) (first_ring_fault (at + 1) rings)
 
 -- what is wrong with the rings of a base layer: the first ring's fault, then too many steps
 abbrev pub rings_fault : List (List WholePoint) → Option PlaneFault
 rings_fault rings =
-    or_else (first_ring_fault 0 rings) (if nat_le (ring_step_count rings) 2048 then None else Some TooManySegments)
+    option_or (first_ring_fault 0 rings) (if nat_le (ring_step_count rings) steps_max then None else Some TooManySegments)

@@ -1,6 +1,6 @@
 //! Rings, and the base layers that they make.
 ghost use Rattle.std.specs.Prelude.{◌≡◌, ◌≤◌, ◌++◌, nat_le, None, List, length, IfSome, IfOk, IsNone, OnOk, IsErrOf, IsOkUnless, All};
-ghost use Rattle.overlay_terms.specs.Plane.{WholePoint, Segment, segments_of, ring_segments, ring_step_count};
+ghost use Rattle.overlay_terms.specs.Plane.{WholePoint, Segment, segments_of, ring_segments, ring_step_count, steps_max};
 ghost use Rattle.overlay_terms.specs.InputLaws.{IsRing};
 ghost use Rattle.plane_base.specs.BaseLayer.{rings_fault, ring_fault, first_ring_fault, PointsInRange};
 
@@ -89,7 +89,7 @@ fn first_fault(rings: &[Ring]) -> Option<PlaneFault>
 
 /// Whether the rings have no more steps than a base layer may.
 fn is_within_limit(rings: &[Ring]) -> bool
-    ensures { result ≡ nat_le (ring_step_count rings.now) 2048 }
+    ensures { result ≡ nat_le (ring_step_count rings.now) steps_max }
 {
     let mut steps = 0;
     for ring in rings {

@@ -1,14 +1,18 @@
-//! Columns of the plane, each 2^17 wide.
+//! The columns of the plane. How many there are and how wide they are stands here alone.
 ghost use Rattle.std.specs.Prelude.{◌≡◌, ◌≤◌, ◌<◌, ◌*◌, ◌≤ℤ◌, ◌*ℤ◌, ◌<ℤ◌, neg_ℤ, pos, ℕ, ◌+◌, SomeIff, IfSome, IsSome, ◌↔◌};
-ghost use Rattle.overlay_terms.specs.Column.{border, IsInColumn, IsInPlane};
-ghost use Rattle.overlay_terms.specs.Plane.{InRange};
+ghost use Rattle.overlay_terms.specs.Column.{border, column_count, IsInColumn, IsInPlane};
+ghost use Rattle.overlay_terms.specs.Plane.{denominator_max, InRange};
 
+use crate::point::COORD_MAX;
 use std::marker::Model;
 
-/// The greatest number of a column.
-pub const LAST_COLUMN: u8 = 16;
+/// How many columns there are.
+pub const COLUMN_COUNT: u8 = 17;
 
-/// A column, by its number from 0 to 16.
+/// How wide a column is.
+const COLUMN_WIDTH: i64 = 131072;
+
+/// A column, by its number from 0 on.
 #[derive(Clone, Copy, Debug, PartialEq, Eq, PartialOrd, Ord)]
 pub struct Column {
     number: u8,
@@ -19,7 +23,7 @@ impl Model for Column {
 
     ghost view = { λ c. c.number };
 
-    ghost invariant = { λ c. c.number ≤ 16 };
+    ghost invariant = { λ c. c.number < column_count };
 
     ghost inverse = { λ n. record { number = n } };
 }
@@ -27,9 +31,9 @@ impl Model for Column {
 impl Column {
     /// The column with this number, if there is one.
     pub fn new(number: u64) -> Option<Column>
-        ensures { SomeIff result (number ≤ 16) number }
+        ensures { SomeIff result (number < column_count) number }
     {
-        if number > u64::from(LAST_COLUMN) {
+        if number >= u64::from(COLUMN_COUNT) {
             return None;
         }
         Some(Column {
@@ -39,7 +43,7 @@ impl Column {
 
     pub fn number(self) -> u8
         ensures value { result ≡ self }
-        ensures small { result ≤ 16 }
+        ensures small { result < column_count }
     {
         self.number
     }
@@ -49,32 +53,39 @@ impl Column {
         ensures value { result ≡ border self }
         ensures in_range { InRange result }
     {
-        i64::from(self.number) * 131072 - 1048576
+        i64::from(self.number) * COLUMN_WIDTH - COORD_MAX
+    }
+
+    /// The x where the column ends, which is no longer in it.
+    pub fn end(self) -> i64
+        ensures { result ≡ border (self + 1) }
+    {
+        self.border() + COLUMN_WIDTH
     }
 }
 
 /// The column of x / w, unless it lies outside the coordinates.
 pub fn column_of(x: i128, w: i128) -> Option<Column>
     requires w_low { pos 1 ≤ℤ w }
-    requires w_high { w ≤ℤ pos 8796093022208 }
+    requires w_high { w ≤ℤ pos denominator_max }
     ensures known { IsSome result ↔ IsInPlane x w }
     ensures column { IfSome result (λ k. IsInColumn k x w) }
 {
-    let limit = w * 1048576;
+    let limit = w * COORD_MAX as i128;
     if x < -limit || x > limit {
         return None;
     }
     let from_left = (x + limit) as u128;
-    let width = (w * 131072) as u128;
+    let width = (w * COLUMN_WIDTH as i128) as u128;
     let number = column_number(from_left, width);
     Some(Column { number })
 }
 
-/// How many whole widths lie left of a place that is at most 16 widths from the left.
+/// How many whole widths lie left of a place, fewer than there are columns.
 fn column_number(from_left: u128, width: u128) -> u8
     requires some_width { 0 < width }
-    requires not_far { from_left ≤ 16 * width }
-    ensures small { result ≤ 16 }
+    requires not_far { from_left < column_count * width }
+    ensures small { result < column_count }
     ensures low { result * width ≤ from_left }
     ensures high { from_left < (result + 1) * width }
 {

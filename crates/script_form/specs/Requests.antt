@@ -2,7 +2,7 @@
 use Rattle.std.specs.Prelude.{ℕ, ℤ, pos, neg_ℤ, ◌+◌, ◌*◌, ◌-◌, ◌==◌, nat_le, Bool, true, false, not, ◌&&◌, ◌||◌, List, [], ◌∷◌, length, drop, fold, codes, bytes_eq, Option, Some, None, if◌then◌else◌, take_while}
 use Rattle.std.specs.List.{list_all, prefix_len}
 use Rattle.std.specs.Char.{is_ascii_digit}
-use Rattle.wkt_form.specs.Token.{is_blank}
+use Rattle.overlay_terms.specs.Blank.{is_blank}
 use Rattle.script_form.specs.Lines.{is_gap, is_skipped, is_too_long}
 
 -- a request: a name and a text, a name, a point with its denominator, a name and a column's number, or no more than its word

@@ -4,7 +4,7 @@ ghost use Rattle.script_form.specs.Fault.{code_of, text_of};
 ghost use Rattle.script_form.specs.declared.fault.CommandFault.TheVariants.{Wkt, Expression, Query, Version, OutOfMemory};
 
 use crate::fault_text::{FaultText, fault_text};
-use exact_point::fault::PointFault;
+use exact_point::PointFault;
 use layer_expr::fault::ExprFault;
 use std::alloc::AllocError;
 use std::fmt;

@@ -8,7 +8,7 @@ ghost use Rattle.script_form.specs.Fault.{text_of};
 ghost use Rattle.script_form.specs.FaultText.{shown, IsBrief};
 
 use crate::fault::CommandFault;
-use exact_point::fault::PointFault;
+use exact_point::PointFault;
 use layer_book::fault::LayerFault;
 use layer_expr::fault::ExprFault;
 use version_core::fault::VersionFault;

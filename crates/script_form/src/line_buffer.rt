@@ -17,8 +17,9 @@ pub struct LineBuffer {
 }
 
 impl Model for LineBuffer {
-    ghost use Rattle.std.specs.Prelude.{ℕ, ◌≤◌, List, vec_len, vec_capacity};
+    ghost use Rattle.std.specs.Prelude.{ℕ, ◌+◌, ◌≤◌, List, vec_len, vec_capacity};
     ghost use Rattle.std.specs.Coded.{coded_list, coded_ℕ};
+    ghost use Rattle.script_form.specs.Lines.{line_max};
 
     ghost Value = { List ℕ };
 
@@ -26,7 +27,7 @@ impl Model for LineBuffer {
 
     ghost view = { λ l. l.bytes.items };
 
-    ghost invariant = { λ l. (vec_len l.bytes ≤ 65538) × (65538 ≤ vec_capacity l.bytes) };
+    ghost invariant = { λ l. (vec_len l.bytes ≤ line_max + 2) × (line_max + 2 ≤ vec_capacity l.bytes) };
 }
 
 impl LineBuffer {

@@ -1,9 +1,11 @@
 //! Words, parted by spaces and tabs.
 ghost use Rattle.std.specs.Prelude.{◌≡◌, ◌≤◌, ◌∷◌, [], length, IfNone, IfSome, take_while};
 ghost use Rattle.std.specs.List.{prefix_len};
-ghost use Rattle.wkt_form.specs.Token.{is_blank};
+ghost use Rattle.overlay_terms.specs.Blank.{is_blank};
 ghost use Rattle.script_form.specs.Lines.{is_gap};
 ghost use Rattle.script_form.specs.Requests.{is_word_byte, is_name_side, skip_while, words_of};
+
+use overlay_terms::blank::is_blank;
 
 /// Whether the byte is a space or a tab.
 pub fn is_gap(byte: u8) -> bool
@@ -16,13 +18,6 @@ fn is_word_byte(byte: u8) -> bool
     ensures { result ≡ is_word_byte byte }
 {
     !is_gap(byte)
-}
-
-/// Whether the byte is white space of a text.
-fn is_blank(byte: u8) -> bool
-    ensures { result ≡ is_blank byte }
-{
-    matches!(byte, b' ' | b'\t' | b'\r' | b'\n')
 }
 
 /// Whether the byte may stand in a name before a `=`.

@@ -2,10 +2,11 @@
 use Rattle.std.proofs.Common.{◌≡◌, ⊎_elim, ◌+◌, ◌<◌, nat_le, Bool, true, false, not, cond, ◌&&◌, ◌||◌, List, [], ◌∷◌, length, map, None, refl, sym, ap, ◌∙◌, arith}
 use Rattle.std.specs.Prelude.{bytes_eq}
 use Rattle.std.specs.List.{list_any, list_all}
+use Rattle.std.specs.Option.{option_or}
 use Rattle.std.proofs.lemmas.Bool.{cases_Bool, and_parts, and_from, and_left, and_right, or_parts, not_from_false, lt-leb}
 use Rattle.overlay_terms.specs.Trees.{Tree, leaves}
-use Rattle.overlay_terms.specs.Layers.{Name, Content, base, derived, Layer}
-use Rattle.overlay_terms.specs.Commands.{unknown_layer, not_base, not_derived, later_layer, too_many_layers, index_of, stands, is_derived, stands_as_base, stands_as_derived, or_else, when, is_crowded, refusal_of_put, refusal_of_use, refusal_of_uses, refusal_of_define, layers_max}
+use Rattle.overlay_terms.specs.Layers.{layers_max, Name, Content, base, derived, Layer}
+use Rattle.overlay_terms.specs.Commands.{unknown_layer, not_base, not_derived, later_layer, too_many_layers, index_of, stands, is_derived, stands_as_base, stands_as_derived, when, is_crowded, refusal_of_put, refusal_of_use, refusal_of_uses, refusal_of_define}
 use Rattle.overlay_terms.specs.Orderly.{used_names, is_among}
 use Rattle.overlay_terms.proofs.OrderlyLemmas.{MayFollow}
 use Rattle.layer_expr.specs.Name.{is_name}
@@ -42,7 +43,7 @@ index_within (l ∷ ls) name some = ⊎_elim
     omega (arith, e, h))
     (cases_Bool (bytes_eq l.name name))
 
-module _ (known : List Layer) (name : Name) (new : stands known name ≡ false) (room : length known < 32) where
+module _ (known : List Layer) (name : Name) (new : stands known name ≡ false) (room : length known < layers_max) where
   not_crowded : is_crowded known name ≡ false
   not_crowded = and_right (not (stands known name)) (nat_le layers_max (length known)) (lt-leb layers_max (length known) room)
 
@@ -54,7 +55,7 @@ module _ (known : List Layer) (name : Name) (new : stands known name ≡ false) 
 
   put_accepted : refusal_of_put known name ≡ None
   put_accepted =
-      ap (λ b. or_else (when b not_base) (when (is_crowded known name) too_many_layers)) not_derived_there ∙ ap (λ b. when b too_many_layers) not_crowded
+      ap (λ b. option_or (when b not_base) (when (is_crowded known name) too_many_layers)) not_derived_there ∙ ap (λ b. when b too_many_layers) not_crowded
 
   use_accepted : (used : Name) → is_among (names_of known) used ≡ true → refusal_of_use known name used ≡ None
   use_accepted used among =
@@ -62,24 +63,24 @@ module _ (known : List Layer) (name : Name) (new : stands known name ≡ false) 
       let first : not (stands known used) ≡ false = ap not there in
       let before : nat_le (index_of known name) (index_of known used) ≡ false =
       (let past = index_past known name new in let within = index_within known used there in lt-leb (index_of known name) (index_of known used) (omega (arith, past, within))) in
-      ap (λ b. or_else (when b unknown_layer) (when (nat_le (index_of known name) (index_of known used)) later_layer)) first ∙ ap (λ b. when b later_layer) before
+      ap (λ b. option_or (when b unknown_layer) (when (nat_le (index_of known name) (index_of known used)) later_layer)) first ∙ ap (λ b. when b later_layer) before
 
   uses_accepted : (uses : List Name) → list_all (is_among (names_of known)) uses ≡ true → refusal_of_uses known name uses ≡ None
   uses_accepted [] all = refl
   uses_accepted (used ∷ others) all =
       let h = and_parts (is_among (names_of known) used) (list_all (is_among (names_of known)) others) all in
-      ap (λ o. or_else o (refusal_of_uses known name others)) (use_accepted used h.0) ∙ uses_accepted others h.1
+      ap (λ o. option_or o (refusal_of_uses known name others)) (use_accepted used h.0) ∙ uses_accepted others h.1
 
   define_accepted : (tree : Tree Name) → list_all (is_among (names_of known)) (leaves tree) ≡ true → refusal_of_define known name tree ≡ None
   define_accepted tree all =
-      ap (λ b. or_else (when b not_derived) (or_else (refusal_of_uses known name (leaves tree)) (when (is_crowded known name) too_many_layers))) not_base_there
-      ∙ ap (λ o. or_else o (when (is_crowded known name) too_many_layers)) (uses_accepted (leaves tree) all) ∙ ap (λ b. when b too_many_layers) not_crowded
+      ap (λ b. option_or (when b not_derived) (option_or (refusal_of_uses known name (leaves tree)) (when (is_crowded known name) too_many_layers))) not_base_there
+      ∙ ap (λ o. option_or o (when (is_crowded known name) too_many_layers)) (uses_accepted (leaves tree) all) ∙ ap (λ b. when b too_many_layers) not_crowded
 
   content_accepted : (content : Content) → list_all (is_among (names_of known)) (used_names content) ≡ true → refusal_of_keeping known name content ≡ None
   content_accepted (base rings) all = put_accepted
   content_accepted (derived tree) all = define_accepted tree all
 
-pub may_follow_stands : (known : List Layer) (layer : Layer) → MayFollow (names_of known) layer → length known < 32 → is_name layer.name ≡ true → may_stand known layer.name layer.content ≡ true
+pub may_follow_stands : (known : List Layer) (layer : Layer) → MayFollow (names_of known) layer → length known < layers_max → is_name layer.name ≡ true → may_stand known layer.name layer.content ≡ true
 may_follow_stands known layer follows room named =
     let new : stands known layer.name ≡ false = stands_among known layer.name ∙ follows.new_name in
     and_from (is_name layer.name && not (stands known layer.name)) (is_accepted (refusal_of_keeping known layer.name layer.content))

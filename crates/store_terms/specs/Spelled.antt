@@ -4,8 +4,7 @@ use Rattle.std.proofs.Common.{inl, inr}
 use Rattle.std.specs.List.{AllByRecursion}
 use Rattle.overlay_terms.specs.Plane.{WholePoint}
 use Rattle.overlay_terms.specs.Trees.{Tree}
-use Rattle.overlay_terms.specs.Layers.{Name, base, derived, Layer}
-use Rattle.overlay_terms.specs.Commands.{layers_max}
+use Rattle.overlay_terms.specs.Layers.{layers_max, Name, base, derived, Layer}
 use Rattle.overlay_terms.specs.Orderly.{IsOrderly}
 use Rattle.overlay_terms.specs.Histories.{Tile, Finished}
 use Rattle.layer_expr.specs.Name.{is_name}

@@ -5,7 +5,7 @@ ghost use Rattle.tile_build.specs.Tile.{tile_of};
 
 use crate::building::build;
 use crate::tile::Tile;
-use arrange::tile_input::TileInput;
+use arrange::TileInput;
 use std::alloc::{AllocError, Global};
 
 /// The most pieces that a tile holds.

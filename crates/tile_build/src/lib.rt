@@ -5,3 +5,8 @@ pub mod building;
 pub mod built;
 pub mod piece;
 pub mod tile;
+
+pub use building::build;
+pub use built::{Built, PIECES_MAX};
+pub use piece::Piece;
+pub use tile::Tile;

@@ -4,11 +4,10 @@ ghost use Rattle.overlay_terms.specs.TileLaws.{is_pair_below};
 ghost use Rattle.exact_point.specs.Place.{place};
 ghost use Rattle.exact_point.specs.NamedPiece.{ends_of};
 
-use arrange::piece::Elementary;
-use exact_point::point::HPoint;
-use exact_point::point_name::PointName;
-use exact_point::side::{on, side, x_cmp};
-use plane_base::point::Seg;
+use arrange::Elementary;
+use exact_point::side::side;
+use exact_point::{HPoint, PointName, on, x_cmp};
+use plane_base::Seg;
 use std::marker::Model;
 
 /// A piece of the boundary: a stretch of its support between two places, the left one first.

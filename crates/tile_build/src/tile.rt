@@ -7,8 +7,7 @@ ghost use Rattle.tile_laws.specs.SameTile.{same_ends, same_tile, HasPositiveEnds
 ghost use Rattle.tile_build.specs.Tile.{tile_of, named_pieces, answer_of};
 
 use crate::piece::Piece;
-use exact_point::point::HPoint;
-use exact_point::query::QueryPoint;
+use exact_point::{HPoint, QueryPoint};
 use std::alloc::{AllocError, Global};
 
 /// The pieces of the boundary that begin in a column, in order; or that they are too many.

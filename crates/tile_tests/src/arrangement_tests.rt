@@ -1,10 +1,7 @@
 //! Inputs of tiles, units, nodes, pieces and labels, worked by hand. Bit 0 of a mask is layer A, bit 1 is B.
 use crate::testing::{BOW_TIE, LEFT_HALF, NOTHING, SHIFTED, SQUARE, TWICE, input_of};
-use arrange::finding_nodes::nodes_on;
-use arrange::finding_pieces::pieces;
-use arrange::finding_units::units;
-use exact_point::point_name::PointName;
-use exact_point::reducing::reduced;
+use arrange::{nodes_on, pieces, units};
+use exact_point::{PointName, reduced};
 use std::process::Abort;
 use std::test::Fail;
 use sweep_line::counting::label_by_count;

@@ -1,13 +1,9 @@
 //! Exact places, worked by hand and with fractions of Python.
-use exact_point::crossing::cross_of;
-use exact_point::fault::PointFault;
-use exact_point::middle::below_middle;
-use exact_point::point::HPoint;
-use exact_point::point_name::PointName;
-use exact_point::query::QueryPoint;
-use exact_point::reducing::reduced;
-use exact_point::side::{below, on, side};
-use plane_base::point::{Pt, Seg};
+use exact_point::side::side;
+use exact_point::{
+    HPoint, PointFault, PointName, QueryPoint, below, below_middle, cross_of, on, reduced,
+};
+use plane_base::{Pt, Seg};
 use std::cmp::Ordering;
 use std::process::Abort;
 

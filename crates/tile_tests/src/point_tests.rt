@@ -1,8 +1,5 @@
 //! Whole points, segments, columns and base layers, worked by hand.
-use plane_base::base_layer::{BaseLayer, Ring};
-use plane_base::column::{Column, column_of};
-use plane_base::fault::PlaneFault;
-use plane_base::point::{Pt, Seg};
+use plane_base::{BaseLayer, Column, PlaneFault, Pt, Ring, Seg, column_of};
 use std::process::Abort;
 use std::test::Fail;
 

@@ -1,13 +1,11 @@
 //! Labels by the sweep beside labels by counting, on rings through points of a small square: many touch, stand
 //! upright or overlap.
 use crate::testing::{after, define, input_in};
-use arrange::finding_pieces::pieces;
-use arrange::tile_input::TileInput;
+use arrange::{TileInput, pieces};
 use layer_book::command::Command;
 use layer_book::layers::Layers;
 use layer_expr::name::Name;
-use plane_base::base_layer::{BaseLayer, Ring};
-use plane_base::point::Pt;
+use plane_base::{BaseLayer, Pt, Ring};
 use std::alloc::Global;
 use std::sync::Arc;
 use std::test::Fail;

@@ -1,5 +1,5 @@
 //! Layers and inputs of tiles for the tests, by their texts.
-use arrange::tile_input::TileInput;
+use arrange::TileInput;
 use layer_book::command::Command;
 use layer_book::layers::Layers;
 use layer_expr::name::Name;

@@ -1,10 +1,9 @@
 //! Tiles by their calls: the cap, answers, copies, and which tiles are alike.
 use crate::testing::{BOW_TIE, NOTHING, SHIFTED, SQUARE, TWICE, input_of};
-use exact_point::query::QueryPoint;
+use exact_point::QueryPoint;
 use std::alloc::Global;
 use std::test::Fail;
-use tile_build::building::build;
-use tile_build::tile::Tile;
+use tile_build::{Tile, build};
 
 /// The region of the bow tie, by a left and a right triangle.
 const TRIANGLES: &str = "MULTIPOLYGON (((0 0, 0 4, 2 2, 0 0)), ((4 0, 4 4, 2 2, 4 0)))";

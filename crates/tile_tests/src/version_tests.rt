@@ -4,7 +4,7 @@ use layer_book::command::Command;
 use layer_expr::name::Name;
 use std::alloc::Global;
 use std::test::Fail;
-use tile_build::built::Built;
+use tile_build::Built;
 use version_core::finishing::Finish;
 use version_core::version::Version;
 

@@ -8,7 +8,7 @@ use Rattle.overlay_terms.specs.Plane.{Point, is_on}
 use Rattle.overlay_terms.specs.Column.{border, IsInColumn, is_in_column, column_count}
 use Rattle.overlay_terms.specs.Layers.{Name, Layer, segments_in_reach, value_of}
 use Rattle.overlay_terms.specs.Tiles.{input_of}
-use Rattle.overlay_terms.specs.LayerParity.{AreSound, IsOffLayer}
+use Rattle.overlay_terms.specs.LayerParity.{IsOffLayer}
 use Rattle.overlay_terms.specs.Histories.{Tile, pieces, oversize, Version, tile_at, IsTileAt, pieces_max}
 use Rattle.overlay_terms.specs.KeptLaws.{TilesAreExact}
 use Rattle.overlay_terms.proofs.InputNumbers.{true_le, true_lt}
@@ -18,10 +18,6 @@ use Rattle.layer_book.specs.Layer.{IsBook}
 use Rattle.layer_book.specs.Place.{IsToldOf}
 use Rattle.version_core.specs.Locating.{told, IsAnswerByTile}
 
--- layers as a version has them are sound
-sound : (layers : List Layer) → IsBook layers → AreSound layers
-sound layers book = record { orderly = book.orderly; few = book.few; rings = book.rings }
-
 -- the test of a column holds in it
 in_column : (k : ℕ) (q : Point) → IsInColumn k q.x q.w → IsTrue (is_in_column k q)
 in_column k q at =
@@ -29,7 +25,7 @@ in_column k q at =
 
 -- a tile that is that of the input tells whether the point is in the layer, where it tells anything
 right_tile_tells : (layers : List Layer) (name : Name) (k : ℕ) (tile : Tile) (q : Point) → IsBook layers → k < column_count → IsOffLayer layers name k q → IsTileAt pieces_max (input_of layers name k) tile → IfSome (answer_of tile q) (λ inside. inside ≡ value_of layers name q)
-right_tile_tells layers name k (pieces ends) q book near off right = input_parity_law layers name k ends q (sound layers book) near right.1 off
+right_tile_tells layers name k (pieces ends) q book near off right = input_parity_law layers name k ends q book.sound near right.1 off
 right_tile_tells layers name k oversize q book near off right = tt
 
 -- the same of what is there under the layer and column in a version whose tiles are exact

@@ -11,7 +11,8 @@ use Rattle.overlay_terms.specs.Commands.{Refusal, Command, refusal_of, refusal_a
 use Rattle.overlay_terms.specs.Touched.{is_touched}
 use Rattle.overlay_terms.specs.Histories.{Tile, Finished, Version, tile_at, IsTileAt, pieces_max, is_formed, FollowsCommand, FollowsTile}
 use Rattle.overlay_terms.proofs.NameLemmas.{same_name}
-use Rattle.overlay_terms.proofs.AcceptedLemmas.{no_reason, not_when}
+use Rattle.overlay_terms.proofs.AcceptedLemmas.{not_when}
+use Rattle.overlay_terms.proofs.Options.{both_absent}
 use Rattle.overlay_terms.proofs.FormLemmas.{formed_at}
 use Rattle.overlay_terms.proofs.KeptCommands.{untouched_input_stays}
 use Rattle.overlay_terms.specs.SameInput.{same_input, same_input-Decides}
@@ -29,7 +30,7 @@ pub record IsAccepted (number : ℕ) (layers : List Layer) (command : Command) :
 
 pub accepted_parts : (number : ℕ) (layers : List Layer) (command : Command) → refusal_at number layers command ≡ None → IsAccepted number layers command
 accepted_parts number layers command e =
-    let reasons = no_reason (refusal_of layers command) (when (number == version_max) version_limit) e in
+    let reasons = both_absent (refusal_of layers command) (when (number == version_max) version_limit) e in
     record { by_layers = reasons.first; not_last = eqb-false number version_max (not_when (number == version_max) version_limit reasons.second) }
 
 -- a number that is not the last may be raised

@@ -17,7 +17,6 @@ text_of (Layer fault) = book.text_of fault
 text_of Pending = codes "pending"
 text_of Oversize = codes "oversize"
 
--- a fault reports the refusal, if there is one
-abbrev pub ReportsAt : Option Refusal → VersionFault → Type 0
-ReportsAt None fault = ⊥
-ReportsAt (Some refusal) fault = fault ≡ Layer (book.fault_of refusal)
+-- the fault that a refusal is reported by
+abbrev pub fault_of : Refusal → VersionFault
+fault_of refusal = Layer (book.fault_of refusal)

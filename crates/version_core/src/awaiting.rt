@@ -6,14 +6,14 @@ use crate::fault::VersionFault;
 use crate::version::Version;
 use layer_book::fault::LayerFault;
 use layer_expr::name::Name;
-use plane_base::column::LAST_COLUMN;
+use plane_base::COLUMN_COUNT;
 
 impl Version {
     /// Whether each tile of a layer is finished. It takes no memory.
     pub fn is_built(&self, name: &Name) -> bool
         ensures { IsTrue result ↔ IsBuilt self.now name.now }
     {
-        for column in 0..LAST_COLUMN + 1 {
+        for column in 0..COLUMN_COUNT {
             if self.tile(name, column).is_none() {
                 return false;
             }

@@ -10,14 +10,12 @@ ghost use Rattle.version_core.specs.Edges.{AreEdges, IsTextOf, edge_line, edges_
 
 use crate::fault::VersionFault;
 use crate::version::Version;
-use exact_point::point::HPoint;
-use exact_point::reducing::reduced;
+use exact_point::{HPoint, reduced};
 use layer_book::fault::LayerFault;
 use layer_expr::name::Name;
-use plane_base::column::Column;
+use plane_base::Column;
 use std::alloc::{AllocError, Global};
-use tile_build::piece::Piece;
-use tile_build::tile::Tile;
+use tile_build::{Piece, Tile};
 
 impl Version {
     /// The pieces of a tile, counted and then a line for each.

@@ -8,13 +8,13 @@ ghost use Rattle.version_core.specs.Tiles.{finished};
 use crate::fault::VersionFault;
 use crate::tiles::{FinishedTile, copied};
 use crate::version::Version;
-use arrange::tile_input::TileInput;
-use layer_book::applying::MAX_LAYERS;
+use arrange::TileInput;
+use layer_book::MAX_LAYERS;
 use layer_book::fault::LayerFault;
 use layer_expr::name::Name;
 use std::alloc::{AllocError, Global};
 use std::sync::Arc;
-use tile_build::built::Built;
+use tile_build::Built;
 
 /// What became of a built tile.
 #[derive(Debug, Drop)]

@@ -8,11 +8,11 @@ ghost use Rattle.version_core.specs.Locating.{IsAnswerByTile};
 
 use crate::fault::VersionFault;
 use crate::version::Version;
-use exact_point::query::QueryPoint;
+use exact_point::QueryPoint;
 use layer_book::direct_answer::Place;
 use layer_book::fault::LayerFault;
 use layer_expr::name::Name;
-use plane_base::column::column_of;
+use plane_base::column_of;
 
 impl Version {
     /// Where a point lies for a layer: whether it is inside by a finished tile, where there is one

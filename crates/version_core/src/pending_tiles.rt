@@ -6,10 +6,8 @@ use crate::fault::VersionFault;
 use crate::version::Version;
 use layer_book::fault::LayerFault;
 use layer_expr::name::Name;
+use plane_base::COLUMN_COUNT;
 use std::alloc::{AllocError, Global};
-
-/// How many columns there are.
-const COLUMNS: u8 = 17;
 
 impl Version {
     /// The tiles that are not finished, by derived layer in order, then by column.
@@ -36,7 +34,7 @@ impl Version {
     fn add_pending(&self, list: &mut Vec<(Name, u8)>, name: &Name) -> Result<(), AllocError>
         ensures { OnOk result (list.new.items ≡ list.old.items ++ pending_of self.now name.now) }
     {
-        for column in 0..COLUMNS {
+        for column in 0..COLUMN_COUNT {
             if self.tile(name, column).is_none() {
                 list.push((name.clone()?, column))?;
             }

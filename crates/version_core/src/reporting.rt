@@ -5,7 +5,7 @@ ghost use Rattle.overlay_terms.specs.Histories.{IsReported};
 use crate::fault::VersionFault;
 use crate::tiles::copied;
 use crate::version::Version;
-use layer_book::applying::MAX_LAYERS;
+use layer_book::MAX_LAYERS;
 use layer_book::fault::LayerFault;
 use std::alloc::{AllocError, Global};
 

@@ -8,14 +8,14 @@ ghost use Rattle.version_core.specs.Tiles.{finished, given};
 use crate::fault::VersionFault;
 use crate::tiles::FinishedTile;
 use crate::version::Version;
-use layer_book::applying::MAX_LAYERS;
+use layer_book::MAX_LAYERS;
 use layer_book::fault::LayerFault;
 use layer_book::layers::Layers;
 use layer_expr::name::Name;
-use plane_base::column::Column;
+use plane_base::Column;
 use std::alloc::{AllocError, Global};
 use std::sync::Arc;
-use tile_build::tile::Tile;
+use tile_build::Tile;
 
 impl Version {
     /// The version of a number, layers and finished tiles, all of it durable. The tiles may be wrong,

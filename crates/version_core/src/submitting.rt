@@ -4,14 +4,14 @@ ghost use Rattle.std.specs.Option.{option_map};
 ghost use Rattle.overlay_terms.specs.Commands.{applied, refusal_at, refusal_of};
 ghost use Rattle.overlay_terms.specs.Histories.{FollowsCommand};
 ghost use Rattle.layer_book.specs.Command.{command};
-ghost use Rattle.layer_book.specs.Fault.{fault_of};
-ghost use Rattle.version_core.specs.Fault.{ReportsAt};
+ghost use Rattle.layer_book.specs.Fault.{fault_of, RefusedBy};
+ghost use Rattle.version_core.specs.Fault as version_fault;
 ghost use Rattle.version_core.specs.Tiles.{finished, untouched};
 
 use crate::fault::VersionFault;
 use crate::tiles::FinishedTile;
 use crate::version::{VERSION_MAX, Version};
-use layer_book::applying::MAX_LAYERS;
+use layer_book::MAX_LAYERS;
 use layer_book::command::Command;
 use layer_book::fault::LayerFault;
 use layer_book::layers::Layers;
@@ -22,7 +22,7 @@ impl Version {
     /// memory is taken.
     pub fn submit(&self, alloc: Global, change: &Command) -> Result<Version, VersionFault>
         ensures ok { IfOk result (λ next. FollowsCommand self.now (command change.now) next) }
-        ensures refused { IfErr result (λ fault. ((fault ≡ VersionFault.Layer LayerFault.OutOfMemory) × (refusal_at self.now.number self.now.layers (command change.now) ≡ None)) ⊎ ReportsAt (refusal_at self.now.number self.now.layers (command change.now)) fault) }
+        ensures refused { IfErr result (RefusedBy (VersionFault.Layer LayerFault.OutOfMemory) (option_map version_fault.fault_of (refusal_at self.now.number self.now.layers (command change.now)))) }
     {
         match self.refusal(change) {
             Some(fault) => return Err(VersionFault::Layer(fault)),

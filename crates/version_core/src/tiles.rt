@@ -6,10 +6,10 @@ ghost use Rattle.tile_build.specs.Tile.{tile_of};
 ghost use Rattle.version_core.specs.Tiles.{finished, is_of};
 
 use layer_expr::name::Name;
-use plane_base::column::Column;
+use plane_base::Column;
 use std::alloc::{AllocError, Global};
 use std::sync::Arc;
-use tile_build::tile::Tile;
+use tile_build::Tile;
 
 /// A finished tile under the name of its layer and its column. Versions share it.
 #[derive(Debug, Drop)]

@@ -13,11 +13,9 @@ use crate::fault::VersionFault;
 use crate::version::Version;
 use layer_book::fault::LayerFault;
 use layer_expr::name::Name;
-use plane_base::column::Column;
+use plane_base::Column;
 use std::alloc::{AllocError, Global};
-use tile_build::building::build;
-use tile_build::built::PIECES_MAX;
-use tile_build::tile::Tile;
+use tile_build::{PIECES_MAX, Tile, build};
 
 /// Whether a tile is the one that its present input gives.
 #[derive(Clone, Copy, Debug, PartialEq, Eq)]

@@ -11,7 +11,7 @@ use layer_book::layers::Layers;
 use layer_expr::name::Name;
 use std::alloc::Global;
 use std::marker::Model;
-use tile_build::tile::Tile;
+use tile_build::Tile;
 
 /// The greatest number of a version, 2^62.
 pub const VERSION_MAX: u64 = 4611686018427387904;

@@ -7,7 +7,8 @@ use Rattle.std.proofs.lemmas.Bool.{and_from, and_parts, cond-true, cond-false}
 use Rattle.std.proofs.lemmas.List.{take_at, drop_at, length-append}
 use Rattle.std.proofs.lemmas.List.Elements.{All-nil, All-cons, All-head, All-tail}
 use Rattle.overlay_terms.specs.Plane.{WholePoint, InRange}
-use Rattle.plane_base.specs.BaseLayer.{ring_fault, first_ring_fault, or_else}
+use Rattle.plane_base.specs.BaseLayer.{ring_fault, first_ring_fault}
+use Rattle.overlay_terms.proofs.Options.{both_absent}
 use Rattle.plane_base.specs.declared.fault.PlaneFault.{PlaneFault}
 use Rattle.wkt_form.specs.Number.{is_whole, number_value, is_coordinate}
 use Rattle.wkt_form.specs.Token.{Kind, word, run, open_bracket, close_bracket, comma, Token, is_run_byte, begins, tokens_from}
@@ -210,10 +211,6 @@ text_again (ring ∷ layer) h = sym (layer_again (ring ∷ layer) h)
 
 -- ==== Rings without a fault have points
 
-first_none : (a b : Option PlaneFault) → or_else a b ≡ None → (a ≡ None) × (b ≡ None)
-first_none (Some fault) b e = absurd (cc)
-first_none None b e = (refl, e)
-
 has_point : (at : ℕ) (ring : List WholePoint) → ring_fault at ring ≡ None → 0 < length ring
 has_point at [] e = absurd (cc)
 has_point at (p ∷ ps) e = omega arith
@@ -221,12 +218,12 @@ has_point at (p ∷ ps) e = omega arith
 all_writable : (at : ℕ) (layer : List (List WholePoint)) → first_ring_fault at layer ≡ None → AreInRange layer → All IsRingWritable layer
 all_writable at [] e h = All-nil IsRingWritable
 all_writable at (ring ∷ layer) e h =
-    let parts = first_none (ring_fault at ring) (first_ring_fault (at + 1) layer) e in
-    All-cons IsRingWritable ring layer (has_point at ring parts.0, All-head (All IsPointInRange) ring layer h) (all_writable (at + 1) layer parts.1 (All-tail (All IsPointInRange) ring layer h))
+    let parts = both_absent (ring_fault at ring) (first_ring_fault (at + 1) layer) e in
+    All-cons IsRingWritable ring layer (has_point at ring parts.first, All-head (All IsPointInRange) ring layer h) (all_writable (at + 1) layer parts.second (All-tail (All IsPointInRange) ring layer h))
 
 pub reads_back : WrittenReadsBack
 reads_back layer h none =
-    let writable = all_writable 0 layer (first_none (first_ring_fault 0 layer) _ none).0 h in
+    let writable = all_writable 0 layer (both_absent (first_ring_fault 0 layer) _ none).first h in
     let lexed = lexed_layer layer writable in (
       (written_text layer, record { right = text_right layer writable; spelled = lexed.spelled 0 }, lexed.good 0, text_again layer writable),
       none,

@@ -1,6 +1,7 @@
 -- The tokens of a Well-Known Text: words, runs of number bytes, brackets and commas, with white space between.
 use Rattle.std.specs.Prelude.{ℕ, ◌+◌, ◌==◌, Bool, false, ◌||◌, List, [], ◌∷◌, if◌then◌else◌}
 use Rattle.std.specs.Char.{is_ascii_alphabetic, is_ascii_digit}
+use Rattle.overlay_terms.specs.Blank.{is_blank}
 use Rattle.wkt_form.specs.Number.{is_sign, is_point}
 
 -- a word, a run of digits, signs and points, a bracket, a comma, or a byte that begins no token
@@ -16,10 +17,6 @@ pub data Kind : Type 0 where
 pub record Token : Type 0 where
   pub at : ℕ
   pub kind : Kind
-
--- space, tab, CR and LF
-abbrev pub is_blank : ℕ → Bool
-is_blank b = b == 32 || b == 9 || b == 13 || b == 10
 
 abbrev pub is_run_byte : ℕ → Bool
 is_run_byte b = is_ascii_digit b || is_sign b || is_point b

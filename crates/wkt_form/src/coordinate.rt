@@ -2,7 +2,7 @@
 ghost use Rattle.std.specs.Prelude.{◌≡◌, ◌↔◌, ℤ, IsSome, IfSome};
 ghost use Rattle.overlay_terms.specs.Plane.{InRange};
 
-use plane_base::point::COORD_MAX;
+use plane_base::COORD_MAX;
 use std::marker::Model;
 
 /// A whole number within the range of coordinates.

@@ -3,7 +3,7 @@ ghost use Rattle.std.specs.Prelude.{◌≡◌, Some};
 ghost use Rattle.wkt_form.specs.Fault.{code_of, text_of, of_rings};
 ghost use Rattle.wkt_form.specs.declared.fault.WktFault.TheVariants.{OutOfMemory};
 
-use plane_base::fault::PlaneFault;
+use plane_base::PlaneFault;
 use std::alloc::AllocError;
 use std::fmt;
 use thiserror::Error;

@@ -77,10 +77,7 @@ fn is_number(run: &[u8]) -> bool
     ensures { result ≡ is_number run.now }
 {
     let digits = unsigned(run);
-    let only_digits = are_digits_and_points(digits);
-    let one_point = point_count(digits) <= 1;
-    let some_digit = has_digit(digits);
-    only_digits & one_point & some_digit
+    are_digits_and_points(digits) && point_count(digits) <= 1 && has_digit(digits)
 }
 
 /// Where the point is, or the length where there is none.

@@ -5,7 +5,7 @@ ghost use Rattle.wkt_form.specs.Reading.{whole_at};
 use crate::coordinate::Coordinate;
 use crate::fault::WktFault;
 use crate::number::Number;
-use plane_base::point::Pt;
+use plane_base::Pt;
 
 /// The value of a number whose token stands at an offset.
 pub fn whole_at(at: usize, number: Number) -> Result<Coordinate, WktFault>

@@ -8,7 +8,7 @@ ghost use Rattle.wkt_form.specs.Seen.{seen_from};
 use crate::fault::WktFault;
 use crate::reader::Reader;
 use crate::token::token_from;
-use plane_base::base_layer::{BaseLayer, Ring};
+use plane_base::{BaseLayer, Ring};
 use std::alloc::Global;
 
 /// The base layer that a text spells. Every other text is refused by its first fault from the

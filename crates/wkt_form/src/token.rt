@@ -3,11 +3,13 @@ ghost use Rattle.std.specs.Prelude.{◌≡◌, ◌≤◌, ◌<◌, ◌+◌, ℕ,
 ghost use Rattle.std.specs.Str.{str_to_ascii_uppercase, bytes_eq};
 ghost use Rattle.std.specs.Char.{is_ascii_alphabetic};
 ghost use Rattle.std.specs.List.{prefix_len};
-ghost use Rattle.wkt_form.specs.Token.{is_blank, is_run_byte};
+ghost use Rattle.overlay_terms.specs.Blank.{is_blank};
+ghost use Rattle.wkt_form.specs.Token.{is_run_byte};
 ghost use Rattle.wkt_form.specs.Symbol.{word_symbol, run_symbol, mark_symbol};
 ghost use Rattle.wkt_form.specs.Seen.{seen_from};
 
 use crate::number::{Number, number_of};
+use overlay_terms::blank::is_blank;
 
 /// A token as the grammar sees it.
 #[derive(Clone, Copy, Debug, PartialEq, Eq)]
@@ -30,16 +32,10 @@ pub struct Token {
     pub symbol: Symbol,
 }
 
-fn is_blank(byte: u8) -> bool
-    ensures { result ≡ is_blank byte }
-{
-    matches!(byte, b' ' | b'\t' | b'\r' | b'\n')
-}
-
 fn is_run_byte(byte: u8) -> bool
     ensures { result ≡ is_run_byte byte }
 {
-    byte.is_ascii_digit() | matches!(byte, b'+' | b'-' | b'.')
+    byte.is_ascii_digit() || matches!(byte, b'+' | b'-' | b'.')
 }
 
 /// How many blanks the bytes begin with.

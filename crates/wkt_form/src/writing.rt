@@ -2,8 +2,7 @@
 ghost use Rattle.std.specs.Prelude.{◌≡◌, ◌++◌, map, length, IfOk, OnOk, string_bytes, codes};
 ghost use Rattle.wkt_form.specs.Spelling.{wkt_text, listed, point_text, ring_text, listed_front};
 
-use plane_base::base_layer::{BaseLayer, Ring};
-use plane_base::point::Pt;
+use plane_base::{BaseLayer, Pt, Ring};
 use std::alloc::{AllocError, Global};
 
 /// The one text of a base layer.

@@ -3,8 +3,8 @@ use Rattle.std.proofs.Common.{◌≡◌, ℕ, pos, true, false, Some, None, List
 use Rattle.overlay_terms.specs.Plane.{InRange, coordinate_max, segments_of}
 use Rattle.overlay_terms.specs.Column.{column_width, IsInPlane, IsInColumn}
 use Rattle.overlay_terms.specs.Trees.{leaf, combine, intersection, union, base_bit, definition, Source}
-use Rattle.overlay_terms.specs.Layers.{Layer, base, derived, named, content_value, values, content_reach, reaches, base_of, derived_of, Marked, marked_segments, source_of, answer_at, outside}
-use Rattle.overlay_terms.specs.Commands.{layers_max, is_derived, uses, is_crowded, refusal_of_use, refusal_of_uses, unknown_layer, later_layer, with_content}
+use Rattle.overlay_terms.specs.Layers.{layers_max, Layer, base, derived, named, content_value, values, content_reach, reaches, base_of, derived_of, Marked, marked_segments, source_of, answer_at, outside}
+use Rattle.overlay_terms.specs.Commands.{is_derived, uses, is_crowded, refusal_of_use, refusal_of_uses, unknown_layer, later_layer, with_content}
 use Rattle.overlay_terms.specs.Orderly.{used_names, is_among}
 use Rattle.overlay_terms.specs.Laws.{is_on_any}
 use Rattle.overlay_terms.proofs.Rows.Shared.{minus, place, square, base_layer, same_layer}

@@ -7,4 +7,4 @@ pub returns-clause-value : goal.returns-clause-value
 returns-clause-value c =
     let book = c.answers-known.ensures.valid in
     c.known_of.ensures
-    ∙ wanted_answer c.args.question (place c.args.point.now) c.args.self.now c.args.wanted.now c.answers-known.result c.args.name.now book.orderly (omega (arith, book.few, c.told-wanted)) c.requires.closed c.requires.standing c.requires.asked c.answers-known.ensures.value
+    ∙ wanted_answer c.args.question (place c.args.point.now) c.args.self.now c.args.wanted.now c.answers-known.result c.args.name.now book.sound.orderly (omega (arith, book.sound.few, c.told-wanted)) c.requires.closed c.requires.standing c.requires.asked c.answers-known.ensures.value

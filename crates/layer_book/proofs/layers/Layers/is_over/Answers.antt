@@ -15,10 +15,10 @@ pub returns-then-stands : goal.returns-then-stands
 returns-then-stands c =
     c.known_of.ensures
     ∙ ap (λ b. b && is_wanted c.args.self.now c.reach-wanted.result c.args.under.now) (sym c.if-stands.true ∙ c.stands.ensures)
-    ∙ over_marked c.args.self.now c.args.name.now c.args.under.now c.reach-wanted.result c.reach-wanted.ensures.valid.orderly (sym c.stands_as_derived.ensures ∙ c.if-not-stands_as_derived.false) c.reach-wanted.ensures.exactly
+    ∙ over_marked c.args.self.now c.args.name.now c.args.under.now c.reach-wanted.result c.reach-wanted.ensures.valid.sound.orderly (sym c.stands_as_derived.ensures ∙ c.if-not-stands_as_derived.false) c.reach-wanted.ensures.exactly
 
 pub returns-else-stands : goal.returns-else-stands
 returns-else-stands c =
     c.if-stands.false
     ∙ ap (λ b. b && is_wanted c.args.self.now c.reach-wanted.result c.args.under.now) (sym c.if-stands.false ∙ c.stands.ensures)
-    ∙ over_marked c.args.self.now c.args.name.now c.args.under.now c.reach-wanted.result c.reach-wanted.ensures.valid.orderly (sym c.stands_as_derived.ensures ∙ c.if-not-stands_as_derived.false) c.reach-wanted.ensures.exactly
+    ∙ over_marked c.args.self.now c.args.name.now c.args.under.now c.reach-wanted.result c.reach-wanted.ensures.valid.sound.orderly (sym c.stands_as_derived.ensures ∙ c.if-not-stands_as_derived.false) c.reach-wanted.ensures.exactly

@@ -12,7 +12,7 @@ use Rattle.layer_book.proofs.layers.Layers.touched_columns.Goals as goal
 
 pub returns-then-not-is_over : goal.returns-then-not-is_over
 returns-then-not-is_over c =
-    none_touched c.args.self.now (command c.args.change.now) c.args.name.now c.requires.book.orderly c.requires.accepted
+    none_touched c.args.self.now (command c.args.change.now) c.args.name.now c.requires.book.sound.orderly c.requires.accepted
     (sym (c.is_over.ensures ∙ ap (λ n. list_any (bytes_eq c.args.name.now) (derived_over c.args.self.now n)) c.name.ensures) ∙ c.if-not-is_over.true)
 
 pub returns-then-not-stands_as_derived : goal.returns-then-not-stands_as_derived
