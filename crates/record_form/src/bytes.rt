@@ -8,7 +8,7 @@ ghost use Rattle.store_terms.specs.BaseRecord.{coordinate, whole_point};
 
 use crate::fault::ReadFault;
 use byteorder::{BigEndian, ByteOrder};
-use plane_base::point::Pt;
+use plane_base::{COORD_MAX, Pt};
 use std::alloc::AllocError;
 
 /// The first byte, and what follows it.
@@ -61,7 +61,7 @@ fn coordinate_at(bytes: &[u8]) -> Result<(i64, &[u8]), ReadFault>
         return Err(ReadFault::Form);
     }
     let z = BigEndian::read_i32(bytes);
-    if z.unsigned_abs() > 1048576 {
+    if z.unsigned_abs() > COORD_MAX as u32 {
         return Err(ReadFault::Form);
     }
     Ok((i64::from(z), &bytes[4..]))

@@ -11,12 +11,10 @@ ghost use Rattle.store_terms.specs.declared.damage.Damage.TheVariants.{CatalogFo
 
 use crate::bytes::{byte_at, eight_bytes_at, four_bytes_at, two_bytes_at};
 use crate::fault::{ReadFault, RecordFault};
+use plane_base::COLUMN_COUNT;
 use std::alloc::Global;
 use store_terms::damage::Damage;
 use store_terms::root::Extent;
-
-/// How many tile entries a definition has, one for each column.
-const TILES: u8 = 17;
 
 /// Where the records of a layer lie: that of a base layer; or that of a definition, and by column
 /// those of its finished tiles.
@@ -114,7 +112,7 @@ fn tiles_at(alloc: Global, bytes: &[u8]) -> Result<(Vec<Option<Extent>>, &[u8]),
 {
     let mut tiles = Vec::new(alloc);
     let mut rest = bytes;
-    for _ in 0..TILES {
+    for _ in 0..COLUMN_COUNT {
         let (tile, after) = tile_at(rest)?;
         tiles.push(tile)?;
         rest = after;

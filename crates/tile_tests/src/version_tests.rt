@@ -1,5 +1,5 @@
 //! Versions by their calls: pending tiles and late results.
-use crate::testing::{SHIFTED, SQUARE, define, input_in, put};
+use crate::testing::{SHIFTED, SQUARE, define, input_in, layers_of, put};
 use layer_book::command::Command;
 use layer_expr::name::Name;
 use std::alloc::Global;
@@ -116,5 +116,46 @@ fn a_put_that_changes_one_column_leaves_the_others_built(rt: HostRuntime) -> Res
     assert_eq!(rt; pending(alloc, &again)?, (1, Some(7)));
     let other = after(alloc, again, define(alloc, "N", "M & M")?)?;
     assert_eq!(rt; pending(alloc, &other)?, (17, Some(0)));
+    Ok(())
+}
+
+#[test]
+fn a_layer_is_built_where_all_its_tiles_are_finished(rt: HostRuntime) -> Result<(), Fail> {
+    let alloc = rt.alloc();
+    let name = Name::new(alloc, b"N")?;
+    let built = two_squares_built(alloc)?;
+    assert!(rt; built.is_built(&name));
+    let moved = after(alloc, built, put(alloc, "M", LEFT_ONE_MOVED)?)?;
+    assert!(rt; !moved.is_built(&name));
+    Ok(())
+}
+
+#[test]
+fn a_tile_is_kept_once_while_the_caller_has_it(rt: HostRuntime) -> Result<(), Fail> {
+    let alloc = rt.alloc();
+    let version = overlap(alloc)?;
+    let name = Name::new(alloc, b"I")?;
+    let tile = built(alloc, &version)?;
+    let kept = match version.finish_with(alloc, &name, &tile)? {
+        Finish::Kept(next) => next,
+        Finish::Stale => version,
+    };
+    assert!(rt; kept.tile(&name, 8).is_some());
+    let again = kept.finish_with(alloc, &name, &tile)?;
+    assert!(rt; matches!(&again, Finish::Stale));
+    Ok(())
+}
+
+#[test]
+fn a_restored_version_has_its_number_and_layers_and_is_durable(
+    rt: HostRuntime,
+) -> Result<(), Fail> {
+    let alloc = rt.alloc();
+    let layers = layers_of(alloc, SQUARE, SHIFTED, "A & B")?;
+    let listed = layers.list(alloc)?;
+    let version = Version::restore(alloc, 5, layers, Vec::new(alloc))?;
+    assert_eq!(rt; (version.number(), version.durable()), (5, 5));
+    assert!(rt; version.layers().list(alloc)? == listed);
+    assert_eq!(rt; pending(alloc, &version)?, (17, Some(0)));
     Ok(())
 }
