@@ -2,3 +2,4 @@ mod Failing
 mod Tails
 mod DefinitionLemmas
 mod NameBytes
+mod PutLemmas

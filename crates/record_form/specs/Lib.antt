@@ -2,3 +2,4 @@ pub mod Answers
 pub mod Fault
 pub mod Image
 pub mod Listing
+pub mod Putting

@@ -1,6 +1,7 @@
 -- Entries of the catalog in code as those of the definitions.
-use Rattle.std.specs.Prelude.{List, map}
+use Rattle.std.specs.Prelude.{◌≡◌, ◌<◌, List, length, map}
 use Rattle.std.proofs.Common.{inl, inr}
+use Rattle.overlay_terms.specs.Column.{column_count}
 use Rattle.store_terms.specs.Catalog as terms
 use Rattle.record_form.specs.declared.catalog.Listed.{Listed}
 use Rattle.record_form.specs.declared.catalog.Records.{Records}
@@ -15,3 +16,12 @@ listed_of l = record { name = l.name.items; records = records_of l.records }
 
 abbrev pub listing_of : List Listed → List terms.Listed
 listing_of ls = map listed_of ls
+
+abbrev pub HasColumns : Records → Type 0
+HasColumns (Base extent) = Unit {0}
+HasColumns (Derived extent tiles) = length tiles.items ≡ column_count
+
+-- a layer that a catalog can list: its name has fewer than 256 bytes, and a definition has an entry for each column
+pub record IsListable (l : Listed) : Type 0 where
+  pub short : length l.name.items < 256
+  pub columns : HasColumns l.records

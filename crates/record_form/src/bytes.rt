@@ -3,6 +3,7 @@ ghost use Rattle.std.specs.Prelude.{◌≡◌, ◌++◌, ◌∷◌, [], true, If
 ghost use Rattle.byteorder.specs.Endian.{big_bytes};
 ghost use Rattle.overlay_terms.specs.Plane.{InRange};
 ghost use Rattle.record_form.specs.Answers.{Gives};
+ghost use Rattle.record_form.specs.Putting.{IsPut};
 ghost use Rattle.store_terms.specs.Fields.{number};
 ghost use Rattle.store_terms.specs.BaseRecord.{coordinate, whole_point};
 
@@ -85,6 +86,26 @@ pub(crate) fn put_two_bytes(out: &mut Vec<u8>, n: u16) -> Result<(), AllocError>
     let mut bytes = [0; 2];
     BigEndian::write_u16(&mut bytes, n);
     out.extend_from_slice(&bytes)
+}
+
+/// Writes a number of four bytes behind some bytes.
+pub(crate) fn put_four_bytes(out: &mut Vec<u8>, n: u32) -> Result<(), AllocError>
+    ensures { OnOk result (IsPut (number 4) n out.old.items out.new.items) }
+{
+    let mut bytes = [0; 4];
+    BigEndian::write_u32(&mut bytes, n);
+    out.extend_from_slice(&bytes)?;
+    Ok(())
+}
+
+/// Writes a number of eight bytes behind some bytes.
+pub(crate) fn put_eight_bytes(out: &mut Vec<u8>, n: u64) -> Result<(), AllocError>
+    ensures { OnOk result (IsPut (number 8) n out.old.items out.new.items) }
+{
+    let mut bytes = [0; 8];
+    BigEndian::write_u64(&mut bytes, n);
+    out.extend_from_slice(&bytes)?;
+    Ok(())
 }
 
 fn put_coordinate(out: &mut Vec<u8>, z: i64) -> Result<(), AllocError>

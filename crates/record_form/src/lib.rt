@@ -4,6 +4,7 @@
 pub mod base_record;
 mod bytes;
 pub mod catalog;
+pub mod catalog_writing;
 pub mod definition_record;
 pub mod fault;
 pub mod image;
