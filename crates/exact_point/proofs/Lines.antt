@@ -6,22 +6,8 @@ use Rattle.std.proofs.Math.IntN.{zero-*ℤ}
 use Rattle.overlay_terms.specs.Plane.{Point, Segment, height_over}
 use Rattle.overlay_terms.proofs.Difference.{split, whole_is, differences, same, mul_pos, diff-neg}
 use Rattle.exact_point.specs.Crossing.{turn_of}
+pub use Rattle.exact_point.specs.Lines.{width, rise, line_height, gap}
 use Rattle.exact_point.proofs.Signs.{not_positive_times, not_negative_times, positive_factor, zero_factor}
-
--- a segment's width, and how much it rises
-abbrev pub width : Segment → ℤ
-width s = s.right.x -ℤ s.left.x
-
-abbrev pub rise : Segment → ℤ
-rise s = s.right.y -ℤ s.left.y
-
--- the height of the line of s over the x of q, times its width and the denominator of q
-abbrev pub line_height : Segment → Point → ℤ
-line_height s q = (rise s *ℤ (q.x -ℤ (s.left.x *ℤ q.w))) +ℤ (width s *ℤ (s.left.y *ℤ q.w))
-
--- how far t stands above s over the x of q, times both widths and the denominator
-abbrev pub gap : Segment → Segment → Point → ℤ
-gap s t q = (width s *ℤ line_height t q) -ℤ (width t *ℤ line_height s q)
 
 -- the height of the line of s over x = 0, times its width
 abbrev pub base : Segment → ℤ

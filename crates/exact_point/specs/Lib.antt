@@ -2,6 +2,7 @@ pub mod Fault
 pub mod Place
 pub mod Query
 pub mod Crossing
+pub mod Lines
 pub mod PointName
 pub mod PlaceOf
 pub mod NamedPiece

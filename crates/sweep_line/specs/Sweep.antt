@@ -10,7 +10,7 @@ use Rattle.exact_point.specs.Place.{place}
 use Rattle.exact_point.specs.PlaceOf.{place_of}
 use Rattle.arrange.specs.Arrangement.{IsElementary, ComesBefore, ArePieces}
 use Rattle.arrange.specs.declared.piece.Elementary.{Elementary}
-use Rattle.tile_laws.proofs.JustRight.{is_under}
+use Rattle.tile_laws.specs.JustRight.{is_under}
 use Rattle.sweep_line.specs.Label.{IsLabelled}
 use Rattle.sweep_line.specs.Status.{goes_on}
 use Rattle.sweep_line.specs.declared.labelled.Labelled.{Labelled}
