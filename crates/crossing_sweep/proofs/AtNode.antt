@@ -14,12 +14,12 @@ use Rattle.exact_point.proofs.PlaceOrder.{on_same}
 use Rattle.exact_point.proofs.Lines.{width, rise, line_height, gap, gap_form, heights_give_gap}
 use Rattle.exact_point.proofs.Signs.{positive_factor, not_negative_times, negative_times, not_positive_times}
 use Rattle.crossing_sweep.specs.Leaning.{lean, lean_segment, IsAfter, IsBefore, IsNear, across, up_to}
-use Rattle.crossing_sweep.proofs.Lean.{lean_turn, at_least_once}
+use Rattle.crossing_sweep.proofs.Lean.{lean_turn, at_least_once, leaned_across}
 use Rattle.crossing_sweep.proofs.Meeting.{IsMeeting, Crosses, crosses, meeting}
 use Rattle.crossing_sweep.proofs.Keeping.{IsFit, Reaches}
 
 -- ---- one x of the leaned plane has one place
-no_more : (n d e : ℤ) → pos 0 <ℤ n → e <ℤ n → neg_ℤ n <ℤ e → (n *ℤ d) +ℤ e ≡ pos 0 → d ≡ pos 0
+pub no_more : (n d e : ℤ) → pos 0 <ℤ n → e <ℤ n → neg_ℤ n <ℤ e → (n *ℤ d) +ℤ e ≡ pos 0 → d ≡ pos 0
 no_more n d e h high low sum =
     by_lt_z (pos 0) d (λ k. absurd (omega (arith, ints, sum, low, at_least_once n d h k)))
     (λ k. by_lt_z d (pos 0) (λ l. absurd (omega (arith, ints, sum, high, at_least_once n (neg_ℤ d) h (up d l), negated n d)))
@@ -30,9 +30,6 @@ no_more n d e h high low sum =
 
     negated : (n d : ℤ) → n *ℤ neg_ℤ d ≡ neg_ℤ (n *ℤ d)
     negated n d = rw (split n, split d) (simp (diff-neg, differences) (same _ _ _ _ (omega arith)))
-
-leaned_across : (n x y w u v z : ℤ) → (((n *ℤ u) +ℤ v) *ℤ w) -ℤ (((n *ℤ x) +ℤ y) *ℤ z) ≡ (n *ℤ ((u *ℤ w) -ℤ (x *ℤ z))) +ℤ ((v *ℤ w) -ℤ (y *ℤ z))
-leaned_across n x y w u v z = rw (split n, split x, split y, split w, split u, split v, split z) (simp differences (same _ _ _ _ (omega arith)))
 
 pub one_place : (n : ℤ) (p q : Point) → pos 0 <ℤ n → IsNear n p q → (lean n q).x *ℤ p.w ≡ (lean n p).x *ℤ q.w → IsTrue (same_place q p)
 one_place n p q h near e =

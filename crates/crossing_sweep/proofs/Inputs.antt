@@ -24,27 +24,27 @@ use Rattle.crossing_sweep.proofs.Near.{IsBounded, small_are_near}
 pub steep_positive : (n : ℤ) → IsSteep n → pos 0 <ℤ n
 steep_positive n h = omega (arith, ints, h)
 
-steep_over : (n : ℤ) → IsSteep n → (((pos coordinate_max *ℤ pos (2 ^ 87)) *ℤ pos (2 ^ 87)) +ℤ ((pos coordinate_max *ℤ pos (2 ^ 87)) *ℤ pos (2 ^ 87))) <ℤ n
+steep_over : (n : ℤ) → IsSteep n → (((pos 2097152 *ℤ pos (2 ^ 87)) *ℤ pos (2 ^ 87)) +ℤ ((pos 2097152 *ℤ pos (2 ^ 87)) *ℤ pos (2 ^ 87))) <ℤ n
 steep_over n h = omega (arith, ints, h)
 
-bounded : (p : Point) → IsSmall p → IsBounded (pos coordinate_max) (pos (2 ^ 87)) p
+bounded : (p : Point) → IsSmall p → IsBounded (pos 2097152) (pos (2 ^ 87)) p
 bounded p s = record { positive = s.positive; few = s.few; low = s.low; high = s.high }
 
 -- places with small numbers are near
 pub near : (n : ℤ) (p q : Point) → IsSteep n → IsSmall p → IsSmall q → IsNear n p q
-near n p q h sp sq = small_are_near n (pos coordinate_max) (pos (2 ^ 87)) p q (omega (arith, ints)) (steep_over n h) (bounded p sp) (bounded q sq)
+near n p q h sp sq = small_are_near n (pos 2097152) (pos (2 ^ 87)) p q (omega (arith, ints)) (steep_over n h) (bounded p sp) (bounded q sq)
 
 -- ---- proper segments
 in_range : (a : ℤ) → InRange a → IsWithin coordinate_max a
 in_range a h = record { low = h.0; high = h.1 }
 
-width_within : (s : Segment) → IsProper s → IsWithin (2 ^ 21) (width s)
+pub width_within : (s : Segment) → IsProper s → IsWithin (2 ^ 21) (width s)
 width_within s p = within_sub coordinate_max coordinate_max s.right.x s.left.x (in_range s.right.x p.right_x) (in_range s.left.x p.left_x)
 
-rise_within : (s : Segment) → IsProper s → IsWithin (2 ^ 21) (rise s)
+pub rise_within : (s : Segment) → IsProper s → IsWithin (2 ^ 21) (rise s)
 rise_within s p = within_sub coordinate_max coordinate_max s.right.y s.left.y (in_range s.right.y p.right_y) (in_range s.left.y p.left_y)
 
-turn_within : (s t : Segment) → IsProper s → IsProper t → IsWithin (2 ^ 43) (turn_of s t)
+pub turn_within : (s t : Segment) → IsProper s → IsProper t → IsWithin (2 ^ 43) (turn_of s t)
 turn_within s t ps pt =
     within_sub (2 ^ 42) (2 ^ 42) (width s *ℤ rise t) (rise s *ℤ width t)
     (within_mul (2 ^ 21) (2 ^ 21) (width s) (rise t) (width_within s ps) (rise_within t pt))
@@ -74,15 +74,18 @@ pub meeting_small : (s t : Segment) → IsProper s → IsProper t → pos 0 <ℤ
 meeting_small s t ps pt left is = record {
   positive = left;
   few = few (turn_of s t) (turn_within s t ps pt);
-  low = low_of (turn_of s t) _ (mean_low (neg_ℤ (pos coordinate_max)) s.left.y s.right.y (lead_of s t t) (turn_of s t) ps.left_y.0 ps.right_y.0 is.part.low is.part.high);
-  high = mean_high (pos coordinate_max) s.left.y s.right.y (lead_of s t t) (turn_of s t) ps.left_y.1 ps.right_y.1 is.part.low is.part.high;
+  low = low_of (turn_of s t) _ left (mean_low (neg_ℤ (pos coordinate_max)) s.left.y s.right.y (lead_of s t t) (turn_of s t) ps.left_y.0 ps.right_y.0 is.part.low is.part.high);
+  high = high_of (turn_of s t) _ left (mean_high (pos coordinate_max) s.left.y s.right.y (lead_of s t t) (turn_of s t) ps.left_y.1 ps.right_y.1 is.part.low is.part.high);
 }
   where
     few : (t : ℤ) → IsWithin (2 ^ 43) t → t ≤ℤ pos (2 ^ 87)
     few t h = omega (arith, ints, h.high)
 
-    low_of : (w y : ℤ) → (neg_ℤ (pos coordinate_max) *ℤ w) ≤ℤ y → neg_ℤ (pos coordinate_max *ℤ w) ≤ℤ y
-    low_of w y h = omega (arith, ints, h)
+    low_of : (w y : ℤ) → pos 0 <ℤ w → (neg_ℤ (pos coordinate_max) *ℤ w) ≤ℤ y → neg_ℤ (pos 2097152 *ℤ w) ≤ℤ y
+    low_of w y k h = omega (arith, ints, h, k)
+
+    high_of : (w y : ℤ) → pos 0 <ℤ w → y ≤ℤ (pos coordinate_max *ℤ w) → y ≤ℤ (pos 2097152 *ℤ w)
+    high_of w y k h = omega (arith, ints, h, k)
 
 -- ---- places in order
 -- one that is not before another lies at most left of it in the leaned plane

@@ -39,7 +39,7 @@ lean_turn n s t =
     ∙ leaned_turn n (width s) (rise s) (width t) (rise t)
 
 -- ---- places in order
-leaned_across : (n x y w u v z : ℤ) → (((n *ℤ u) +ℤ v) *ℤ w) -ℤ (((n *ℤ x) +ℤ y) *ℤ z) ≡ (n *ℤ ((u *ℤ w) -ℤ (x *ℤ z))) +ℤ ((v *ℤ w) -ℤ (y *ℤ z))
+pub leaned_across : (n x y w u v z : ℤ) → (((n *ℤ u) +ℤ v) *ℤ w) -ℤ (((n *ℤ x) +ℤ y) *ℤ z) ≡ (n *ℤ ((u *ℤ w) -ℤ (x *ℤ z))) +ℤ ((v *ℤ w) -ℤ (y *ℤ z))
 leaned_across n x y w u v z = rw (split n, split x, split y, split w, split u, split v, split z) (simp differences (same _ _ _ _ (omega arith)))
 
 one_less : (n d e : ℤ) → (d -ℤ e) *ℤ n ≡ (n *ℤ d) -ℤ (n *ℤ e)

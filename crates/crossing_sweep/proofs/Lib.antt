@@ -11,3 +11,7 @@ pub mod Pairs
 pub mod StretchLemmas
 pub mod StatusLemmas
 pub mod TurnLemmas
+pub mod OnProper
+pub mod NextNode
+pub mod OnAlike
+pub mod Carried

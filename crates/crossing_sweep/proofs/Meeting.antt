@@ -13,7 +13,7 @@ use Rattle.exact_point.proofs.Lines.{width, rise, offset}
 use Rattle.exact_point.proofs.Signs.{not_negative_times, negative_times, zero_factor}
 use Rattle.exact_point.proofs.ByX.{Left, AtMost}
 use Rattle.crossing_sweep.specs.Leaning.{lean, lean_segment, across, up_to, IsNear}
-use Rattle.crossing_sweep.proofs.Lean.{lean_turn, leaned_width, leaned_cross, at_least_once}
+use Rattle.crossing_sweep.proofs.Lean.{lean_turn, leaned_width, leaned_cross, at_least_once, leaned_across}
 
 -- the cross product of the way between two left ends with a direction, leaned
 pub lean_lead : (n : ℤ) (s t d : Segment) → lead_of (lean_segment n s) (lean_segment n t) (lean_segment n d) ≡ n *ℤ lead_of s t d
@@ -189,9 +189,6 @@ back_by n d e h near sum =
 
     negated : (n d : ℤ) → n *ℤ neg_ℤ d ≡ neg_ℤ (n *ℤ d)
     negated n d = rw (split n, split d) (simp (diff-neg, differences) (same _ _ _ _ (omega arith)))
-
-leaned_across : (n x y w u v z : ℤ) → (((n *ℤ u) +ℤ v) *ℤ w) -ℤ (((n *ℤ x) +ℤ y) *ℤ z) ≡ (n *ℤ ((u *ℤ w) -ℤ (x *ℤ z))) +ℤ ((v *ℤ w) -ℤ (y *ℤ z))
-leaned_across n x y w u v z = rw (split n, split x, split y, split w, split u, split v, split z) (simp differences (same _ _ _ _ (omega arith)))
 
 -- a place left of another in the leaned plane is before it
 pub before_from_lean : (n : ℤ) (p q : Point) → pos 0 <ℤ n → IsNear n p q → Left (lean n p) (lean n q) → Forward (across p q) (up_to p q)

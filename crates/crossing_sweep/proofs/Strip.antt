@@ -66,8 +66,8 @@ pub record IsBeside (n : ℤ) (s t : Segment) (p r : Point) : Type 0 where
   pub fit : IsFit n t
   pub left_near : IsNear n p (whole t.left) × IsNear n (whole t.left) r
   pub right_near : IsNear n p (whole t.right) × IsNear n (whole t.right) r
-  pub meeting_near : IsMeeting s t → IsNear n p (meeting s t) × IsNear n (meeting s t) r
-  pub back_near : IsMeeting t s → IsNear n p (meeting t s) × IsNear n (meeting t s) r
+  pub meeting_near : pos 0 <ℤ turn_of s t → IsMeeting s t → IsNear n p (meeting s t) × IsNear n (meeting s t) r
+  pub back_near : pos 0 <ℤ turn_of t s → IsMeeting t s → IsNear n p (meeting t s) × IsNear n (meeting t s) r
 
 module _ (n : ℤ) (hn : pos 0 <ℤ n) (xs : List Segment) (p r : Point) (piece : IsPiece xs p r) (fit : IsFit n piece.support) (reach : Reaches n piece.support p r) (ends_near : IsNear n p r) where
   -- the ends of the leaned piece in order
@@ -114,7 +114,7 @@ module _ (n : ℤ) (hn : pos 0 <ℤ n) (xs : List Segment) (p r : Point) (piece 
         (at_most_through (whole s'.left) (lean n p) z one_positive piece.from_positive hz reach.from (left_most (lean n p) z after))
         (at_most_through z (lean n r) (whole s'.right) hz piece.to_positive one_positive (left_most z (lean n r) before) reach.to)
         low high level in
-        let near = beside.meeting_near met.crossing in
+        let near = beside.meeting_near up met.crossing in
         no_node (meeting piece.support t) up met.crossing.at.on_first
         (crossing_is_node xs piece.support t (meeting piece.support t) piece.among among met.crossing.at.on_first met.crossing.at.on_second met.crossing.at.not_parallel)
         near.0 near.1
@@ -129,7 +129,7 @@ module _ (n : ℤ) (hn : pos 0 <ℤ n) (xs : List Segment) (p r : Point) (piece 
         (at_most_through (whole s'.left) (lean n p) z one_positive piece.from_positive hz reach.from (left_most (lean n p) z after))
         (at_most_through z (lean n r) (whole s'.right) hz piece.to_positive one_positive (left_most z (lean n r) before) reach.to)
         level in
-        let near = beside.back_near met.crossing in
+        let near = beside.back_near up met.crossing in
         no_node (meeting t piece.support) up met.crossing.at.on_second
         (crossing_is_node xs t piece.support (meeting t piece.support) among piece.among met.crossing.at.on_first met.crossing.at.on_second met.crossing.at.not_parallel)
         near.0 near.1

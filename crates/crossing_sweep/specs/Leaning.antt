@@ -1,7 +1,7 @@
 -- The plane leaned to the right: to x, taken n times, y is added. Places in order then lie one right of the other, and no segment is vertical.
 use Rattle.std.specs.Prelude.{◌≡◌, ℤ, pos, neg_ℤ, ◌+ℤ◌, ◌-ℤ◌, ◌*ℤ◌, ◌<ℤ◌, ◌⊎◌, ◌^◌, ◌≤ℤ◌}
 use Rattle.std.specs.declared.cmp.Ordering.TheVariants.{Less}
-use Rattle.overlay_terms.specs.Plane.{WholePoint, Point, Segment, point_cmp, height_over, coordinate_max}
+use Rattle.overlay_terms.specs.Plane.{WholePoint, Point, Segment, point_cmp, height_over}
 use Rattle.overlay_terms.specs.TileLaws.{IsProper}
 use Rattle.exact_point.specs.Crossing.{turn_of}
 use Rattle.exact_point.proofs.Lines.{gap, width}
@@ -36,12 +36,12 @@ pub record IsNear (n : ℤ) (p q : Point) : Type 0 where
 abbrev pub IsSteep : ℤ → Type 0
 IsSteep n = pos (2 ^ 200) ≤ℤ n
 
--- a place of the sweep: its denominator is from 1 to 2^87, and its y lies within the coordinates
+-- a place of the sweep: its denominator is from 1 to 2^87, and its y lies within twice the coordinates
 pub record IsSmall (p : Point) : Type 0 where
   pub positive : pos 0 <ℤ p.w
   pub few : p.w ≤ℤ pos (2 ^ 87)
-  pub low : neg_ℤ (pos coordinate_max *ℤ p.w) ≤ℤ p.y
-  pub high : p.y ≤ℤ (pos coordinate_max *ℤ p.w)
+  pub low : neg_ℤ (pos 2097152 *ℤ p.w) ≤ℤ p.y
+  pub high : p.y ≤ℤ (pos 2097152 *ℤ p.w)
 
 -- b stands over a just after the place q: above it there, or level and turning up
 abbrev pub IsAfter : Segment → Segment → Point → Type 0

@@ -1,2 +1,4 @@
 pub mod Leaning
 pub mod Status
+pub mod NextNode
+pub mod Sides

@@ -2,4 +2,6 @@
 #![tactic(auto)]
 
 pub mod leaning;
+pub mod next_node;
+pub mod sides;
 pub mod status;
