@@ -1,3 +1,4 @@
 pub mod Start
 pub mod Covers
+pub mod Steps
 pub mod Laws

@@ -1,4 +1,12 @@
 //! One version over a store: commands, tiles and reports, and device calls between them.
 #![tactic(auto)]
 
+mod calling;
+mod creating;
+pub mod engine;
+mod finishing;
 pub mod laws;
+mod reporting;
+pub mod step;
+mod submitting;
+mod taking;

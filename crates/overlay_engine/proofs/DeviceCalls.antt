@@ -1,0 +1,115 @@
+-- A device call of a commit that is under way.
+use Rattle.std.proofs.Common.{◌≡◌, ℕ, true, List, Result, Ok, Err, refl, sym, ◌∙◌, subst, arith}
+use Rattle.std.proofs.lemmas.Bool.{false≢true}
+use Rattle.disk_model.specs.declared.disk.Disk.{Ghosts}
+use Rattle.disk_model.specs.Moments.{Leaves}
+use Rattle.disk_model.proofs.Runs.{widened}
+use Rattle.overlay_terms.specs.Commands.{Command}
+use Rattle.overlay_terms.specs.Histories.{Version}
+use Rattle.root_store.specs.declared.fault.StoreFault.{StoreFault}
+use Rattle.root_store.specs.declared.phase.Phase.{Phase}
+use Rattle.root_store.specs.declared.phase.Phase.TheVariants.{Idle, Close, Settle, Put, Open, Finish, Failed}
+use Rattle.root_store.specs.declared.phase.Progress.{Progress}
+use Rattle.root_store.specs.declared.phase.Progress.TheVariants as progress
+use Rattle.root_store.specs.Kept.{Kept, Either}
+use Rattle.root_store.specs.Running.{Before, Runs, Stepped, is_busy}
+use Rattle.root_store.proofs.Reading.{calm_stands}
+use Rattle.flush_core.specs.declared.flusher.Flusher.{Flusher}
+use Rattle.flush_core.specs.Stored.{stored_after}
+use Rattle.overlay_engine.specs.Start.{Start}
+use Rattle.overlay_engine.specs.Covers.{Covered, CoveredExactly, UnderWay, In, Covers, Moves}
+use Rattle.overlay_engine.proofs.Covering.{covered_less, way_either, way_covered}
+
+module _ {D : Type 0} (g : Ghosts D) (start : Start) where
+  way_of : (p : Phase) (f : Flusher D) (commands : List Command) → is_busy p ≡ true → In g start p f commands → UnderWay g start f commands
+  way_of Idle f commands busy store = absurd (false≢true busy)
+  way_of Failed f commands busy store = absurd (false≢true busy)
+  way_of Close f commands busy store = store
+  way_of Settle f commands busy store = store
+  way_of Put f commands busy store = store
+  way_of Open f commands busy store = store
+  way_of Finish f commands busy store = store
+
+  way_in : (p : Phase) (f : Flusher D) (commands : List Command) → f.commit.phase ≡ p → UnderWay g start f commands → In g start p f commands
+  way_in Idle f commands is way = absurd (subst (λ (q : Phase). Before g q f.commit way.x way.y) is way.runs.before)
+  way_in Failed f commands is way = way_covered g start f commands way
+  way_in Close f commands is way = way
+  way_in Settle f commands is way = way
+  way_in Put f commands is way = way
+  way_in Open f commands is way = way
+  way_in Finish f commands is way = way
+
+  module _ (f new : Flusher D) (version : Version) (commands : List Command) (covers : Covers g start f version commands) (way : UnderWay g start f commands) where
+    reported : (c : List ℕ) → Either way.x way.y c → Covered start version.durable commands c
+    reported c either = covered_less start version.durable f.stored commands c covers.reported (way_either g start f commands way c either)
+
+    moved : (result : Result Progress StoreFault) → new.stored ≡ stored_after result f.stored → (g.is_honest f.commit.disk → g.is_honest new.commit.disk)
+        → Stepped g f.commit new.commit result way.x way.y → Moves g start f new version commands
+    moved (Ok progress.Idle) stored honest stepped = absurd stepped.ok
+    moved (Ok progress.Going) stored honest stepped = record {
+      covers = record {
+        honest = honest covers.honest;
+        number = covers.number;
+        layers = covers.layers;
+        exact = covers.exact;
+        reported = omega (arith, covers.reported, stored);
+        stored = omega (arith, covers.stored, stored);
+        store = way_in new.commit.phase new commands refl (record {
+          x = way.x;
+          y = way.y;
+          number = way.number ∙ sym stored;
+          stored = way.stored;
+          next_number = way.next_number;
+          storing = way.storing;
+          later = omega (arith, way.later, stored);
+          runs = stepped.ok;
+        });
+      };
+      moments = widened g f.commit.disk new.commit.disk (Either way.x way.y) (Covered start version.durable commands) reported stepped.moments;
+    }
+    moved (Ok (progress.Done number)) stored honest stepped =
+        let stands = stepped.ok.0 in
+        let here : way.y.held.number ≡ new.stored = way.next_number ∙ sym stepped.ok.1 ∙ sym stored in
+        record {
+          covers = record {
+            honest = honest covers.honest;
+            number = covers.number;
+            layers = covers.layers;
+            exact = covers.exact;
+            reported = omega (arith, covers.reported, way.later, here);
+            stored = omega (arith, way.storing.no_later, here, covers.number);
+            store = subst (λ (q : Phase). In g start q new commands) (sym stands.idle) (record { x = way.y; number = here; stored = way.storing; stands = stands });
+          };
+          moments = widened g f.commit.disk new.commit.disk (Either way.x way.y) (Covered start version.durable commands) reported stepped.moments;
+        }
+    moved (Err fault) stored honest stepped = record {
+      covers = record {
+        honest = honest covers.honest;
+        number = covers.number;
+        layers = covers.layers;
+        exact = covers.exact;
+        reported = omega (arith, covers.reported, stored);
+        stored = omega (arith, covers.stored, stored);
+        store = subst (λ (q : Phase). In g start q new commands) (sym stepped.err.1)
+            (λ c left. subst (λ (n : ℕ). Covered start n commands c) (sym stored) (way_either g start f commands way c (stepped.err.0 c left)));
+      };
+      moments = widened g f.commit.disk new.commit.disk (Either way.x way.y) (Covered start version.durable commands) reported stepped.moments;
+    }
+
+  -- a call keeps the store covering, and a crash at any moment of it leaves what is no older than what was durable
+  pub called : (f new : Flusher D) (version : Version) (commands : List Command) (result : Result Progress StoreFault) → is_busy f.commit.phase ≡ true → new.stored ≡ stored_after result f.stored
+      → (g.is_honest f.commit.disk → g.is_honest new.commit.disk) → ((x y : Kept) → Runs g f.commit x y → Stepped g f.commit new.commit result x y)
+      → Covers g start f version commands → Moves g start f new version commands
+  called f new version commands result busy stored honest steps covers =
+      let way = way_of f.commit.phase f commands busy covers.store in
+      moved f new version commands covers way result stored honest (steps way.x way.y way.runs)
+
+  -- after the last call a crash leaves what the commit began with
+  pub ended : (f new : Flusher D) (version : Version) (commands : List Command) (result : Result Progress StoreFault) (number : ℕ) → is_busy f.commit.phase ≡ true → result ≡ Ok (progress.Done number)
+      → ((x y : Kept) → Runs g f.commit x y → Stepped g f.commit new.commit result x y) → Covers g start f version commands
+      → Leaves g new.commit.disk (CoveredExactly start number commands)
+  ended f new version commands result number busy is steps covers c left =
+      let way = way_of f.commit.phase f commands busy covers.store in
+      let stepped : Stepped g f.commit new.commit (Ok (progress.Done number)) way.x way.y =
+      subst (λ (r : Result Progress StoreFault). Stepped g f.commit new.commit r way.x way.y) is (steps way.x way.y way.runs) in
+      record { held = way.y.held; exactly = way.next_number ∙ sym stepped.ok.1; stored = way.storing; stands = calm_stands way.y c (stepped.ok.0.leaves c left) }

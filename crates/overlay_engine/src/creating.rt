@@ -1,0 +1,41 @@
+//! New engines.
+ghost use Rattle.std.specs.Prelude.{◌≡◌, ◌≢◌, ◌↔◌, [], None, IfOk, IfErr, MatchResult};
+ghost use Rattle.disk_model.specs.Disk.{Failed, Fewer};
+ghost use Rattle.overlay_terms.specs.Histories.{empty_version};
+ghost use Rattle.root_store.specs.Creating.{refusal_of_new, Tells};
+ghost use Rattle.overlay_engine.specs.Start.{from_nothing};
+ghost use Rattle.overlay_engine.specs.Covers.{Covers};
+
+use crate::engine::Engine;
+use disk_model::disk::Disk;
+use flush_core::flusher::Flusher;
+use root_store::creating::create;
+use root_store::fault::StoreFault;
+use root_store::open_fault::OpenFault;
+use std::alloc::Global;
+use version_core::version::Version;
+
+impl<D: Disk> Engine<D> {
+    /// The version before any command, over a new store that is made of an empty file. The file may have at most so
+    /// many blocks.
+    pub fn create(alloc: Global, disk: D, max_blocks: u32) -> Result<Engine<D>, OpenFault<D>>
+        ensures covers { D.is_honest disk → IfOk result (λ e. Covers D.Disk from_nothing e.flusher e.version []) }
+        ensures version { IfOk result (λ e. e.version ≡ empty_version) }
+        ensures jobs { IfOk result (λ e. (e.jobs.items ≡ []) × (e.next_job ≡ 0)) }
+        ensures answer { D.is_honest disk → MatchResult result (λ _. refusal_of_new (D.seen disk) max_blocks ≡ None) (λ refused. Tells refused.fault (refusal_of_new (D.seen disk) max_blocks)) }
+        ensures honest { MatchResult result (λ e. D.is_honest e.flusher.commit.disk ↔ D.is_honest disk) (λ refused. D.is_honest refused.disk ↔ D.is_honest disk) }
+        // A file that is refused stays as it is.
+        ensures unchanged { D.is_honest disk → refusal_of_new (D.seen disk) max_blocks ≢ None → IfErr result (λ refused. (D.seen refused.disk ≡ D.seen disk) × Fewer (D.may_leave disk) (D.may_leave refused.disk)) }
+        ensures cause { D.is_honest disk → IfErr result (λ refused. refused.fault ≡ StoreFault.Device → Failed (D.faults disk) (D.faults refused.disk)) }
+    {
+        match create(alloc, disk, max_blocks) {
+            Ok(commit) => Ok(Engine {
+                version: Version::empty(alloc),
+                flusher: Flusher::new(commit, 0),
+                jobs: Vec::new(alloc),
+                next_job: 0,
+            }),
+            Err(refused) => Err(refused),
+        }
+    }
+}
