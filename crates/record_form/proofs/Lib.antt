@@ -3,3 +3,6 @@ mod Tails
 mod DefinitionLemmas
 mod NameBytes
 mod PutLemmas
+mod NamedPieceLemmas
+mod Rising
+mod TileLemmas

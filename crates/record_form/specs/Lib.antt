@@ -3,3 +3,4 @@ pub mod Fault
 pub mod Image
 pub mod Listing
 pub mod Putting
+pub mod Tiles

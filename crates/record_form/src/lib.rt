@@ -8,4 +8,8 @@ pub mod catalog_writing;
 pub mod definition_record;
 pub mod fault;
 pub mod image;
+mod pieces;
 pub mod root_body;
+mod segments;
+mod tile_form;
+pub mod tile_record;

@@ -1,4 +1,4 @@
-use Rattle.std.proofs.Common.{refl, arith}
+use Rattle.std.proofs.Common.{arith}
 use Rattle.store_terms.specs.Fields.{AreBytes, number}
 use Rattle.record_form.proofs.PutLemmas.{put_byte, put_bytes, put_counted}
 use Rattle.record_form.proofs.catalog_writing.put_layer_name.Goals as goal

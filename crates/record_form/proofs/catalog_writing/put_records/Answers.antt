@@ -1,4 +1,3 @@
-use Rattle.std.proofs.Common.{List}
 use Rattle.overlay_terms.specs.Column.{column_count}
 use Rattle.store_terms.specs.Fields.{both, repeated}
 use Rattle.store_terms.specs.Choices.{optional}

@@ -1,4 +1,4 @@
-use Rattle.std.proofs.Common.{◌≡◌, ◌∙◌, ap}
+use Rattle.std.proofs.Common.{◌∙◌, ap}
 use Rattle.byteorder.specs.Endian.{big_number}
 use Rattle.store_terms.specs.Roots.{body_in}
 use Rattle.record_form.proofs.Tails.{tail_is}

@@ -1,0 +1,145 @@
+-- Pieces by the names of their ends: their test, and how they are written.
+use Rattle.std.proofs.Common.{◌≡◌, ℕ, pos, ◌<◌, Bool, true, false, cond, ◌&&◌, List, [], ◌∷◌, ◌++◌, Option, Some, None, refl, sym, ap, subst, ◌∙◌}
+use Rattle.std.specs.Prelude.{◌↔◌, IsSome, IfSome, int_lt}
+use Rattle.std.specs.Ordering.{is_lt}
+use Rattle.std.specs.declared.cmp.Ordering.{Ordering}
+use Rattle.std.specs.declared.cmp.Ordering.TheVariants.{Less, Equal, Greater}
+use Rattle.std.proofs.lemmas.Bool.{false≢true, and_parts, and_from, false_from_ne_true, cond-true, cond-false}
+use Rattle.std.proofs.lemmas.Option.{same_Some}
+use Rattle.overlay_terms.specs.Plane.{Segment, WholePoint, whole_cmp, point_cmp, is_on}
+use Rattle.overlay_terms.proofs.InputNumbers.{lt_true, true_lt}
+use Rattle.exact_point.specs.NamedPiece.{NamedPiece}
+use Rattle.exact_point.specs.PlaceOf.{place_of}
+use Rattle.exact_point.specs.declared.point_name.PointName.{PointName}
+use Rattle.exact_point.specs.declared.point_name.PointName.TheVariants.{Cross, Border}
+use Rattle.tile_build.specs.Piece.{IsBetween}
+use Rattle.store_terms.specs.Fields.{◌>>=◌, Field, both, number}
+use Rattle.store_terms.specs.BaseRecord.{whole_point}
+use Rattle.store_terms.specs.TileRecord.{segment, point_name, has_place, is_piece, piece}
+use Rattle.store_terms.proofs.NameTests.{back}
+use Rattle.record_form.specs.Putting.{IsPut}
+use Rattle.record_form.proofs.PutLemmas.{put_both, put_byte, put_two, put_three}
+
+less_so : (o : Ordering) → is_lt o ≡ true → o ≡ Less
+less_so Less e = refl
+less_so Equal e = absurd cc
+less_so Greater e = absurd cc
+
+module _ (s : Segment) (f t : PointName) where
+  abbrev the_piece : NamedPiece
+  the_piece = record { support = s; from = f; to = t }
+
+  -- what the test of a piece says
+  pub tested : is_piece the_piece ≡ true → (has_place f ≡ true) × (has_place t ≡ true) × IsBetween s f t
+  tested e =
+      let seven = and_parts (has_place f && has_place t && int_lt (pos 0) (place_of f).w && int_lt (pos 0) (place_of t).w && is_on s (place_of f) && is_on s (place_of t)) (is_lt (point_cmp (place_of f) (place_of t))) e in
+      let six = and_parts (has_place f && has_place t && int_lt (pos 0) (place_of f).w && int_lt (pos 0) (place_of t).w && is_on s (place_of f)) (is_on s (place_of t)) seven.0 in
+      let five = and_parts (has_place f && has_place t && int_lt (pos 0) (place_of f).w && int_lt (pos 0) (place_of t).w) (is_on s (place_of f)) six.0 in
+      let four = and_parts (has_place f && has_place t && int_lt (pos 0) (place_of f).w) (int_lt (pos 0) (place_of t).w) five.0 in
+      let three = and_parts (has_place f && has_place t) (int_lt (pos 0) (place_of f).w) four.0 in
+      let two = and_parts (has_place f) (has_place t) three.0 in (
+        two.0,
+        two.1,
+        record {
+          from_named = back f two.0;
+          to_named = back t two.1;
+          from_positive = lt_true (pos 0) (place_of f).w three.1;
+          to_positive = lt_true (pos 0) (place_of t).w four.1;
+          from_on = five.1;
+          to_on = six.1;
+          in_order = less_so (point_cmp (place_of f) (place_of t)) seven.1;
+        },
+      )
+
+  pub passes : has_place f ≡ true → has_place t ≡ true → IsBetween s f t → is_piece the_piece ≡ true
+  passes from to between =
+      and_from (has_place f && has_place t && int_lt (pos 0) (place_of f).w && int_lt (pos 0) (place_of t).w && is_on s (place_of f) && is_on s (place_of t)) (is_lt (point_cmp (place_of f) (place_of t)))
+      (and_from (has_place f && has_place t && int_lt (pos 0) (place_of f).w && int_lt (pos 0) (place_of t).w && is_on s (place_of f)) (is_on s (place_of t))
+      (and_from (has_place f && has_place t && int_lt (pos 0) (place_of f).w && int_lt (pos 0) (place_of t).w) (is_on s (place_of f))
+      (and_from (has_place f && has_place t && int_lt (pos 0) (place_of f).w) (int_lt (pos 0) (place_of t).w)
+      (and_from (has_place f && has_place t) (int_lt (pos 0) (place_of f).w)
+      (and_from (has_place f) (has_place t) from to)
+      (true_lt (pos 0) (place_of f).w between.from_positive))
+      (true_lt (pos 0) (place_of t).w between.to_positive))
+      between.from_on)
+      between.to_on)
+      (ap is_lt between.in_order)
+
+  abbrev chosen : Option NamedPiece
+  chosen = cond (is_piece the_piece) (Some the_piece) None
+
+  none_chosen : (is_piece the_piece ≡ true → ⊥) → None ≡ chosen
+  none_chosen never = sym (cond-false (is_piece the_piece) (Some the_piece) None (false_from_ne_true (is_piece the_piece) never))
+
+  pub no_left_end : has_place f ≡ false → None ≡ chosen
+  no_left_end none = none_chosen (λ e. false≢true (sym none ∙ (tested e).0))
+
+  pub no_right_end : has_place t ≡ false → None ≡ chosen
+  no_right_end none = none_chosen (λ e. false≢true (sym none ∙ (tested e).1))
+
+  pub made_piece : (r : Option NamedPiece) → has_place f ≡ true → has_place t ≡ true → IsSome r ↔ IsBetween s f t → IfSome r (λ q. q ≡ the_piece) → r ≡ chosen
+  made_piece None from to known is = none_chosen (λ e. false≢true (known.1 (tested e).2))
+  made_piece (Some q) from to known is = ap (λ (p : NamedPiece). Some p) is ∙ sym (cond-true (is_piece the_piece) (Some the_piece) None (passes from to (known.0 refl)))
+
+-- a segment is its ends
+pub put_ends : (s : Segment) (l r : WholePoint) (old mid new : List ℕ) → l ≡ s.left → r ≡ s.right → whole_cmp s.left s.right ≡ Less → IsPut whole_point l old mid → IsPut whole_point r mid new → IsPut segment s old new
+put_ends s l r old mid new left right less first second =
+    let put = put_both whole_point whole_point s.left s.right old mid new (subst (λ (p : WholePoint). IsPut whole_point p old mid) left first) (subst (λ (p : WholePoint). IsPut whole_point p mid new) right second) in
+    record { fits = and_from ((both whole_point whole_point).fits (s.left, s.right)) (is_lt (whole_cmp s.left s.right)) put.fits (ap is_lt less); spelled = put.spelled }
+
+pub put_crossing : (a b : Segment) (old tag mid new : List ℕ) → tag ≡ old ++ 1 ∷ [] → IsPut segment a tag mid → IsPut segment b mid new → IsPut point_name (Cross a b) old new
+put_crossing a b old tag mid new is first second =
+    let put = put_two whole_point (both segment segment) (both segment (number 1)) old tag new (a, b) is (put_both segment segment a b tag mid new first second) in
+    record { fits = put.fits; spelled = put.spelled }
+
+pub put_cut : (s : Segment) (k : ℕ) (old tag mid new : List ℕ) → k < 256 → tag ≡ old ++ 2 ∷ [] → IsPut segment s tag mid → new ≡ mid ++ k ∷ [] → IsPut point_name (Border s k) old new
+put_cut s k old tag mid new small is first second =
+    let put = put_three whole_point (both segment segment) (both segment (number 1)) old tag new (s, k) is (put_both segment (number 1) s k tag mid new first (put_byte k mid new small second)) in
+    record { fits = put.fits; spelled = put.spelled }
+
+-- a piece is its segment, and the names of its ends
+pub put_parts : (p : NamedPiece) (old a b new : List ℕ) → is_piece p ≡ true → IsPut segment p.support old a → IsPut point_name p.from a b → IsPut point_name p.to b new → IsPut piece p old new
+put_parts p old a b new passed support from to =
+    let put = put_both segment (both point_name point_name) p.support (p.from, p.to) old a new support (put_both point_name point_name p.from p.to a b new from to) in
+    record { fits = and_from ((both segment (both point_name point_name)).fits (p.support, (p.from, p.to))) (is_piece p) put.fits passed; spelled = put.spelled }
+
+-- ---- reading
+abbrev both_names : Field (PointName × PointName)
+both_names = both point_name point_name
+
+abbrev with_names : Segment → (PointName × PointName) × List ℕ → Option ((Segment × (PointName × PointName)) × List ℕ)
+with_names s b = Some ((s, b.0), b.1)
+
+abbrev behind_segment : Segment × List ℕ → Option ((Segment × (PointName × PointName)) × List ℕ)
+behind_segment a = both_names.read a.1 >>= with_names a.0
+
+abbrev with_second : PointName → PointName × List ℕ → Option ((PointName × PointName) × List ℕ)
+with_second f b = Some ((f, b.0), b.1)
+
+abbrev behind_first : PointName × List ℕ → Option ((PointName × PointName) × List ℕ)
+behind_first a = point_name.read a.1 >>= with_second a.0
+
+abbrev making : (Segment × (PointName × PointName)) × List ℕ → Option (NamedPiece × List ℕ)
+making a = Some (record { support = a.0.0; from = a.0.1.0; to = a.0.1.1 }, a.1)
+
+abbrev sieving : NamedPiece × List ℕ → Option (NamedPiece × List ℕ)
+sieving a = cond (is_piece a.0) (Some a) None
+
+abbrev front : NamedPiece → List ℕ → NamedPiece × List ℕ
+front p rest = (p, rest)
+
+-- a piece from its segment and the names of its ends
+pub read_parts : (bytes behind after rest : List ℕ) (s : Segment) (f t : PointName) → segment.read bytes ≡ Some (s, behind) → point_name.read behind ≡ Some (f, after) → point_name.read after ≡ Some (t, rest)
+    → piece.read bytes ≡ cond (is_piece (the_piece s f t)) (Some (front (the_piece s f t) rest)) None
+read_parts bytes behind after rest s f t support from to =
+    ap (λ (o : Option (Segment × List ℕ)). ((o >>= behind_segment) >>= making) >>= sieving) support
+    ∙ ap (λ (o : Option (PointName × List ℕ)). (((o >>= behind_first) >>= with_names s) >>= making) >>= sieving) from
+    ∙ ap (λ (o : Option (PointName × List ℕ)). (((o >>= with_second f) >>= with_names s) >>= making) >>= sieving) to
+
+pub keeps : (b : Bool) (p q : NamedPiece) (rest : List ℕ) → cond b (Some p) None ≡ Some q → cond b (Some (front p rest)) None ≡ Some (front q rest)
+keeps true p q rest e = ap (λ (x : NamedPiece). Some (front x rest)) (same_Some p q e)
+keeps false p q rest e = absurd cc
+
+pub keeps_none : (b : Bool) (p : NamedPiece) (rest : List ℕ) → cond b (Some p) None ≡ None → cond b (Some (front p rest)) None ≡ None
+keeps_none true p rest e = absurd cc
+keeps_none false p rest e = refl

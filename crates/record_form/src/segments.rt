@@ -1,0 +1,102 @@
+//! Segments, and the names of places, at the front of some bytes and behind them.
+ghost use Rattle.std.specs.Prelude.{◌≡◌, Some, None, OnOk, if◌then◌else◌};
+ghost use Rattle.std.specs.Ordering.{is_lt};
+ghost use Rattle.overlay_terms.specs.Plane.{whole_cmp};
+ghost use Rattle.record_form.specs.Answers.{Gives};
+ghost use Rattle.record_form.specs.Putting.{IsPut};
+ghost use Rattle.store_terms.specs.TileRecord.{segment, point_name};
+
+use crate::bytes::{byte_at, point_at, put_point};
+use crate::fault::ReadFault;
+use exact_point::PointName;
+use plane_base::{Pt, Seg};
+use std::alloc::AllocError;
+
+/// The segment that 16 bytes spell, its left end first, and what follows them. In this file and in
+/// that of pieces a `match` stands for `?`, which the prover does not take with such pairs.
+pub(crate) fn segment_at(bytes: &[u8]) -> Result<(Seg, &[u8]), ReadFault>
+    ensures { Gives (λ x. (x.0, x.1.now)) result (segment.read bytes.now) }
+{
+    match point_at(bytes) {
+        Ok((left, rest)) => match point_at(rest) {
+            Ok((right, rest)) => match segment_of(left, right) {
+                Some(seg) => Ok((seg, rest)),
+                None => Err(ReadFault::Form),
+            },
+            Err(fault) => Err(fault),
+        },
+        Err(fault) => Err(fault),
+    }
+}
+
+/// The segment between two points, if the first is the left one.
+fn segment_of(left: Pt, right: Pt) -> Option<Seg>
+    ensures { result ≡ (if is_lt (whole_cmp left right) then Some (record { left = left; right = right }) else None) }
+{
+    if !left.cmp(&right).is_lt() {
+        return None;
+    }
+    Seg::of(left, right)
+}
+
+/// The name of a place, and what follows it. The name may stand for no place.
+pub(crate) fn point_name_at(bytes: &[u8]) -> Result<(PointName, &[u8]), ReadFault>
+    ensures { Gives (λ x. (x.0, x.1.now)) result (point_name.read bytes.now) }
+{
+    let (kind, rest) = byte_at(bytes)?;
+    match kind {
+        0 => match point_at(rest) {
+            Ok((vertex, rest)) => Ok((PointName::Vertex(vertex), rest)),
+            Err(fault) => Err(fault),
+        },
+        1 => match segment_at(rest) {
+            Ok((first, rest)) => match segment_at(rest) {
+                Ok((second, rest)) => Ok((PointName::Cross(first, second), rest)),
+                Err(fault) => Err(fault),
+            },
+            Err(fault) => Err(fault),
+        },
+        2 => match segment_at(rest) {
+            Ok((cut, rest)) => match byte_at(rest) {
+                Ok((border, rest)) => Ok((PointName::Border(cut, border), rest)),
+                Err(fault) => Err(fault),
+            },
+            Err(fault) => Err(fault),
+        },
+        _ => Err(ReadFault::Form),
+    }
+}
+
+/// Writes a segment behind some bytes.
+pub(crate) fn put_segment(out: &mut Vec<u8>, seg: Seg) -> Result<(), AllocError>
+    ensures { OnOk result (IsPut segment seg out.old.items out.new.items) }
+{
+    put_point(out, seg.left())?;
+    put_point(out, seg.right())?;
+    Ok(())
+}
+
+/// Writes the name of a place behind some bytes.
+pub(crate) fn put_point_name(out: &mut Vec<u8>, name: PointName) -> Result<(), AllocError>
+    ensures { OnOk result (IsPut point_name name out.old.items out.new.items) }
+{
+    match name {
+        PointName::Vertex(vertex) => {
+            out.push(0)?;
+            put_point(out, vertex)?;
+            Ok(())
+        }
+        PointName::Cross(first, second) => {
+            out.push(1)?;
+            put_segment(out, first)?;
+            put_segment(out, second)?;
+            Ok(())
+        }
+        PointName::Border(cut, border) => {
+            out.push(2)?;
+            put_segment(out, cut)?;
+            out.push(border)?;
+            Ok(())
+        }
+    }
+}
