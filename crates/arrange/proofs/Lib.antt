@@ -16,3 +16,8 @@ pub mod AlongPieces
 pub mod MadePieces
 pub mod HeldLemmas
 pub mod SortedPieces
+pub mod UnitCover
+pub mod UnitMeeting
+pub mod UnitNodes
+pub mod UnitPieces
+pub mod UnitParts

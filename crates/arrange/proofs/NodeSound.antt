@@ -126,7 +126,7 @@ same_as_points : (v w : WholePoint) → same_whole v w ≡ true → IsTrue (same
 same_as_points v w e = subst (λ (u : WholePoint). IsTrue (same_place (whole v) (whole u))) (same_points v w e) (same_self (whole v))
 
 -- an end along a line is an end
-end_from_along : (marked : List Marked) (s : Segment) (v : WholePoint) → IsTrue (is_end_along marked s v) → IsTrue (is_end (map (λ m. m.segment) marked) (whole v))
+pub end_from_along : (marked : List Marked) (s : Segment) (v : WholePoint) → IsTrue (is_end_along marked s v) → IsTrue (is_end (map (λ m. m.segment) marked) (whole v))
 end_from_along marked s v e =
     let which = Any-from_list_any (λ m. is_collinear s m.segment && (same_whole v m.segment.left || same_whole v m.segment.right)) marked e in
     let tests = and_parts (is_collinear s which.1.segment) (same_whole v which.1.segment.left || same_whole v which.1.segment.right) which.4 in

@@ -65,7 +65,7 @@ is_one_of t v (inl e) = (0, omega arith, sym e)
 is_one_of t v (inr e) = (1, omega arith, sym e)
 
 -- each of them is an end on the segment
-found_is_end : (s : Segment) (marked : List Marked) (v : WholePoint) → Contains (all_ends s marked) v → IsEndOn marked s v
+pub found_is_end : (s : Segment) (marked : List Marked) (v : WholePoint) → Contains (all_ends s marked) v → IsEndOn marked s v
 found_is_end s marked v c =
     let from = from_flat_map (λ (m : Marked). ends_from s m.segment) marked v c in
     let t : Segment = from.0.segment in
@@ -82,7 +82,7 @@ found_is_end s marked v c =
     }
 
 -- each end on the segment is one of them
-end_is_found : (s : Segment) (marked : List Marked) (v : WholePoint) → IsEndOn marked s v → Contains (all_ends s marked) v
+pub end_is_found : (s : Segment) (marked : List Marked) (v : WholePoint) → IsEndOn marked s v → Contains (all_ends s marked) v
 end_is_found s marked v end =
     let by = end_of marked s v end.along in
     let t : Segment = by.of.segment in

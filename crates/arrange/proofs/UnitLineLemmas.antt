@@ -73,7 +73,7 @@ end_level marked s v e = by (end_of marked s v e) where
     which t tests (inr r) = ap (λ w. height_over s (whole w)) r ∙ level_from (height_over s (whole t.right)) (pos 0) tests.1
 
 -- what is on one line by two tests is on another
-both_levels : (s t u : Segment) → ((v : WholePoint) → height_over s (whole v) ≡ pos 0 → height_over t (whole v) ≡ pos 0) → is_collinear s u ≡ true → is_collinear t u ≡ true
+pub both_levels : (s t u : Segment) → ((v : WholePoint) → height_over s (whole v) ≡ pos 0 → height_over t (whole v) ≡ pos 0) → is_collinear s u ≡ true → is_collinear t u ≡ true
 both_levels s t u h e =
     let tests = and_parts (int_eq (height_over s (whole u.left)) (pos 0)) (int_eq (height_over s (whole u.right)) (pos 0)) e in
     and_from (int_eq (height_over t (whole u.left)) (pos 0)) (int_eq (height_over t (whole u.right)) (pos 0))
@@ -85,12 +85,12 @@ module _ (t s : Segment) (t_ahead : whole_cmp t.left t.right ≡ Less) (s_ahead 
   turns_not = covering_turn t s on_left on_right
 
   -- the line of the stretch is that of the segment
-  cover_level : (v : WholePoint) → height_over s (whole v) ≡ pos 0 → height_over t (whole v) ≡ pos 0
+  pub cover_level : (v : WholePoint) → height_over s (whole v) ≡ pos 0 → height_over t (whole v) ≡ pos 0
   cover_level v e =
       let back : turn_of s t ≡ pos 0 = no_turn_back t s turns_not in
       parallel_line s t (whole s.left) (whole v) s_ahead back one_positive (left_on_line s) (on_line t (whole s.left) on_left) e
 
-  stretch_level : (v : WholePoint) → height_over t (whole v) ≡ pos 0 → height_over s (whole v) ≡ pos 0
+  pub stretch_level : (v : WholePoint) → height_over t (whole v) ≡ pos 0 → height_over s (whole v) ≡ pos 0
   stretch_level v e = parallel_line t s (whole s.left) (whole v) t_ahead turns_not one_positive (on_line t (whole s.left) on_left) (left_on_line s) e
 
   -- an end along the stretch is one along the segment, and the other way round
