@@ -6,3 +6,4 @@ mod PutLemmas
 mod NamedPieceLemmas
 mod Rising
 mod TileLemmas
+pub mod StoredLemmas

@@ -24,11 +24,28 @@ pub record IsImage (x : Held) : Type 0 where
   pub small : x.number ≤ version_max
   pub stored : AreStored x.layers x.tiles
 
+abbrev pub finished_parts : terms.Finished → Name × (ℕ × terms.Tile)
+finished_parts f = (f.name, (f.column, f.tile))
+
+abbrev pub finished_from : Name × (ℕ × terms.Tile) → terms.Finished
+finished_from t = record { name = t.0; column = t.1.0; tile = t.1.1 }
+
+abbrev pub tile_parts_code : Coded (Name × (ℕ × terms.Tile))
+tile_parts_code = coded× (coded_list coded_ℕ) (coded× coded_ℕ tile_code)
+
 abbrev pub finished_code : Coded terms.Finished
 finished_code =
-    code_by (Name × (ℕ × terms.Tile)) (coded× (coded_list coded_ℕ) (coded× coded_ℕ tile_code)) (λ f. (f.name, (f.column, f.tile))) (λ t. record { name = t.0; column = t.1.0; tile = t.1.1 }) (λ _. refl)
+    code_by (Name × (ℕ × terms.Tile)) tile_parts_code finished_parts finished_from (λ _. refl)
+
+abbrev pub held_parts : Held → ℕ × (List Layer × List terms.Finished)
+held_parts x = (x.number, (x.layers, x.tiles))
+
+abbrev pub held_from : ℕ × (List Layer × List terms.Finished) → Held
+held_from t = record { number = t.0; layers = t.1.0; tiles = t.1.1 }
+
+abbrev pub held_parts_code : Coded (ℕ × (List Layer × List terms.Finished))
+held_parts_code = coded× coded_ℕ (coded× (coded_list layer_code) (coded_list finished_code))
 
 -- what a store holds, as data that a model's value may hold
 abbrev pub held_code : Coded Held
-held_code =
-    code_by (ℕ × (List Layer × List terms.Finished)) (coded× coded_ℕ (coded× (coded_list layer_code) (coded_list finished_code))) (λ x. (x.number, (x.layers, x.tiles))) (λ t. record { number = t.0; layers = t.1.0; tiles = t.1.1 }) (λ _. refl)
+held_code = code_by (ℕ × (List Layer × List terms.Finished)) held_parts_code held_parts held_from (λ _. refl)

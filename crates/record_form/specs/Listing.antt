@@ -2,10 +2,17 @@
 use Rattle.std.specs.Prelude.{◌≡◌, ◌<◌, List, length, map}
 use Rattle.std.proofs.Common.{inl, inr}
 use Rattle.overlay_terms.specs.Column.{column_count}
+use Rattle.store_terms.specs.Fields.{Field, both, repeated}
+use Rattle.store_terms.specs.Choices.{either, optional}
 use Rattle.store_terms.specs.Catalog as terms
+use Rattle.store_terms.specs.Catalog.{extent}
 use Rattle.record_form.specs.declared.catalog.Listed.{Listed}
 use Rattle.record_form.specs.declared.catalog.Records.{Records}
 use Rattle.record_form.specs.declared.catalog.Records.TheVariants.{Base, Derived}
+
+-- how the records of a layer are spelled
+abbrev pub spelled_records : Field terms.Records
+spelled_records = either extent (both extent (repeated column_count (optional extent)))
 
 abbrev pub records_of : Records → terms.Records
 records_of (Base extent) = inl extent

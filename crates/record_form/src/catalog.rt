@@ -2,7 +2,7 @@
 ghost use Rattle.std.specs.Prelude.{◌≡◌, ◌<◌, ◌^◌, ◌++◌, ◌∷◌, [], length, Some, IfOk, IfErr, OnOk, All, true};
 ghost use Rattle.overlay_terms.specs.Column.{column_count};
 ghost use Rattle.record_form.specs.Answers.{Fails, Gives, Reads};
-ghost use Rattle.record_form.specs.Listing.{listed_of, listing_of, records_of};
+ghost use Rattle.record_form.specs.Listing.{listed_of, listing_of, records_of, spelled_records};
 ghost use Rattle.store_terms.specs.Fields.{number, both, read_many, repeated, counted};
 ghost use Rattle.store_terms.specs.Choices.{either, optional};
 ghost use Rattle.store_terms.specs.Catalog.{catalog, extent, listed, catalog_of_record};
@@ -89,7 +89,7 @@ fn name_at(alloc: Global, bytes: &[u8]) -> Result<(Vec<u8>, &[u8]), ReadFault>
 }
 
 fn records_at(alloc: Global, bytes: &[u8]) -> Result<(Records, &[u8]), ReadFault>
-    ensures { Gives (λ x. (records_of x.0, x.1.now)) result ((either extent (both extent (repeated column_count (optional extent)))).read bytes.now) }
+    ensures { Gives (λ x. (records_of x.0, x.1.now)) result (spelled_records.read bytes.now) }
 {
     let (kind, rest) = byte_at(bytes)?;
     match kind {

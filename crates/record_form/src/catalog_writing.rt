@@ -1,10 +1,10 @@
 //! The catalog is written.
 ghost use Rattle.std.specs.Prelude.{◌≡◌, ◌<◌, ◌^◌, length, Some, IfOk, OnOk, All};
 ghost use Rattle.overlay_terms.specs.Column.{column_count};
-ghost use Rattle.record_form.specs.Listing.{listed_of, listing_of, records_of, HasColumns, IsListable};
+ghost use Rattle.record_form.specs.Listing.{listed_of, listing_of, records_of, spelled_records, HasColumns, IsListable};
 ghost use Rattle.record_form.specs.Putting.{IsPut};
-ghost use Rattle.store_terms.specs.Fields.{number, both, repeated, counted};
-ghost use Rattle.store_terms.specs.Choices.{either, optional};
+ghost use Rattle.store_terms.specs.Fields.{number, repeated, counted};
+ghost use Rattle.store_terms.specs.Choices.{optional};
 ghost use Rattle.store_terms.specs.Catalog.{catalog, extent as spelled, listed, catalog_of_record};
 
 use crate::bytes::{put_eight_bytes, put_four_bytes, put_two_bytes};
@@ -49,7 +49,7 @@ fn put_layer_name(out: &mut Vec<u8>, name: &[u8]) -> Result<(), AllocError>
 
 fn put_records(out: &mut Vec<u8>, records: &Records) -> Result<(), AllocError>
     requires { HasColumns records.now }
-    ensures { OnOk result (IsPut (either spelled (both spelled (repeated column_count (optional spelled)))) (records_of records.now) out.old.items out.new.items) }
+    ensures { OnOk result (IsPut spelled_records (records_of records.now) out.old.items out.new.items) }
 {
     match records {
         Records::Base(extent) => {

@@ -8,6 +8,7 @@ pub mod catalog_writing;
 pub mod definition_record;
 pub mod fault;
 pub mod image;
+pub mod laws;
 mod pieces;
 pub mod root_body;
 mod segments;

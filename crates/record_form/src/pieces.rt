@@ -1,8 +1,9 @@
 //! Pieces at the front of some bytes and behind them.
-ghost use Rattle.std.specs.Prelude.{◌≡◌, ◌<◌, ◌^◌, true, length, Some, None, OnOk, if◌then◌else◌};
+ghost use Rattle.std.specs.Prelude.{◌≡◌, ◌<◌, ◌^◌, true, length, Some, None, OnOk};
 ghost use Rattle.exact_point.specs.PointName.{HasPlace};
 ghost use Rattle.record_form.specs.Answers.{Gives};
 ghost use Rattle.record_form.specs.Putting.{IsPut};
+ghost use Rattle.record_form.specs.Tiles.{if_piece};
 ghost use Rattle.store_terms.specs.Fields.{read_many, counted};
 ghost use Rattle.store_terms.specs.TileRecord.{has_place, is_piece, piece as spelled};
 
@@ -52,7 +53,7 @@ fn piece_at(bytes: &[u8]) -> Result<(Piece, &[u8]), ReadFault>
 
 /// The piece of a segment between two names, if they stand for places on it, the left one first.
 fn piece_of(support: Seg, from: PointName, to: PointName) -> Option<Piece>
-    ensures { result ≡ (if is_piece (record { support = support; from = from; to = to }) then Some (record { support = support; from = from; to = to }) else None) }
+    ensures { result ≡ if_piece (record { support = support; from = from; to = to }) }
 {
     if !stands_for_a_place(&from) {
         return None;
