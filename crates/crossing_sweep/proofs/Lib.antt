@@ -15,3 +15,6 @@ pub mod OnProper
 pub mod NextNode
 pub mod OnAlike
 pub mod Carried
+pub mod QueueLemmas
+pub mod MaskLemmas
+pub mod StepLemmas

@@ -16,10 +16,10 @@ module _ {X : Type 0} where
   all_second P xs ys h i d l = let e = get_or-append-add xs ys i d in subst P e (h (length xs + i) d (omega (arith, l, length-append xs ys)))
 
   -- ---- and all pairs of them
-  pairs_rest : (R : X → X → Type 0) (x : X) (xs : List X) → AllPairs R (x ∷ xs) → AllPairs R xs
+  pub pairs_rest : (R : X → X → Type 0) (x : X) (xs : List X) → AllPairs R (x ∷ xs) → AllPairs R xs
   pairs_rest R x xs h = λ i j d l m. h (suc i) (suc j) d (omega arith) (omega (arith, m))
 
-  pairs_head : (R : X → X → Type 0) (x : X) (xs : List X) → AllPairs R (x ∷ xs) → All (R x) xs
+  pub pairs_head : (R : X → X → Type 0) (x : X) (xs : List X) → AllPairs R (x ∷ xs) → All (R x) xs
   pairs_head R x xs h = λ k d l. h 0 (suc k) d (omega arith) (omega (arith, l))
 
   pub pairs_first : (R : X → X → Type 0) (xs ys : List X) → AllPairs R (xs ++ ys) → AllPairs R xs

@@ -3,5 +3,7 @@
 
 pub mod leaning;
 pub mod next_node;
+pub mod queue;
 pub mod sides;
 pub mod status;
+pub mod step;
