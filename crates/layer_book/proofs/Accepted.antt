@@ -1,10 +1,9 @@
 -- What an accepted command leaves is a book: sound, and each layer under a name.
-use Rattle.std.specs.Prelude.{◌≡◌, Bool, true, false, not, ◌&&◌, nat_le, List, [], ◌∷◌, ◌++◌, map, None, All, IsTrue, bytes_eq}
+use Rattle.std.specs.Prelude.{◌≡◌, Bool, true, false, not, List, [], ◌∷◌, ◌++◌, map, None, IsTrue, bytes_eq}
 use Rattle.std.proofs.Common.{cond}
-use Rattle.std.specs.List.{AllByRecursion, list_all}
+use Rattle.std.specs.List.{AllByRecursion}
 use Rattle.overlay_terms.specs.Layers.{Name, Content, base, derived, Layer}
 use Rattle.overlay_terms.specs.Commands.{Command, put, define, remove, refusal_of, applied, stands, with_content}
-use Rattle.overlay_terms.specs.InputLaws.{IsRing}
 use Rattle.overlay_terms.specs.LayerParity.{AreSound}
 use Rattle.overlay_terms.proofs.AcceptedLemmas.{step_orderly, step_room}
 use Rattle.layer_expr.specs.Name.{is_name}

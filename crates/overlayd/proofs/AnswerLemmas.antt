@@ -1,5 +1,5 @@
 -- What is answered to each request, from what its name and text are read as and what the book makes of its command.
-use Rattle.std.proofs.Common.{◌≡◌, ℕ, ℤ, ◌+◌, Bool, true, false, IsTrue, List, [], ◌∷◌, Option, Some, None, refl, sym, ap, subst, ◌∙◌, ◌⊎◌, inl, inr}
+use Rattle.std.proofs.Common.{◌≡◌, ℕ, ℤ, Bool, true, false, IsTrue, List, [], Option, Some, None, refl, sym, ap, subst, ◌∙◌, ◌⊎◌, inl, inr}
 use Rattle.std.specs.Option.{option_map}
 use Rattle.std.proofs.lemmas.Bool.{false≢true}
 use Rattle.overlay_terms.specs.Plane.{Point}
@@ -11,13 +11,7 @@ use Rattle.overlay_terms.specs.KeptLaws.{TilesAreExact}
 use Rattle.exact_point.specs.Query.{IsQuery}
 use Rattle.exact_point.specs.declared.fault.PointFault.TheVariants.{PointRange}
 use Rattle.layer_expr.specs.Name.{is_name}
-use Rattle.layer_expr.specs.declared.fault.ExprFault.{ExprFault}
 use Rattle.layer_expr.specs.declared.fault.ExprFault.TheVariants.{BadName}
-use Rattle.layer_expr.specs.declared.fault.ExprFault.TheVariants as expr_fault
-use Rattle.layer_expr.specs.Grammar as expr
-use Rattle.wkt_form.specs.Grammar as wkt
-use Rattle.wkt_form.specs.declared.fault.WktFault.{WktFault}
-use Rattle.wkt_form.specs.declared.fault.WktFault.TheVariants as wkt_fault
 use Rattle.layer_book.specs.Fault.{fault_of, RefusedBy}
 use Rattle.layer_book.specs.Listing.{layers_text}
 use Rattle.version_core.specs.Fault as version_fault
@@ -26,13 +20,13 @@ use Rattle.version_core.specs.declared.fault.VersionFault.TheVariants.{Layer}
 use Rattle.layer_book.specs.declared.fault.LayerFault.TheVariants as layer_fault
 use Rattle.overlayd.specs.declared.book.Book.{Book}
 use Rattle.script_form.specs.declared.fault.CommandFault.{CommandFault}
-use Rattle.script_form.specs.declared.fault.CommandFault.TheVariants.{Wkt, Expression, Query, Version, OutOfMemory}
+use Rattle.script_form.specs.declared.fault.CommandFault.TheVariants.{Expression, Query, Version, OutOfMemory}
 use Rattle.script_form.specs.Replies.{error_line, location_line}
 use Rattle.script_form.specs.Requests.{Request, put, define, remove, locate, list_layers, request_of}
 use Rattle.overlayd.specs.Turn.{Holds, TakesTurn}
 use Rattle.script_form.specs.Transcript.{IsRefused, IsSubmitted, IsAnswered, IsOutOfMemory}
 use Rattle.script_form.specs.Reading.{IsMemory, IsNoName, IsPut, IsPutRefused, IsDefine, IsDefineRefused, IsRemove}
-use Rattle.overlayd.specs.Answering.{AnswersIn, Answers, SubmitsIn, Submits}
+use Rattle.overlayd.specs.Answering.{Answers, Submits}
 use Rattle.overlayd.proofs.HistoryLemmas.{stays, answers_there, out_of_memory}
 
 -- ==== Commands

@@ -1,5 +1,5 @@
 -- How a session ends, from where it stands.
-use Rattle.std.proofs.Common.{◌≡◌, ℕ, zero, suc, ◌+◌, ◌-◌, ◌<◌, ◌≤◌, min, ◌⊎◌, inl, inr, true, false, Option, Result, Ok, Err, MatchResult, List, [], ◌∷◌, ◌++◌, length, take, drop, lit<, refl, sym, ap, ◌∙◌, subst, append_assoc, append-nil, take-append-drop, arith}
+use Rattle.std.proofs.Common.{◌≡◌, ℕ, zero, suc, ◌+◌, ◌-◌, ◌<◌, ◌≤◌, min, ◌⊎◌, inl, inr, true, false, Option, Result, Ok, Err, MatchResult, List, [], ◌∷◌, ◌++◌, length, take, lit<, refl, sym, ap, ◌∙◌, subst, append_assoc, append-nil, arith}
 use Rattle.std.proofs.lemmas.List.{take_all, take-take, length-take, length-append}
 use Rattle.std.proofs.lemmas.Bool.{cases_lt, false≢true, true≢false}
 use Rattle.std.specs.Result.{is_err}
@@ -18,11 +18,10 @@ use Rattle.script_form.specs.Writing.{IsCutShort}
 use Rattle.overlayd.specs.Session.{IsOwnRun, IsPastLimit, IsReadFault, IsCutOff, EndsSo, IsPlainSession, first_history}
 use Rattle.overlayd.specs.Turn.{TakesTurn}
 use Rattle.overlayd.specs.Loop.{Stands, IsStopped, TakesAll, Finishes, EndsBy}
-use Rattle.script_form.proofs.Pieces.{GoesOn, ended_lines-more}
 use Rattle.overlayd.proofs.Runs.{run-push, takes_turn-same}
 use Rattle.script_form.proofs.LongLines.{request_of-cut, take-nil}
 use Rattle.overlayd.proofs.HistoryLemmas.{empty_exact}
-use Rattle.overlayd.proofs.Steps.{cut_run, cut_off-more}
+use Rattle.overlayd.proofs.Steps.{cut_run}
 
 -- nothing is kept where nothing stands behind the last line feed
 some_room : 0 < line_room

@@ -1,9 +1,9 @@
 -- Histories that go on by an accepted command, by kept tiles, or by nothing.
-use Rattle.std.proofs.Common.{Option, Some, None, ◌≡◌, ℕ, IsTrue, List, [], ◌∷◌, ◌++◌, map, refl, sym, ap, subst, ◌∙◌, ◌⊎◌, inl, inr}
+use Rattle.std.proofs.Common.{◌≡◌, ℕ, IsTrue, List, [], ◌∷◌, ◌++◌, map, refl, sym, ap, subst, ◌∙◌, ◌⊎◌, inl, inr}
 use Rattle.std.proofs.lemmas.List.{append-nil}
 use Rattle.std.proofs.lemmas.Option.{none-some}
 use Rattle.overlay_terms.specs.Commands.{Command}
-use Rattle.overlay_terms.specs.Histories.{Version, Tile, accepted, Entry, History, newest, last_version, AllFollow, Follows, FollowsCommand, empty_version, commands_in, BuildsUp}
+use Rattle.overlay_terms.specs.Histories.{Version, accepted, Entry, History, newest, last_version, AllFollow, FollowsCommand, empty_version, commands_in, BuildsUp}
 use Rattle.overlay_terms.specs.KeptLaws.{IsExact}
 use Rattle.overlay_terms.proofs.KeptHistories.{history_is_exact}
 use Rattle.overlayd.specs.declared.book.Book.{Book}
@@ -12,7 +12,7 @@ use Rattle.script_form.specs.declared.fault.CommandFault.TheVariants.{OutOfMemor
 use Rattle.script_form.specs.Replies.{ok_line, error_line}
 use Rattle.script_form.specs.Requests.{Request}
 use Rattle.overlayd.specs.Turn.{Holds}
-use Rattle.script_form.specs.Transcript.{IsRefused, IsSubmitted, IsAcceptedBy, IsAnswered, takes_memory, IsOutOfMemory}
+use Rattle.script_form.specs.Transcript.{IsAnswered, takes_memory, IsOutOfMemory}
 use Rattle.overlayd.specs.Answering.{GoesOnWith, AnswersIn, SubmitsIn}
 
 last_version-append : (version : Version) (entries more : List Entry) → last_version version (entries ++ more) ≡ last_version (last_version version entries) more

@@ -1,14 +1,13 @@
 -- A run with one more line at the end.
-use Rattle.std.proofs.Common.{◌≡◌, ℕ, ◌⊎◌, List, [], ◌∷◌, ◌++◌, map, refl, sym, ap, ◌∙◌, subst, append_assoc, append-nil}
+use Rattle.std.proofs.Common.{◌≡◌, ℕ, ◌⊎◌, List, [], ◌∷◌, ◌++◌, map, sym, ap, ◌∙◌, subst}
 use Rattle.std.proofs.lemmas.List.{map-append}
 use Rattle.std.proofs.lemmas.List.Elements.{filter_map-append}
 use Rattle.overlay_terms.specs.Commands.{Command}
 use Rattle.overlay_terms.specs.Histories.{Version, Entry, History, AllFollow, IsHistory, last_version, command_of, commands_in}
 use Rattle.overlayd.specs.declared.book.Book.{Book}
-use Rattle.script_form.specs.declared.fault.CommandFault.TheVariants.{OutOfMemory}
 use Rattle.script_form.specs.Requests.{Request, request_of}
 use Rattle.script_form.proofs.TranscriptLemmas.{transcript-push}
-use Rattle.script_form.specs.Transcript.{IsAnswered, IsTurn, IsTranscript, IsOutOfMemory}
+use Rattle.script_form.specs.Transcript.{IsAnswered, IsOutOfMemory}
 use Rattle.overlayd.specs.Session.{IsOwnRun}
 use Rattle.overlayd.specs.Turn.{Holds, GoesOnIn, TakesTurn}
 

@@ -1,5 +1,5 @@
 -- What is answered to questions about tiles.
-use Rattle.std.proofs.Common.{◌↔◌, ◌≡◌, ℕ, ℤ, IsTrue, List, [], Option, Some, None, refl, sym, ap, subst, ◌∙◌, ◌⊎◌, inl, inr}
+use Rattle.std.proofs.Common.{◌≡◌, ℕ, ℤ, IsTrue, List, [], Option, Some, None, refl, sym, ap, subst, ◌∙◌, ◌⊎◌, inl, inr}
 use Rattle.overlay_terms.specs.Commands.{Command}
 use Rattle.overlay_terms.specs.Histories as versions
 use Rattle.overlay_terms.specs.Histories.{History, newest, BuildsUp}
@@ -12,15 +12,14 @@ use Rattle.version_core.specs.Verdict.{IsVerdict}
 use Rattle.version_core.specs.Edges.{edges_refusal, finished_refusal, AreEdges}
 use Rattle.overlayd.specs.declared.book.Book.{Book}
 use Rattle.script_form.specs.declared.fault.CommandFault.{CommandFault}
-use Rattle.script_form.specs.declared.fault.CommandFault.TheVariants.{Version, OutOfMemory}
+use Rattle.script_form.specs.declared.fault.CommandFault.TheVariants.{Version}
 use Rattle.script_form.specs.Replies.{error_line, built_line, verdict_line}
-use Rattle.script_form.specs.Requests.{Request, edges, wait, verify}
+use Rattle.script_form.specs.Requests.{edges, wait, verify}
 use Rattle.version_core.specs.Building.{IsBuilt, wait_refusal}
 use Rattle.script_form.specs.Reading.{IsMemory, IsNoName}
-use Rattle.overlayd.specs.Turn.{Holds}
-use Rattle.script_form.specs.Transcript.{IsRefused, IsAnswered, Asked, asked_column, IsEdgesTold, IsVerdictTold, IsBuiltTold}
-use Rattle.overlayd.specs.Answering.{AnswersIn, Answers}
-use Rattle.overlayd.proofs.HistoryLemmas.{stays, answers_there, answers_built, out_of_memory}
+use Rattle.script_form.specs.Transcript.{Asked, asked_column}
+use Rattle.overlayd.specs.Answering.{Answers}
+use Rattle.overlayd.proofs.HistoryLemmas.{answers_there, answers_built, out_of_memory}
 use Rattle.overlayd.proofs.AnswerLemmas.{no_name}
 use Rattle.overlayd.proofs.BuildLemmas.{same_refusal}
 use Rattle.layer_book.specs.Fault.{RefusedBy}

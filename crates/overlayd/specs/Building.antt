@@ -1,5 +1,5 @@
 -- What building the tiles of one layer leaves as it is.
-use Rattle.std.specs.Prelude.{◌≡◌, ℕ, Bool, false, bytes_eq}
+use Rattle.std.specs.Prelude.{◌≡◌, ℕ, false, bytes_eq}
 use Rattle.overlay_terms.specs.Layers.{Name}
 use Rattle.overlay_terms.specs.Histories.{Version, tile_at}
 

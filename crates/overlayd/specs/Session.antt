@@ -2,7 +2,7 @@
 use Rattle.std.specs.Prelude.{◌≡◌, ℕ, ◌+◌, ◌≤◌, ◌⊎◌, List, [], ◌++◌, map, take, length, Option}
 use Rattle.std.specs.Io.KnownBytes.{Appends, Consumes, IsAtEnd}
 use Rattle.overlay_terms.specs.Commands.{Command}
-use Rattle.overlay_terms.specs.Histories.{Entry, History, IsHistory, empty_version, commands_in}
+use Rattle.overlay_terms.specs.Histories.{History, IsHistory, empty_version, commands_in}
 use Rattle.script_form.specs.declared.fault.CommandFault.TheVariants.{ReadLimit, Read}
 use Rattle.script_form.specs.declared.session_end.SessionEnd.{SessionEnd}
 use Rattle.script_form.specs.declared.session_end.SessionEnd.TheVariants.{End, Failed}

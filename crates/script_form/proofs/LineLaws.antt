@@ -1,10 +1,10 @@
 -- What a line of each shape asks for.
-use Rattle.std.proofs.Common.{◌≡◌, ℕ, ℤ, pos, ◌<◌, ◌==◌, Bool, true, false, not, ◌&&◌, ◌||◌, cond, IsTrue, List, [], ◌∷◌, ◌++◌, length, refl, sym, ap, ◌∙◌, arith, lit<, codes, Option, Some}
-use Rattle.std.specs.List.{list_all, take_while}
+use Rattle.std.proofs.Common.{◌≡◌, ℕ, pos, ◌<◌, ◌==◌, true, false, not, ◌&&◌, ◌||◌, cond, List, [], ◌∷◌, ◌++◌, length, refl, ap, ◌∙◌, arith, lit<, codes, Some}
+use Rattle.std.specs.List.{list_all}
 use Rattle.std.proofs.lemmas.Bool.{and_parts, or_from, or_left, or_right, not-true, cond-true, cond-false, lt-leb, ne_eqb}
 use Rattle.overlay_terms.specs.Blank.{is_blank}
 use Rattle.script_form.specs.Lines.{line_max, is_gap, is_too_long, begins_comment}
-use Rattle.script_form.specs.Requests.{Request, malformed, put, define, edges, verify, is_word_byte, is_name_side, is_empty, begins, number_of, skip_while, words_of, behind_first_word, by_words, put_of, define_of, behind_sign, located, edges_at, verify_at, numbered, request_of}
+use Rattle.script_form.specs.Requests.{Request, malformed, put, define, is_word_byte, is_name_side, is_empty, begins, number_of, skip_while, words_of, behind_first_word, by_words, put_of, define_of, behind_sign, located, edges_at, verify_at, numbered, request_of}
 use Rattle.script_form.specs.Shapes.{IsShort, AreGaps, ArePartingGaps, AreSome, IsWord}
 use Rattle.script_form.specs.Laws as laws
 use Rattle.script_form.proofs.ShapeLemmas.{skip_front, take_front, begins_some, begins_gap, begins_word, some_bytes, words_of-gaps, words_of-word, begins_no_comment, asked, asked_line, line_words, skipped}

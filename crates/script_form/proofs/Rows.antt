@@ -1,5 +1,5 @@
 -- What worked lines ask for, and the lines of worked scripts.
-use Rattle.std.proofs.Common.{◌≡◌, ℤ, pos, negsuc, Option, Some, None, List, [], ◌∷◌, refl, codes}
+use Rattle.std.proofs.Common.{◌≡◌, pos, negsuc, Some, None, [], ◌∷◌, refl, codes}
 use Rattle.script_form.specs.Lines.{ended_lines, whole_lines}
 use Rattle.script_form.specs.Requests.{nothing, malformed, put, define, remove, locate, list_layers, edges, wait, verify, number_of, request_of}
 

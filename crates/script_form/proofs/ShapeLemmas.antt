@@ -1,11 +1,11 @@
 -- The words of a line of a known shape, and what the line asks for.
-use Rattle.std.proofs.Common.{◌≡◌, ℕ, ◌+◌, ◌<◌, ◌≤◌, ◌==◌, Bool, true, false, not, ◌&&◌, ◌||◌, cond, IsTrue, List, [], ◌∷◌, ◌++◌, length, take, drop, refl, sym, ap, subst, ◌∙◌, inl, inr, arith, append-nil, codes}
+use Rattle.std.proofs.Common.{◌≡◌, ℕ, ◌<◌, ◌==◌, Bool, true, false, not, List, [], ◌∷◌, ◌++◌, length, take, drop, refl, sym, ap, ◌∙◌, inl, inr, arith, append-nil}
 use Rattle.std.specs.List.{list_all, prefix_len, take_while}
 use Rattle.std.proofs.Math.Seq.{drop-append_seam, take-append_seam}
 use Rattle.std.proofs.lemmas.Bool.{and_parts, or_from, not-true, cases_Bool, cond-true, cond-false, le-leb, ne_eqb}
 use Rattle.std.proofs.lemmas.Bool.Decides.{nat_tests}
 use Rattle.script_form.specs.Lines.{line_max, is_gap, is_too_long, is_skipped, begins_comment}
-use Rattle.script_form.specs.Requests.{is_word_byte, is_empty, begins, onto_word, skip_while, words_of, behind_first_word, too_long, nothing, by_words, request_of}
+use Rattle.script_form.specs.Requests.{is_word_byte, is_empty, begins, onto_word, skip_while, words_of, behind_first_word, nothing, by_words, request_of}
 use Rattle.script_form.specs.Shapes.{IsShort, AreGaps, ArePartingGaps, AreSome, IsWord, IsBehindWord, IsLineOf}
 use Rattle.script_form.proofs.WordLemmas.{prefix_more, prefix_none}
 

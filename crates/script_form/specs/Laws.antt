@@ -1,8 +1,8 @@
 -- Laws of lines and of what they ask for: one for each shape of a line.
-use Rattle.std.specs.Prelude.{◌≡◌, ℕ, ℤ, pos, ◌<◌, ◌==◌, false, not, IsTrue, List, [], ◌∷◌, ◌++◌, length, codes, Option, Some}
+use Rattle.std.specs.Prelude.{◌≡◌, ℕ, ℤ, pos, ◌<◌, ◌==◌, false, not, IsTrue, List, [], ◌∷◌, ◌++◌, length, codes, Some}
 use Rattle.std.specs.List.{list_all}
 use Rattle.overlay_terms.specs.Blank.{is_blank}
-use Rattle.script_form.specs.Lines.{line_max, pieces_of, begins_comment, is_gap}
+use Rattle.script_form.specs.Lines.{line_max, pieces_of, is_gap}
 use Rattle.script_form.specs.Requests.{nothing, too_long, put, define, remove, locate, list_layers, edges, wait, verify, words_of, number_of, is_name_side, begins, request_of}
 use Rattle.script_form.specs.Shapes.{IsShort, AreGaps, ArePartingGaps, AreSome, IsWord, IsLineOf}
 

@@ -1,6 +1,6 @@
 -- The replies of a script: for each line a history that goes on from the one before, and the reply at its newest version.
 use Rattle.std.specs.Prelude.{◌≡◌, ℕ, ℤ, pos, negsuc, ◌⊎◌, Bool, true, false, IsTrue, List, [], ◌∷◌, ◌++◌, Option, Some, None}
-use Rattle.overlay_terms.specs.Plane.{Point, WholePoint}
+use Rattle.overlay_terms.specs.Plane.{WholePoint}
 use Rattle.overlay_terms.specs.Trees.{Tree}
 use Rattle.overlay_terms.specs.Layers.{answer_at}
 use Rattle.overlay_terms.specs.Commands.{Refusal, Command, stands, refusal_at}

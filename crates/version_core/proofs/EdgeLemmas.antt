@@ -1,5 +1,5 @@
 -- The text of a tile's edges grows line by line.
-use Rattle.std.specs.Prelude.{◌≡◌, ℕ, ◌+◌, ◌<ℤ◌, pos, List, [], ◌∷◌, ◌++◌, length, take, flat_map, codes, decimal, IsTrue}
+use Rattle.std.specs.Prelude.{◌≡◌, ℕ, ◌+◌, List, [], ◌∷◌, ◌++◌, length, take, flat_map, codes, decimal, IsTrue}
 use Rattle.std.proofs.Common.{zero, suc, ◌<◌, get_or, add-one, refl, ap, sym, ◌∙◌, subst, arith, append_assoc, append-nil}
 use Rattle.std.proofs.lemmas.Grind.{flat_map-append}
 use Rattle.overlay_terms.specs.Plane.{Point, same_place}
@@ -7,7 +7,7 @@ use Rattle.std.proofs.lemmas.Int.{ints}
 use Rattle.exact_point.specs.declared.point.HPoint.{HPoint}
 use Rattle.exact_point.specs.Place.{place}
 use Rattle.exact_point.specs.Reduced.{IsLowest}
-use Rattle.version_core.specs.Edges.{point_text, edge_line, edges_text, IsLowestOf, AreLowest, IsTextOf}
+use Rattle.version_core.specs.Edges.{edge_line, IsLowestOf, AreLowest, IsTextOf}
 
 -- the count of pieces and the lines of those so far
 pub record IsBegun (count : ℕ) (ends : List (Point × Point)) (text : List ℕ) : Type 0 where

@@ -4,14 +4,13 @@ use Rattle.std.specs.List.{range_with_len}
 use Rattle.std.proofs.Common.{zero, suc, refl, ap, sym, ◌∙◌, cond, append_assoc, append-nil, add-one, add-zero, arith}
 use Rattle.std.proofs.lemmas.Grind.{flat_map-append}
 use Rattle.overlay_terms.specs.Layers.{Name, Layer}
-use Rattle.overlay_terms.specs.Commands.{is_derived}
 use Rattle.overlay_terms.specs.Histories.{Tile, Version, tile_at}
 use Rattle.tile_build.specs.declared.tile.Tile as code
 use Rattle.tile_build.specs.Tile.{tile_of}
 use Rattle.std.specs.Borrow.{Bor}
 use Rattle.std.specs.Option.{option_map}
 use Rattle.layer_book.proofs.Answering.{take_there}
-use Rattle.version_core.specs.Pending.{is_missing, pending_in, pending_of, pending_of_layer}
+use Rattle.version_core.specs.Pending.{is_missing, pending_in, pending_of_layer}
 
 -- a tile by its layer and its column
 abbrev pub tile_in : Name → ℕ → Name × ℕ

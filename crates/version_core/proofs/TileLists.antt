@@ -1,15 +1,12 @@
 -- Lists of finished tiles: those that a command leaves, one more, and what is found in them.
-use Rattle.std.specs.Prelude.{◌≡◌, ℕ, ◌==◌, Bool, true, false, not, ◌&&◌, List, [], ◌∷◌, ◌++◌, filter, Option, Some, None, bytes_eq, if◌then◌else◌, All}
-use Rattle.std.specs.List.{AllPairs}
-use Rattle.std.proofs.Common.{zero, suc, ◌<◌, length, get_or, refl, ap, sym, ◌∙◌, subst, cond, arith}
+use Rattle.std.specs.Prelude.{◌≡◌, ℕ, ◌==◌, Bool, true, false, ◌&&◌, List, [], ◌∷◌, ◌++◌, filter, Option, Some, None, bytes_eq, if◌then◌else◌}
+use Rattle.std.proofs.Common.{zero, suc, ◌<◌, length, get_or, refl, ap, sym, ◌∙◌, cond, arith}
 use Rattle.std.proofs.lemmas.List.Quantifiers.{all_pairs_push}
 use Rattle.std.proofs.lemmas.Bool.{and_parts, both_ways, eqb-true}
-use Rattle.overlay_terms.specs.Layers.{Name, Layer}
-use Rattle.overlay_terms.specs.Commands.{Command}
-use Rattle.overlay_terms.specs.Touched.{is_touched}
+use Rattle.overlay_terms.specs.Layers.{Name}
 use Rattle.overlay_terms.specs.Histories.{Tile, Finished, tile_at}
 use Rattle.overlay_terms.proofs.NameLemmas.{same_name}
-use Rattle.version_core.specs.Tiles.{is_of, untouched, AreDistinct}
+use Rattle.version_core.specs.Tiles.{is_of, AreDistinct}
 
 -- none, whatever a test says
 none_either : (b : Bool) → ◌≡◌ {A = Option Tile} None (if b then None else None)

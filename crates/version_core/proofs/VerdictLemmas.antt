@@ -3,12 +3,10 @@ use Rattle.std.specs.Prelude.{◌≡◌, ◌↔◌, ℕ, Bool, true, false, IsTr
 use Rattle.std.proofs.Common.{refl, ap, sym, subst, ◌∙◌}
 use Rattle.std.proofs.lemmas.Option.{same_Some}
 use Rattle.std.proofs.lemmas.Bool.{false≢true}
-use Rattle.std.proofs.lemmas.List.Elements.{All-weaker}
-use Rattle.overlay_terms.specs.Plane.{Point}
 use Rattle.overlay_terms.specs.Layers.{Name}
-use Rattle.overlay_terms.specs.Tiles.{Input, input_of, IsBoundary}
-use Rattle.overlay_terms.specs.Histories.{Tile, pieces, oversize, Version, tile_at, IsTileAt, pieces_max}
-use Rattle.tile_laws.specs.SameTile.{same_tile, HasPositiveEnds, IsPositivePair}
+use Rattle.overlay_terms.specs.Tiles.{Input, input_of}
+use Rattle.overlay_terms.specs.Histories.{Tile, Version, tile_at, IsTileAt, pieces_max}
+use Rattle.tile_laws.specs.SameTile.{same_tile, HasPositiveEnds}
 use Rattle.tile_laws.proofs.HeldTile.{held_tile}
 use Rattle.version_core.specs.Verdict.{IsVerdict}
 use Rattle.version_core.specs.declared.verifying.Verdict.{Verdict}

@@ -1,5 +1,5 @@
 -- The faults of versions: their numbers and texts, and those that stand for the refusals of commands.
-use Rattle.std.specs.Prelude.{◌≡◌, ℕ, List, codes, Option, Some, None}
+use Rattle.std.specs.Prelude.{ℕ, List, codes}
 use Rattle.overlay_terms.specs.Commands.{Refusal}
 use Rattle.layer_book.specs.Fault as book
 use Rattle.version_core.specs.declared.fault.VersionFault.{VersionFault}

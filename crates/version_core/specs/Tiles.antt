@@ -1,5 +1,5 @@
 -- Finished tiles of the code as those of the definitions.
-use Rattle.std.specs.Prelude.{◌≡◌, ℕ, ◌==◌, Bool, false, ◌&&◌, not, IsTrue, List, filter, Option, Some, bytes_eq}
+use Rattle.std.specs.Prelude.{◌≡◌, ℕ, ◌==◌, Bool, false, ◌&&◌, not, IsTrue, List, filter, Some, bytes_eq}
 use Rattle.std.specs.List.{AllPairs}
 use Rattle.overlay_terms.specs.Layers.{Name, Layer}
 use Rattle.overlay_terms.specs.Commands.{Command}

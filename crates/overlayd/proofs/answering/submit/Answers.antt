@@ -1,4 +1,4 @@
-use Rattle.std.proofs.Common.{ap, sym, ◌∙◌}
+use Rattle.std.proofs.Common.{ap, sym}
 use Rattle.std.proofs.lemmas.Result.{err_from_is_err_and}
 use Rattle.script_form.specs.Replies.{ok_line}
 use Rattle.overlayd.proofs.HistoryLemmas.{submits_accepted}

@@ -1,4 +1,4 @@
-use Rattle.std.proofs.Common.{take, take_all, subst, arith}
+use Rattle.std.proofs.Common.{take_all, subst, arith}
 use Rattle.std.specs.Prelude.{All}
 use Rattle.std.proofs.lemmas.List.Elements.{All-map, All-more}
 use Rattle.exact_point.specs.NamedPiece.{NamedPiece, ends_of}

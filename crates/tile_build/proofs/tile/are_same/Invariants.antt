@@ -1,4 +1,4 @@
-use Rattle.std.proofs.Common.{◌≡◌, ◌≤◌, length, map, take}
+use Rattle.std.proofs.Common.{◌≡◌, length, map, take}
 use Rattle.std.specs.Prelude.{IsTrue}
 use Rattle.exact_point.specs.NamedPiece.{ends_of}
 use Rattle.tile_laws.specs.SameTile.{same_ends}

@@ -1,4 +1,4 @@
-use Rattle.std.proofs.Common.{length, map, take, take_all, refl, ap, sym, subst, ◌∙◌, arith}
+use Rattle.std.proofs.Common.{length, map, take_all, ap, sym, subst, arith}
 use Rattle.std.proofs.lemmas.List.{length-map}
 use Rattle.std.specs.Prelude.{string_bytes}
 use Rattle.overlay_terms.specs.Plane.{Point}

@@ -1,5 +1,5 @@
 use Rattle.std.proofs.Common.{◌≡◌, None, ◌∙◌}
-use Rattle.overlay_terms.proofs.BuildingLemmas.{builds_none, builds_trans}
+use Rattle.overlay_terms.proofs.BuildingLemmas.{builds_trans}
 use Rattle.version_core.specs.Building.{wait_refusal}
 use Rattle.overlayd.proofs.BuildLemmas.{derived_layer, same_refusal, built_more, free_tile, others_trans, not_free}
 use Rattle.overlayd.proofs.book.Book.build.Goals as goal

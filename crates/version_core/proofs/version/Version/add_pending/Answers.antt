@@ -1,6 +1,5 @@
 use Rattle.std.proofs.Common.{rules, ◌≡◌, ◌++◌, ◌∷◌, [], cond, not, ap, sym, ◌∙◌, append-nil}
 use Rattle.overlay_terms.specs.Histories.{tile_at}
-use Rattle.version_core.specs.Pending.{is_missing}
 use Rattle.version_core.proofs.PendingLemmas.{tile_in, columns_more, missing_is, twice}
 use Rattle.version_core.proofs.version.Version.add_pending.Goals as goal
 use Rattle.version_core.proofs.version.Version.add_pending.Goals.{then-is_none+in_ok-clone+in_ok-push, else-is_none}

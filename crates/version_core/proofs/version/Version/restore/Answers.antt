@@ -1,5 +1,4 @@
 use Rattle.std.proofs.Common.{map, sym, subst}
-use Rattle.overlay_terms.specs.StoredTiles.{AreStored}
 use Rattle.version_core.specs.Tiles.{given}
 use Rattle.version_core.specs.Version.{IsVersion}
 use Rattle.version_core.proofs.Restored.{restored_is_version}
