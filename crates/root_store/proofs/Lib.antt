@@ -9,3 +9,7 @@ mod FindingLemmas
 mod TakenLemmas
 mod HealingLemmas
 pub mod Rooms
+mod LoadingLemmas
+mod Looked
+mod TakingLemmas
+mod NearLemmas

@@ -8,3 +8,6 @@ pub mod Creating
 pub mod Looking
 pub mod Finding
 pub mod Opening
+pub mod Loading
+pub mod Contents
+pub mod Taking

@@ -1,5 +1,5 @@
 //! The root of a file.
-ghost use Rattle.std.specs.Prelude.{◌≡◌, ◌↔◌, ◌==◌, ◌&&◌, ◌*◌, ◌≤◌, ℕ, List, length, not, IfOk, IfErr};
+ghost use Rattle.std.specs.Prelude.{◌≡◌, ◌↔◌, ◌==◌, ◌&&◌, ◌*◌, ◌^◌, ◌<◌, ◌≤◌, ℕ, List, length, not, IfOk, IfErr};
 ghost use Rattle.store_terms.specs.Places.{block_size};
 ghost use Rattle.store_terms.specs.StandsFor.{gate, slot, newest, root_of, is_foreign, open_gate};
 ghost use Rattle.root_store.specs.Looking.{Gives, Looks, Causes};
@@ -108,6 +108,7 @@ pub(crate) fn find_root<D: Disk>(disk: &mut D) -> Result<(Root, bool), LoadFault
     ensures honest { D.is_honest disk.new ↔ D.is_honest disk.old }
     ensures looks { D.is_honest disk.old → Looks D.Disk disk.old disk.new }
     ensures gives { D.is_honest disk.old → Gives (λ x. x.0) result (root_of (D.seen disk.old)) }
+    ensures small { D.is_honest disk.old → IfOk result (λ x. length (D.seen disk.old) < 2 ^ 64) }
     ensures alone { D.is_honest disk.old → IfOk result (λ x. x.1 ≡ has_shut_gate (D.seen disk.old)) }
     ensures cause { D.is_honest disk.old → Causes result (D.faults disk.old) (D.faults disk.new) }
 {

@@ -1,0 +1,86 @@
+//! The finished tiles of a layer, as the disk has them.
+ghost use Rattle.std.specs.Prelude.{◌≡◌, ◌↔◌, ◌+◌, ◌<◌, ◌∷◌, List, Option, map, IfOk, OnOk, IfErr};
+ghost use Rattle.overlay_terms.specs.Column.{column_count};
+ghost use Rattle.tile_build.specs.Tile.{tile_of};
+ghost use Rattle.record_form.specs.Image.{finished};
+ghost use Rattle.store_terms.specs.Image.{tiles_of};
+ghost use Rattle.store_terms.specs.declared.root.Extent as terms;
+ghost use Rattle.root_store.specs.Looking.{Gives, Refuses, Looks, Causes};
+ghost use Rattle.root_store.specs.Loading.{tile_at, then_tiles};
+
+use crate::fetching::fetch;
+use crate::load_fault::LoadFault;
+use disk_model::disk::Disk;
+use layer_expr::name::Name;
+use record_form::tile_record::read_tile;
+use std::alloc::Global;
+use store_terms::damage::Damage;
+use store_terms::root::Extent;
+use tile_build::tile::Tile;
+
+/// The greatest number of a column.
+const LAST_COLUMN: usize = 16;
+
+/// The tile of a column whose record lies in an extent.
+fn tile_at<D: Disk>(
+    alloc: Global,
+    disk: &mut D,
+    column: usize,
+    extent: Extent,
+) -> Result<Tile, LoadFault>
+    ensures known { IfOk result (λ tile. column < column_count) }
+    ensures honest { D.is_honest disk.new ↔ D.is_honest disk.old }
+    ensures looks { D.is_honest disk.old → Looks D.Disk disk.old disk.new }
+    ensures gives { D.is_honest disk.old → Gives (λ tile. tile_of tile) result (tile_at (D.seen disk.old) column extent) }
+    ensures cause { D.is_honest disk.old → Causes result (D.faults disk.old) (D.faults disk.new) }
+{
+    let bytes = fetch(alloc, disk, extent, Damage::RecordPlace)?;
+    if column > LAST_COLUMN {
+        return Err(LoadFault::Damaged(Damage::TileForm));
+    }
+    let tile = read_tile(alloc, column as u8, &bytes)?;
+    Ok(tile)
+}
+
+/// Adds the tile of a column, if its entry says where its record lies.
+fn add_tile<D: Disk>(
+    alloc: Global,
+    disk: &mut D,
+    name: &Name,
+    column: usize,
+    entry: Option<Extent>,
+    tiles: &mut Vec<(Name, u8, Tile)>,
+) -> Result<(), LoadFault>
+    ensures honest { D.is_honest disk.new ↔ D.is_honest disk.old }
+    ensures looks { D.is_honest disk.old → Looks D.Disk disk.old disk.new }
+    ensures adds { D.is_honest disk.old → OnOk result ((rest : List (Option terms.Extent)) → then_tiles (map finished tiles.old.items) (tiles_of (D.seen disk.old) name.now column (entry ∷ rest)) ≡ then_tiles (map finished tiles.new.items) (tiles_of (D.seen disk.old) name.now (column + 1) rest)) }
+    ensures refuses { D.is_honest disk.old → IfErr result (λ e. (rest : List (Option terms.Extent)) → Refuses e (then_tiles (map finished tiles.old.items) (tiles_of (D.seen disk.old) name.now column (entry ∷ rest)))) }
+    ensures cause { D.is_honest disk.old → Causes result (D.faults disk.old) (D.faults disk.new) }
+{
+    let Some(extent) = entry else {
+        return Ok(());
+    };
+    let tile = tile_at(alloc, disk, column, extent)?;
+    tiles.push((name.clone()?, column as u8, tile))?;
+    Ok(())
+}
+
+/// Adds the finished tiles of a layer, by column.
+pub(crate) fn add_tiles<D: Disk>(
+    alloc: Global,
+    disk: &mut D,
+    name: &Name,
+    entries: &[Option<Extent>],
+    tiles: &mut Vec<(Name, u8, Tile)>,
+) -> Result<(), LoadFault>
+    ensures honest { D.is_honest disk.new ↔ D.is_honest disk.old }
+    ensures looks { D.is_honest disk.old → Looks D.Disk disk.old disk.new }
+    ensures adds { D.is_honest disk.old → OnOk result (then_tiles (map finished tiles.old.items) (tiles_of (D.seen disk.old) name.now 0 entries.now) ≡ Ok (map finished tiles.new.items)) }
+    ensures refuses { D.is_honest disk.old → IfErr result (λ e. Refuses e (then_tiles (map finished tiles.old.items) (tiles_of (D.seen disk.old) name.now 0 entries.now))) }
+    ensures cause { D.is_honest disk.old → Causes result (D.faults disk.old) (D.faults disk.new) }
+{
+    for (column, entry) in entries.iter().enumerate() {
+        add_tile(alloc, disk, name, column, *entry, tiles)?;
+    }
+    Ok(())
+}
