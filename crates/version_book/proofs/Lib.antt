@@ -1,0 +1,9 @@
+pub mod Adding
+pub mod Chains
+pub mod Fronts
+pub mod Growing
+pub mod Marking
+pub mod Owned
+pub mod Results
+pub mod Sent
+pub mod Trails

@@ -1,0 +1,151 @@
+-- From what the lock's methods say of the log to what a call says of histories.
+use Rattle.std.proofs.Common.{◌≡◌, ℕ, ◌<◌, ◌≤◌, Bool, true, List, [], ◌∷◌, ◌++◌, length, refl, ap, sym, ◌∙◌, subst, arith, append_assoc, Result, Ok, Err, IfOk, IfErr}
+use mathlib.Core.List.{IsPrefix}
+use Rattle.overlay_terms.specs.Commands.{Command}
+use Rattle.overlay_terms.specs.Histories.{Version, Entry, History, accepted, commands_of, newest, BeginsWith}
+use Rattle.version_book.specs.Logs.{entry, newest_in, history_of, IsAccepted, IsLog}
+use Rattle.version_book.specs.Fault.{IfGone, IsRefused}
+use Rattle.version_book.specs.Known.{Known, seen, IsOwn}
+use Rattle.version_book.specs.Steps.{HasLooked, IsReportedIn, Looks}
+use Rattle.version_book.specs.Trails.{Trail}
+use Rattle.version_book.specs.declared.fault.BookFault.{BookFault}
+use Rattle.version_book.specs.declared.fault.BookFault.TheVariants as fault
+use Rattle.version_book.proofs.Chains.{begins_with, commands_in_log}
+use Rattle.version_book.proofs.Fronts.{prefix_self, prefix_trans}
+use Rattle.version_book.proofs.Growing.{report_longer, report_reaches}
+
+-- a log that goes on by some entries is that of a history that does
+history_more : (was old new : List Entry) (e : Entry) (p : IsPrefix was old) → 0 < length was → new ≡ old ++ e ∷ []
+    → history_of new ≡ record { start = (history_of was).start; entries = (history_of was).entries ++ (p.0 ++ e ∷ []) }
+history_more [] old new e p long is = absurd (omega arith)
+history_more (x ∷ xs) old new e p long is =
+    ap history_of (is ∙ ap (λ l. l ++ e ∷ []) (sym p.1) ∙ append_assoc (x ∷ xs) p.0 (e ∷ []))
+
+pub accepts : {F : Type 0} (r : Result ℕ F) (session : ℕ) (c : Command) (old new : List Entry) (was now : Known) (P : Type 0)
+    → 0 < length was.log
+    → IfOk r (λ n. P × (new ≡ old ++ entry (accepted session c) (newest_in new) ∷ []) × ((newest_in new).number ≡ n))
+    → IfOk r (λ n. IsPrefix was.log old × (now.log ≡ new))
+    → IfOk r (λ n. IsAccepted session (seen was) c (seen now) n)
+accepts (Ok n) session c old new was now P long a b = record {
+  between = b.0.0;
+  version = newest_in new;
+  goes_on = history_more was.log old now.log (entry (accepted session c) (newest_in new)) b.0 long (b.1 ∙ a.1);
+  told = a.2;
+}
+accepts (Err e) session c old new was now P long a b = tt
+
+-- one of two facts, whatever the fault is
+pub gone_or : (f : BookFault) {A B C : Type 0} → (A → C) → (B → C) → IfGone f A B → C
+gone_or (fault.Version r) g h x = h x
+gone_or fault.Closing g h x = h x
+gone_or fault.Gone g h x = g x
+gone_or fault.NoStore g h x = h x
+gone_or (fault.Store r) g h x = h x
+
+pub gone_map : (f : BookFault) {A B C D : Type 0} → (A → C) → (B → D) → IfGone f A B → IfGone f C D
+gone_map (fault.Version r) g h x = h x
+gone_map fault.Closing g h x = h x
+gone_map fault.Gone g h x = g x
+gone_map fault.NoStore g h x = h x
+gone_map (fault.Store r) g h x = h x
+
+-- a session that has looked goes on from what it saw, and keeps what it made
+looked_goes : (was now : Known) (log : List Entry) → 0 < length was.log → HasLooked was log now → BeginsWith (seen now) (seen was)
+looked_goes was now log long h = begins_with was.log now.log long (subst (λ (k : Known). IsPrefix was.log k.log) (sym h.knows) h.longer)
+
+same_goes : (was now : Known) → 0 < length was.log → now ≡ was → BeginsWith (seen now) (seen was)
+same_goes was now long same = begins_with was.log now.log long (subst (λ (k : Known). IsPrefix was.log k.log) (sym same) (prefix_self was.log))
+
+pub looked_own : (was now : Known) (log : List Entry) → HasLooked was log now → IsOwn now
+looked_own was now log h = subst IsOwn (sym h.knows) (sym (commands_in_log was.session log h.valid) ∙ h.own)
+
+looked_at : (was now : Known) (log : List Entry) → HasLooked was log now → newest (seen now) ≡ newest_in log
+looked_at was now log h = ap (λ (k : Known). newest (seen k)) h.knows
+
+-- the fault is one at the newest version that was seen
+at_fault : (f : BookFault) (was now : Known) (log : List Entry) (Q : Version → BookFault → Type 0) → ((v : Version) → Q v fault.Gone)
+    → Q (newest_in log) f → IfGone f (now ≡ was) (HasLooked was log now) → Q (newest (seen now)) f
+at_fault (fault.Version r) was now log Q gone q h = subst (λ v. Q v (fault.Version r)) (sym (looked_at was now log h)) q
+at_fault fault.Closing was now log Q gone q h = subst (λ v. Q v fault.Closing) (sym (looked_at was now log h)) q
+at_fault fault.Gone was now log Q gone q h = gone _
+at_fault fault.NoStore was now log Q gone q h = subst (λ v. Q v fault.NoStore) (sym (looked_at was now log h)) q
+at_fault (fault.Store r) was now log Q gone q h = subst (λ v. Q v (fault.Store r)) (sym (looked_at was now log h)) q
+
+-- ---- of a call that only looks
+module _ (was now : Known) (log : List Entry) where
+  pub looks_goes : (r : Result ℕ BookFault) → 0 < length was.log → Looks r was log now → BeginsWith (seen now) (seen was)
+  looks_goes (Ok n) long h = looked_goes was now log long h
+  looks_goes (Err f) long h = gone_or f (same_goes was now long) (looked_goes was now log long) h
+
+  pub looks_same : (r : Result ℕ BookFault) → Looks r was log now → (now.book ≡ was.book) × (now.session ≡ was.session) × (now.made ≡ was.made)
+  looks_same (Ok n) h = (ap (λ k. k.book) h.knows, ap (λ k. k.session) h.knows, ap (λ k. k.made) h.knows)
+  looks_same (Err f) h = gone_or f (λ s. (ap (λ k. k.book) s, ap (λ k. k.session) s, ap (λ k. k.made) s)) (λ l. (ap (λ k. k.book) l.knows, ap (λ k. k.session) l.knows, ap (λ k. k.made) l.knows)) h
+
+  pub looks_own : (r : Result ℕ BookFault) → Looks r was log now → IfOk r (λ _. IsOwn now)
+  looks_own (Ok n) h = looked_own was now log h
+  looks_own (Err f) h = tt
+
+  pub looks_err : (r : Result ℕ BookFault) → Looks r was log now → IfErr r (λ f. IfGone f (now ≡ was) (IsOwn now))
+  looks_err (Ok n) h = tt
+  looks_err (Err f) h = gone_map f (λ s. s) (looked_own was now log) h
+
+  pub looks_ok : (r : Result ℕ BookFault) (P : Version → ℕ → Type 0) → Looks r was log now → IfOk r (λ n. P (newest_in log) n) → IfOk r (λ n. P (newest (seen now)) n)
+  looks_ok (Ok n) P h p = subst (λ v. P v n) (sym (looked_at was now log h)) p
+  looks_ok (Err f) P h p = tt
+
+  pub looks_refused : (r : Result ℕ BookFault) (Q : Version → BookFault → Type 0) → ((v : Version) → Q v fault.Gone)
+      → Looks r was log now → IfErr r (λ f. Q (newest_in log) f) → IfErr r (λ f. Q (newest (seen now)) f)
+  looks_refused (Ok n) Q gone h q = tt
+  looks_refused (Err f) Q gone h q = at_fault f was now log Q gone q h
+
+-- a book that may close refuses no less
+pub refused_more : (f : BookFault) (closing : Bool) (v : Version) (c : Command) → IsRefused closing v c f → IsRefused true v c f
+refused_more (fault.Version r) closing v c q = q
+refused_more fault.Closing closing v c q = refl
+refused_more fault.Gone closing v c q = q
+refused_more fault.NoStore closing v c q = q
+refused_more (fault.Store r) closing v c q = q
+
+-- ---- of a call that may add an entry
+module _ (was now : Known) (old new : List Entry) where
+  pub submit_goes : (r : Result ℕ BookFault) (e : Entry) (P Q : ℕ → Type 0) (A B : BookFault → Type 0) → 0 < length was.log
+      → IfOk r (λ n. P n × (new ≡ old ++ e ∷ []) × Q n) → IfOk r (λ n. IsPrefix was.log old × (now.log ≡ new))
+      → IfErr r (λ f. A f × B f × IfGone f (now ≡ was) (HasLooked was old now)) → BeginsWith (seen now) (seen was)
+  submit_goes (Ok n) e P Q A B long a b d =
+      begins_with was.log now.log long (subst (λ l. IsPrefix was.log l) (sym (b.1 ∙ a.1)) (prefix_trans was.log old (old ++ e ∷ []) b.0 (e ∷ [], refl)))
+  submit_goes (Err f) e P Q A B long a b d = gone_or f (same_goes was now long) (looked_goes was now old long) d.2
+
+  pub submit_own : (r : Result ℕ BookFault) (A : Type 0) → now.session ≡ was.session → IfOk r (λ n. IsPrefix was.log old × (now.log ≡ new))
+      → IfOk r (λ _. A × (commands_of was.session new ≡ now.made) × IsLog new) → IfOk r (λ _. IsOwn now)
+  submit_own (Ok n) A same b m =
+      let log : now.log ≡ new = b.1 in
+      sym (commands_in_log now.session now.log (subst IsLog (sym log) m.2)) ∙ (ap (λ l. commands_of now.session l) log ∙ ap (λ s. commands_of s new) same) ∙ m.1
+  submit_own (Err f) A same b m = tt
+
+  pub submit_err : (r : Result ℕ BookFault) (A B : BookFault → Type 0) → IfErr r (λ f. A f × B f × IfGone f (now ≡ was) (HasLooked was old now))
+      → IfErr r (λ f. IfGone f (now ≡ was) ((now.made ≡ was.made) × IsOwn now))
+  submit_err (Ok n) A B d = tt
+  submit_err (Err f) A B d = gone_map f (λ s. s) (λ h. (ap (λ k. k.made) h.knows, looked_own was now old h)) d.2
+
+  pub submit_refused : (r : Result ℕ BookFault) (A B : BookFault → Type 0) (closing : Bool) (c : Command)
+      → IfErr r (λ f. A f × B f × IfGone f (now ≡ was) (HasLooked was old now)) → IfErr r (λ f. IsRefused closing (newest_in old) c f)
+      → IfErr r (λ f. IsRefused true (newest (seen now)) c f)
+  submit_refused (Ok n) A B closing c d q = tt
+  submit_refused (Err f) A B closing c d q = at_fault f was now old (λ v g. IsRefused true v c g) (λ v. tt) (refused_more f closing (newest_in old) c q) d.2
+
+-- ---- of a report
+module _ (was now : Trail) (log after : List Entry) (n : ℕ) where
+  pub report_goes : (r : Result ℕ BookFault) (A : ℕ → Type 0) (B : BookFault → Type 0) → 0 < length was.log
+      → IfOk r (λ m. IsReportedIn log n after × A m)
+      → IfOk r (λ _. IsPrefix was.log log × (now ≡ record { book = was.book; log = after }) × IsLog after)
+      → IfErr r (λ f. (after ≡ log) × (now ≡ was) × B f) → BeginsWith (history_of now.log) (history_of was.log)
+  report_goes (Ok m) A B long a b d =
+      let whole = prefix_trans was.log log after b.0 (report_longer log after n a.0) in
+      begins_with was.log now.log long (subst (λ (t : Trail). IsPrefix was.log t.log) (sym b.1) whole)
+  report_goes (Err f) A B long a b d = begins_with was.log now.log long (subst (λ (t : Trail). IsPrefix was.log t.log) (sym d.1) (prefix_self was.log))
+
+  pub report_reached : (r : Result ℕ BookFault) (K : Type 0) → 0 < length was.log
+      → IfOk r (λ m. IsReportedIn log n after × ((newest_in after).durable ≡ m))
+      → IfOk r (λ _. IsPrefix was.log log × K × IsLog after) → IfOk r (λ m. n ≤ (newest_in was.log).number → n ≤ m)
+  report_reached (Ok m) K long a b = report_reaches was.log log after n m long b.2 b.0 a.0 a.1
+  report_reached (Err f) K long a b = tt

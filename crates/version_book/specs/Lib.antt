@@ -1,0 +1,13 @@
+pub mod Fault
+pub mod Codes
+pub mod Logs
+pub mod Events
+pub mod Causes
+pub mod KnownCodes
+pub mod Known
+pub mod Rules
+pub mod Slots
+pub mod Standing
+pub mod Steps
+pub mod Trails
+pub mod Waits

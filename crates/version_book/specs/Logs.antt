@@ -1,0 +1,37 @@
+-- A history as one log, whose first entry holds the version that the history begins with.
+use Rattle.std.specs.Prelude.{◌≡◌, ℕ, List, [], ◌∷◌, ◌++◌}
+use Rattle.overlay_terms.specs.Commands.{Command}
+use Rattle.overlay_terms.specs.Histories.{Version, Event, accepted, durable_to, Entry, History, AllFollow, GoesOnBy, newest}
+use Rattle.overlay_terms.specs.Histories.{empty_version}
+
+abbrev pub entry : Event → Version → Entry
+entry event version = record { event = event; version = version }
+
+-- the event of a first entry, which tells of nothing
+abbrev pub no_event : Event
+no_event = durable_to 0
+
+-- a history as a log
+abbrev pub log_of : History → List Entry
+log_of history = entry no_event history.start ∷ history.entries
+
+-- the history of a log
+abbrev pub history_of : List Entry → History
+history_of [] = record { start = empty_version; entries = [] }
+history_of (first ∷ entries) = record { start = first.version; entries = entries }
+
+-- a log of versions that follow one another
+abbrev pub IsLog : List Entry → Type 0
+IsLog [] = ⊥
+IsLog (first ∷ entries) = (first.event ≡ no_event) × AllFollow first.version entries
+
+-- the version of the last entry
+abbrev pub newest_in : List Entry → Version
+newest_in log = newest (history_of log)
+
+-- a session's command is accepted last, and its version has this number
+pub record IsAccepted (session : ℕ) (before : History) (command : Command) (after : History) (number : ℕ) : Type 0 where
+  pub between : List Entry
+  pub version : Version
+  pub goes_on : GoesOnBy before (between ++ entry (accepted session command) version ∷ []) after
+  pub told : version.number ≡ number

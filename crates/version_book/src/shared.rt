@@ -1,0 +1,291 @@
+//! What threads share: the book under its lock, and the calls on it.
+ghost use Rattle.std.specs.Prelude.{◌≡◌, ◌⊎◌, ◌<◌, ◌≤◌, [], ◌∷◌, ◌++◌, IfOk, IfErr, IfSome, IfNone, true};
+ghost use Rattle.std.specs.Arc.{arc_value};
+ghost use Rattle.overlay_terms.specs.Histories.{commands_of, BeginsWith, newest};
+ghost use Rattle.overlay_terms.specs.Tiles.{input_of};
+ghost use Rattle.layer_book.specs.Command.{command};
+ghost use Rattle.version_core.specs.Finish.{IsPending};
+ghost use Rattle.version_book.specs.Fault.{IfGone, IsRefused, no_memory};
+ghost use Rattle.version_book.specs.Known.{seen, IsOwn};
+ghost use Rattle.version_book.specs.Logs.{entry, history_of, newest_in, no_event, IsAccepted, IsLog};
+ghost use Rattle.version_book.specs.Rules.{head_of};
+ghost use Rattle.version_book.specs.Steps.{beginners};
+ghost use Rattle.version_book.specs.Waits.{IsBuiltAt, IsSyncRefused, IsWaitRefused};
+
+use crate::desk::Desk;
+use crate::fault::{BookFault, StoreFault};
+use crate::job::Job;
+use crate::reporter::Reporter;
+use crate::session::Session;
+use crate::shelf::Shelf;
+use crate::standing::Standing;
+use crate::trace::{Head, Naming, Trace};
+use layer_book::command::Command;
+use layer_expr::name::Name;
+use std::alloc::Global;
+use std::sync::{Arc, Condvar, Mutex, Wait};
+use tile_build::built::Built;
+use version_core::version::Version;
+
+/// The book under its lock.
+#[derive(Drop)]
+pub struct Shared<J: Naming, R: Wait + Drop> {
+    shelf: Mutex<Option<Shelf<J, R>>>,
+    changed: Condvar,
+}
+
+impl<J: Naming, R: Wait + Drop> Shared<J, R> {
+    /// A book over a log of one version, its reporter and its sessions. Each has seen just that.
+    pub fn start(
+        rt: R,
+        alloc: Global,
+        head: Head,
+        trace: Trace,
+        version: Version,
+        store: bool,
+        sessions: usize,
+    ) -> Result<(Shared<J, R>, Reporter, Vec<Session>), BookFault>
+        requires head { head ≡ head_of J.book }
+        requires trace { (trace.book ≡ J.book) × (trace.log ≡ entry no_event version ∷ []) }
+        requires sessions { (0 < sessions) × (sessions ≤ 4) }
+        ensures reporter { IfOk result (λ r. r.1 ≡ trace) }
+        ensures sessions { IfOk result (λ r. r.2.items ≡ beginners trace sessions) }
+        ensures err { IfErr result (λ fault. (fault ≡ no_memory) ⊎ (fault ≡ BookFault.Gone)) }
+    {
+        let reporter = Reporter::new(trace.again());
+        let (desk, list) = Desk::open(rt, alloc, head, trace, version, sessions)?;
+        let standing = Standing::new(alloc, store);
+        let shared = Shared {
+            shelf: Mutex::new(Some(Shelf { desk, standing })),
+            changed: Condvar::new(),
+        };
+        Ok((shared, reporter, list))
+    }
+
+    /// Accepts a command of a session, and answers the number of its version.
+    pub fn submit<W: Wait>(
+        &self,
+        rt: &W,
+        alloc: Global,
+        me: &mut Session,
+        change: &Command,
+    ) -> Result<u64, BookFault>
+        requires book { me.old.book ≡ J.book }
+        ensures goes_on { BeginsWith (seen me.new) (seen me.old) }
+        ensures ok { IfOk result (λ n. IsAccepted me.old.session (seen me.old) (command change.now) (seen me.new) n) }
+        ensures made { IfOk result (λ _. me.new.made ≡ me.old.made ++ command change.now ∷ []) }
+        ensures own { IfOk result (λ _. IsOwn me.new) }
+        ensures err { IfErr result (λ fault. IfGone fault (me.new ≡ me.old) ((me.new.made ≡ me.old.made) × IsOwn me.new)) }
+        ensures refused { IfErr result (λ fault. IsRefused true (newest (seen me.new)) (command change.now) fault) }
+        ensures same { (me.new.book ≡ me.old.book) × (me.new.session ≡ me.old.session) }
+    {
+        let _number = me.number();
+        let mut guard = self.shelf.lock(rt);
+        let Some(shelf) = guard.take() else {
+            return Err(BookFault::Gone);
+        };
+        let (shelf, done) = shelf.submit(alloc, me, change);
+        *guard = Some(shelf);
+        self.changed.notify_all();
+        done
+    }
+
+    /// Hands out a pending tile that is neither handed out nor marked. It waits for one; None comes at closing.
+    pub fn take_job<W: Wait>(&self, rt: &W, alloc: Global) -> Result<Option<Job>, BookFault>
+        ensures book { IfOk result (λ o. IfSome o (λ job. (job.trace.book ≡ J.book) × IsLog job.trace.log)) }
+        ensures input { IfOk result (λ o. IfSome o (λ job. job.input ≡ input_of (newest_in job.trace.log).layers job.name job.input.column)) }
+        ensures pending { IfOk result (λ o. IfSome o (λ job. IsPending (newest_in job.trace.log) job.name job.input.column)) }
+        ensures err { IfErr result (λ fault. fault ≡ no_memory) }
+    {
+        let mut guard = self
+            .changed
+            .wait_while(rt, self.shelf.lock(rt), |shelf| is_idle(shelf));
+        match &mut *guard {
+            Some(shelf) => shelf.take(alloc),
+            None => Ok(None),
+        }
+    }
+
+    /// Spends a job with the tile that was built of its input, and says whether it was kept. Where that cannot be
+    /// written down, for want of memory, both come back.
+    pub fn finish<W: Wait>(
+        &self,
+        rt: &W,
+        alloc: Global,
+        job: Job,
+        built: Built,
+    ) -> Result<bool, (Job, Built, BookFault)>
+        requires book { job.trace.book ≡ J.book }
+        requires input { built.0 ≡ job.input }
+        ensures err { IfErr result (λ e. (e.0 ≡ job) × (e.1 ≡ built)) }
+        ensures refused { IfErr result (λ e. (e.2 ≡ no_memory) ⊎ (e.2 ≡ BookFault.Gone)) }
+    {
+        let mut guard = self.shelf.lock(rt);
+        let Some(shelf) = guard.take() else {
+            return Err((job, built, BookFault::Gone));
+        };
+        let (shelf, done) = shelf.finish(alloc, job, built);
+        *guard = Some(shelf);
+        self.changed.notify_all();
+        done
+    }
+
+    /// Spends a job whose tile could not be built for want of memory: the tile is marked.
+    pub fn give_back<W: Wait>(&self, rt: &W, job: Job)
+        requires { job.trace.book ≡ J.book }
+    {
+        let mut guard = self.shelf.lock(rt);
+        match &mut *guard {
+            Some(shelf) => shelf.give_back(job),
+            None => job.drop_parts(),
+        }
+        self.changed.notify_all();
+    }
+
+    /// Waits until the tiles of a layer are finished, and answers the number of such a version.
+    pub fn wait_built<W: Wait>(
+        &self,
+        rt: &W,
+        me: &mut Session,
+        name: &Name,
+    ) -> Result<u64, BookFault>
+        requires book { me.old.book ≡ J.book }
+        ensures goes_on { BeginsWith (seen me.new) (seen me.old) }
+        ensures ok { IfOk result (λ n. IsBuiltAt (newest (seen me.new)) name.now n) }
+        ensures own { IfOk result (λ _. IsOwn me.new) }
+        ensures err { IfErr result (λ fault. IfGone fault (me.new ≡ me.old) (IsOwn me.new)) }
+        ensures refused { IfErr result (λ fault. IsWaitRefused (newest (seen me.new)) name.now fault) }
+        ensures same { (me.new.book ≡ me.old.book) × (me.new.session ≡ me.old.session) × (me.new.made ≡ me.old.made) }
+    {
+        let _number = me.number();
+        let mut guard = self
+            .changed
+            .wait_while(rt, self.shelf.lock(rt), |shelf| is_building(shelf, name));
+        match &mut *guard {
+            Some(shelf) => shelf.tell_built(me, name),
+            None => Err(BookFault::Gone),
+        }
+    }
+
+    /// Waits until the newest version that a session has seen is durable, and answers the durable number.
+    pub fn wait_durable<W: Wait>(&self, rt: &W, me: &mut Session) -> Result<u64, BookFault>
+        requires book { me.old.book ≡ J.book }
+        ensures goes_on { BeginsWith (seen me.new) (seen me.old) }
+        ensures ok { IfOk result (λ n. ((newest (seen me.new)).durable ≡ n) × ((newest (seen me.old)).number ≤ n)) }
+        ensures own { IfOk result (λ _. IsOwn me.new) }
+        ensures err { IfErr result (λ fault. IfGone fault (me.new ≡ me.old) (IsOwn me.new)) }
+        ensures refused { IfErr result IsSyncRefused }
+        ensures same { (me.new.book ≡ me.old.book) × (me.new.session ≡ me.old.session) × (me.new.made ≡ me.old.made) }
+    {
+        let _number = me.number();
+        let number = me.newest();
+        let guard = self
+            .changed
+            .wait_while(rt, self.shelf.lock(rt), |shelf| is_writing(shelf, number));
+        match &*guard {
+            Some(shelf) => shelf.tell_durable(me, number),
+            None => Err(BookFault::Gone),
+        }
+    }
+
+    /// Gives the reporter the newest version once there are commands or kept tiles that it was not
+    /// given. After a store's fault it waits until a command is accepted. At closing it does not
+    /// wait, and None says that there are no news.
+    pub fn next_version<W: Wait>(
+        &self,
+        rt: &W,
+        me: &mut Reporter,
+    ) -> Result<Option<Arc<Version, Global>>, BookFault>
+        requires book { me.old.book ≡ J.book }
+        ensures goes_on { BeginsWith (history_of me.new.log) (history_of me.old.log) }
+        ensures newest { IfOk result (λ o. IfSome o (λ version. arc_value version ≡ newest_in me.new.log)) }
+        ensures none { IfOk result (λ o. IfNone o (me.new ≡ me.old)) }
+        ensures err { IfErr result (λ fault. (me.new ≡ me.old) × ((fault ≡ no_memory) ⊎ (fault ≡ BookFault.Gone))) }
+        ensures same { me.new.book ≡ me.old.book }
+    {
+        let given = me.given();
+        let guard = self
+            .changed
+            .wait_while(rt, self.shelf.lock(rt), |shelf| is_quiet(shelf, given));
+        match &*guard {
+            Some(shelf) => shelf.tell_news(me),
+            None => Err(BookFault::Gone),
+        }
+    }
+
+    /// Reports a number durable, and answers the durable number then.
+    pub fn report<W: Wait>(
+        &self,
+        rt: &W,
+        alloc: Global,
+        me: &mut Reporter,
+        number: u64,
+    ) -> Result<u64, BookFault>
+        requires book { me.old.book ≡ J.book }
+        ensures goes_on { BeginsWith (history_of me.new.log) (history_of me.old.log) }
+        ensures ok { IfOk result (λ m. (newest_in me.new.log).durable ≡ m) }
+        ensures reached { IfOk result (λ m. number ≤ (newest_in me.old.log).number → number ≤ m) }
+        ensures err { IfErr result (λ fault. (me.new ≡ me.old) × ((fault ≡ no_memory) ⊎ (fault ≡ BookFault.Gone))) }
+        ensures same { me.new.book ≡ me.old.book }
+    {
+        let _given = me.given();
+        let mut guard = self.shelf.lock(rt);
+        let Some(shelf) = guard.take() else {
+            return Err(BookFault::Gone);
+        };
+        let (shelf, done) = shelf.report(alloc, me, number);
+        *guard = Some(shelf);
+        self.changed.notify_all();
+        done
+    }
+
+    /// The store told a fault: the reporter rests until a command is accepted.
+    pub fn store_failed<W: Wait>(&self, rt: &W, me: &mut Reporter, fault: StoreFault)
+        requires { me.old.book ≡ J.book }
+        ensures { me.new ≡ me.old }
+    {
+        let _given = me.given();
+        let mut guard = self.shelf.lock(rt);
+        if let Some(shelf) = &mut *guard {
+            shelf.standing.store_failed(fault);
+        }
+        self.changed.notify_all();
+    }
+
+    /// From now on commands are refused, no job is handed out, and no call waits for long.
+    pub fn begin_close<W: Wait>(&self, rt: &W) {
+        let mut guard = self.shelf.lock(rt);
+        if let Some(shelf) = &mut *guard {
+            shelf.standing.closing = true;
+        }
+        self.changed.notify_all();
+    }
+}
+
+fn is_idle<J: Naming, R: Wait + Drop>(shelf: &Option<Shelf<J, R>>) -> bool {
+    match shelf {
+        Some(shelf) => shelf.is_idle(),
+        None => false,
+    }
+}
+
+fn is_building<J: Naming, R: Wait + Drop>(shelf: &Option<Shelf<J, R>>, name: &Name) -> bool {
+    match shelf {
+        Some(shelf) => shelf.is_building(name),
+        None => false,
+    }
+}
+
+fn is_writing<J: Naming, R: Wait + Drop>(shelf: &Option<Shelf<J, R>>, number: u64) -> bool {
+    match shelf {
+        Some(shelf) => shelf.is_writing(number),
+        None => false,
+    }
+}
+
+fn is_quiet<J: Naming, R: Wait + Drop>(shelf: &Option<Shelf<J, R>>, given: u64) -> bool {
+    match shelf {
+        Some(shelf) => shelf.is_quiet(given),
+        None => false,
+    }
+}
