@@ -21,3 +21,4 @@ pub mod UnitMeeting
 pub mod UnitNodes
 pub mod UnitPieces
 pub mod UnitParts
+pub mod LineLemmas

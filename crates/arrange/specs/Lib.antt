@@ -7,3 +7,4 @@ pub mod Masks
 pub mod SameInput
 pub mod Directions
 pub mod HeldPieces
+pub mod Lines

@@ -1,13 +1,18 @@
-//! Collinear segments, cut at each other's ends.
-ghost use Rattle.std.specs.Prelude.{◌≡◌, ◌<◌, ℕ, All, Contains, IfOk, IsTrue, OnOk, map};
+//! Collinear segments, cut at each other's ends: sorted by their lines, and cut a line at a time.
+ghost use Rattle.std.specs.Prelude.{◌≡◌, ◌<◌, ◌≤◌, ℕ, All, Contains, IfOk, IsTrue, OnOk, map, length, get_or};
+ghost use Rattle.std.specs.List.Sorted.{IsPermutation, IsSorted};
+ghost use Rattle.std.specs.declared.cmp.Ordering.TheVariants.{Equal};
+ghost use Rattle.arrange.specs.declared.line_seg.LineSeg.{LineSeg};
 ghost use Rattle.std.specs.List.{list_any};
 ghost use Rattle.overlay_terms.specs.Plane.{Segment};
 ghost use Rattle.overlay_terms.specs.Trees.{mask_bits};
 ghost use Rattle.arrange.specs.Marked.{AllProper, marked_of};
+ghost use Rattle.arrange.specs.Lines.{line_cmp, line_marked};
 ghost use Rattle.arrange.specs.Units.{AreUnits, IsUnit, cover_bits, covers};
 ghost use Rattle.overlay_terms.specs.SameInput.{same_segment};
 ghost use Rattle.arrange.specs.UnitLists.{HaveGrown, stretches};
 
+use crate::line_seg::LineSeg;
 use crate::marked_seg::MarkedSeg;
 use crate::masking::mask_over;
 use crate::tile_input::TileInput;
@@ -21,7 +26,81 @@ use std::alloc::{AllocError, Global};
 pub fn units(alloc: Global, input: &TileInput) -> Result<Vec<Unit>, AllocError>
     ensures { IfOk result (λ list. AreUnits input.now.marked list.items) }
 {
-    let marked = input.marked();
+    let lines = by_line(alloc, input.marked())?;
+    let mut list = Vec::new(alloc);
+    let mut start = 0;
+    while start < lines.len() {
+        let end = line_end(&lines, start);
+        let mut more = units_on_line(alloc, &lines[start..end])?;
+        list.append(&mut more)?;
+        start = end;
+    }
+    Ok(list)
+}
+
+/// The segments in the order of their lines.
+fn by_line(alloc: Global, marked: &[MarkedSeg]) -> Result<Vec<LineSeg>, AllocError>
+    requires layers { All (λ m. m.layer < 32) marked.now }
+    requires proper { AllProper (map marked_of marked.now) }
+    ensures moved { IfOk result (λ list. IsPermutation (map marked_of marked.now) (map line_marked list.items)) }
+    ensures sorted { IfOk result (λ list. IsSorted line_cmp list.items) }
+{
+    let mut lines = lines_of(alloc, marked)?;
+    lines.sort_unstable();
+    Ok(lines)
+}
+
+/// The segments as segments with a line.
+fn lines_of(alloc: Global, marked: &[MarkedSeg]) -> Result<Vec<LineSeg>, AllocError>
+    requires layers { All (λ m. m.layer < 32) marked.now }
+    requires proper { AllProper (map marked_of marked.now) }
+    ensures { IfOk result (λ list. map line_marked list.items ≡ map marked_of marked.now) }
+{
+    let mut lines = Vec::new(alloc);
+    for m in marked {
+        lines.push(LineSeg::of(*m))?;
+    }
+    Ok(lines)
+}
+
+/// Where the segments on the line of one end, among segments in the order of their lines.
+fn line_end(lines: &[LineSeg], start: usize) -> usize
+    requires { start < length lines.now }
+    ensures after { start < result }
+    ensures within { result ≤ length lines.now }
+    ensures same { (k : ℕ) (d : LineSeg) → start ≤ k → k < result → line_cmp (get_or lines.now start d) (get_or lines.now k d) ≡ Equal }
+    ensures next { (d : LineSeg) → result < length lines.now → line_cmp (get_or lines.now start d) (get_or lines.now result d) ≡ Equal → ⊥ }
+{
+    for end in start + 1..lines.len() {
+        if lines[start] != lines[end] {
+            return end;
+        }
+    }
+    lines.len()
+}
+
+/// The units of the segments on one line.
+fn units_on_line(alloc: Global, run: &[LineSeg]) -> Result<Vec<Unit>, AllocError>
+    ensures { IfOk result (λ list. AreUnits (map line_marked run.now) list.items) }
+{
+    let marked = marked_in(alloc, run)?;
+    let list = units_among(alloc, &marked)?;
+    Ok(list)
+}
+
+/// The segments without their lines.
+fn marked_in(alloc: Global, run: &[LineSeg]) -> Result<Vec<MarkedSeg>, AllocError>
+    ensures { IfOk result (λ list. list.items ≡ map (λ l. l.marked) run.now) }
+{
+    run.iter().map(|l| l.marked).collect(alloc)
+}
+
+/// The units of some segments, found by comparing all pairs.
+fn units_among(alloc: Global, marked: &[MarkedSeg]) -> Result<Vec<Unit>, AllocError>
+    requires layers { All (λ m. m.layer < 32) marked.now }
+    requires proper { AllProper (map marked_of marked.now) }
+    ensures { IfOk result (λ list. AreUnits (map marked_of marked.now) list.items) }
+{
     let mut list = Vec::new(alloc);
     for m in marked {
         add_units(alloc, &mut list, m, marked)?;

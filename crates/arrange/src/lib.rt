@@ -5,6 +5,7 @@ pub mod finding_nodes;
 pub mod finding_pieces;
 pub mod finding_units;
 mod held_piece;
+mod line_seg;
 pub mod marked_seg;
 mod masking;
 mod named_place;

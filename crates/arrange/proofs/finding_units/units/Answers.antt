@@ -1,20 +1,34 @@
-use Rattle.std.proofs.Common.{◌≤◌, length, map, List, subst, arith}
+use Rattle.std.proofs.Common.{◌≡◌, ◌≤◌, List, length, map, sym, subst, arith}
+use Rattle.std.specs.Prelude.{slice_range}
+use Rattle.std.specs.List.Sorted.{IsPermutation}
+use Rattle.std.proofs.lemmas.List.Sorted.{IsPermutation-sym}
 use Rattle.overlay_terms.specs.Layers.{Marked}
-use Rattle.arrange.specs.Marked.{marked_of}
+use Rattle.arrange.specs.Lines.{line_marked}
 use Rattle.arrange.specs.Units.{AreUnits}
-use Rattle.arrange.proofs.UnitListLemmas.{have_more, have_all}
+use Rattle.arrange.specs.declared.line_seg.LineSeg.{LineSeg}
+use Rattle.arrange.specs.declared.unit.Unit.{Unit}
+use Rattle.arrange.proofs.LineLemmas.{HaveLines, IsRun, have_next_line, have_all_lines}
+use Rattle.arrange.proofs.UnitParts.{units_permuted}
 use Rattle.arrange.proofs.finding_units.units.Goals as goal
 
-pub add_units-requires-clause-layers : goal.add_units-requires-clause-layers
-add_units-requires-clause-layers c = c.marked-marked.ensures.few
-
-pub loop-m-preserved : goal.loop-m-preserved
-loop-m-preserved c =
-    have_more (map marked_of c.marked-marked.result.now) c.marked-marked.result.now c.loop-m.m-index c.m-item.result c.loop-m.list.items c.add_units.new.list.items (omega arith) c.m-item.is
-    c.loop-m.invariant c.in_ok-add_units.ensures.grown c.in_ok-add_units.ensures.complete
+pub loop-start-preserved : goal.loop-start-preserved
+loop-start-preserved c =
+    let lines : List LineSeg = c.in_ok-lines.lines.items in
+    let start = c.loop-start.start in
+    let end = c.line_end-end.result in
+    let found : IsRun c.deref.result.now start end =
+    record { after = c.line_end-end.ensures.after; within = c.line_end-end.ensures.within; same = c.line_end-end.ensures.same; next = c.line_end-end.ensures.next } in
+    let run : IsRun lines start end = subst (λ (xs : List LineSeg). IsRun xs start end) c.deref.ensures.value found in
+    let units : AreUnits (map line_marked (slice_range lines start end)) c.in_ok-more.more.items =
+    subst (λ (xs : List LineSeg). AreUnits (map line_marked (slice_range xs start end)) c.in_ok-more.more.items) c.deref-in-loop-start.ensures.value c.in_ok-more.ensures in
+    subst (λ (us : List Unit). HaveLines lines end us) (sym c.in_ok-append.ensures.items)
+    (have_next_line lines c.in_ok-lines.ensures.sorted start end c.loop-start.list.items c.in_ok-more.more.items c.loop-start.invariant run units)
 
 pub returns : goal.returns
 returns c =
-    let full : length c.marked-marked.result.now ≤ c.loop-m.m-index = omega arith in
-    subst (λ (marked : List Marked). AreUnits marked c.loop-m.list.items) c.marked-marked.ensures.value
-    (have_all c.marked-marked.result.now c.loop-m.m-index c.loop-m.list.items full c.loop-m.invariant)
+    let lines : List LineSeg = c.in_ok-lines.lines.items in
+    let full : length lines ≤ c.loop-start.start = omega arith in
+    let moved : IsPermutation c.args.input.now.marked (map line_marked lines) =
+    subst (λ (ms : List Marked). IsPermutation ms (map line_marked lines)) c.marked.ensures.value c.in_ok-lines.ensures.moved in
+    units_permuted (map line_marked lines) c.args.input.now.marked c.loop-start.list.items (IsPermutation-sym c.args.input.now.marked (map line_marked lines) moved) c.marked.ensures.valid.proper
+    (have_all_lines lines c.loop-start.start c.loop-start.list.items full c.loop-start.invariant)

@@ -1,8 +1,10 @@
-use Rattle.std.proofs.Common.{map}
-use Rattle.arrange.specs.Marked.{marked_of}
-use Rattle.arrange.proofs.UnitListLemmas.{HaveUnits}
+use Rattle.std.proofs.Common.{length, ◌-◌}
+use Rattle.arrange.proofs.LineLemmas.{HaveLines}
 use Rattle.arrange.proofs.finding_units.units.Given as goal
 
--- the units on the first segments are listed
-abbrev pub invariant-loop-m : goal.invariant-loop-m
-invariant-loop-m l = HaveUnits (map marked_of l.marked) l.marked l.m-index l.list.items
+-- the units of the first lines are listed
+abbrev pub invariant-loop-start : goal.invariant-loop-start
+invariant-loop-start l = HaveLines l.lines.items l.start l.list.items
+
+abbrev pub decreases-loop-start : goal.decreases-loop-start
+decreases-loop-start l = length l.lines.items - l.start
