@@ -1,5 +1,7 @@
 //! Inputs of tiles, units, nodes, pieces and labels, worked by hand. Bit 0 of a mask is layer A, bit 1 is B.
-use crate::testing::{BOW_TIE, LEFT_HALF, NOTHING, SHIFTED, SQUARE, TWICE, input_of};
+use crate::testing::{
+    ACROSS, BOW_TIE, CORNER, LEFT_HALF, NOTHING, SHIFTED, SQUARE, STRIP, TRIANGLE, TWICE, input_of,
+};
 use arrange::{nodes_on, pieces, units};
 use exact_point::{PointName, reduced};
 use std::process::Abort;
@@ -12,16 +14,7 @@ const BESIDE: &str = "POLYGON ((10 2, 20 2, 20 8, 10 8, 10 2))";
 
 const TOUCHING: &str = "POLYGON ((10 5, 20 0, 20 10, 10 5))";
 
-const ACROSS: &str = "POLYGON ((-10 -10, 10 -10, 10 10, -10 10, -10 -10))";
-
 const LEFT: &str = "POLYGON ((-10 5, 0 5, 0 15, -10 15, -10 5))";
-
-const CORNER: &str =
-    "POLYGON ((1048575 1048575, 1048576 1048575, 1048576 1048576, 1048575 1048576, 1048575 1048575))";
-
-const TRIANGLE: &str = "POLYGON ((0 0, 3 1, 0 2, 0 0))";
-
-const STRIP: &str = "POLYGON ((1 -1, 2 -1, 2 3, 1 3, 1 -1))";
 
 #[test]
 fn an_input_has_the_segments_with_a_point_in_its_column(rt: HostRuntime) -> Result<(), Fail> {

@@ -20,6 +20,15 @@ pub const LEFT_HALF: &str = "POLYGON ((0 0, 5 0, 5 10, 0 10, 0 0))";
 pub const TWICE: &str =
     "MULTIPOLYGON (((0 0, 10 0, 10 10, 0 10, 0 0)), ((0 0, 10 0, 10 10, 0 10, 0 0)))";
 
+pub const ACROSS: &str = "POLYGON ((-10 -10, 10 -10, 10 10, -10 10, -10 -10))";
+
+pub const CORNER: &str =
+    "POLYGON ((1048575 1048575, 1048576 1048575, 1048576 1048576, 1048575 1048576, 1048575 1048575))";
+
+pub const TRIANGLE: &str = "POLYGON ((0 0, 3 1, 0 2, 0 0))";
+
+pub const STRIP: &str = "POLYGON ((1 -1, 2 -1, 2 3, 1 3, 1 -1))";
+
 pub const NOTHING: &str = "POLYGON EMPTY";
 
 /// The command that puts a text under a name.
