@@ -1,4 +1,4 @@
 mod Exclusive
 mod Gaps
-mod Plans
+pub mod Plans
 mod Rows

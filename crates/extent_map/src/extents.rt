@@ -1,12 +1,12 @@
 //! The blocks that are taken, and a place for each of some records among those that are free.
-ghost use Rattle.std.specs.Prelude.{◌≡◌, ◌∷◌, List, IsOk, IfOk, IfSome, IfNone, IfErr, IsErrOf};
+ghost use Rattle.std.specs.Prelude.{◌≡◌, ◌∷◌, List, IsOk, IfOk, IfSome, IfNone, IfErr, IsErrOf, OnErr};
 ghost use Rattle.extent_map.specs.Extents.{IsFree, AreApart, AreAlike, Ascend, Ascend-prop, IsGap};
-ghost use Rattle.extent_map.specs.FirstFit.{IsPlanned, IsFull};
+ghost use Rattle.extent_map.specs.FirstFit.{IsPlanned, IsFull, IsFirstFit, NoFit, blocks_for};
 
 use crate::extent::Extent;
 use crate::fault::ExtentFault;
 use crate::first_fit::{blocks_of, first_fit};
-use std::alloc::Global;
+use std::alloc::{AllocError, Global};
 
 /// Extents that are taken, in ascending order, and the number of blocks that the file may have.
 #[derive(Drop)]
@@ -42,6 +42,7 @@ fn put(taken: &mut Vec<Extent>, place: usize, extent: Extent) -> Result<(), Exte
     ensures ascending { IsOk result → Ascend taken.new.items }
     ensures alike { (given : List Extent) → AreAlike given taken.old.items → IsOk result → AreAlike (extent ∷ given) taken.new.items }
     ensures err { IfErr result (λ fault. fault ≡ ExtentFault.OutOfMemory) }
+    ensures same { OnErr result (taken.new.items ≡ taken.old.items) }
 {
     taken.insert(place, extent)?;
     Ok(())
@@ -88,5 +89,35 @@ impl Extents {
             runs.push(found.run)?;
         }
         Ok(runs)
+    }
+
+    /// The same map in memory of its own.
+    pub fn try_copy(&self, alloc: Global) -> Result<Extents, AllocError>
+        ensures taken { IfOk result (λ copy. taken_of copy ≡ taken_of self.now) }
+        ensures limit { IfOk result (λ copy. limit_of copy ≡ limit_of self.now) }
+    {
+        let taken = self.taken.to_vec(alloc)?;
+        Ok(Extents {
+            taken,
+            limit: self.limit,
+        })
+    }
+
+    /// The lowest run that is free for so many bytes. It is taken from then on; a refusal changes nothing.
+    pub fn place(&mut self, length: u32) -> Result<Extent, ExtentFault>
+        ensures size { IfOk result (λ run. run.blocks ≡ blocks_for length) }
+        ensures fit { IfOk result (λ run. IsFirstFit (taken_of self.old) (limit_of self.old) (blocks_for length) run.block) }
+        ensures taken { (given : List Extent) → AreAlike given (taken_of self.old) → IfOk result (λ run. AreAlike (run ∷ given) (taken_of self.new)) }
+        ensures limit { limit_of self.new ≡ limit_of self.old }
+        ensures full { IsErrOf result ExtentFault.Full → NoFit (taken_of self.old) (limit_of self.old) (blocks_for length) }
+        ensures never { IsErrOf result ExtentFault.Overlap → ⊥ }
+        ensures err { OnErr result (taken_of self.new ≡ taken_of self.old) }
+    {
+        let need = blocks_of(length);
+        let Some(found) = first_fit(&self.taken, self.limit, need) else {
+            return Err(ExtentFault::Full);
+        };
+        put(&mut self.taken, found.place, found.run)?;
+        Ok(found.run)
     }
 }

@@ -13,3 +13,6 @@ mod LoadingLemmas
 mod Looked
 mod TakingLemmas
 mod NearLemmas
+pub mod Drafts
+pub mod Placed
+pub mod Completed

@@ -1,22 +1,28 @@
 -- Each device call of a commit, done or failed.
-use Rattle.std.proofs.Common.{◌≡◌, inl, ℕ, ◌+◌, ◌<◌, ◌≤◌, List, ◌∷◌, length, drop, get_or, Result, Ok, Err, sym, ◌∙◌, ap, subst}
+use Rattle.std.proofs.Common.{◌≡◌, inl, inr, arith, ℕ, ◌+◌, ◌<◌, ◌≤◌, List, ◌∷◌, length, drop, get_or, Result, Ok, Err, sym, ◌∙◌, ap, subst}
 use Rattle.std.proofs.lemmas.List.{at_drop_more, at_drop_all}
 use Rattle.disk_model.specs.declared.disk.Disk.{Ghosts}
 use Rattle.disk_model.specs.Disk.{Holds, Torn, Follows, Fewer, Only, Elapses}
 use Rattle.disk_model.specs.Moments.{Leaves, LeavesOnly}
 use Rattle.disk_model.proofs.Runs.{started, goes_on}
 use Rattle.root_store.specs.declared.write.Write.{Write}
+use Rattle.store_terms.specs.Roots.{sequence_max}
 use Rattle.store_terms.specs.StandsFor.{gate, gate_at}
 use Rattle.std.specs.Prelude.{IsErr, OnOk}
 use Rattle.root_store.specs.declared.fault.StoreFault.{StoreFault}
 use Rattle.root_store.specs.declared.phase.Progress.{Progress}
 use Rattle.root_store.specs.declared.phase.Phase.TheVariants.{Failed}
 use Rattle.root_store.specs.declared.commit.Commit.{Commit}
-use Rattle.root_store.specs.Kept.{Kept, other, Rest, Shut, Ready, Either}
+use Rattle.root_store.specs.Kept.{Kept, other, Rest, Shut, Calm, Ready, Either}
 use Rattle.root_store.specs.Running.{Stepped}
 use Rattle.root_store.specs.Planning.{Leads, Spare}
 use Rattle.root_store.proofs.Reading.{rest_stands, shut_stands, ready_either}
 use Rattle.root_store.proofs.Kept.{rest_kept, ready_kept}
+
+-- below the last sequence a store that is calm is at rest
+pub calm_rest : (x : Kept) (file : List ℕ) → x.root.sequence < sequence_max → Calm x file → Rest x file
+calm_rest x file below (inl rest) = rest
+calm_rest x file below (inr last) = absurd (omega (arith, below, last.1))
 
 module _ {D : Type 0} (g : Ghosts D) where
   pub leaves_torn : (old new : D) (P : List ℕ → Type 0) (at n : ℕ) → Leaves g old P → Follows (Torn at n) (g.may_leave old) (g.may_leave new) → ((c d : List ℕ) → P c → Torn at n c d → P d) → Leaves g new P

@@ -11,3 +11,4 @@ pub mod Opening
 pub mod Loading
 pub mod Contents
 pub mod Taking
+pub mod Drafting

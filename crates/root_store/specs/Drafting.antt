@@ -1,0 +1,50 @@
+-- The records of a commit that have their places.
+use Rattle.std.specs.Prelude.{◌≡◌, ◌⊎◌, ℕ, ◌^◌, ◌≤◌, List, [], ◌∷◌, ◌++◌, length, map}
+use Rattle.extent_map.specs.declared.extent.Extent as runs
+use Rattle.extent_map.specs.Extents.{AreAlike}
+use Rattle.extent_map.specs.FirstFit.{IsPlanned, IsFull, taken_with}
+use Rattle.extent_map.specs.Taken.{taken_of}
+use Rattle.overlay_terms.specs.Commands.{version_max}
+use Rattle.store_terms.specs.declared.root.Extent.{Extent}
+use Rattle.store_terms.specs.Catalog.{Listed}
+use Rattle.store_terms.specs.Image.{Held}
+use Rattle.store_terms.specs.Spelled.{MayBeStored}
+use Rattle.root_store.specs.declared.draft.Draft.{Draft}
+use Rattle.root_store.specs.declared.next.Next.{Next}
+use Rattle.root_store.specs.Kept.{Kept}
+use Rattle.root_store.specs.Planning.{Plans}
+use Rattle.root_store.specs.Filing.{Filed, FiledLayer, listed_of, SpellLayers, AreWritesOf}
+use Rattle.root_store.specs.Running.{AreRunsOf, IsMapOf}
+
+abbrev pub lengths_of : List Filed → List ℕ
+lengths_of fs = map (λ (f : Filed). length f.bytes) fs
+
+abbrev pub extents_of_filed : List Filed → List Extent
+extents_of_filed fs = map (λ (f : Filed). f.extent) fs
+
+-- a draft of these records: beside what is taken, each has the lowest run that is free behind those before it, and its write
+pub record IsDraft (given : List runs.Extent) (limit : ℕ) (fs : List Filed) (d : Draft) : Type 0 where
+  pub blocks : d.room.max_blocks ≡ limit
+  pub planned : IsPlanned given limit (lengths_of fs) d.runs.items
+  pub alike : AreAlike (taken_with given d.runs.items) (taken_of d.room.map)
+  pub runs : AreRunsOf (extents_of_filed fs) d.runs.items
+  pub writes : AreWritesOf fs d.writes.items
+
+-- behind these records another finds no run; or it is so long that the file has no number for its size
+abbrev pub HasNoRun : List runs.Extent → ℕ → List Filed → List ℕ → Type 0
+HasNoRun given limit fs bytes = IsFull given limit (lengths_of fs ++ length bytes ∷ []) ⊎ (2 ^ 32 ≤ length bytes)
+
+-- filed layers that a catalog lists, and that spell what a version holds
+pub record Spell (layers : List FiledLayer) (listing : List Listed) (x : Held) : Type 0 where
+  pub spelled : SpellLayers layers x.layers x.tiles
+  pub stored : MayBeStored x.layers
+  pub small : x.number ≤ version_max
+  pub listed : map listed_of layers ≡ listing
+
+-- what a commit goes on to from x: a root that holds this, the blocks that it takes, and the writes that lead there
+pub record IsNext (x : Kept) (held : Held) (next : Next) : Type 0 where
+  pub kept : Kept
+  pub holds : kept.held ≡ held
+  pub root : next.root ≡ kept.root
+  pub room : IsMapOf kept.extents (taken_of next.room.map)
+  pub plans : Plans x kept next.plan.items

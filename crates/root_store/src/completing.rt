@@ -1,0 +1,77 @@
+//! The writes of a commit behind its records: the catalog and the body.
+ghost use Rattle.std.specs.Prelude.{◌≡◌, ◌⊎◌, ◌+◌, ◌^◌, ◌<◌, ◌++◌, ◌∷◌, [], ℕ, List, length, flat_map, All, IfOk, IfErr, IsErrOf};
+ghost use Rattle.overlay_terms.specs.Column.{column_count};
+ghost use Rattle.extent_map.specs.declared.extent.Extent as runs;
+ghost use Rattle.record_form.specs.Listing.{listing_of, IsListable};
+ghost use Rattle.store_terms.specs.Catalog.{catalog};
+ghost use Rattle.store_terms.specs.Image.{Held};
+ghost use Rattle.store_terms.specs.Roots.{sequence_max};
+ghost use Rattle.store_terms.specs.StandsFor.{body_at};
+ghost use Rattle.root_store.specs.Kept.{Kept, other};
+ghost use Rattle.root_store.specs.Filing.{Filed, FiledLayer, filed_of};
+ghost use Rattle.root_store.specs.Running.{IsMapOf};
+ghost use Rattle.root_store.specs.Drafting.{IsDraft, HasNoRun, Spell, IsNext};
+
+use crate::draft::Draft;
+use crate::fault::StoreFault;
+use crate::next::Next;
+use crate::room::Room;
+use crate::write::Write;
+use record_form::catalog::Listed;
+use record_form::catalog_writing::write_catalog;
+use record_form::root_body::write_body;
+use std::alloc::Global;
+use store_terms::root::Root;
+
+/// Where the body stands of the slot that the root is not in.
+fn other_body(root: Root) -> usize
+    ensures { result ≡ body_at (other root) }
+{
+    if root.sequence % 2 == 0 { 4112 } else { 16 }
+}
+
+/// Adds the catalog that lists the records of a draft, and the body of the root that comes after one.
+pub(crate) fn completed(
+    alloc: Global,
+    mut draft: Draft,
+    listing: &[Listed],
+    root: Root,
+    number: u64,
+) -> Result<Next, StoreFault>
+    requires few { length listing.now < 2 ^ 16 }
+    requires listable { All IsListable listing.now }
+    requires below { root.sequence < sequence_max }
+    ensures ok { (x : Kept) (given : List runs.Extent) (limit : ℕ) (layers : List FiledLayer) (held : Held) → x.root ≡ root → IsMapOf x.extents given
+        → IsDraft given limit (flat_map filed_of layers) draft → Spell layers (listing_of listing.now) held → held.number ≡ number → IfOk result (λ next. IsNext x held next) }
+    ensures calls { IfOk result (λ next. length next.plan.items ≡ length draft.writes.items + 2) }
+    ensures full { (given : List runs.Extent) (limit : ℕ) (fs : List Filed) → IsDraft given limit fs draft
+        → IsErrOf result StoreFault.Full → HasNoRun given limit fs ((catalog column_count).text (listing_of listing.now)) }
+    ensures err { (given : List runs.Extent) (limit : ℕ) (fs : List Filed) → IsDraft given limit fs draft
+        → IfErr result (λ fault. (fault ≡ StoreFault.Full) ⊎ (fault ≡ StoreFault.OutOfMemory)) }
+{
+    let bytes = write_catalog(alloc, listing)?;
+    let catalog = draft.file(bytes)?;
+    let next = Root {
+        sequence: root.sequence + 1,
+        version: number,
+        catalog,
+    };
+    let Draft {
+        room,
+        runs,
+        mut writes,
+    } = draft;
+    let room = match Room::of(alloc, &runs, room.max_blocks) {
+        Ok(room) => room,
+        Err(fault) => return Err(StoreFault::from(fault)),
+    };
+    writes.push(Write {
+        at: other_body(root),
+        bytes: Vec::from_slice(alloc, &write_body(next))?,
+    })?;
+    Ok(Next {
+        root: next,
+        room,
+        plan: writes,
+    })
+}
