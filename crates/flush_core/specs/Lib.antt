@@ -1,1 +1,2 @@
+pub mod Imaging
 pub mod Stored

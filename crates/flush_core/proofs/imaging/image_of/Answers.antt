@@ -1,0 +1,23 @@
+use Rattle.std.proofs.Common.{List, map, ap, sym, subst, ◌∙◌}
+use Rattle.overlay_terms.specs.Layers.{Layer}
+use Rattle.overlay_terms.specs.Histories.{Finished, tile_at}
+use Rattle.overlay_terms.specs.StoredTiles.{AreStored}
+use Rattle.record_form.specs.Image.{finished}
+use Rattle.flush_core.specs.Stored.{IsImageOf}
+use Rattle.flush_core.proofs.ImageLemmas.{same_tiles, are_stored}
+use Rattle.flush_core.proofs.imaging.image_of.Goals as goal
+
+pub new-requires-clause-stored : goal.new-requires-clause-stored
+new-requires-clause-stored c =
+    let version = c.args.version.now in
+    subst (λ (layers : List Layer). AreStored layers (map finished c.in_ok-tiles.tiles.items)) (sym (c.in_ok-layers.ensures ∙ c.layers.ensures.value))
+    (subst (AreStored version.layers) (sym c.in_ok-tiles.ensures) (are_stored version c.layers.ensures.valid))
+
+pub returns : goal.returns
+returns c =
+    let version = c.args.version.now in
+    subst (IsImageOf version) (sym c.new.ensures) (record {
+      number = c.number.ensures.value;
+      layers = c.in_ok-layers.ensures ∙ c.layers.ensures.value;
+      tiles = λ name k. ap (λ (tiles : List Finished). tile_at tiles name k) c.in_ok-tiles.ensures ∙ same_tiles version c.layers.ensures.valid name k;
+    })
