@@ -16,6 +16,7 @@ pub mod AlongPieces
 pub mod MadePieces
 pub mod HeldLemmas
 pub mod SortedPieces
+pub mod Utmost
 pub mod UnitCover
 pub mod UnitMeeting
 pub mod UnitNodes

@@ -9,7 +9,6 @@ use Rattle.overlay_terms.specs.Plane.{WholePoint, Point, Segment, whole, whole_c
 use Rattle.overlay_terms.specs.Layers.{Marked}
 use Rattle.overlay_terms.proofs.InputLists.{any_from_Contains}
 use Rattle.overlay_terms.proofs.InputNumbers.{times_one}
-use Rattle.overlay_terms.proofs.Lists.{Contains-cons_cases, none_in_empty, contains_first, contains_rest}
 use Rattle.overlay_terms.proofs.PointOrder.{same_points}
 use Rattle.exact_point.proofs.OnLine.{parallel_line, between_on, within_on, after_left, before_right, on_line, left_on_line, right_on_line}
 use Rattle.exact_point.proofs.PlaceOrder.{one_positive, level_from, level_test, same_self, on_same, not_before_self, less_through, not_after_less, not_before_test, not_before_says, Way, before, at, after, way_of}
@@ -18,6 +17,7 @@ use Rattle.arrange.specs.UnitLists.{IsEndOn}
 use Rattle.arrange.proofs.NodeSound.{covering_turn}
 use Rattle.arrange.proofs.UnitLineLemmas.{whole_order, is_end_of, end_level, along_cover, along_stretch}
 use Rattle.arrange.proofs.UnitEndLemmas.{all_ends, found_is_end, end_is_found}
+use Rattle.arrange.proofs.Utmost.{IsUtmost, utmost_of}
 
 -- ---- whole points in their order
 -- whole points at one place are one
@@ -53,51 +53,6 @@ before_either a b = by (way_of (whole a) (whole b) one_positive one_positive) wh
   by (before e) = inl e
   by (at e) = inr (not_before_self (whole a) (whole b) one_positive one_positive e)
   by (after e) = inr (not_after_less (whole b) (whole a) one_positive one_positive e)
-
--- the utmost of the elements of a list that pass a test, by an order
-record IsUtmost (lt : WholePoint → WholePoint → Type 0) (test : WholePoint → Bool) (list : List WholePoint) (start v : WholePoint) : Type 0 where
-  among : (v ≡ start) ⊎ Contains list v
-  passes : test v ≡ true
-  utmost : (u : WholePoint) → Contains list u → test u ≡ true → lt v u → ⊥
-
-module _ (lt : WholePoint → WholePoint → Type 0) (through : (a b c : WholePoint) → lt a b → lt b c → lt a c) (none : (a : WholePoint) → lt a a → ⊥) (either : (a b : WholePoint) → lt a b ⊎ (lt a b → ⊥)) (test : WholePoint → Bool) (start : WholePoint) (passes : test start ≡ true) where
-  utmost_of : (list : List WholePoint) → (v : WholePoint) × IsUtmost lt test list start v
-  utmost_of [] = (start, record { among = inl refl; passes = passes; utmost = λ u c. absurd (nothing u c) }) where
-    nothing : (u : WholePoint) → Contains [] u → ⊥
-    nothing u c = none_in_empty u c
-  utmost_of (x ∷ xs) = by (utmost_of xs) (test x) refl
-    where
-      keep : (v : WholePoint) → IsUtmost lt test xs start v → (test x ≡ true → lt v x → ⊥) → IsUtmost lt test (x ∷ xs) start v
-      keep v is out = record {
-        among = behind is.among;
-        passes = is.passes;
-        utmost = λ u c. above u (Contains-cons_cases x xs u c);
-      } where
-        behind : (v ≡ start) ⊎ Contains xs v → (v ≡ start) ⊎ Contains (x ∷ xs) v
-        behind (inl e) = inl e
-        behind (inr c) = inr (contains_rest x xs v c)
-
-        above : (u : WholePoint) → (x ≡ u) ⊎ Contains xs u → test u ≡ true → lt v u → ⊥
-        above u (inl e) = subst (λ (w : WholePoint). test w ≡ true → lt v w → ⊥) e out
-        above u (inr c) = is.utmost u c
-
-      take_it : (v : WholePoint) → IsUtmost lt test xs start v → test x ≡ true → lt v x → IsUtmost lt test (x ∷ xs) start x
-      take_it v is pass more = record {
-        among = inr (contains_first x xs);
-        passes = pass;
-        utmost = λ u c. above u (Contains-cons_cases x xs u c);
-      } where
-        above : (u : WholePoint) → (x ≡ u) ⊎ Contains xs u → test u ≡ true → lt x u → ⊥
-        above u (inl e) t l = none x (subst (λ (w : WholePoint). lt x w) (sym e) l)
-        above u (inr c) t l = is.utmost u c t (through v x u more l)
-
-      which : (v : WholePoint) → IsUtmost lt test xs start v → test x ≡ true → lt v x ⊎ (lt v x → ⊥) → (w : WholePoint) × IsUtmost lt test (x ∷ xs) start w
-      which v is pass (inl more) = (x, take_it v is pass more)
-      which v is pass (inr out) = (v, keep v is (λ e. out))
-
-      by : (v : WholePoint) × IsUtmost lt test xs start v → (b : Bool) → test x ≡ b → (w : WholePoint) × IsUtmost lt test (x ∷ xs) start w
-      by (v, is) true e = which v is e (either v x)
-      by (v, is) false e = (v, keep v is (λ t l. both_ways (test x) e t))
 
 -- ---- units on a segment
 -- a unit that the segment covers, whose left end passes a test and whose right end fails it
