@@ -18,3 +18,4 @@ pub mod Carried
 pub mod QueueLemmas
 pub mod MaskLemmas
 pub mod StepLemmas
+pub mod UnitStretchLemmas

@@ -44,7 +44,7 @@ pairs_map R f [] h = λ i j d l m. absurd (omega (arith, m))
 pairs_map R f (x ∷ xs) h = AllPairs-cons R (f x) (map f xs) (All-map (R (f x)) f xs (pairs_head (λ a b. R (f a) (f b)) x xs h)) (pairs_map R f xs (pairs_rest (λ a b. R (f a) (f b)) x xs h))
 
 -- an element of an image is one's image
-from_map : {X Y : Type 0} (f : X → Y) (xs : List X) (y : Y) → Contains (map f xs) y → (x : X) × Contains xs x × (f x ≡ y)
+pub from_map : {X Y : Type 0} (f : X → Y) (xs : List X) (y : Y) → Contains (map f xs) y → (x : X) × Contains xs x × (f x ≡ y)
 from_map f [] y c = absurd (none_in_empty y c)
 from_map {X} {Y} f (x ∷ xs) y c = by (from_map f xs y) (Contains-cons_cases (f x) (map f xs) y c) where
   by : (Contains (map f xs) y → (z : X) × Contains xs z × (f z ≡ y)) → (f x ≡ y) ⊎ Contains (map f xs) y → (z : X) × Contains (x ∷ xs) z × (f z ≡ y)
@@ -58,10 +58,52 @@ under_test a b p (inr (e, h)) =
     or_right (int_lt (pos 0) (gap a b p)) (int_eq (gap a b p) (pos 0) && int_lt (pos 0) (turn_of a b))
     (and_from (int_eq (gap a b p) (pos 0)) (int_lt (pos 0) (turn_of a b)) ((Decides-int_eq (gap a b p) (pos 0)).1 e) (true_lt (pos 0) (turn_of a b) h))
 
-module _ (n : ℤ) (input : Input) (q : Point) (status : List Segment) (steep : IsSteep n) (valid : IsInput input) (is : IsStatusAt n (segments_in input) q status) where
+-- ---- segments that go on after a place, in the leaned plane
+module _ (n : ℤ) (q : Point) (steep : IsSteep n) (small : IsSmall q) where
   hn : pos 0 <ℤ n
   hn = steep_positive n steep
 
+  -- what goes on is over the x of the leaned place, and the other way round
+  pub over_of : (u : Segment) → IsProper u → GoesOn u q → is_over_x (lean_segment n u) (lean n q) ≡ true
+  over_of u proper goes =
+      and_from (int_le ((lean_segment n u).left.x *ℤ q.w) (lean n q).x) (int_lt (lean n q).x ((lean_segment n u).right.x *ℤ q.w))
+      (true_le ((lean_segment n u).left.x *ℤ q.w) (lean n q).x (once_most _ _ (lean_at_most n (whole u.left) q steep (left_small u proper) small goes.begun)))
+      (true_lt (lean n q).x ((lean_segment n u).right.x *ℤ q.w) (once_less _ _ (lean_left n q (whole u.right) hn (near n q (whole u.right) steep small (right_small u proper)) (forward_from_less q (whole u.right) goes.lasting))))
+    where
+      once_most : (a b : ℤ) → a ≤ℤ (b *ℤ pos 1) → a ≤ℤ b
+      once_most a b h = omega (arith, ints, h)
+
+      once_less : (a b : ℤ) → (a *ℤ pos 1) <ℤ b → a <ℤ b
+      once_less a b h = omega (arith, ints, h)
+
+  pub goes_on_of : (t : Segment) → IsProper t → is_over_x (lean_segment n t) (lean n q) ≡ true → GoesOn t q
+  goes_on_of t proper over =
+      let parts = and_parts (int_le ((lean_segment n t).left.x *ℤ q.w) (lean n q).x) (int_lt (lean n q).x ((lean_segment n t).right.x *ℤ q.w)) over in
+      record {
+        begun = λ h. apart_by _ _ (le_true ((lean_segment n t).left.x *ℤ q.w) (lean n q).x parts.0) (lean_left n q (whole t.left) hn (near n q (whole t.left) steep small (left_small t proper)) (forward_from_less q (whole t.left) h));
+        lasting = less_from_forward q (whole t.right)
+            (before_from_lean n q (whole t.right) hn (near n q (whole t.right) steep small (right_small t proper)) (once_less _ _ (lt_true (lean n q).x ((lean_segment n t).right.x *ℤ q.w) parts.1)));
+      }
+    where
+      apart_by : (a b : ℤ) → a ≤ℤ b → (b *ℤ pos 1) <ℤ a → ⊥
+      apart_by a b h k = omega (arith, ints, h, k)
+
+      once_less : (a b : ℤ) → a <ℤ b → (a *ℤ pos 1) <ℤ b
+      once_less a b h = omega (arith, ints, h)
+
+  -- a stretch along a segment is on its line in the leaned plane
+  pub level_of : (t u : Segment) → IsProper t → IsProper u → IsAlong t u → is_level (lean_segment n t) (lean_segment n u) (lean n q) ≡ true
+  level_of t u pt pu along =
+      let t' : Segment = lean_segment n t in
+      let u' : Segment = lean_segment n u in
+      let none : turn_of t' u' ≡ pos 0 = lean_turn n t u ∙ ap (λ z. n *ℤ z) (along_turn t u pt.first pu.first along) ∙ *ℤ-zero n in
+      let at_left : gap t' u' (lean n (whole u.left)) ≡ pos 0 =
+      gap_at t' u' (lean n (whole u.left)) (lean_height n t (whole u.left) ∙ ap (λ z. n *ℤ z) along.left ∙ *ℤ-zero n) (lean_height n u (whole u.left) ∙ ap (λ z. n *ℤ z) (left_on_line u) ∙ *ℤ-zero n) in
+      and_from (int_eq (gap t' u' (lean n q)) (pos 0)) (int_eq (turn_of t' u') (pos 0))
+      ((Decides-int_eq (gap t' u' (lean n q)) (pos 0)).1 (flat_gap t' u' (lean n (whole u.left)) (lean n q) one_positive none at_left))
+      ((Decides-int_eq (turn_of t' u') (pos 0)).1 none)
+
+module _ (n : ℤ) (input : Input) (q : Point) (status : List Segment) (steep : IsSteep n) (valid : IsInput input) (is : IsStatusAt n (segments_in input) q status) where
   abbrev lq : Point
   lq = lean n q
 
@@ -74,49 +116,9 @@ module _ (n : ℤ) (input : Input) (q : Point) (status : List Segment) (steep : 
   orders : Orders (λ s. is_over_x s (lean n q)) (λ s t. is_under s t (lean n q))
   orders = under_orders (lean n q) hq
 
-  -- ---- what goes on is over the x of the leaned place, and the other way round
-  over_of : (u : Segment) → IsProper u → GoesOn u q → is_over_x (lean_segment n u) (lean n q) ≡ true
-  over_of u proper goes =
-      and_from (int_le ((lean_segment n u).left.x *ℤ q.w) (lean n q).x) (int_lt (lean n q).x ((lean_segment n u).right.x *ℤ q.w))
-      (true_le ((lean_segment n u).left.x *ℤ q.w) (lean n q).x (once_most _ _ (lean_at_most n (whole u.left) q steep (left_small u proper) is.small goes.begun)))
-      (true_lt (lean n q).x ((lean_segment n u).right.x *ℤ q.w) (once_less _ _ (lean_left n q (whole u.right) hn (near n q (whole u.right) steep is.small (right_small u proper)) (forward_from_less q (whole u.right) goes.lasting))))
-    where
-      once_most : (a b : ℤ) → a ≤ℤ (b *ℤ pos 1) → a ≤ℤ b
-      once_most a b h = omega (arith, ints, h)
-
-      once_less : (a b : ℤ) → (a *ℤ pos 1) <ℤ b → a <ℤ b
-      once_less a b h = omega (arith, ints, h)
-
-  goes_on_of : (t : Segment) → IsProper t → is_over_x (lean_segment n t) (lean n q) ≡ true → GoesOn t q
-  goes_on_of t proper over =
-      let parts = and_parts (int_le ((lean_segment n t).left.x *ℤ q.w) (lean n q).x) (int_lt (lean n q).x ((lean_segment n t).right.x *ℤ q.w)) over in
-      record {
-        begun = λ h. apart_by _ _ (le_true ((lean_segment n t).left.x *ℤ q.w) (lean n q).x parts.0) (lean_left n q (whole t.left) hn (near n q (whole t.left) steep is.small (left_small t proper)) (forward_from_less q (whole t.left) h));
-        lasting = less_from_forward q (whole t.right)
-            (before_from_lean n q (whole t.right) hn (near n q (whole t.right) steep is.small (right_small t proper)) (once_less _ _ (lt_true (lean n q).x ((lean_segment n t).right.x *ℤ q.w) parts.1)));
-      }
-    where
-      apart_by : (a b : ℤ) → a ≤ℤ b → (b *ℤ pos 1) <ℤ a → ⊥
-      apart_by a b h k = omega (arith, ints, h, k)
-
-      once_less : (a b : ℤ) → a <ℤ b → (a *ℤ pos 1) <ℤ b
-      once_less a b h = omega (arith, ints, h)
-
-  -- a stretch along a segment is on its line in the leaned plane
-  level_of : (t u : Segment) → IsProper t → IsProper u → IsAlong t u → is_level (lean_segment n t) (lean_segment n u) (lean n q) ≡ true
-  level_of t u pt pu along =
-      let t' : Segment = lean_segment n t in
-      let u' : Segment = lean_segment n u in
-      let none : turn_of t' u' ≡ pos 0 = lean_turn n t u ∙ ap (λ z. n *ℤ z) (along_turn t u pt.first pu.first along) ∙ *ℤ-zero n in
-      let at_left : gap t' u' (lean n (whole u.left)) ≡ pos 0 =
-      gap_at t' u' (lean n (whole u.left)) (lean_height n t (whole u.left) ∙ ap (λ z. n *ℤ z) along.left ∙ *ℤ-zero n) (lean_height n u (whole u.left) ∙ ap (λ z. n *ℤ z) (left_on_line u) ∙ *ℤ-zero n) in
-      and_from (int_eq (gap t' u' (lean n q)) (pos 0)) (int_eq (turn_of t' u') (pos 0))
-      ((Decides-int_eq (gap t' u' (lean n q)) (pos 0)).1 (flat_gap t' u' (lean n (whole u.left)) (lean n q) one_positive none at_left))
-      ((Decides-int_eq (turn_of t' u') (pos 0)).1 none)
-
   -- ---- the members
   over_member : (i : ℕ) (d : Segment) → i < length status → is_over_x (lean_segment n (get_or status i d)) (lean n q) ≡ true
-  over_member i d l = over_of (get_or status i d) (is.stretches i d l).proper (is.go_on i d l)
+  over_member i d l = over_of n q steep is.small (get_or status i d) (is.stretches i d l).proper (is.go_on i d l)
 
   under_pair : (i j : ℕ) (d : Segment) → i < j → j < length status → is_under (lean_segment n (get_or status i d)) (lean_segment n (get_or status j d)) (lean n q) ≡ true
   under_pair i j d l m = under_test (lean_segment n (get_or status i d)) (lean_segment n (get_or status j d)) (lean n q) (is.ordered i j d l m)
@@ -160,7 +162,7 @@ module _ (n : ℤ) (input : Input) (q : Point) (status : List Segment) (steep : 
     -- what is under the member lies along one below it
     along_one : (t : Segment) → IsProper t → Contains (segments_in input) t → is_over_x (lean_segment n t) (lean n q) ≡ true → is_under (lean_segment n t) (lean_segment n (get_or status m d)) (lean n q) ≡ true
         → Any (λ a. is_level (lean_segment n t) a (lean n q) ≡ true) (map (lean_segment n) (take m status))
-    along_one t pt among over under = by (is.covered t among (goes_on_of t pt over))
+    along_one t pt among over under = by (is.covered t among (goes_on_of n q steep is.small t pt over))
       where
         by : Any (IsAlong t) status → Any (λ a. is_level (lean_segment n t) a (lean n q) ≡ true) (map (lean_segment n) (take m status))
         by (j, u, l, e, along) = by_order (order_of j m)
@@ -172,7 +174,7 @@ module _ (n : ℤ) (input : Input) (q : Point) (status : List Segment) (steep : 
             over_u = ap (λ z. is_over_x (lean_segment n z) (lean n q)) (sym e) ∙ over_member j u l
 
             level : is_level (lean_segment n t) (lean_segment n u) (lean n q) ≡ true
-            level = level_of t u pt proper_u along
+            level = level_of n q steep is.small t u pt proper_u along
 
             over_e : is_over_x (lean_segment n (get_or status m d)) (lean n q) ≡ true
             over_e = over_member m d inside

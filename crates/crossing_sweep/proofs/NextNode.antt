@@ -86,26 +86,26 @@ module _ (segments : List Segment) (proper : All IsProper segments) where
       by (inr e) = from_border e
 
   -- ---- a finite list with the place of each node
-  abbrev places : List Point
+  abbrev pub places : List Point
   places = flat_map (candidates segments) segments
 
-  node_place : (p : Point) → pos 0 <ℤ p.w → IsTrue (is_node segments p) → IsAmong places p
+  pub node_place : (p : Point) → pos 0 <ℤ p.w → IsTrue (is_node segments p) → IsAmong places p
   node_place p hp node =
       let there : LiesOn segments p = lies_on p hp node in
       let c : IsAmong (candidates segments there.segment) p = node_among segments there.segment (All-contains IsProper segments there.segment proper there.among).first p there.on node in
       record { point = c.point; among = in_flat_map (candidates segments) segments there.segment c.point there.among c.among; positive = c.positive; at = c.at }
 
   -- their denominators are small
-  abbrev IsFew : Point → Type 0
-  IsFew c = c.w ≤ℤ pos (2 ^ 87)
+  abbrev pub IsFew : Point → Type 0
+  IsFew c = c.w ≤ℤ pos (2 ^ 43)
 
-  few_by : (z : ℤ) → IsWithin (2 ^ 43) z → z ≤ℤ pos (2 ^ 87)
+  few_by : (z : ℤ) → IsWithin (2 ^ 43) z → z ≤ℤ pos (2 ^ 43)
   few_by z h = omega (arith, ints, h.high)
 
-  few_width : (z : ℤ) → IsWithin (2 ^ 21) z → z ≤ℤ pos (2 ^ 87)
+  few_width : (z : ℤ) → IsWithin (2 ^ 21) z → z ≤ℤ pos (2 ^ 43)
   few_width z h = omega (arith, ints, h.high)
 
-  few_one : pos 1 ≤ℤ pos (2 ^ 87)
+  few_one : pos 1 ≤ℤ pos (2 ^ 43)
   few_one = omega (arith, ints)
 
   few_crossing : (s t : Segment) → IsProper s → IsProper t → IsFew (crossing_place s t)
@@ -123,7 +123,7 @@ module _ (segments : List Segment) (proper : All IsProper segments) where
       All-cons IsFew (whole t.left) (whole t.right ∷ crossing_place s t ∷ []) few_one
       (All-cons IsFew (whole t.right) (crossing_place s t ∷ []) few_one (All-cons IsFew (crossing_place s t) [] (few_crossing s t ps pt) (All-nil IsFew)))
 
-  few_places : All IsFew places
+  pub few_places : All IsFew places
   few_places =
       all_flat_map (candidates segments) segments
       (λ i d l. let s = get_or segments i d in
@@ -138,16 +138,16 @@ module _ (segments : List Segment) (proper : All IsProper segments) where
   less_of Greater h = absurd (false≢true h)
 
   module _ (q : Point) (hq : pos 0 <ℤ q.w) where
-    abbrev is_after : Point → Bool
+    abbrev pub is_after : Point → Bool
     is_after c = int_lt (pos 0) c.w && is_lt (point_cmp q c)
 
     abbrev is_good : Point → Bool
     is_good c = is_after c && is_node segments c
 
-    after_positive : (c : Point) → is_after c ≡ true → pos 0 <ℤ c.w
+    pub after_positive : (c : Point) → is_after c ≡ true → pos 0 <ℤ c.w
     after_positive c h = lt_true (pos 0) c.w (and_parts (int_lt (pos 0) c.w) (is_lt (point_cmp q c)) h).0
 
-    after_less : (c : Point) → is_after c ≡ true → point_cmp q c ≡ Less
+    pub after_less : (c : Point) → is_after c ≡ true → point_cmp q c ≡ Less
     after_less c h = less_of (point_cmp q c) (and_parts (int_lt (pos 0) c.w) (is_lt (point_cmp q c)) h).1
 
     pub after_test : (c : Point) → pos 0 <ℤ c.w → point_cmp q c ≡ Less → is_after c ≡ true
@@ -187,8 +187,11 @@ module _ (segments : List Segment) (proper : All IsProper segments) where
       small =
           let there : LiesOn segments first.0 = lies_on first.0 hr r_parts.1 in
           let y : HasYFrom (neg_ℤ (pos coordinate_max)) (pos coordinate_max) first.0 = y_on_proper there.segment first.0 (All-contains IsProper segments there.segment proper there.among) hr there.on in
-          record { positive = hr; few = All-contains IsFew places first.0 few_places first.1.among; low = low_of first.0.w first.0.y hr y.low; high = high_of first.0.w first.0.y hr y.high }
+          record { positive = hr; few = most_few first.0.w (All-contains IsFew places first.0 few_places first.1.among); low = low_of first.0.w first.0.y hr y.low; high = high_of first.0.w first.0.y hr y.high }
         where
+          most_few : (w : ℤ) → w ≤ℤ pos (2 ^ 43) → w ≤ℤ pos (2 ^ 87)
+          most_few w h = omega (arith, ints, h)
+
           low_of : (w y : ℤ) → pos 0 <ℤ w → (neg_ℤ (pos coordinate_max) *ℤ w) ≤ℤ y → neg_ℤ (pos 2097152 *ℤ w) ≤ℤ y
           low_of w y k h = omega (arith, ints, h, k)
 

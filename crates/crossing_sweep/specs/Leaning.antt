@@ -4,7 +4,7 @@ use Rattle.std.specs.declared.cmp.Ordering.TheVariants.{Less}
 use Rattle.overlay_terms.specs.Plane.{WholePoint, Point, Segment, point_cmp, height_over}
 use Rattle.overlay_terms.specs.TileLaws.{IsProper}
 use Rattle.exact_point.specs.Crossing.{turn_of}
-use Rattle.exact_point.proofs.Lines.{gap, width}
+use Rattle.exact_point.specs.Lines.{gap, width}
 use Rattle.exact_point.proofs.ByX.{Left}
 
 -- a place, leaned

@@ -5,3 +5,4 @@ pub mod Sides
 pub mod Queue
 pub mod Masks
 pub mod Step
+pub mod UnitStretches

@@ -3,7 +3,7 @@ use Rattle.std.specs.Prelude.{◌≡◌, ℕ, ℤ, ◌+◌, ◌<◌, false, List
 use Rattle.overlay_terms.specs.Plane.{Point, Segment}
 use Rattle.overlay_terms.specs.Tiles.{Input}
 use Rattle.overlay_terms.specs.TileLaws.{IsInput}
-use Rattle.tile_laws.proofs.JustRight.{under_bits, up_to_bits}
+use Rattle.tile_laws.specs.JustRight.{under_bits, up_to_bits}
 use Rattle.crossing_sweep.specs.Leaning.{lean, lean_segment, IsSteep}
 use Rattle.crossing_sweep.specs.Sides.{lean_marked}
 use Rattle.crossing_sweep.specs.Queue.{IsStatusAt}

@@ -6,7 +6,7 @@ use Rattle.overlay_terms.specs.Column.{is_in_column}
 use Rattle.overlay_terms.specs.Layers.{Marked}
 use Rattle.overlay_terms.specs.Tiles.{Input, IsPiece, midpoint, below_bits, over_bits}
 use Rattle.overlay_terms.specs.TileLaws.{IsInput}
-use Rattle.tile_laws.proofs.JustRight.{under_bits, up_to_bits}
+use Rattle.tile_laws.specs.JustRight.{under_bits, up_to_bits}
 use Rattle.crossing_sweep.specs.Leaning.{lean, lean_segment, IsSteep, IsSmall}
 
 -- marked segments, leaned

@@ -7,3 +7,4 @@ pub mod queue;
 pub mod sides;
 pub mod status;
 pub mod step;
+pub mod units;
