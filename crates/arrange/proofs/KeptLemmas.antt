@@ -1,11 +1,10 @@
 -- The segments with a point in a column, one more at a time.
-use Rattle.std.specs.Prelude.{◌≡◌, ℕ, ◌+◌, ◌<◌, pos, ◌+ℤ◌, true, false, List, [], ◌∷◌, ◌++◌, map, take, get_or, length, All}
-use Rattle.std.proofs.Common.{ap, sym, ◌∙◌, cond, arith, append_assoc, append-nil, subst}
-use Rattle.std.proofs.lemmas.Int.{ints}
+use Rattle.std.specs.Prelude.{◌≡◌, ℕ, ◌+◌, ◌<◌, true, false, List, [], ◌∷◌, ◌++◌, map, take, get_or, length, All}
+use Rattle.std.proofs.Common.{ap, sym, ◌∙◌, cond, append_assoc, append-nil, subst}
 use Rattle.std.proofs.lemmas.List.{map_more, map-append}
 use Rattle.std.proofs.lemmas.List.Elements.{filter-append, All-more}
 use Rattle.overlay_terms.specs.Plane.{Segment}
-use Rattle.overlay_terms.specs.Column.{border, touches}
+use Rattle.overlay_terms.specs.Column.{touches}
 use Rattle.overlay_terms.specs.Layers.{Marked}
 use Rattle.overlay_terms.specs.TileLaws.{IsProper}
 use Rattle.arrange.specs.declared.marked_seg.MarkedSeg.{MarkedSeg}

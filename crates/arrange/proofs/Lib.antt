@@ -2,6 +2,7 @@ pub mod FoundLemmas
 pub mod NodeLemmas
 pub mod SortedPlaces
 pub mod NodeSound
+pub mod NodeTests
 pub mod PieceLemmas
 pub mod MaskLemmas
 pub mod NeighbourLemmas

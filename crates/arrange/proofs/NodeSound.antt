@@ -1,18 +1,20 @@
 -- The places that the names along a known segment stand for are nodes.
-use Rattle.std.proofs.Common.{◌≡◌, ℕ, ℤ, pos, ◌+◌, ◌<◌, ◌-ℤ◌, ◌*ℤ◌, ◌<ℤ◌, true, false, ◌&&◌, ◌||◌, ◌⊎◌, inl, inr, List, [], ◌∷◌, map, get_or, suc, ap, sym, ◌∙◌, subst, arith}
-use Rattle.std.specs.Prelude.{IsTrue, All, Any, Contains, flat_map}
+use Rattle.std.proofs.Common.{◌≡◌, ℕ, ℤ, pos, ◌+◌, ◌-ℤ◌, ◌*ℤ◌, ◌<ℤ◌, true, false, ◌&&◌, ◌||◌, ◌⊎◌, inl, inr, List, [], ◌∷◌, map, get_or, suc, ap, sym, ◌∙◌, subst, arith}
+use Rattle.std.specs.Prelude.{IsTrue, Bool, filter, All, Any, Contains, flat_map}
 use Rattle.std.specs.List.{AllPairs}
 use Rattle.std.proofs.lemmas.Int.{ints}
 use Rattle.std.proofs.lemmas.Bool.{or_cases, or_left, or_right, and_parts, false_from_ne_true, both_ways}
-use Rattle.std.proofs.lemmas.List.Elements.{Contains-append_cases, All-contains, All-map, All-weaker}
-use Rattle.std.proofs.lemmas.List.Kept.{AllPairs-cons}
+use Rattle.std.proofs.lemmas.List.Elements.{Contains-append_cases, All-contains, All-filter, All-map, All-weaker, filter_passes}
+use Rattle.std.proofs.lemmas.List.Kept.{AllPairs-cons, AllPairs-filter}
 use Rattle.overlay_terms.specs.TileLaws.{IsInput, IsProper}
 use Rattle.overlay_terms.proofs.Lists.{any_from, any_contains, Contains-cons_cases, from_flat_map, contains_map}
+use Rattle.overlay_terms.proofs.InputLists.{Contains-filter}
 use Rattle.overlay_terms.proofs.PointOrder.{same_points}
 use Rattle.overlay_terms.proofs.InputNodes.{border_node}
 use Rattle.exact_point.specs.PlaceOf.{place_of}
 use Rattle.exact_point.proofs.OnLine.{parallel_through, parallel_line, between_on, after_left, before_right, on_line, left_on_line, turn_from_parallel, parallel_from_turn, no_turn_back}
 use Rattle.exact_point.proofs.PlaceOrder.{one_positive, same_turned, same_through, level_from, same_self}
+use Rattle.tile_laws.proofs.SameNodes.{node_alike}
 use Rattle.exact_point.proofs.Nodes.{wide_too, node_at_end, end_among, crossing_is_node}
 use Rattle.arrange.proofs.SortedPlaces.{spot_positive}
 use Rattle.std.proofs.lemmas.List.Folds.{Any-from_list_any, list_any-from_Any}
@@ -155,21 +157,6 @@ covering_holds t s ahead on_left on_right p hp on_s =
     let level = parallel_line s t (whole s.left) p ahead turn one_positive (left_on_line s) (on_line t (whole s.left) on_left) (on_line s p on_s) in
     between_on t (whole s.left) p (whole s.right) one_positive hp one_positive on_left on_right level (after_left s p on_s) (before_right s p hp on_s)
 
-pub known_unit : (input : Input) (s : Segment) → IsInput input → IsUnit input.marked s → IsKnown input s
-known_unit input s valid unit =
-    let which = Any-from_list_any (λ m. covers m.segment s) input.marked unit.covered in
-    let there : Contains input.marked which.1 = any_contains (λ m. covers m.segment s ≡ true) input.marked which in
-    let tests = and_parts (is_on which.1.segment (whole s.left)) (is_on which.1.segment (whole s.right)) which.4 in
-    record {
-      holder = which.1.segment;
-      among = contains_map (λ (m : Marked). m.segment) input.marked which.1 there;
-      same_way = parallel_from_turn which.1.segment s (covering_turn which.1.segment s tests.0 tests.1);
-      ahead = (All-contains (λ m. IsProper m.segment) input.marked which.1 valid.proper there).first;
-      holds = covering_holds which.1.segment s unit.forward tests.0 tests.1;
-      left_end = end_from_along input.marked s s.left unit.from_end;
-      right_end = end_from_along input.marked s s.right unit.to_end;
-    }
-
 -- ---- all of them
 rest_pairs : {X : Type 0} (R : X → X → Type 0) (x : X) (xs : List X) → AllPairs R (x ∷ xs) → AllPairs R xs
 rest_pairs R x xs h = λ i j d l m. h (suc i) (suc j) d (omega arith) (omega (arith, m))
@@ -190,30 +177,45 @@ pairs_told k s names xs sound up = λ i j d l m.
     ap (λ p. point_cmp p (place_of (get_or xs j d).name)) (sym (sound i d (omega (arith, l, m))).told)
     ∙ ap (λ p. point_cmp (spot (get_or xs i d)) p) (sym (sound j d m).told) ∙ up i j d l m
 
-pub nodes_from_along : (input : Input) (s : Segment) (list : List NamedPlace) → IsKnown input s → AreAlong input s list → AreNodesOn input s (map (λ (z : NamedPlace). z.name) list)
-nodes_from_along input s list known along =
-    let names = names_along input s in
-    let name : NamedPlace → PointName = λ z. z.name in
+pub nodes_from_along : (input : Input) (s : Segment) (list : List NamedPlace) → AreAlong input s list → AreNodesOn input s (map (λ (z : NamedPlace). z.name) (filter (λ (z : NamedPlace). is_node (segments_in input) (spot z)) list))
+nodes_from_along input s list along =
     record {
-      named = All-map HasPlace name list (All-weaker (IsFound input.column s names) (λ z. HasPlace z.name) (λ z f. f.named) list along.sound);
-      sound = All-map (λ n. IsNodeOn input s (place_of n)) name list (All-weaker (IsFound input.column s names) (λ z. IsNodeOn input s (place_of z.name)) node list along.sound);
-      ordered = pairs_mapped name (λ a b. point_cmp (place_of a) (place_of b) ≡ Less) list (pairs_told input.column s names list along.sound along.ordered);
-      complete = λ p n. told p (along.complete p n);
+      named = All-map HasPlace name kept (All-weaker Found (λ z. HasPlace z.name) (λ z f. f.named) kept found);
+      sound = All-map (λ n. IsNodeOn input s (place_of n)) name kept (λ i d l. node (get_or kept i d) (found i d l) (passing i d l));
+      ordered = pairs_mapped name (λ a b. point_cmp (place_of a) (place_of b) ≡ Less) kept (pairs_told input.column s names kept found (AllPairs-filter (λ a b. point_cmp (spot a) (spot b) ≡ Less) is_one list along.ordered));
+      complete = λ p n. told p n (along.complete p n);
     }
   where
-    node : (z : NamedPlace) → IsFound input.column s (names_along input s) z → IsNodeOn input s (place_of z.name)
-    node z f =
-        let Q : Point → Type 0 = λ p. IsNodeOn input s p in
-        subst Q f.told (record {
-          positive = spot_positive z;
-          on_segment = f.on_segment;
-          in_column = f.in_column;
-          node = named_is_node input s known (spot z) (spot_positive z) f.on_segment z.name f.offered f.stands;
-        })
+    names : List PointName
+    names = names_along input s
 
-    told : (p : Point) → Any (λ z. IsTrue (same_place p (spot z))) list → Any (λ n. IsTrue (same_place p (place_of n))) (map (λ (z : NamedPlace). z.name) list)
-    told p a =
+    name : NamedPlace → PointName
+    name z = z.name
+
+    is_one : NamedPlace → Bool
+    is_one z = is_node (segments_in input) (spot z)
+
+    kept : List NamedPlace
+    kept = filter is_one list
+
+    Found : NamedPlace → Type 0
+    Found = IsFound input.column s names
+
+    found : All Found kept
+    found = All-filter is_one Found list along.sound
+
+    passing : All (λ z. is_one z ≡ true) kept
+    passing = filter_passes is_one list
+
+    node : (z : NamedPlace) → Found z → is_one z ≡ true → IsNodeOn input s (place_of z.name)
+    node z f one =
+        let Q : Point → Type 0 = λ p. IsNodeOn input s p in
+        subst Q f.told (record { positive = spot_positive z; on_segment = f.on_segment; in_column = f.in_column; node = one })
+
+    told : (p : Point) → IsNodeOn input s p → Any (λ z. IsTrue (same_place p (spot z))) list → Any (λ n. IsTrue (same_place p (place_of n))) (map name kept)
+    told p n a =
         let there = any_contains (λ z. IsTrue (same_place p (spot z))) list a in
-        let f = All-contains (IsFound input.column s (names_along input s)) list a.1 along.sound there in
+        let f = All-contains Found list a.1 along.sound there in
+        let one : is_one a.1 ≡ true = sym (node_alike p (spot a.1) n.positive (spot_positive a.1) a.4 (segments_in input)) ∙ n.node in
         let Q : Point → Type 0 = λ q. IsTrue (same_place p q) in
-        any_from (λ n. IsTrue (same_place p (place_of n))) (map (λ (z : NamedPlace). z.name) list) a.1.name (contains_map (λ (z : NamedPlace). z.name) list a.1 there) (subst Q f.told a.4)
+        any_from (λ n. IsTrue (same_place p (place_of n))) (map name kept) a.1.name (contains_map name kept a.1 (Contains-filter is_one list a.1 there one)) (subst Q f.told a.4)

@@ -1,5 +1,5 @@
 -- Units: the stretches between the ends of collinear segments.
-use Rattle.std.specs.Prelude.{◌≡◌, ℕ, pos, ◌<◌, ◌%◌, ◌==◌, ◌&&◌, ◌||◌, Bool, IsTrue, List, map, count_by, All, Any, Contains}
+use Rattle.std.specs.Prelude.{◌≡◌, ℕ, pos, ◌<◌, ◌%◌, ◌==◌, ◌&&◌, ◌||◌, Bool, IsTrue, List, map, count_by, All, Contains}
 use Rattle.std.specs.List.{AllPairs, list_any}
 use Rattle.std.specs.Ordering.{int_eq}
 use Rattle.std.specs.declared.cmp.Ordering.TheVariants.{Less}

@@ -1,38 +1,47 @@
-//! The nodes on a unit.
-ghost use Rattle.std.specs.Prelude.{◌≡◌, ◌+◌, ◌++◌, ◌*ℤ◌, [], ◌∷◌, int_le, List, map, IfOk, OnOk};
+//! The nodes on a segment.
+ghost use Rattle.std.specs.Prelude.{◌≡◌, ◌+◌, ◌++◌, ◌*ℤ◌, [], ◌∷◌, int_le, List, filter, map, IfOk, OnOk};
 ghost use Rattle.overlay_terms.specs.Column.{border};
 ghost use Rattle.overlay_terms.specs.Plane.{whole_cmp};
 ghost use Rattle.exact_point.specs.Place.{place};
 ghost use Rattle.exact_point.specs.declared.point_name.PointName.{PointName};
 ghost use Rattle.overlay_terms.specs.TileLaws.{IsInput};
-ghost use Rattle.arrange.specs.Units.{IsUnit};
 ghost use Rattle.arrange.specs.Arrangement.{AreNodesOn, is_in_closed_column};
-ghost use Rattle.arrange.specs.NamedPlaces.{AreFound, AreAlong, own_names, names_with};
+ghost use Rattle.arrange.specs.NamedPlaces.{AreFound, AreAlong, own_names, names_with, spot};
+ghost use Rattle.overlay_terms.specs.Tiles.{is_node};
 
+use crate::marked_seg::MarkedSeg;
 use crate::named_place::{NamedPlace, Places};
+use crate::node_test::is_node;
 use crate::tile_input::TileInput;
-use crate::unit::Unit;
 use exact_point::{HPoint, PointName, border_side, on};
 use plane_base::{Column, Seg};
 use std::alloc::{AllocError, Global};
 use std::cmp::Ordering;
 
-/// The nodes on a unit of the input from the column's left border to its right border, from left to
-/// right.
-pub fn nodes_on(alloc: Global, unit: &Unit, input: &TileInput) -> Result<Vec<PointName>, AllocError>
-    requires known { IsUnit input.now.marked unit.now.seg }
-    ensures { IfOk result (λ names. AreNodesOn input.now unit.now.seg names.items) }
+/// The nodes of the input on a segment, whether it is one of the input or not, from the column's left
+/// border to its right border, from left to right. The time is that of a few comparisons for each two
+/// segments of the input and place on the segment.
+pub fn nodes_on(alloc: Global, seg: &Seg, input: &TileInput) -> Result<Vec<PointName>, AllocError>
+    ensures { IfOk result (λ names. AreNodesOn input.now seg.now names.items) }
 {
-    let places = places_along(alloc, &unit.seg, input)?;
-    let names = names_of(alloc, &places)?;
+    let places = places_along(alloc, seg, input)?;
+    let names = names_of_nodes(alloc, input.marked(), &places)?;
     Ok(names)
 }
 
-/// The names of some places.
-fn names_of(alloc: Global, places: &[NamedPlace]) -> Result<Vec<PointName>, AllocError>
-    ensures { IfOk result (λ names. names.items ≡ map (λ z. z.name) places.now) }
+/// The names of those places that are nodes.
+fn names_of_nodes(
+    alloc: Global,
+    marked: &[MarkedSeg],
+    places: &[NamedPlace],
+) -> Result<Vec<PointName>, AllocError>
+    ensures { IfOk result (λ names. names.items ≡ map (λ z. z.name) (filter (λ z. is_node (map (λ m. m.seg) marked.now) (spot z)) places.now)) }
 {
-    places.iter().map(|z| z.name).collect(alloc)
+    places
+        .iter()
+        .filter(|z| is_node(marked, &z.at))
+        .map(|z| z.name)
+        .collect(alloc)
 }
 
 /// The places on a segment within the closed column that may be nodes, from left to right, each

@@ -9,6 +9,7 @@ mod line_seg;
 pub mod marked_seg;
 mod masking;
 mod named_place;
+mod node_test;
 pub mod piece;
 pub mod tile_input;
 pub mod unit;

@@ -73,7 +73,7 @@ fn the_nodes_of_two_crossing_squares_are_counted_by_unit(rt: HostRuntime) -> Res
     let input = input_of(rt.alloc(), SQUARE, SHIFTED, "A & B", 8)?;
     let mut counts = [0usize; 4];
     for unit in &units(rt.alloc(), &input)? {
-        let count = nodes_on(rt.alloc(), unit, &input)?.len();
+        let count = nodes_on(rt.alloc(), &unit.seg, &input)?.len();
         if count < 4 {
             counts[count] = counts[count].saturating_add(1);
         }
