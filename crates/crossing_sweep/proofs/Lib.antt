@@ -19,3 +19,6 @@ pub mod QueueLemmas
 pub mod MaskLemmas
 pub mod StepLemmas
 pub mod UnitStretchLemmas
+pub mod KeptLemmas
+pub mod ClosedLemmas
+pub mod BorderLemmas

@@ -176,9 +176,11 @@ module _ (n : ℤ) (segments : List Segment) (q r : Point) (status : List Segmen
 pub next_is_queued : NextIsQueued
 next_is_queued n segments column q r status keys steep proper is queue next up_to = queued n segments q r status steep proper is next column keys queue up_to
 
-pub first_is_next : FirstIsNext
-first_is_next n segments column q r status keys steep proper is queue first =
-    let found = each_has_next segments q r proper is.small.positive first.small.positive first.node first.after in
+-- where each next node is among the places, the first of them is the next one
+pub first_from : (segments : List Segment) (column : ℕ) (q r : Point) (keys : List Point) → All IsProper segments → IsSmall q → ((z : Point) → IsNextNode segments q z → IsUpTo column z → IsQueued keys z)
+    → IsFirstOf segments column q r keys → IsNextNode segments q r
+first_from segments column q r keys proper small is_known first =
+    let found = each_has_next segments q r proper small.positive first.small.positive first.node first.after in
     by found.0 found.1 found.2
   where
     by : (z : Point) → IsNextNode segments q z → (point_cmp r z ≡ Less → ⊥) → IsNextNode segments q r
@@ -200,7 +202,7 @@ first_is_next n segments column q r status keys steep proper is queue first =
 
         -- it is among the places, so it is not before r
         not_before : point_cmp z r ≡ Less → ⊥
-        not_before less = by_key (queued n segments q z status steep proper is next column keys queue (z_up_to (before less))) where
+        not_before less = by_key (is_known z next (z_up_to (before less))) where
           by_key : IsQueued keys z → ⊥
           by_key (i, k, l, e, there) =
               let P : Point → Type 0 = λ x. pos 0 <ℤ x.w in
@@ -215,3 +217,7 @@ first_is_next n segments column q r status keys steep proper is queue first =
             to_z (before e) = e
             to_z (at e) = absurd (not_before (sym (alike_left p z r hp next.small.positive first.small.positive e) ∙ before_r))
             to_z (after e) = absurd (not_before (less_through z p r next.small.positive hp first.small.positive e before_r))
+
+pub first_is_next : FirstIsNext
+first_is_next n segments column q r status keys steep proper is queue first =
+    first_from segments column q r keys proper is.small (λ z next up_to. queued n segments q z status steep proper is next column keys queue up_to) first

@@ -6,3 +6,6 @@ pub mod Queue
 pub mod Masks
 pub mod Step
 pub mod UnitStretches
+pub mod Kept
+pub mod Closed
+pub mod Border

@@ -1,6 +1,7 @@
 //! Laws of the places that a sweep has found ahead: each function does nothing, and its contract is the
 //! law.
 
+ghost use Rattle.crossing_sweep.specs.Border.{FirstIsNextAtBorder, NextIsQueuedAtBorder};
 ghost use Rattle.crossing_sweep.specs.Queue.{FirstIsNext, NextIsQueued};
 
 /// Where all ends and border places ahead are known, and where neighbours of the status cross, the next
@@ -12,4 +13,14 @@ pub fn next_is_queued()
 /// So the first of the known places is the next node.
 pub fn first_is_next()
     ensures { FirstIsNext }
+{}
+
+/// At the left border of a column the next node is known from the stretches that have entered alone.
+pub fn next_is_queued_at_border()
+    ensures { NextIsQueuedAtBorder }
+{}
+
+/// So there, too, the first of the known places is the next node.
+pub fn first_is_next_at_border()
+    ensures { FirstIsNextAtBorder }
 {}
