@@ -22,3 +22,4 @@ pub mod UnitStretchLemmas
 pub mod KeptLemmas
 pub mod ClosedLemmas
 pub mod BorderLemmas
+pub mod LastNodeLemmas

@@ -9,3 +9,4 @@ pub mod UnitStretches
 pub mod Kept
 pub mod Closed
 pub mod Border
+pub mod LastNode
