@@ -16,3 +16,5 @@ mod NearLemmas
 pub mod Drafts
 pub mod Placed
 pub mod Completed
+pub mod Walked
+pub mod Imaged

@@ -12,3 +12,5 @@ pub mod Loading
 pub mod Contents
 pub mod Taking
 pub mod Drafting
+pub mod Walking
+pub mod Beginning

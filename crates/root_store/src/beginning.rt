@@ -1,15 +1,25 @@
 //! Beginning a commit.
-ghost use Rattle.std.specs.Prelude.{◌≡◌, ◌+◌, ◌<◌, true, length};
+ghost use Rattle.std.specs.Prelude.{◌≡◌, ◌⊎◌, ◌+◌, ◌<◌, ◌≤◌, true, false, length, IfOk, IfErr, OnOk, OnErr};
+ghost use Rattle.extent_map.specs.Taken.{taken_of};
 ghost use Rattle.store_terms.specs.Image.{Held};
 ghost use Rattle.store_terms.specs.Roots.{sequence_max};
 ghost use Rattle.root_store.specs.Kept.{Kept};
-ghost use Rattle.root_store.specs.Running.{Stands, Runs, calls_left, is_busy};
+ghost use Rattle.root_store.specs.Running.{Stands, Runs, IsMapOf, calls_left, is_busy};
 ghost use Rattle.root_store.specs.Drafting.{IsNext};
+ghost use Rattle.root_store.specs.Beginning.{IsReason};
 
 use crate::commit::Commit;
+use crate::completing::completed;
+use crate::draft::Draft;
+use crate::fault::StoreFault;
+use crate::filing::file_layers;
 use crate::next::Next;
 use crate::phase::Phase;
+use crate::room::Room;
 use disk_model::disk::Disk;
+use record_form::image::Image;
+use std::alloc::Global;
+use store_terms::root::Root;
 
 impl<D: Disk> Commit<D> {
     /// Begins the commit that leads to what comes next. It makes no device call.
@@ -26,4 +36,43 @@ impl<D: Disk> Commit<D> {
         self.next = 0;
         self.phase = Phase::Close;
     }
+
+    /// Begins the commit of an image. It makes no device call, and a refusal changes nothing.
+    pub fn begin(&mut self, alloc: Global, image: Image) -> Result<(), StoreFault>
+        requires { is_busy self.old.phase ≡ false }
+        // From the content that the store stands for to that of the image.
+        ensures begun { (x : Kept) → Stands D.Disk self.old x → OnOk result ((y : Kept) × (y.held ≡ image) × Runs D.Disk self.new x y) }
+        ensures busy { OnOk result (is_busy self.new.phase ≡ true) }
+        // One for each record and the catalog, and six more.
+        ensures calls { OnOk result (calls_left self.new ≡ length image.layers + length image.tiles + 7) }
+        ensures disk { self.new.disk ≡ self.old.disk }
+        ensures err { OnErr result (self.new ≡ self.old) }
+        ensures failed { self.old.phase ≡ Phase.Failed → result ≡ Err StoreFault.Failed }
+        ensures limit { self.old.phase ≡ Phase.Idle → sequence_max ≤ self.old.root.sequence → result ≡ Err StoreFault.SequenceLimit }
+        ensures errors { IfErr result (λ fault. IsReason self.old.phase self.old.root fault) }
+    {
+        if matches!(self.phase, Phase::Failed) {
+            return Err(StoreFault::Failed);
+        }
+        if self.root.sequence >= 1 << 62 {
+            return Err(StoreFault::SequenceLimit);
+        }
+        let next = drafted(alloc, &image, &self.room, self.root)?;
+        self.start(next);
+        Ok(())
+    }
+}
+
+/// What the commit of an image goes on to from a root and the blocks that it takes.
+fn drafted(alloc: Global, image: &Image, room: &Room, root: Root) -> Result<Next, StoreFault>
+    requires { root.sequence < sequence_max }
+    ensures ok { (x : Kept) → x.root ≡ root → IsMapOf x.extents (taken_of room.now.map) → IfOk result (λ next. IsNext x image.now next) }
+    ensures calls { IfOk result (λ next. length next.plan.items ≡ length image.now.layers + length image.now.tiles + 2) }
+    ensures err { IfErr result (λ fault. (fault ≡ StoreFault.Full) ⊎ (fault ≡ StoreFault.OutOfMemory)) }
+{
+    let number = image.number();
+    image.layers().len();
+    let mut draft = Draft::new(alloc, room.try_copy(alloc)?);
+    let listing = file_layers(alloc, &mut draft, image.layers(), image.tiles())?;
+    completed(alloc, draft, &listing, root, number)
 }

@@ -8,6 +8,7 @@ pub mod creating;
 mod draft;
 pub mod fault;
 mod fetching;
+mod filing;
 mod finding;
 mod healing;
 mod keeping;

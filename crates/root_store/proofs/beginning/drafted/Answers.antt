@@ -1,0 +1,68 @@
+use Rattle.std.proofs.Common.{◌≡◌, ◌+◌, [], List, length, map, sym, ◌∙◌, subst, arith}
+use Rattle.std.specs.List.{flat_map}
+use Rattle.overlay_terms.specs.Layers.{Layer}
+use Rattle.overlay_terms.specs.Histories.{Finished}
+use Rattle.extent_map.specs.declared.extent.Extent as runs
+use Rattle.extent_map.specs.Taken.{taken_of}
+use Rattle.layer_book.specs.Layer.{IsBook}
+use Rattle.record_form.specs.Image.{finished}
+use Rattle.record_form.specs.Listing.{listing_of}
+use Rattle.record_form.specs.declared.catalog.Listed as code
+use Rattle.root_store.specs.declared.next.Next.{Next}
+use Rattle.root_store.specs.Filing.{filed_of}
+use Rattle.root_store.specs.Running.{IsMapOf}
+use Rattle.root_store.specs.Drafting.{Spell}
+use Rattle.root_store.specs.Walking.{AreLeft, AreLayersFiled}
+use Rattle.root_store.proofs.Walked.{writes_count, records_count}
+use Rattle.root_store.proofs.Imaged.{all_left, spell_of, if_ok}
+use Rattle.root_store.proofs.beginning.drafted.Goals as goal
+
+pub file_layers-requires : goal.file_layers-requires
+file_layers-requires c =
+    let image = c.args.image.now in
+    let all = all_left image.layers image.tiles c.number-number.ensures.valid.stored in
+    subst (λ (l : List Layer). AreLeft l 0 0 (map finished c.tiles.result.now)) (sym c.layers-2.ensures) (subst (λ (t : List Finished). AreLeft image.layers 0 0 t) (sym c.tiles.ensures) all)
+
+pub returns-clause-ok : goal.returns-clause-ok
+returns-clause-ok c x root room =
+    let image = c.args.image.now in
+    let copy = c.in_ok-try_copy.field-0 in
+    let d = c.file_layers.new.draft in
+    let given = taken_of copy.map in
+    let ls = listing_of c.in_ok-listing.listing.items in
+    let as_read = c.in_ok-listing.ensures.ok given copy.max_blocks c.new-draft.ensures in
+    let in_layers = subst (λ (l : List Layer). AreLayersFiled given copy.max_blocks l (map finished c.tiles.result.now) [] ls d) c.layers-2.ensures as_read in
+    let filed = subst (λ (t : List Finished). AreLayersFiled given copy.max_blocks image.layers t [] ls d) c.tiles.ensures in_layers in
+    let book : IsBook image.layers = subst IsBook c.layers.ensures c.len.ensures.valid in
+    let spell = spell_of image given copy.max_blocks ls d c.number-number.ensures.valid book filed in
+    let listed : Spell filed.filed (listing_of c.deref.result.now) image = subst (λ (l : List code.Listed). Spell filed.filed (listing_of l) image) (sym c.deref.ensures.value) spell in
+    let mapped : IsMapOf x.extents given = subst (λ (l : List runs.Extent). IsMapOf x.extents l) (sym c.in_ok-try_copy.ensures.taken) room in
+    c.completed.ensures.ok x given copy.max_blocks filed.filed image root mapped filed.draft listed (sym c.number-number.ensures.value)
+
+pub returns-clause-calls : goal.returns-clause-calls
+returns-clause-calls c =
+    let image = c.args.image.now in
+    let copy = c.in_ok-try_copy.field-0 in
+    let d = c.file_layers.new.draft in
+    let given = taken_of copy.map in
+    let ls = listing_of c.in_ok-listing.listing.items in
+    let as_read = c.in_ok-listing.ensures.ok given copy.max_blocks c.new-draft.ensures in
+    let in_layers = subst (λ (l : List Layer). AreLayersFiled given copy.max_blocks l (map finished c.tiles.result.now) [] ls d) c.layers-2.ensures as_read in
+    let filed = subst (λ (t : List Finished). AreLayersFiled given copy.max_blocks image.layers t [] ls d) c.tiles.ensures in_layers in
+    let book : IsBook image.layers = subst IsBook c.layers.ensures c.len.ensures.valid in
+    let spell = spell_of image given copy.max_blocks ls d c.number-number.ensures.valid book filed in
+    let count = writes_count (flat_map filed_of filed.filed) d.writes.items filed.draft.writes ∙ records_count filed.filed image.layers image.tiles spell.spelled in
+    if_ok c.completed.result (λ (next : Next). length next.plan.items ≡ length d.writes.items + 2) (λ (next : Next). length next.plan.items ≡ length image.layers + length image.tiles + 2)
+    (λ next is. omega (arith, is, count)) c.completed.ensures.calls
+
+pub returns-clause-err : goal.returns-clause-err
+returns-clause-err c =
+    let image = c.args.image.now in
+    let copy = c.in_ok-try_copy.field-0 in
+    let d = c.file_layers.new.draft in
+    let given = taken_of copy.map in
+    let ls = listing_of c.in_ok-listing.listing.items in
+    let as_read = c.in_ok-listing.ensures.ok given copy.max_blocks c.new-draft.ensures in
+    let in_layers = subst (λ (l : List Layer). AreLayersFiled given copy.max_blocks l (map finished c.tiles.result.now) [] ls d) c.layers-2.ensures as_read in
+    let filed = subst (λ (t : List Finished). AreLayersFiled given copy.max_blocks image.layers t [] ls d) c.tiles.ensures in_layers in
+    c.completed.ensures.err given copy.max_blocks (flat_map filed_of filed.filed) filed.draft
