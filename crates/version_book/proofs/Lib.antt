@@ -6,4 +6,5 @@ pub mod Marking
 pub mod Owned
 pub mod Results
 pub mod Sent
+pub mod SentBook
 pub mod Trails

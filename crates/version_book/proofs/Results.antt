@@ -1,5 +1,6 @@
 -- From what the lock's methods say of the log to what a call says of histories.
-use Rattle.std.proofs.Common.{◌≡◌, ℕ, ◌<◌, ◌≤◌, Bool, true, List, [], ◌∷◌, ◌++◌, length, refl, ap, sym, ◌∙◌, subst, arith, append_assoc, Result, Ok, Err, IfOk, IfErr}
+use Rattle.std.proofs.Common.{◌≡◌, ℕ, ◌<◌, ◌≤◌, Bool, true, List, [], ◌∷◌, ◌++◌, length, refl, ap, sym, ◌∙◌, subst, arith, append_assoc, Option, None, Result, Ok, Err, IfOk, IfErr}
+use Rattle.std.specs.Option.{option_map}
 use mathlib.Core.List.{IsPrefix}
 use Rattle.overlay_terms.specs.Commands.{Command}
 use Rattle.overlay_terms.specs.Histories.{Version, Entry, History, accepted, commands_of, newest, BeginsWith}
@@ -13,6 +14,10 @@ use Rattle.version_book.specs.declared.fault.BookFault.TheVariants as fault
 use Rattle.version_book.proofs.Chains.{begins_with, commands_in_log}
 use Rattle.version_book.proofs.Fronts.{prefix_self, prefix_trans}
 use Rattle.version_book.proofs.Growing.{report_longer, report_reaches}
+
+-- where there is no refusal there is no fault that reports it
+pub no_reason : {A B : Type 0} (f : A → B) (o : Option A) → o ≡ None → option_map f o ≡ None
+no_reason f o none = ap (option_map f) none
 
 -- a log that goes on by some entries is that of a history that does
 history_more : (was old new : List Entry) (e : Entry) (p : IsPrefix was old) → 0 < length was → new ≡ old ++ e ∷ []

@@ -1,10 +1,11 @@
 -- The faults of the book: their numbers and texts, and what each says.
-use Rattle.std.specs.Prelude.{◌≡◌, ◌⊎◌, ℕ, Bool, IsTrue, List, codes, None}
+use Rattle.std.specs.Prelude.{ℕ, Bool, IsTrue, List, codes}
+use Rattle.std.specs.Option.{option_map}
 use Rattle.overlay_terms.specs.Commands.{Command, refusal_at}
+use Rattle.layer_book.specs.Fault.{RefusedBy}
 use Rattle.overlay_terms.specs.Histories.{Version}
 use Rattle.layer_book.specs.declared.fault.LayerFault.TheVariants.{OutOfMemory as NoMemory}
-use Rattle.version_core.specs.Fault as version
-use Rattle.version_core.specs.Fault.{ReportsAt}
+use Rattle.version_core.specs.Fault as version_fault
 use Rattle.version_core.specs.declared.fault.VersionFault.TheVariants.{Layer}
 use Rattle.version_book.specs.declared.fault.StoreFault.{StoreFault}
 use Rattle.version_book.specs.declared.fault.StoreFault.TheVariants.{Device, Full, Failed, SequenceLimit, OutOfMemory}
@@ -21,7 +22,7 @@ store_code_of OutOfMemory = 40
 
 -- the number under which a fault is printed
 abbrev pub code_of : BookFault → ℕ
-code_of (fault.Version refused) = version.code_of refused
+code_of (fault.Version refused) = version_fault.code_of refused
 code_of fault.Closing = 43
 code_of fault.Gone = 44
 code_of fault.NoStore = 46
@@ -37,7 +38,7 @@ store_text_of OutOfMemory = codes "out of memory"
 
 -- the text that is printed behind the number
 abbrev pub text_of : BookFault → List ℕ
-text_of (fault.Version refused) = version.text_of refused
+text_of (fault.Version refused) = version_fault.text_of refused
 text_of fault.Closing = codes "closing"
 text_of fault.Gone = codes "gone"
 text_of fault.NoStore = codes "no store"
@@ -51,8 +52,7 @@ no_memory = fault.Version (Layer NoMemory)
 -- or it closes, where it may; or it is behind, which each call says by itself
 abbrev pub IsRefused : Bool → Version → Command → BookFault → Type 0
 IsRefused closing version command (fault.Version refused) =
-    ((refused ≡ Layer NoMemory) × (refusal_at version.number version.layers command ≡ None))
-    ⊎ ReportsAt (refusal_at version.number version.layers command) refused
+    RefusedBy (Layer NoMemory) (option_map version_fault.fault_of (refusal_at version.number version.layers command)) refused
 IsRefused closing version command fault.Closing = IsTrue closing
 IsRefused closing version command fault.Gone = Unit {0}
 IsRefused closing version command fault.NoStore = ⊥

@@ -1,9 +1,19 @@
-//! Sessions go to threads.
+//! Sessions, and the book under its lock, go to threads.
 use crate::session::Session;
+use crate::shared::Shared;
+use crate::trace::Naming;
+use std::sync::Wait;
 
 fn goes<T: Send>() {}
+
+fn lends<T: Sync>() {}
 
 /// A session may go to another thread.
 pub fn session_goes() {
     goes::<Session>();
+}
+
+/// Threads may call one book.
+pub fn book_lends<J: Naming + Send, R: Wait + Drop + Send>() {
+    lends::<Shared<J, R>>();
 }

@@ -271,6 +271,7 @@ fn counted(counts: [u64; 4], cause: Cause<'_>) -> [u64; 4]
 }
 
 // The version after a command.
+#[tactic(auto, using(crate::proofs::Results::no_reason))]
 fn next_version(
     alloc: Global,
     now: &Version,
@@ -281,7 +282,10 @@ fn next_version(
     ensures there { IfErr result (λ fault. IfGone fault ⊥ (Unit {0})) }
 {
     match now.submit(alloc, change) {
-        Ok(next) => Arc::new(alloc, next).map_err(|_| NO_MEMORY),
+        Ok(next) => match Arc::new(alloc, next) {
+            Ok(version) => Ok(version),
+            Err(_) => Err(NO_MEMORY),
+        },
         Err(fault) => Err(BookFault::Version(fault)),
     }
 }
