@@ -18,3 +18,5 @@ pub mod Placed
 pub mod Completed
 pub mod Walked
 pub mod Imaged
+mod StoredLemmas
+mod OpeningLemmas

@@ -14,3 +14,4 @@ pub mod Taking
 pub mod Drafting
 pub mod Walking
 pub mod Beginning
+pub mod Stored

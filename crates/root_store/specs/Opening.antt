@@ -1,9 +1,23 @@
 -- What opening makes of a disk.
-use Rattle.std.specs.Prelude.{Result, OnOk, OnErr}
+use Rattle.std.specs.Prelude.{◌≡◌, ◌⊎◌, Bool, List, ℕ, map, ◌≤◌, Result, Ok, Err, IfOk, OnOk, OnErr}
 use Rattle.disk_model.specs.declared.disk.Disk.{Ghosts}
+use Rattle.disk_model.specs.Disk.{Only, Failed}
 use Rattle.disk_model.specs.Moments.{Leaves, LeavesOnly}
+use Rattle.extent_map.specs.Taken.{taken_of}
+use Rattle.record_form.specs.Image.{finished}
+use Rattle.store_terms.specs.Image.{Held}
+use Rattle.store_terms.specs.Frame.{extents_of}
+use Rattle.store_terms.specs.StandsFor.{root_of, reading}
+use Rattle.store_terms.specs.declared.damage.Damage.{Damage}
+use Rattle.root_store.specs.declared.fault.StoreFault.{StoreFault}
+use Rattle.root_store.specs.declared.fault.StoreFault.TheVariants as stores
 use Rattle.root_store.specs.declared.load_fault.LoadFault.{LoadFault}
-use Rattle.root_store.specs.Kept.{Kept, Rest, Shut}
+use Rattle.root_store.specs.declared.load_fault.LoadFault.TheVariants.{Device, Damaged, OutOfMemory}
+use Rattle.root_store.specs.declared.opening.Loaded.{Loaded}
+use Rattle.root_store.specs.Kept.{Kept, Rest, Shut, Calm}
+use Rattle.root_store.specs.Running.{IsMapOf}
+use Rattle.root_store.specs.Looking.{Gives}
+use Rattle.root_store.specs.Finding.{has_shut_gate}
 
 -- the completing write and its sync: a crash at any moment leaves what stands for x behind its one open gate, and in the end whatever the other gate holds
 pub record Heals {D : Type 0} (g : Ghosts D) (old new : D) (result : Result (Unit {0}) LoadFault) (x : Kept) : Type 0 where
@@ -11,3 +25,52 @@ pub record Heals {D : Type 0} (g : Ghosts D) (old new : D) (result : Result (Uni
   pub run : LeavesOnly g old new (Shut x)
   pub ok : OnOk result (Leaves g new (Rest x))
   pub err : OnErr result (Leaves g new (Shut x))
+
+-- what is read, as what a file holds
+abbrev pub held_in : Loaded → Held
+held_in x = record { number = x.root.version; layers = x.content.layers; tiles = map finished x.content.tiles.items }
+
+-- after the first sync, all is read: a crash leaves the bytes that were seen, and nothing else
+pub record IsRead {D : Type 0} (g : Ghosts D) (old new : D) (x : Loaded) (is_alone : Bool) : Type 0 where
+  pub only : Only (g.seen old) (g.may_leave new)
+  pub root : root_of (g.seen old) ≡ Ok x.root
+  pub alone : is_alone ≡ has_shut_gate (g.seen old)
+  pub room : IsMapOf (extents_of (g.seen old) x.root) (taken_of x.room.map)
+
+-- what a crash may leave while a file is opened: what it might have left before, or what stands for the same
+abbrev pub Opened : {D : Type 0} → Ghosts D → D → List ℕ → Type 0
+Opened g old file = g.may_leave old file ⊎ (reading file ≡ reading (g.seen old))
+
+-- a file is opened: what it stands for is read, and in the end a crash leaves what stands for it, as between commits
+pub record Loads {D : Type 0} (g : Ghosts D) (old new : D) (result : Result Loaded LoadFault) : Type 0 where
+  pub honest : g.is_honest new
+  pub gives : Gives held_in result (reading (g.seen old))
+  pub run : LeavesOnly g old new (Opened g old)
+  pub ok : IfOk result (λ x. (k : Kept) × (k.root ≡ x.root) × (k.held ≡ held_in x) × IsMapOf k.extents (taken_of x.room.map) × Leaves g new (Calm k))
+  pub err : OnErr result (Leaves g new (Opened g old))
+
+-- a fault of opening, as one of the store
+abbrev pub fault_of : LoadFault → StoreFault
+fault_of Device = stores.Device
+fault_of (Damaged damage) = stores.Damaged damage
+fault_of OutOfMemory = stores.OutOfMemory
+
+-- a store is not opened: for what is wrong with its file, unless the device or memory failed
+abbrev pub Tells : StoreFault → Result Held Damage → Type 0
+Tells stores.Device read = Unit {0}
+Tells stores.Full read = ⊥
+Tells (stores.Damaged damage) read = read ≡ Err damage
+Tells stores.NotEmpty read = ⊥
+Tells stores.Failed read = ⊥
+Tells stores.SequenceLimit read = ⊥
+Tells stores.OutOfMemory read = Unit {0}
+
+-- the device failed where it is said to be at fault, and nowhere else
+abbrev pub FailedBy : StoreFault → ℕ → ℕ → Type 0
+FailedBy stores.Device old new = Failed old new × (old ≤ new)
+FailedBy stores.Full old new = new ≡ old
+FailedBy (stores.Damaged damage) old new = new ≡ old
+FailedBy stores.NotEmpty old new = new ≡ old
+FailedBy stores.Failed old new = new ≡ old
+FailedBy stores.SequenceLimit old new = new ≡ old
+FailedBy stores.OutOfMemory old new = new ≡ old

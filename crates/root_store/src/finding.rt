@@ -1,5 +1,6 @@
 //! The root of a file.
-ghost use Rattle.std.specs.Prelude.{◌≡◌, ◌↔◌, ◌==◌, ◌&&◌, ◌*◌, ◌^◌, ◌<◌, ◌≤◌, ℕ, List, length, not, IfOk, IfErr};
+ghost use Rattle.std.specs.Prelude.{◌≡◌, ◌↔◌, ◌==◌, ◌&&◌, ◌*◌, ◌^◌, ◌<◌, ◌≤◌, ℕ, List, length, not, IfSome, IfOk, IfErr};
+ghost use Rattle.overlay_terms.specs.Commands.{version_max};
 ghost use Rattle.store_terms.specs.Places.{block_size};
 ghost use Rattle.store_terms.specs.StandsFor.{gate, slot, newest, root_of, is_foreign, open_gate};
 ghost use Rattle.root_store.specs.Looking.{Gives, Looks, Causes};
@@ -40,7 +41,8 @@ impl Slot {
 
     /// The root in the slot with this number, if its gate is open.
     fn root(&self, number: u64) -> Result<Option<Root>, Damage>
-        ensures { (file : List ℕ) → IsSlot file number self.now → result ≡ slot file number }
+        ensures gives { (file : List ℕ) → IsSlot file number self.now → result ≡ slot file number }
+        ensures numbered { IfOk result (λ o. IfSome o (λ r. r.version ≤ version_max)) }
     {
         if !self.is_open() {
             return Ok(None);
@@ -57,7 +59,8 @@ impl Slot {
 }
 
 fn newer(first: Option<Root>, second: Option<Root>) -> Result<Root, Damage>
-    ensures { result ≡ newest first second }
+    ensures gives { result ≡ newest first second }
+    ensures numbered { IfSome first (λ r. r.version ≤ version_max) → IfSome second (λ r. r.version ≤ version_max) → IfOk result (λ r. r.version ≤ version_max) }
 {
     match (first, second) {
         (None, None) => Err(Damage::NotAStore),
@@ -75,7 +78,8 @@ fn newer(first: Option<Root>, second: Option<Root>) -> Result<Root, Damage>
 
 /// The root that two slots of a file name.
 fn root_in(first: &Slot, second: &Slot) -> Result<Root, Damage>
-    ensures { (file : List ℕ) → block_size * 2 ≤ length file → IsSlot file 0 first.now → IsSlot file 1 second.now → result ≡ root_of file }
+    ensures gives { (file : List ℕ) → block_size * 2 ≤ length file → IsSlot file 0 first.now → IsSlot file 1 second.now → result ≡ root_of file }
+    ensures numbered { IfOk result (λ r. r.version ≤ version_max) }
 {
     if first.is_foreign() || second.is_foreign() {
         return Err(Damage::NotAStore);
@@ -108,6 +112,7 @@ pub(crate) fn find_root<D: Disk>(disk: &mut D) -> Result<(Root, bool), LoadFault
     ensures honest { D.is_honest disk.new ↔ D.is_honest disk.old }
     ensures looks { D.is_honest disk.old → Looks D.Disk disk.old disk.new }
     ensures gives { D.is_honest disk.old → Gives (λ x. x.0) result (root_of (D.seen disk.old)) }
+    ensures numbered { IfOk result (λ x. x.0.version ≤ version_max) }
     ensures small { D.is_honest disk.old → IfOk result (λ x. length (D.seen disk.old) < 2 ^ 64) }
     ensures alone { D.is_honest disk.old → IfOk result (λ x. x.1 ≡ has_shut_gate (D.seen disk.old)) }
     ensures cause { D.is_honest disk.old → Causes result (D.faults disk.old) (D.faults disk.new) }

@@ -17,6 +17,7 @@ mod load_fault;
 mod loading;
 mod next;
 pub mod open_fault;
+pub mod opening;
 pub mod phase;
 mod records;
 pub mod room;

@@ -1,8 +1,10 @@
 //! Why a file is not opened.
 ghost use Rattle.std.specs.Prelude.{◌≡◌};
 ghost use Rattle.root_store.specs.Looking.{told_as};
+ghost use Rattle.root_store.specs.Opening.{fault_of};
 ghost use Rattle.root_store.specs.declared.load_fault.LoadFault.TheVariants.{Device, Damaged, OutOfMemory};
 
+use crate::fault::StoreFault;
 use disk_model::fault::DiskFault;
 use record_form::fault::RecordFault;
 use std::alloc::{AllocError, AllocFailed};
@@ -15,6 +17,19 @@ pub(crate) enum LoadFault {
     Device,
     Damaged(Damage),
     OutOfMemory,
+}
+
+impl LoadFault {
+    /// The fault as one of the store.
+    pub(crate) fn told(self) -> StoreFault
+        ensures { result ≡ fault_of self }
+    {
+        match self {
+            LoadFault::Device => StoreFault::Device,
+            LoadFault::Damaged(damage) => StoreFault::Damaged(damage),
+            LoadFault::OutOfMemory => StoreFault::OutOfMemory,
+        }
+    }
 }
 
 impl From<DiskFault> for LoadFault {

@@ -1,11 +1,14 @@
 //! The layers and finished tiles of a file.
-ghost use Rattle.std.specs.Prelude.{◌↔◌, [], map, OnOk, IfErr};
+ghost use Rattle.std.specs.Prelude.{◌↔◌, [], List, map, IfOk, OnOk, IfErr};
 ghost use Rattle.std.proofs.Common.{inl, inr};
+ghost use Rattle.overlay_terms.specs.Histories.{Finished};
+ghost use Rattle.overlay_terms.specs.StoredTiles.{AreStored};
 ghost use Rattle.record_form.specs.Image.{finished};
 ghost use Rattle.record_form.specs.Listing.{listed_of, listing_of};
 ghost use Rattle.store_terms.specs.Image.{layers_of};
 ghost use Rattle.root_store.specs.Looking.{Gives, Looks, Causes};
 ghost use Rattle.root_store.specs.Loading.{layers_with_base, layers_with_derived};
+ghost use Rattle.root_store.specs.Stored.{AreStoredTo};
 ghost use Rattle.root_store.specs.Contents.{Adds, RefusesLayer};
 
 use crate::keeping::{keep, name_in};
@@ -40,6 +43,7 @@ fn with_base<D: Disk>(
     ensures honest { D.is_honest disk.new ↔ D.is_honest disk.old }
     ensures looks { D.is_honest disk.old → Looks D.Disk disk.old disk.new }
     ensures gives { D.is_honest disk.old → Gives (λ l. l) result (layers_with_base (D.seen disk.old) layers.now name.now extent) }
+    ensures stored { (tiles : List Finished) → AreStored layers.now tiles → IfOk result (λ l. AreStored l tiles) }
     ensures cause { D.is_honest disk.old → Causes result (D.faults disk.old) (D.faults disk.new) }
 {
     let rings = base_at(alloc, disk, extent)?;
@@ -60,6 +64,7 @@ fn with_derived<D: Disk>(
     ensures honest { D.is_honest disk.new ↔ D.is_honest disk.old }
     ensures looks { D.is_honest disk.old → Looks D.Disk disk.old disk.new }
     ensures gives { D.is_honest disk.old → Gives (λ l. l) result (layers_with_derived (D.seen disk.old) layers.now name.now extent) }
+    ensures stored { (tiles : List Finished) → AreStored layers.now tiles → IfOk result (λ l. AreStoredTo l tiles name.now 0) }
     ensures cause { D.is_honest disk.old → Causes result (D.faults disk.old) (D.faults disk.new) }
 {
     let expression = expression_at(alloc, disk, extent)?;
@@ -81,6 +86,7 @@ fn add_base<D: Disk>(
     ensures looks { D.is_honest disk.old → Looks D.Disk disk.old disk.new }
     ensures adds { D.is_honest disk.old → OnOk result (Adds (D.seen disk.old) content.old content.new (record { name = name.now; records = inl extent })) }
     ensures refuses { D.is_honest disk.old → IfErr result (λ e. RefusesLayer e (D.seen disk.old) content.old (record { name = name.now; records = inl extent })) }
+    ensures stored { AreStored content.old.layers (map finished content.old.tiles.items) → OnOk result (AreStored content.new.layers (map finished content.new.tiles.items)) }
     ensures cause { D.is_honest disk.old → Causes result (D.faults disk.old) (D.faults disk.new) }
 {
     let layers = with_base(alloc, disk, &content.layers, name, extent)?;
@@ -101,6 +107,7 @@ fn add_derived<D: Disk>(
     ensures looks { D.is_honest disk.old → Looks D.Disk disk.old disk.new }
     ensures adds { D.is_honest disk.old → OnOk result (Adds (D.seen disk.old) content.old content.new (record { name = name.now; records = inr (extent, entries.now) })) }
     ensures refuses { D.is_honest disk.old → IfErr result (λ e. RefusesLayer e (D.seen disk.old) content.old (record { name = name.now; records = inr (extent, entries.now) })) }
+    ensures stored { AreStored content.old.layers (map finished content.old.tiles.items) → OnOk result (AreStored content.new.layers (map finished content.new.tiles.items)) }
     ensures cause { D.is_honest disk.old → Causes result (D.faults disk.old) (D.faults disk.new) }
 {
     let layers = with_derived(alloc, disk, &content.layers, name, extent)?;
@@ -121,6 +128,7 @@ fn add_layer<D: Disk>(
     ensures looks { D.is_honest disk.old → Looks D.Disk disk.old disk.new }
     ensures adds { D.is_honest disk.old → OnOk result (Adds (D.seen disk.old) content.old content.new (listed_of entry.now)) }
     ensures refuses { D.is_honest disk.old → IfErr result (λ e. RefusesLayer e (D.seen disk.old) content.old (listed_of entry.now)) }
+    ensures stored { AreStored content.old.layers (map finished content.old.tiles.items) → OnOk result (AreStored content.new.layers (map finished content.new.tiles.items)) }
     ensures cause { D.is_honest disk.old → Causes result (D.faults disk.old) (D.faults disk.new) }
 {
     match &entry.records {
@@ -140,6 +148,7 @@ pub(crate) fn content_of<D: Disk>(
     ensures honest { D.is_honest disk.new ↔ D.is_honest disk.old }
     ensures looks { D.is_honest disk.old → Looks D.Disk disk.old disk.new }
     ensures gives { D.is_honest disk.old → Gives (λ x. (x.layers, map finished x.tiles.items)) result (layers_of (D.seen disk.old) [] (listing_of listing.now)) }
+    ensures stored { IfOk result (λ x. AreStored x.layers (map finished x.tiles.items)) }
     ensures cause { D.is_honest disk.old → Causes result (D.faults disk.old) (D.faults disk.new) }
 {
     let mut content = Content {

@@ -3,6 +3,7 @@ use Rattle.std.proofs.lemmas.List.{length-map, get_or-map}
 use Rattle.record_form.specs.Image.{finished}
 use Rattle.record_form.specs.Listing.{listed_of, listing_of}
 use Rattle.store_terms.specs.Image.{layers_of}
+use Rattle.root_store.proofs.StoredLemmas.{nothing_stored}
 use Rattle.root_store.proofs.Looked.{looks_none, looks_on, gives_err}
 use Rattle.root_store.proofs.LoadingLemmas.{layers_go_on, layers_end, no_front}
 use Rattle.root_store.proofs.loading.content_of.Goals as goal
@@ -12,6 +13,7 @@ loop-entry-init g c = record {
   honest = (λ h. h, λ h. h);
   looks = λ honest. looks_none g.D.Disk c.args.disk.now honest (λ f left. g.met.D.Disk.only_now c.args.disk.now f honest left);
   faults = λ honest. refl;
+  stored = rw (c.new.ensures, c.new-2.ensures.items) nothing_stored;
   rest = λ honest. rw (c.new.ensures, c.new-2.ensures.items) (no_front (layers_of (g.D.Disk.seen c.args.disk.now) [] (listing_of c.args.listing.now)));
 }
 
@@ -29,6 +31,7 @@ loop-entry-preserved g c =
       honest = (λ h. was.honest.0 (c.add_layer.ensures.honest.0 h), λ h. c.add_layer.ensures.honest.1 (was.honest.1 h));
       looks = λ honest. looks_on k c.args.disk.now c.loop-entry.disk c.add_layer.new.disk (was.looks honest) (c.add_layer.ensures.looks (was.honest.1 honest));
       faults = λ honest. c.in_ok-add_layer.ensures.cause (was.honest.1 honest) ∙ was.faults honest;
+      stored = c.in_ok-add_layer.ensures.stored was.stored;
       rest = λ honest.
           layers_go_on (k.seen c.args.disk.now) (k.seen c.loop-entry.disk) (was.looks honest).seen i (listed_of item) (listing_of listing) lt is c.loop-entry.content.layers (map finished c.loop-entry.content.tiles.items)
           (layers_of (k.seen c.args.disk.now) [] (listing_of listing)) c.add_layer.new.content.layers (map finished c.add_layer.new.content.tiles.items) (c.in_ok-add_layer.ensures.adds (was.honest.1 honest)) (was.rest honest);
@@ -48,3 +51,6 @@ returns-in_err-add_layer-clause-gives g c honest =
     gives_err _ c.from_residual.result c.in_err-add_layer.field-0.0 total c.from_residual.ensures.1
     (layers_end (k.seen c.args.disk.now) (k.seen c.loop-entry.disk) (was.looks honest).seen i (listed_of item) (listing_of listing) lt is c.loop-entry.content.layers (map finished c.loop-entry.content.tiles.items) total
     c.in_err-add_layer.field-0.0 (c.in_err-add_layer.ensures.refuses (was.honest.1 honest)) (was.rest honest))
+
+pub returns-clause-stored : goal.returns-clause-stored
+returns-clause-stored g c = c.loop-entry.invariant.stored

@@ -1,4 +1,5 @@
 use Rattle.std.proofs.Common.{◌≡◌, ◌↔◌, [], drop, map}
+use Rattle.overlay_terms.specs.StoredTiles.{AreStored}
 use Rattle.record_form.specs.Image.{finished}
 use Rattle.record_form.specs.Listing.{listing_of}
 use Rattle.store_terms.specs.Image.{layers_of}
@@ -11,5 +12,6 @@ invariant-loop-entry g l = record {
   honest : g.D.Disk.is_honest l.disk ↔ g.D.Disk.is_honest l.fn.disk;
   looks : g.D.Disk.is_honest l.fn.disk → Looks g.D.Disk l.fn.disk l.disk;
   faults : g.D.Disk.is_honest l.fn.disk → g.D.Disk.faults l.disk ≡ g.D.Disk.faults l.fn.disk;
+  stored : AreStored l.content.layers (map finished l.content.tiles.items);
   rest : g.D.Disk.is_honest l.fn.disk → then_layers (map finished l.content.tiles.items) (layers_of (g.D.Disk.seen l.fn.disk) l.content.layers (drop l.entry-index (listing_of l.listing))) ≡ layers_of (g.D.Disk.seen l.fn.disk) [] (listing_of l.listing);
 }

@@ -14,6 +14,7 @@ loop-column-init g c = record {
   honest = (λ h. h, λ h. h);
   looks = λ honest. looks_none g.D.Disk c.args.disk.now honest (λ f left. g.met.D.Disk.only_now c.args.disk.now f honest left);
   faults = λ honest. refl;
+  stored = λ layers to. to;
   rest = λ honest. refl;
 }
 
@@ -26,6 +27,7 @@ loop-column-preserved g c =
       honest = (λ h. was.honest.0 (c.add_tile.ensures.honest.0 h), λ h. c.add_tile.ensures.honest.1 (was.honest.1 h));
       looks = λ honest. looks_on k c.args.disk.now c.loop-column.disk c.add_tile.new.disk (was.looks honest) (c.add_tile.ensures.looks (was.honest.1 honest));
       faults = λ honest. c.in_ok-add_tile.ensures.cause (was.honest.1 honest) ∙ was.faults honest;
+      stored = λ layers to. c.in_ok-add_tile.ensures.stored layers (was.stored layers to);
       rest = λ honest.
           tiles_go_on (k.seen c.args.disk.now) (k.seen c.loop-column.disk) c.args.name.now c.loop-column.column _ c.args.entries.now (map finished c.loop-column.tiles.items) (map finished c.add_tile.new.tiles.items)
           (then_tiles (map finished c.args.tiles.now.items) (tiles_of (k.seen c.args.disk.now) c.args.name.now 0 c.args.entries.now)) (was.looks honest).seen lt (get_or_default c.args.entries.now c.loop-column.column _ _ lt)
@@ -41,3 +43,6 @@ returns-in_err-add_tile-clause-refuses g c honest =
     if_err c.from_residual.result c.in_err-add_tile.field-0.0 (λ (e : LoadFault). Refuses e total) c.from_residual.ensures.1
     (tiles_end (k.seen c.args.disk.now) (k.seen c.loop-column.disk) c.args.name.now c.loop-column.column _ c.args.entries.now (map finished c.loop-column.tiles.items) total c.in_err-add_tile.field-0.0
     (was.looks honest).seen lt (get_or_default c.args.entries.now c.loop-column.column _ _ lt) (c.in_err-add_tile.ensures.refuses (was.honest.1 honest)) (was.rest honest))
+
+pub returns-clause-stored : goal.returns-clause-stored
+returns-clause-stored g c layers to = (c.loop-column.invariant.stored layers to).stored

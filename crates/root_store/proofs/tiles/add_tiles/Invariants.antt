@@ -1,4 +1,6 @@
-use Rattle.std.proofs.Common.{◌≡◌, ◌↔◌, drop, map}
+use Rattle.std.proofs.Common.{◌≡◌, ◌↔◌, List, drop, map}
+use Rattle.overlay_terms.specs.Layers.{Layer}
+use Rattle.root_store.specs.Stored.{AreStoredTo}
 use Rattle.record_form.specs.Image.{finished}
 use Rattle.store_terms.specs.Image.{tiles_of}
 use Rattle.root_store.specs.Looking.{Looks}
@@ -10,5 +12,6 @@ invariant-loop-column g l = record {
   honest : g.D.Disk.is_honest l.disk ↔ g.D.Disk.is_honest l.fn.disk;
   looks : g.D.Disk.is_honest l.fn.disk → Looks g.D.Disk l.fn.disk l.disk;
   faults : g.D.Disk.is_honest l.fn.disk → g.D.Disk.faults l.disk ≡ g.D.Disk.faults l.fn.disk;
+  stored : (layers : List Layer) → AreStoredTo layers (map finished l.fn.tiles.items) l.name 0 → AreStoredTo layers (map finished l.tiles.items) l.name l.column;
   rest : g.D.Disk.is_honest l.fn.disk → then_tiles (map finished l.tiles.items) (tiles_of (g.D.Disk.seen l.fn.disk) l.name l.column (drop l.column l.entries)) ≡ then_tiles (map finished l.fn.tiles.items) (tiles_of (g.D.Disk.seen l.fn.disk) l.name 0 l.entries);
 }
