@@ -1,6 +1,6 @@
 -- Where a stretch waits at the left border, the next node lies on it: the place where the stretch enters is no later.
-use Rattle.std.proofs.Common.{◌≡◌, ℕ, ℤ, pos, ◌<◌, ◌++◌, ◌-ℤ◌, ◌*ℤ◌, ◌<ℤ◌, ◌≤ℤ◌, inl, inr, ◌⊎◌, true, false, List, [], ◌∷◌, length, get_or, refl, ap, sym, subst, ◌∙◌, arith}
-use Rattle.std.specs.Prelude.{Bool, IsTrue, All, ◌&&◌, ◌||◌, not, Contains}
+use Rattle.std.proofs.Common.{◌≡◌, ℕ, ℤ, pos, ◌<◌, ◌-ℤ◌, ◌*ℤ◌, ◌<ℤ◌, ◌≤ℤ◌, inl, inr, ◌⊎◌, true, false, List, [], ◌∷◌, refl, ap, subst, arith}
+use Rattle.std.specs.Prelude.{IsTrue, All, ◌&&◌, ◌||◌, not, Contains}
 use Rattle.std.specs.List.{list_any}
 use Rattle.std.specs.Ordering.{int_eq}
 use Rattle.std.specs.declared.cmp.Ordering.TheVariants.{Less}
@@ -16,7 +16,7 @@ use Rattle.overlay_terms.specs.Column.{column_count, columns, border}
 use Rattle.overlay_terms.specs.Tiles.{is_parallel, is_vertical, is_end, is_crossing, is_on_border, is_node}
 use Rattle.overlay_terms.specs.TileLaws.{IsProper}
 use Rattle.overlay_terms.proofs.InputLists.{any_from_Contains}
-use Rattle.overlay_terms.proofs.InputNumbers.{x_in_order, in_order_by_x, border_found, point_over, on_point_over, less_back, last_turned, less_times, most_back}
+use Rattle.overlay_terms.proofs.InputNumbers.{x_in_order, in_order_by_x, border_found, point_over, on_point_over, last_turned, less_times, most_back}
 use Rattle.overlay_terms.proofs.InputNodes.{border_node}
 use Rattle.overlay_terms.proofs.Lists.{any_contains}
 use Rattle.exact_point.proofs.Lines.{width, rise}
@@ -28,7 +28,7 @@ use Rattle.tile_laws.proofs.Ranks.{Told, yes, no, told}
 use Rattle.crossing_sweep.specs.Leaning.{IsSteep}
 use Rattle.crossing_sweep.specs.Status.{IsStretchOf}
 use Rattle.crossing_sweep.specs.NextNode.{IsNextNode}
-use Rattle.crossing_sweep.specs.Queue.{GoesOn, IsStatusAt, IsUpTo, IsQueued, IsQueue}
+use Rattle.crossing_sweep.specs.Queue.{GoesOn, IsStatusAt, IsUpTo, IsQueued}
 use Rattle.crossing_sweep.specs.Border.{IsWaiting, HasEntered, NextIsQueuedAtBorder, FirstIsNextAtBorder}
 use Rattle.crossing_sweep.proofs.StretchLemmas.{holder_holds, no_turn}
 use Rattle.crossing_sweep.proofs.Pairs.{all_second}

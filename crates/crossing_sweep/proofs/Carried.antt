@@ -1,5 +1,5 @@
 -- The sides of a piece are carried along it in the leaned plane, whether it is upright or not.
-use Rattle.std.proofs.Common.{◌≡◌, ℕ, ℤ, pos, ◌+◌, ◌%◌, ◌==◌, ◌*◌, ◌^◌, ◌+ℤ◌, ◌-ℤ◌, ◌*ℤ◌, ◌<ℤ◌, ◌≤ℤ◌, neg_ℤ, inl, inr, ◌⊎◌, true, false, List, [], ◌∷◌, get_or, refl, ap, sym, ◌∙◌, arith}
+use Rattle.std.proofs.Common.{◌≡◌, ℕ, ℤ, pos, ◌+◌, ◌%◌, ◌==◌, ◌^◌, ◌+ℤ◌, ◌*ℤ◌, ◌<ℤ◌, ◌≤ℤ◌, neg_ℤ, inl, true, false, List, [], ◌∷◌, get_or, refl, ap, sym, ◌∙◌, arith}
 use Rattle.std.specs.Prelude.{Bool, IsTrue, All, Contains, int_lt, int_le, ◌&&◌, ◌||◌, not, map, count_by}
 use Rattle.std.proofs.lemmas.Int.{ints, by_lt_z}
 use Rattle.std.proofs.lemmas.Bool.{and_parts, and_from}
@@ -9,12 +9,10 @@ use Rattle.std.specs.declared.cmp.Ordering.TheVariants.{Less}
 use Rattle.overlay_terms.specs.Plane.{WholePoint, Point, Segment, whole, point_cmp, height_over, is_on, is_below, coordinate_max}
 use Rattle.overlay_terms.specs.Column.{border, is_in_column}
 use Rattle.overlay_terms.specs.Layers.{Marked}
-use Rattle.overlay_terms.specs.Tiles.{Input, IsPiece, is_node, midpoint, below_bits, over_bits}
-use Rattle.overlay_terms.specs.TileLaws.{IsInput, IsProper, ends_at}
-use Rattle.overlay_terms.proofs.InputNumbers.{le_true, lt_true, true_le, true_lt, middle_positive, x_in_order, in_order_by_x, least_through, less_middle, less_back, most_back, last_turned, most_times, twice_of}
+use Rattle.overlay_terms.specs.Tiles.{Input, IsPiece, midpoint, below_bits, over_bits}
+use Rattle.overlay_terms.specs.TileLaws.{IsInput, IsProper}
+use Rattle.overlay_terms.proofs.InputNumbers.{le_true, true_le, true_lt, middle_positive, x_in_order, in_order_by_x, least_through, less_middle, less_back, last_turned, most_times, twice_of}
 use Rattle.overlay_terms.proofs.InputNodes.{IsIn, is_in, ends_within}
-use Rattle.exact_point.specs.Crossing.{turn_of}
-use Rattle.exact_point.proofs.Lines.{width}
 use Rattle.exact_point.proofs.OnLine.{after_left, before_right, on_line, less_from_forward, forward_from_less, middle_line, middle_after, middle_before}
 use Rattle.exact_point.proofs.PlaceOrder.{one_positive, less_through, not_after_less, Way, after, alike_right, at, before, way_of}
 use Rattle.exact_point.proofs.ByX.{Left, AtMost}
@@ -22,7 +20,7 @@ use Rattle.tile_laws.proofs.JustRight.{is_over_x, is_under, is_level, bits_where
 use Rattle.tile_laws.proofs.Statements.{segments_in}
 use Rattle.tile_laws.proofs.EvenRegion.{differ, odd}
 use Rattle.tile_laws.proofs.SideStrip.{is_past, is_in_strip, strip_parity, past_true, past_false}
-use Rattle.tile_laws.proofs.SideCount.{odd_count, odd_differ, odd_agree, odd_never, layer_ends, odd_ends}
+use Rattle.tile_laws.proofs.SideCount.{odd_count, odd_differ, odd_agree, odd_never, odd_ends}
 use Rattle.tile_laws.proofs.SideRegion.{region_even, layered, alike_from}
 use Rattle.tile_laws.proofs.SideLevel.{level_kept}
 use Rattle.tile_laws.proofs.SideMiddle.{below_is_under, near_is_up_to}

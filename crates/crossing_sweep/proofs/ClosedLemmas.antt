@@ -1,13 +1,12 @@
 -- A stretch that holds the next node is a piece from the last node on it to this one.
-use Rattle.std.proofs.Common.{◌≡◌, ℕ, ℤ, pos, ◌<ℤ◌, List, ap, sym, ◌∙◌}
-use Rattle.std.specs.Prelude.{IsTrue, map}
+use Rattle.std.proofs.Common.{◌≡◌, ℤ, pos, ◌<ℤ◌, ap, sym, ◌∙◌}
+use Rattle.std.specs.Prelude.{IsTrue}
 use Rattle.std.specs.declared.cmp.Ordering.TheVariants.{Less}
 use Rattle.overlay_terms.specs.Plane.{Point, Segment, whole, point_cmp, height_over, is_on}
-use Rattle.overlay_terms.specs.Tiles.{Input, IsPiece, is_node, midpoint, below_bits, over_bits}
+use Rattle.overlay_terms.specs.Tiles.{Input, IsPiece, is_node}
 use Rattle.overlay_terms.specs.TileLaws.{IsInput}
 use Rattle.exact_point.proofs.OnLine.{after_left, before_right, on_line, left_on_line, parallel_line, within_on, no_turn_back}
 use Rattle.exact_point.proofs.PlaceOrder.{Way, before, at, after, way_of, one_positive, less_through, alike_left, alike_right, not_before_self, not_after_less}
-use Rattle.tile_laws.proofs.JustRight.{under_bits, up_to_bits}
 use Rattle.tile_laws.proofs.Statements.{segments_in}
 use Rattle.tile_laws.proofs.StepUp.{under_bits_alike, up_to_bits_alike}
 use Rattle.crossing_sweep.specs.Leaning.{lean, lean_segment, IsSteep}

@@ -1,20 +1,17 @@
 -- From the last node on a stretch to the next one on its segment is a piece, along which the masks are carried.
-use Rattle.std.proofs.Common.{◌≡◌, ℕ, ℤ, pos, ◌^◌, ◌+ℤ◌, ◌*ℤ◌, ◌<ℤ◌, ◌≤ℤ◌, neg_ℤ, true, false, List, refl, ap, sym, subst, ◌∙◌, arith}
-use Rattle.std.specs.Prelude.{Bool, IsTrue, All, Contains, int_lt, ◌&&◌, map}
-use Rattle.std.specs.Ordering.{is_lt}
+use Rattle.std.proofs.Common.{◌≡◌, ℕ, ℤ, pos, ◌^◌, ◌*ℤ◌, ◌<ℤ◌, ◌≤ℤ◌, neg_ℤ, true, List, ap, sym, ◌∙◌, arith}
+use Rattle.std.specs.Prelude.{Bool, IsTrue, All, ◌&&◌}
 use Rattle.std.specs.declared.cmp.Ordering.TheVariants.{Less}
 use Rattle.std.proofs.lemmas.Int.{ints}
 use Rattle.std.proofs.lemmas.Bool.{and_parts, and_from}
 use Rattle.std.proofs.lemmas.List.Elements.{All-map, All-contains}
-use Rattle.overlay_terms.specs.Plane.{Point, Segment, whole, point_cmp, height_over, is_on, coordinate_max}
+use Rattle.overlay_terms.specs.Plane.{Point, Segment, whole, point_cmp, is_on, coordinate_max}
 use Rattle.overlay_terms.specs.Column.{is_in_column}
-use Rattle.overlay_terms.specs.Layers.{Marked}
-use Rattle.overlay_terms.specs.Tiles.{Input, IsPiece, is_node, midpoint, below_bits, over_bits}
+use Rattle.overlay_terms.specs.Tiles.{Input, IsPiece, is_node}
 use Rattle.overlay_terms.specs.TileLaws.{IsInput, IsProper}
-use Rattle.exact_point.specs.Crossing.{turn_of}
 use Rattle.exact_point.proofs.OnLine.{after_left, before_right, on_line, left_on_line, parallel_line, within_on, no_turn_back}
 use Rattle.exact_point.proofs.PlaceOrder.{Way, before, at, after, way_of, one_positive, less_through, alike_left, alike_right, not_before_self, not_after_less, on_same}
-use Rattle.tile_laws.proofs.JustRight.{is_over_x, is_level, under_bits, up_to_bits}
+use Rattle.tile_laws.proofs.JustRight.{under_bits, up_to_bits}
 use Rattle.tile_laws.proofs.Candidates.{IsAmong}
 use Rattle.tile_laws.proofs.LastPlace.{Falls, falling}
 use Rattle.tile_laws.proofs.NextNode.{IsLast, last_of}

@@ -1,18 +1,17 @@
 -- From the members of a status below one of them to what lies under it.
-use Rattle.std.proofs.Common.{◌≡◌, ℕ, ℤ, pos, zero, suc, ◌+◌, ◌<◌, ◌≤◌, ◌+ℤ◌, ◌*ℤ◌, ◌<ℤ◌, ◌≤ℤ◌, inl, inr, ◌⊎◌, true, false, List, [], ◌∷◌, get_or, length, take, refl, ap, sym, subst, ◌∙◌, arith}
-use Rattle.std.specs.Prelude.{Bool, IsTrue, All, Any, Contains, int_lt, int_le, ◌&&◌, ◌||◌, map}
+use Rattle.std.proofs.Common.{◌≡◌, ℕ, ℤ, pos, suc, ◌+◌, ◌<◌, ◌*ℤ◌, ◌<ℤ◌, ◌≤ℤ◌, inl, inr, ◌⊎◌, true, false, List, [], ◌∷◌, get_or, length, take, ap, sym, subst, ◌∙◌, arith}
+use Rattle.std.specs.Prelude.{Bool, All, Any, Contains, int_lt, int_le, ◌&&◌, map}
 use Rattle.std.specs.List.{AllPairs}
 use Rattle.std.specs.Ordering.{int_eq}
-use Rattle.std.proofs.lemmas.Int.{ints, by_lt_z}
+use Rattle.std.proofs.lemmas.Int.{ints}
 use Rattle.std.proofs.lemmas.Bool.{and_parts, and_from, or_left, or_right, both_ways}
 use Rattle.std.proofs.lemmas.Bool.Decides.{Decides-int_eq}
 use Rattle.std.proofs.lemmas.List.{get_or-take, length-take-le, length-map, get_or_default}
-use Rattle.std.proofs.lemmas.List.Elements.{All-map, All-take, All-contains}
+use Rattle.std.proofs.lemmas.List.Elements.{All-map, All-contains}
 use Rattle.std.proofs.lemmas.List.Kept.{AllPairs-cons}
 use Rattle.std.proofs.Math.ListN.{get_or-map}
 use Rattle.std.proofs.Math.IntN.{*ℤ-zero}
-use Rattle.std.specs.declared.cmp.Ordering.TheVariants.{Less}
-use Rattle.overlay_terms.specs.Plane.{Point, Segment, whole, point_cmp, height_over}
+use Rattle.overlay_terms.specs.Plane.{Point, Segment, whole}
 use Rattle.overlay_terms.specs.Layers.{Marked}
 use Rattle.overlay_terms.specs.Tiles.{Input}
 use Rattle.overlay_terms.specs.TileLaws.{IsInput, IsProper}
@@ -22,16 +21,15 @@ use Rattle.exact_point.specs.Crossing.{turn_of}
 use Rattle.exact_point.proofs.Lines.{gap, gap_at, flat_gap}
 use Rattle.exact_point.proofs.OnLine.{left_on_line, less_from_forward, forward_from_less}
 use Rattle.exact_point.proofs.PlaceOrder.{one_positive}
-use Rattle.exact_point.proofs.ByX.{Left, AtMost}
-use Rattle.tile_laws.proofs.JustRight.{is_over_x, is_under, is_level, bits_where, under_bits, up_to_bits}
+use Rattle.tile_laws.proofs.JustRight.{is_over_x, is_under, is_level, under_bits, up_to_bits}
 use Rattle.tile_laws.proofs.Statements.{segments_in}
 use Rattle.tile_laws.proofs.Ranks.{Orders}
 use Rattle.tile_laws.proofs.StepUp.{AreBelow, under_is_lower, step_up, none_below}
 use Rattle.tile_laws.proofs.UnderLemmas.{under_orders, level_under}
-use Rattle.crossing_sweep.specs.Leaning.{lean, lean_segment, IsNear, IsSteep, IsSmall, IsAfter}
+use Rattle.crossing_sweep.specs.Leaning.{lean, lean_segment, IsSteep, IsSmall, IsAfter}
 use Rattle.crossing_sweep.specs.Sides.{lean_marked}
 use Rattle.crossing_sweep.specs.Queue.{IsAlong, GoesOn, IsStatusAt}
-use Rattle.crossing_sweep.specs.Masks.{MasksGoUp, MasksStepUp}
+use Rattle.crossing_sweep.specs.Masks.{MasksStepUp}
 use Rattle.crossing_sweep.proofs.Lean.{lean_left, lean_height, lean_turn}
 use Rattle.crossing_sweep.proofs.Meeting.{before_from_lean}
 use Rattle.crossing_sweep.proofs.Inputs.{steep_positive, near, left_small, right_small, lean_at_most}

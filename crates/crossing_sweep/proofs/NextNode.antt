@@ -1,5 +1,5 @@
 -- The next node after a place: the first of a finite list that has the place of each node.
-use Rattle.std.proofs.Common.{◌≡◌, ℕ, ℤ, pos, ◌+◌, ◌<◌, ◌≤◌, ◌^◌, ◌+ℤ◌, ◌-ℤ◌, ◌*ℤ◌, ◌<ℤ◌, ◌≤ℤ◌, neg_ℤ, inl, inr, ◌⊎◌, true, false, List, [], ◌∷◌, ◌++◌, refl, ap, sym, subst, ◌∙◌, arith, get_or}
+use Rattle.std.proofs.Common.{◌≡◌, ℕ, ℤ, pos, ◌<◌, ◌^◌, ◌*ℤ◌, ◌<ℤ◌, ◌≤ℤ◌, neg_ℤ, inl, inr, ◌⊎◌, true, false, List, [], ◌∷◌, refl, ap, sym, ◌∙◌, arith, get_or}
 use Rattle.std.specs.Prelude.{Bool, IsTrue, All, Contains, int_lt, ◌&&◌, ◌||◌, not, map, flat_map, count_by, if◌then◌else◌}
 use Rattle.std.specs.List.{list_any}
 use Rattle.std.specs.Ordering.{is_lt, int_eq}
@@ -10,7 +10,7 @@ use Rattle.std.proofs.lemmas.Bool.{and_parts, and_from, or_cases, false≢true, 
 use Rattle.std.proofs.lemmas.List.Elements.{All-nil, All-cons, All-head, All-tail, All-append, All-map, All-contains}
 use Rattle.std.proofs.lemmas.List.Folds.{Any-from_list_any}
 use Rattle.overlay_terms.specs.Within.{IsWithin}
-use Rattle.overlay_terms.specs.Plane.{WholePoint, Point, Segment, whole, point_cmp, same_place, is_on, coordinate_max}
+use Rattle.overlay_terms.specs.Plane.{Point, Segment, whole, point_cmp, same_place, is_on, coordinate_max}
 use Rattle.overlay_terms.specs.Column.{border, columns}
 use Rattle.overlay_terms.specs.Tiles.{is_parallel, is_vertical, is_end, is_crossing, is_on_border, is_node}
 use Rattle.overlay_terms.specs.TileLaws.{IsProper}
@@ -20,14 +20,13 @@ use Rattle.exact_point.specs.Crossing.{turn_of, lead_of}
 use Rattle.exact_point.specs.PlaceOf.{part_way, crossing_place, cut_place}
 use Rattle.exact_point.proofs.Lines.{width}
 use Rattle.exact_point.proofs.OnLine.{within_on, left_on_line, right_on_line}
-use Rattle.exact_point.proofs.PlaceOrder.{one_positive, on_same, same_self, same_turned, less_through, alike_left, alike_right, not_before_self, not_after_less}
+use Rattle.exact_point.proofs.PlaceOrder.{one_positive, on_same, same_self, less_through, alike_left, alike_right, not_before_self, not_after_less}
 use Rattle.tile_laws.proofs.Candidates.{candidates, candidates_with, IsAmong, node_among}
 use Rattle.tile_laws.proofs.Counts.{count_less}
 use Rattle.tile_laws.proofs.LastPlace.{Falls, falling}
 use Rattle.tile_laws.proofs.NextNode.{IsLast, last_of}
 use Rattle.tile_laws.proofs.SameNodes.{node_alike}
 use Rattle.crossing_sweep.specs.Leaning.{IsSmall}
-use Rattle.crossing_sweep.specs.Status.{NoNodeBetween}
 use Rattle.crossing_sweep.specs.NextNode.{IsNextNode, EachHasNext, NodesRunOut}
 use Rattle.crossing_sweep.proofs.StretchLemmas.{ends_in_order}
 use Rattle.crossing_sweep.proofs.Inputs.{width_within, turn_within}

@@ -1,18 +1,15 @@
 -- A leaned segment holds a leaned place exactly where the segment holds the place, and the order of places is that of the leaned ones.
-use Rattle.std.proofs.Common.{◌≡◌, ℤ, pos, ◌+ℤ◌, ◌-ℤ◌, ◌*ℤ◌, ◌<ℤ◌, ◌≤ℤ◌, neg_ℤ, inl, inr, true, false, ap, sym, ◌∙◌, arith}
-use Rattle.std.specs.Prelude.{Bool, IsTrue}
+use Rattle.std.proofs.Common.{◌≡◌, ℤ, pos, ◌+ℤ◌, ◌-ℤ◌, ◌*ℤ◌, ◌<ℤ◌, neg_ℤ, inl, inr, true, ap, sym, ◌∙◌, arith}
 use Rattle.std.proofs.lemmas.Int.{ints}
 use Rattle.std.proofs.Math.IntN.{*ℤ_comm, *ℤ-zero}
 use Rattle.std.specs.declared.cmp.Ordering.TheVariants.{Less}
-use Rattle.overlay_terms.specs.Plane.{Point, Segment, whole, point_cmp, height_over, is_on, is_below, coordinate_max}
+use Rattle.overlay_terms.specs.Plane.{Point, Segment, whole, point_cmp, height_over, is_on, is_below}
 use Rattle.overlay_terms.specs.TileLaws.{IsProper}
 use Rattle.overlay_terms.proofs.InputNumbers.{in_order_by_x}
 use Rattle.exact_point.proofs.Lexical.{Forward}
-use Rattle.exact_point.proofs.Lines.{width, rise}
 use Rattle.exact_point.proofs.OnSegment.{leads}
 use Rattle.exact_point.proofs.OnLine.{after_left, before_right, within_on, on_line, less_from_forward, forward_from_less}
 use Rattle.exact_point.proofs.Signs.{zero_factor}
-use Rattle.exact_point.proofs.ByX.{Left}
 use Rattle.tile_laws.proofs.Counts.{same_tests}
 use Rattle.crossing_sweep.specs.Leaning.{lean, lean_segment, across, up_to, IsNear, IsSteep, IsSmall}
 use Rattle.crossing_sweep.proofs.Lean.{lean_left, lean_height, leaned_across}

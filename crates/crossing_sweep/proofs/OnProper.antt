@@ -1,10 +1,10 @@
 -- A place on a proper segment has a y within the coordinates.
-use Rattle.std.proofs.Common.{◌≡◌, ℤ, pos, ◌+ℤ◌, ◌-ℤ◌, ◌*ℤ◌, ◌<ℤ◌, ◌≤ℤ◌, neg_ℤ, inl, inr, ap, sym, ◌∙◌, arith}
+use Rattle.std.proofs.Common.{◌≡◌, ℤ, pos, ◌+ℤ◌, ◌-ℤ◌, ◌*ℤ◌, ◌<ℤ◌, ◌≤ℤ◌, neg_ℤ, inl, inr, ap, arith}
 use Rattle.std.specs.Prelude.{IsTrue}
 use Rattle.std.proofs.lemmas.Int.{ints}
 use Rattle.overlay_terms.specs.Plane.{Point, Segment, is_on, coordinate_max}
 use Rattle.overlay_terms.specs.TileLaws.{IsProper}
-use Rattle.overlay_terms.proofs.Difference.{split, differences, same, mul_pos}
+use Rattle.overlay_terms.proofs.Difference.{split, differences, same}
 use Rattle.overlay_terms.proofs.InputNumbers.{most_back, most_times}
 use Rattle.exact_point.proofs.Lexical.{Forward, NotBack}
 use Rattle.exact_point.proofs.Lines.{width, rise}

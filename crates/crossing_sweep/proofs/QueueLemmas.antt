@@ -1,8 +1,8 @@
 -- The next node is among the places found ahead: an end or a border place, or where two neighbours of the status cross.
 use Rattle.std.proofs.Common.{◌≡◌, ℕ, ℤ, pos, zero, suc, ◌+◌, ◌<◌, ◌*ℤ◌, ◌<ℤ◌, ◌≤ℤ◌, inl, inr, ◌⊎◌, true, false, List, get_or, length, refl, ap, sym, subst, ◌∙◌, arith}
-use Rattle.std.specs.Prelude.{Bool, IsTrue, All, Any, Contains, ◌&&◌, ◌||◌, not}
+use Rattle.std.specs.Prelude.{IsTrue, All, Any, Contains, ◌&&◌, ◌||◌, not}
 use Rattle.std.specs.List.{list_any}
-use Rattle.std.proofs.lemmas.Int.{ints, by_lt_z}
+use Rattle.std.proofs.lemmas.Int.{ints}
 use Rattle.std.proofs.lemmas.Bool.{and_parts, or_cases, or_left, or_right, both_ways, not-true}
 use Rattle.std.proofs.lemmas.List.{get_or_default}
 use Rattle.std.proofs.lemmas.List.Elements.{All-contains}
@@ -10,18 +10,17 @@ use Rattle.std.proofs.lemmas.List.Folds.{Any-from_list_any}
 use Rattle.std.specs.declared.cmp.Ordering.TheVariants.{Less}
 use Rattle.overlay_terms.specs.Plane.{Point, Segment, whole, whole_cmp, point_cmp, same_place, height_over, is_on}
 use Rattle.overlay_terms.specs.Column.{border}
-use Rattle.overlay_terms.specs.Tiles.{is_parallel, is_end, is_crossing, is_on_border, is_node}
+use Rattle.overlay_terms.specs.Tiles.{is_parallel, is_end, is_crossing, is_on_border}
 use Rattle.overlay_terms.specs.TileLaws.{IsProper}
 use Rattle.overlay_terms.proofs.Lists.{any_contains}
 use Rattle.overlay_terms.proofs.InputNumbers.{x_in_order, most_through}
-use Rattle.exact_point.specs.Crossing.{IsCrossingOf, turn_of}
-use Rattle.exact_point.proofs.Nodes.{end_among, left_node, right_node}
+use Rattle.exact_point.specs.Crossing.{turn_of}
+use Rattle.exact_point.proofs.Nodes.{end_among, left_node}
 use Rattle.exact_point.proofs.OnLine.{after_left, before_right, on_line, left_on_line, right_on_line, parallel_line, one_direction, parallel_from_turn, parallel_through, no_turn_back}
-use Rattle.exact_point.proofs.PlaceOrder.{Way, before, at, after, way_of, one_positive, less_through, not_after_less, not_before_self, not_before_through, alike_left, alike_right, same_turned, same_through, level_from}
+use Rattle.exact_point.proofs.PlaceOrder.{Way, before, at, after, way_of, one_positive, less_through, alike_left, level_from}
 use Rattle.tile_laws.proofs.Ranks.{Told, yes, no, told}
-use Rattle.tile_laws.proofs.SameNodes.{node_alike}
 use Rattle.crossing_sweep.specs.Leaning.{IsSteep, IsSmall}
-use Rattle.crossing_sweep.specs.Status.{IsStretchOf, IsActive, NoNodeBetween, IsStatus}
+use Rattle.crossing_sweep.specs.Status.{IsStretchOf, NoNodeBetween, IsStatus}
 use Rattle.crossing_sweep.specs.NextNode.{IsNextNode}
 use Rattle.crossing_sweep.specs.Queue.{IsAlong, GoesOn, IsStatusAt, IsUpTo, IsQueued, IsQueue, NextIsQueued, IsFirstOf, FirstIsNext}
 use Rattle.crossing_sweep.proofs.StretchLemmas.{ends_in_order}

@@ -1,5 +1,5 @@
 -- One step of a sweep: the status after the next node is again one, and the places found ahead stay complete.
-use Rattle.std.proofs.Common.{◌≡◌, ℕ, ℤ, pos, zero, suc, ◌+◌, ◌<◌, ◌≤◌, ◌-◌, ◌++◌, ◌<ℤ◌, inl, inr, ◌⊎◌, true, false, List, get_or, length, refl, ap, sym, subst, ◌∙◌, arith, append_assoc}
+use Rattle.std.proofs.Common.{◌≡◌, ℕ, ℤ, pos, ◌+◌, ◌<◌, ◌-◌, ◌++◌, ◌<ℤ◌, inl, inr, ◌⊎◌, List, get_or, length, ap, sym, subst, ◌∙◌, arith}
 use Rattle.std.specs.Prelude.{IsTrue, All, Any, Contains}
 use Rattle.std.proofs.lemmas.Int.{ints}
 use Rattle.std.proofs.lemmas.Bool.{both_ways}
@@ -11,14 +11,14 @@ use Rattle.overlay_terms.specs.Plane.{Point, Segment, whole, point_cmp, same_pla
 use Rattle.overlay_terms.specs.Tiles.{is_parallel, is_node}
 use Rattle.overlay_terms.specs.TileLaws.{IsProper}
 use Rattle.overlay_terms.proofs.Lists.{any_from}
-use Rattle.exact_point.specs.Crossing.{IsCrossingOf, turn_of}
-use Rattle.exact_point.proofs.OnLine.{on_line, left_on_line, right_on_line, one_direction, parallel_from_turn}
+use Rattle.exact_point.specs.Crossing.{IsCrossingOf}
+use Rattle.exact_point.proofs.OnLine.{on_line, one_direction, parallel_from_turn}
 use Rattle.exact_point.proofs.PlaceOrder.{Way, before, at, after, way_of, one_positive, less_through, on_same, level_from, level_test}
 use Rattle.tile_laws.proofs.Ranks.{Told, yes, no, told}
 use Rattle.std.specs.Ordering.{int_eq}
 use Rattle.crossing_sweep.proofs.NextNode.{left_on, right_on}
 use Rattle.crossing_sweep.specs.Leaning.{IsSteep}
-use Rattle.crossing_sweep.specs.Status.{IsStretchOf, IsStatus, AreTurned, AreOrderedAfter}
+use Rattle.crossing_sweep.specs.Status.{IsStretchOf, AreTurned}
 use Rattle.crossing_sweep.specs.NextNode.{IsNextNode}
 use Rattle.crossing_sweep.specs.Queue.{IsAlong, GoesOn, IsStatusAt, IsUpTo, IsQueued, IsQueue}
 use Rattle.crossing_sweep.specs.Step.{AreStretches, IsFullStatus, IsSplitAt, AreStaying, IsGrown, StatusGoesOn, QueueGoesOn}

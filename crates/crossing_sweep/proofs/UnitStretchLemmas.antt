@@ -1,11 +1,10 @@
 -- The units of an input: stretches of its segments between nodes, one along each segment that goes on just after a place.
-use Rattle.std.proofs.Common.{◌≡◌, pos, ◌<ℤ◌, ◌&&◌, inl, inr, ◌⊎◌, true, false, List, get_or, refl, ap, sym, subst, ◌∙◌}
+use Rattle.std.proofs.Common.{◌≡◌, pos, ◌<ℤ◌, inl, inr, ◌⊎◌, List, ap, sym, subst}
 use Rattle.std.specs.Prelude.{Bool, IsTrue, All, Any, Contains, not, map}
 use Rattle.std.specs.Ordering.{is_lt}
-use Rattle.std.specs.declared.cmp.Ordering.TheVariants.{Less}
 use Rattle.std.proofs.lemmas.Bool.{and_parts}
 use Rattle.std.proofs.lemmas.List.Elements.{All-map, All-contains, All-weaker}
-use Rattle.overlay_terms.specs.Plane.{WholePoint, Point, Segment, whole, point_cmp, height_over, is_on, InRange}
+use Rattle.overlay_terms.specs.Plane.{WholePoint, Point, Segment, whole, point_cmp, is_on, InRange}
 use Rattle.overlay_terms.specs.Layers.{Marked}
 use Rattle.overlay_terms.specs.Tiles.{Input, is_node}
 use Rattle.overlay_terms.specs.TileLaws.{IsInput, IsProper}
@@ -13,7 +12,7 @@ use Rattle.overlay_terms.proofs.Lists.{any_from, contains_map}
 use Rattle.exact_point.proofs.OnLine.{on_line}
 use Rattle.exact_point.proofs.PlaceOrder.{one_positive, less_through, not_before_test, not_before_says}
 use Rattle.tile_laws.proofs.Statements.{segments_in}
-use Rattle.arrange.specs.Units.{covers, IsUnit, AreUnits}
+use Rattle.arrange.specs.Units.{IsUnit, AreUnits}
 use Rattle.arrange.specs.declared.unit.Unit.{Unit}
 use Rattle.arrange.proofs.UnitLineLemmas.{IsEndOf, end_of}
 use Rattle.arrange.proofs.UnitCover.{UnitAt, unit_at_cut, not_lt}
