@@ -6,6 +6,7 @@ mod creating;
 pub mod engine;
 mod finishing;
 pub mod laws;
+mod recovery;
 mod reporting;
 pub mod step;
 mod submitting;

@@ -1,0 +1,77 @@
+-- What recovery makes of what opening gives.
+use Rattle.std.proofs.Common.{◌≡◌, ◌⊎◌, inl, inr, ℕ, ◌≤◌, List, arith, Result, Ok, refl, sym, ◌∙◌, ap, subst}
+use Rattle.disk_model.specs.declared.disk.Disk.{Ghosts}
+use Rattle.disk_model.specs.Moments.{Leaves, LeavesOnly}
+use Rattle.disk_model.proofs.Runs.{widened}
+use Rattle.overlay_terms.specs.Commands.{Command}
+use Rattle.overlay_terms.specs.Histories.{Version}
+use Rattle.store_terms.specs.declared.damage.Damage.{Damage}
+use Rattle.store_terms.specs.Image.{Held}
+use Rattle.store_terms.specs.StandsFor.{reading}
+use Rattle.root_store.specs.declared.fault.StoreFault.{StoreFault}
+use Rattle.root_store.specs.declared.fault.StoreFault.TheVariants.{Device, Full, Damaged, NotEmpty, Failed, SequenceLimit, OutOfMemory}
+use Rattle.root_store.specs.declared.open_fault.OpenFault.{OpenFault}
+use Rattle.root_store.specs.declared.commit.Commit.{Commit}
+use Rattle.root_store.specs.Kept.{Kept}
+use Rattle.root_store.specs.Running.{Stands}
+use Rattle.root_store.specs.Opening.{Opened, Tells}
+use Rattle.root_store.proofs.Reading.{calm_stands}
+use Rattle.flush_core.specs.declared.flusher.Flusher.{Flusher}
+use Rattle.overlay_engine.specs.declared.engine.Engine.{Engine}
+use Rattle.overlay_engine.specs.Start.{Start, up_to}
+use Rattle.overlay_engine.specs.Covers.{version_of, Covered, Covers}
+use Rattle.overlay_engine.specs.Recovery.{Recovered, Refused}
+use Rattle.overlay_engine.proofs.Recovering.{opened_recovers, opening_is_covered}
+
+only_failing : (fault : StoreFault) (read : Result Held Damage) (x : Held) → read ≡ Ok x → Tells fault read → (fault ≡ Device) ⊎ (fault ≡ OutOfMemory)
+only_failing Device read x is tells = inl refl
+only_failing Full read x is tells = absurd tells
+only_failing (Damaged damage) read x is tells = absurd (cc (is, tells))
+only_failing NotEmpty read x is tells = absurd tells
+only_failing Failed read x is tells = absurd tells
+only_failing SequenceLimit read x is tells = absurd tells
+only_failing OutOfMemory read x is tells = inr refl
+
+module _ {D : Type 0} (g : Ghosts D) (start : Start) (disk : D) (least : ℕ) (commands : List Command) (all : Leaves g disk (Covered start least commands)) (stays : g.may_leave disk (g.seen disk)) where
+  covered : (c : List ℕ) → Opened g disk c → Covered start least commands c
+  covered c opened = opening_is_covered g start disk least commands all stays c opened
+
+  recovered : (e : Engine D) (k : Kept) (x : Held) → reading (g.seen disk) ≡ Ok x → k.held ≡ x → Stands g e.flusher.commit k → e.flusher.stored ≡ x.number → e.version ≡ version_of x
+      → LeavesOnly g disk e.flusher.commit.disk (Opened g disk) → Recovered g start disk e least commands
+  recovered e k x reads same stands stored version moments =
+      let is : e.version ≡ version_of k.held = version ∙ ap version_of (sym same) in
+      let found = opened_recovers g start disk e.flusher k least commands all
+      (record { stays = stays; reads = reads ∙ ap Ok (sym same); stands = stands; stored = stored ∙ ap (λ (h : Held). h.number) (sym same) }) in
+      record {
+        no_less = subst (λ (v : Version). least ≤ v.number) (sym is) found.no_less;
+        no_more = omega (arith, ap (λ (v : Version). v.number) is, found.no_more);
+        durable = subst (λ (v : Version). v.durable ≡ v.number) (sym is) refl;
+        covers = subst (λ (v : Version). Covers g start e.flusher v (up_to start v.number commands)) (sym is) found.covers;
+        moments = widened g disk e.flusher.commit.disk (Opened g disk) (Covered start least commands) covered moments;
+      }
+
+  pub recovered_with : (e : Engine D) (s : Commit D) (n : ℕ) (k : Kept) (x : Held) → e.flusher ≡ record { commit = s; stored = n } → n ≡ e.version.number → e.version ≡ version_of x
+      → reading (g.seen disk) ≡ Ok x → k.held ≡ x → Stands g s k → LeavesOnly g disk s.disk (Opened g disk) → Recovered g start disk e least commands
+  recovered_with e s n k x flusher number version reads same stands moments =
+      recovered e k x reads same (subst (λ (f : Flusher D). Stands g f.commit k) (sym flusher) stands)
+      (ap (λ (f : Flusher D). f.stored) flusher ∙ number ∙ ap (λ (v : Version). v.number) version) version
+      (subst (λ (f : Flusher D). LeavesOnly g disk f.commit.disk (Opened g disk)) (sym flusher) moments)
+
+  pub refused_as : (refused : OpenFault D) → Tells refused.fault (reading (g.seen disk)) → g.is_honest refused.disk → Leaves g refused.disk (Opened g disk)
+      → LeavesOnly g disk refused.disk (Opened g disk) → Refused g start disk refused least commands
+  refused_as refused tells honest leaves moments = record {
+    honest = honest;
+    leaves = λ c left. covered c (leaves c left);
+    moments = widened g disk refused.disk (Opened g disk) (Covered start least commands) covered moments;
+    cause = let here = all (g.seen disk) stays in only_failing refused.fault (reading (g.seen disk)) here.held here.stands tells;
+  }
+
+  -- memory runs out once the store is opened
+  pub given_up : (s : Commit D) (k : Kept) (x : Held) → reading (g.seen disk) ≡ Ok x → k.held ≡ x → Stands g s k → LeavesOnly g disk s.disk (Opened g disk)
+      → Refused g start disk (record { fault = OutOfMemory; disk = s.disk }) least commands
+  given_up s k x reads same stands moments = record {
+    honest = stands.honest;
+    leaves = λ c left. covered c (inr (calm_stands k c (stands.leaves c left) ∙ ap Ok same ∙ sym reads));
+    moments = widened g disk s.disk (Opened g disk) (Covered start least commands) covered moments;
+    cause = inr refl;
+  }

@@ -1,0 +1,22 @@
+use Rattle.std.proofs.Common.{sym, subst}
+use Rattle.root_store.specs.declared.fault.StoreFault.TheVariants.{OutOfMemory}
+use Rattle.overlay_engine.specs.Recovery.{Refused}
+use Rattle.overlay_engine.proofs.Opened.{recovered_with, given_up}
+use Rattle.overlay_engine.proofs.engine.Engine.recover.Goals as goal
+
+pub returns-in-Ok-restored-clause-ok : goal.returns-in-Ok-restored-clause-ok
+returns-in-Ok-restored-clause-ok g c honest start least commands all =
+    let disk = c.args.disk in
+    let opened = c.in-Ok.ensures.ok honest in
+    recovered_with g.D.Disk start disk least commands all (g.met.D.Disk.seen_may_stay disk honest)
+    (record { version = c.in-Ok-restored.version; flusher = c.new.result; jobs = c.new-in-Ok-restored.result; next_job = 0 })
+    c.in-Ok.opened.0 c.number-stored.result opened.0 c.in-Ok.opened.1 c.new.ensures c.number-stored.ensures.value c.in-Ok-restored.ensures
+    (c.in-Ok.ensures.gives honest) opened.1 opened.2 opened.3
+
+pub returns-in-Err-restored-clause-err : goal.returns-in-Err-restored-clause-err
+returns-in-Err-restored-clause-err g c honest start least commands all =
+    let disk = c.args.disk in
+    let opened = c.in-Ok.ensures.ok honest in
+    subst (λ (d : g.row.D.Denot). Refused g.D.Disk start disk (record { fault = OutOfMemory; disk = d }) least commands) (sym c.into_disk.ensures)
+    (given_up g.D.Disk start disk least commands all (g.met.D.Disk.seen_may_stay disk honest) c.in-Ok.opened.0 opened.0 c.in-Ok.opened.1
+    (c.in-Ok.ensures.gives honest) opened.1 opened.2 opened.3)

@@ -1,0 +1,26 @@
+-- What a recovery owes of a file that a crash may have left.
+use Rattle.std.specs.Prelude.{◌≡◌, ◌⊎◌, ℕ, ◌+◌, ◌≤◌, List, length}
+use Rattle.disk_model.specs.declared.disk.Disk.{Ghosts}
+use Rattle.disk_model.specs.Moments.{Leaves, LeavesOnly}
+use Rattle.overlay_terms.specs.Commands.{Command}
+use Rattle.root_store.specs.declared.fault.StoreFault.TheVariants.{Device, OutOfMemory}
+use Rattle.root_store.specs.declared.open_fault.OpenFault.{OpenFault}
+use Rattle.overlay_engine.specs.declared.engine.Engine.{Engine}
+use Rattle.overlay_engine.specs.Start.{Start, up_to}
+use Rattle.overlay_engine.specs.Covers.{Covered, Covers}
+
+module _ {D : Type 0} (g : Ghosts D) (start : Start) (disk : D) where
+  -- an engine is recovered: its version is the one after the first commands, no older than the least, and durable; a crash meanwhile leaves what recovers as well
+  pub record Recovered (e : Engine D) (least : ℕ) (commands : List Command) : Type 0 where
+    pub no_less : least ≤ e.version.number
+    pub no_more : e.version.number ≤ start.number + length commands
+    pub durable : e.version.durable ≡ e.version.number
+    pub covers : Covers g start e.flusher e.version (up_to start e.version.number commands)
+    pub moments : LeavesOnly g disk e.flusher.commit.disk (Covered start least commands)
+
+  -- a recovery is refused: for the device or for memory, and what is left recovers as well
+  pub record Refused (refused : OpenFault D) (least : ℕ) (commands : List Command) : Type 0 where
+    pub honest : g.is_honest refused.disk
+    pub leaves : Leaves g refused.disk (Covered start least commands)
+    pub moments : LeavesOnly g disk refused.disk (Covered start least commands)
+    pub cause : (refused.fault ≡ Device) ⊎ (refused.fault ≡ OutOfMemory)

@@ -1,0 +1,65 @@
+//! Recovery of an engine from what a crash has left.
+ghost use Rattle.std.specs.Prelude.{◌≡◌, [], ℕ, List, Ok, IfOk, IfErr, MatchResult};
+ghost use Rattle.disk_model.specs.Moments.{Leaves};
+ghost use Rattle.overlay_terms.specs.Commands.{Command};
+ghost use Rattle.store_terms.specs.Image.{Held};
+ghost use Rattle.store_terms.specs.StandsFor.{reading};
+ghost use Rattle.root_store.specs.Opening.{Tells};
+ghost use Rattle.overlay_engine.specs.Start.{Start};
+ghost use Rattle.overlay_engine.specs.Covers.{version_of, Covered};
+ghost use Rattle.overlay_engine.specs.Recovery.{Recovered, Refused};
+
+use crate::engine::Engine;
+use disk_model::disk::Disk;
+use flush_core::flusher::Flusher;
+use record_form::image::Image;
+use root_store::commit::Commit;
+use root_store::fault::StoreFault;
+use root_store::open_fault::OpenFault;
+use root_store::opening::open;
+use std::alloc::Global;
+use version_core::fault::VersionFault;
+use version_core::version::Version;
+
+impl<D: Disk> Engine<D> {
+    /// The version that a crash has left on a disk, all of it durable, with just the finished tiles of the file.
+    /// It may itself be stopped, or fail, and what is left recovers as well.
+    pub fn recover(alloc: Global, disk: D, max_blocks: u32) -> Result<Engine<D>, OpenFault<D>>
+        // Of a file that a crash may have left of an engine, the version is the one after the first so many commands.
+        ensures ok { D.is_honest disk → IfOk result (λ e. (start : Start) (least : ℕ) (commands : List Command) → Leaves D.Disk disk (Covered start least commands) → Recovered D.Disk start disk e least commands) }
+        // Such a file is refused only for the device or for memory, and is left such a file.
+        ensures err { D.is_honest disk → IfErr result (λ refused. (start : Start) (least : ℕ) (commands : List Command) → Leaves D.Disk disk (Covered start least commands) → Refused D.Disk start disk refused least commands) }
+        // Of any file the version is what it stands for, or the fault is what is wrong with it.
+        ensures gives { D.is_honest disk → MatchResult result (λ e. (x : Held) × (reading (D.seen disk) ≡ Ok x) × (e.version ≡ version_of x)) (λ refused. Tells refused.fault (reading (D.seen disk))) }
+        ensures stored { IfOk result (λ e. e.flusher.stored ≡ e.version.number) }
+        ensures jobs { IfOk result (λ e. (e.jobs.items ≡ []) × (e.next_job ≡ 0)) }
+    {
+        let (commit, image) = match open(alloc, disk, max_blocks) {
+            Ok(opened) => opened,
+            Err(refused) => return Err(refused),
+        };
+        match restored(alloc, image) {
+            Ok(version) => {
+                let stored = version.number();
+                Ok(Engine {
+                    version,
+                    flusher: Flusher::new(commit, stored),
+                    jobs: Vec::new(alloc),
+                    next_job: 0,
+                })
+            }
+            Err(_) => Err(OpenFault {
+                fault: StoreFault::OutOfMemory,
+                disk: commit.into_disk(),
+            }),
+        }
+    }
+}
+
+/// The version of an image, all of it durable.
+fn restored(alloc: Global, image: Image) -> Result<Version, VersionFault>
+    ensures { IfOk result (λ version. version ≡ version_of image) }
+{
+    let (number, layers, tiles) = image.into_parts();
+    Version::restore(alloc, number, layers, tiles)
+}
