@@ -1,0 +1,9 @@
+//! Tests of a store over a disk in memory.
+#![tactic(auto)]
+
+#[cfg(test)]
+mod crash_tests;
+#[cfg(test)]
+mod limit_tests;
+#[cfg(test)]
+mod testing;
