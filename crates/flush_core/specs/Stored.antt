@@ -4,6 +4,7 @@ use Rattle.overlay_terms.specs.Layers.{Name}
 use Rattle.overlay_terms.specs.Histories.{Version, tile_at}
 use Rattle.store_terms.specs.Image.{Held}
 use Rattle.root_store.specs.declared.fault.StoreFault.{StoreFault}
+use Rattle.root_store.specs.Kept.{Kept}
 use Rattle.root_store.specs.declared.phase.Progress.{Progress}
 use Rattle.root_store.specs.declared.phase.Progress.TheVariants.{Idle, Going, Done}
 
@@ -19,3 +20,8 @@ pub record IsImageOf (version : Version) (x : Held) : Type 0 where
   pub number : x.number ≡ version.number
   pub layers : x.layers ≡ version.layers
   pub tiles : (name : Name) (k : ℕ) → tile_at x.tiles name k ≡ tile_at version.tiles name k
+
+-- a store goes on to a version: its root has the version's number, and what it holds is the version
+pub record IsCommitOf (version : Version) (y : Kept) : Type 0 where
+  pub root : y.root.version ≡ version.number
+  pub image : IsImageOf version y.held

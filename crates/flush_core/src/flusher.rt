@@ -1,14 +1,19 @@
 //! A store, and the number of the version that is stored.
-ghost use Rattle.std.specs.Prelude.{◌≡◌, ◌↔◌, IfOk, OnErr, IsErrOf, IfErr};
+ghost use Rattle.std.specs.Prelude.{◌≡◌, ◌↔◌, ◌≤◌, false, Err, IfOk, OnOk, OnErr, IsErrOf, IfErr};
 ghost use Rattle.disk_model.specs.Disk.{Failed};
+ghost use Rattle.store_terms.specs.Roots.{sequence_max};
+ghost use Rattle.root_store.specs.Beginning.{IsReason};
 ghost use Rattle.root_store.specs.Kept.{Kept};
-ghost use Rattle.root_store.specs.Running.{Runs, Stepped, Counts, calls_left, is_busy, fault_in};
-ghost use Rattle.flush_core.specs.Stored.{stored_after};
+ghost use Rattle.root_store.specs.Running.{Stands, Runs, Stepped, Counts, calls_left, is_busy, fault_in};
+ghost use Rattle.flush_core.specs.Stored.{stored_after, IsCommitOf};
 
+use crate::imaging::image_of;
 use disk_model::disk::Disk;
 use root_store::commit::Commit;
 use root_store::fault::StoreFault;
 use root_store::phase::{Phase, Progress};
+use std::alloc::Global;
+use version_core::version::Version;
 
 /// A store to which versions are written, and the number of the one that was written last.
 #[derive(Drop)]
@@ -37,6 +42,27 @@ impl<D: Disk> Flusher<D> {
         ensures { result ≡ self.now.stored }
     {
         self.stored
+    }
+
+    /// Begins the commit of a version. It makes no device call, and a refusal changes nothing.
+    pub fn begin(&mut self, alloc: Global, version: &Version) -> Result<(), StoreFault>
+        requires { is_busy self.old.commit.phase ≡ false }
+        // From the content that the store stands for to just the version's number, layers and finished tiles.
+        ensures begun { (x : Kept) → Stands D.Disk self.old.commit x → OnOk result ((y : Kept) × IsCommitOf version.now y × Runs D.Disk self.new.commit x y) }
+        ensures stored { self.new.stored ≡ self.old.stored }
+        ensures begins { OnOk result (self.new.commit.phase ≡ Phase.Close) }
+        ensures disk { self.new.commit.disk ≡ self.old.commit.disk }
+        ensures err { OnErr result (self.new ≡ self.old) }
+        ensures failed { self.old.commit.phase ≡ Phase.Failed → result ≡ Err StoreFault.Failed }
+        ensures limit { self.old.commit.phase ≡ Phase.Idle → sequence_max ≤ self.old.commit.root.sequence → result ≡ Err StoreFault.SequenceLimit }
+        ensures errors { IfErr result (λ fault. IsReason self.old.commit.phase self.old.commit.root fault) }
+    {
+        // Asked before memory is taken for the image.
+        if let Some(fault) = self.commit.refusal() {
+            return Err(fault);
+        }
+        let image = image_of(alloc, version)?;
+        self.commit.begin(alloc, image)
     }
 
     /// The disk, as the calls have left it.

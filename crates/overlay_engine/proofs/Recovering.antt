@@ -2,7 +2,10 @@
 use Rattle.std.proofs.Common.{◌≡◌, inl, inr, ℕ, ◌-◌, ◌≤◌, List, length, sym, ◌∙◌, ap, subst, arith, length-take, Ok}
 use Rattle.std.proofs.lemmas.List.{take_all, take-take}
 use Rattle.disk_model.specs.declared.disk.Disk.{Ghosts}
+use Rattle.disk_model.specs.Moments.{LeavesOnly}
+use Rattle.disk_model.proofs.Runs.{started}
 use Rattle.overlay_terms.specs.Layers.{Layer}
+use Rattle.overlay_terms.specs.Commands.{Command}
 use Rattle.overlay_terms.specs.Histories.{Version}
 use Rattle.overlay_terms.specs.KeptLaws.{IsExact}
 use Rattle.overlay_terms.specs.Orderly.{IsOrderly}
@@ -10,10 +13,12 @@ use Rattle.overlay_terms.specs.KeptLaws.{AreFitting, AreExact}
 use Rattle.store_terms.specs.Image.{Held}
 use Rattle.store_terms.specs.StandsFor.{reading}
 use Rattle.root_store.specs.declared.phase.Phase.{Phase}
+use Rattle.flush_core.specs.declared.flusher.Flusher.{Flusher}
 use Rattle.flush_core.specs.Stored.{IsImageOf}
-use Rattle.overlay_engine.specs.Start.{layers_from, up_to}
-use Rattle.overlay_engine.specs.Covers.{version_of, IsStored, AtRest, In}
+use Rattle.overlay_engine.specs.Start.{Start, layers_from, up_to}
+use Rattle.overlay_engine.specs.Covers.{version_of, IsStored, Covered, AtRest, In, Covers}
 use Rattle.overlay_engine.specs.Laws.{OpenedRecovers, OpeningIsCovered, BegunCovers}
+use Rattle.overlay_engine.proofs.Covering.{covered_less, covers_leaves}
 
 same_held : (file : List ℕ) (x y : Held) → reading file ≡ Ok x → reading file ≡ Ok y → x ≡ y
 same_held file x y a b = cc
@@ -57,9 +62,11 @@ module _ {D : Type 0} (g : Ghosts D) where
       let here = all (g.seen disk) stays in record { held = here.held; no_less = here.no_less; stored = here.stored; stands = same ∙ here.stands }
 
   pub begun_covers : BegunCovers g
-  begun_covers start old new version y commands idle covers begun =
+  begun_covers start old new version commands idle covers begun =
       let rest : AtRest g start old commands = subst (λ (q : Phase). In g start q old commands) idle covers.store in
-      let image = begun.image in
+      let run = begun.runs rest.x rest.stands in
+      let y = run.0 in
+      let image = run.1.image in
       let all : up_to start y.held.number commands ≡ commands = take_all (y.held.number - start.number) commands (omega (arith, image.number, covers.number)) in
       record {
         honest = begun.honest covers.honest;
@@ -73,7 +80,7 @@ module _ {D : Type 0} (g : Ghosts D) where
           y = y;
           number = rest.number ∙ sym begun.stored;
           stored = rest.stored;
-          next_number = image.number ∙ sym begun.root;
+          next_number = image.number ∙ sym run.1.root;
           storing = record {
             since = omega (arith, image.number, covers.number);
             no_later = omega (arith, image.number, covers.number);
@@ -81,6 +88,15 @@ module _ {D : Type 0} (g : Ghosts D) where
             exact = image_exact version y.held image covers.exact;
           };
           later = omega (arith, covers.stored, begun.stored, image.number);
-          runs = begun.runs rest.x rest.stands;
+          runs = run.2;
         });
       }
+
+  -- a step that makes no call leaves what was covered
+  pub stays_covered : (start : Start) (f : Flusher D) (version : Version) (commands : List Command) → (disk : D) → f.commit.disk ≡ disk
+      → ((c : List ℕ) → g.left_since disk (g.moment disk) c → g.may_leave disk c) → Covers g start f version commands
+      → LeavesOnly g disk disk (Covered start version.durable commands)
+  stays_covered start f version commands disk is now covers =
+      started g disk (Covered start version.durable commands) (λ c left.
+      covered_less start version.durable f.stored commands c covers.reported
+      (covers_leaves g start f version commands covers c (subst (λ (d : D). g.may_leave d c) (sym is) (now c left))))

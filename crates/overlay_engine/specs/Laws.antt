@@ -9,7 +9,7 @@ use Rattle.root_store.specs.declared.phase.Phase.TheVariants.{Idle, Close}
 use Rattle.root_store.specs.Kept.{Kept}
 use Rattle.root_store.specs.Running.{Stands, Runs}
 use Rattle.flush_core.specs.declared.flusher.Flusher.{Flusher}
-use Rattle.flush_core.specs.Stored.{IsImageOf}
+use Rattle.flush_core.specs.Stored.{IsCommitOf}
 use Rattle.overlay_engine.specs.Start.{Start, up_to}
 use Rattle.overlay_engine.specs.Covers.{version_of, Covered, Covers, added, ReportsStored}
 
@@ -50,16 +50,14 @@ module _ {D : Type 0} (g : Ghosts D) where
       (start : Start) (disk : D) (least : ℕ) (commands : List Command) → Leaves g disk (Covered start least commands) → g.may_leave disk (g.seen disk)
       → (c : List ℕ) → g.may_leave disk c ⊎ (reading c ≡ reading (g.seen disk)) → Covered start least commands c
 
-  -- a commit of a version begins: what it writes is that version, under its number
-  pub record IsBegun (old new : Flusher D) (version : Version) (y : Kept) : Type 0 where
+  -- a commit of a version begins: it leads from what the store stands for to that version, under its number
+  pub record IsBegun (old new : Flusher D) (version : Version) : Type 0 where
     pub began : new.commit.phase ≡ Close
     pub honest : g.is_honest old.commit.disk → g.is_honest new.commit.disk
-    pub runs : (x : Kept) → Stands g old.commit x → Runs g new.commit x y
+    pub runs : (x : Kept) → Stands g old.commit x → (y : Kept) × IsCommitOf version y × Runs g new.commit x y
     pub stored : new.stored ≡ old.stored
-    pub root : y.root.version ≡ version.number
-    pub image : IsImageOf version y.held
 
   abbrev pub BegunCovers : Type 0
   BegunCovers =
-      (start : Start) (old new : Flusher D) (version : Version) (y : Kept) (commands : List Command)
-      → old.commit.phase ≡ Idle → Covers g start old version commands → IsBegun old new version y → Covers g start new version commands
+      (start : Start) (old new : Flusher D) (version : Version) (commands : List Command)
+      → old.commit.phase ≡ Idle → Covers g start old version commands → IsBegun old new version → Covers g start new version commands

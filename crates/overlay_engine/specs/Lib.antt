@@ -1,5 +1,6 @@
-pub mod Start
 pub mod Covers
-pub mod Recovery
-pub mod Steps
+pub mod Devices
 pub mod Laws
+pub mod Recovery
+pub mod Start
+pub mod Steps

@@ -3,6 +3,7 @@
 
 mod calling;
 mod creating;
+mod device;
 pub mod engine;
 mod finishing;
 pub mod laws;

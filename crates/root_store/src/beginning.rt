@@ -1,5 +1,5 @@
 //! Beginning a commit.
-ghost use Rattle.std.specs.Prelude.{◌≡◌, ◌⊎◌, ◌+◌, ◌<◌, ◌≤◌, true, false, length, IfOk, IfErr, OnOk, OnErr};
+ghost use Rattle.std.specs.Prelude.{◌≡◌, ◌⊎◌, ◌+◌, ◌<◌, ◌≤◌, true, false, length, Some, IfOk, IfErr, IfSome, IfNone, OnOk, OnErr};
 ghost use Rattle.extent_map.specs.Taken.{taken_of};
 ghost use Rattle.store_terms.specs.Image.{Held};
 ghost use Rattle.store_terms.specs.Roots.{sequence_max};
@@ -26,7 +26,9 @@ impl<D: Disk> Commit<D> {
     pub(crate) fn start(&mut self, next: Next)
         ensures begun { (x : Kept) (held : Held) → Stands D.Disk self.old x → x.root.sequence < sequence_max → IsNext x held next → (y : Kept) × (y.held ≡ held) × Runs D.Disk self.new x y }
         ensures disk { self.new.disk ≡ self.old.disk }
+        ensures root { self.new.next_root ≡ next.root }
         ensures busy { is_busy self.new.phase ≡ true }
+        ensures begins { self.new.phase ≡ Phase.Close }
         // One for each write, and five more.
         ensures calls { calls_left self.new ≡ length next.plan.items + 5 }
     {
@@ -37,11 +39,31 @@ impl<D: Disk> Commit<D> {
         self.phase = Phase::Close;
     }
 
+    /// Why no commit can begin, whatever it is to write: the device failed in an earlier call, or there is no number
+    /// for the commit.
+    pub fn refusal(&self) -> Option<StoreFault>
+        ensures failed { self.now.phase ≡ Phase.Failed → result ≡ Some StoreFault.Failed }
+        ensures limit { self.now.phase ≡ Phase.Idle → sequence_max ≤ self.now.root.sequence → result ≡ Some StoreFault.SequenceLimit }
+        ensures reason { IfSome result (λ fault. IsReason self.now.phase self.now.root fault) }
+        ensures none { IfNone result (self.now.root.sequence < sequence_max) }
+    {
+        if matches!(self.phase, Phase::Failed) {
+            return Some(StoreFault::Failed);
+        }
+        if self.root.sequence >= 1 << 62 {
+            return Some(StoreFault::SequenceLimit);
+        }
+        None
+    }
+
     /// Begins the commit of an image. It makes no device call, and a refusal changes nothing.
     pub fn begin(&mut self, alloc: Global, image: Image) -> Result<(), StoreFault>
         requires { is_busy self.old.phase ≡ false }
         // From the content that the store stands for to that of the image.
         ensures begun { (x : Kept) → Stands D.Disk self.old x → OnOk result ((y : Kept) × (y.held ≡ image) × Runs D.Disk self.new x y) }
+        // The root that it leads to has the image's number, and the first call shuts the other slot's gate.
+        ensures number { OnOk result (self.new.next_root.version ≡ image.number) }
+        ensures begins { OnOk result (self.new.phase ≡ Phase.Close) }
         ensures busy { OnOk result (is_busy self.new.phase ≡ true) }
         // One for each record and the catalog, and six more.
         ensures calls { OnOk result (calls_left self.new ≡ length image.layers + length image.tiles + 7) }
@@ -51,11 +73,8 @@ impl<D: Disk> Commit<D> {
         ensures limit { self.old.phase ≡ Phase.Idle → sequence_max ≤ self.old.root.sequence → result ≡ Err StoreFault.SequenceLimit }
         ensures errors { IfErr result (λ fault. IsReason self.old.phase self.old.root fault) }
     {
-        if matches!(self.phase, Phase::Failed) {
-            return Err(StoreFault::Failed);
-        }
-        if self.root.sequence >= 1 << 62 {
-            return Err(StoreFault::SequenceLimit);
+        if let Some(fault) = self.refusal() {
+            return Err(fault);
         }
         let next = drafted(alloc, &image, &self.room, self.root)?;
         self.start(next);
@@ -68,6 +87,7 @@ fn drafted(alloc: Global, image: &Image, room: &Room, root: Root) -> Result<Next
     requires { root.sequence < sequence_max }
     ensures ok { (x : Kept) → x.root ≡ root → IsMapOf x.extents (taken_of room.now.map) → IfOk result (λ next. IsNext x image.now next) }
     ensures calls { IfOk result (λ next. length next.plan.items ≡ length image.now.layers + length image.now.tiles + 2) }
+    ensures number { IfOk result (λ next. next.root.version ≡ image.now.number) }
     ensures err { IfErr result (λ fault. (fault ≡ StoreFault.Full) ⊎ (fault ≡ StoreFault.OutOfMemory)) }
 {
     let number = image.number();

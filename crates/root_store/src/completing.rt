@@ -44,6 +44,7 @@ pub(crate) fn completed(
     ensures ok { (x : Kept) (given : List runs.Extent) (limit : ℕ) (layers : List FiledLayer) (held : Held) → x.root ≡ root → IsMapOf x.extents given
         → IsDraft given limit (flat_map filed_of layers) draft → Spell layers (listing_of listing.now) held → held.number ≡ number → IfOk result (λ next. IsNext x held next) }
     ensures calls { IfOk result (λ next. length next.plan.items ≡ length draft.writes.items + 2) }
+    ensures number { IfOk result (λ next. next.root.version ≡ number) }
     ensures full { (given : List runs.Extent) (limit : ℕ) (fs : List Filed) → IsDraft given limit fs draft
         → IsErrOf result StoreFault.Full → HasNoRun given limit fs ((catalog column_count).text (listing_of listing.now)) }
     ensures err { (given : List runs.Extent) (limit : ℕ) (fs : List Filed) → IsDraft given limit fs draft

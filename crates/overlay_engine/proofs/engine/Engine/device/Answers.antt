@@ -1,0 +1,27 @@
+use Rattle.std.proofs.Common.{inl, inr, refl, sym, ◌∙◌, subst}
+use Rattle.overlay_engine.proofs.DeviceSteps.{never_both, resting, begun_moves, stays}
+use Rattle.overlay_engine.proofs.engine.Engine.device.Goals as goal
+
+pub returns-in-Ok-clause-device : goal.returns-in-Ok-clause-device
+returns-in-Ok-clause-device g c =
+    let e = c.args.self.now in
+    inr (inl (
+      sym c.busy.ensures ∙ c.if-busy.false,
+      record e { flusher = c.begin.new.self },
+      record { began = c.in-Ok.ensures.begins; stored = c.begin.ensures.stored; disk = c.begin.ensures.disk; rest = refl },
+      c.call-in-Ok.ensures.calls,
+    ))
+
+pub returns-in-Ok-clause-moves : goal.returns-in-Ok-clause-moves
+returns-in-Ok-clause-moves g c start commands covers =
+    let e = c.args.self.now in
+    let mid = c.begin.new.self in
+    let idle = resting e.flusher.commit.phase (sym c.busy.ensures ∙ c.if-busy.false) (λ failed. never_both c.begin.result _ _ c.in-Ok.is (c.begin.ensures.failed failed)) in
+    begun_moves g.D.Disk start e.flusher mid c.call-in-Ok.new.self.flusher e.version commands idle c.begin.ensures.disk
+    (record { began = c.in-Ok.ensures.begins; honest = λ honest. subst g.D.Disk.is_honest (sym c.begin.ensures.disk) honest; runs = c.in-Ok.ensures.begun; stored = c.begin.ensures.stored })
+    (c.call-in-Ok.ensures.moves start commands) covers
+
+pub returns-in-Err-clause-moves : goal.returns-in-Err-clause-moves
+returns-in-Err-clause-moves g c start commands covers =
+    let e = c.args.self.now in
+    stays g.D.Disk start e.flusher c.begin.new.self e.version commands c.in-Err.ensures.err (λ f left. g.met.D.Disk.only_now e.flusher.commit.disk f covers.honest left) covers
