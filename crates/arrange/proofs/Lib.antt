@@ -15,7 +15,7 @@ pub mod NeighbourSteps
 pub mod UnitListLemmas
 pub mod AlongPieces
 pub mod MadePieces
-pub mod HeldLemmas
+pub mod PlacedLemmas
 pub mod SortedPieces
 pub mod Utmost
 pub mod UnitCover

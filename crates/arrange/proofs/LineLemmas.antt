@@ -1,6 +1,6 @@
 -- Runs of segments on one line, among segments in the order of their lines.
-use Rattle.std.proofs.Common.{◌≡◌, ℕ, ℤ, pos, zero, suc, ◌+◌, ◌-◌, ◌<◌, ◌≤◌, ◌⊎◌, zero-add, take_all, inl, inr, true, false, Bool, not, List, [], ◌∷◌, ◌++◌, length, map, take, drop, get_or, refl, ap, sym, ◌∙◌, subst, arith}
-use Rattle.std.specs.Prelude.{IsTrue, Contains, All, slice_range}
+use Rattle.std.proofs.Common.{◌≡◌, ℕ, pos, zero, suc, ◌+◌, ◌-◌, ◌<◌, ◌≤◌, ◌⊎◌, zero-add, take_all, inl, inr, true, false, Bool, not, List, [], ◌∷◌, ◌++◌, length, map, take, drop, get_or, refl, ap, sym, ◌∙◌, subst, arith}
+use Rattle.std.specs.Prelude.{Contains, All, slice_range}
 use Rattle.std.specs.List.Sorted.{IsSorted}
 use Rattle.std.specs.Ordering.{int_eq, int_cmp, is_lt, is_eq, is_ne, ordering_then, ordering_reverse}
 use Rattle.std.specs.declared.cmp.Ordering.{Ordering}
@@ -13,11 +13,10 @@ use Rattle.std.proofs.lemmas.List.Sorted.{sorted_far, ranks_by}
 use Rattle.overlay_terms.specs.Plane.{Segment, whole, whole_cmp, height_over}
 use Rattle.overlay_terms.specs.Layers.{Marked}
 use Rattle.overlay_terms.specs.TileLaws.{IsProper}
-use Rattle.exact_point.specs.Crossing.{turn_of}
 use Rattle.exact_point.proofs.OnLine.{one_direction, left_on_line, right_on_line}
 use Rattle.exact_point.proofs.PlaceOrder.{level_from}
 use Rattle.arrange.specs.Marked.{marked_of, AllProper}
-use Rattle.arrange.specs.Units.{is_collinear, IsUnit, AreUnits}
+use Rattle.arrange.specs.Units.{is_collinear, AreUnits}
 use Rattle.arrange.specs.Lines.{line_cmp, line_marked, line_total, same_line}
 use Rattle.arrange.specs.declared.line_seg.LineSeg.{LineSeg}
 use Rattle.arrange.specs.declared.marked_seg.MarkedSeg.{MarkedSeg}

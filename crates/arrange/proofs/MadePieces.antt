@@ -16,12 +16,12 @@ use Rattle.exact_point.specs.PlaceOf.{place_of}
 use Rattle.arrange.specs.Arrangement.{segments_in, on_bits}
 use Rattle.arrange.specs.NamedPlaces.{spot, names_along, IsFound}
 use Rattle.arrange.specs.Marked.{marked_of}
-use Rattle.arrange.specs.Masks.{held_bits}
-use Rattle.arrange.specs.HeldPieces.{IsMadeAt, IsHeld, AreNeighbours, RunsBetween, HoldsOneMore}
+use Rattle.arrange.specs.Masks.{holding_bits}
+use Rattle.arrange.specs.PlacedPieces.{IsMadeAt, IsPlaced, AreNeighbours, RunsBetween, HoldsOneMore}
 use Rattle.arrange.specs.declared.marked_seg.MarkedSeg.{MarkedSeg}
 use Rattle.arrange.specs.declared.named_place.NamedPlace.{NamedPlace}
 use Rattle.arrange.specs.declared.piece.Elementary.{Elementary}
-use Rattle.arrange.specs.declared.held_piece.HeldPiece.{HeldPiece}
+use Rattle.arrange.specs.declared.placed_piece.PlacedPiece.{PlacedPiece}
 use Rattle.arrange.proofs.MaskLemmas.{middle_mask}
 use Rattle.arrange.proofs.PieceLemmas.{middle_held}
 use Rattle.arrange.proofs.AlongPieces.{proper_among}
@@ -47,7 +47,7 @@ begins_not input a k b e f g c =
     (ap (λ j. int_lt (spot a).x (border (j + 1) *ℤ (spot a).w)) (sym e) ∙ sym f ∙ g) parts.1
 
 module _ (input : Input) (s : Segment) (a b : NamedPlace) (n : AreNeighbours input s a b) (valid : IsInput input) (items : List MarkedSeg) (same : map marked_of items ≡ input.marked)
-    (mask : ℕ) (bits : (k : ℕ) → k < 32 → mask_bits mask k ≡ held_bits items (spot a) (spot b) k) (begins : IsTrue (is_in_column input.column (spot a))) where
+    (mask : ℕ) (bits : (k : ℕ) → k < 32 → mask_bits mask k ≡ holding_bits items (spot a) (spot b) k) (begins : IsTrue (is_in_column input.column (spot a))) where
   abbrev new : Elementary
   new = record { support = s; from = a.name; to = b.name; mask = mask }
 
@@ -80,15 +80,15 @@ module _ (input : Input) (s : Segment) (a b : NamedPlace) (n : AreNeighbours inp
       subst T n.to_found.told (subst F n.from_found.told made_there)
 
   -- the piece is added
-  pub one_more : (before : List HeldPiece) (ahead : whole_cmp s.left s.right ≡ Less) → HoldsOneMore input a b before (before ++ record { at = a.at; piece = new; ahead = ahead } ∷ [])
+  pub one_more : (before : List PlacedPiece) (ahead : whole_cmp s.left s.right ≡ Less) → HoldsOneMore input a b before (before ++ record { at = a.at; piece = new; ahead = ahead } ∷ [])
   one_more before ahead =
-      let h : HeldPiece = record { at = a.at; piece = new; ahead = ahead } in
+      let h : PlacedPiece = record { at = a.at; piece = new; ahead = ahead } in
       record {
-        sound = λ all. All-push (IsHeld input) before h all (record { from_named = n.from_found.named; to_named = n.to_found.named; placed = n.from_found.told; made = made_named });
+        sound = λ all. All-push (IsPlaced input) before h all (record { from_named = n.from_found.named; to_named = n.to_found.named; placed = n.from_found.told; made = made_named });
         kept = λ g c. Contains-append_left before (h ∷ []) g c;
         covered = λ i. Any-push (RunsBetween a b) before h (n.from_found.told, n.to_found.told);
       }
 
 -- no piece begins there
-pub no_more : (input : Input) (a b : NamedPlace) (held : List HeldPiece) → (IsTrue (is_in_column input.column (spot a)) → ⊥) → HoldsOneMore input a b held held
-no_more input a b held out = record { sound = λ all. all; kept = λ h c. c; covered = λ i. absurd (out i) }
+pub no_more : (input : Input) (a b : NamedPlace) (placed : List PlacedPiece) → (IsTrue (is_in_column input.column (spot a)) → ⊥) → HoldsOneMore input a b placed placed
+no_more input a b placed out = record { sound = λ all. all; kept = λ h c. c; covered = λ i. absurd (out i) }

@@ -13,7 +13,7 @@ use Rattle.overlay_terms.specs.Layers.{Marked}
 use Rattle.overlay_terms.specs.Tiles.{midpoint}
 use Rattle.arrange.specs.Arrangement.{on_bits}
 use Rattle.arrange.specs.Marked.{marked_of}
-use Rattle.arrange.specs.Masks.{held_count, held_bits}
+use Rattle.arrange.specs.Masks.{holding_count, holding_bits}
 use Rattle.arrange.specs.declared.marked_seg.MarkedSeg.{MarkedSeg}
 
 -- an odd number is one whose bit is 1
@@ -35,7 +35,7 @@ other_bit mask j k n =
     ap (λ b. b == 1) (bit_at_xor mask (2 ^ j) k ∙ ap (λ b. (bit_at mask k + b) % 2) (bit_at-pow_other j k n) ∙ stays (bit_at mask k) (bit_at-lt mask k))
 
 module _ (marked : List MarkedSeg) (p r : Point) (k i : ℕ) (x : MarkedSeg) (within : i < length marked) (is : x ≡ get_or marked i x) (mask : ℕ)
-    (so_far : mask_bits mask k ≡ held_bits (take i marked) p r k) where
+    (so_far : mask_bits mask k ≡ holding_bits (take i marked) p r k) where
   abbrev Test : MarkedSeg → Bool
   Test m = (m.layer == k) && (is_on m.seg p && is_on m.seg r)
 
@@ -43,23 +43,23 @@ module _ (marked : List MarkedSeg) (p r : Point) (k i : ℕ) (x : MarkedSeg) (wi
   at_item b e = ap Test (sym is) ∙ e
 
   -- a segment that does not count leaves the mask as it is
-  none_more : Test x ≡ false → mask_bits mask k ≡ held_bits (take (i + 1) marked) p r k
+  none_more : Test x ≡ false → mask_bits mask k ≡ holding_bits (take (i + 1) marked) p r k
   none_more e = so_far ∙ ap (λ n. n % 2 == 1) (sym (count_by_more_no Test marked i x within (at_item false e)))
 
   -- a segment that does not hold both
-  pub skipped : (is_on x.seg p && is_on x.seg r) ≡ false → mask_bits mask k ≡ held_bits (take (i + 1) marked) p r k
+  pub skipped : (is_on x.seg p && is_on x.seg r) ≡ false → mask_bits mask k ≡ holding_bits (take (i + 1) marked) p r k
   skipped e = none_more (off (x.layer == k) (is_on x.seg p && is_on x.seg r) e) where
     off : (a b : Bool) → b ≡ false → (a && b) ≡ false
     off true b f = f
     off false b f = refl
 
   -- a segment that holds both turns the bit of its layer
-  pub turned : (is_on x.seg p && is_on x.seg r) ≡ true → mask_bits (bit_xor mask (2 ^ x.layer)) k ≡ held_bits (take (i + 1) marked) p r k
+  pub turned : (is_on x.seg p && is_on x.seg r) ≡ true → mask_bits (bit_xor mask (2 ^ x.layer)) k ≡ holding_bits (take (i + 1) marked) p r k
   turned e = by (cases_eq k x.layer) where
-    by : (k ≡ x.layer) ⊎ (k ≢ x.layer) → mask_bits (bit_xor mask (2 ^ x.layer)) k ≡ held_bits (take (i + 1) marked) p r k
+    by : (k ≡ x.layer) ⊎ (k ≢ x.layer) → mask_bits (bit_xor mask (2 ^ x.layer)) k ≡ holding_bits (take (i + 1) marked) p r k
     by (inl same) =
         ap (λ j. mask_bits (bit_xor mask (2 ^ j)) k) (sym same)
-        ∙ turned_bit mask k (held_count (take i marked) p r k) so_far
+        ∙ turned_bit mask k (holding_count (take i marked) p r k) so_far
         ∙ ap (λ n. n % 2 == 1) (sym (count_by_more_yes Test marked i x within (at_item true (and_from (x.layer == k) (is_on x.seg p && is_on x.seg r) (eq-eqb x.layer k (sym same)) e))))
     by (inr other) =
         other_bit mask x.layer k other
@@ -94,7 +94,7 @@ counts {X} {Y} p q v (x ∷ xs) a h =
 
 -- where the segments that hold both points are those that hold their middle, the mask is that of the middle
 pub middle_mask : (items : List MarkedSeg) (p r : Point) (k : ℕ) → ((m : MarkedSeg) → Contains items m → (is_on m.seg p && is_on m.seg r) ≡ is_on m.seg (midpoint p r))
-    → held_bits items p r k ≡ on_bits (map marked_of items) (midpoint p r) k
+    → holding_bits items p r k ≡ on_bits (map marked_of items) (midpoint p r) k
 middle_mask items p r k h =
     ap (λ n. n % 2 == 1)
     (counts (λ (m : MarkedSeg). (m.layer == k) && (is_on m.seg p && is_on m.seg r)) (λ (m : Marked). (m.layer == k) && is_on m.segment (midpoint p r)) marked_of items 0

@@ -6,15 +6,14 @@ use Rattle.std.proofs.lemmas.Int.{ints}
 use Rattle.std.proofs.lemmas.Bool.{or_cases, or_left, or_right, and_parts, false_from_ne_true, both_ways}
 use Rattle.std.proofs.lemmas.List.Elements.{Contains-append_cases, All-contains, All-filter, All-map, All-weaker, filter_passes}
 use Rattle.std.proofs.lemmas.List.Kept.{AllPairs-cons, AllPairs-filter}
-use Rattle.overlay_terms.specs.TileLaws.{IsInput, IsProper}
 use Rattle.overlay_terms.proofs.Lists.{any_from, any_contains, Contains-cons_cases, from_flat_map, contains_map}
 use Rattle.overlay_terms.proofs.InputLists.{Contains-filter}
 use Rattle.overlay_terms.proofs.PointOrder.{same_points}
 use Rattle.overlay_terms.proofs.InputNodes.{border_node}
 use Rattle.exact_point.specs.PlaceOf.{place_of}
-use Rattle.exact_point.proofs.OnLine.{parallel_through, parallel_line, between_on, after_left, before_right, on_line, left_on_line, turn_from_parallel, parallel_from_turn, no_turn_back}
+use Rattle.exact_point.proofs.OnLine.{parallel_through, parallel_line, between_on, after_left, before_right, on_line, left_on_line, turn_from_parallel, no_turn_back}
 use Rattle.exact_point.proofs.PlaceOrder.{one_positive, same_turned, same_through, level_from, same_self}
-use Rattle.tile_laws.proofs.SameNodes.{node_alike}
+use Rattle.exact_point.proofs.SameNodes.{node_alike}
 use Rattle.exact_point.proofs.Nodes.{wide_too, node_at_end, end_among, crossing_is_node}
 use Rattle.arrange.proofs.SortedPlaces.{spot_positive}
 use Rattle.std.proofs.lemmas.List.Folds.{Any-from_list_any, list_any-from_Any}
@@ -28,7 +27,7 @@ use Rattle.exact_point.specs.Crossing.{turn_of, IsCrossingOf}
 use Rattle.exact_point.specs.PointName.{HasPlace, IsPlaceOf, IsCutOf}
 use Rattle.exact_point.specs.declared.point_name.PointName.{PointName}
 use Rattle.exact_point.specs.declared.point_name.PointName.TheVariants.{Vertex, Cross, Border}
-use Rattle.arrange.specs.Units.{IsUnit, is_end_along, is_collinear, covers}
+use Rattle.arrange.specs.Units.{is_end_along, is_collinear}
 use Rattle.arrange.specs.Arrangement.{segments_in, IsNodeOn, AreNodesOn}
 use Rattle.arrange.specs.NamedPlaces.{spot, own_names, names_with, names_along, IsFound, AreAlong}
 use Rattle.arrange.specs.declared.named_place.NamedPlace.{NamedPlace}

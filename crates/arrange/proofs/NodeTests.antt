@@ -1,6 +1,6 @@
 -- The tests of nodes over marked segments, and those over the segments alone.
-use Rattle.std.specs.Prelude.{◌≡◌, ℕ, ℤ, pos, ◌+◌, ◌<◌, ◌≤◌, Bool, true, false, not, ◌&&◌, ◌||◌, ◌*ℤ◌, List, [], ◌∷◌, map, length}
-use Rattle.std.specs.List.{list_any, range_with_len}
+use Rattle.std.specs.Prelude.{◌≡◌, ℕ, pos, ◌+◌, ◌<◌, Bool, true, false, not, ◌&&◌, ◌||◌, ◌*ℤ◌, List, [], ◌∷◌, map}
+use Rattle.std.specs.List.{list_any}
 use Rattle.std.specs.Cmp.{both_ways}
 use Rattle.std.specs.Ordering.{int_eq, int_cmp, is_eq}
 use Rattle.std.proofs.Common.{refl, ap, sym, ◌∙◌, get_or, take, arith}

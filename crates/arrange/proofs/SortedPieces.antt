@@ -1,4 +1,4 @@
--- Held pieces in order, each once, are the pieces that begin in the column.
+-- Placed pieces in order, each once, are the pieces that begin in the column.
 use Rattle.std.proofs.Common.{◌≡◌, ℤ, pos, ◌<ℤ◌, ◌⊎◌, inl, inr, true, List, map, refl, sym, ap, ◌∙◌, subst, arith}
 use Rattle.std.specs.Prelude.{IsTrue, All, Any, Contains}
 use Rattle.std.specs.List.{AllPairs, dedup}
@@ -21,9 +21,9 @@ use Rattle.exact_point.specs.PlaceOf.{place_of}
 use Rattle.exact_point.proofs.PlaceOrder.{Way, before, at, after, way_of, same_from_equal, same_through, same_turned}
 use Rattle.exact_point.proofs.OnLine.{no_turn_back}
 use Rattle.arrange.specs.Arrangement.{segments_in, IsElementary, ComesBefore, ArePieces}
-use Rattle.arrange.specs.HeldPieces.{held_cmp, held_total, same_held, same_held_equiv, IsMadeAt, IsHeld, has_ends, HoldsPieces}
+use Rattle.arrange.specs.PlacedPieces.{placed_cmp, placed_total, same_placed, same_placed_equiv, IsMadeAt, IsPlaced, has_ends, HoldsPieces}
 use Rattle.arrange.specs.declared.piece.Elementary.{Elementary}
-use Rattle.arrange.specs.declared.held_piece.HeldPiece.{HeldPiece}
+use Rattle.arrange.specs.declared.placed_piece.PlacedPiece.{PlacedPiece}
 use Rattle.arrange.proofs.SortedPlaces.{strict_pairs, all_deduped, equal_from_test}
 use Rattle.arrange.proofs.NodeSound.{pairs_mapped}
 use Rattle.arrange.proofs.PieceLemmas.{no_shorter}
@@ -40,10 +40,10 @@ equal_ranked : (x y : ℤ) → int_cmp x y ≡ Equal → x ≡ y
 equal_ranked x y e = int_ranked x y Equal (sym e)
 
 -- the order of the places, as that of their names
-by_names : (input : Input) (a b : HeldPiece) → IsHeld input a → IsHeld input b → hpoint_cmp a.at b.at ≡ point_cmp (place_of a.piece.from) (place_of b.piece.from)
+by_names : (input : Input) (a b : PlacedPiece) → IsPlaced input a → IsPlaced input b → hpoint_cmp a.at b.at ≡ point_cmp (place_of a.piece.from) (place_of b.piece.from)
 by_names input a b h g = ap (λ p. point_cmp p (place b.at)) h.placed ∙ ap (point_cmp (place_of a.piece.from)) g.placed
 
-comes_before : (input : Input) (a b : HeldPiece) → IsHeld input a → IsHeld input b → held_cmp a b ≡ Less → ComesBefore a.piece b.piece
+comes_before : (input : Input) (a b : PlacedPiece) → IsPlaced input a → IsPlaced input b → placed_cmp a b ≡ Less → ComesBefore a.piece b.piece
 comes_before input a b h g e = by (less_cases (hpoint_cmp a.at b.at) (int_cmp (pos 0) (turn_of a.piece.support b.piece.support)) e) where
   by : (hpoint_cmp a.at b.at ≡ Less) ⊎ ((hpoint_cmp a.at b.at ≡ Equal) × (int_cmp (pos 0) (turn_of a.piece.support b.piece.support) ≡ Less)) → ComesBefore a.piece b.piece
   by (inl f) = inl (sym (by_names input a b h g) ∙ f)
@@ -59,11 +59,11 @@ not_shorter input d e p r p' r' ahead other m n same turn short =
     e.support other turn p' r' n.piece.from_positive n.piece.to_positive same n.from_on n.to_on n.piece.in_order short n.piece.to_node
 
 -- pieces from one place in one direction are one piece
-one_piece : (input : Input) (a b : HeldPiece) → IsHeld input a → IsHeld input b → same_held a b ≡ true
+one_piece : (input : Input) (a b : PlacedPiece) → IsPlaced input a → IsPlaced input b → same_placed a b ≡ true
     → IsTrue (same_place (place_of a.piece.from) (place_of b.piece.from)) × IsTrue (same_place (place_of a.piece.to) (place_of b.piece.to))
 one_piece input a b h g e = (same_from, by (way_of (place_of a.piece.to) (place_of b.piece.to) h.made.piece.to_positive g.made.piece.to_positive)) where
   parts : (hpoint_cmp a.at b.at ≡ Equal) × (int_cmp (pos 0) (turn_of a.piece.support b.piece.support) ≡ Equal)
-  parts = both_equal (hpoint_cmp a.at b.at) (int_cmp (pos 0) (turn_of a.piece.support b.piece.support)) (equal_from_test (held_cmp a b) e)
+  parts = both_equal (hpoint_cmp a.at b.at) (int_cmp (pos 0) (turn_of a.piece.support b.piece.support)) (equal_from_test (placed_cmp a b) e)
 
   same_from : IsTrue (same_place (place_of a.piece.from) (place_of b.piece.from))
   same_from = same_from_equal (place_of a.piece.from) (place_of b.piece.from) h.made.piece.from_positive g.made.piece.from_positive (sym (by_names input a b h g) ∙ parts.0)
@@ -80,7 +80,7 @@ one_piece input a b h g e = (same_from, by (way_of (place_of a.piece.to) (place_
       absurd (not_shorter input a.piece b.piece (place_of a.piece.from) (place_of a.piece.to) (place_of b.piece.from) (place_of b.piece.to) a.ahead b.ahead h.made g.made
       same_from (no_turn_back a.piece.support b.piece.support turn) f)
 
-elementary : (input : Input) (h : HeldPiece) → IsHeld input h → IsElementary input h.piece
+elementary : (input : Input) (h : PlacedPiece) → IsPlaced input h → IsElementary input h.piece
 elementary input h g = record {
   from_named = g.from_named;
   to_named = g.to_named;
@@ -91,38 +91,38 @@ elementary input h g = record {
   mask = g.made.mask;
 }
 
-module _ (input : Input) (held sorted : List HeldPiece) (h : HoldsPieces input (segments_in input) held) (moved : IsPermutation held sorted) (up : IsSorted held_cmp sorted) where
-  abbrev once : List HeldPiece
-  once = dedup same_held sorted
+module _ (input : Input) (placed sorted : List PlacedPiece) (h : HoldsPieces input (segments_in input) placed) (moved : IsPermutation placed sorted) (up : IsSorted placed_cmp sorted) where
+  abbrev once : List PlacedPiece
+  once = dedup same_placed sorted
 
-  sorted_sound : All (IsHeld input) sorted
-  sorted_sound = All-permutation (IsHeld input) held sorted moved h.sound
+  sorted_sound : All (IsPlaced input) sorted
+  sorted_sound = All-permutation (IsPlaced input) placed sorted moved h.sound
 
-  once_sound : All (IsHeld input) once
-  once_sound = all_deduped (IsHeld input) same_held sorted sorted_sound
+  once_sound : All (IsPlaced input) once
+  once_sound = all_deduped (IsPlaced input) same_placed sorted sorted_sound
 
-  strict : AllPairs (λ a b. held_cmp a b ≡ Less) once
-  strict = strict_pairs held_cmp once (IsStrictlySortedBy-dedup held_total (λ x y. refl) sorted up)
+  strict : AllPairs (λ a b. placed_cmp a b ≡ Less) once
+  strict = strict_pairs placed_cmp once (IsStrictlySortedBy-dedup placed_total (λ x y. refl) sorted up)
 
-  -- a held piece is still there
-  there : (p r : Point) → pos 0 <ℤ p.w → pos 0 <ℤ r.w → Any (λ g. IsTrue (has_ends p r g.piece)) held → Any (λ e. IsTrue (has_ends p r e)) (map (λ (g : HeldPiece). g.piece) once)
+  -- a piece of the list is still there
+  there : (p r : Point) → pos 0 <ℤ p.w → pos 0 <ℤ r.w → Any (λ g. IsTrue (has_ends p r g.piece)) placed → Any (λ e. IsTrue (has_ends p r e)) (map (λ (g : PlacedPiece). g.piece) once)
   there p r hp hr a =
-      let in_sorted : Contains sorted a.1 = Contains-permutation held sorted a.1 moved (any_contains (λ g. IsTrue (has_ends p r g.piece)) held a) in
-      let b = Any-dedup same_held_equiv sorted a.1 in_sorted in
-      let in_once : Contains once b.1 = any_contains (λ y. same_held a.1 y ≡ true) once b in
-      let first = All-contains (IsHeld input) sorted a.1 sorted_sound in_sorted in
-      let second = All-contains (IsHeld input) once b.1 once_sound in_once in
+      let in_sorted : Contains sorted a.1 = Contains-permutation placed sorted a.1 moved (any_contains (λ g. IsTrue (has_ends p r g.piece)) placed a) in
+      let b = Any-dedup same_placed_equiv sorted a.1 in_sorted in
+      let in_once : Contains once b.1 = any_contains (λ y. same_placed a.1 y ≡ true) once b in
+      let first = All-contains (IsPlaced input) sorted a.1 sorted_sound in_sorted in
+      let second = All-contains (IsPlaced input) once b.1 once_sound in_once in
       let ends = one_piece input a.1 b.1 first second b.4 in
       let parts = and_parts (same_place p (place_of a.1.piece.from)) (same_place r (place_of a.1.piece.to)) a.4 in
-      any_from (λ e. IsTrue (has_ends p r e)) (map (λ (g : HeldPiece). g.piece) once) b.1.piece (contains_map (λ (g : HeldPiece). g.piece) once b.1 in_once)
+      any_from (λ e. IsTrue (has_ends p r e)) (map (λ (g : PlacedPiece). g.piece) once) b.1.piece (contains_map (λ (g : PlacedPiece). g.piece) once b.1 in_once)
       (and_from (same_place p (place_of b.1.piece.from)) (same_place r (place_of b.1.piece.to))
       (same_through p (place_of a.1.piece.from) (place_of b.1.piece.from) hp first.made.piece.from_positive second.made.piece.from_positive parts.0 ends.0)
       (same_through r (place_of a.1.piece.to) (place_of b.1.piece.to) hr first.made.piece.to_positive second.made.piece.to_positive parts.1 ends.1))
 
-  pub pieces_once : ArePieces input (map (λ (g : HeldPiece). g.piece) once)
+  pub pieces_once : ArePieces input (map (λ (g : PlacedPiece). g.piece) once)
   pieces_once = record {
-    sound = All-map (IsElementary input) (λ (g : HeldPiece). g.piece) once (All-weaker (IsHeld input) (λ g. IsElementary input g.piece) (elementary input) once once_sound);
-    ordered = pairs_mapped (λ (g : HeldPiece). g.piece) ComesBefore once
+    sound = All-map (IsElementary input) (λ (g : PlacedPiece). g.piece) once (All-weaker (IsPlaced input) (λ g. IsElementary input g.piece) (elementary input) once once_sound);
+    ordered = pairs_mapped (λ (g : PlacedPiece). g.piece) ComesBefore once
         (λ i j d l m. comes_before input _ _ (once_sound i d (omega (arith, l, m))) (once_sound j d m) (strict i j d l m));
     complete = λ p r piece begins. there p r piece.from_positive piece.to_positive (h.complete p r piece piece.among begins);
   }

@@ -1,5 +1,5 @@
 -- How units lie on segments: each place of a segment is on a unit, and each end is a unit's end.
-use Rattle.std.proofs.Common.{◌≡◌, ℤ, pos, ◌*ℤ◌, ◌<ℤ◌, ◌⊎◌, inl, inr, true, false, Bool, not, List, [], ◌∷◌, refl, ap, sym, ◌∙◌, subst}
+use Rattle.std.proofs.Common.{◌≡◌, ℤ, pos, ◌*ℤ◌, ◌<ℤ◌, ◌⊎◌, inl, inr, true, false, Bool, not, List, refl, ap, sym, ◌∙◌, subst}
 use Rattle.std.specs.Prelude.{IsTrue, Contains}
 use Rattle.std.specs.Ordering.{int_eq, is_lt}
 use Rattle.std.proofs.lemmas.Bool.{and_parts, and_from, both_ways}

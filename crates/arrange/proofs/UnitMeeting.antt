@@ -1,5 +1,5 @@
 -- Where two units meet: units of one line share an end at most, and units with a place inside one of them are not parallel.
-use Rattle.std.proofs.Common.{◌≡◌, ℤ, pos, ◌<ℤ◌, true, false, not, List, sym, ◌∙◌, subst}
+use Rattle.std.proofs.Common.{◌≡◌, pos, ◌<ℤ◌, true, false, List, sym, ◌∙◌, subst}
 use Rattle.std.specs.Prelude.{IsTrue}
 use Rattle.std.specs.Ordering.{int_eq}
 use Rattle.std.proofs.lemmas.Bool.{and_parts, and_from, false_from_ne_true}
@@ -11,7 +11,7 @@ use Rattle.exact_point.proofs.OnLine.{parallel_line, after_left, before_right, o
 use Rattle.exact_point.proofs.PlaceOrder.{one_positive, level_from, level_test, same_turned, not_before_self, less_through, Way, before, at, after, way_of, alike_left, alike_right}
 use Rattle.arrange.specs.Units.{is_collinear, is_end_along, IsUnit}
 use Rattle.arrange.proofs.UnitLineLemmas.{whole_order, end_of, is_end_of, both_levels}
-use Rattle.arrange.proofs.UnitCover.{one_point, Before, before_none}
+use Rattle.arrange.proofs.UnitCover.{one_point, Before}
 
 -- segments on one line have the same line
 line_too : (s t : Segment) → whole_cmp s.left s.right ≡ Less → whole_cmp t.left t.right ≡ Less → is_collinear s t ≡ true → (p : Point) → height_over s p ≡ pos 0 → height_over t p ≡ pos 0

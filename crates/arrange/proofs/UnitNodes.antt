@@ -1,9 +1,9 @@
 -- Nodes by units: the ends of units, places on two units that are not parallel, and places of slanted units on borders.
-use Rattle.std.proofs.Common.{◌≡◌, ℕ, pos, ◌*ℤ◌, ◌<ℤ◌, ◌⊎◌, inl, inr, true, false, Bool, not, ◌&&◌, ◌||◌, List, [], ◌∷◌, map, refl, ap, sym, ◌∙◌, subst}
+use Rattle.std.proofs.Common.{◌≡◌, ℕ, pos, ◌*ℤ◌, ◌<ℤ◌, ◌⊎◌, inl, inr, true, false, not, ◌&&◌, ◌||◌, List, [], ◌∷◌, map, ap, sym, ◌∙◌, subst}
 use Rattle.std.specs.Prelude.{IsTrue, Contains}
 use Rattle.std.specs.List.{list_any}
 use Rattle.std.specs.Ordering.{int_eq}
-use Rattle.std.proofs.lemmas.Bool.{and_parts, or_cases, not-true, both_ways, false_from_ne_true, true_from_ne_false}
+use Rattle.std.proofs.lemmas.Bool.{and_parts, or_cases, not-true, both_ways, false_from_ne_true}
 use Rattle.std.proofs.lemmas.List.Elements.{All-contains}
 use Rattle.std.proofs.lemmas.List.Folds.{Any-from_list_any}
 use Rattle.std.specs.declared.cmp.Ordering.TheVariants.{Less}
@@ -16,12 +16,12 @@ use Rattle.overlay_terms.proofs.InputNumbers.{false_eq}
 use Rattle.overlay_terms.proofs.Lists.{any_contains, contains_map, Contains-cons_cases, none_in_empty, contains_first, contains_rest}
 use Rattle.exact_point.specs.Crossing.{turn_of}
 use Rattle.exact_point.proofs.OnLine.{parallel_from_turn, turn_from_parallel, no_turn_back, parallel_through}
-use Rattle.exact_point.proofs.PlaceOrder.{one_positive, on_same, same_turned}
+use Rattle.exact_point.proofs.PlaceOrder.{one_positive, on_same}
 use Rattle.exact_point.proofs.Nodes.{node_at_end, crossing_is_node, wide_too, NodeCause, at_left, at_right, across, over_border, node_cause}
 use Rattle.arrange.specs.Marked.{AllProper}
 use Rattle.arrange.specs.Units.{covers, IsUnit}
-use Rattle.arrange.proofs.NodeSound.{covering_turn, covering_holds, end_from_along, end_same}
-use Rattle.arrange.proofs.UnitCover.{left_held, right_held, Holding, unit_holding, FirstUnit, first_unit, LastUnit, last_unit}
+use Rattle.arrange.proofs.NodeSound.{covering_turn, covering_holds, end_from_along}
+use Rattle.arrange.proofs.UnitCover.{left_held, right_held, unit_holding, first_unit, last_unit}
 
 -- what stands in a list of images
 pub from_map : {X Y : Type 0} (f : X → Y) (xs : List X) (y : Y) → Contains (map f xs) y → (x : X) × Contains xs x × (f x ≡ y)

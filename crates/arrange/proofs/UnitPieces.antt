@@ -1,5 +1,5 @@
 -- Pieces by units: neighbouring nodes of a unit, and which segments hold the middle of such a piece.
-use Rattle.std.proofs.Common.{◌≡◌, ℕ, pos, ◌+◌, ◌%◌, ◌==◌, ◌*ℤ◌, ◌<ℤ◌, ◌⊎◌, inl, inr, true, false, Bool, not, ◌&&◌, cond, List, [], ◌∷◌, map, refl, ap, sym, ◌∙◌, subst}
+use Rattle.std.proofs.Common.{◌≡◌, ℕ, pos, ◌+◌, ◌%◌, ◌==◌, ◌<ℤ◌, true, false, Bool, not, ◌&&◌, cond, List, [], ◌∷◌, refl, ap, sym, ◌∙◌, subst}
 use Rattle.std.specs.Prelude.{IsTrue, Contains, count_by}
 use Rattle.std.specs.Cmp.{both_ways}
 use Rattle.std.specs.Ordering.{is_lt}
@@ -12,7 +12,7 @@ use Rattle.overlay_terms.specs.Tiles.{IsPiece, is_node, is_parallel, midpoint}
 use Rattle.overlay_terms.proofs.InputNumbers.{middle_positive}
 use Rattle.overlay_terms.proofs.Lists.{contains_map, contains_first, contains_rest}
 use Rattle.exact_point.proofs.OnLine.{within_on, between_on, after_left, before_right, on_line, middle_line, middle_after, middle_before}
-use Rattle.exact_point.proofs.PlaceOrder.{one_positive, less_through, not_after_less, not_before_self, not_before_says, not_before_through, same_turned, alike_left, alike_right, Way, before, at, after, way_of}
+use Rattle.exact_point.proofs.PlaceOrder.{one_positive, less_through, not_after_less, not_before_says, alike_left, alike_right, Way, before, at, after, way_of}
 use Rattle.arrange.specs.Marked.{AllProper}
 use Rattle.arrange.specs.Units.{covers, cover_bits, IsUnit}
 use Rattle.arrange.specs.Arrangement.{on_bits}

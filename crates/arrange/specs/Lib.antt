@@ -6,5 +6,5 @@ pub mod NamedPlaces
 pub mod Masks
 pub mod SameInput
 pub mod Directions
-pub mod HeldPieces
+pub mod PlacedPieces
 pub mod Lines

@@ -16,7 +16,7 @@ use Rattle.exact_point.proofs.Lexical.{Forward}
 use Rattle.exact_point.proofs.OnSegment.{leads}
 use Rattle.overlay_terms.specs.Layers as terms
 use Rattle.arrange.specs.Marked.{marked_of}
-use Rattle.arrange.specs.Directions.{Step, step_turn, step_cmp, step_cmp_total}
+use Rattle.arrange.specs.Directions.{Step, step_cmp, step_cmp_total}
 use Rattle.arrange.specs.declared.line_seg.LineSeg.{LineSeg}
 
 -- the segment with its layer

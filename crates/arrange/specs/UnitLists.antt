@@ -4,7 +4,7 @@ use Rattle.std.specs.List.{AllPairs}
 use Rattle.std.specs.declared.cmp.Ordering.TheVariants.{Less}
 use Rattle.overlay_terms.specs.Plane.{WholePoint, Segment, whole, whole_cmp, is_on}
 use Rattle.overlay_terms.specs.Trees.{mask_bits}
-use Rattle.overlay_terms.specs.Layers.{Marked}
+use Rattle.overlay_terms.specs.Layers.{layers_max, Marked}
 use Rattle.arrange.specs.Units.{is_collinear, is_end_along, cover_bits, IsUnit}
 use Rattle.arrange.specs.declared.unit.Unit.{Unit}
 
@@ -30,7 +30,7 @@ stretches units = map (λ (u : Unit). u.seg) units
 -- some of the units, each once, with the layers that have an odd number there
 pub record AreSomeUnits (marked : List Marked) (units : List Unit) : Type 0 where
   pub sound : All (λ u. IsUnit marked u.seg) units
-  pub masks : All (λ u. (k : ℕ) → k < 32 → mask_bits u.mask k ≡ cover_bits marked u.seg k) units
+  pub masks : All (λ u. (k : ℕ) → k < layers_max → mask_bits u.mask k ≡ cover_bits marked u.seg k) units
   pub once : AllPairs (λ u v. ¬ (u.seg ≡ v.seg)) units
 
 -- units have been added to others

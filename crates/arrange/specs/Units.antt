@@ -5,7 +5,7 @@ use Rattle.std.specs.Ordering.{int_eq}
 use Rattle.std.specs.declared.cmp.Ordering.TheVariants.{Less}
 use Rattle.overlay_terms.specs.Plane.{WholePoint, Segment, whole, whole_cmp, same_whole, height_over, is_on}
 use Rattle.overlay_terms.specs.Trees.{mask_bits}
-use Rattle.overlay_terms.specs.Layers.{Marked}
+use Rattle.overlay_terms.specs.Layers.{layers_max, Marked}
 use Rattle.arrange.specs.declared.unit.Unit.{Unit}
 
 -- both ends of a segment lie on the line of another
@@ -36,6 +36,6 @@ cover_bits marked s k = count_by (λ m. (m.layer == k) && covers m.segment s) ma
 -- the units of some segments, each once, with the layers that have an odd number there
 pub record AreUnits (marked : List Marked) (units : List Unit) : Type 0 where
   pub sound : All (λ u. IsUnit marked u.seg) units
-  pub masks : All (λ u. (k : ℕ) → k < 32 → mask_bits u.mask k ≡ cover_bits marked u.seg k) units
+  pub masks : All (λ u. (k : ℕ) → k < layers_max → mask_bits u.mask k ≡ cover_bits marked u.seg k) units
   pub once : AllPairs (λ u v. ¬ (u.seg ≡ v.seg)) units
   pub complete : (s : Segment) → IsUnit marked s → Contains (map (λ (u : Unit). u.seg) units) s

@@ -7,14 +7,14 @@ ghost use Rattle.overlay_terms.specs.TileLaws.{IsInput};
 ghost use Rattle.arrange.specs.Arrangement.{ArePieces, segments_in};
 ghost use Rattle.arrange.specs.NamedPlaces.{AreAlong};
 ghost use Rattle.overlay_terms.specs.SameInput.{same_segment};
-ghost use Rattle.arrange.specs.HeldPieces.{HoldsPieces, HoldsOneMore, AreNeighbours};
+ghost use Rattle.arrange.specs.PlacedPieces.{HoldsPieces, HoldsOneMore, AreNeighbours};
 
 use crate::finding_nodes::places_along;
-use crate::held_piece::HeldPiece;
 use crate::marked_seg::MarkedSeg;
 use crate::masking::mask_over;
 use crate::named_place::NamedPlace;
 use crate::piece::Elementary;
+use crate::placed_piece::PlacedPiece;
 use crate::tile_input::TileInput;
 use exact_point::{HPoint, border_side};
 use plane_base::{Column, Seg};
@@ -25,14 +25,14 @@ use std::alloc::{AllocError, Global};
 pub fn pieces(alloc: Global, input: &TileInput) -> Result<Vec<Elementary>, AllocError>
     ensures { IfOk result (λ list. ArePieces input.now list.items) }
 {
-    let mut held = Vec::new(alloc);
+    let mut placed = Vec::new(alloc);
     let marked = input.marked();
     for i in 0..marked.len() {
-        add_pieces_along(alloc, &mut held, &marked[..i], &marked[i].seg, input)?;
+        add_pieces_along(alloc, &mut placed, &marked[..i], &marked[i].seg, input)?;
     }
-    held.sort_unstable();
-    held.dedup();
-    let list = pieces_of(alloc, &held)?;
+    placed.sort_unstable();
+    placed.dedup();
+    let list = pieces_of(alloc, &placed)?;
     Ok(list)
 }
 
@@ -44,35 +44,35 @@ fn is_among(marked: &[MarkedSeg], seg: &Seg) -> bool
 }
 
 /// The pieces without their places.
-fn pieces_of(alloc: Global, held: &[HeldPiece]) -> Result<Vec<Elementary>, AllocError>
-    ensures { IfOk result (λ list. list.items ≡ map (λ h. h.piece) held.now) }
+fn pieces_of(alloc: Global, placed: &[PlacedPiece]) -> Result<Vec<Elementary>, AllocError>
+    ensures { IfOk result (λ list. list.items ≡ map (λ h. h.piece) placed.now) }
 {
-    held.iter().map(|h| h.piece).collect(alloc)
+    placed.iter().map(|h| h.piece).collect(alloc)
 }
 
 /// Adds the pieces of a segment of the input that begin in the column, unless it stands among
 /// earlier ones.
 fn add_pieces_along(
     alloc: Global,
-    held: &mut Vec<HeldPiece>,
+    placed: &mut Vec<PlacedPiece>,
     earlier: &[MarkedSeg],
     seg: &Seg,
     input: &TileInput,
 ) -> Result<(), AllocError>
     requires among { Contains (segments_in input.now) seg.now }
-    ensures { OnOk result (HoldsPieces input.now (map (λ m. m.seg) earlier.now) held.old.items → HoldsPieces input.now (map (λ m. m.seg) earlier.now ++ seg.now ∷ []) held.new.items) }
+    ensures { OnOk result (HoldsPieces input.now (map (λ m. m.seg) earlier.now) placed.old.items → HoldsPieces input.now (map (λ m. m.seg) earlier.now ++ seg.now ∷ []) placed.new.items) }
 {
     if is_among(earlier, seg) {
         return Ok(());
     }
     let places = places_along(alloc, seg, input)?;
-    add_along(held, seg, input, places.as_slice())?;
+    add_along(placed, seg, input, places.as_slice())?;
     Ok(())
 }
 
 /// Adds the pieces between the places along a segment that begin in the column.
 fn add_along(
-    held: &mut Vec<HeldPiece>,
+    placed: &mut Vec<PlacedPiece>,
     seg: &Seg,
     input: &TileInput,
     places: &[NamedPlace],
@@ -80,10 +80,10 @@ fn add_along(
     requires valid { IsInput input.now }
     requires among { Contains (segments_in input.now) seg.now }
     requires along { AreAlong input.now seg.now places.now }
-    ensures { OnOk result ((supports : List Segment) → HoldsPieces input.now supports held.old.items → HoldsPieces input.now (supports ++ seg.now ∷ []) held.new.items) }
+    ensures { OnOk result ((supports : List Segment) → HoldsPieces input.now supports placed.old.items → HoldsPieces input.now (supports ++ seg.now ∷ []) placed.new.items) }
 {
     for i in 1..places.len() {
-        add_between(held, seg, input, &places[i - 1], &places[i])?;
+        add_between(placed, seg, input, &places[i - 1], &places[i])?;
     }
     Ok(())
 }
@@ -91,18 +91,18 @@ fn add_along(
 /// Adds the piece between two neighbours among the places along a segment, if it begins in the
 /// column.
 fn add_between(
-    held: &mut Vec<HeldPiece>,
+    placed: &mut Vec<PlacedPiece>,
     seg: &Seg,
     input: &TileInput,
     from: &NamedPlace,
     to: &NamedPlace,
 ) -> Result<(), AllocError>
     requires neighbours { AreNeighbours input.now seg.now from.now to.now }
-    ensures { OnOk result (HoldsOneMore input.now from.now to.now held.old.items held.new.items) }
+    ensures { OnOk result (HoldsOneMore input.now from.now to.now placed.old.items placed.new.items) }
 {
     if is_before_next(input.column(), &from.at) {
         let mask = mask_over(input.marked(), &from.at, &to.at);
-        held.push(HeldPiece {
+        placed.push(PlacedPiece {
             at: from.at,
             piece: Elementary {
                 support: *seg,

@@ -4,6 +4,7 @@ ghost use Rattle.std.specs.List.Sorted.{IsPermutation, IsSorted};
 ghost use Rattle.std.specs.declared.cmp.Ordering.TheVariants.{Equal};
 ghost use Rattle.arrange.specs.declared.line_seg.LineSeg.{LineSeg};
 ghost use Rattle.std.specs.List.{list_any};
+ghost use Rattle.overlay_terms.specs.Layers.{layers_max};
 ghost use Rattle.overlay_terms.specs.Plane.{Segment};
 ghost use Rattle.overlay_terms.specs.Trees.{mask_bits};
 ghost use Rattle.arrange.specs.Marked.{AllProper, marked_of};
@@ -40,7 +41,7 @@ pub fn units(alloc: Global, input: &TileInput) -> Result<Vec<Unit>, AllocError>
 
 /// The segments in the order of their lines.
 fn by_line(alloc: Global, marked: &[MarkedSeg]) -> Result<Vec<LineSeg>, AllocError>
-    requires layers { All (λ m. m.layer < 32) marked.now }
+    requires layers { All (λ m. m.layer < layers_max) marked.now }
     requires proper { AllProper (map marked_of marked.now) }
     ensures moved { IfOk result (λ list. IsPermutation (map marked_of marked.now) (map line_marked list.items)) }
     ensures sorted { IfOk result (λ list. IsSorted line_cmp list.items) }
@@ -52,7 +53,7 @@ fn by_line(alloc: Global, marked: &[MarkedSeg]) -> Result<Vec<LineSeg>, AllocErr
 
 /// The segments as segments with a line.
 fn lines_of(alloc: Global, marked: &[MarkedSeg]) -> Result<Vec<LineSeg>, AllocError>
-    requires layers { All (λ m. m.layer < 32) marked.now }
+    requires layers { All (λ m. m.layer < layers_max) marked.now }
     requires proper { AllProper (map marked_of marked.now) }
     ensures { IfOk result (λ list. map line_marked list.items ≡ map marked_of marked.now) }
 {
@@ -97,7 +98,7 @@ fn marked_in(alloc: Global, run: &[LineSeg]) -> Result<Vec<MarkedSeg>, AllocErro
 
 /// The units of some segments, found by comparing all pairs.
 fn units_among(alloc: Global, marked: &[MarkedSeg]) -> Result<Vec<Unit>, AllocError>
-    requires layers { All (λ m. m.layer < 32) marked.now }
+    requires layers { All (λ m. m.layer < layers_max) marked.now }
     requires proper { AllProper (map marked_of marked.now) }
     ensures { IfOk result (λ list. AreUnits (map marked_of marked.now) list.items) }
 {
@@ -117,7 +118,7 @@ fn add_units(
     marked: &[MarkedSeg],
 ) -> Result<(), AllocError>
     requires among { Contains marked.now one.now }
-    requires layers { All (λ m. m.layer < 32) marked.now }
+    requires layers { All (λ m. m.layer < layers_max) marked.now }
     requires proper { AllProper (map marked_of marked.now) }
     ensures grown { OnOk result (HaveGrown (map marked_of marked.now) list.old.items list.new.items) }
     ensures complete { OnOk result
@@ -135,7 +136,7 @@ fn add_units(
 /// Adds a unit unless it is listed already.
 fn add_unit(list: &mut Vec<Unit>, seg: Seg, marked: &[MarkedSeg]) -> Result<(), AllocError>
     requires unit { IsUnit (map marked_of marked.now) seg }
-    requires layers { All (λ m. m.layer < 32) marked.now }
+    requires layers { All (λ m. m.layer < layers_max) marked.now }
     ensures grown { OnOk result (HaveGrown (map marked_of marked.now) list.old.items list.new.items) }
     ensures listed { OnOk result (Contains (stretches list.new.items) seg) }
 {
@@ -155,8 +156,8 @@ fn is_listed(list: &[Unit], seg: &Seg) -> bool
 
 /// A bit for each base layer that has an odd number of segments over a stretch.
 fn cover_mask(marked: &[MarkedSeg], seg: &Seg) -> u32
-    requires { All (λ m. m.layer < 32) marked.now }
-    ensures { (k : ℕ) → k < 32 → mask_bits result k ≡ cover_bits (map marked_of marked.now) seg.now k }
+    requires { All (λ m. m.layer < layers_max) marked.now }
+    ensures { (k : ℕ) → k < layers_max → mask_bits result k ≡ cover_bits (map marked_of marked.now) seg.now k }
 {
     mask_over(marked, &HPoint::of(seg.left()), &HPoint::of(seg.right()))
 }

@@ -4,13 +4,13 @@
 pub mod finding_nodes;
 pub mod finding_pieces;
 pub mod finding_units;
-mod held_piece;
 mod line_seg;
 pub mod marked_seg;
 mod masking;
 mod named_place;
 mod node_test;
 pub mod piece;
+mod placed_piece;
 pub mod tile_input;
 pub mod unit;
 mod unit_ends;

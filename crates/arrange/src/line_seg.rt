@@ -1,5 +1,6 @@
 //! Segments in the order of their lines.
 ghost use Rattle.std.specs.Prelude.{◌≡◌, ◌<◌};
+ghost use Rattle.overlay_terms.specs.Layers.{layers_max};
 ghost use Rattle.overlay_terms.specs.TileLaws.{IsProper};
 
 use crate::marked_seg::MarkedSeg;
@@ -13,13 +14,13 @@ use std::cmp::Ordering;
 #[derive(Clone, Copy)]
 pub(crate) struct LineSeg {
     pub(crate) marked: MarkedSeg,
-    pub(crate) ghost few: { marked.layer < 32 },
+    pub(crate) ghost few: { marked.layer < layers_max },
     pub(crate) ghost proper: { IsProper marked.seg },
 }
 
 impl LineSeg {
     pub(crate) fn of(marked: MarkedSeg) -> LineSeg
-        requires few { marked.layer < 32 }
+        requires few { marked.layer < layers_max }
         requires proper { IsProper marked.seg }
         ensures { result.marked ≡ marked }
     {

@@ -3,7 +3,7 @@ ghost use Rattle.std.specs.Prelude.{◌≡◌, ◌<◌, ℕ, All};
 ghost use Rattle.overlay_terms.specs.Layers.{layers_max};
 ghost use Rattle.overlay_terms.specs.Trees.{mask_bits};
 ghost use Rattle.exact_point.specs.Place.{place};
-ghost use Rattle.arrange.specs.Masks.{held_bits};
+ghost use Rattle.arrange.specs.Masks.{holding_bits};
 
 use crate::marked_seg::MarkedSeg;
 use exact_point::{HPoint, on};
@@ -11,7 +11,7 @@ use exact_point::{HPoint, on};
 /// A bit for each base layer that has an odd number of segments that hold both ends of a piece.
 pub(crate) fn mask_over(marked: &[MarkedSeg], from: &HPoint, to: &HPoint) -> u32
     requires { All (λ m. m.layer < layers_max) marked.now }
-    ensures { (k : ℕ) → k < layers_max → mask_bits result k ≡ held_bits marked.now (place from.now) (place to.now) k }
+    ensures { (k : ℕ) → k < layers_max → mask_bits result k ≡ holding_bits marked.now (place from.now) (place to.now) k }
 {
     let mut mask = 0u32;
     for m in marked {

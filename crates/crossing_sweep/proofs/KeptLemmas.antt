@@ -15,7 +15,7 @@ use Rattle.tile_laws.proofs.JustRight.{under_bits, up_to_bits}
 use Rattle.tile_laws.proofs.Candidates.{IsAmong}
 use Rattle.tile_laws.proofs.LastPlace.{Falls, falling}
 use Rattle.tile_laws.proofs.NextNode.{IsLast, last_of}
-use Rattle.tile_laws.proofs.SameNodes.{node_alike}
+use Rattle.exact_point.proofs.SameNodes.{node_alike}
 use Rattle.tile_laws.proofs.Statements.{segments_in}
 use Rattle.tile_laws.proofs.StepUp.{under_bits_alike, up_to_bits_alike}
 use Rattle.crossing_sweep.specs.Leaning.{lean, lean_segment, IsSteep, IsSmall}

@@ -25,7 +25,7 @@ use Rattle.tile_laws.proofs.Candidates.{candidates, candidates_with, IsAmong, no
 use Rattle.tile_laws.proofs.Counts.{count_less}
 use Rattle.tile_laws.proofs.LastPlace.{Falls, falling}
 use Rattle.tile_laws.proofs.NextNode.{IsLast, last_of}
-use Rattle.tile_laws.proofs.SameNodes.{node_alike}
+use Rattle.exact_point.proofs.SameNodes.{node_alike}
 use Rattle.crossing_sweep.specs.Leaning.{IsSmall}
 use Rattle.crossing_sweep.specs.NextNode.{IsNextNode, EachHasNext, NodesRunOut}
 use Rattle.crossing_sweep.proofs.StretchLemmas.{ends_in_order}

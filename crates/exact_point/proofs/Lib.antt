@@ -7,6 +7,7 @@ pub mod OnLine
 pub mod ByX
 pub mod Lines
 pub mod Nodes
+pub mod SameNodes
 pub mod SameMiddle
 pub mod CrossingLemmas
 pub mod BorderLemmas

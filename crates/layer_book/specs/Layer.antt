@@ -2,7 +2,7 @@
 use Rattle.std.specs.Prelude.{ℕ, not, List, [], ◌∷◌, map, filter, Option, Some, None, bytes_eq, if◌then◌else◌, All, IsTrue}
 use Rattle.std.specs.List.{AllByRecursion}
 use Rattle.overlay_terms.specs.Plane.{WholePoint}
-use Rattle.overlay_terms.specs.Layers.{layers_max, Content, base, derived, base_of}
+use Rattle.overlay_terms.specs.Layers.{Content, base, derived}
 use Rattle.overlay_terms.specs.Layers as terms
 use Rattle.overlay_terms.specs.Commands.{Command, put, define}
 use Rattle.overlay_terms.specs.LayerParity.{AreSound}

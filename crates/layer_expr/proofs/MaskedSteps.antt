@@ -1,10 +1,9 @@
 -- Definitions over at most 32 base layers read the first 32 bits alone.
-use Rattle.std.proofs.Common.{◌≡◌, ℕ, ◌+◌, ◌-◌, ◌<◌, ◌≤◌, Bool, true, false, ◌&&◌, List, [], ◌∷◌, ◌++◌, fold, refl, ap, ◌∙◌, arith}
-use Rattle.std.specs.Prelude.{nat_lt}
+use Rattle.std.proofs.Common.{◌≡◌, ℕ, ◌+◌, ◌-◌, ◌<◌, Bool, true, List, [], ◌∷◌, ◌++◌, fold, refl, ap, ◌∙◌, arith}
 use Rattle.std.specs.List.{list_all}
 use Rattle.std.proofs.lemmas.Bool.{and_parts, ltb-true}
 use Rattle.std.proofs.lemmas.List.Folds.{list_all-append}
-use Rattle.overlay_terms.specs.Trees.{Operation, combined, Tree, leaf, combine, truth, leaves, Source, base_bit, definition, Steps, source_value, definition_values, last_or, steps_value}
+use Rattle.overlay_terms.specs.Trees.{combined, Tree, leaf, combine, truth, leaves, Source, base_bit, definition, Steps, source_value, definition_values, last_or, steps_value}
 use Rattle.layer_expr.specs.StepList.{IsStepList, stands_before, names_earlier}
 
 -- an expression is one truth at leaves that are the same wherever a test of the leaves holds

@@ -1,5 +1,5 @@
 -- The tokens of an expression: names, operators and brackets, with white space between.
-use Rattle.std.specs.Prelude.{ℕ, ◌+◌, ◌==◌, Bool, false, true, ◌&&◌, ◌||◌, List, [], ◌∷◌, if◌then◌else◌}
+use Rattle.std.specs.Prelude.{ℕ, ◌+◌, ◌==◌, Bool, false, true, ◌&&◌, List, [], ◌∷◌, if◌then◌else◌}
 use Rattle.std.specs.Char.{is_ascii_alphabetic}
 use Rattle.overlay_terms.specs.Blank.{is_blank}
 use Rattle.overlay_terms.specs.Trees.{Operation, intersection, union, difference, sym_difference}

@@ -1,5 +1,5 @@
 -- Finished tiles as a file holds them.
-use Rattle.std.specs.Prelude.{ℕ, ◌<◌, nat_lt, Bool, ◌&&◌, ◌||◌, IsTrue, List, bytes_eq, All}
+use Rattle.std.specs.Prelude.{◌<◌, nat_lt, Bool, ◌&&◌, ◌||◌, IsTrue, List, bytes_eq, All}
 use Rattle.std.specs.List.{AllPairs}
 use Rattle.overlay_terms.specs.Column.{column_count}
 use Rattle.overlay_terms.specs.Layers.{Layer}

@@ -1,5 +1,5 @@
 -- Rings without a fault, whose points are in range, are rings.
-use Rattle.std.specs.Prelude.{◌≡◌, ℕ, ◌+◌, ◌-◌, ◌<◌, ◌≤◌, nat_lt, nat_le, Bool, true, false, List, [], ◌∷◌, length, slice_get, Option, Some, None, All, if◌then◌else◌}
+use Rattle.std.specs.Prelude.{◌≡◌, ℕ, ◌+◌, ◌-◌, ◌<◌, ◌≤◌, nat_lt, nat_le, Bool, true, false, List, [], ◌∷◌, length, slice_get, Some, None, All, if◌then◌else◌}
 use Rattle.std.proofs.Common.{zero, suc, get_or, take, refl, ap, sym, ◌∙◌, subst, arith}
 use Rattle.std.proofs.lemmas.Bool.{ltb-false}
 use Rattle.std.proofs.lemmas.List.Elements.{All-nil, All-cons, All-head, All-tail, All-more}
@@ -9,7 +9,6 @@ use Rattle.overlay_terms.proofs.Options.{both_absent}
 use Rattle.overlay_terms.proofs.PointOrder.{same_points}
 use Rattle.overlay_terms.proofs.ClosedRings.{last_of, last_is}
 use Rattle.plane_base.specs.BaseLayer.{IsInRange, PointsInRange, is_closed, ring_fault, first_ring_fault, rings_fault}
-use Rattle.plane_base.specs.declared.fault.PlaneFault.{PlaneFault}
 use Rattle.plane_base.specs.declared.fault.PlaneFault.TheVariants.{RingOpen, RingShort, TooManySegments}
 
 -- a fact of the first elements and of the next one

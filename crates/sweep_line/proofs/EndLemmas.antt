@@ -1,7 +1,7 @@
 -- Right ends in the order of x, and the pieces that they are kept for.
-use Rattle.std.proofs.Common.{◌≡◌, ℕ, ℤ, zero, suc, pos, ◌+◌, ◌-◌, ◌<◌, ◌≤◌, ◌*ℤ◌, ◌<ℤ◌, ◌≤ℤ◌, Bool, true, false, not, cond, List, [], ◌∷◌, ◌++◌, length, filter, take, drop, get_or, refl, ap, sym, subst, ◌∙◌, arith}
-use Rattle.std.specs.Prelude.{int_lt, All, count_by, sum_by}
-use Rattle.std.specs.List.{AllPairs, AllWithin, insert, remove}
+use Rattle.std.proofs.Common.{◌≡◌, ℕ, ℤ, zero, suc, pos, ◌+◌, ◌-◌, ◌<◌, ◌≤◌, ◌*ℤ◌, ◌<ℤ◌, ◌≤ℤ◌, Bool, true, false, not, cond, List, [], ◌∷◌, length, filter, take, get_or, refl, ap, sym, subst, ◌∙◌, arith}
+use Rattle.std.specs.Prelude.{int_lt, All, count_by}
+use Rattle.std.specs.List.{insert, remove}
 use Rattle.std.specs.List.Sorted.{IsPartitionedBy, IsPartitionPoint}
 use Rattle.std.proofs.lemmas.Int.{ints}
 use Rattle.std.proofs.lemmas.List.{length-take-le, get_or_at}
@@ -12,7 +12,7 @@ use Rattle.overlay_terms.specs.Plane.{Point}
 use Rattle.overlay_terms.proofs.InputNumbers.{lt_true, true_lt}
 use Rattle.exact_point.specs.Place.{place}
 use Rattle.exact_point.specs.declared.point.HPoint.{HPoint}
-use Rattle.exact_point.proofs.ByX.{Left, AtMost, left_before}
+use Rattle.exact_point.proofs.ByX.{left_before}
 use Rattle.sweep_line.specs.RightEnds.{lies_right, AreLeftmostLast, IsLast}
 use Rattle.sweep_line.specs.Status.{goes_on, HasEndsFor, HasLostOne}
 use Rattle.sweep_line.specs.declared.status.Entry.{Entry}

@@ -1,23 +1,20 @@
 -- What passing a piece does, from what each of its parts does.
-use Rattle.std.proofs.Common.{◌≡◌, ℕ, ℤ, zero, suc, pos, ◌+◌, ◌<◌, ◌≤◌, ◌-ℤ◌, ◌*ℤ◌, ◌<ℤ◌, ◌≤ℤ◌, Bool, true, false, ◌&&◌, List, [], ◌∷◌, ◌++◌, length, filter, take, drop, get_or, inl, inr, ◌⊎◌, refl, ap, sym, subst, ◌∙◌, arith}
-use Rattle.std.specs.Prelude.{int_le, int_lt, All, Contains}
+use Rattle.std.proofs.Common.{◌≡◌, ℕ, ℤ, suc, pos, ◌+◌, ◌<◌, ◌≤◌, ◌-ℤ◌, ◌*ℤ◌, ◌<ℤ◌, ◌≤ℤ◌, Bool, true, false, List, [], length, filter, take, get_or, inl, inr, refl, ap, sym, subst, ◌∙◌, arith}
+use Rattle.std.specs.Prelude.{int_le, int_lt}
 use Rattle.std.specs.Int.RustNames.{bit_xor}
-use Rattle.std.specs.List.{insert}
 use Rattle.std.specs.List.Sorted.{IsPartitionedBy, IsPartitionPoint}
 use Rattle.std.proofs.lemmas.Int.{ints}
 use Rattle.std.proofs.lemmas.Bool.{and_parts, not-true}
 use Rattle.std.proofs.lemmas.Bool.Decides.{Decides-int_eq}
 use Rattle.overlay_terms.specs.Plane.{Point, Segment}
 use Rattle.overlay_terms.specs.Column.{border}
-use Rattle.overlay_terms.specs.Tiles.{Input, midpoint, is_vertical}
+use Rattle.overlay_terms.specs.Tiles.{Input}
 use Rattle.overlay_terms.specs.Trees.{mask_bits}
-use Rattle.overlay_terms.specs.TileLaws.{IsInput}
 use Rattle.overlay_terms.proofs.InputNumbers.{le_true, false_eq}
 use Rattle.exact_point.specs.PlaceOf.{place_of}
-use Rattle.exact_point.specs.Place.{place}
 use Rattle.exact_point.proofs.Lexical.{Forward}
 use Rattle.exact_point.proofs.OnSegment.{leads}
-use Rattle.arrange.specs.Arrangement.{IsElementary, ArePieces}
+use Rattle.arrange.specs.Arrangement.{IsElementary}
 use Rattle.arrange.specs.declared.piece.Elementary.{Elementary}
 use Rattle.exact_point.proofs.Lines.{width, rise}
 use Rattle.sweep_line.specs.Label.{IsLabelled}

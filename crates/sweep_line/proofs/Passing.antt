@@ -1,51 +1,29 @@
 -- What the sweep learns at the left end of a piece: which entries stand under it, and what lies under it.
-use Rattle.std.proofs.Common.{◌≡◌, ℕ, ℤ, zero, suc, pos, ◌+◌, ◌<◌, ◌≤◌, ◌+ℤ◌, ◌-ℤ◌, ◌*ℤ◌, ◌<ℤ◌, ◌≤ℤ◌, neg_ℤ, Bool, true, false, ◌&&◌, ◌||◌, List, [], ◌∷◌, ◌++◌, length, map, filter, take, get_or, inl, inr, ◌⊎◌, refl, ap, sym, subst, ◌∙◌, arith}
-use Rattle.std.specs.Prelude.{int_lt, int_le, IsTrue, All, Any, Contains}
+use Rattle.std.proofs.Common.{◌≡◌, ℕ, ℤ, zero, suc, pos, ◌+◌, ◌<◌, ◌≤◌, ◌+ℤ◌, ◌-ℤ◌, ◌*ℤ◌, ◌<ℤ◌, ◌≤ℤ◌, neg_ℤ, true, ◌&&◌, inl, inr, ◌⊎◌, refl, ap, sym, ◌∙◌, arith}
+use Rattle.std.specs.Prelude.{int_lt, IsTrue}
 use Rattle.std.specs.Ordering.{int_eq}
-use Rattle.std.specs.List.{AllPairs, AllWithin}
-use Rattle.std.specs.List.Sorted.{IsPartitionedBy, IsPartitionPoint}
-use Rattle.std.specs.declared.cmp.Ordering.TheVariants.{Less, Equal}
 use Rattle.std.proofs.lemmas.Int.{ints, by_lt_z}
-use Rattle.std.proofs.lemmas.Bool.{and_parts, or_cases, both_ways, true_from_ne_false}
+use Rattle.std.proofs.lemmas.Bool.{and_parts, or_cases}
 use Rattle.std.proofs.lemmas.Bool.Decides.{Decides-int_eq}
-use Rattle.std.proofs.lemmas.List.{get_or-take, length-take-le, get_or_default}
-use Rattle.std.proofs.lemmas.List.Elements.{All-map, All-weaker, All-contains, All-filter, All-take, filter_passes, All-from_get_or}
-use Rattle.std.proofs.lemmas.List.Kept.{AllPairs-filter}
 use Rattle.std.proofs.Math.IntN.{zero-*ℤ, *ℤ_comm}
-use Rattle.overlay_terms.specs.Plane.{Point, Segment, point_cmp, same_place, height_over, is_on}
-use Rattle.overlay_terms.specs.Column.{is_in_column}
-use Rattle.overlay_terms.specs.Trees.{mask_bits}
-use Rattle.overlay_terms.specs.Tiles.{Input, midpoint, below_bits, over_bits}
-use Rattle.overlay_terms.specs.TileLaws.{IsInput}
+use Rattle.overlay_terms.specs.Plane.{Point, Segment, same_place, height_over, is_on}
+use Rattle.overlay_terms.specs.Tiles.{Input}
 use Rattle.overlay_terms.proofs.Difference.{split, differences, same, diff-neg}
-use Rattle.overlay_terms.proofs.InputNumbers.{lt_true, true_lt, x_in_order}
-use Rattle.overlay_terms.proofs.InputLists.{Contains-filter, Contains-from_filter}
-use Rattle.overlay_terms.proofs.PlaceLemmas.{places_alike}
+use Rattle.overlay_terms.proofs.InputNumbers.{lt_true, x_in_order}
 use Rattle.exact_point.specs.Crossing.{turn_of}
-use Rattle.exact_point.specs.Place.{place}
 use Rattle.exact_point.specs.PlaceOf.{place_of}
 use Rattle.exact_point.proofs.Lexical.{Forward, forward}
-use Rattle.arrange.specs.Arrangement.{segments_in, IsElementary, ArePieces, ComesBefore}
+use Rattle.arrange.specs.Arrangement.{IsElementary, ComesBefore}
 use Rattle.arrange.specs.declared.piece.Elementary.{Elementary}
-use Rattle.tile_laws.proofs.JustRight.{is_over_x, is_under, is_level, is_stretch_over}
-use Rattle.tile_laws.proofs.Statements.{PieceOver}
 use Rattle.tile_laws.proofs.SideMidpoint.{as_form}
 use Rattle.tile_laws.proofs.UprightSides.{height_moves}
 use Rattle.tile_laws.proofs.UnderLemmas.{over_wide}
-use Rattle.tile_laws.proofs.PiecesOver.{each_has_a_piece}
-use Rattle.tile_laws.proofs.Stretches.{IsStretch, stretch_told}
-use Rattle.tile_laws.proofs.Edges.{same_stretch}
-use Rattle.tile_laws.proofs.StepUp.{IsLowerTest, level_tests, AreBelow, step_up, none_below}
-use Rattle.tile_laws.proofs.Lying.{Lies, IsOver, stretches, over_it, other_over, other_level, sides_by}
+use Rattle.tile_laws.proofs.Lying.{Lies, IsOver, over_it}
 use Rattle.exact_point.proofs.Lines.{width, rise, base}
-use Rattle.exact_point.proofs.PlaceOrder.{on_same, same_turned, same_from_equal}
-use Rattle.exact_point.proofs.ByX.{Left, AtMost, left_after, at_most_through}
+use Rattle.exact_point.proofs.PlaceOrder.{on_same, same_from_equal}
 use Rattle.exact_point.proofs.Signs.{not_negative_times, negative_times}
 use Rattle.exact_point.proofs.OnLine.{on_line}
-use Rattle.sweep_line.specs.Status.{goes_on, passes_under, is_passed}
-use Rattle.sweep_line.specs.Sweep.{IsEntryOf, StandsUnder, IsSwept}
-use Rattle.sweep_line.specs.declared.status.Entry.{Entry}
-use Rattle.sweep_line.proofs.ListLemmas.{pairs_map, pairs_take, all_first, among_first, image_at}
+use Rattle.sweep_line.specs.Status.{passes_under}
 
 -- ---- over opaque numbers
 -- a place under one of a line over the same x has a height below 0

@@ -1,12 +1,12 @@
 -- By which test of segments a piece learns what is under it: of a slanted piece what is under its line, of an upright one what does not pass over its lower end.
-use Rattle.std.proofs.Common.{◌≡◌, ℕ, ℤ, pos, ◌+ℤ◌, ◌-ℤ◌, ◌*ℤ◌, ◌<ℤ◌, ◌≤ℤ◌, Bool, true, false, ◌&&◌, ◌||◌, inl, inr, refl, ap, sym, ◌∙◌, arith}
-use Rattle.std.specs.Prelude.{int_lt, int_le, IsTrue, All}
+use Rattle.std.proofs.Common.{◌≡◌, ℕ, ℤ, pos, ◌+ℤ◌, ◌-ℤ◌, ◌*ℤ◌, ◌<ℤ◌, ◌≤ℤ◌, Bool, true, false, ◌&&◌, ◌||◌, inl, inr, ap, sym, ◌∙◌, arith}
+use Rattle.std.specs.Prelude.{int_lt, int_le, IsTrue}
 use Rattle.std.specs.Ordering.{int_eq}
 use Rattle.std.proofs.lemmas.Int.{ints}
 use Rattle.std.proofs.lemmas.List.Elements.{All-map, All-contains}
 use Rattle.std.proofs.Math.IntN.{zero-*ℤ, *ℤ_comm}
 use Rattle.overlay_terms.specs.Plane.{Point, Segment, height_over, is_on}
-use Rattle.overlay_terms.specs.Tiles.{Input, IsPiece, midpoint, below_bits}
+use Rattle.overlay_terms.specs.Tiles.{Input, midpoint, below_bits}
 use Rattle.overlay_terms.specs.TileLaws.{IsInput, IsProper}
 use Rattle.overlay_terms.proofs.InputNumbers.{last_turned, true_lt}
 use Rattle.exact_point.specs.Crossing.{turn_of}
@@ -20,10 +20,10 @@ use Rattle.tile_laws.proofs.SideMidpoint.{as_form}
 use Rattle.tile_laws.proofs.UprightSides.{is_not_over, height_moves, x_on, upright_sides}
 use Rattle.tile_laws.proofs.UnderLemmas.{over_wide}
 use Rattle.tile_laws.proofs.StepUp.{IsLowerTest, under_is_lower, not_over_is_lower}
-use Rattle.tile_laws.proofs.Lying.{Lies, IsOver, over_it, sides_by, sign_alike, zero_alike}
+use Rattle.tile_laws.proofs.Lying.{IsOver, over_it, sides_by, sign_alike, zero_alike}
 use Rattle.exact_point.proofs.Lines.{width, rise, gap, base, heights_give_gap}
 use Rattle.overlay_terms.proofs.Difference.{mul_pos}
-use Rattle.exact_point.proofs.ByX.{Left, AtMost}
+use Rattle.exact_point.proofs.ByX.{Left}
 use Rattle.exact_point.proofs.OnLine.{on_line}
 use Rattle.sweep_line.specs.Status.{passes_under}
 use Rattle.sweep_line.proofs.Passing.{lies}

@@ -1,19 +1,17 @@
 -- Passing the left end of a piece: the entries that stand under it, what lies under it, and the status after it.
-use Rattle.std.proofs.Common.{◌≡◌, ℕ, ℤ, zero, suc, pos, ◌+◌, ◌<◌, ◌≤◌, ◌==◌, ◌-ℤ◌, ◌*ℤ◌, ◌<ℤ◌, ◌≤ℤ◌, Bool, true, false, ◌&&◌, List, [], ◌∷◌, ◌++◌, length, map, filter, take, drop, get_or, inl, inr, ◌⊎◌, refl, ap, sym, subst, ◌∙◌, arith}
+use Rattle.std.proofs.Common.{◌≡◌, ℕ, ℤ, zero, suc, pos, ◌+◌, ◌<◌, ◌≤◌, ◌==◌, ◌*ℤ◌, ◌<ℤ◌, ◌≤ℤ◌, Bool, true, false, ◌&&◌, List, [], ◌∷◌, ◌++◌, length, map, filter, take, drop, get_or, inl, inr, ◌⊎◌, refl, ap, sym, subst, ◌∙◌, arith}
 use Rattle.std.specs.Prelude.{int_lt, int_le, IsTrue, All, Any, Contains}
-use Rattle.std.specs.List.{AllPairs, AllWithin}
+use Rattle.std.specs.List.{AllPairs}
 use Rattle.std.specs.List.Sorted.{IsPartitionedBy, IsPartitionPoint}
-use Rattle.std.specs.declared.cmp.Ordering.TheVariants.{Less, Equal}
 use Rattle.std.proofs.lemmas.Int.{ints}
 use Rattle.std.proofs.lemmas.Bool.{and_parts, both_ways}
 use Rattle.std.proofs.lemmas.List.{get_or-take, length-take-le, get_or_default, take_more, length-map}
 use Rattle.std.proofs.lemmas.List.Elements.{All-map, All-weaker, All-contains, All-filter, All-take, All-push, filter_passes, Contains-append_left, Contains-push, Contains-push_cases}
 use Rattle.std.proofs.lemmas.List.Kept.{AllPairs-filter}
 use Rattle.std.proofs.lemmas.Nat.Bits.{bit_at-zero}
-use Rattle.overlay_terms.specs.Plane.{Point, Segment, point_cmp, same_place, is_on}
-use Rattle.overlay_terms.specs.Column.{is_in_column}
+use Rattle.overlay_terms.specs.Plane.{Point, Segment, same_place, is_on}
 use Rattle.overlay_terms.specs.Trees.{mask_bits}
-use Rattle.overlay_terms.specs.Tiles.{Input, midpoint, below_bits, over_bits}
+use Rattle.overlay_terms.specs.Tiles.{Input, midpoint, below_bits}
 use Rattle.overlay_terms.specs.TileLaws.{IsInput}
 use Rattle.overlay_terms.proofs.InputNumbers.{le_true, lt_true, true_lt, x_in_order}
 use Rattle.overlay_terms.proofs.InputLists.{Contains-filter, Contains-from_filter}
@@ -23,19 +21,19 @@ use Rattle.exact_point.specs.Place.{place}
 use Rattle.exact_point.specs.PlaceOf.{place_of}
 use Rattle.arrange.specs.Arrangement.{segments_in, IsElementary, ArePieces, ComesBefore}
 use Rattle.arrange.specs.declared.piece.Elementary.{Elementary}
-use Rattle.tile_laws.proofs.JustRight.{is_over_x, is_under, is_level, is_stretch_over, bits_where, up_to_bits}
+use Rattle.tile_laws.proofs.JustRight.{is_over_x, is_under, is_level, is_stretch_over, up_to_bits}
 use Rattle.tile_laws.proofs.Statements.{PieceOver}
 use Rattle.tile_laws.proofs.OneLine.{level_parts}
 use Rattle.tile_laws.proofs.OnePieceOver.{one_piece_over}
 use Rattle.tile_laws.proofs.PiecesOver.{each_has_a_piece}
 use Rattle.tile_laws.proofs.Ranks.{Told, yes, no, told}
 use Rattle.tile_laws.proofs.UnderLemmas.{none_under, level_back}
-use Rattle.tile_laws.proofs.Stretches.{IsStretch, stretch_told}
+use Rattle.tile_laws.proofs.Stretches.{stretch_told}
 use Rattle.tile_laws.proofs.Edges.{same_stretch}
 use Rattle.tile_laws.proofs.StepUp.{level_through, level_tests, AreBelow, step_up, none_below}
-use Rattle.tile_laws.proofs.Lying.{Lies, IsOver, stretches, over_it, support_over, on_support, other_over, other_level, sides_by, under_stays}
-use Rattle.exact_point.proofs.Lines.{width, gap}
-use Rattle.exact_point.proofs.PlaceOrder.{on_same, same_turned, same_from_equal, not_before_self}
+use Rattle.tile_laws.proofs.Lying.{IsOver, stretches, over_it, support_over, on_support, other_level, sides_by, under_stays}
+use Rattle.exact_point.proofs.Lines.{width}
+use Rattle.exact_point.proofs.PlaceOrder.{on_same, same_from_equal, not_before_self}
 use Rattle.overlay_terms.proofs.Lists.{contains_map}
 use Rattle.exact_point.proofs.ByX.{Left, AtMost, left_after, at_most_through}
 use Rattle.exact_point.proofs.OnLine.{on_line}
@@ -44,7 +42,7 @@ use Rattle.sweep_line.specs.Sweep.{IsEntryOf, StandsUnder, IsSwept}
 use Rattle.sweep_line.specs.declared.status.Entry.{Entry}
 use Rattle.sweep_line.proofs.ListLemmas.{pairs_map, pairs_take, all_first, among_first, all_insert, pairs_insert, any_insert, inserted, image_at}
 use Rattle.sweep_line.proofs.Passing.{Order, before, equal, behind, order_of, not_itself, lies, not_known}
-use Rattle.sweep_line.proofs.SideTests.{IsTestFor, goes_right, over_begin, slanted_test}
+use Rattle.sweep_line.proofs.SideTests.{IsTestFor, over_begin, slanted_test}
 
 -- what is asked: the number of a piece among all, and the status after those before it
 pub record IsTurnOf (input : Input) (pieces : List Elementary) (i : ℕ) (e : Elementary) (from : Point) (old : List Entry) : Type 0 where

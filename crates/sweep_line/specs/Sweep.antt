@@ -3,6 +3,7 @@ use Rattle.std.specs.Prelude.{◌≡◌, ℕ, pos, ◌+◌, ◌<◌, ◌*ℤ◌,
 use Rattle.std.specs.List.{AllPairs, insert}
 use Rattle.std.specs.declared.cmp.Ordering.TheVariants.{Less}
 use Rattle.overlay_terms.specs.Plane.{Point, whole_cmp}
+use Rattle.overlay_terms.specs.Layers.{layers_max}
 use Rattle.overlay_terms.specs.Trees.{mask_bits}
 use Rattle.overlay_terms.specs.Tiles.{Input, midpoint, over_bits, is_vertical}
 use Rattle.overlay_terms.specs.TileLaws.{IsInput}
@@ -20,7 +21,7 @@ use Rattle.sweep_line.specs.declared.status.Entry.{Entry}
 pub record IsEntryOf (input : Input) (p : Elementary) (e : Entry) : Type 0 where
   pub to : place e.to ≡ place_of p.to
   pub support : e.support ≡ p.support
-  pub over : (k : ℕ) → k < 32 → mask_bits e.over k ≡ over_bits input.marked (midpoint (place_of p.from) (place_of p.to)) k
+  pub over : (k : ℕ) → k < layers_max → mask_bits e.over k ≡ over_bits input.marked (midpoint (place_of p.from) (place_of p.to)) k
 
 -- from a place on one entry stands under another wherever both go on
 abbrev pub StandsUnder : Point → Entry → Entry → Type 0

@@ -1,5 +1,6 @@
 //! Labels by counting over all segments: the plain program beside the sweep.
 ghost use Rattle.std.specs.Prelude.{◌≡◌, ℕ, ◌<◌, map, All, IfOk, if◌then◌else◌, not, ◌==◌};
+ghost use Rattle.overlay_terms.specs.Layers.{layers_max};
 ghost use Rattle.overlay_terms.specs.Tiles.{below_bits, midpoint};
 ghost use Rattle.overlay_terms.specs.Trees.{mask_bits};
 ghost use Rattle.exact_point.specs.Place.{place};
@@ -42,8 +43,8 @@ pub fn label_by_count(
 fn under_mask(piece: &Elementary, marked: &[MarkedSeg]) -> u32
     requires from_named { HasPlace piece.now.from }
     requires to_named { HasPlace piece.now.to }
-    requires known { All (λ m. m.layer < 32) marked.now }
-    ensures { (k : ℕ) → k < 32 → mask_bits result k
+    requires layers { All (λ m. m.layer < layers_max) marked.now }
+    ensures { (k : ℕ) → k < layers_max → mask_bits result k
         ≡ below_bits (map marked_of marked.now) (midpoint (place_of piece.now.from) (place_of piece.now.to)) k }
 {
     mask_below(marked, &piece.from.known_point(), &piece.to.known_point())
@@ -51,8 +52,8 @@ fn under_mask(piece: &Elementary, marked: &[MarkedSeg]) -> u32
 
 /// The same of the middle of two points.
 fn mask_below(marked: &[MarkedSeg], from: &HPoint, to: &HPoint) -> u32
-    requires { All (λ m. m.layer < 32) marked.now }
-    ensures { (k : ℕ) → k < 32 → mask_bits result k
+    requires { All (λ m. m.layer < layers_max) marked.now }
+    ensures { (k : ℕ) → k < layers_max → mask_bits result k
         ≡ below_bits (map marked_of marked.now) (midpoint (place from.now) (place to.now)) k }
 {
     let mut mask = 0;
@@ -66,7 +67,7 @@ fn mask_below(marked: &[MarkedSeg], from: &HPoint, to: &HPoint) -> u32
 
 /// A mask with one bit changed.
 fn toggled(mask: u32, layer: u8) -> u32
-    requires { layer < 32 }
+    requires { layer < layers_max }
     ensures { (k : ℕ) → mask_bits result k ≡ (if layer == k then not (mask_bits mask k) else mask_bits mask k) }
 {
     mask ^ (1 << layer)

@@ -1,8 +1,8 @@
 -- What lies over an upright piece is told by the segments under its middle that reach it from the left.
-use Rattle.std.specs.Prelude.{◌≡◌, ℕ, ℤ, pos, ◌+◌, get_or, ◌-ℤ◌, ◌*ℤ◌, ◌<ℤ◌, ◌≤ℤ◌, int_le, int_lt, Bool, true, false, ◌&&◌, ◌||◌, IsTrue, List, map, All, Contains}
+use Rattle.std.specs.Prelude.{◌≡◌, ℤ, pos, ◌+◌, get_or, ◌-ℤ◌, ◌*ℤ◌, ◌<ℤ◌, ◌≤ℤ◌, int_le, int_lt, Bool, true, false, ◌&&◌, ◌||◌, IsTrue, List, Contains}
 use Rattle.std.specs.Ordering.{int_eq}
 use Rattle.std.specs.declared.cmp.Ordering.TheVariants.{Less}
-use Rattle.std.proofs.Common.{inl, inr, refl, ap, sym, ◌∙◌, arith}
+use Rattle.std.proofs.Common.{inl, inr, ap, sym, ◌∙◌, arith}
 use Rattle.std.proofs.lemmas.Int.{ints, by_lt_z}
 use Rattle.std.proofs.lemmas.Bool.{and_parts, and_from, or_left, both_ways, false_from_ne_true, not-true}
 use Rattle.std.proofs.lemmas.Bool.Decides.{Decides-int_eq}
@@ -10,14 +10,13 @@ use Rattle.std.proofs.lemmas.List.Elements.{All-map, All-contains}
 use Rattle.std.proofs.Math.IntN.{zero-*ℤ, *ℤ_comm}
 use Rattle.overlay_terms.specs.Plane.{WholePoint, Point, Segment, whole, same_place, point_cmp, height_over, is_below, is_on}
 use Rattle.overlay_terms.specs.Column.{border, is_in_column}
-use Rattle.overlay_terms.specs.Tiles.{Input, IsPiece, midpoint, is_vertical}
+use Rattle.overlay_terms.specs.Tiles.{Input, midpoint}
 use Rattle.overlay_terms.specs.TileLaws.{IsInput, IsProper}
 use Rattle.overlay_terms.proofs.Difference.{split, differences, same, mul_pos}
 use Rattle.overlay_terms.proofs.InputNumbers.{last_turned, most_times, less_times, most_back, less_back, le_true, lt_true, true_le, true_lt, false_eq}
 use Rattle.exact_point.proofs.Lexical.{Forward, NotBack}
 use Rattle.exact_point.proofs.OnSegment.{leads, reached, is_reached}
 use Rattle.tile_laws.specs.Rays.{IsUpright, is_left_below, LeftSide}
-use Rattle.tile_laws.proofs.JustRight.{is_over_x}
 use Rattle.tile_laws.proofs.Statements.{segments_in}
 use Rattle.tile_laws.proofs.Counts.{same_tests}
 use Rattle.tile_laws.proofs.EvenRegion.{differ}
@@ -28,7 +27,7 @@ use Rattle.tile_laws.proofs.UprightSides.{upright_crosses, below_less, over_by_w
 use Rattle.tile_laws.proofs.EndCounts.{IsEven, count_alike_by_ends}
 use Rattle.exact_point.proofs.Lines.{width, rise}
 use Rattle.exact_point.proofs.OnLine.{between_on, on_line}
-use Rattle.exact_point.proofs.PlaceOrder.{not_after_less, one_positive}
+use Rattle.exact_point.proofs.PlaceOrder.{not_after_less}
 use Rattle.exact_point.proofs.Signs.{positive_factor}
 use Rattle.exact_point.proofs.Nodes.{crossing_is_node, node_at_end, end_among}
 

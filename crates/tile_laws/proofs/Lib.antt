@@ -1,6 +1,5 @@
 pub mod JustRight
 pub mod Statements
-pub mod SameNodes
 pub mod NextNode
 pub mod Candidates
 pub mod NodesAlong

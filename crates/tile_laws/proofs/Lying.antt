@@ -1,12 +1,12 @@
 -- Pieces by any segment that they lie on: their sides, and which stands under which.
-use Rattle.std.specs.Prelude.{◌≡◌, ℕ, ℤ, pos, ◌+ℤ◌, ◌-ℤ◌, ◌*ℤ◌, ◌<ℤ◌, ◌≤ℤ◌, int_le, int_lt, Bool, true, ◌&&◌, ◌||◌, IsTrue, All, Contains}
+use Rattle.std.specs.Prelude.{◌≡◌, ℕ, ℤ, pos, ◌+ℤ◌, ◌-ℤ◌, ◌*ℤ◌, ◌<ℤ◌, ◌≤ℤ◌, int_le, int_lt, true, ◌&&◌, ◌||◌, IsTrue}
 use Rattle.std.specs.Ordering.{int_eq}
 use Rattle.std.proofs.Common.{ap, sym, ◌∙◌, arith}
 use Rattle.std.proofs.lemmas.Int.{ints, by_lt_z}
 use Rattle.std.proofs.lemmas.Bool.{and_from}
 use Rattle.std.proofs.lemmas.Bool.Decides.{Decides-int_eq}
 use Rattle.std.proofs.Math.IntN.{zero-*ℤ, *ℤ_comm}
-use Rattle.overlay_terms.specs.Plane.{Point, Segment, whole, height_over, is_on}
+use Rattle.overlay_terms.specs.Plane.{Point, Segment, whole, is_on}
 use Rattle.overlay_terms.specs.Column.{is_in_column}
 use Rattle.overlay_terms.specs.Tiles.{Input, IsPiece, midpoint, below_bits, over_bits}
 use Rattle.overlay_terms.specs.TileLaws.{IsInput}
@@ -20,11 +20,11 @@ use Rattle.tile_laws.proofs.SideClear.{stretch_of, apart_of}
 use Rattle.tile_laws.proofs.SideOrder.{order_kept, under_is_above}
 use Rattle.tile_laws.proofs.SidesKept.{sides_are_kept}
 use Rattle.tile_laws.proofs.StepUp.{level_under_alike, level_over_alike, under_bits_alike, up_to_bits_alike}
-use Rattle.exact_point.proofs.Lines.{width, gap, offset, form_moves, gap_form}
+use Rattle.exact_point.proofs.Lines.{gap, offset, form_moves, gap_form}
 use Rattle.exact_point.specs.Crossing.{turn_of}
 use Rattle.overlay_terms.proofs.Difference.{mul_pos}
 use Rattle.exact_point.proofs.Signs.{positive_factor, zero_factor}
-use Rattle.exact_point.proofs.ByX.{Left, AtMost, left_after, left_before}
+use Rattle.exact_point.proofs.ByX.{Left, AtMost, left_after}
 use Rattle.exact_point.proofs.OnLine.{on_line}
 
 -- ---- over opaque numbers

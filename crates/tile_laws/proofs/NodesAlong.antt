@@ -1,5 +1,5 @@
 -- The ends of a segment that is not vertical lie on it.
-use Rattle.std.specs.Prelude.{◌≡◌, pos, ◌<◌, ◌<ℤ◌, IsTrue}
+use Rattle.std.specs.Prelude.{◌≡◌, pos, ◌<ℤ◌, IsTrue}
 use Rattle.std.specs.declared.cmp.Ordering.TheVariants.{Less}
 use Rattle.overlay_terms.specs.Plane.{Segment, whole, point_cmp, is_on}
 use Rattle.overlay_terms.proofs.InputNumbers.{less_times, in_order_by_x}

@@ -10,7 +10,7 @@ use Rattle.overlay_terms.proofs.InputNumbers.{le_true, lt_true, true_le, true_lt
 use Rattle.overlay_terms.proofs.PlaceLemmas.{places_alike}
 use Rattle.exact_point.proofs.ByX.{most_after_most, less_before_most}
 use Rattle.exact_point.proofs.PlaceOrder.{alike_left, alike_right, on_same}
-use Rattle.tile_laws.proofs.SameNodes.{node_alike}
+use Rattle.exact_point.proofs.SameNodes.{node_alike}
 use Rattle.tile_laws.proofs.Candidates.{candidates, IsAmong, node_among}
 use Rattle.tile_laws.proofs.NextNode.{IsLast, last_of}
 use Rattle.tile_laws.proofs.LastPlace.{Rises, Falls, rising, falling}

@@ -1,5 +1,5 @@
 -- A ray to the left tells the parity of a base layer at a point off its edges: below and left of the point, both tests differ by the ends there.
-use Rattle.std.specs.Prelude.{◌≡◌, ℕ, zero, suc, ℤ, pos, ◌<◌, ◌%◌, ◌==◌, ◌-ℤ◌, ◌*ℤ◌, ◌<ℤ◌, ◌≤ℤ◌, int_le, int_lt, Bool, true, false, not, ◌&&◌, ◌||◌, IsTrue, List, [], ◌∷◌, ◌++◌, map, get_or, length, count_by, All, Contains}
+use Rattle.std.specs.Prelude.{◌≡◌, ℕ, zero, suc, ℤ, pos, ◌<◌, ◌%◌, ◌==◌, ◌-ℤ◌, ◌*ℤ◌, ◌<ℤ◌, ◌≤ℤ◌, int_le, int_lt, Bool, true, false, not, ◌&&◌, ◌||◌, List, [], ◌∷◌, map, get_or, length, All, Contains}
 use Rattle.std.specs.List.{list_any}
 use Rattle.std.proofs.Common.{inl, inr, refl, ap, sym, subst, ◌∙◌, arith}
 use Rattle.std.proofs.lemmas.Int.{ints, by_lt_z}
@@ -7,9 +7,9 @@ use Rattle.std.proofs.lemmas.Bool.{both_ways, false≢true, false_from_ne_true}
 use Rattle.std.proofs.lemmas.List.{append-nil}
 use Rattle.std.proofs.lemmas.List.Elements.{All-nil, All-cons}
 use Rattle.std.proofs.Math.IntN.{zero-*ℤ, *ℤ_comm}
-use Rattle.overlay_terms.specs.Plane.{WholePoint, Point, Segment, whole, segments_of, height_over, is_below, is_on, is_inside}
-use Rattle.overlay_terms.specs.Layers.{Marked, marked_segments}
-use Rattle.overlay_terms.specs.TileLaws.{AreClosed, ends_at}
+use Rattle.overlay_terms.specs.Plane.{WholePoint, Point, Segment, segments_of, height_over, is_below, is_on}
+use Rattle.overlay_terms.specs.Layers.{Marked}
+use Rattle.overlay_terms.specs.TileLaws.{AreClosed}
 use Rattle.overlay_terms.specs.InputLaws.{IsRing}
 use Rattle.overlay_terms.proofs.Difference.{split, whole_is, differences, same, mul_pos}
 use Rattle.overlay_terms.proofs.InputNumbers.{le_true, lt_true, true_le, true_lt}

@@ -10,7 +10,7 @@ use Rattle.overlay_terms.proofs.PlaceLemmas.{IsSamePlace, places_alike}
 use Rattle.exact_point.proofs.PlaceOrder.{on_same, alike_left, alike_right}
 use Rattle.exact_point.proofs.SameMiddle.{in_column_alike, under_level, over_side_level}
 use Rattle.tile_laws.specs.SameTile.{same_pair, IsPositivePair}
-use Rattle.tile_laws.proofs.SameNodes.{node_alike}
+use Rattle.exact_point.proofs.SameNodes.{node_alike}
 
 module _ (p r u v : Point) (hu : pos 0 <ℤ u.w) (hv : pos 0 <ℤ v.w) (e : IsTrue (same_place p u)) (f : IsTrue (same_place r v)) where
   -- a pair at the places of a piece is a piece

@@ -1,13 +1,12 @@
 -- From the highest of some ordered segments to what lies above it: what is up to the one is what passes a lower test.
-use Rattle.std.specs.Prelude.{◌≡◌, ℕ, ℤ, pos, suc, ◌+◌, ◌<◌, ◌⊎◌, ◌-ℤ◌, ◌*ℤ◌, ◌<ℤ◌, ◌≤ℤ◌, int_le, Bool, true, false, ◌||◌, ltb, List, length, get_or, All, Any, Contains}
+use Rattle.std.specs.Prelude.{◌≡◌, ℕ, ℤ, pos, suc, ◌<◌, ◌⊎◌, ◌-ℤ◌, ◌*ℤ◌, ◌<ℤ◌, ◌≤ℤ◌, int_le, Bool, true, false, ◌||◌, ltb, List, length, get_or, All, Any, Contains}
 use Rattle.std.specs.List.{AllPairs}
-use Rattle.std.proofs.Common.{inl, inr, refl, ap, sym, subst, ◌∙◌, arith}
+use Rattle.std.proofs.Common.{inl, inr, ap, sym, ◌∙◌, arith}
 use Rattle.std.proofs.lemmas.Int.{ints, by_lt_z}
 use Rattle.std.proofs.lemmas.Bool.{both_ways, or_left, or_right, or_cases, false_from_ne_true}
 use Rattle.std.proofs.lemmas.List.{get_or_default}
 use Rattle.overlay_terms.specs.Plane.{Point, Segment, height_over}
 use Rattle.overlay_terms.specs.Tiles.{Input}
-use Rattle.overlay_terms.proofs.Difference.{mul_pos}
 use Rattle.overlay_terms.proofs.InputNumbers.{le_true, true_le}
 use Rattle.tile_laws.proofs.JustRight.{is_over_x, is_under, is_level, bits_where, under_bits, up_to_bits}
 use Rattle.tile_laws.proofs.Statements.{segments_in}

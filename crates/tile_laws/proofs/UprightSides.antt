@@ -1,11 +1,11 @@
 -- Of an upright piece: what is below its middle is what passes over its x at its lower end or under it.
-use Rattle.std.specs.Prelude.{◌≡◌, ℕ, ℤ, pos, ◌==◌, ◌+ℤ◌, ◌-ℤ◌, ◌*ℤ◌, ◌<ℤ◌, ◌≤ℤ◌, neg_ℤ, int_le, int_lt, Bool, true, false, not, ◌&&◌, IsTrue, All, Contains}
+use Rattle.std.specs.Prelude.{◌≡◌, ℕ, ℤ, pos, ◌==◌, ◌+ℤ◌, ◌-ℤ◌, ◌*ℤ◌, ◌<ℤ◌, ◌≤ℤ◌, neg_ℤ, int_le, int_lt, Bool, true, false, ◌&&◌, IsTrue, Contains}
 use Rattle.std.specs.Cmp.{int_cmp_is}
 use Rattle.std.specs.Ordering.{ordering_then, int_cmp}
 use Rattle.std.specs.declared.cmp.Ordering.TheVariants.{Less, Equal}
-use Rattle.std.proofs.Common.{inl, inr, refl, ap, sym, ◌∙◌, arith}
+use Rattle.std.proofs.Common.{inl, inr, ap, sym, ◌∙◌, arith}
 use Rattle.std.proofs.lemmas.Int.{ints, by_lt_z}
-use Rattle.std.proofs.lemmas.Bool.{and_parts, not-true, both_ways, false_from_ne_true}
+use Rattle.std.proofs.lemmas.Bool.{not-true, both_ways, false_from_ne_true}
 use Rattle.std.proofs.lemmas.List.Elements.{All-weaker}
 use Rattle.std.proofs.Math.IntN.{zero-*ℤ, *ℤ_comm}
 use Rattle.overlay_terms.specs.Plane.{Point, Segment, whole, point_cmp, height_over, is_below, is_on}
@@ -26,8 +26,8 @@ use Rattle.tile_laws.proofs.SideBits.{all_in_map, bits_agree}
 use Rattle.exact_point.proofs.Lines.{width, rise, base, place_over, over_on_line}
 use Rattle.exact_point.proofs.OnLine.{between_on, on_line}
 use Rattle.exact_point.proofs.PlaceOrder.{level_from, level_test, not_after_less}
-use Rattle.exact_point.proofs.Signs.{negative_times, not_negative_times, not_positive_times, positive_factor, zero_factor}
-use Rattle.exact_point.proofs.ByX.{AtMost, at_most_through}
+use Rattle.exact_point.proofs.Signs.{negative_times, not_negative_times, zero_factor}
+use Rattle.exact_point.proofs.ByX.{at_most_through}
 use Rattle.exact_point.proofs.Nodes.{crossing_is_node}
 
 -- the line of a segment does not pass over a place: it is at the place or under it

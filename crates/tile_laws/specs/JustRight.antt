@@ -1,5 +1,5 @@
 -- Segments over the x of a place, from the lowest to the highest just right of it.
-use Rattle.std.specs.Prelude.{ℕ, ℤ, pos, ◌%◌, ◌==◌, ◌*ℤ◌, int_le, int_lt, Bool, ◌&&◌, ◌||◌, List, count_by}
+use Rattle.std.specs.Prelude.{ℕ, pos, ◌%◌, ◌==◌, ◌*ℤ◌, int_le, int_lt, Bool, ◌&&◌, ◌||◌, List, count_by}
 use Rattle.std.specs.Ordering.{int_eq}
 use Rattle.overlay_terms.specs.Plane.{Point, Segment}
 use Rattle.overlay_terms.specs.Layers.{Marked}

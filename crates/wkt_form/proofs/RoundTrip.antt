@@ -1,5 +1,5 @@
 -- The tokens of a written text, and the layer that it spells.
-use Rattle.std.proofs.Common.{◌≡◌, ℕ, suc, ◌+◌, ◌<◌, ℤ, Bool, true, false, List, [], ◌∷◌, ◌++◌, map, length, take, drop, get_or, refl, sym, ap, ◌∙◌, Option, Some, None, append_assoc, codes, subst, lit<, arith}
+use Rattle.std.proofs.Common.{◌≡◌, ℕ, suc, ◌+◌, ◌<◌, ℤ, Bool, true, false, List, [], ◌∷◌, ◌++◌, map, length, take, drop, get_or, refl, sym, ap, ◌∙◌, None, append_assoc, codes, subst, lit<, arith}
 use Rattle.std.specs.List.{All, list_all, flat_map, prefix_len}
 use Rattle.std.specs.Char.{is_ascii_alphabetic}
 use Rattle.std.specs.Fmt.{signed_decimal}
@@ -9,7 +9,6 @@ use Rattle.std.proofs.lemmas.List.Elements.{All-nil, All-cons, All-head, All-tai
 use Rattle.overlay_terms.specs.Plane.{WholePoint, InRange}
 use Rattle.plane_base.specs.BaseLayer.{ring_fault, first_ring_fault}
 use Rattle.overlay_terms.proofs.Options.{both_absent}
-use Rattle.plane_base.specs.declared.fault.PlaneFault.{PlaneFault}
 use Rattle.wkt_form.specs.Number.{is_whole, number_value, is_coordinate}
 use Rattle.wkt_form.specs.Token.{Kind, word, run, open_bracket, close_bracket, comma, Token, is_run_byte, begins, tokens_from}
 use Rattle.wkt_form.specs.Spelling.{listed, point_text, ring_text, wkt_text}

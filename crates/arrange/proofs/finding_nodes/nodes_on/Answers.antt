@@ -1,6 +1,5 @@
-use Rattle.std.proofs.Common.{◌≡◌, List, map, ap, sym, ◌∙◌}
+use Rattle.std.proofs.Common.{◌≡◌, map, ap, sym, ◌∙◌}
 use Rattle.std.proofs.lemmas.Simd.{map-map}
-use Rattle.overlay_terms.specs.Plane.{Segment}
 use Rattle.overlay_terms.specs.Layers as terms
 use Rattle.arrange.specs.Arrangement.{segments_in}
 use Rattle.arrange.specs.Marked.{marked_of}

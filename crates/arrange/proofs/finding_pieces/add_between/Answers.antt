@@ -11,9 +11,9 @@ pub returns-in_ok-push : goal.returns-in_ok-push
 returns-in_ok-push c =
     let begins = begins_by c.args.input.now c.args.seg.now c.args.from.now c.column.result c.is_before_next.result c.requires.neighbours.from_found c.column.ensures.value c.is_before_next.ensures c.if-is_before_next.true in
     rw c.in_ok-push.ensures.items
-    (one_more c.args.input.now c.args.seg.now c.args.from.now c.args.to.now c.requires.neighbours c.marked.ensures.valid c.marked.result.now c.marked.ensures.value c.mask_over-mask.result c.mask_over-mask.ensures begins c.args.held.now.items _)
+    (one_more c.args.input.now c.args.seg.now c.args.from.now c.args.to.now c.requires.neighbours c.marked.ensures.valid c.marked.result.now c.marked.ensures.value c.mask_over-mask.result c.mask_over-mask.ensures begins c.args.placed.now.items _)
 
 pub returns-else-is_before_next : goal.returns-else-is_before_next
 returns-else-is_before_next c =
-    no_more c.args.input.now c.args.from.now c.args.to.now c.args.held.now.items
+    no_more c.args.input.now c.args.from.now c.args.to.now c.args.placed.now.items
     (begins_not c.args.input.now c.args.from.now c.column.result c.is_before_next.result c.column.ensures.value c.is_before_next.ensures c.if-is_before_next.false)

@@ -6,7 +6,7 @@ use Rattle.overlay_terms.specs.Plane.{Segment}
 use Rattle.overlay_terms.specs.SameInput.{same_segment, same_segment-Decides}
 use Rattle.overlay_terms.proofs.Lists.{any_contains, contains_map}
 use Rattle.arrange.specs.declared.marked_seg.MarkedSeg.{MarkedSeg}
-use Rattle.arrange.proofs.HeldLemmas.{held_already}
+use Rattle.arrange.proofs.PlacedLemmas.{listed_already}
 use Rattle.arrange.proofs.finding_pieces.add_pieces_along.Goals as goal
 
 -- a segment that equals one of the list is in it
@@ -18,7 +18,7 @@ among_from marked s e =
 
 pub returns-then-is_among : goal.returns-then-is_among
 returns-then-is_among c =
-    held_already c.args.input.now (map (λ (m : MarkedSeg). m.seg) c.args.earlier.now) c.args.seg.now c.args.held.now.items
+    listed_already c.args.input.now (map (λ (m : MarkedSeg). m.seg) c.args.earlier.now) c.args.seg.now c.args.placed.now.items
     (among_from c.args.earlier.now c.args.seg.now (sym c.is_among.ensures ∙ c.if-is_among.true))
 
 pub returns : goal.returns

@@ -1,4 +1,4 @@
-use Rattle.std.proofs.Common.{◌≡◌, ◌<◌, List, map, ap, sym, subst, ◌∙◌}
+use Rattle.std.proofs.Common.{◌<◌, List, map, ap, sym, subst, ◌∙◌}
 use Rattle.std.specs.Prelude.{All}
 use Rattle.overlay_terms.specs.Layers.{Marked}
 use Rattle.arrange.specs.Marked.{marked_of, AllProper}

@@ -11,8 +11,8 @@ use Rattle.sweep_line.specs.declared.labelled.Labelled.{Labelled}
 use Rattle.sweep_line.proofs.InputLemmas.{labelled}
 use Rattle.sweep_line.proofs.counting.label_by_count.Goals as goal
 
-pub under_mask-under-requires-clause-known : goal.under_mask-under-requires-clause-known
-under_mask-under-requires-clause-known c = c.marked.ensures.few
+pub under_mask-under-requires-clause-layers : goal.under_mask-under-requires-clause-layers
+under_mask-under-requires-clause-layers c = c.marked.ensures.few
 
 pub loop-piece-preserved : goal.loop-piece-preserved
 loop-piece-preserved c =

@@ -1,4 +1,4 @@
--- Which pieces are held, segment by segment and place by place.
+-- Which pieces are in the list, segment by segment and place by place.
 use Rattle.std.proofs.Common.{◌≡◌, ◌≢◌, ℕ, pos, ◌+◌, ◌<◌, ◌≤◌, ◌<ℤ◌, ◌⊎◌, inl, inr, List, [], ◌∷◌, ◌++◌, length, get_or, sym, ap, ◌∙◌, subst, arith}
 use Rattle.std.specs.Prelude.{IsTrue, Any, Contains}
 use Rattle.std.proofs.lemmas.Bool.{and_from, cases_eq}
@@ -14,19 +14,19 @@ use Rattle.exact_point.specs.PlaceOf.{place_of}
 use Rattle.exact_point.proofs.SameMiddle.{in_column_alike}
 use Rattle.arrange.specs.Arrangement.{segments_in}
 use Rattle.arrange.specs.NamedPlaces.{spot, AreAlong}
-use Rattle.arrange.specs.HeldPieces.{IsHeld, has_ends, AreNeighbours, RunsBetween, HoldsPieces, HoldsOneMore, HoldsNeighbours}
+use Rattle.arrange.specs.PlacedPieces.{IsPlaced, has_ends, AreNeighbours, RunsBetween, HoldsPieces, HoldsOneMore, HoldsNeighbours}
 use Rattle.arrange.specs.declared.named_place.NamedPlace.{NamedPlace}
-use Rattle.arrange.specs.declared.held_piece.HeldPiece.{HeldPiece}
+use Rattle.arrange.specs.declared.placed_piece.PlacedPiece.{PlacedPiece}
 use Rattle.arrange.proofs.SortedPlaces.{spot_positive}
 use Rattle.arrange.proofs.NeighbourLemmas.{neighbours_piece, neighbours_support}
 use Rattle.arrange.proofs.AlongPieces.{known_among, proper_among, ends_next}
 
 -- an element that is kept
-pub any_kept : (P : HeldPiece → Type 0) (xs ys : List HeldPiece) → ((h : HeldPiece) → Contains xs h → Contains ys h) → Any P xs → Any P ys
+pub any_kept : (P : PlacedPiece → Type 0) (xs ys : List PlacedPiece) → ((h : PlacedPiece) → Contains xs h → Contains ys h) → Any P xs → Any P ys
 any_kept P xs ys keep a = any_from P ys a.1 (keep a.1 (any_contains P xs a)) a.4
 
 -- a piece between two places has two points at these as its ends
-told_ends : (p r : Point) (a b : NamedPlace) (h : HeldPiece) → RunsBetween a b h → IsTrue (same_place p (spot a)) → IsTrue (same_place r (spot b)) → IsTrue (has_ends p r h.piece)
+told_ends : (p r : Point) (a b : NamedPlace) (h : PlacedPiece) → RunsBetween a b h → IsTrue (same_place p (spot a)) → IsTrue (same_place r (spot b)) → IsTrue (has_ends p r h.piece)
 told_ends p r a b h ends first second =
     let F : Point → Type 0 = λ z. IsTrue (same_place p z) in
     let T : Point → Type 0 = λ z. IsTrue (same_place r z) in
@@ -53,13 +53,13 @@ next_places input s valid among list along i j a b e within is_a is_b =
     subst T second (subst F first here)
 
 -- nothing has been added
-pub none_yet : (input : Input) (places : List NamedPlace) (i : ℕ) (held : List HeldPiece) → i ≤ 1 → HoldsNeighbours input places i held held
-none_yet input places i held h = record { sound = λ all. all; kept = λ h c. c; covered = λ j d l. absurd (omega (arith, h, l)) }
+pub none_yet : (input : Input) (places : List NamedPlace) (i : ℕ) (placed : List PlacedPiece) → i ≤ 1 → HoldsNeighbours input places i placed placed
+none_yet input places i placed h = record { sound = λ all. all; kept = λ h c. c; covered = λ j d l. absurd (omega (arith, h, l)) }
 
 -- one more pair of neighbours
-pub next_pair : (input : Input) (places : List NamedPlace) (i j : ℕ) (a b : NamedPlace) (before held more : List HeldPiece) → i + 1 ≡ j → j < length places → a ≡ get_or places i a → b ≡ get_or places j b
-    → HoldsNeighbours input places j before held → HoldsOneMore input a b held more → HoldsNeighbours input places (j + 1) before more
-next_pair input places i j a b before held more e within is_a is_b so_far new = record {
+pub next_pair : (input : Input) (places : List NamedPlace) (i j : ℕ) (a b : NamedPlace) (before placed more : List PlacedPiece) → i + 1 ≡ j → j < length places → a ≡ get_or places i a → b ≡ get_or places j b
+    → HoldsNeighbours input places j before placed → HoldsOneMore input a b placed more → HoldsNeighbours input places (j + 1) before more
+next_pair input places i j a b before placed more e within is_a is_b so_far new = record {
   sound = λ all. new.sound (so_far.sound all);
   kept = λ h c. new.kept h (so_far.kept h c);
   covered = λ n d l m begins. by n d l m begins (cases_eq n i);
@@ -75,13 +75,13 @@ next_pair input places i j a b before held more e within is_a is_b so_far new = 
       let T : NamedPlace → Type 0 = λ z. Any (RunsBetween (get_or places n d) z) more in
       subst T (sym second) (subst F (sym first) (new.covered (subst C first begins)))
   by n d l m begins (inr f) =
-      any_kept (RunsBetween (get_or places n d) (get_or places (n + 1) d)) held more new.kept (so_far.covered n d (omega (arith, f, l, e)) m begins)
+      any_kept (RunsBetween (get_or places n d) (get_or places (n + 1) d)) placed more new.kept (so_far.covered n d (omega (arith, f, l, e)) m begins)
 
 module _ (input : Input) (s : Segment) (valid : IsInput input) (among : Contains (segments_in input) s) (list : List NamedPlace) (along : AreAlong input s list)
-    (before held : List HeldPiece) (i : ℕ) (whole_list : length list ≤ i) (so_far : HoldsNeighbours input list i before held) where
-  -- a piece on the segment is held
-  held_there : (p r : Point) (piece : IsPiece (segments_in input) p r) → piece.support ≡ s → IsTrue (is_in_column input.column p) → Any (λ h. IsTrue (has_ends p r h.piece)) held
-  held_there p r piece is begins =
+    (before placed : List PlacedPiece) (i : ℕ) (whole_list : length list ≤ i) (so_far : HoldsNeighbours input list i before placed) where
+  -- a piece on the segment is in the list
+  listed_there : (p r : Point) (piece : IsPiece (segments_in input) p r) → piece.support ≡ s → IsTrue (is_in_column input.column p) → Any (λ h. IsTrue (has_ends p r h.piece)) placed
+  listed_there p r piece is begins =
       let O : Segment → Type 0 = λ t. IsTrue (is_on t p) × IsTrue (is_on t r) in
       let N : Segment → Type 0 = λ t. (q : Point) → pos 0 <ℤ q.w → IsTrue (is_on t q) → point_cmp p q ≡ Less → point_cmp q r ≡ Less → IsTrue (is_node (segments_in input) q) → ⊥ in
       let on = subst O is (piece.from_on, piece.to_on) in
@@ -90,29 +90,29 @@ module _ (input : Input) (s : Segment) (valid : IsInput input) (among : Contains
       let b : NamedPlace = get_or list (next.at + 1) next.default in
       let begins_a = sym (in_column_alike p (spot a) piece.from_positive (spot_positive a) next.first input.column) ∙ begins in
       let one = so_far.covered next.at next.default (omega (arith, next.within, whole_list)) next.within begins_a in
-      any_from (λ h. IsTrue (has_ends p r h.piece)) held one.1 (any_contains (RunsBetween a b) held one) (told_ends p r a b one.1 one.4 next.first next.second)
+      any_from (λ h. IsTrue (has_ends p r h.piece)) placed one.1 (any_contains (RunsBetween a b) placed one) (told_ends p r a b one.1 one.4 next.first next.second)
 
-  pub segment_held : (supports : List Segment) → HoldsPieces input supports before → HoldsPieces input (supports ++ s ∷ []) held
+  pub segment_held : (supports : List Segment) → HoldsPieces input supports before → HoldsPieces input (supports ++ s ∷ []) placed
   segment_held supports h = record {
     sound = so_far.sound h.sound;
     complete = λ p r piece c begins. by p r piece begins c (Contains-push_cases supports s piece.support c);
   } where
     by : (p r : Point) (piece : IsPiece (segments_in input) p r) → IsTrue (is_in_column input.column p) → Contains (supports ++ s ∷ []) piece.support
-        → Contains supports piece.support ⊎ (s ≡ piece.support) → Any (λ h. IsTrue (has_ends p r h.piece)) held
-    by p r piece begins c (inl d) = any_kept (λ h. IsTrue (has_ends p r h.piece)) before held so_far.kept (h.complete p r piece d begins)
-    by p r piece begins c (inr e) = held_there p r piece (sym e) begins
+        → Contains supports piece.support ⊎ (s ≡ piece.support) → Any (λ h. IsTrue (has_ends p r h.piece)) placed
+    by p r piece begins c (inl d) = any_kept (λ h. IsTrue (has_ends p r h.piece)) before placed so_far.kept (h.complete p r piece d begins)
+    by p r piece begins c (inr e) = listed_there p r piece (sym e) begins
 
--- the pieces on a segment that stands there already are held
-pub held_already : (input : Input) (supports : List Segment) (s : Segment) (held : List HeldPiece) → Contains supports s → HoldsPieces input supports held → HoldsPieces input (supports ++ s ∷ []) held
-held_already input supports s held there h = record {
+-- the pieces on a segment that stands there already are in the list
+pub listed_already : (input : Input) (supports : List Segment) (s : Segment) (placed : List PlacedPiece) → Contains supports s → HoldsPieces input supports placed → HoldsPieces input (supports ++ s ∷ []) placed
+listed_already input supports s placed there h = record {
   sound = h.sound;
   complete = λ p r piece c begins. by p r piece begins (Contains-push_cases supports s piece.support c);
 } where
   by : (p r : Point) (piece : IsPiece (segments_in input) p r) → IsTrue (is_in_column input.column p) → Contains supports piece.support ⊎ (s ≡ piece.support)
-      → Any (λ h. IsTrue (has_ends p r h.piece)) held
+      → Any (λ h. IsTrue (has_ends p r h.piece)) placed
   by p r piece begins (inl c) = h.complete p r piece c begins
   by p r piece begins (inr e) = let Q : Segment → Type 0 = λ t. Contains supports t in h.complete p r piece (subst Q e there) begins
 
--- nothing is held before the first segment
-pub none_held : (input : Input) → HoldsPieces input [] []
-none_held input = record { sound = All-nil (IsHeld input); complete = λ p r piece c begins. absurd (omega (arith, c.1)) }
+-- nothing is in the list before the first segment
+pub none_listed : (input : Input) → HoldsPieces input [] []
+none_listed input = record { sound = All-nil (IsPlaced input); complete = λ p r piece c begins. absurd (omega (arith, c.1)) }

@@ -10,56 +10,56 @@ use std::cmp::Ordering;
 /// A piece and the place of its left end. The order is by that place, then by direction, the
 /// vertical one last.
 #[derive(Clone, Copy, Debug)]
-pub(crate) struct HeldPiece {
+pub(crate) struct PlacedPiece {
     pub(crate) at: HPoint,
     pub(crate) piece: Elementary,
     pub(crate) ghost ahead: { whole_cmp piece.support.left piece.support.right ≡ Less },
 }
 
-impl PartialEq for HeldPiece {
-    ghost use Rattle.arrange.specs.HeldPieces.{same_held, same_held_laws};
+impl PartialEq for PlacedPiece {
+    ghost use Rattle.arrange.specs.PlacedPieces.{same_placed, same_placed_laws};
 
-    ghost eq = { same_held };
+    ghost eq = { same_placed };
 
-    ghost laws = { same_held_laws };
+    ghost laws = { same_placed_laws };
 
-    fn eq(&self, other: &HeldPiece) -> bool {
+    fn eq(&self, other: &PlacedPiece) -> bool {
         self.cmp(other) == Ordering::Equal
     }
 }
 
-impl Eq for HeldPiece {
-    ghost use Rattle.arrange.specs.HeldPieces.{same_held_equiv};
+impl Eq for PlacedPiece {
+    ghost use Rattle.arrange.specs.PlacedPieces.{same_placed_equiv};
 
-    ghost laws = { same_held_equiv };
+    ghost laws = { same_placed_equiv };
 }
 
-impl PartialOrd for HeldPiece {
-    ghost use Rattle.arrange.specs.HeldPieces.{held_cmp, held_po};
+impl PartialOrd for PlacedPiece {
+    ghost use Rattle.arrange.specs.PlacedPieces.{placed_cmp, placed_po};
     ghost use Rattle.std.specs.Ordering.{as_partial_cmp};
 
-    ghost partial_cmp = { as_partial_cmp held_cmp };
+    ghost partial_cmp = { as_partial_cmp placed_cmp };
 
-    ghost laws = { held_po };
+    ghost laws = { placed_po };
 
-    fn partial_cmp(&self, other: &HeldPiece) -> Option<Ordering> {
+    fn partial_cmp(&self, other: &PlacedPiece) -> Option<Ordering> {
         Some(self.cmp(other))
     }
 }
 
-impl Ord for HeldPiece {
-    ghost use Rattle.arrange.specs.HeldPieces.{held_cmp, held_total};
+impl Ord for PlacedPiece {
+    ghost use Rattle.arrange.specs.PlacedPieces.{placed_cmp, placed_total};
     ghost use Rattle.std.specs.Prelude.{refl};
 
-    ghost cmp = { held_cmp };
+    ghost cmp = { placed_cmp };
 
-    ghost total = { held_total };
+    ghost total = { placed_total };
 
     ghost matches_partial_cmp = { λ p q. refl };
 
     ghost matches_eq = { λ p q. refl };
 
-    fn cmp(&self, other: &HeldPiece) -> Ordering {
+    fn cmp(&self, other: &PlacedPiece) -> Ordering {
         let by_place = self.at.cmp(&other.at);
         if by_place.is_ne() {
             return by_place;
