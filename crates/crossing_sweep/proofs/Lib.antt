@@ -23,3 +23,4 @@ pub mod KeptLemmas
 pub mod ClosedLemmas
 pub mod BorderLemmas
 pub mod LastNodeLemmas
+pub mod PassLemmas

@@ -34,10 +34,10 @@ right_level : (u : Segment) (r : Point) → IsProper u → pos 0 <ℤ r.w → Is
 right_level u r proper hr e = on_line u r (on_same u r (whole u.right) hr one_positive e ∙ right_on u proper)
 
 -- heights of one sign are not of another
-not_above : (h : ℤ) → pos 0 <ℤ h → h ≡ pos 0 → ⊥
+pub not_above : (h : ℤ) → pos 0 <ℤ h → h ≡ pos 0 → ⊥
 not_above h l e = omega (arith, ints, l, e)
 
-not_below : (h : ℤ) → h <ℤ pos 0 → h ≡ pos 0 → ⊥
+pub not_below : (h : ℤ) → h <ℤ pos 0 → h ≡ pos 0 → ⊥
 not_below h l e = omega (arith, ints, l, e)
 
 module _ (n : ℤ) (segments units : List Segment) (q r : Point) (under bundle over stay : List Segment) (steep : IsSteep n) (proper : All IsProper segments) (are : AreStretches segments units)

@@ -10,3 +10,4 @@ pub mod Kept
 pub mod Closed
 pub mod Border
 pub mod LastNode
+pub mod Passing

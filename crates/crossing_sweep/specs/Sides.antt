@@ -1,7 +1,7 @@
 -- The sides of a piece, by what lies under its line in the leaned plane.
-use Rattle.std.specs.Prelude.{◌≡◌, ℕ, ℤ, pos, ◌^◌, ◌≤ℤ◌, IsTrue, List, map}
+use Rattle.std.specs.Prelude.{◌≡◌, ℕ, ℤ, pos, ◌≤ℤ◌, IsTrue, List, map}
 use Rattle.std.specs.declared.cmp.Ordering.TheVariants.{Less}
-use Rattle.overlay_terms.specs.Plane.{Point, point_cmp}
+use Rattle.overlay_terms.specs.Plane.{Point, point_cmp, denominator_max}
 use Rattle.overlay_terms.specs.Column.{is_in_column}
 use Rattle.overlay_terms.specs.Layers.{Marked}
 use Rattle.overlay_terms.specs.Tiles.{Input, IsPiece, midpoint, below_bits, over_bits}
@@ -13,10 +13,10 @@ use Rattle.crossing_sweep.specs.Leaning.{lean, lean_segment, IsSteep, IsSmall}
 abbrev pub lean_marked : ℤ → List Marked → List Marked
 lean_marked n marked = map (λ m. record { layer = m.layer; segment = lean_segment n m.segment }) marked
 
--- an end of a piece: a small place with a denominator of at most 2^43
+-- an end of a piece: a small place whose denominator is not too great
 pub record IsNodal (p : Point) : Type 0 where
   pub small : IsSmall p
-  pub few : p.w ≤ℤ pos (2 ^ 43)
+  pub few : p.w ≤ℤ pos denominator_max
 
 -- a place from p on and before r, in the column
 pub record IsPassed (column : ℕ) (p r q : Point) : Type 0 where

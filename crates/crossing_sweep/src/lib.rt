@@ -4,6 +4,7 @@
 pub mod last_node;
 pub mod leaning;
 pub mod next_node;
+pub mod passing;
 pub mod queue;
 pub mod sides;
 pub mod status;

@@ -1,0 +1,14 @@
+//! Laws of a pass over a column, from node to node: each function does nothing, and its contract is the law.
+
+ghost use Rattle.crossing_sweep.specs.Passing.{PassEnds, PassGoesOn};
+
+/// One step of a pass leads to the next node, and the pass stands there as it stood before: it sees
+/// only the units that hold the node, those that enter there, and two new pairs of neighbours.
+pub fn pass_goes_on()
+    ensures { PassGoesOn }
+{}
+
+/// Where no place is found ahead, no node of the closed column comes any more.
+pub fn pass_ends()
+    ensures { PassEnds }
+{}
