@@ -1,4 +1,5 @@
 pub mod Adding
+pub mod Beginning
 pub mod Chains
 pub mod Fronts
 pub mod Growing

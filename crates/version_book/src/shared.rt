@@ -1,5 +1,5 @@
 //! What threads share: the book under its lock, and the calls on it.
-ghost use Rattle.std.specs.Prelude.{◌≡◌, ◌⊎◌, ◌<◌, ◌≤◌, [], ◌∷◌, ◌++◌, IfOk, IfErr, IfSome, IfNone, true};
+ghost use Rattle.std.specs.Prelude.{◌≡◌, ◌⊎◌, ◌<◌, ◌≤◌, [], ◌∷◌, ◌++◌, IfOk, IfErr, IfSome, IfNone, All, length, true};
 ghost use Rattle.std.specs.Arc.{arc_value};
 ghost use Rattle.overlay_terms.specs.Histories.{commands_of, BeginsWith, newest};
 ghost use Rattle.overlay_terms.specs.Tiles.{input_of};
@@ -50,6 +50,9 @@ impl<J: Naming, R: Wait + Drop> Shared<J, R> {
         requires sessions { (0 < sessions) × (sessions ≤ 4) }
         ensures reporter { IfOk result (λ r. r.1 ≡ trace) }
         ensures sessions { IfOk result (λ r. r.2.items ≡ beginners trace sessions) }
+        ensures of_book { IfOk result (λ r. All (λ session. session.book ≡ J.book) r.2.items) }
+        ensures reporter_of_book { IfOk result (λ r. r.1.book ≡ J.book) }
+        ensures count { IfOk result (λ r. length r.2.items ≡ sessions) }
         ensures err { IfErr result (λ fault. (fault ≡ no_memory) ⊎ (fault ≡ BookFault.Gone)) }
     {
         let reporter = Reporter::new(trace.again());
