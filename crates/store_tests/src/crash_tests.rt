@@ -1,30 +1,9 @@
 //! A crash within a commit, and a device that fails.
-use crate::testing::{created, image_of_a, opened_disk, steps_to_done};
+use crate::testing::{COMMITTED, CREATED, committed, opened_disk};
 use disk_model::image::Choice;
 use disk_model::mem_disk::MemDisk;
 use std::alloc::Global;
 use std::test::Fail;
-
-/// How many device calls make a new store.
-const CREATED: usize = 5;
-
-/// How many more commit one layer.
-const COMMITTED: usize = 8;
-
-/// A disk on which a store was made and the square A committed.
-fn committed(alloc: Global) -> Result<MemDisk, Fail> {
-    let Ok(mut store) = created(alloc, &[], 5)? else {
-        return Err(Fail::new("no store"));
-    };
-    if store.busy() {
-        return Err(Fail::new("busy"));
-    }
-    store.begin(alloc, image_of_a(alloc)?)?;
-    if steps_to_done(&mut store, COMMITTED) != Some(COMMITTED) {
-        return Err(Fail::new("not done"));
-    }
-    Ok(store.into_disk())
-}
 
 /// The version that is opened after a crash behind so many calls.
 fn number_after(

@@ -1,0 +1,129 @@
+//! The device calls of making, opening and committing.
+use crate::testing::{CREATED, committed, disk_of, only_reads, opened_disk, put, stored};
+use disk_model::image::Choice;
+use disk_model::mem_disk::Call;
+use root_store::creating::create;
+use std::test::Fail;
+
+/// A call: its letter, the offset, the number of bytes, and the first byte that is written.
+type Shape = (char, usize, usize, u8);
+
+/// Those that make a store, and then those that commit one layer.
+const CALLS: &[Shape] = &[
+    ('L', 0, 0, 0),
+    ('W', 0, 12288, 0),
+    ('S', 0, 0, 0),
+    ('W', 0, 1, 0xA7),
+    ('S', 0, 0, 0),
+    ('W', 4096, 1, 0),
+    ('S', 0, 0, 0),
+    ('W', 12288, 4096, 0),
+    ('W', 16384, 4096, 0),
+    ('W', 4112, 48, b'O'),
+    ('S', 0, 0, 0),
+    ('W', 4096, 1, 0xA7),
+    ('S', 0, 0, 0),
+];
+
+/// The bodies of both slots of a new store: sequences 0 and 1, version 0, the catalog of 2 bytes in block 2.
+const FIRST: &[u8] =
+    b"OVLSTORE\0\0\0\x01\0\0\0\0\0\0\0\0\0\0\0\0\0\0\0\0\0\0\0\0\0\0\0\x02\0\0\0\x02\0\0\0\0\0\0\0\0";
+
+const TWIN: &[u8] =
+    b"OVLSTORE\0\0\0\x01\0\0\0\0\0\0\0\x01\0\0\0\0\0\0\0\0\0\0\0\0\0\0\0\x02\0\0\0\x02\0\0\0\0\0\0\0\0";
+
+/// The root's body of version 1 in slot 1, and the one that completes slot 0.
+const ROOT: &[u8] =
+    b"OVLSTORE\0\0\0\x01\0\0\0\0\0\0\0\x01\0\0\0\0\0\0\0\x01\0\0\0\0\0\0\0\x04\0\0\0\x11\0\0\0\0\0\0\0\0";
+
+const NEXT: &[u8] =
+    b"OVLSTORE\0\0\0\x01\0\0\0\0\0\0\0\x02\0\0\0\0\0\0\0\x01\0\0\0\0\0\0\0\x04\0\0\0\x11\0\0\0\0\0\0\0\0";
+
+fn shape(call: &Call) -> Shape {
+    match call {
+        Call::Length => ('L', 0, 0, 0),
+        Call::Read(at, size) => ('R', *at, *size, 0),
+        Call::Write(at, bytes) => ('W', *at, bytes.len(), bytes.first().copied().unwrap_or(0)),
+        Call::Sync => ('S', 0, 0, 0),
+    }
+}
+
+/// Whether the calls are just these.
+fn are(calls: &[Call], wanted: &[Shape]) -> bool {
+    if calls.len() != wanted.len() {
+        return false;
+    }
+    for (call, want) in calls.iter().zip(wanted) {
+        if shape(call) != *want {
+            return false;
+        }
+    }
+    true
+}
+
+#[test]
+fn a_new_store_and_a_commit_make_just_their_calls(rt: HostRuntime) -> Result<(), Fail> {
+    let disk = committed(rt.alloc())?;
+    assert!(rt; are(disk.calls(), CALLS));
+    let new = disk.image(CREATED, Choice::Old)?;
+    assert!(rt; new.bytes().get(16..64) == Some(FIRST));
+    assert!(rt; new.bytes().get(4112..4160) == Some(TWIN));
+    assert!(rt; new.bytes().get(8192..8194) == Some([0, 0].as_slice()));
+    assert!(rt; disk.bytes().get(4112..4160) == Some(ROOT));
+    Ok(())
+}
+
+#[test]
+fn a_store_that_is_not_made_asks_for_the_length_alone(rt: HostRuntime) -> Result<(), Fail> {
+    for &(bytes, limit) in &[([].as_slice(), 2), (&[7], 100)] {
+        match create(rt.alloc(), disk_of(rt.alloc(), bytes)?, limit) {
+            Ok(_) => return Err(Fail::new("made")),
+            Err(refused) => assert!(rt; are(refused.disk.calls(), &[('L', 0, 0, 0)])),
+        }
+    }
+    Ok(())
+}
+
+#[test]
+fn opening_completes_the_slot_behind_a_shut_gate(rt: HostRuntime) -> Result<(), Fail> {
+    let mut file = committed(rt.alloc())?.bytes().to_vec(rt.alloc())?;
+    put(&mut file, 0, &[0x55]);
+    let (store, _) = opened_disk(rt.alloc(), disk_of(rt.alloc(), &file)?)?;
+    let disk = store.into_disk();
+    let calls = disk.calls();
+    let (before, completing) = calls.split_at(calls.len().saturating_sub(2));
+    assert!(rt; only_reads(before));
+    assert!(rt; are(completing, &[('W', 16, 48, b'O'), ('S', 0, 0, 0)]));
+    assert!(rt; disk.bytes().get(16..64) == Some(NEXT));
+    assert!(rt; disk.bytes().get(4112..4160) == Some(ROOT));
+    Ok(())
+}
+
+/// How many calls read a byte.
+fn readers(calls: &[Call], byte: usize) -> usize {
+    calls
+        .iter()
+        .filter(|call| matches!(call, Call::Read(at, size) if *at <= byte && byte - *at < *size))
+        .count()
+}
+
+#[test]
+fn opening_with_open_gates_reads_each_byte_once_and_writes_none(
+    rt: HostRuntime,
+) -> Result<(), Fail> {
+    let file = stored(rt.alloc())?;
+    let (store, image) = opened_disk(rt.alloc(), disk_of(rt.alloc(), &file)?)?;
+    assert_eq!(rt; image.tiles().len(), 1);
+    let disk = store.into_disk();
+    assert!(rt; only_reads(disk.calls()));
+    for byte in 0..file.len() {
+        assert!(rt; readers(disk.calls(), byte) <= 1, "byte {byte}");
+    }
+    // The ends of the catalog, of the three records and of the tile.
+    for &byte in &[
+        24576, 24651, 12288, 12331, 16384, 16427, 20480, 20484, 28672, 28711,
+    ] {
+        assert!(rt; readers(disk.calls(), byte) == 1, "byte {byte}");
+    }
+    Ok(())
+}

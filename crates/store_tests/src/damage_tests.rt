@@ -1,0 +1,137 @@
+//! Files with one thing wrong, and with several: the first of them is told, and nothing is written.
+use crate::testing::{disk_of, only_reads, put, stored};
+use root_store::fault::StoreFault;
+use root_store::opening::open;
+use std::alloc::Global;
+use std::test::Fail;
+
+/// Bytes in the place of others, and what the file is told to be then: the fault, and its code or 0.
+type Case = (usize, &'static [u8], u8, u8);
+
+/// The first byte of slot 1.
+const SLOT: usize = 4096;
+
+/// Where the catalog, the records of A and I and the tile begin.
+const CATALOG: usize = 24576;
+
+const RECORD: usize = 12288;
+
+const DEFINITION: usize = 20480;
+
+const TILE: usize = 28672;
+
+/// One thing wrong in each.
+const CASES: &[Case] = &[
+    // Another magic, in either slot.
+    (16, b"X", 32, 0),
+    (SLOT + 23, b"X", 32, 0),
+    // Another format.
+    (27, &[2], 33, 1),
+    (SLOT + 24, &[1], 33, 1),
+    // A sequence above 2^62, one of the other slot, and a version above 2^62.
+    (28, &[64, 0, 0, 0, 0, 0, 0, 2], 33, 2),
+    (35, &[1], 33, 2),
+    (SLOT + 35, &[2], 33, 2),
+    (SLOT + 36, &[64, 0, 0, 0, 0, 0, 0, 1], 33, 2),
+    // A catalog in a slot, behind the file, far behind it, and over its end.
+    (SLOT + 51, &[1], 33, 3),
+    (SLOT + 51, &[8], 33, 3),
+    (SLOT + 44, &[255; 12], 33, 3),
+    (SLOT + 52, &[0, 0, 32, 1], 33, 3),
+    // A layer too many, another kind, another state, and a length that is not used up.
+    (CATALOG, &[0, 4], 33, 4),
+    (CATALOG + 4, &[2], 33, 4),
+    (CATALOG + 47, &[2], 33, 4),
+    (SLOT + 55, &[75], 33, 4),
+    (SLOT + 55, &[77], 33, 4),
+    // A record in a slot, one behind the file, one over its end, and a tile behind it.
+    (CATALOG + 12, &[1], 33, 5),
+    (CATALOG + 42, &[8], 33, 5),
+    (CATALOG + 13, &[255; 4], 33, 5),
+    (CATALOG + 71, &[8], 33, 5),
+    // A ring too many, a coordinate out of range, an open ring, a length that is not used up.
+    (RECORD, &[0, 2], 33, 6),
+    (RECORD + 12, &[0, 16, 0, 1], 33, 6),
+    (RECORD + 40, &[0, 0, 0, 1], 33, 6),
+    (CATALOG + 16, &[45], 33, 6),
+    // Another spelling, and no expression.
+    (DEFINITION, b"(A&B)", 33, 6),
+    (DEFINITION, b"A & &", 33, 6),
+    // An equal name, no name, a layer that stands later, and one that stands nowhere.
+    (CATALOG + 18, b"A", 33, 7),
+    (CATALOG + 18, b"9", 33, 7),
+    (DEFINITION, b"A & I", 33, 7),
+    (DEFINITION, b"Z & B", 33, 7),
+    // Another form, another column, a piece too many, one that goes back, a length that is not used up.
+    (TILE, &[2], 33, 8),
+    (TILE + 1, &[15], 33, 8),
+    (TILE + 5, &[2], 33, 8),
+    (TILE + 28, &[16, 0, 0], 33, 8),
+    (CATALOG + 75, &[41], 33, 8),
+    // Two records in one block.
+    (CATALOG + 27, &[3], 33, 9),
+];
+
+/// The same file with one thing more wrong each time: each comes before all those above it.
+const GROWING: &[Case] = &[
+    (CATALOG + 27, &[3], 33, 9),
+    (TILE, &[2], 33, 8),
+    (CATALOG + 71, &[8], 33, 5),
+    (CATALOG + 33, b"A", 33, 7),
+    (DEFINITION, b"(A&B)", 33, 6),
+    (CATALOG + 42, &[8], 33, 5),
+    (CATALOG + 18, b"A", 33, 7),
+    (RECORD, &[0, 2], 33, 6),
+    (CATALOG + 12, &[1], 33, 5),
+    (CATALOG + 4, &[2], 33, 4),
+    (SLOT + 51, &[1], 33, 3),
+    (SLOT + 35, &[2], 33, 2),
+    (SLOT + 27, &[2], 33, 1),
+    (35, &[1], 33, 2),
+    (27, &[2], 33, 1),
+    (SLOT + 16, b"X", 32, 0),
+];
+
+/// The number of a fault, and its code or 0.
+fn numbers(fault: StoreFault) -> (u8, u8) {
+    match fault {
+        StoreFault::Damaged(damage) => (fault.code(), damage.code().unwrap_or(0)),
+        _ => (fault.code(), 0),
+    }
+}
+
+/// Why a file of these bytes is refused, once it is seen that nothing was written.
+fn refusal(alloc: Global, bytes: &[u8]) -> Result<(u8, u8), Fail> {
+    match open(alloc, disk_of(alloc, bytes)?, 100) {
+        Ok(_) => Ok((0, 0)),
+        Err(refused) => {
+            if only_reads(refused.disk.calls()) {
+                Ok(numbers(refused.fault))
+            } else {
+                Err(Fail::new("written"))
+            }
+        }
+    }
+}
+
+#[test]
+fn each_damage_has_its_number(rt: HostRuntime) -> Result<(), Fail> {
+    let whole = stored(rt.alloc())?;
+    assert_eq!(rt; refusal(rt.alloc(), &whole)?, (0, 0));
+    for &(at, bytes, fault, code) in CASES {
+        let mut file = whole.to_vec(rt.alloc())?;
+        put(&mut file, at, bytes);
+        assert_eq!(rt; refusal(rt.alloc(), &file)?, (fault, code), "at {at}");
+    }
+    Ok(())
+}
+
+#[test]
+fn of_several_damages_the_first_is_told(rt: HostRuntime) -> Result<(), Fail> {
+    let mut file = stored(rt.alloc())?;
+    for &(at, bytes, fault, code) in GROWING {
+        put(&mut file, at, bytes);
+        assert_eq!(rt; refusal(rt.alloc(), &file)?, (fault, code), "at {at}");
+    }
+    Ok(())
+}
