@@ -31,7 +31,7 @@ CrossNotBetween n a b q r = pos 0 <ℤ turn_of a b → IsMeeting a b → Left (l
 one : pos 0 <ℤ pos 1
 one = omega (arith, ints)
 
-turn_back : (a b c d : ℤ) → (c *ℤ b) -ℤ (d *ℤ a) ≡ neg_ℤ ((a *ℤ d) -ℤ (b *ℤ c))
+pub turn_back : (a b c d : ℤ) → (c *ℤ b) -ℤ (d *ℤ a) ≡ neg_ℤ ((a *ℤ d) -ℤ (b *ℤ c))
 turn_back a b c d = rw (split a, split b, split c, split d) (simp (diff-neg, differences) (same _ _ _ _ (omega arith)))
 
 offset_back : (a m c y : ℤ) → (c *ℤ m) -ℤ (a *ℤ y) ≡ neg_ℤ ((a *ℤ y) -ℤ (c *ℤ m))

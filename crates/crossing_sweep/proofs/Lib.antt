@@ -24,3 +24,4 @@ pub mod ClosedLemmas
 pub mod BorderLemmas
 pub mod LastNodeLemmas
 pub mod PassLemmas
+pub mod BeginLemmas

@@ -3,7 +3,7 @@ use Rattle.std.proofs.Common.{◌≡◌, ℕ, ℤ, pos, ◌+◌, ◌-ℤ◌, ◌
 use Rattle.std.specs.Prelude.{IsTrue, All, Contains, filter}
 use Rattle.std.specs.List.{AllPairs}
 use Rattle.std.proofs.lemmas.Int.{ints, by_lt_z}
-use Rattle.std.proofs.lemmas.Bool.{and_parts}
+use Rattle.std.proofs.lemmas.Bool.{both_ways, and_parts}
 use Rattle.std.proofs.lemmas.List.{append-nil}
 use Rattle.std.proofs.lemmas.List.Elements.{All-head, All-contains, All-append, filter-append, Contains-get_or, Contains-append_cases, Contains-append_left, Contains-append_right}
 use Rattle.std.specs.declared.cmp.Ordering.TheVariants.{Less}
@@ -47,6 +47,17 @@ filtered p y ys x more (no e) c = let both = more (rw e at c) in (contains_rest 
 pub filter_contains : {X : Type 0} (p : X → Bool) (xs : List X) (x : X) → Contains (filter p xs) x → Contains xs x × (p x ≡ true)
 filter_contains p [] x c = absurd (none_in_empty x c)
 filter_contains p (y ∷ ys) x c = filtered p y ys x (filter_contains p ys x) (told (p y)) c
+
+-- and what stands in the list and passes the test is kept
+still_filtered : {X : Type 0} (p : X → Bool) (y : X) (ys : List X) (x : X) → (Contains ys x → Contains (filter p ys) x) → p x ≡ true → Told (p y) → (y ≡ x) ⊎ Contains ys x → Contains (filter p (y ∷ ys)) x
+still_filtered p y ys x more e (yes f) (inl g) = rw f (subst (λ z. Contains (y ∷ filter p ys) z) g (contains_first y (filter p ys)))
+still_filtered p y ys x more e (yes f) (inr h) = rw f (contains_rest y (filter p ys) x (more h))
+still_filtered p y ys x more e (no f) (inl g) = absurd (both_ways (p y) f (subst (λ z. p z ≡ true) (sym g) e))
+still_filtered p y ys x more e (no f) (inr h) = rw f (more h)
+
+pub contains_filter : {X : Type 0} (p : X → Bool) (xs : List X) (x : X) → Contains xs x → p x ≡ true → Contains (filter p xs) x
+contains_filter p [] x c e = absurd (none_in_empty x c)
+contains_filter p (y ∷ ys) x c e = still_filtered p y ys x (λ h. contains_filter p ys x h e) e (told (p y)) (Contains-cons_cases y ys x c)
 
 -- what holds of each element of a list
 pub all_of : {X : Type 0} (P : X → Type 0) (xs : List X) → ((x : X) → Contains xs x → P x) → All P xs
@@ -132,7 +143,7 @@ module _ (column : ℕ) (r : Point) (u : Segment) (proper : IsProper u) (hr : po
         no_way : (h w : ℤ) → pos 0 ≤ℤ (h *ℤ w) → (w *ℤ h) <ℤ pos 0 → ⊥
         no_way h w k l = omega (arith, ints, k, l, *ℤ_comm h w)
 
-    waits_on : IsWaiting column r u
+    pub waits_on : IsWaiting column r u
     waits_on = record { begins_left = begins; on_border = over_border; passes_over = above }
 
 -- ---- one step

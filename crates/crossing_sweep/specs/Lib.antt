@@ -11,3 +11,4 @@ pub mod Closed
 pub mod Border
 pub mod LastNode
 pub mod Passing
+pub mod Beginning
