@@ -6,6 +6,7 @@ pub mod Texts
 pub mod ReadLemmas
 pub mod TranscriptLemmas
 pub mod ShapeLemmas
+pub mod ShapeFrom
 pub mod LineLaws
 pub mod JoinLaws
 mod Rows

@@ -1,53 +1,55 @@
--- What a line of each shape asks for.
-use Rattle.std.proofs.Common.{◌≡◌, ℕ, pos, ◌<◌, ◌==◌, true, false, not, ◌&&◌, ◌||◌, cond, List, [], ◌∷◌, ◌++◌, length, refl, ap, ◌∙◌, arith, lit<, codes, Some}
+-- What a line of each shape asks for, and which lines ask for it.
+use Rattle.std.proofs.Common.{◌≡◌, ℕ, ℤ, pos, ◌<◌, ◌==◌, Bool, true, false, not, ◌&&◌, ◌||◌, cond, List, [], ◌∷◌, ◌++◌, length, refl, sym, ap, subst, ◌∙◌, inl, inr, arith, lit<, codes, Some}
 use Rattle.std.specs.List.{list_all}
-use Rattle.std.proofs.lemmas.Bool.{and_parts, or_from, or_left, or_right, not-true, cond-true, cond-false, lt-leb, ne_eqb}
+use Rattle.std.proofs.lemmas.Bool.{and_parts, or_from, or_left, or_right, not-true, cond-true, cond-false, true≢false, lt-leb, ne_eqb}
 use Rattle.overlay_terms.specs.Blank.{is_blank}
 use Rattle.script_form.specs.Lines.{line_max, is_gap, is_too_long, begins_comment}
-use Rattle.script_form.specs.Requests.{Request, malformed, put, define, is_word_byte, is_name_side, is_empty, begins, number_of, skip_while, words_of, behind_first_word, by_words, put_of, define_of, behind_sign, located, edges_at, verify_at, numbered, request_of}
-use Rattle.script_form.specs.Shapes.{IsShort, AreGaps, ArePartingGaps, AreSome, IsWord}
+use Rattle.script_form.specs.Requests.{Request, nothing, too_long, malformed, put, define, remove, locate, list_layers, edges, wait, verify, is_word_byte, is_name_side, is_empty, begins, number_of, skip_while, words_of, behind_first_word, by_words, put_of, define_of, behind_sign, located, edges_at, verify_at, numbered, request_of}
+use Rattle.script_form.specs.Shapes.{IsShort, AreGaps, ArePartingGaps, AreSome, IsWord, IsBlankOrComment, IsPutLine, IsDefineLine, IsDropLine, IsWholePointLine, IsPointLine, IsLocateLine, IsLayersLine, IsWaitLine, IsColumnLine, IsShapeOf}
 use Rattle.script_form.specs.Laws as laws
 use Rattle.script_form.proofs.ShapeLemmas.{skip_front, take_front, begins_some, begins_gap, begins_word, some_bytes, words_of-gaps, words_of-word, begins_no_comment, asked, asked_line, line_words, skipped}
+use Rattle.script_form.proofs.ShapeFrom.{made_of, Asks, tells}
 
-pub words_are_read : laws.WordsAreRead
-words_are_read words line is = line_words words line is
+-- ==== What lines of each shape ask for
 
-pub long_line : laws.LongLine
-long_line line long = cond-true (is_too_long line) _ _ (ap not (lt-leb (length line) line_max long))
+long_read : (line : List ℕ) → line_max < length line → request_of line ≡ too_long
+long_read line long = cond-true (is_too_long line) _ _ (ap not (lt-leb (length line) line_max long))
 
-pub empty_line : laws.EmptyLine
-empty_line line short gaps = skipped line short (or_right (begins_comment line) (list_all is_gap line) gaps)
+skipped_read : (line : List ℕ) → IsShort line → IsBlankOrComment line → request_of line ≡ nothing
+skipped_read line short (inl gaps) = skipped line short (or_right (begins_comment line) (list_all is_gap line) gaps)
+skipped_read line short (inr (text, is)) = skipped line short (or_left (begins_comment line) (list_all is_gap line) (ap begins_comment is))
 
-pub comment_line : laws.CommentLine
-comment_line text short = skipped (35 ∷ text) short (or_left true (list_all is_gap (35 ∷ text)) refl)
+drop_read : (name line : List ℕ) → IsShort line → IsDropLine name line → request_of line ≡ remove name
+drop_read name line short is = asked_line line (codes "DROP") (name ∷ []) short is refl
 
-pub drop_line : laws.DropLine
-drop_line line name short is = asked_line line (codes "DROP") (name ∷ []) short is refl
+whole_read : (name : List ℕ) (x y : ℤ) (line : List ℕ) → IsShort line → IsWholePointLine name x y line → request_of line ≡ locate name x y (pos 1)
+whole_read name x y line short is =
+    asked_line line (codes "LOCATE") (name ∷ is.across ∷ is.up ∷ []) short is.words refl
+    ∙ ap (λ o. located name o (number_of is.up) (Some (pos 1))) is.x_is ∙ ap (λ o. located name (Some x) o (Some (pos 1))) is.y_is
 
-pub locate_line : laws.LocateLine
-locate_line line name x y a b short is ex ey =
-    asked_line line (codes "LOCATE") (name ∷ x ∷ y ∷ []) short is refl
-    ∙ ap (λ o. located name o (number_of y) (Some (pos 1))) ex ∙ ap (λ o. located name (Some a) o (Some (pos 1))) ey
+point_read : (name : List ℕ) (x y w : ℤ) (line : List ℕ) → IsShort line → IsPointLine name x y w line → request_of line ≡ locate name x y w
+point_read name x y w line short is =
+    asked_line line (codes "LOCATE") (name ∷ is.across ∷ is.up ∷ is.under ∷ []) short is.words refl
+    ∙ ap (λ o. located name o (number_of is.up) (number_of is.under)) is.x_is ∙ ap (λ o. located name (Some x) o (number_of is.under)) is.y_is
+    ∙ ap (λ o. located name (Some x) (Some y) o) is.w_is
 
-pub layers_line : laws.LayersLine
-layers_line line short is = asked_line line (codes "LAYERS") [] short is refl
+locate_read : (name : List ℕ) (x y w : ℤ) (line : List ℕ) → IsShort line → IsLocateLine name x y w line → request_of line ≡ locate name x y w
+locate_read name x y w line short (inl (is, one)) = whole_read name x y line short is ∙ ap (locate name x y) (sym one)
+locate_read name x y w line short (inr is) = point_read name x y w line short is
 
-pub wait_line : laws.WaitLine
-wait_line line name short is = asked_line line (codes "WAIT") (name ∷ []) short is refl
+layers_read : (line : List ℕ) → IsShort line → IsLayersLine line → request_of line ≡ list_layers
+layers_read line short is = asked_line line (codes "LAYERS") [] short is refl
 
-pub locate_fraction_line : laws.LocateFractionLine
-locate_fraction_line line name x y w a b c short is ex ey ew =
-    asked_line line (codes "LOCATE") (name ∷ x ∷ y ∷ w ∷ []) short is refl
-    ∙ ap (λ o. located name o (number_of y) (number_of w)) ex ∙ ap (λ o. located name (Some a) o (number_of w)) ey
-    ∙ ap (λ o. located name (Some a) (Some b) o) ew
+wait_read : (name line : List ℕ) → IsShort line → IsWaitLine name line → request_of line ≡ wait name
+wait_read name line short is = asked_line line (codes "WAIT") (name ∷ []) short is refl
 
-pub edges_line : laws.EdgesLine
-edges_line line name k column short is ek =
-    asked_line line (codes "EDGES") (name ∷ k ∷ []) short is refl ∙ ap (λ o. edges_at (numbered name o)) ek
+edges_read : (name : List ℕ) (column : ℤ) (line : List ℕ) → IsShort line → IsColumnLine (codes "EDGES") name column line → request_of line ≡ edges name column
+edges_read name column line short is =
+    asked_line line (codes "EDGES") (name ∷ is.digits ∷ []) short is.words refl ∙ ap (λ o. edges_at (numbered name o)) is.column_is
 
-pub verify_line : laws.VerifyLine
-verify_line line name k column short is ek =
-    asked_line line (codes "VERIFY") (name ∷ k ∷ []) short is refl ∙ ap (λ o. verify_at (numbered name o)) ek
+verify_read : (name : List ℕ) (column : ℤ) (line : List ℕ) → IsShort line → IsColumnLine (codes "VERIFY") name column line → request_of line ≡ verify name column
+verify_read name column line short is =
+    asked_line line (codes "VERIFY") (name ∷ is.digits ∷ []) short is.words refl ∙ ap (λ o. verify_at (numbered name o)) is.column_is
 
 -- ==== PUT and DEFINE
 
@@ -90,8 +92,9 @@ put_of_parts name more text some parting bytes ends =
     ∙ ap (put_by name) (skip_front is_gap more text parting.alone ends)
     ∙ cond-false (is_empty name || is_empty text) _ _ (or_from (is_empty name) (is_empty text) (some_bytes is_word_byte name some) (not_empty text bytes))
 
-pub put_line : laws.PutLine
-put_line before gaps name more text lead parting some next bytes ends short =
+put_at : (before gaps name more text : List ℕ) → AreGaps before → ArePartingGaps gaps → IsWord name → ArePartingGaps more → 0 < length text → begins is_gap text ≡ false
+    → IsShort (before ++ (codes "PUT" ++ (gaps ++ (name ++ (more ++ text))))) → request_of (before ++ (codes "PUT" ++ (gaps ++ (name ++ (more ++ text))))) ≡ put name text
+put_at before gaps name more text lead parting some next bytes ends short =
     asked_command (codes "PUT") (name ++ (more ++ text)) _ short
     (command_line before (codes "PUT") gaps (name ++ (more ++ text)) lead (record { some = lit< tt; alone = refl }) refl parting (begins_word name (more ++ text) some))
     ∙ put_of_parts name more text some next bytes ends
@@ -121,9 +124,124 @@ define_of_parts name more blanks text some gaps white ends =
     ∙ cond-false (is_empty name) _ _ (some_bytes is_name_side name some)
     ∙ ap (define name) (skip_front is_blank blanks text white ends)
 
-pub define_line : laws.DefineLine
-define_line before gaps name more blanks text lead parting some next white ends short =
+define_at : (before gaps name more blanks text : List ℕ) → AreGaps before → ArePartingGaps gaps → AreSome is_name_side name → AreGaps more
+    → list_all is_blank blanks ≡ true → begins is_blank text ≡ false → IsShort (before ++ (codes "DEFINE" ++ (gaps ++ (name ++ (more ++ 61 ∷ (blanks ++ text))))))
+    → request_of (before ++ (codes "DEFINE" ++ (gaps ++ (name ++ (more ++ 61 ∷ (blanks ++ text)))))) ≡ define name text
+define_at before gaps name more blanks text lead parting some next white ends short =
     asked_command (codes "DEFINE") (name ++ (more ++ 61 ∷ (blanks ++ text))) _ short
     (command_line before (codes "DEFINE") gaps (name ++ (more ++ 61 ∷ (blanks ++ text))) lead (record { some = lit< tt; alone = refl }) refl parting
     (begins_some is_name_side is_gap name (more ++ 61 ∷ (blanks ++ text)) side_is_no_gap some))
     ∙ define_of_parts name more blanks text some next white ends
+
+put_read : (name text line : List ℕ) → IsShort line → IsPutLine name text line → request_of line ≡ put name text
+put_read name text line short is =
+    ap request_of is.bytes
+    ∙ put_at is.before is.gaps name is.more text is.in_front is.parts_name is.named is.parts_text is.some is.begins_at_once (subst IsShort is.bytes short)
+
+define_read : (name text line : List ℕ) → IsShort line → IsDefineLine name text line → request_of line ≡ define name text
+define_read name text line short is =
+    ap request_of is.bytes
+    ∙ define_at is.before is.gaps name is.more is.blanks text is.in_front is.parts_name is.named is.parts_sign is.white is.begins_at_once (subst IsShort is.bytes short)
+
+-- ==== The laws: both ways
+
+-- what a line asks for tells its shape
+back : (line : List ℕ) (request : Request) → request_of line ≡ request → Asks request line
+back line request is = subst (λ (r : Request). Asks r line) is (tells line)
+
+pub words_are_read : laws.WordsAreRead
+words_are_read words line = (line_words words line, made_of words line)
+
+pub long_line : laws.LongLine
+long_line line = (long_read line, back line too_long)
+
+pub skipped_line : laws.SkippedLine
+skipped_line line = (λ h. skipped_read line h.0 h.1, back line nothing)
+
+pub put_line : laws.PutLine
+put_line name text line = (λ h. put_read name text line h.0 h.1, back line (put name text))
+
+pub define_line : laws.DefineLine
+define_line name text line = (λ h. define_read name text line h.0 h.1, back line (define name text))
+
+pub drop_line : laws.DropLine
+drop_line name line = (λ h. drop_read name line h.0 h.1, back line (remove name))
+
+pub locate_line : laws.LocateLine
+locate_line name x y w line = (λ h. locate_read name x y w line h.0 h.1, back line (locate name x y w))
+
+pub layers_line : laws.LayersLine
+layers_line line = (λ h. layers_read line h.0 h.1, back line list_layers)
+
+pub wait_line : laws.WaitLine
+wait_line name line = (λ h. wait_read name line h.0 h.1, back line (wait name))
+
+pub edges_line : laws.EdgesLine
+edges_line name column line = (λ h. edges_read name column line h.0 h.1, back line (edges name column))
+
+pub verify_line : laws.VerifyLine
+verify_line name column line = (λ h. verify_read name column line h.0 h.1, back line (verify name column))
+
+-- ==== Lines of no shape
+
+-- a line of the shape of a request asks for it, and it is not malformed
+shaped : (line : List ℕ) (request : Request) → IsShort line → IsShapeOf request line → request_of line ≡ request
+shaped line nothing short is = skipped_read line short is
+shaped line too_long short is = absurd is
+shaped line malformed short is = absurd is
+shaped line (put name text) short is = put_read name text line short is
+shaped line (define name text) short is = define_read name text line short is
+shaped line (remove name) short is = drop_read name line short is
+shaped line (locate name x y w) short is = locate_read name x y w line short is
+shaped line list_layers short is = layers_read line short is
+shaped line (edges name column) short is = edges_read name column line short is
+shaped line (wait name) short is = wait_read name line short is
+shaped line (verify name column) short is = verify_read name column line short is
+
+is_malformed : Request → Bool
+is_malformed nothing = false
+is_malformed too_long = false
+is_malformed malformed = true
+is_malformed (put name text) = false
+is_malformed (define name text) = false
+is_malformed (remove name) = false
+is_malformed (locate name x y w) = false
+is_malformed list_layers = false
+is_malformed (edges name column) = false
+is_malformed (wait name) = false
+is_malformed (verify name column) = false
+
+well_formed : (line : List ℕ) (request : Request) → IsShapeOf request line → is_malformed request ≡ false
+unfolding is_malformed
+well_formed line nothing is = refl
+well_formed line too_long is = absurd is
+well_formed line malformed is = absurd is
+well_formed line (put name text) is = refl
+well_formed line (define name text) is = refl
+well_formed line (remove name) is = refl
+well_formed line (locate name x y w) is = refl
+well_formed line list_layers is = refl
+well_formed line (edges name column) is = refl
+well_formed line (wait name) is = refl
+well_formed line (verify name column) is = refl
+
+no_shape : (line : List ℕ) → request_of line ≡ malformed → (request : Request) → IsShapeOf request line → ⊥
+unfolding is_malformed
+no_shape line is request shape =
+    true≢false (ap is_malformed (sym is ∙ shaped line request (back line malformed is) shape) ∙ well_formed line request shape)
+
+none_else : (line : List ℕ) (request : Request) → IsShort line → ((r : Request) → IsShapeOf r line → ⊥) → Asks request line → request ≡ malformed
+none_else line nothing short none asks = absurd (none nothing asks.1)
+none_else line too_long short none asks = absurd (omega (arith, short, asks))
+none_else line malformed short none asks = refl
+none_else line (put name text) short none asks = absurd (none (put name text) asks.1)
+none_else line (define name text) short none asks = absurd (none (define name text) asks.1)
+none_else line (remove name) short none asks = absurd (none (remove name) asks.1)
+none_else line (locate name x y w) short none asks = absurd (none (locate name x y w) asks.1)
+none_else line list_layers short none asks = absurd (none list_layers asks.1)
+none_else line (edges name column) short none asks = absurd (none (edges name column) asks.1)
+none_else line (wait name) short none asks = absurd (none (wait name) asks.1)
+none_else line (verify name column) short none asks = absurd (none (verify name column) asks.1)
+
+pub malformed_line : laws.MalformedLine
+malformed_line line = (λ h. none_else line (request_of line) h.0 h.1 (tells line), λ is. (back line malformed is, no_shape line is))

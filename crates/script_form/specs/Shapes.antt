@@ -1,8 +1,9 @@
 -- The shapes of lines.
-use Rattle.std.specs.Prelude.{◌≡◌, ℕ, ◌<◌, ◌≤◌, Bool, false, IsTrue, List, [], ◌∷◌, ◌++◌, length}
+use Rattle.std.specs.Prelude.{◌≡◌, ℕ, ℤ, pos, ◌<◌, ◌≤◌, ◌⊎◌, Bool, false, IsTrue, List, [], ◌∷◌, ◌++◌, length, codes, Some}
 use Rattle.std.specs.List.{list_all}
+use Rattle.overlay_terms.specs.Blank.{is_blank}
 use Rattle.script_form.specs.Lines.{line_max, is_gap}
-use Rattle.script_form.specs.Requests.{is_word_byte, begins}
+use Rattle.script_form.specs.Requests.{Request, nothing, too_long, malformed, put, define, remove, locate, list_layers, edges, wait, verify, is_word_byte, is_name_side, number_of, begins}
 
 -- not too long
 abbrev pub IsShort : List ℕ → Type 0
@@ -35,3 +36,92 @@ abbrev pub IsLineOf : List (List ℕ) → List ℕ → Type 0
 IsLineOf [] line = AreGaps line
 IsLineOf (word ∷ words) line =
     (gaps : List ℕ) × (rest : List ℕ) × (line ≡ gaps ++ (word ++ rest)) × AreGaps gaps × IsWord word × IsBehindWord rest × IsLineOf words rest
+
+-- a line that begins with `#`
+abbrev pub IsComment : List ℕ → Type 0
+IsComment line = (text : List ℕ) × (line ≡ 35 ∷ text)
+
+-- gaps alone, or a comment
+abbrev pub IsBlankOrComment : List ℕ → Type 0
+IsBlankOrComment line = AreGaps line ⊎ IsComment line
+
+-- PUT, a name without gaps, and a text that begins with no gap: the text runs to the end of the line
+pub record IsPutLine (name text line : List ℕ) : Type 0 where
+  pub before : List ℕ
+  pub gaps : List ℕ
+  pub more : List ℕ
+  pub bytes : line ≡ before ++ (codes "PUT" ++ (gaps ++ (name ++ (more ++ text))))
+  pub in_front : AreGaps before
+  pub parts_name : ArePartingGaps gaps
+  pub named : IsWord name
+  pub parts_text : ArePartingGaps more
+  pub some : 0 < length text
+  pub begins_at_once : begins is_gap text ≡ false
+
+-- DEFINE, a name without gaps and `=`, perhaps gaps, `=`, perhaps white space, and a text that begins with none: it runs to the end of the line
+pub record IsDefineLine (name text line : List ℕ) : Type 0 where
+  pub before : List ℕ
+  pub gaps : List ℕ
+  pub more : List ℕ
+  pub blanks : List ℕ
+  pub bytes : line ≡ before ++ (codes "DEFINE" ++ (gaps ++ (name ++ (more ++ 61 ∷ (blanks ++ text)))))
+  pub in_front : AreGaps before
+  pub parts_name : ArePartingGaps gaps
+  pub named : AreSome is_name_side name
+  pub parts_sign : AreGaps more
+  pub white : IsTrue (list_all is_blank blanks)
+  pub begins_at_once : begins is_blank text ≡ false
+
+-- DROP and a name
+abbrev pub IsDropLine : List ℕ → List ℕ → Type 0
+IsDropLine name line = IsLineOf (codes "DROP" ∷ name ∷ []) line
+
+-- LOCATE, a name and two numbers: a whole point
+pub record IsWholePointLine (name : List ℕ) (x y : ℤ) (line : List ℕ) : Type 0 where
+  pub across : List ℕ
+  pub up : List ℕ
+  pub words : IsLineOf (codes "LOCATE" ∷ name ∷ across ∷ up ∷ []) line
+  pub x_is : number_of across ≡ Some x
+  pub y_is : number_of up ≡ Some y
+
+-- LOCATE, a name and three numbers: a point with its denominator
+pub record IsPointLine (name : List ℕ) (x y w : ℤ) (line : List ℕ) : Type 0 where
+  pub across : List ℕ
+  pub up : List ℕ
+  pub under : List ℕ
+  pub words : IsLineOf (codes "LOCATE" ∷ name ∷ across ∷ up ∷ under ∷ []) line
+  pub x_is : number_of across ≡ Some x
+  pub y_is : number_of up ≡ Some y
+  pub w_is : number_of under ≡ Some w
+
+-- one of both: a whole point has the denominator 1
+abbrev pub IsLocateLine : List ℕ → ℤ → ℤ → ℤ → List ℕ → Type 0
+IsLocateLine name x y w line = (IsWholePointLine name x y line × (w ≡ pos 1)) ⊎ IsPointLine name x y w line
+
+-- LAYERS alone
+abbrev pub IsLayersLine : List ℕ → Type 0
+IsLayersLine line = IsLineOf (codes "LAYERS" ∷ []) line
+
+-- WAIT and a name
+abbrev pub IsWaitLine : List ℕ → List ℕ → Type 0
+IsWaitLine name line = IsLineOf (codes "WAIT" ∷ name ∷ []) line
+
+-- a command, a name and the number of a column
+pub record IsColumnLine (command name : List ℕ) (column : ℤ) (line : List ℕ) : Type 0 where
+  pub digits : List ℕ
+  pub words : IsLineOf (command ∷ name ∷ digits ∷ []) line
+  pub column_is : number_of digits ≡ Some column
+
+-- the shape of lines that ask for a request; what is malformed or too long has none
+abbrev pub IsShapeOf : Request → List ℕ → Type 0
+IsShapeOf nothing line = IsBlankOrComment line
+IsShapeOf too_long line = ⊥
+IsShapeOf malformed line = ⊥
+IsShapeOf (put name text) line = IsPutLine name text line
+IsShapeOf (define name text) line = IsDefineLine name text line
+IsShapeOf (remove name) line = IsDropLine name line
+IsShapeOf (locate name x y w) line = IsLocateLine name x y w line
+IsShapeOf list_layers line = IsLayersLine line
+IsShapeOf (edges name column) line = IsColumnLine (codes "EDGES") name column line
+IsShapeOf (wait name) line = IsWaitLine name line
+IsShapeOf (verify name column) line = IsColumnLine (codes "VERIFY") name column line

@@ -1,5 +1,5 @@
 //! Laws of lines, and of what they ask for.
-ghost use Rattle.script_form.specs.Laws.{PiecesJoinToTheBytes, NoPieceHasALineFeed, WordsAreRead, LongLine, EmptyLine, CommentLine, PutLine, DefineLine, DropLine, LocateLine, LocateFractionLine, LayersLine, WaitLine, EdgesLine, VerifyLine};
+ghost use Rattle.script_form.specs.Laws.{PiecesJoinToTheBytes, NoPieceHasALineFeed, WordsAreRead, LongLine, SkippedLine, PutLine, DefineLine, DropLine, LocateLine, LayersLine, WaitLine, EdgesLine, VerifyLine, MalformedLine};
 
 /// The pieces of a script, joined by line feeds, are its bytes, and none of them has a line feed.
 pub fn pieces_law()
@@ -7,55 +7,58 @@ pub fn pieces_law()
     ensures none { NoPieceHasALineFeed }
 {}
 
-/// The words of a line of some words are those.
+/// The words of a line are just those that it is made of, with gaps between them.
 pub fn words_law()
     ensures { WordsAreRead }
 {}
 
-/// A line of more than 65,536 bytes is too long.
+/// Exactly a line of more than 65,536 bytes is too long.
 pub fn long_line_law()
     ensures { LongLine }
 {}
 
-/// A line of gaps alone, and one that begins with `#`, ask for nothing.
+/// Exactly lines of gaps alone, and such that begin with `#`, ask for nothing.
 pub fn skipped_line_law()
-    ensures empty { EmptyLine }
-    ensures comment { CommentLine }
+    ensures { SkippedLine }
 {}
 
-/// What PUT asks for.
+/// What PUT asks for, and that no other line asks for it.
 pub fn put_law()
     ensures { PutLine }
 {}
 
-/// What DEFINE asks for.
+/// What DEFINE asks for, and that no other line asks for it.
 pub fn define_law()
     ensures { DefineLine }
 {}
 
-/// What DROP asks for.
+/// What DROP asks for, and that no other line asks for it.
 pub fn drop_law()
     ensures { DropLine }
 {}
 
-/// What LOCATE asks for, by two numbers and by three.
+/// What LOCATE asks for, by two numbers and by three, and that no other line asks for it.
 pub fn locate_law()
-    ensures whole { LocateLine }
-    ensures fraction { LocateFractionLine }
+    ensures { LocateLine }
 {}
 
-/// What LAYERS asks for.
+/// What LAYERS asks for, and that no other line asks for it.
 pub fn layers_law()
     ensures { LayersLine }
 {}
 
-/// What WAIT asks for.
+/// What WAIT asks for, and that no other line asks for it.
 pub fn wait_law()
     ensures { WaitLine }
 {}
 
-/// What EDGES and VERIFY ask for.
+/// What EDGES and VERIFY ask for, and that no other line asks for it.
 pub fn column_law()
     ensures edges { EdgesLine }
     ensures verify { VerifyLine }
+{}
+
+/// Exactly a line that is not too long and has none of these shapes is malformed.
+pub fn malformed_line_law()
+    ensures { MalformedLine }
 {}
