@@ -1,6 +1,9 @@
+pub mod Acts
+pub mod Committing
 pub mod Covers
 pub mod Devices
 pub mod Laws
 pub mod Recovery
+pub mod Runs
 pub mod Start
 pub mod Steps

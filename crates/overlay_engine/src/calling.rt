@@ -2,9 +2,11 @@
 ghost use Rattle.std.specs.Prelude.{◌≡◌, true, List};
 ghost use Rattle.disk_model.specs.Moments.{Leaves};
 ghost use Rattle.overlay_terms.specs.Commands.{Command};
+ghost use Rattle.overlay_terms.specs.Histories.{Version};
 ghost use Rattle.root_store.specs.Running.{is_busy};
 ghost use Rattle.overlay_engine.specs.Start.{Start};
 ghost use Rattle.overlay_engine.specs.Covers.{Covers, CoveredExactly, Moves};
+ghost use Rattle.overlay_engine.specs.Committing.{Commits, Committed};
 ghost use Rattle.overlay_engine.specs.Steps.{Calls, IfDone};
 
 use crate::engine::Engine;
@@ -14,13 +16,18 @@ use root_store::phase::Progress;
 
 impl<D: Disk> Engine<D> {
     /// Makes one device call of the commit that is under way.
-    pub fn call(&mut self) -> Reply
+    pub(crate) fn call(&mut self) -> Reply
         requires { is_busy self.old.flusher.commit.phase ≡ true }
         ensures calls { Calls self.old result self.new }
         // A crash at any moment of the call leaves what is no older than what was durable as it began.
-        ensures moves { (start : Start) (commands : List Command) → Covers D.Disk start self.old.flusher self.old.version commands → Moves D.Disk start self.old.flusher self.new.flusher self.old.version commands }
+        ensures moves { (start : Start) (commands : List Command) → Covers D.Disk start self.old.flusher self.old.version commands
+            → Moves D.Disk start self.old.flusher self.new.flusher self.old.version commands }
+        // What is committed is the version with which the commit began.
+        ensures commits { (version : Version) → Commits D.Disk self.old.flusher version
+            → Committed D.Disk version result self.new.flusher }
         // After the last call a crash leaves what the commit began with, and nothing older.
-        ensures done { (start : Start) (commands : List Command) → Covers D.Disk start self.old.flusher self.old.version commands → IfDone result (λ number. Leaves D.Disk self.new.flusher.commit.disk (CoveredExactly start number commands)) }
+        ensures done { (start : Start) (commands : List Command) → Covers D.Disk start self.old.flusher self.old.version commands
+            → IfDone result (λ number. Leaves D.Disk self.new.flusher.commit.disk (CoveredExactly start number commands)) }
     {
         match self.flusher.step() {
             Ok(Progress::Done(number)) => Reply::Done(number),

@@ -2,8 +2,10 @@
 ghost use Rattle.std.specs.Prelude.{◌≡◌, List};
 ghost use Rattle.disk_model.specs.Moments.{Leaves};
 ghost use Rattle.overlay_terms.specs.Commands.{Command};
+ghost use Rattle.overlay_terms.specs.Histories.{Version};
 ghost use Rattle.overlay_engine.specs.Start.{Start};
 ghost use Rattle.overlay_engine.specs.Covers.{Covers, CoveredExactly, Moves};
+ghost use Rattle.overlay_engine.specs.Committing.{IsToCommit, Committed};
 ghost use Rattle.overlay_engine.specs.Devices.{Devices};
 ghost use Rattle.overlay_engine.specs.Steps.{IfDone};
 
@@ -15,12 +17,17 @@ use std::alloc::Global;
 impl<D: Disk> Engine<D> {
     /// Makes one device call. Where no commit is under way, that of the newest version begins with it; where it can't
     /// begin, no call is made.
-    pub fn device(&mut self, alloc: Global) -> Reply
+    pub(crate) fn device(&mut self, alloc: Global) -> Reply
         ensures device { Devices self.old result self.new }
         // A crash at any moment of the step leaves what is no older than what was durable as it began.
-        ensures moves { (start : Start) (commands : List Command) → Covers D.Disk start self.old.flusher self.old.version commands → Moves D.Disk start self.old.flusher self.new.flusher self.old.version commands }
+        ensures moves { (start : Start) (commands : List Command) → Covers D.Disk start self.old.flusher self.old.version commands
+            → Moves D.Disk start self.old.flusher self.new.flusher self.old.version commands }
+        // What is committed is the version with which the commit began: the newest one, where none was under way.
+        ensures commits { (start : Start) (commands : List Command) → Covers D.Disk start self.old.flusher self.old.version commands
+            → (version : Version) → IsToCommit D.Disk self.old version → Committed D.Disk version result self.new.flusher }
         // After the last call a crash leaves what the commit began with, and nothing older.
-        ensures done { (start : Start) (commands : List Command) → Covers D.Disk start self.old.flusher self.old.version commands → IfDone result (λ number. Leaves D.Disk self.new.flusher.commit.disk (CoveredExactly start number commands)) }
+        ensures done { (start : Start) (commands : List Command) → Covers D.Disk start self.old.flusher self.old.version commands
+            → IfDone result (λ number. Leaves D.Disk self.new.flusher.commit.disk (CoveredExactly start number commands)) }
     {
         if self.flusher.busy() {
             return self.call();

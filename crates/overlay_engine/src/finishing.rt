@@ -15,7 +15,7 @@ use version_core::version::Version;
 
 impl<D: Disk> Engine<D> {
     /// Builds the tile of a job that is held, and gives the job up: the tile is kept where it is still awaited.
-    pub fn finish(&mut self, alloc: Global, number: u32) -> Reply
+    pub(crate) fn finish(&mut self, alloc: Global, number: u32) -> Reply
         ensures { Finishes number self.old result self.new }
     {
         let index = match self.job_at(number) {

@@ -8,7 +8,7 @@ use std::alloc::Global;
 
 impl<D: Disk> Engine<D> {
     /// Reports the version that is stored, and all before it, as durable.
-    pub fn report(&mut self, alloc: Global) -> Reply
+    pub(crate) fn report(&mut self, alloc: Global) -> Reply
         ensures { Reports self.old result self.new }
     {
         match self.version.durable_to(alloc, self.flusher.stored()) {

@@ -10,7 +10,7 @@ use std::alloc::Global;
 
 impl<D: Disk> Engine<D> {
     /// Makes a command, or tells the first reason why it is refused.
-    pub fn submit(&mut self, alloc: Global, change: &Command) -> Reply
+    pub(crate) fn submit(&mut self, alloc: Global, change: &Command) -> Reply
         ensures { Submits (command change.now) self.old result self.new }
     {
         match self.version.submit(alloc, change) {

@@ -12,7 +12,7 @@ use std::alloc::{AllocError, Global};
 
 impl<D: Disk> Engine<D> {
     /// Hands out the input of a tile that is pending, under the next number.
-    pub fn take(&mut self, alloc: Global, name: &Name, column: u8) -> Reply
+    pub(crate) fn take(&mut self, alloc: Global, name: &Name, column: u8) -> Reply
         ensures { Takes name.now column self.old result self.new }
     {
         let found = match self

@@ -1,5 +1,6 @@
 use Rattle.std.proofs.Common.{inl, inr, refl, sym, ◌∙◌, subst}
 use Rattle.overlay_engine.proofs.DeviceSteps.{never_both, resting, begun_moves, stays}
+use Rattle.overlay_engine.proofs.Committed.{busy_commits, begun_commits}
 use Rattle.overlay_engine.proofs.engine.Engine.device.Goals as goal
 
 pub returns-in-Ok-clause-device : goal.returns-in-Ok-clause-device
@@ -25,3 +26,13 @@ pub returns-in-Err-clause-moves : goal.returns-in-Err-clause-moves
 returns-in-Err-clause-moves g c start commands covers =
     let e = c.args.self.now in
     stays g.D.Disk start e.flusher c.begin.new.self e.version commands c.in-Err.ensures.err (λ f left. g.met.D.Disk.only_now e.flusher.commit.disk f covers.honest left) covers
+
+pub returns-in-Ok-clause-commits : goal.returns-in-Ok-clause-commits
+returns-in-Ok-clause-commits g c start commands covers version is =
+    let e = c.args.self.now in
+    let idle = resting e.flusher.commit.phase (sym c.busy.ensures ∙ c.if-busy.false) (λ failed. never_both c.begin.result _ _ c.in-Ok.is (c.begin.ensures.failed failed)) in
+    c.call-in-Ok.ensures.commits version (begun_commits g.D.Disk start commands e c.begin.new.self version idle c.in-Ok.ensures.begun covers is)
+
+pub returns-then-busy-clause-commits : goal.returns-then-busy-clause-commits
+returns-then-busy-clause-commits g c start commands covers version is =
+    c.call.ensures.commits version (busy_commits g.D.Disk c.args.self.now version (sym c.busy.ensures ∙ c.if-busy.true) is)

@@ -1,0 +1,40 @@
+use Rattle.std.proofs.Common.{sym, subst}
+use Rattle.overlay_engine.specs.declared.step.Step.{Step}
+use Rattle.overlay_engine.specs.Acts.{Survives}
+use Rattle.overlay_engine.proofs.Surviving.{moved, submitted, taken, finished, reported}
+use Rattle.overlay_engine.proofs.engine.Engine.act.Goals as goal
+
+pub returns-in-Submit-clause-survives : goal.returns-in-Submit-clause-survives
+returns-in-Submit-clause-survives g c start commands covers =
+    let e = c.args.self.now in
+    subst (λ (step : Step). Survives g.D.Disk start commands step e c.submit.result c.submit.new.self) (sym c.in-Submit.is)
+    (submitted g.D.Disk start commands e covers (λ f left. g.met.D.Disk.only_now e.flusher.commit.disk f covers.honest left)
+    c.in-Submit.change c.submit.result c.submit.new.self c.submit.ensures)
+
+pub returns-in-Take-clause-survives : goal.returns-in-Take-clause-survives
+returns-in-Take-clause-survives g c start commands covers =
+    let e = c.args.self.now in
+    subst (λ (step : Step). Survives g.D.Disk start commands step e c.take.result c.take.new.self) (sym c.in-Take.is)
+    (taken g.D.Disk start commands e covers (λ f left. g.met.D.Disk.only_now e.flusher.commit.disk f covers.honest left)
+    c.in-Take.name c.in-Take.column c.take.result c.take.new.self c.take.ensures)
+
+pub returns-in-Finish-clause-survives : goal.returns-in-Finish-clause-survives
+returns-in-Finish-clause-survives g c start commands covers =
+    let e = c.args.self.now in
+    subst (λ (step : Step). Survives g.D.Disk start commands step e c.finish.result c.finish.new.self) (sym c.in-Finish.is)
+    (finished g.D.Disk start commands e covers (λ f left. g.met.D.Disk.only_now e.flusher.commit.disk f covers.honest left)
+    c.in-Finish.number c.finish.result c.finish.new.self c.finish.ensures)
+
+pub returns-in-Device-clause-survives : goal.returns-in-Device-clause-survives
+returns-in-Device-clause-survives g c start commands covers =
+    let e = c.args.self.now in
+    subst (λ (step : Step). Survives g.D.Disk start commands step e c.device.result c.device.new.self) (sym c.in-Device.is)
+    (moved g.D.Disk start commands e covers c.device.result c.device.new.self c.device.ensures.device
+    (c.device.ensures.moves start commands covers) (c.device.ensures.commits start commands covers))
+
+pub returns-in-Report-clause-survives : goal.returns-in-Report-clause-survives
+returns-in-Report-clause-survives g c start commands covers =
+    let e = c.args.self.now in
+    subst (λ (step : Step). Survives g.D.Disk start commands step e c.report.result c.report.new.self) (sym c.in-Report.is)
+    (reported g.D.Disk start commands e covers (λ f left. g.met.D.Disk.only_now e.flusher.commit.disk f covers.honest left)
+    c.report.result c.report.new.self c.report.ensures)

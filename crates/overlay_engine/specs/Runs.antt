@@ -1,0 +1,54 @@
+-- Runs of an engine: steps, one after the other.
+use Rattle.std.specs.Prelude.{◌≡◌, ℕ, List, [], ◌∷◌, ◌++◌, map, flat_map}
+use Rattle.disk_model.specs.declared.disk.Disk.{Ghosts}
+use Rattle.overlay_terms.specs.Commands.{Command}
+use Rattle.overlay_engine.specs.declared.engine.Engine.{Engine}
+use Rattle.overlay_engine.specs.declared.step.Step.{Step}
+use Rattle.overlay_engine.specs.declared.step.Reply.{Reply}
+use Rattle.overlay_engine.specs.Start.{Start}
+use Rattle.overlay_engine.specs.Covers.{Covers}
+use Rattle.overlay_engine.specs.Acts.{Acts, Survives, accepted_by}
+
+-- a step that was made: what was asked, of which engine, what was answered, and which engine it left
+pub record Made (D : Type 0) : Type 0 where
+  pub step : Step
+  pub old : Engine D
+  pub reply : Reply
+  pub new : Engine D
+
+module _ {D : Type 0} where
+  -- each step is made of the engine that the one before it left
+  abbrev pub Leads : Engine D → List (Made D) → Engine D → Type 0
+  Leads old [] new = new ≡ old
+  Leads old (made ∷ run) new = (made.old ≡ old) × Acts made.step made.old made.reply made.new × Leads made.new run new
+
+  -- a run of these steps, with these answers
+  pub record IsRun (steps : List Step) (old : Engine D) (replies : List Reply) (new : Engine D) (run : List (Made D)) : Type 0 where
+    pub asked : map (λ (made : Made D). made.step) run ≡ steps
+    pub answered : map (λ (made : Made D). made.reply) run ≡ replies
+    pub leads : Leads old run new
+
+  -- the commands that were accepted in a run
+  abbrev pub accepted_in : List (Made D) → List Command
+  accepted_in run = flat_map (λ (made : Made D). accepted_by made.step made.reply) run
+
+  -- a crash within any step of a run leaves a version of the commands that were accepted before the step, no older than what was durable as the step began
+  abbrev pub EachSurvives : Ghosts D → Start → List Command → List (Made D) → Type 0
+  EachSurvives g start commands [] = Unit {0}
+  EachSurvives g start commands (made ∷ run) =
+      Survives g start commands made.step made.old made.reply made.new × EachSurvives g start (commands ++ accepted_by made.step made.reply) run
+
+  -- steps are made one after the other, by a run that a crash within any of its steps survives; in the end the store covers the commands, with those that were accepted
+  pub record Drives (g : Ghosts D) (steps : List Step) (old : Engine D) (replies : List Reply) (new : Engine D) : Type 0 where
+    pub run : List (Made D)
+    pub is : IsRun steps old replies new run
+    pub survives : (start : Start) (commands : List Command) → Covers g start old.flusher old.version commands
+        → EachSurvives g start commands run × Covers g start new.flusher new.version (commands ++ accepted_in run)
+
+  -- a machine crashes within a step of a run: a disk may leave only what a crash at some moment of that step may have left
+  pub record CrashesIn (g : Ghosts D) (run : List (Made D)) (disk : D) : Type 0 where
+    pub before : List (Made D)
+    pub made : Made D
+    pub after : List (Made D)
+    pub among : run ≡ before ++ made ∷ after
+    pub leaves : (c : List ℕ) → g.may_leave disk c → g.left_since made.new.flusher.commit.disk (g.moment made.old.flusher.commit.disk) c

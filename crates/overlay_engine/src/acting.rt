@@ -1,0 +1,30 @@
+//! One step of an engine.
+ghost use Rattle.std.specs.Prelude.{List};
+ghost use Rattle.overlay_terms.specs.Commands.{Command};
+ghost use Rattle.overlay_engine.specs.Start.{Start};
+ghost use Rattle.overlay_engine.specs.Covers.{Covers};
+ghost use Rattle.overlay_engine.specs.Acts.{Acts, Survives, accepted_by};
+
+use crate::engine::Engine;
+use crate::step::{Reply, Step};
+use disk_model::disk::Disk;
+use std::alloc::Global;
+
+impl<D: Disk> Engine<D> {
+    /// Makes one step, and answers it.
+    pub fn act(&mut self, alloc: Global, step: &Step) -> Reply
+        ensures acts { Acts step.now self.old result self.new }
+        // The store goes on covering the commands, with the one that the step accepted, and a crash at any moment of
+        // the step leaves what is no older than what was durable as it began.
+        ensures survives { (start : Start) (commands : List Command) → Covers D.Disk start self.old.flusher self.old.version commands
+            → Survives D.Disk start commands step.now self.old result self.new }
+    {
+        match step {
+            Step::Submit(change) => self.submit(alloc, change),
+            Step::Take(name, column) => self.take(alloc, name, *column),
+            Step::Finish(number) => self.finish(alloc, *number),
+            Step::Device => self.device(alloc),
+            Step::Report => self.report(alloc),
+        }
+    }
+}
