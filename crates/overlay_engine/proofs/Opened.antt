@@ -3,6 +3,7 @@ use Rattle.std.proofs.Common.{◌≡◌, ◌⊎◌, inl, inr, ℕ, ◌≤◌, Li
 use Rattle.disk_model.specs.declared.disk.Disk.{Ghosts}
 use Rattle.disk_model.specs.Moments.{Leaves, LeavesOnly}
 use Rattle.disk_model.proofs.Runs.{widened}
+use Rattle.overlay_terms.specs.Layers.{Layer, answer_at}
 use Rattle.overlay_terms.specs.Commands.{Command}
 use Rattle.overlay_terms.specs.Histories.{Version}
 use Rattle.store_terms.specs.declared.damage.Damage.{Damage}
@@ -20,7 +21,7 @@ use Rattle.flush_core.specs.declared.flusher.Flusher.{Flusher}
 use Rattle.overlay_engine.specs.declared.engine.Engine.{Engine}
 use Rattle.overlay_engine.specs.Start.{Start, up_to}
 use Rattle.overlay_engine.specs.Covers.{version_of, Covered, Covers}
-use Rattle.overlay_engine.specs.Recovery.{Recovered, Refused}
+use Rattle.overlay_engine.specs.Recovery.{Recovered, Refused, RecoveredAnswers}
 use Rattle.overlay_engine.proofs.Recovering.{opened_recovers, opening_is_covered}
 
 only_failing : (fault : StoreFault) (read : Result Held Damage) (x : Held) → read ≡ Ok x → Tells fault read → (fault ≡ Device) ⊎ (fault ≡ OutOfMemory)
@@ -75,3 +76,7 @@ module _ {D : Type 0} (g : Ghosts D) (start : Start) (disk : D) (least : ℕ) (c
     moments = widened g disk s.disk (Opened g disk) (Covered start least commands) covered moments;
     cause = inr refl;
   }
+
+pub recovered_answers : {D : Type 0} (g : Ghosts D) → RecoveredAnswers g
+recovered_answers g start disk e least commands recovered name query told tells =
+    tells recovered.covers.exact.exact ∙ ap (λ (layers : List Layer). answer_at layers name query) recovered.covers.layers

@@ -2,11 +2,16 @@
 use Rattle.std.specs.Prelude.{◌≡◌, ◌⊎◌, ℕ, ◌+◌, ◌≤◌, List, length}
 use Rattle.disk_model.specs.declared.disk.Disk.{Ghosts}
 use Rattle.disk_model.specs.Moments.{Leaves, LeavesOnly}
+use Rattle.overlay_terms.specs.Plane.{Point}
+use Rattle.overlay_terms.specs.Layers.{Name, answer_at}
 use Rattle.overlay_terms.specs.Commands.{Command}
+use Rattle.overlay_terms.specs.KeptLaws.{TilesAreExact}
+use Rattle.layer_book.specs.declared.direct_answer.Place.{Place}
+use Rattle.layer_book.specs.Place.{location}
 use Rattle.root_store.specs.declared.fault.StoreFault.TheVariants.{Device, OutOfMemory}
 use Rattle.root_store.specs.declared.open_fault.OpenFault.{OpenFault}
 use Rattle.overlay_engine.specs.declared.engine.Engine.{Engine}
-use Rattle.overlay_engine.specs.Start.{Start, up_to}
+use Rattle.overlay_engine.specs.Start.{Start, layers_from, up_to}
 use Rattle.overlay_engine.specs.Covers.{Covered, Covers}
 
 module _ {D : Type 0} (g : Ghosts D) (start : Start) (disk : D) where
@@ -24,3 +29,10 @@ module _ {D : Type 0} (g : Ghosts D) (start : Start) (disk : D) where
     pub leaves : Leaves g refused.disk (Covered start least commands)
     pub moments : LeavesOnly g disk refused.disk (Covered start least commands)
     pub cause : (refused.fault ≡ Device) ⊎ (refused.fault ≡ OutOfMemory)
+
+-- where a point lies for a layer of a recovered version: what `locate` tells, under the premise that the tiles are right, is right; the premise holds
+abbrev pub RecoveredAnswers : {D : Type 0} → Ghosts D → Type 0
+RecoveredAnswers {D = D} g =
+    (start : Start) (disk : D) (e : Engine D) (least : ℕ) (commands : List Command) → Recovered g start disk e least commands
+    → (name : Name) (query : Point) (told : Place) → (TilesAreExact e.version → location told ≡ answer_at e.version.layers name query)
+    → location told ≡ answer_at (layers_from start (up_to start e.version.number commands)) name query

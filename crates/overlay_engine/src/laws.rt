@@ -1,5 +1,6 @@
 //! Laws over the definitions: each function does nothing, and its contract is the law.
 ghost use Rattle.overlay_engine.specs.Laws.{BegunCovers, CoveredStays, EventsCover, OpenedRecovers, OpeningIsCovered};
+ghost use Rattle.overlay_engine.specs.Recovery.{RecoveredAnswers};
 
 use disk_model::disk::Disk;
 
@@ -26,4 +27,9 @@ pub fn opening_is_covered<D: Disk>()
 /// A commit of the present version that begins leaves the store covering the same commands.
 pub fn begun_covers<D: Disk>()
     ensures { BegunCovers D.Disk }
+{}
+
+/// Of a recovered version `Version::locate` tells where a point lies for the layers after the commands: no premise is left.
+pub fn recovered_answers<D: Disk>()
+    ensures { RecoveredAnswers D.Disk }
 {}

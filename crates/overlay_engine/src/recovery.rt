@@ -1,13 +1,14 @@
 //! Recovery of an engine from what a crash has left.
-ghost use Rattle.std.specs.Prelude.{◌≡◌, [], ℕ, List, Ok, IfOk, IfErr, MatchResult};
+ghost use Rattle.std.specs.Prelude.{◌≡◌, ◌↔◌, [], ◌++◌, ℕ, List, Ok, IfOk, IfErr, MatchResult};
 ghost use Rattle.disk_model.specs.Moments.{Leaves};
 ghost use Rattle.overlay_terms.specs.Commands.{Command};
 ghost use Rattle.store_terms.specs.Image.{Held};
 ghost use Rattle.store_terms.specs.StandsFor.{reading};
-ghost use Rattle.root_store.specs.Opening.{Tells};
+ghost use Rattle.root_store.specs.Opening.{Tells, FailedBy};
 ghost use Rattle.overlay_engine.specs.Start.{Start};
 ghost use Rattle.overlay_engine.specs.Covers.{version_of, Covered};
 ghost use Rattle.overlay_engine.specs.Recovery.{Recovered, Refused};
+ghost use Rattle.overlay_engine.specs.Runs.{Made, EachSurvives, CrashesIn, accepted_in};
 
 use crate::engine::Engine;
 use disk_model::disk::Disk;
@@ -26,11 +27,23 @@ impl<D: Disk> Engine<D> {
     /// It may itself be stopped, or fail, and what is left recovers as well.
     pub fn recover(alloc: Global, disk: D, max_blocks: u32) -> Result<Engine<D>, OpenFault<D>>
         // Of a file that a crash may have left of an engine, the version is the one after the first so many commands.
-        ensures ok { D.is_honest disk → IfOk result (λ e. (start : Start) (least : ℕ) (commands : List Command) → Leaves D.Disk disk (Covered start least commands) → Recovered D.Disk start disk e least commands) }
+        ensures ok { D.is_honest disk → IfOk result (λ e. (start : Start) (least : ℕ) (commands : List Command)
+            → Leaves D.Disk disk (Covered start least commands) → Recovered D.Disk start disk e least commands) }
         // Such a file is refused only for the device or for memory, and is left such a file.
-        ensures err { D.is_honest disk → IfErr result (λ refused. (start : Start) (least : ℕ) (commands : List Command) → Leaves D.Disk disk (Covered start least commands) → Refused D.Disk start disk refused least commands) }
+        ensures err { D.is_honest disk → IfErr result (λ refused. (start : Start) (least : ℕ) (commands : List Command)
+            → Leaves D.Disk disk (Covered start least commands) → Refused D.Disk start disk refused least commands) }
+        // So it is after a crash within any step of a run of an engine: at least what was durable as that step began.
+        ensures crashed { D.is_honest disk → (start : Start) (commands : List Command) (run : List (Made D))
+            → EachSurvives D.Disk start commands run → (crash : CrashesIn D.Disk run disk)
+            → MatchResult result (λ e. Recovered D.Disk start disk e crash.made.old.version.durable (commands ++ accepted_in crash.before))
+            (λ refused. Refused D.Disk start disk refused crash.made.old.version.durable (commands ++ accepted_in crash.before)) }
         // Of any file the version is what it stands for, or the fault is what is wrong with it.
-        ensures gives { D.is_honest disk → MatchResult result (λ e. (x : Held) × (reading (D.seen disk) ≡ Ok x) × (e.version ≡ version_of x)) (λ refused. Tells refused.fault (reading (D.seen disk))) }
+        ensures gives { D.is_honest disk → MatchResult result (λ e. (x : Held) × (reading (D.seen disk) ≡ Ok x) × (e.version ≡ version_of x))
+            (λ refused. Tells refused.fault (reading (D.seen disk))) }
+        ensures honest { MatchResult result (λ e. D.is_honest e.flusher.commit.disk ↔ D.is_honest disk)
+            (λ refused. D.is_honest refused.disk ↔ D.is_honest disk) }
+        ensures cause { D.is_honest disk → MatchResult result (λ e. D.faults e.flusher.commit.disk ≡ D.faults disk)
+            (λ refused. FailedBy refused.fault (D.faults disk) (D.faults refused.disk)) }
         ensures stored { IfOk result (λ e. e.flusher.stored ≡ e.version.number) }
         ensures jobs { IfOk result (λ e. (e.jobs.items ≡ []) × (e.next_job ≡ 0)) }
     {

@@ -1,7 +1,9 @@
-use Rattle.std.proofs.Common.{sym, subst}
+use Rattle.std.proofs.Common.{◌++◌, sym, subst}
 use Rattle.root_store.specs.declared.fault.StoreFault.TheVariants.{OutOfMemory}
 use Rattle.overlay_engine.specs.Recovery.{Refused}
-use Rattle.overlay_engine.proofs.Opened.{recovered_with, given_up}
+use Rattle.overlay_engine.specs.Runs.{accepted_in}
+use Rattle.overlay_engine.proofs.Running.{crash_covered}
+use Rattle.overlay_engine.proofs.Opened.{recovered_with, refused_as, given_up}
 use Rattle.overlay_engine.proofs.engine.Engine.recover.Goals as goal
 
 pub returns-in-Ok-restored-clause-ok : goal.returns-in-Ok-restored-clause-ok
@@ -20,3 +22,20 @@ returns-in-Err-restored-clause-err g c honest start least commands all =
     subst (λ (d : g.row.D.Denot). Refused g.D.Disk start disk (record { fault = OutOfMemory; disk = d }) least commands) (sym c.into_disk.ensures)
     (given_up g.D.Disk start disk least commands all (g.met.D.Disk.seen_may_stay disk honest) c.in-Ok.opened.0 opened.0 c.in-Ok.opened.1
     (c.in-Ok.ensures.gives honest) opened.1 opened.2 opened.3)
+
+pub returns-in-Ok-restored-clause-crashed : goal.returns-in-Ok-restored-clause-crashed
+returns-in-Ok-restored-clause-crashed g c honest start commands run each crash =
+    returns-in-Ok-restored-clause-ok g c honest start crash.made.old.version.durable (commands ++ accepted_in crash.before)
+    (crash_covered g.D.Disk start commands run c.args.disk crash each)
+
+pub returns-in-Err-restored-clause-crashed : goal.returns-in-Err-restored-clause-crashed
+returns-in-Err-restored-clause-crashed g c honest start commands run each crash =
+    returns-in-Err-restored-clause-err g c honest start crash.made.old.version.durable (commands ++ accepted_in crash.before)
+    (crash_covered g.D.Disk start commands run c.args.disk crash each)
+
+pub returns-in-Err-clause-crashed : goal.returns-in-Err-clause-crashed
+returns-in-Err-clause-crashed g c honest start commands run each crash =
+    let disk = c.args.disk in
+    let left = c.in-Err.ensures.err honest in
+    refused_as g.D.Disk start disk crash.made.old.version.durable (commands ++ accepted_in crash.before) (crash_covered g.D.Disk start commands run disk crash each)
+    (g.met.D.Disk.seen_may_stay disk honest) c.in-Err.refused (c.in-Err.ensures.gives honest) left.0 left.1 left.2
