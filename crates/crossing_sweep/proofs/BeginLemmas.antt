@@ -307,7 +307,7 @@ module _ (n : ℤ) (segments units : List Segment) (column : ℕ) (met : List Se
         let a = of_waiting (get_or (waiting column met) i d) first in
         let b = of_waiting (get_or (waiting column met) j d) second in
         in_order_at_foot n column steep (get_or (waiting column met) i d) (get_or (waiting column met) j d) (stretch _ (unit _ a.0)).proper (stretch _ (unit _ b.0)).proper
-        (AllPairs-filter (IsMetBefore column) (begins_left column) met is.ordered i j d l m) a.1 b.1;
+        (AllPairs-filter (λ a b. begins_left column a ≡ true → begins_left column b ≡ true → IsMetBefore column a b) (begins_left column) met is.ordered i j d l m a.1 b.1) a.1 b.1;
     covered = λ t among goes. there t (are.along t (foot column) among one_positive goes);
   }
     where

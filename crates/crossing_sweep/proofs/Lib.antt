@@ -25,3 +25,5 @@ pub mod BorderLemmas
 pub mod LastNodeLemmas
 pub mod PassLemmas
 pub mod BeginLemmas
+pub mod AheadLemmas
+pub mod KnownLemmas

@@ -1,5 +1,5 @@
 -- How a pass over a column begins: below all of its left border, with no unit entered, and the ends and border places of the column known.
-use Rattle.std.specs.Prelude.{◌≡◌, ℕ, ℤ, pos, neg_ℤ, ◌<◌, [], ◌≤ℤ◌, ◌<ℤ◌, ◌*ℤ◌, ◌⊎◌, ◌||◌, IsTrue, List, All, AllPairs, Contains}
+use Rattle.std.specs.Prelude.{◌≡◌, ℕ, ℤ, pos, neg_ℤ, ◌<◌, [], ◌≤ℤ◌, ◌<ℤ◌, ◌*ℤ◌, ◌⊎◌, ◌||◌, true, IsTrue, List, All, AllPairs, Contains}
 use Rattle.std.specs.declared.cmp.Ordering.TheVariants.{Less}
 use Rattle.overlay_terms.specs.Plane.{Point, Segment, whole, point_cmp, same_place}
 use Rattle.overlay_terms.specs.Column.{column_count, border}
@@ -9,7 +9,7 @@ use Rattle.exact_point.specs.Crossing.{turn_of}
 use Rattle.crossing_sweep.specs.Leaning.{IsSteep, IsSmall}
 use Rattle.crossing_sweep.specs.Queue.{IsUpTo, IsQueued}
 use Rattle.crossing_sweep.specs.Step.{AreStretches}
-use Rattle.crossing_sweep.specs.Passing.{IsEntry, HasCome}
+use Rattle.crossing_sweep.specs.Passing.{begins_left, IsEntry, HasCome}
 
 -- the place on the left border below all segments
 abbrev pub foot : ℕ → Point
@@ -24,12 +24,12 @@ pub record IsMetBefore (column : ℕ) (a b : Segment) : Type 0 where
   pub at_second : IsEntry column b second
   pub in_order : (point_cmp first second ≡ Less) ⊎ (IsTrue (same_place first second) × (pos 0 <ℤ turn_of b a))
 
--- the units with a place of a closed column, in the order in which a pass meets them
+-- the units with a place of a closed column; those that begin left of it in the order in which a pass meets them
 pub record AreMet (column : ℕ) (units met : List Segment) : Type 0 where
   pub among : All (Contains units) met
   pub entries : All (λ u. (z : Point) × IsEntry column u z) met
   pub complete : (u : Segment) → Contains units u → IsUpTo column (whole u.left) → border column ≤ℤ u.right.x → Contains met u
-  pub ordered : AllPairs (IsMetBefore column) met
+  pub ordered : AllPairs (λ a b. begins_left column a ≡ true → begins_left column b ≡ true → IsMetBefore column a b) met
 
 -- the places that are known before a pass: nodes of the closed column, all ends and border places among them
 pub record AreKnown (segments : List Segment) (column : ℕ) (keys : List Point) : Type 0 where

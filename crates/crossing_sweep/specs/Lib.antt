@@ -12,3 +12,4 @@ pub mod Border
 pub mod LastNode
 pub mod Passing
 pub mod Beginning
+pub mod Ahead

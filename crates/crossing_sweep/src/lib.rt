@@ -1,6 +1,8 @@
 //! Crossings found from neighbours alone: what the sweep over the units of a column stands on.
 #![tactic(auto)]
 
+pub mod ahead;
+pub mod known_places;
 pub mod last_node;
 pub mod leaning;
 pub mod next_node;

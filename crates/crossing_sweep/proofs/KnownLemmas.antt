@@ -1,0 +1,313 @@
+-- The places that some names stand for, and those that are known before a pass.
+use Rattle.std.proofs.Common.{◌≡◌, ℕ, ℤ, pos, ◌+◌, ◌<◌, ◌*ℤ◌, ◌<ℤ◌, ◌≤ℤ◌, ◌-ℤ◌, ◌^◌, ◌≢◌, Bool, neg_ℤ, int_le, inl, inr, ◌⊎◌, true, false, List, [], ◌∷◌, ◌++◌, map, take, length, get_or, refl, ap, sym, subst, ◌∙◌, lit<, arith}
+use Rattle.std.specs.Prelude.{IsTrue, All, Any, Contains, flat_map, ◌||◌, ◌&&◌, not}
+use Rattle.std.specs.List.{list_any}
+use Rattle.std.specs.Ordering.{int_eq}
+use Rattle.std.proofs.lemmas.Int.{ints, by_lt_z}
+use Rattle.std.proofs.lemmas.Bool.{both_ways, and_parts, and_from, or_cases, or_left, or_right, not-true, cases_eq}
+use Rattle.std.proofs.lemmas.List.Elements.{All-contains, All-map, Contains-append_left, Contains-append_cases}
+use Rattle.std.proofs.lemmas.List.Folds.{Any-from_list_any}
+use Rattle.overlay_terms.specs.Plane.{Point, Segment, whole, same_place, is_on, coordinate_max, denominator_max}
+use Rattle.overlay_terms.specs.Column.{border, columns, column_count}
+use Rattle.overlay_terms.specs.Tiles.{Input, is_end, is_on_border, is_node, is_vertical}
+use Rattle.overlay_terms.specs.TileLaws.{IsInput, IsProper}
+use Rattle.overlay_terms.proofs.InputNumbers.{le_true, true_le, most_back, most_times, last_turned, between_from_on}
+use Rattle.overlay_terms.proofs.InputNodes.{border_node}
+use Rattle.overlay_terms.proofs.Lists.{any_from, any_contains, Contains-cons_cases, none_in_empty, contains_map, in_flat_map, from_flat_map}
+use Rattle.exact_point.specs.Place.{place}
+use Rattle.exact_point.specs.PlaceOf.{place_of}
+use Rattle.exact_point.specs.PointName.{HasPlace, IsPlaceOf, IsOnlyPlaceOf, IsCutOf}
+use Rattle.exact_point.specs.declared.point.HPoint.{HPoint}
+use Rattle.exact_point.specs.declared.point_name.PointName.{PointName}
+use Rattle.exact_point.specs.declared.point_name.PointName.TheVariants.{Vertex, Cross, Border}
+use Rattle.exact_point.proofs.BorderLemmas.{one_over_x}
+use Rattle.exact_point.proofs.Nodes.{node_at_end, end_among}
+use Rattle.exact_point.proofs.OnSegment.{leads}
+use Rattle.exact_point.proofs.Lexical.{Forward}
+use Rattle.std.proofs.lemmas.List.FromFn.{get_or-range_with_len, length-range_with_len}
+use Rattle.overlay_terms.specs.Layers.{Marked}
+use Rattle.exact_point.proofs.OnLine.{on_line, left_on_line, right_on_line}
+use Rattle.exact_point.proofs.PlaceOrder.{same_turned, same_through, level_from, level_test}
+use Rattle.arrange.specs.Arrangement.{segments_in, is_in_closed_column}
+use Rattle.arrange.specs.NamedPlaces.{own_names}
+use Rattle.arrange.specs.declared.marked_seg.MarkedSeg.{MarkedSeg}
+use Rattle.std.proofs.lemmas.List.{take_more, map-append}
+use Rattle.std.proofs.lemmas.Grind.{flat_map-append}
+use Rattle.crossing_sweep.specs.Leaning.{IsSmall}
+use Rattle.crossing_sweep.specs.Queue.{IsUpTo, IsQueued}
+use Rattle.crossing_sweep.specs.Ahead.{points_of, HasAdded, IsOffered, AreOffered, AreKnownPlaces}
+use Rattle.crossing_sweep.proofs.PassLemmas.{all_of}
+use Rattle.crossing_sweep.proofs.AheadLemmas.{point_positive}
+
+-- ---- one more name
+module _ (column : ℕ) (names : List PointName) (name : PointName) (old : List (HPoint × PointName)) (are : AreOffered column names old) where
+  abbrev IsAt : Point → HPoint × PointName → Type 0
+  IsAt p e = IsTrue (same_place p (place e.0))
+
+  more_offered : (e : HPoint × PointName) → IsOffered column names e → IsOffered column (names ++ name ∷ []) e
+  more_offered e is = record { named = is.named; told = is.told; stands = is.stands; in_column = is.in_column; offered = Contains-append_left names (name ∷ []) e.1 is.offered }
+
+  one : (other : PointName) → Contains (name ∷ []) other → name ≡ other
+  one other c = by (Contains-cons_cases name [] other c)
+    where
+      by : (name ≡ other) ⊎ Contains [] other → name ≡ other
+      by (inl e) = e
+      by (inr h) = absurd (none_in_empty other h)
+
+  -- it stands for a place that has been added
+  pub offered_added : (at : HPoint) (new : List (HPoint × PointName)) → IsOffered column (names ++ name ∷ []) (at, name) → IsOnlyPlaceOf name (place at) → HasAdded old at name new → AreOffered column (names ++ name ∷ []) new
+  offered_added at new is only added = record {
+    sound = all_of (IsOffered column (names ++ name ∷ [])) new (λ e c. sound e (added.only e c));
+    complete = λ other p c hp stands within. complete other p (Contains-append_cases names (name ∷ []) other c) hp stands within;
+  }
+    where
+      sound : (e : HPoint × PointName) → Contains old e ⊎ ((at, name) ≡ e) → IsOffered column (names ++ name ∷ []) e
+      sound e (inl c) = more_offered e (All-contains (IsOffered column names) old e are.sound c)
+      sound e (inr f) = subst (λ (e : HPoint × PointName). IsOffered column (names ++ name ∷ []) e) f is
+
+      complete : (other : PointName) (p : Point) → Contains names other ⊎ Contains (name ∷ []) other → pos 0 <ℤ p.w → IsPlaceOf other p → IsTrue (is_in_closed_column column p) → Any (IsAt p) new
+      complete other p (inl c) hp stands within =
+          let a = are.complete other p c hp stands within in
+          any_from (IsAt p) new a.1 (added.kept a.1 (any_contains (IsAt p) old a)) a.4
+      complete other p (inr c) hp stands within =
+          let same : IsTrue (same_place (place at) p) = only p hp (subst (λ n. IsPlaceOf n p) (sym (one other c)) stands) in
+          let a = added.there in
+          any_from (IsAt p) new a.1 (any_contains (λ e. IsTrue (same_place (place at) (place e.0))) new a)
+          (same_through p (place at) (place a.1.0) hp (point_positive at) (point_positive a.1.0) (same_turned (place at) p same) a.4)
+
+  -- or for none in the closed column
+  pub offered_nowhere : ((p : Point) → pos 0 <ℤ p.w → IsPlaceOf name p → IsTrue (is_in_closed_column column p) → ⊥) → AreOffered column (names ++ name ∷ []) old
+  offered_nowhere nowhere = record {
+    sound = all_of (IsOffered column (names ++ name ∷ [])) old (λ e c. more_offered e (All-contains (IsOffered column names) old e are.sound c));
+    complete = λ other p c hp stands within. complete other p (Contains-append_cases names (name ∷ []) other c) hp stands within;
+  }
+    where
+      complete : (other : PointName) (p : Point) → Contains names other ⊎ Contains (name ∷ []) other → pos 0 <ℤ p.w → IsPlaceOf other p → IsTrue (is_in_closed_column column p) → Any (IsAt p) old
+      complete other p (inl c) hp stands within = are.complete other p c hp stands within
+      complete other p (inr c) hp stands within = absurd (nowhere p hp (subst (λ n. IsPlaceOf n p) (sym (one other c)) stands) within)
+
+pub none_offered : (column : ℕ) → AreOffered column [] []
+none_offered column = record { sound = all_of (IsOffered column []) [] (λ e c. absurd (none_in_empty e c)); complete = λ name p c hp stands within. absurd (none_in_empty name c) }
+
+pub has_place : (name : PointName) (p : Point) → pos 0 <ℤ p.w → IsPlaceOf name p → HasPlace name
+has_place (Vertex v) p h k = tt
+has_place (Cross a b) p h k = (p, h, k)
+has_place (Border s j) p h k = k.cut
+
+-- the same place is in the closed column, too
+bool_same : (a b : Bool) → (a ≡ true → b ≡ true) → (b ≡ true → a ≡ true) → a ≡ b
+bool_same true true f g = refl
+bool_same true false f g = sym (f refl)
+bool_same false true f g = g refl
+bool_same false false f g = refl
+
+most_alike : (b x w y v : ℤ) → pos 0 <ℤ w → pos 0 <ℤ v → x *ℤ v ≡ y *ℤ w → (b *ℤ w) ≤ℤ x → (b *ℤ v) ≤ℤ y
+most_alike b x w y v hw hv e h = most_back (b *ℤ v) y w hw (omega (arith, ints, e, most_times (b *ℤ w) x v hv h, last_turned b w v))
+
+least_alike : (b x w y v : ℤ) → pos 0 <ℤ w → pos 0 <ℤ v → x *ℤ v ≡ y *ℤ w → x ≤ℤ (b *ℤ w) → y ≤ℤ (b *ℤ v)
+least_alike b x w y v hw hv e h = most_back y (b *ℤ v) w hw (omega (arith, ints, e, most_times x (b *ℤ w) v hv h, last_turned b w v))
+
+pub within_alike : (column : ℕ) (p z : Point) → pos 0 <ℤ p.w → pos 0 <ℤ z.w → IsTrue (same_place p z) → is_in_closed_column column p ≡ is_in_closed_column column z
+within_alike column p z hp hz same = bool_same (is_in_closed_column column p) (is_in_closed_column column z) (through p z hp hz same) (through z p hz hp (same_turned p z same))
+  where
+    through : (p z : Point) → pos 0 <ℤ p.w → pos 0 <ℤ z.w → IsTrue (same_place p z) → is_in_closed_column column p ≡ true → is_in_closed_column column z ≡ true
+    through p z hp hz same h =
+        let parts = and_parts (int_le (border column *ℤ p.w) p.x) (int_le p.x (border (column + 1) *ℤ p.w)) h in
+        let one = level_from (p.x *ℤ z.w) (z.x *ℤ p.w) (and_parts (int_eq (p.x *ℤ z.w) (z.x *ℤ p.w)) (int_eq (p.y *ℤ z.w) (z.y *ℤ p.w)) same).0 in
+        and_from (int_le (border column *ℤ z.w) z.x) (int_le z.x (border (column + 1) *ℤ z.w))
+        (true_le (border column *ℤ z.w) z.x (most_alike (border column) p.x p.w z.x z.w hp hz one (le_true (border column *ℤ p.w) p.x parts.0)))
+        (true_le z.x (border (column + 1) *ℤ z.w) (least_alike (border (column + 1)) p.x p.w z.x z.w hp hz one (le_true p.x (border (column + 1) *ℤ p.w) parts.1)))
+
+-- one more segment offers its names
+pub own_more : (k : ℕ) (items : List MarkedSeg) (i : ℕ) (x : MarkedSeg) → i < length items → x ≡ get_or items i x
+    → flat_map (λ s. own_names s k) (map (λ (m : MarkedSeg). m.seg) (take i items)) ++ own_names x.seg k ≡ flat_map (λ s. own_names s k) (map (λ (m : MarkedSeg). m.seg) (take (i + 1) items))
+own_more k items i x h e =
+    let seg : MarkedSeg → Segment = λ m. m.seg in
+    let own : Segment → List PointName = λ s. own_names s k in
+    sym (
+    ap (λ xs. flat_map own (map seg xs)) (take_more items i x h)
+    ∙ ap (flat_map own) (map-append seg (take i items) (get_or items i x ∷ []))
+    ∙ flat_map-append own (map seg (take i items)) (seg (get_or items i x) ∷ [])
+    ∙ ap (λ y. flat_map own (map seg (take i items)) ++ own (seg y)) (sym e))
+
+-- ---- what is known before a pass
+pub point_small : (p : HPoint) → IsSmall (place p)
+point_small p = record { positive = point_positive p; few = few p.w p.w_high; low = low p.w p.y (point_positive p) p.y_low; high = high p.w p.y (point_positive p) p.y_high }
+  where
+    few : (w : ℤ) → w ≤ℤ pos denominator_max → w ≤ℤ pos (2 ^ 87)
+    few w h = omega (arith, ints, h)
+
+    low : (w y : ℤ) → pos 0 <ℤ w → neg_ℤ (pos coordinate_max *ℤ w) ≤ℤ y → neg_ℤ (pos 2097152 *ℤ w) ≤ℤ y
+    low w y h k = omega (arith, ints, h, k)
+
+    high : (w y : ℤ) → pos 0 <ℤ w → y ≤ℤ (pos coordinate_max *ℤ w) → y ≤ℤ (pos 2097152 *ℤ w)
+    high w y h k = omega (arith, ints, h, k)
+
+in_columns : (j : ℕ) → Contains columns j → j < column_count
+in_columns j c = omega (arith, c.1, length-range_with_len 0 column_count, sym (get_or-range_with_len 0 column_count c.0 j (omega (arith, c.1, length-range_with_len 0 column_count))) ∙ c.2)
+
+one_of_two : (j k : ℕ) → border k ≤ℤ (border j) → border j ≤ℤ (border (k + 1)) → (j ≡ k) ⊎ (j ≡ k + 1)
+one_of_two j k low high = by (cases_eq j k) where
+  by : (j ≡ k) ⊎ (j ≢ k) → (j ≡ k) ⊎ (j ≡ k + 1)
+  by (inl e) = inl e
+  by (inr n) = inr (omega (arith, ints))
+
+once_more : (x : ℤ) → x *ℤ pos 1 ≡ x
+once_more x = omega (arith, ints)
+
+-- a segment that is not vertical leads right
+wide_of : (s : Segment) → IsProper s → is_vertical s ≡ false → s.left.x <ℤ s.right.x
+wide_of s proper slanted = by (leads s proper.first)
+  where
+    more : (l r : ℤ) → pos 0 <ℤ (r -ℤ l) → l <ℤ r
+    more l r h = omega (arith, ints, h)
+
+    same : (l r : ℤ) → r -ℤ l ≡ pos 0 → l ≡ r
+    same l r h = omega (arith, ints, h)
+
+    by : Forward (s.right.x -ℤ s.left.x) (s.right.y -ℤ s.left.y) → s.left.x <ℤ s.right.x
+    by (inl h) = more s.left.x s.right.x h
+    by (inr h) = absurd (both_ways (is_vertical s) slanted (level_test s.left.x s.right.x (same s.left.x s.right.x h.0)))
+
+module _ (input : Input) (is : IsInput input) (found : List (HPoint × PointName)) (are : AreOffered input.column (flat_map (λ s. own_names s input.column) (segments_in input)) found) where
+  abbrev segments : List Segment
+  segments = segments_in input
+
+  abbrev own : Segment → List PointName
+  own s = own_names s input.column
+
+  entry : (e : HPoint × PointName) → Contains found e → IsOffered input.column (flat_map own segments) e
+  entry e c = All-contains (IsOffered input.column (flat_map own segments)) found e are.sound c
+
+  proper : (s : Segment) → Contains segments s → IsProper s
+  proper s c = All-contains IsProper segments s (All-map IsProper (λ (m : Marked). m.segment) input.marked is.proper) c
+
+  -- ---- each of them is a node
+  node_of : (s : Segment) → Contains segments s → (name : PointName) → Contains (own s) name → (z : Point) → pos 0 <ℤ z.w → IsPlaceOf name z → IsTrue (is_node segments z)
+  node_of s among name c z hz stands = first (Contains-cons_cases (Vertex s.left) (Vertex s.right ∷ Border s input.column ∷ Border s (input.column + 1) ∷ []) name c)
+    where
+      at_cut : (j : ℕ) → IsCutOf s j z → IsTrue (is_node segments z)
+      at_cut j cut = border_node segments s j z cut.cut.known cut.on_border cut.on_segment (wide s.left.x (border j) s.right.x cut.cut.after_left cut.cut.before_right) among
+        where
+          wide : (l b r : ℤ) → l <ℤ b → b <ℤ r → l <ℤ r
+          wide l b r h k = omega (arith, ints, h, k)
+
+      last : (Border s (input.column + 1) ≡ name) ⊎ Contains [] name → IsTrue (is_node segments z)
+      last (inl e) = at_cut (input.column + 1) (subst (λ n. IsPlaceOf n z) (sym e) stands)
+      last (inr h) = absurd (none_in_empty name h)
+
+      third : (Border s input.column ≡ name) ⊎ Contains (Border s (input.column + 1) ∷ []) name → IsTrue (is_node segments z)
+      third (inl e) = at_cut input.column (subst (λ n. IsPlaceOf n z) (sym e) stands)
+      third (inr h) = last (Contains-cons_cases (Border s (input.column + 1)) [] name h)
+
+      second : (Vertex s.right ≡ name) ⊎ Contains (Border s input.column ∷ Border s (input.column + 1) ∷ []) name → IsTrue (is_node segments z)
+      second (inl e) =
+          node_at_end segments z (end_among segments s among z
+          (or_right (same_place z (whole s.left)) (same_place z (whole s.right)) (same_turned (whole s.right) z (subst (λ n. IsPlaceOf n z) (sym e) stands))))
+      second (inr h) = third (Contains-cons_cases (Border s input.column) (Border s (input.column + 1) ∷ []) name h)
+
+      first : (Vertex s.left ≡ name) ⊎ Contains (Vertex s.right ∷ Border s input.column ∷ Border s (input.column + 1) ∷ []) name → IsTrue (is_node segments z)
+      first (inl e) =
+          node_at_end segments z (end_among segments s among z
+          (or_left (same_place z (whole s.left)) (same_place z (whole s.right)) (same_turned (whole s.left) z (subst (λ n. IsPlaceOf n z) (sym e) stands))))
+      first (inr h) = second (Contains-cons_cases (Vertex s.right) (Border s input.column ∷ Border s (input.column + 1) ∷ []) name h)
+
+  node : (e : HPoint × PointName) → Contains found e → IsTrue (is_node segments (place e.0))
+  node e c =
+      let offered = from_flat_map own segments e.1 (entry e c).offered in
+      node_of offered.0 offered.1 e.1 offered.2 (place e.0) (point_positive e.0) (entry e c).stands
+
+  -- ---- all ends and border places are among them
+  module _ (p : Point) (hp : pos 0 <ℤ p.w) (from : (border input.column *ℤ p.w) ≤ℤ p.x) (up_to : IsUpTo input.column p) where
+    within : IsTrue (is_in_closed_column input.column p)
+    within =
+        and_from (int_le (border input.column *ℤ p.w) p.x) (int_le p.x (border (input.column + 1) *ℤ p.w)) (true_le (border input.column *ℤ p.w) p.x from)
+        (true_le p.x (border (input.column + 1) *ℤ p.w) up_to)
+
+    there : (s : Segment) (name : PointName) → Contains segments s → Contains (own s) name → IsPlaceOf name p → IsQueued (points_of found) p
+    there s name among c stands =
+        let a = are.complete name p (in_flat_map own segments s name among c) hp stands within in
+        any_from (λ z. IsTrue (same_place p z)) (points_of found) (place a.1.0) (contains_map (λ (e : HPoint × PointName). place e.0) found a.1 (any_contains (λ e. IsTrue (same_place p (place e.0))) found a)) a.4
+
+    at_left_end : (s : Segment) → Contains segments s → IsTrue (same_place p (whole s.left)) → IsQueued (points_of found) p
+    at_left_end s among e = there s (Vertex s.left) among (0, lit< tt, refl) (same_turned p (whole s.left) e)
+
+    at_right_end : (s : Segment) → Contains segments s → IsTrue (same_place p (whole s.right)) → IsQueued (points_of found) p
+    at_right_end s among e = there s (Vertex s.right) among (1, lit< tt, refl) (same_turned p (whole s.right) e)
+
+    by_end : is_end segments p ≡ true → IsQueued (points_of found) p
+    by_end h =
+        let which = Any-from_list_any (λ s. same_place p (whole s.left) || same_place p (whole s.right)) segments h in
+        by which.1 (any_contains (λ s. IsTrue (same_place p (whole s.left) || same_place p (whole s.right))) segments which) (or_cases (same_place p (whole which.1.left)) (same_place p (whole which.1.right)) which.4)
+      where
+        by : (s : Segment) → Contains segments s → (same_place p (whole s.left) ≡ true) ⊎ (same_place p (whole s.right) ≡ true) → IsQueued (points_of found) p
+        by s among (inl e) = at_left_end s among e
+        by s among (inr e) = at_right_end s among e
+
+    -- on a border, of a segment that is not vertical
+    module _ (s : Segment) (among : Contains segments s) (on : IsTrue (is_on s p)) (wide : s.left.x <ℤ s.right.x) (j : ℕ) (known : j < column_count) (over : p.x ≡ border j *ℤ p.w) where
+      over_left : border j ≡ s.left.x → IsQueued (points_of found) p
+      over_left e =
+          at_left_end s among
+          (same_turned (whole s.left) p (one_over_x s (whole s.left) p wide (left_on_line s) (on_line s p on) (sym (over ∙ ap (λ z. z *ℤ p.w) e) ∙ sym (once_more p.x))))
+
+      over_right : border j ≡ s.right.x → IsQueued (points_of found) p
+      over_right e =
+          at_right_end s among
+          (same_turned (whole s.right) p (one_over_x s (whole s.right) p wide (right_on_line s) (on_line s p on) (sym (over ∙ ap (λ z. z *ℤ p.w) e) ∙ sym (once_more p.x))))
+
+      over_cut : s.left.x <ℤ border j → border j <ℤ s.right.x → IsQueued (points_of found) p
+      over_cut low high = by (one_of_two j input.column (most_back (border input.column) (border j) p.w hp (rw (← over) from)) (most_back (border j) (border (input.column + 1)) p.w hp (rw (← over) up_to)))
+        where
+          cut : IsCutOf s j p
+          cut = record { cut = record { known = known; after_left = low; before_right = high }; on_segment = on; on_border = over }
+
+          by : (j ≡ input.column) ⊎ (j ≡ input.column + 1) → IsQueued (points_of found) p
+          by (inl f) = there s (Border s input.column) among (2, lit< tt, refl) (subst (λ i. IsCutOf s i p) f cut)
+          by (inr f) = there s (Border s (input.column + 1)) among (3, lit< tt, refl) (subst (λ i. IsCutOf s i p) f cut)
+
+      at_border : IsQueued (points_of found) p
+      at_border =
+          by_lt_z s.left.x (border j)
+          (λ low. by_lt_z (border j) s.right.x (over_cut low) (λ high. over_right (meet (border j) s.right.x (most_back (border j) s.right.x p.w hp (rw (← over) (between_from_on s p on).to_right)) high)))
+          (λ low. over_left (sym (meet s.left.x (border j) (most_back s.left.x (border j) p.w hp (rw (← over) (between_from_on s p on).from_left)) low)))
+        where
+          meet : (a b : ℤ) → a ≤ℤ b → b ≤ℤ a → a ≡ b
+          meet a b l m = omega (arith, ints, l, m)
+
+    by_border : is_on_border segments p ≡ true → IsQueued (points_of found) p
+    by_border h =
+        let parts = and_parts (list_any (λ k. int_eq p.x (border k *ℤ p.w)) columns) (list_any (λ s. is_on s p && not (is_vertical s)) segments) h in
+        let border_there = Any-from_list_any (λ k. int_eq p.x (border k *ℤ p.w)) columns parts.0 in
+        let held = Any-from_list_any (λ s. is_on s p && not (is_vertical s)) segments parts.1 in
+        let tests = and_parts (is_on held.1 p) (not (is_vertical held.1)) held.4 in
+        let among = any_contains (λ s. IsTrue (is_on s p && not (is_vertical s))) segments held in
+        at_border held.1 among tests.0 (wide_of held.1 (proper held.1 among) (not-true (is_vertical held.1) tests.1)) border_there.1
+        (in_columns border_there.1 (any_contains (λ k. IsTrue (int_eq p.x (border k *ℤ p.w))) columns border_there)) (level_from p.x (border border_there.1 *ℤ p.w) border_there.4)
+
+    fixed : IsTrue (is_end segments p || is_on_border segments p) → IsQueued (points_of found) p
+    fixed h = by (or_cases (is_end segments p) (is_on_border segments p) h)
+      where
+        by : (is_end segments p ≡ true) ⊎ (is_on_border segments p ≡ true) → IsQueued (points_of found) p
+        by (inl e) = by_end e
+        by (inr e) = by_border e
+
+  in_column : (e : HPoint × PointName) → Contains found e → ((border input.column *ℤ e.0.w) ≤ℤ e.0.x) × (e.0.x ≤ℤ (border (input.column + 1) *ℤ e.0.w))
+  in_column e c =
+      let parts = and_parts (int_le (border input.column *ℤ e.0.w) e.0.x) (int_le e.0.x (border (input.column + 1) *ℤ e.0.w)) (entry e c).in_column in
+      (le_true (border input.column *ℤ e.0.w) e.0.x parts.0, le_true e.0.x (border (input.column + 1) *ℤ e.0.w) parts.1)
+
+  all_points : (P : Point → Type 0) → ((e : HPoint × PointName) → Contains found e → P (place e.0)) → All P (points_of found)
+  all_points P h = All-map P (λ (e : HPoint × PointName). place e.0) found (all_of (λ (e : HPoint × PointName). P (place e.0)) found h)
+
+  pub known_places : AreKnownPlaces input found
+  known_places = record {
+    known = record {
+      small = all_points IsSmall (λ e c. point_small e.0);
+      nodes = all_points (λ z. IsTrue (is_node segments z)) node;
+      from = all_points (λ z. (border input.column *ℤ z.w) ≤ℤ z.x) (λ e c. (in_column e c).0);
+      up_to = all_points (IsUpTo input.column) (λ e c. (in_column e c).1);
+      fixed = λ p hp h from up_to. fixed p hp from up_to h;
+    };
+    named = all_of (λ (e : HPoint × PointName). HasPlace e.1 × (place e.0 ≡ place_of e.1)) found (λ e c. ((entry e c).named, (entry e c).told));
+  }

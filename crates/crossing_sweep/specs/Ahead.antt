@@ -1,0 +1,39 @@
+-- The places that a sweep has found ahead.
+use Rattle.std.specs.Prelude.{◌≡◌, ℕ, pos, ◌<ℤ◌, ◌⊎◌, IsTrue, List, map, All, Any, Contains}
+use Rattle.overlay_terms.specs.Plane.{Point, same_place}
+use Rattle.overlay_terms.specs.Tiles.{Input}
+use Rattle.exact_point.specs.Place.{place}
+use Rattle.exact_point.specs.PlaceOf.{place_of}
+use Rattle.exact_point.specs.PointName.{HasPlace, IsPlaceOf}
+use Rattle.arrange.specs.Arrangement.{segments_in, is_in_closed_column}
+use Rattle.crossing_sweep.specs.Beginning.{AreKnown}
+use Rattle.exact_point.specs.declared.point.HPoint.{HPoint}
+use Rattle.exact_point.specs.declared.point_name.PointName.{PointName}
+
+-- the places alone
+abbrev pub points_of : List (HPoint × PointName) → List Point
+points_of found = map (λ e. place e.0) found
+
+-- a place has been added: it is there, and so is what was there; and nothing else has come
+pub record HasAdded (old : List (HPoint × PointName)) (at : HPoint) (name : PointName) (new : List (HPoint × PointName)) : Type 0 where
+  pub kept : (e : HPoint × PointName) → Contains old e → Contains new e
+  pub there : Any (λ e. IsTrue (same_place (place at) (place e.0))) new
+  pub only : (e : HPoint × PointName) → Contains new e → Contains old e ⊎ ((at, name) ≡ e)
+
+-- a place is known under one of some names, which stands for it, and it lies in the closed column
+pub record IsOffered (column : ℕ) (names : List PointName) (e : HPoint × PointName) : Type 0 where
+  pub named : HasPlace e.1
+  pub told : place e.0 ≡ place_of e.1
+  pub stands : IsPlaceOf e.1 (place e.0)
+  pub in_column : IsTrue (is_in_closed_column column (place e.0))
+  pub offered : Contains names e.1
+
+-- the places in a closed column for which some names stand
+pub record AreOffered (column : ℕ) (names : List PointName) (found : List (HPoint × PointName)) : Type 0 where
+  pub sound : All (IsOffered column names) found
+  pub complete : (name : PointName) (p : Point) → Contains names name → pos 0 <ℤ p.w → IsPlaceOf name p → IsTrue (is_in_closed_column column p) → Any (λ e. IsTrue (same_place p (place e.0))) found
+
+-- the places that are known before a pass over the column of an input, by their names
+pub record AreKnownPlaces (input : Input) (found : List (HPoint × PointName)) : Type 0 where
+  pub known : AreKnown (segments_in input) input.column (points_of found)
+  pub named : All (λ e. HasPlace e.1 × (place e.0 ≡ place_of e.1)) found

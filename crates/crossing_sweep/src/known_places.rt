@@ -1,0 +1,73 @@
+//! The places of a column that are known before a pass over it: ends of segments and border places.
+ghost use Rattle.std.specs.Prelude.{◌≡◌, ◌+◌, ◌*ℤ◌, ◌++◌, [], ◌∷◌, int_le, List, IfOk, OnOk};
+ghost use Rattle.overlay_terms.specs.Column.{border};
+ghost use Rattle.exact_point.specs.Place.{place};
+ghost use Rattle.exact_point.specs.declared.point_name.PointName.{PointName};
+ghost use Rattle.arrange.specs.Arrangement.{is_in_closed_column};
+ghost use Rattle.arrange.specs.NamedPlaces.{own_names};
+ghost use Rattle.crossing_sweep.specs.Ahead.{AreKnownPlaces, AreOffered};
+
+use crate::ahead::Ahead;
+use arrange::tile_input::TileInput;
+use exact_point::point::HPoint;
+use exact_point::point_name::PointName;
+use exact_point::side::border_side;
+use plane_base::column::Column;
+use plane_base::point::Seg;
+use std::alloc::{AllocError, Global};
+
+/// The ends of an input's segments, and where the borders of the column cut them, in the closed
+/// column.
+pub fn known_places(alloc: Global, input: &TileInput) -> Result<Ahead, AllocError>
+    ensures { IfOk result (λ ahead. AreKnownPlaces input.now ahead) }
+{
+    let mut ahead = Ahead::new(alloc);
+    for m in input.marked() {
+        offer_own(&mut ahead, &m.seg, input.column())?;
+    }
+    Ok(ahead)
+}
+
+/// Offers the ends of a segment and where the column's borders cut it.
+fn offer_own(ahead: &mut Ahead, seg: &Seg, column: Column) -> Result<(), AllocError>
+    ensures { OnOk result ((names : List PointName) → AreOffered column names ahead.old → AreOffered column (names ++ own_names seg.now column) ahead.new) }
+{
+    offer(ahead, PointName::Vertex(seg.left()), column)?;
+    offer(ahead, PointName::Vertex(seg.right()), column)?;
+    offer(ahead, PointName::Border(*seg, column.number()), column)?;
+    offer(ahead, PointName::Border(*seg, column.number() + 1), column)?;
+    Ok(())
+}
+
+/// Adds the place that a name stands for, if it lies in the closed column.
+fn offer(ahead: &mut Ahead, name: PointName, column: Column) -> Result<(), AllocError>
+    ensures { OnOk result ((names : List PointName) → AreOffered column names ahead.old → AreOffered column (names ++ name ∷ []) ahead.new) }
+{
+    if let Some(at) = name.point() {
+        if is_within(column, &at) {
+            ahead.add(at, name)?;
+        }
+    }
+    Ok(())
+}
+
+/// Whether a point lies from a column's left border to its right border.
+fn is_within(column: Column, p: &HPoint) -> bool
+    ensures { result ≡ is_in_closed_column column (place p.now) }
+{
+    let from_left = border_side(column, p);
+    let to_right = is_up_to(column, p);
+    // Eager, so that one equation says all: both sides are known by then.
+    from_left.is_ge() & to_right
+}
+
+/// Whether a point lies left of a column's right border or on it. The last column has no other
+/// column right of it, and all points lie left of its right border.
+fn is_up_to(column: Column, p: &HPoint) -> bool
+    ensures { result ≡ int_le p.now.x (border (column + 1) *ℤ p.now.w) }
+{
+    match Column::new(u64::from(column.number()) + 1) {
+        Some(next) => border_side(next, p).is_le(),
+        None => true,
+    }
+}
