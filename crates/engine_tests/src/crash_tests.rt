@@ -1,0 +1,139 @@
+//! Crashes at each device call of two commits, and of the recoveries after them.
+use crate::testing::{CREATED, SHIFTED, SQUARE, Words, created, drive, recovered};
+use disk_model::image::Choice;
+use disk_model::mem_disk::MemDisk;
+use overlay_engine::step::Reply;
+use std::alloc::Global;
+use std::test::Fail;
+
+/// What a crash makes of the bytes that are written and not synced.
+const CHOICES: [Choice; 5] = [
+    Choice::Old,
+    Choice::New,
+    Choice::Fill(0),
+    Choice::Fill(0x55),
+    Choice::Fill(0xA7),
+];
+
+/// How many calls the commits of A, and then of A and B, make.
+const FIRST: usize = 8;
+
+const SECOND: usize = 9;
+
+/// A is put, committed and reported, and then B is put and committed.
+const STEPS: &[Words] = &[
+    Words::Put("A", SQUARE),
+    Words::Device,
+    Words::Device,
+    Words::Device,
+    Words::Device,
+    Words::Device,
+    Words::Device,
+    Words::Device,
+    Words::Device,
+    Words::Report,
+    Words::Put("B", SHIFTED),
+    Words::Device,
+    Words::Device,
+    Words::Device,
+    Words::Device,
+    Words::Device,
+    Words::Device,
+    Words::Device,
+    Words::Device,
+    Words::Device,
+];
+
+const ANSWERS: &[Reply] = &[
+    Reply::Accepted(1),
+    Reply::Going,
+    Reply::Going,
+    Reply::Going,
+    Reply::Going,
+    Reply::Going,
+    Reply::Going,
+    Reply::Going,
+    Reply::Done(1),
+    Reply::Durable(1),
+    Reply::Accepted(2),
+    Reply::Going,
+    Reply::Going,
+    Reply::Going,
+    Reply::Going,
+    Reply::Going,
+    Reply::Going,
+    Reply::Going,
+    Reply::Going,
+    Reply::Done(2),
+];
+
+/// The layers of the versions 0, 1 and 2.
+const LAYERS: [&str; 3] = [
+    "layers 0\n",
+    "layers 1\nA MULTIPOLYGON (((0 0, 10 0, 10 10, 0 10, 0 0)))\n",
+    "layers 2\nA MULTIPOLYGON (((0 0, 10 0, 10 10, 0 10, 0 0)))\nB MULTIPOLYGON (((5 5, 15 5, 15 15, 5 15, 5 5)))\n",
+];
+
+/// The version that a crash behind so many calls of the two commits leaves.
+fn left_after(calls: usize, choice: Choice) -> usize {
+    let opens = matches!(choice, Choice::New | Choice::Fill(0xA7));
+    if calls < FIRST - 1 || calls == FIRST - 1 && !opens {
+        return 0;
+    }
+    if calls < FIRST + SECOND - 1 || calls == FIRST + SECOND - 1 && !opens {
+        return 1;
+    }
+    2
+}
+
+/// Whether a disk recovers to just this version, all of it durable; and the disk then.
+fn is_left(alloc: Global, disk: MemDisk, number: usize) -> Result<(bool, MemDisk), Fail> {
+    let engine = recovered(alloc, disk)?;
+    let version = engine.version();
+    let listed = version.layers().list(alloc)?;
+    let same = version.number() == number as u64
+        && version.durable() == number as u64
+        && LAYERS
+            .get(number)
+            .is_some_and(|text| text.as_bytes() == listed.as_slice());
+    Ok((same, engine.into_disk()))
+}
+
+/// Whether each crash of a recovery leaves this version. It writes nothing before its last two calls.
+fn are_left(alloc: Global, disk: &MemDisk, number: usize) -> Result<bool, Fail> {
+    let made = disk.calls().len();
+    for calls in made.saturating_sub(2)..=made {
+        for &choice in &CHOICES {
+            if !is_left(alloc, disk.image(calls, choice)?, number)?.0 {
+                return Ok(false);
+            }
+        }
+    }
+    Ok(true)
+}
+
+/// Whether a crash behind so many calls of the two commits leaves its version, and so each crash of the recovery.
+fn recovers(alloc: Global, disk: &MemDisk, calls: usize, choice: Choice) -> Result<bool, Fail> {
+    let number = left_after(calls, choice);
+    let left = disk.image(CREATED.saturating_add(calls), choice)?;
+    let (same, recovered) = is_left(alloc, left, number)?;
+    Ok(same && are_left(alloc, &recovered, number)?)
+}
+
+#[test]
+fn a_crash_at_each_call_leaves_the_version_before_or_after(rt: HostRuntime) -> Result<(), Fail> {
+    let mut engine = created(rt.alloc(), 100)?;
+    let replies = drive(rt.alloc(), &mut engine, STEPS)?;
+    assert!(rt; replies.as_slice() == ANSWERS);
+    let disk = engine.into_disk();
+    assert_eq!(rt; disk.calls().len(), CREATED + FIRST + SECOND);
+    for calls in 0..=FIRST + SECOND {
+        for &choice in &CHOICES {
+            assert!(rt;
+                recovers(rt.alloc(), &disk, calls, choice)?,
+                "behind {calls} calls"
+            );
+        }
+    }
+    Ok(())
+}

@@ -1,0 +1,11 @@
+//! Tests of engines over a disk in memory: lists of steps, and crashes at each of their device calls.
+#![tactic(auto)]
+
+#[cfg(test)]
+mod crash_tests;
+#[cfg(test)]
+mod limit_tests;
+#[cfg(test)]
+mod step_tests;
+#[cfg(test)]
+mod testing;

@@ -1,0 +1,92 @@
+//! Engines for the tests, and steps by their texts.
+use disk_model::mem_disk::MemDisk;
+use layer_book::command::Command;
+use layer_expr::name::Name;
+use layer_expr::reading::read_expr;
+use overlay_engine::engine::Engine;
+use overlay_engine::step::{Reply, Step};
+use std::alloc::Global;
+use std::sync::Arc;
+use std::test::Fail;
+use wkt_form::reading::read_wkt;
+
+pub const SQUARE: &str = "POLYGON ((0 0, 10 0, 10 10, 0 10, 0 0))";
+
+pub const SHIFTED: &str = "POLYGON ((5 5, 15 5, 15 15, 5 15, 5 5))";
+
+pub const SMALLER: &str = "POLYGON ((0 0, 9 0, 9 9, 0 9, 0 0))";
+
+/// How many device calls make a new store.
+pub const CREATED: usize = 5;
+
+/// A step in words: a layer with its text, one with its definition, a layer with a column, and so on.
+#[derive(Clone, Copy)]
+pub enum Words {
+    Put(&'static str, &'static str),
+    Define(&'static str, &'static str),
+    Take(&'static str, u8),
+    Finish(u32),
+    Device,
+    Report,
+}
+
+/// The command that puts a text under a name.
+fn put(alloc: Global, name: Name, text: &str) -> Result<Command, Fail> {
+    let rings = read_wkt(alloc, text.as_bytes())?;
+    Ok(Command::Put(name, Arc::new(alloc, rings)?))
+}
+
+/// The command that defines a name by a text.
+fn define(alloc: Global, name: Name, text: &str) -> Result<Command, Fail> {
+    let expression = read_expr(alloc, text.as_bytes())?;
+    Ok(Command::Define(name, Arc::new(alloc, expression)?))
+}
+
+fn name_of(alloc: Global, name: &str) -> Result<Name, Fail> {
+    Ok(Name::new(alloc, name.as_bytes())?)
+}
+
+fn step_of(alloc: Global, words: Words) -> Result<Step, Fail> {
+    match words {
+        Words::Put(name, text) => Ok(Step::Submit(put(alloc, name_of(alloc, name)?, text)?)),
+        Words::Define(name, text) => Ok(Step::Submit(define(alloc, name_of(alloc, name)?, text)?)),
+        Words::Take(name, column) => Ok(Step::Take(name_of(alloc, name)?, column)),
+        Words::Finish(number) => Ok(Step::Finish(number)),
+        Words::Device => Ok(Step::Device),
+        Words::Report => Ok(Step::Report),
+    }
+}
+
+fn steps_of(alloc: Global, list: &[Words]) -> Result<Vec<Step>, Fail> {
+    let mut steps = Vec::new(alloc);
+    for &words in list {
+        steps.push(step_of(alloc, words)?)?;
+    }
+    Ok(steps)
+}
+
+/// Makes steps, one after the other, and gives the answers.
+pub fn drive(
+    alloc: Global,
+    engine: &mut Engine<MemDisk>,
+    list: &[Words],
+) -> Result<Vec<Reply>, Fail> {
+    let steps = steps_of(alloc, list)?;
+    Ok(engine.drive(alloc, &steps)?)
+}
+
+/// A new engine over an empty file.
+pub fn created(alloc: Global, max_blocks: u32) -> Result<Engine<MemDisk>, Fail> {
+    match Engine::create(alloc, MemDisk::new(alloc, Vec::new(alloc))?, max_blocks) {
+        Ok(engine) => Ok(engine),
+        Err(refused) => Err(Fail::from(refused.fault)),
+    }
+}
+
+/// The engine of a file that a crash has left.
+pub fn recovered(alloc: Global, disk: MemDisk) -> Result<Engine<MemDisk>, Fail> {
+    match Engine::recover(alloc, disk, 100) {
+        Ok(engine) => Ok(engine),
+        Err(refused) => Err(Fail::from(refused.fault)),
+    }
+}
