@@ -1,11 +1,3 @@
-pub mod Adding
-pub mod Beginning
-pub mod Chains
-pub mod Fronts
-pub mod Growing
-pub mod Marking
-pub mod Owned
 pub mod Results
 pub mod Sent
 pub mod SentBook
-pub mod Trails

@@ -1,23 +1,19 @@
 -- From what the lock's methods say of the log to what a call says of histories.
-use Rattle.std.proofs.Common.{◌≡◌, ℕ, ◌<◌, ◌≤◌, Bool, true, List, [], ◌∷◌, ◌++◌, length, refl, ap, sym, ◌∙◌, subst, arith, append_assoc, Option, None, Result, Ok, Err, IfOk, IfErr}
-use Rattle.std.specs.Option.{option_map}
+use Rattle.std.proofs.Common.{◌≡◌, ℕ, ◌<◌, ◌≤◌, Bool, true, List, [], ◌∷◌, ◌++◌, length, refl, ap, sym, ◌∙◌, subst, arith, append_assoc, Result, Ok, Err, IfOk, IfErr}
 use mathlib.Core.List.{IsPrefix}
 use Rattle.overlay_terms.specs.Commands.{Command}
 use Rattle.overlay_terms.specs.Histories.{Version, Entry, History, accepted, commands_of, newest, BeginsWith}
-use Rattle.version_book.specs.Logs.{entry, newest_in, history_of, IsAccepted, IsLog}
-use Rattle.version_book.specs.Fault.{IfGone, IsRefused}
-use Rattle.version_book.specs.Known.{Known, seen, IsOwn}
-use Rattle.version_book.specs.Steps.{HasLooked, IsReportedIn, Looks}
-use Rattle.version_book.specs.Trails.{Trail}
-use Rattle.version_book.specs.declared.fault.BookFault.{BookFault}
-use Rattle.version_book.specs.declared.fault.BookFault.TheVariants as fault
-use Rattle.version_book.proofs.Chains.{begins_with, commands_in_log}
-use Rattle.version_book.proofs.Fronts.{prefix_self, prefix_trans}
-use Rattle.version_book.proofs.Growing.{report_longer, report_reaches}
-
--- where there is no refusal there is no fault that reports it
-pub no_reason : {A B : Type 0} (f : A → B) (o : Option A) → o ≡ None → option_map f o ≡ None
-no_reason f o none = ap (option_map f) none
+use Rattle.book_history.specs.Logs.{entry, newest_in, history_of, IsAccepted, IsLog}
+use Rattle.book_history.specs.Fault.{IfGone, IsRefused}
+use Rattle.book_history.specs.Known.{Known, seen, IsOwn}
+use Rattle.book_desk.specs.Steps.{HasLooked, IsReportedIn, Looks}
+use Rattle.book_history.specs.Trails.{Trail}
+use Rattle.book_history.specs.declared.fault.BookFault.{BookFault}
+use Rattle.book_history.specs.declared.fault.BookFault.TheVariants as fault
+use Rattle.book_history.proofs.Chains.{begins_with, commands_in_log}
+use Rattle.book_history.proofs.Fronts.{prefix_self, prefix_trans}
+use Rattle.book_history.proofs.Gone.{gone_or, gone_map}
+use Rattle.book_desk.proofs.Growing.{report_longer, report_reaches}
 
 -- a log that goes on by some entries is that of a history that does
 history_more : (was old new : List Entry) (e : Entry) (p : IsPrefix was old) → 0 < length was → new ≡ old ++ e ∷ []
@@ -38,21 +34,6 @@ accepts (Ok n) session c old new was now P long a b = record {
   told = a.2;
 }
 accepts (Err e) session c old new was now P long a b = tt
-
--- one of two facts, whatever the fault is
-pub gone_or : (f : BookFault) {A B C : Type 0} → (A → C) → (B → C) → IfGone f A B → C
-gone_or (fault.Version r) g h x = h x
-gone_or fault.Closing g h x = h x
-gone_or fault.Gone g h x = g x
-gone_or fault.NoStore g h x = h x
-gone_or (fault.Store r) g h x = h x
-
-pub gone_map : (f : BookFault) {A B C D : Type 0} → (A → C) → (B → D) → IfGone f A B → IfGone f C D
-gone_map (fault.Version r) g h x = h x
-gone_map fault.Closing g h x = h x
-gone_map fault.Gone g h x = g x
-gone_map fault.NoStore g h x = h x
-gone_map (fault.Store r) g h x = h x
 
 -- a session that has looked goes on from what it saw, and keeps what it made
 looked_goes : (was now : Known) (log : List Entry) → 0 < length was.log → HasLooked was log now → BeginsWith (seen now) (seen was)

@@ -1,51 +1,10 @@
 -- The book under its lock may be called from many threads.
 use denote.RattleType.{RattleType}
-use denote.Param.Send.{IsSend, IsSync, SendAt, recorded_send, recorded_send_of, recorded_send_at, struct_send, struct_send_at, view_send, sendable}
-use denote.Array.{Array}
-use denote.Plain.{UInt}
-use denote.Builtin.{u64}
-use denote.Struct.Struct.{Struct}
-use denote.Struct.Declared.{shape}
-use Rattle.version_book.specs.contracts.entry.Entry as written
-use Rattle.version_book.specs.contracts.trace.Law as law
-use Rattle.version_book.specs.contracts.trace.LawRuleEntryU64.TheImpl as kept
-use mir.Syntax.{w64}
-use Rattle.std.specs.contracts.marker.PhantomData as phantom
+use denote.Param.Send.{IsSend, IsSync, sendable}
 use Rattle.std.proofs.Crossing.{crosses}
-use Rattle.logbook.proofs.word.Word.TheSendSync as words
-use Rattle.version_book.specs.contracts.desk.Desk as desk
-use Rattle.version_book.specs.contracts.desk.Desk.TheInside as inside
-use Rattle.version_book.specs.contracts.shelf.Shelf as shelf
+use Rattle.book_history.specs.declared.trace.Naming as naming
 use Rattle.version_book.specs.contracts.shared.Shared as shared
-use Rattle.version_book.specs.declared.trace.Naming as naming
-use Rattle.version_book.proofs.standing.Standing.TheSendSync as standing
-use Rattle.std.specs.contracts.alloc.Global as global
-use Rattle.std.specs.contracts.impls.GlobalAllocator.TheImpl as heap
-use Rattle.version_book.specs.contracts.published.PublishedAbsorb.TheImpl as absorb
-use Rattle.version_book.specs.contracts.published.Published as published
-use Rattle.version_book.specs.contracts.published.Tale as tale
-use Rattle.version_book.specs.contracts.published.TaleProtocolPublishedTrace.TheImpl as rule
-use Rattle.version_book.specs.contracts.trace.Trace as trace
-use Rattle.left_right.specs.contracts.writer.Writer as writer
-use Rattle.version_book.proofs.Sent.{press_send}
+use Rattle.book_desk.proofs.SentShelf.{shelf_send}
 
-at : (R : RattleType) → IsSend R → (x : R.Denot) → SendAt R x
-at R s x = (s.owned x, λ k. s.leaving k x)
-
-module _ (J R : RattleType) (g : naming.Ghosts J.Denot) where
-  inner_send : IsSend J → IsSend R → IsSend (inside.the_row J R g)
-  inner_send j s =
-      let O = inside.the_type J R g in
-      let W = writer.the_type published.the_row published.the_row trace.the_row tale.the_row global.the_row trace.the_row absorb.ghosts rule.ghosts heap.ghosts in
-      recorded_send_of (Struct (shape O)) _ _ O.to_one (λ d. struct_send_at (shape O) (O.to d) (at _ (words.the_send written.the_row u64 law.the_row kept.ghosts) _, (recorded_send_at (Struct (shape W)) _ W.to W.to_one press_send d.press, (at (Array (UInt w64) 4) (search sendable) _, (at R s _, (at (phantom.the_field J).row (search sendable) _, tt))))))
-
-  pub desk_send : IsSend J → IsSend R → IsSend (desk.the_row J R g)
-  desk_send j s = view_send _ _ _ _ _ (inner_send j s)
-
-  pub shelf_send : IsSend J → IsSend R → IsSend (shelf.the_row J R g)
-  shelf_send j s =
-      let O = shelf.the_type J R g in
-      recorded_send _ _ _ O.to_one (struct_send (shape O) (desk_send j s, (standing.the_field_send, tt)))
-
-  pub shared_sync : IsSend J → IsSend R → IsSync (shared.the_row J R g)
-  shared_sync j s = let h = shelf_send j s in search (sendable, crosses) depth 20
+pub shared_sync : (J R : RattleType) (g : naming.Ghosts J.Denot) → IsSend J → IsSend R → IsSync (shared.the_row J R g)
+shared_sync J R g j s = let h = shelf_send J R g j s in search (sendable, crosses) depth 20

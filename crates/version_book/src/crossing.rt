@@ -1,7 +1,7 @@
 //! Sessions, and the book under its lock, go to threads.
-use crate::session::Session;
 use crate::shared::Shared;
-use crate::trace::Naming;
+use book_history::session::Session;
+use book_history::trace::Naming;
 use std::sync::Wait;
 
 fn goes<T: Send>() {}

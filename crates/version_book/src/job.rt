@@ -1,6 +1,6 @@
 //! A tile that is handed out.
-use crate::trace::Trace;
 use arrange::tile_input::TileInput;
+use book_history::trace::Trace;
 use layer_expr::name::Name;
 
 /// A tile that is handed out, with what it is to be built from. It is no value that may be dropped:

@@ -1,25 +1,28 @@
 //! What threads share: the book under its lock, and the calls on it.
-ghost use Rattle.std.specs.Prelude.{◌≡◌, ◌⊎◌, ◌<◌, ◌≤◌, [], ◌∷◌, ◌++◌, IfOk, IfErr, IfSome, IfNone, All, length, true};
+ghost use Rattle.std.specs.Prelude.{◌≡◌, ◌⊎◌, ◌<◌, ◌≤◌, [], ◌∷◌, ◌++◌, ◌↔◌, IsTrue, IfOk, IfErr, IfSome, IfNone, All};
+ghost use Rattle.std.specs.Prelude.{length, true};
 ghost use Rattle.std.specs.Arc.{arc_value};
+ghost use mathlib.Core.List.{IsPrefix};
 ghost use Rattle.overlay_terms.specs.Histories.{commands_of, BeginsWith, newest};
 ghost use Rattle.overlay_terms.specs.Tiles.{input_of};
 ghost use Rattle.layer_book.specs.Command.{command};
 ghost use Rattle.version_core.specs.Finish.{IsPending};
-ghost use Rattle.version_book.specs.Fault.{IfGone, IsRefused, no_memory};
-ghost use Rattle.version_book.specs.Known.{seen, IsOwn};
-ghost use Rattle.version_book.specs.Logs.{entry, history_of, newest_in, no_event, IsAccepted, IsLog};
-ghost use Rattle.version_book.specs.Rules.{head_of};
-ghost use Rattle.version_book.specs.Steps.{beginners};
-ghost use Rattle.version_book.specs.Waits.{IsBuiltAt, IsSyncRefused, IsWaitRefused};
+ghost use Rattle.book_history.specs.Fault.{IfGone, IsRefused, no_memory};
+ghost use Rattle.book_history.specs.Known.{seen, IsOwn};
+ghost use Rattle.book_history.specs.Logs.{entry, history_of, newest_in, no_event, IsAccepted, IsLog};
+ghost use Rattle.book_history.specs.Rules.{head_of};
+ghost use Rattle.book_desk.specs.Steps.{beginners, HasAllOf};
+ghost use Rattle.book_desk.specs.Waits.{IsBuilding, IsBuiltAt, IsIdle, IsQuiet, IsSyncRefused, IsWaitRefused};
+ghost use Rattle.book_desk.specs.Waits.{IsWriting};
 
-use crate::desk::Desk;
-use crate::fault::{BookFault, StoreFault};
 use crate::job::Job;
-use crate::reporter::Reporter;
-use crate::session::Session;
-use crate::shelf::Shelf;
-use crate::standing::Standing;
-use crate::trace::{Head, Naming, Trace};
+use book_desk::closing::Closed;
+use book_desk::handed::HandedOut;
+use book_desk::shelf::Shelf;
+use book_history::fault::{BookFault, StoreFault};
+use book_history::reporter::Reporter;
+use book_history::session::Session;
+use book_history::trace::{Head, Naming, Trace};
 use layer_book::command::Command;
 use layer_expr::name::Name;
 use std::alloc::Global;
@@ -56,10 +59,9 @@ impl<J: Naming, R: Wait + Drop> Shared<J, R> {
         ensures err { IfErr result (λ fault. (fault ≡ no_memory) ⊎ (fault ≡ BookFault.Gone)) }
     {
         let reporter = Reporter::new(trace.again());
-        let (desk, list) = Desk::open(rt, alloc, head, trace, version, sessions)?;
-        let standing = Standing::new(alloc, store);
+        let (shelf, list) = Shelf::open(rt, alloc, head, trace, version, store, sessions)?;
         let shared = Shared {
-            shelf: Mutex::new(Some(Shelf { desk, standing })),
+            shelf: Mutex::new(Some(shelf)),
             changed: Condvar::new(),
         };
         Ok((shared, reporter, list))
@@ -78,7 +80,8 @@ impl<J: Naming, R: Wait + Drop> Shared<J, R> {
         ensures ok { IfOk result (λ n. IsAccepted me.old.session (seen me.old) (command change.now) (seen me.new) n) }
         ensures made { IfOk result (λ _. me.new.made ≡ me.old.made ++ command change.now ∷ []) }
         ensures own { IfOk result (λ _. IsOwn me.new) }
-        ensures err { IfErr result (λ fault. IfGone fault (me.new ≡ me.old) ((me.new.made ≡ me.old.made) × IsOwn me.new)) }
+        ensures err { IfErr result (λ fault. IfGone fault (me.new ≡ me.old) ((me.new.made ≡ me.old.made)
+            × IsOwn me.new)) }
         ensures refused { IfErr result (λ fault. IsRefused true (newest (seen me.new)) (command change.now) fault) }
         ensures same { (me.new.book ≡ me.old.book) × (me.new.session ≡ me.old.session) }
     {
@@ -96,16 +99,25 @@ impl<J: Naming, R: Wait + Drop> Shared<J, R> {
     /// Hands out a pending tile that is neither handed out nor marked. It waits for one; None comes at closing.
     pub fn take_job<W: Wait>(&self, rt: &W, alloc: Global) -> Result<Option<Job>, BookFault>
         ensures book { IfOk result (λ o. IfSome o (λ job. (job.trace.book ≡ J.book) × IsLog job.trace.log)) }
-        ensures input { IfOk result (λ o. IfSome o (λ job. job.input ≡ input_of (newest_in job.trace.log).layers job.name job.input.column)) }
-        ensures pending { IfOk result (λ o. IfSome o (λ job. IsPending (newest_in job.trace.log) job.name job.input.column)) }
+        ensures input { IfOk result (λ o. IfSome o
+            (λ job. job.input ≡ input_of (newest_in job.trace.log).layers job.name job.input.column)) }
+        ensures pending { IfOk result (λ o. IfSome o
+            (λ job. IsPending (newest_in job.trace.log) job.name job.input.column)) }
         ensures err { IfErr result (λ fault. fault ≡ no_memory) }
     {
         let mut guard = self
             .changed
             .wait_while(rt, self.shelf.lock(rt), |shelf| is_idle(shelf));
-        match &mut *guard {
-            Some(shelf) => shelf.take(alloc),
-            None => Ok(None),
+        let Some(shelf) = &mut *guard else {
+            return Ok(None);
+        };
+        match shelf.take(alloc) {
+            Ok(Some(handed)) => {
+                let HandedOut { name, input, trace } = handed;
+                Ok(Some(Job { name, input, trace }))
+            }
+            Ok(None) => Ok(None),
+            Err(fault) => Err(fault),
         }
     }
 
@@ -127,10 +139,16 @@ impl<J: Naming, R: Wait + Drop> Shared<J, R> {
         let Some(shelf) = guard.take() else {
             return Err((job, built, BookFault::Gone));
         };
-        let (shelf, done) = shelf.finish(alloc, job, built);
+        let (shelf, done) = shelf.finish(alloc, &job.name, &built);
         *guard = Some(shelf);
         self.changed.notify_all();
-        done
+        match done {
+            Ok(kept) => {
+                job.drop_parts();
+                Ok(kept)
+            }
+            Err(fault) => Err((job, built, fault)),
+        }
     }
 
     /// Spends a job whose tile could not be built for want of memory: the tile is marked.
@@ -138,10 +156,10 @@ impl<J: Naming, R: Wait + Drop> Shared<J, R> {
         requires { job.trace.book ≡ J.book }
     {
         let mut guard = self.shelf.lock(rt);
-        match &mut *guard {
-            Some(shelf) => shelf.give_back(job),
-            None => job.drop_parts(),
+        if let Some(shelf) = &mut *guard {
+            shelf.give_back(&job.name, job.input.column().number());
         }
+        job.drop_parts();
         self.changed.notify_all();
     }
 
@@ -157,7 +175,7 @@ impl<J: Naming, R: Wait + Drop> Shared<J, R> {
         ensures ok { IfOk result (λ n. IsBuiltAt (newest (seen me.new)) name.now n) }
         ensures own { IfOk result (λ _. IsOwn me.new) }
         ensures err { IfErr result (λ fault. IfGone fault (me.new ≡ me.old) (IsOwn me.new)) }
-        ensures refused { IfErr result (λ fault. IsWaitRefused (newest (seen me.new)) name.now fault) }
+        ensures refused { IfErr result (λ fault. IsWaitRefused true (newest (seen me.new)) name.now fault) }
         ensures same { (me.new.book ≡ me.old.book) × (me.new.session ≡ me.old.session) × (me.new.made ≡ me.old.made) }
     {
         let _number = me.number();
@@ -250,7 +268,7 @@ impl<J: Naming, R: Wait + Drop> Shared<J, R> {
         let _given = me.given();
         let mut guard = self.shelf.lock(rt);
         if let Some(shelf) = &mut *guard {
-            shelf.standing.store_failed(fault);
+            shelf.store_failed(fault);
         }
         self.changed.notify_all();
     }
@@ -259,34 +277,72 @@ impl<J: Naming, R: Wait + Drop> Shared<J, R> {
     pub fn begin_close<W: Wait>(&self, rt: &W) {
         let mut guard = self.shelf.lock(rt);
         if let Some(shelf) = &mut *guard {
-            shelf.standing.closing = true;
+            shelf.begin_close();
         }
         self.changed.notify_all();
     }
+
+    /// Ends the book once the threads that share it have returned. Were one of these tokens ahead of it, which cannot
+    /// come, it would wait for ever.
+    pub fn into_closed<W: Wait>(self, rt: &W, reporter: &Reporter, sessions: &[Session]) -> Closed
+        requires reporter { reporter.now.book ≡ J.book }
+        requires sessions { All (λ session. session.book ≡ J.book) sessions.now }
+        ensures version { arc_value result.version ≡ newest_in result.trace.log }
+        ensures log { (result.trace.book ≡ J.book) × IsLog result.trace.log }
+        ensures reporter { IsPrefix reporter.now.log result.trace.log }
+        ensures sessions { All (λ session. HasAllOf result.trace.log session) sessions.now }
+        ensures durable { All (λ entry. entry.version.durable ≤ (newest_in result.trace.log).durable) result.trace.log }
+    {
+        let Shared {
+            shelf,
+            changed: _changed,
+        } = self;
+        let Some(shelf) = shelf.into_inner() else {
+            never(rt)
+        };
+        if !shelf.has_all_of(reporter, sessions) {
+            never(rt)
+        }
+        shelf.into_closed()
+    }
 }
 
-fn is_idle<J: Naming, R: Wait + Drop>(shelf: &Option<Shelf<J, R>>) -> bool {
+// Waits for ever, for what does not come.
+fn never<W: Wait>(rt: &W) -> ! {
+    for _ in rt.forever() {}
+    unreachable!()
+}
+
+fn is_idle<J: Naming, R: Wait + Drop>(shelf: &Option<Shelf<J, R>>) -> bool
+    ensures { IfSome shelf.now (λ shelf. IsTrue result ↔ IsIdle (newest_in shelf.desk) shelf.standing) }
+{
     match shelf {
         Some(shelf) => shelf.is_idle(),
         None => false,
     }
 }
 
-fn is_building<J: Naming, R: Wait + Drop>(shelf: &Option<Shelf<J, R>>, name: &Name) -> bool {
+fn is_building<J: Naming, R: Wait + Drop>(shelf: &Option<Shelf<J, R>>, name: &Name) -> bool
+    ensures { IfSome shelf.now (λ shelf. IsTrue result ↔ IsBuilding (newest_in shelf.desk) shelf.standing name.now) }
+{
     match shelf {
         Some(shelf) => shelf.is_building(name),
         None => false,
     }
 }
 
-fn is_writing<J: Naming, R: Wait + Drop>(shelf: &Option<Shelf<J, R>>, number: u64) -> bool {
+fn is_writing<J: Naming, R: Wait + Drop>(shelf: &Option<Shelf<J, R>>, number: u64) -> bool
+    ensures { IfSome shelf.now (λ shelf. IsTrue result ↔ IsWriting (newest_in shelf.desk) shelf.standing number) }
+{
     match shelf {
         Some(shelf) => shelf.is_writing(number),
         None => false,
     }
 }
 
-fn is_quiet<J: Naming, R: Wait + Drop>(shelf: &Option<Shelf<J, R>>, given: u64) -> bool {
+fn is_quiet<J: Naming, R: Wait + Drop>(shelf: &Option<Shelf<J, R>>, given: u64) -> bool
+    ensures { IfSome shelf.now (λ shelf. IsTrue result ↔ IsQuiet shelf.standing given) }
+{
     match shelf {
         Some(shelf) => shelf.is_quiet(given),
         None => false,

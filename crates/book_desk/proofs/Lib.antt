@@ -1,0 +1,5 @@
+pub mod Beginning
+pub mod Growing
+pub mod Holding
+pub mod Marking
+pub mod SentShelf

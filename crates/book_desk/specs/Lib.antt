@@ -1,0 +1,10 @@
+pub mod Slots
+pub mod Standing
+pub mod Steps
+pub mod Waits
+pub use Rattle.book_history.specs.Fault
+pub use Rattle.book_history.specs.Known
+pub use Rattle.book_history.specs.Logs
+pub use Rattle.book_history.specs.Rules
+pub use Rattle.book_history.specs.Trails
+pub use Rattle.book_history.specs.Causes

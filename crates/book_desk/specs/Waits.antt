@@ -1,0 +1,92 @@
+-- What the waits decide by, and how they end.
+use Rattle.std.specs.Prelude.{◌≡◌, ◌⊎◌, ◌<◌, ◌≤◌, ℕ, Bool, IsTrue, true, false, List, Some, None}
+use Rattle.overlay_terms.specs.Column.{column_count}
+use Rattle.overlay_terms.specs.Layers.{Name}
+use Rattle.overlay_terms.specs.Commands.{stands_as_derived}
+use Rattle.overlay_terms.specs.Histories.{Version, tile_at}
+use Rattle.layer_book.specs.declared.fault.LayerFault.TheVariants.{OutOfMemory as NoMemory}
+use Rattle.version_core.specs.Building.{IsBuilt, wait_refusal}
+use Rattle.version_core.specs.Finish.{IsPending}
+use Rattle.version_core.specs.declared.fault.VersionFault.TheVariants.{Layer}
+use Rattle.book_history.specs.declared.fault.BookFault.{BookFault}
+use Rattle.book_history.specs.declared.fault.BookFault.TheVariants as fault
+use Rattle.book_desk.specs.Slots.{has_mark, has_slot}
+use Rattle.book_desk.specs.declared.slots.Slot.{Slot}
+use Rattle.book_desk.specs.declared.standing.Standing.{Standing}
+
+-- a tile of a layer and column can be handed out: it is pending, and it is neither handed out nor marked
+pub record IsFree (version : Version) (slots : List Slot) (name : Name) (column : ℕ) : Type 0 where
+  pub pending : IsPending version name column
+  pub there : column < column_count
+  pub free : has_slot name column slots ≡ false
+
+-- each tile of a layer that is not finished is handed out or marked
+abbrev pub AreHeld : Version → List Slot → Name → Type 0
+AreHeld version slots name =
+    (column : ℕ) → column < column_count → tile_at version.tiles name column ≡ None → has_slot name column slots ≡ true
+
+-- no tile can be handed out: each pending one is handed out or marked
+abbrev pub AllAreHeld : Version → List Slot → Type 0
+AllAreHeld version slots = (name : Name) → IsTrue (stands_as_derived version.layers name) → AreHeld version slots name
+
+-- a worker waits on: the book is open, and no tile can be handed out
+pub record IsIdle (version : Version) (standing : Standing) : Type 0 where
+  pub not_closing : standing.closing ≡ false
+  pub held : AllAreHeld version standing.slots.list.items
+
+-- a wait for the tiles of a layer goes on: tiles can be asked for, one is pending, none is marked, and the book is open
+pub record IsBuilding (version : Version) (standing : Standing) (name : Name) : Type 0 where
+  pub derived : wait_refusal version name ≡ None
+  pub pending : ¬ (IsBuilt version name)
+  pub unmarked : has_mark name standing.slots.list.items ≡ false
+  pub not_closing : standing.closing ≡ false
+
+-- a wait for a durable number goes on: there is a store, it is not so far, it told no fault, and the book is open
+pub record IsWriting (version : Version) (standing : Standing) (number : ℕ) : Type 0 where
+  pub store : standing.store ≡ true
+  pub behind : version.durable < number
+  pub sound : standing.fault ≡ None
+  pub not_closing : standing.closing ≡ false
+
+-- the reporter waits on: the book is open, and there are no news for it, or it rests
+pub record IsQuiet (standing : Standing) (given : ℕ) : Type 0 where
+  pub not_closing : standing.closing ≡ false
+  pub nothing : (standing.news ≡ given) ⊎ (standing.resting ≡ true)
+
+-- the layer has tiles, all of them are finished, and the version has this number
+pub record IsBuiltAt (version : Version) (name : Name) (number : ℕ) : Type 0 where
+  pub derived : wait_refusal version name ≡ None
+  pub built : IsBuilt version name
+  pub numbered : version.number ≡ number
+
+-- why a wait for the tiles of a layer is refused: no tiles can be asked for; or some are not finished, and memory ran
+-- out for one, or the book closes, where it may; or the book is behind
+abbrev pub IsWaitRefused : Bool → Version → Name → BookFault → Type 0
+IsWaitRefused closing version name (fault.Version refused) =
+    (wait_refusal version name ≡ Some refused)
+    ⊎ ((refused ≡ Layer NoMemory) × (wait_refusal version name ≡ None) × ¬ (IsBuilt version name))
+IsWaitRefused closing version name fault.Closing =
+    IsTrue closing × (wait_refusal version name ≡ None) × ¬ (IsBuilt version name)
+IsWaitRefused closing version name fault.Gone = Unit {0}
+IsWaitRefused closing version name fault.NoStore = ⊥
+IsWaitRefused closing version name (fault.Store refused) = ⊥
+
+-- why a wait for a durable number is refused: there is no store, the store told a fault, or the book closes or is
+-- behind
+abbrev pub IsSyncRefused : BookFault → Type 0
+IsSyncRefused (fault.Version refused) = ⊥
+IsSyncRefused fault.Closing = Unit {0}
+IsSyncRefused fault.Gone = Unit {0}
+IsSyncRefused fault.NoStore = Unit {0}
+IsSyncRefused (fault.Store refused) = Unit {0}
+
+-- the same under the lock: there is no store; or the number is not durable, and the store told this fault, or it told
+-- none and the book closes
+abbrev pub IsSyncRefusedAt : Standing → Version → ℕ → BookFault → Type 0
+IsSyncRefusedAt standing version number (fault.Version refused) = ⊥
+IsSyncRefusedAt standing version number fault.Closing =
+    (standing.store ≡ true) × (version.durable < number) × (standing.fault ≡ None) × (standing.closing ≡ true)
+IsSyncRefusedAt standing version number fault.Gone = Unit {0}
+IsSyncRefusedAt standing version number fault.NoStore = standing.store ≡ false
+IsSyncRefusedAt standing version number (fault.Store refused) =
+    (standing.store ≡ true) × (version.durable < number) × (standing.fault ≡ Some refused)

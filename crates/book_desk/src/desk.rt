@@ -1,0 +1,320 @@
+//! The log under the lock, which is what is published.
+ghost use Rattle.std.specs.Prelude.{ℕ, ◌≡◌, ◌+◌, ◌^◌, ◌<◌, ◌≤◌, [], ◌∷◌, ◌++◌, ◌⊎◌, length, slice_index, IfOk, IfErr};
+ghost use Rattle.std.specs.Prelude.{IfSome, IsTrue, All, false};
+ghost use Rattle.std.specs.Arc.{arc_value};
+ghost use Rattle.std.specs.List.{cons_option};
+ghost use mathlib.Core.List.{IsPrefix};
+ghost use Rattle.left_right.specs.Sides.{view};
+ghost use Rattle.overlay_terms.specs.Histories.{accepted, commands_of, own_command, FollowsCommand, Follows};
+ghost use Rattle.layer_book.specs.Command.{command};
+ghost use Rattle.book_history.specs.Causes.{event_of};
+ghost use Rattle.book_history.specs.Fault.{IsRefused, IfGone, no_memory};
+ghost use Rattle.book_history.specs.Logs.{entry, no_event, newest_in, IsLog};
+ghost use Rattle.book_history.specs.Rules.{head_of};
+ghost use Rattle.book_desk.specs.Steps.{HasLooked, HasSeat, IsAcceptedIn, beginners};
+
+use crate::closing::Closed;
+use book_history::entry::Cause;
+use book_history::fault::BookFault;
+use book_history::press::{first_press, new_place, put_out};
+use book_history::published::{Press, Published};
+use book_history::session::Session;
+use book_history::trace::{Head, Naming, Trace};
+use layer_book::command::Command;
+use layer_book::fault::LayerFault;
+use std::alloc::Global;
+use std::marker::{Model, PhantomData};
+use std::sync::{Arc, Wait};
+use version_core::fault::VersionFault;
+use version_core::version::Version;
+
+const MOST: u64 = 1 << 60;
+
+/// The fault where memory runs out.
+pub(crate) const NO_MEMORY: BookFault = BookFault::Version(VersionFault::Layer(
+    LayerFault::OutOfMemory,
+));
+
+/// What lies under the lock: the log that is published, and how many commands of each session it has.
+pub struct Desk<J: Naming, R: Wait + Drop> {
+    head: Head,
+    press: Press,
+    counts: [u64; 4],
+    rt: R,
+    of: PhantomData<J>,
+}
+
+impl<J: Naming, R: Wait + Drop> Model for Desk<J, R> {
+    ghost use Rattle.std.specs.Prelude.{◌≡◌, ◌<◌, ℕ, List, [], length, drop, slice_index};
+    ghost use Rattle.std.specs.Coded.{coded_list};
+    ghost use Rattle.overlay_terms.specs.Histories as terms;
+    ghost use Rattle.overlay_terms.specs.Histories.{commands_of};
+    ghost use Rattle.book_history.specs.Codes.{entry_code};
+    ghost use Rattle.book_history.specs.Rules.{head_of};
+
+    ghost Value = { List terms.Entry };
+
+    ghost coded = { coded_list entry_code };
+
+    ghost view = { λ d. d.press.desk.shown.value.trace.log };
+
+    ghost invariant = { λ d. (d.head ≡ head_of J.book) × (d.press.desk.shown.value.trace.book ≡ J.book)
+        × (drop d.press.behind d.press.log.items ≡ [])
+        × ((by : ℕ) → by < 4 → slice_index d.counts by ≡ length (commands_of by d.press.desk.shown.value.trace.log)) };
+}
+
+impl<J: Naming, R: Wait + Drop> Desk<J, R> {
+    /// A desk over a log of one version, and sessions that have seen just that.
+    pub(crate) fn open(
+        rt: R,
+        alloc: Global,
+        head: Head,
+        trace: Trace,
+        version: Version,
+        sessions: usize,
+    ) -> Result<(Desk<J, R>, Vec<Session>), BookFault>
+        requires head { head ≡ head_of J.book }
+        requires trace { (trace.book ≡ J.book) × (trace.log ≡ entry no_event version ∷ []) }
+        requires sessions { (0 < sessions) × (sessions ≤ 4) }
+        ensures desk { IfOk result (λ r. r.0 ≡ trace.log) }
+        ensures sessions { IfOk result (λ r. r.1.items ≡ beginners trace sessions) }
+        ensures err { IfErr result (λ fault. (fault ≡ no_memory) ⊎ (fault ≡ BookFault.Gone)) }
+    {
+        let first = trace.again();
+        let number = version.number();
+        let Ok(version) = Arc::new(alloc, version) else {
+            return Err(NO_MEMORY);
+        };
+        let begun = Published { version, trace };
+        let Some(press) = first_press(&rt, alloc, begun, sessions + 1) else {
+            return Err(NO_MEMORY);
+        };
+        let mut press = press;
+        let list = beginners(alloc, &mut press, &first, number, sessions);
+        let desk = Desk {
+            head,
+            press,
+            counts: [0; 4],
+            rt,
+            of: PhantomData,
+        };
+        Ok((desk, list?))
+    }
+
+    /// What is published last.
+    pub fn last(&self) -> &Published
+        ensures trace { result.now.trace ≡ record { book = J.book; log = self.now } }
+        ensures version { arc_value result.now.version ≡ newest_in self.now }
+        ensures log { IsLog self.now }
+    {
+        let last = self.press.published();
+        let _ = last.trace.at();
+        last
+    }
+
+    /// Whether it has all that a session has seen, and just the commands that it made.
+    pub(crate) fn is_level(&self, me: &Session) -> bool
+        requires { me.now.book ≡ J.book }
+        ensures longer { IsTrue result → IsPrefix me.now.log self.now }
+        ensures own { IsTrue result → commands_of me.now.session self.now ≡ me.now.made }
+        ensures seat { IsTrue result → me.now.session < 4 }
+    {
+        let by = me.number();
+        by < 4 && me.is_level(&self.press.published().trace, self.counts[by as usize])
+    }
+
+    /// The number of the newest version.
+    pub(crate) fn number(&self) -> u64
+        ensures { result ≡ (newest_in self.now).number }
+    {
+        self.press.published().version.number()
+    }
+
+    /// A session sees all of it. It does not where that would be less than it has seen, or its commands are others.
+    pub(crate) fn show(&self, me: &mut Session) -> Result<u64, BookFault>
+        requires { me.old.book ≡ J.book }
+        ensures ok { IfOk result (λ n. HasLooked me.old self.now me.new × ((newest_in self.now).number ≡ n)) }
+        ensures err { IfErr result (λ fault. (fault ≡ BookFault.Gone) × (me.new ≡ me.old)) }
+    {
+        if !self.is_level(me) {
+            return Err(BookFault::Gone);
+        }
+        let last = self.last();
+        let number = last.version.number();
+        me.move_on(&last.trace, number);
+        Ok(number)
+    }
+
+    /// Adds an entry that follows the newest version. The desk comes back as it was where that cannot be.
+    pub(crate) fn add(
+        self,
+        cause: Cause<'_>,
+        version: Arc<Version, Global>,
+    ) -> Result<Desk<J, R>, Desk<J, R>>
+        requires follows { Follows (newest_in self) (event_of cause) (arc_value version) }
+        requires seat { HasSeat cause }
+        ensures ok { IfOk result (λ desk. desk ≡ self ++ entry (event_of cause.entry) (arc_value version) ∷ []) }
+        ensures room { IfOk result (λ _. length self < 2 ^ 62) }
+        ensures err { IfErr result (λ desk. desk ≡ self) }
+    {
+        let Desk {
+            head,
+            press,
+            counts,
+            rt,
+            of,
+        } = self;
+        let mut trace = press.published().trace.again();
+        if trace.at() >= MOST || !trace.add(&head, cause, &version) {
+            return Err(Desk {
+                head,
+                press,
+                counts,
+                rt,
+                of,
+            });
+        }
+        Ok(Desk {
+            head,
+            press: put_out(&rt, press, Published { version, trace }),
+            counts: counted(counts, cause),
+            rt,
+            of,
+        })
+    }
+
+    /// The newest version and the log. It waits for the readers.
+    pub(crate) fn into_closed(self) -> Closed
+        ensures version { arc_value result.version ≡ newest_in result.trace.log }
+        ensures log { (result.trace ≡ record { book = J.book; log = self }) × IsLog result.trace.log }
+        ensures durable { All (λ entry. entry.version.durable ≤ (newest_in result.trace.log).durable) result.trace.log }
+    {
+        let Desk {
+            head: _head,
+            press,
+            counts: _,
+            rt,
+            of: _,
+        } = self;
+        let last = Box::into_inner(press.take(&rt));
+        let (version, trace) = last.into_parts();
+        let _at = trace.at();
+        Closed { version, trace }
+    }
+
+    /// Accepts a command of a session: the one entry that this adds, or nothing.
+    pub(crate) fn submit(
+        self,
+        alloc: Global,
+        me: &mut Session,
+        change: &Command,
+    ) -> (Desk<J, R>, Result<u64, BookFault>)
+        requires book { me.old.book ≡ J.book }
+        ensures ok { IfOk result.1 (λ n. IsAcceptedIn self me.old.session (command change.now) result.0 n) }
+        ensures seen { IfOk result.1 (λ _. IsPrefix me.old.log self × (me.new.log ≡ result.0)) }
+        ensures made { IfOk result.1 (λ _. (me.new.made ≡ me.old.made ++ command change.now ∷ [])
+            × (commands_of me.old.session result.0 ≡ me.new.made) × IsLog result.0) }
+        ensures same { (me.new.book ≡ me.old.book) × (me.new.session ≡ me.old.session) }
+        ensures err { IfErr result.1 (λ fault. (result.0 ≡ self)
+            × IfGone fault (me.new ≡ me.old) (HasLooked me.old self me.new)) }
+        ensures refused { IfErr result.1 (λ fault. IsRefused false (newest_in self) (command change.now) fault) }
+    {
+        if !self.is_level(me) {
+            return (self, Err(BookFault::Gone));
+        }
+        let version = match next_version(alloc, &self.last().version, change) {
+            Ok(version) => version,
+            Err(fault) => {
+                return match self.show(me) {
+                    Ok(_) => (self, Err(fault)),
+                    Err(gone) => (self, Err(gone)),
+                };
+            }
+        };
+        let by = me.number();
+        let desk = match self.add(Cause::Accepted(by, change), version) {
+            Ok(desk) => desk,
+            Err(desk) => return (desk, Err(BookFault::Gone)),
+        };
+        let last = desk.last();
+        let accepted = last.version.number();
+        me.made_one(&last.trace, accepted);
+        (desk, Ok(accepted))
+    }
+}
+
+/// It waits for the readers.
+impl<J: Naming, R: Wait + Drop> Drop for Desk<J, R> {
+    fn drop(self) {
+        let Self {
+            head: _head,
+            press,
+            counts: _,
+            rt,
+            of: _,
+        } = self;
+        drop(press.take(&rt));
+    }
+}
+
+// So many sessions that have seen what the press knows.
+fn beginners(
+    alloc: Global,
+    press: &mut Press,
+    first: &Trace,
+    newest: u64,
+    sessions: usize,
+) -> Result<Vec<Session>, BookFault>
+    requires known { view press.old.desk.place ≡ first.now }
+    requires newest { (newest_in first.now.log).number ≡ newest }
+    ensures kept { (press.new.desk.shown ≡ press.old.desk.shown) × (press.new.log ≡ press.old.log)
+        × (press.new.behind ≡ press.old.behind) }
+    ensures given { IfOk result (λ list. list.items ≡ beginners first.now sessions) }
+    ensures err { IfErr result (λ fault. (fault ≡ no_memory) ⊎ (fault ≡ BookFault.Gone)) }
+{
+    let mut list = Vec::new(alloc);
+    for number in 0..sessions {
+        let Some(place) = new_place(press) else {
+            return Err(BookFault::Gone);
+        };
+        let session = Session::new(number as u64, newest, first.again(), place);
+        if list.push(session).is_err() {
+            return Err(NO_MEMORY);
+        }
+    }
+    Ok(list)
+}
+
+// How many commands of each session there are with one more entry.
+fn counted(counts: [u64; 4], cause: Cause<'_>) -> [u64; 4]
+    requires seat { HasSeat cause }
+    requires room { (k : ℕ) → k < 4 → slice_index counts k < 2 ^ 62 }
+    ensures { (k : ℕ) → k < 4
+        → slice_index result k ≡ slice_index counts k + length (cons_option (own_command k (event_of cause.entry)) []) }
+{
+    let mut counts = counts;
+    if let Cause::Accepted(by, _) = cause {
+        counts[by as usize] += 1;
+    }
+    counts
+}
+
+// The version after a command.
+#[tactic(auto, using(book_history::proofs::Gone::no_reason))]
+fn next_version(
+    alloc: Global,
+    now: &Version,
+    change: &Command,
+) -> Result<Arc<Version, Global>, BookFault>
+    ensures ok { IfOk result (λ v. FollowsCommand now.now (command change.now) (arc_value v)) }
+    ensures err { IfErr result (λ fault. IsRefused false now.now (command change.now) fault) }
+    ensures there { IfErr result (λ fault. IfGone fault ⊥ (Unit {0})) }
+{
+    match now.submit(alloc, change) {
+        Ok(next) => match Arc::new(alloc, next) {
+            Ok(version) => Ok(version),
+            Err(_) => Err(NO_MEMORY),
+        },
+        Err(fault) => Err(BookFault::Version(fault)),
+    }
+}

@@ -1,0 +1,139 @@
+//! The book under its lock: the log, and where the book stands beside it.
+ghost use Rattle.std.specs.Prelude.{◌≡◌, ◌⊎◌, [], ◌∷◌, ◌++◌, ◌<◌, ◌≤◌, IfOk, IfErr};
+ghost use mathlib.Core.List.{IsPrefix};
+ghost use Rattle.overlay_terms.specs.Histories.{accepted, commands_of, FollowsCommand};
+ghost use Rattle.layer_book.specs.Command.{command};
+ghost use Rattle.book_history.specs.Fault.{IfGone, IsRefused, no_memory};
+ghost use Rattle.book_history.specs.Logs.{entry, newest_in, no_event, IsLog};
+ghost use Rattle.book_history.specs.Rules.{head_of};
+ghost use Rattle.book_desk.specs.Slots.{given_back};
+ghost use Rattle.book_desk.specs.Standing.{HasSlots, IsAfterClosing, IsAfterCommand, IsAfterFailure, IsAfterFinish};
+ghost use Rattle.book_desk.specs.Standing.{IsFresh};
+ghost use Rattle.book_desk.specs.Steps.{beginners, HasLooked, IsAcceptedIn, IsFinishedIn};
+
+use crate::desk::Desk;
+use crate::standing::Standing;
+use book_history::fault::{BookFault, StoreFault};
+use book_history::session::Session;
+use book_history::trace::{Head, Naming, Trace};
+use layer_book::command::Command;
+use layer_expr::name::Name;
+use std::alloc::Global;
+use std::sync::Wait;
+use tile_build::built::Built;
+use version_core::version::Version;
+
+/// What lies under the lock.
+#[derive(Drop)]
+pub struct Shelf<J: Naming, R: Wait + Drop> {
+    pub desk: Desk<J, R>,
+    pub standing: Standing,
+}
+
+impl<J: Naming, R: Wait + Drop> Shelf<J, R> {
+    /// A book over a log of one version, and sessions that have seen just that.
+    pub fn open(
+        rt: R,
+        alloc: Global,
+        head: Head,
+        trace: Trace,
+        version: Version,
+        store: bool,
+        sessions: usize,
+    ) -> Result<(Shelf<J, R>, Vec<Session>), BookFault>
+        requires head { head ≡ head_of J.book }
+        requires trace { (trace.book ≡ J.book) × (trace.log ≡ entry no_event version ∷ []) }
+        requires sessions { (0 < sessions) × (sessions ≤ 4) }
+        ensures log { IfOk result (λ r. r.0.desk ≡ trace.log) }
+        ensures standing { IfOk result (λ r. IsFresh store r.0.standing) }
+        ensures sessions { IfOk result (λ r. r.1.items ≡ beginners trace sessions) }
+        ensures err { IfErr result (λ fault. (fault ≡ no_memory) ⊎ (fault ≡ BookFault.Gone)) }
+    {
+        let (desk, list) = Desk::open(rt, alloc, head, trace, version, sessions)?;
+        let standing = Standing::new(alloc, store);
+        Ok((Shelf { desk, standing }, list))
+    }
+
+    /// Accepts a command of a session: one entry, or none.
+    pub fn submit(
+        self,
+        alloc: Global,
+        me: &mut Session,
+        change: &Command,
+    ) -> (Shelf<J, R>, Result<u64, BookFault>)
+        requires book { me.old.book ≡ J.book }
+        ensures ok { IfOk result.1 (λ n. IsAcceptedIn self.desk me.old.session (command change.now) result.0.desk n) }
+        ensures accepted { IfOk result.1 (λ _. IsAfterCommand self.standing result.0.standing) }
+        ensures seen { IfOk result.1 (λ _. IsPrefix me.old.log self.desk × (me.new.log ≡ result.0.desk)) }
+        ensures made { IfOk result.1 (λ _. (me.new.made ≡ me.old.made ++ command change.now ∷ [])
+            × (commands_of me.old.session result.0.desk ≡ me.new.made) × IsLog result.0.desk) }
+        ensures same { (me.new.book ≡ me.old.book) × (me.new.session ≡ me.old.session) }
+        ensures err { IfErr result.1 (λ fault. (result.0.desk ≡ self.desk) × (result.0.standing ≡ self.standing)
+            × IfGone fault (me.new ≡ me.old) (HasLooked me.old self.desk me.new)) }
+        ensures refused { IfErr result.1
+            (λ fault. IsRefused self.standing.closing (newest_in self.desk) (command change.now) fault) }
+    {
+        let Shelf { desk, standing } = self;
+        if standing.closing {
+            let refused = match desk.show(me) {
+                Ok(_) => BookFault::Closing,
+                Err(gone) => gone,
+            };
+            return (Shelf { desk, standing }, Err(refused));
+        }
+        let mut standing = standing;
+        let (desk, done) = desk.submit(alloc, me, change);
+        if done.is_ok() {
+            standing.command_accepted();
+        }
+        (Shelf { desk, standing }, done)
+    }
+
+    /// Keeps a built tile of a layer where it is awaited, and says whether it was: one entry, or none. The tile is
+    /// not handed out any more.
+    pub fn finish(
+        self,
+        alloc: Global,
+        name: &Name,
+        built: &Built,
+    ) -> (Shelf<J, R>, Result<bool, BookFault>)
+        ensures log { IfOk result.1
+            (λ is_kept. IsFinishedIn self.desk name.now built.now.0 built.now.1 is_kept result.0.desk) }
+        ensures standing { IfOk result.1
+            (λ is_kept. IsAfterFinish self.standing name.now built.now.0.column is_kept result.0.standing) }
+        ensures err { IfErr result.1 (λ fault. (result.0.desk ≡ self.desk) × (result.0.standing ≡ self.standing)) }
+        ensures refused { IfErr result.1 (λ fault. (fault ≡ no_memory) ⊎ (fault ≡ BookFault.Gone)) }
+    {
+        let Shelf { desk, standing } = self;
+        let (desk, done) = desk.keep(alloc, name, built);
+        let mut standing = standing;
+        if let Ok(kept) = done {
+            standing.job_finished(name, built.input().column().number(), kept);
+        }
+        (Shelf { desk, standing }, done)
+    }
+
+    /// Marks a tile that was handed out and could not be built for want of memory.
+    pub fn give_back(&mut self, name: &Name, column: u8)
+        ensures log { self.new.desk ≡ self.old.desk }
+        ensures standing { HasSlots self.old.standing (given_back name.now column self.old.standing.slots.list.items) self.new.standing }
+    {
+        self.standing.give_back(name, column);
+    }
+
+    /// The store told a fault.
+    pub fn store_failed(&mut self, fault: StoreFault)
+        ensures log { self.new.desk ≡ self.old.desk }
+        ensures standing { IsAfterFailure self.old.standing fault self.new.standing }
+    {
+        self.standing.store_failed(fault);
+    }
+
+    /// The book closes from now on.
+    pub fn begin_close(&mut self)
+        ensures log { self.new.desk ≡ self.old.desk }
+        ensures standing { IsAfterClosing self.old.standing self.new.standing }
+    {
+        self.standing.begin_close();
+    }
+}

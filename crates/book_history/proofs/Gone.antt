@@ -1,0 +1,25 @@
+-- What a fault says, told from its cases.
+use Rattle.std.proofs.Common.{◌≡◌, ap, Option, None}
+use Rattle.std.specs.Option.{option_map}
+use Rattle.book_history.specs.Fault.{IfGone}
+use Rattle.book_history.specs.declared.fault.BookFault.{BookFault}
+use Rattle.book_history.specs.declared.fault.BookFault.TheVariants as fault
+
+-- where there is no refusal there is no fault that reports it
+pub no_reason : {A B : Type 0} (f : A → B) (o : Option A) → o ≡ None → option_map f o ≡ None
+no_reason f o none = ap (option_map f) none
+
+-- one of two facts, whatever the fault is
+pub gone_or : (f : BookFault) {A B C : Type 0} → (A → C) → (B → C) → IfGone f A B → C
+gone_or (fault.Version r) g h x = h x
+gone_or fault.Closing g h x = h x
+gone_or fault.Gone g h x = g x
+gone_or fault.NoStore g h x = h x
+gone_or (fault.Store r) g h x = h x
+
+pub gone_map : (f : BookFault) {A B C D : Type 0} → (A → C) → (B → D) → IfGone f A B → IfGone f C D
+gone_map (fault.Version r) g h x = h x
+gone_map fault.Closing g h x = h x
+gone_map fault.Gone g h x = g x
+gone_map fault.NoStore g h x = h x
+gone_map (fault.Store r) g h x = h x

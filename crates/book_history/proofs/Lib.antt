@@ -1,0 +1,7 @@
+pub mod Adding
+pub mod Chains
+pub mod Fronts
+pub mod Gone
+pub mod Owned
+pub mod Sent
+pub mod Trails

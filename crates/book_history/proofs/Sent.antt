@@ -1,0 +1,78 @@
+-- What may go from thread to thread.
+use denote.Param.Send.{IsSend, IsSync, recorded_send, recorded_sync, struct_send, struct_sync, sendable}
+use denote.Struct.Declared.{shape}
+use Rattle.std.proofs.Crossing.{crosses, frees, send, sync, Arc-send, Arc-sync}
+use Rattle.std.specs.contracts.alloc.Global as global
+use Rattle.std.specs.contracts.impls.GlobalAllocator.TheImpl as heap
+use Rattle.indexmap.proofs.map.IndexMap.TheSendSync as map
+use Rattle.indexmap.proofs.columns.Columns.TheSendSync as columns
+use Rattle.indexmap.proofs.index_table.IndexTable.TheSendSync as table
+use Rattle.std.proofs.hash.BuildHasherDefault.TheSendSync as build
+use Rattle.std.proofs.hash.FoldHasher.TheSendSync as fold
+use Rattle.std.proofs.rt.Memory.TheSendSync as memory
+use Rattle.std.proofs.alloc.Global.TheSendSync as globals
+use Rattle.layer_expr.proofs.expr.Operation.TheSendSync as operation
+use Rattle.layer_expr.proofs.name.Name.TheSendSync as names
+use Rattle.plane_base.proofs.base_layer.BaseLayer.TheSendSync as bases
+use Rattle.layer_expr.proofs.expr.Node.TheLaws.TheKnot.{crosses as node_crosses}
+use Rattle.layer_book.specs.contracts.layers.Layers as layers
+use Rattle.layer_book.specs.contracts.layer.Layer as layer
+use Rattle.layer_expr.specs.contracts.expr.Expr as expr
+use Rattle.version_core.specs.contracts.version.Version as version
+use Rattle.version_core.proofs.tiles.FinishedTile.TheSendSync as finished
+use Rattle.book_history.specs.contracts.session.Session as session
+use Rattle.book_history.specs.contracts.published.PublishedAbsorb.TheImpl as absorb
+use Rattle.book_history.specs.contracts.published.Published as published
+use Rattle.book_history.specs.contracts.published.Tale as tale
+use Rattle.book_history.specs.contracts.published.TaleProtocolPublishedTrace.TheImpl as rule
+use Rattle.book_history.specs.contracts.trace.Trace as trace
+use Rattle.book_history.proofs.trace.Trace.TheSendSync as traces
+use Rattle.left_right.specs.contracts.reader.Reader as reader
+use Rattle.left_right.specs.contracts.writer.Writer as writer
+use Rattle.left_right.proofs.reader.Reader.TheSendSync as readers
+use Rattle.left_right.proofs.writer.Writer.TheSendSync as writers
+
+ruleset all = (sendable, crosses, node_crosses, map.the_send, map.the_sync, columns.the_send, columns.the_sync, table.the_send, table.the_sync, build.the_send, build.the_sync, fold.the_send, fold.the_sync, memory.the_send, memory.the_sync, globals.the_send, globals.the_sync, operation.the_send, operation.the_sync, names.the_send, names.the_sync, bases.the_send, bases.the_sync)
+
+pub expr_send : IsSend expr.the_row
+expr_send = search all depth 20
+
+pub expr_sync : IsSync expr.the_row
+expr_sync = search all depth 20
+
+pub layer_send : IsSend layer.the_row
+layer_send = search (sendable, crosses, bases.the_send, bases.the_sync, expr_send, expr_sync) depth 20
+
+pub layer_sync : IsSync layer.the_row
+layer_sync = search (sendable, crosses, bases.the_send, bases.the_sync, expr_send, expr_sync) depth 20
+
+pub layers_send : IsSend layers.the_row
+layers_send = search (all, layer_send) depth 20
+
+pub layers_sync : IsSync layers.the_row
+layers_sync = search (all, layer_sync) depth 20
+
+pub version_send : IsSend version.the_row
+version_send = search (all, layers_send, finished.the_send) depth 20
+
+pub version_sync : IsSync version.the_row
+version_sync = search (all, layers_sync, finished.the_sync) depth 20
+
+pub published_sync : IsSync published.the_row
+published_sync =
+    let O = published.the_type in
+    recorded_sync _ _ _ O.to_one (struct_sync (shape O) (Arc-sync version.the_row version_send version_sync, (traces.the_sync, tt)))
+
+pub published_send : IsSend published.the_row
+published_send =
+    let O = published.the_type in
+    recorded_send _ _ _ O.to_one (struct_send (shape O) (Arc-send version.the_row version_send version_sync, (traces.the_send, tt)))
+
+pub place_send : IsSend (reader.the_row published.the_row trace.the_row tale.the_row global.the_row rule.ghosts heap.ghosts)
+place_send = readers.the_send published.the_row trace.the_row tale.the_row global.the_row rule.ghosts heap.ghosts send published_sync sync frees
+
+pub press_send : IsSend (writer.the_row published.the_row published.the_row trace.the_row tale.the_row global.the_row trace.the_row absorb.ghosts rule.ghosts heap.ghosts)
+press_send = writers.the_send published.the_row published.the_row trace.the_row tale.the_row global.the_row trace.the_row absorb.ghosts rule.ghosts heap.ghosts published_send published_send send published_sync sync frees
+
+pub session_send : IsSend session.the_row
+session_send = search (sendable, crosses, traces.the_send, place_send) depth 20

@@ -1,0 +1,68 @@
+-- A step that only adds to the published log keeps the rule.
+use Rattle.std.proofs.Common.{◌≡◌, ℕ, ◌<◌, ◌≤◌, ◌≢◌, List, [], ◌∷◌, ◌++◌, length, set, refl, sym, ◌∙◌, subst, ⊎_elim, arith}
+use mathlib.Core.Option.{some}
+use mathlib.Core.List.{IsPrefix}
+use lib.ListN.{get_elem?}
+use Rattle.crossbeam_utils.specs.Register.{Admits, TurnsAt, Forks, Merges}
+use Rattle.atomic_table.proofs.Lists.{at_set, at_snoc, set_again}
+use Rattle.logbook.specs.Pages.{Book}
+use Rattle.overlay_terms.specs.Histories.{Entry}
+use Rattle.book_history.specs.Trails.{Trail, newcomer, Within, AllWithin, Begins, IsOf}
+use Rattle.book_history.proofs.Fronts.{prefix_self, prefix_trans, prefix_length}
+
+pub within_self : (t : Trail) → Within t t
+within_self t = ((λ _. refl), prefix_self t.log)
+
+pub within_longer : (v t u : Trail) → Within v t → Begins t u → Within v u
+within_longer v t u p q = ((λ some_there. p.0 some_there ∙ q.1), prefix_trans v.log t.log u.log p.1 q.2)
+
+pub begins_within : (v t u : Trail) → Begins v t → Within t u → Begins v u
+begins_within v t u p q =
+    let long : 0 < length t.log = let le = prefix_length v.log t.log p.2 in let some_there = p.0 in omega arith in
+    (p.0, p.1 ∙ q.0 long, prefix_trans v.log t.log u.log p.2 q.1)
+
+pub begins_self : (v : Trail) → 0 < length v.log → Begins v v
+begins_self v some_there = (some_there, refl, prefix_self v.log)
+
+pub begins_same : (v t : Trail) → v ≡ t → 0 < length v.log → Begins v t
+begins_same v t same some_there = subst (λ (u : Trail). Begins v u) same (begins_self v some_there)
+
+pub is_of_begins : (v t : Trail) → Begins v t → IsOf v.book t
+is_of_begins v t p = let le = prefix_length v.log t.log p.2 in let some_there = p.0 in (omega arith, sym p.1)
+
+module _ {T : Type 0} (trail : T → Trail) where
+  pub admits : Admits (λ (p : T). AllWithin (trail p)) newcomer
+  admits x views h seat v at = ⊎_elim (h seat v) (λ (e : newcomer ≡ v). subst (λ (z : Trail). Within z (trail x)) e ((λ none. absurd (omega arith)), ((trail x).log, refl))) (at_snoc views newcomer v seat at)
+
+  pub looks : (seat : ℕ) (v : Trail) (x : T) → TurnsAt (λ (p : T). AllWithin (trail p)) seat v x x (λ v x y w. Within v (trail x) × (w ≡ trail y))
+  looks seat v x views h at = (
+    trail x,
+    (λ j u e. ⊎_elim
+        (λ (t : (j ≡ seat) × (trail x ≡ u)). subst (λ (z : Trail). Within z (trail x)) t.1 (within_self (trail x)))
+        (λ (t : (j ≢ seat) × (get_elem? views j ≡ some u)). h j u t.1)
+        (at_set views seat j (trail x) u e)),
+    (h seat v at, refl),
+  )
+
+  pub grows : (seat : ℕ) (v : Trail) (x y : T) → Begins (trail x) (trail y)
+      → TurnsAt (λ (p : T). AllWithin (trail p)) seat v x y (λ v x y w. Within v (trail x) × (w ≡ trail y))
+  grows seat v x y up views h at = (
+    trail y,
+    (λ j u e. ⊎_elim
+        (λ (t : (j ≡ seat) × (trail y ≡ u)). subst (λ (z : Trail). Within z (trail y)) t.1 (within_self (trail y)))
+        (λ (t : (j ≢ seat) × (get_elem? views j ≡ some u)). within_longer u (trail x) (trail y) (h j u t.1) up)
+        (at_set views seat j (trail y) u e)),
+    (h seat v at, refl),
+  )
+
+  pub forks : (seat : ℕ) (v : Trail) → Forks (λ (p : T). AllWithin (trail p)) seat v v v
+  forks seat v x views h at j u e = ⊎_elim (λ was. h j u (subst (λ l. get_elem? l j ≡ some u) (set_again views seat v at) was))
+      (λ (same : v ≡ u). subst (λ (z : Trail). Within z (trail x)) same (h seat v at)) (at_snoc (set views seat v) v u j e)
+
+  set_within : (x : T) (views : List Trail) (seat : ℕ) (v : Trail) → AllWithin (trail x) views → Within v (trail x) → AllWithin (trail x) (set views seat v)
+  set_within x views seat v h low j u e = ⊎_elim (λ (t : (j ≡ seat) × (v ≡ u)). subst (λ (z : Trail). Within z (trail x)) t.1 low) (λ (t : (j ≢ seat) × (get_elem? views j ≡ some u)). h j u t.1) (at_set views seat j v u e)
+
+  pub merges : (seat : ℕ) (v : Trail) (other : ℕ) (w : Trail) → Merges (λ (p : T). AllWithin (trail p)) seat v other w w newcomer
+  merges seat v other w x views h at apart there =
+      let b : Within w (trail x) = ⊎_elim (λ (t : (other ≡ seat) × (w ≡ w)). absurd (apart t.0)) (λ (t : (other ≢ seat) × (get_elem? views other ≡ some w)). h other w t.1) (at_set views seat other w w there) in
+      set_within x (set views seat w) other newcomer (set_within x views seat w h b) ((λ none. absurd (omega arith)), ((trail x).log, refl))

@@ -1,0 +1,75 @@
+-- The faults of the book: their numbers and texts, and what each says.
+use Rattle.std.specs.Prelude.{ℕ, Bool, true, false, IsTrue, List, codes}
+use Rattle.std.specs.Option.{option_map}
+use Rattle.overlay_terms.specs.Commands.{Command, refusal_at}
+use Rattle.layer_book.specs.Fault.{RefusedBy}
+use Rattle.overlay_terms.specs.Histories.{Version}
+use Rattle.layer_book.specs.declared.fault.LayerFault.TheVariants.{OutOfMemory as NoMemory}
+use Rattle.version_core.specs.Fault as version_fault
+use Rattle.version_core.specs.declared.fault.VersionFault.TheVariants.{Layer}
+use Rattle.book_history.specs.declared.fault.StoreFault.{StoreFault}
+use Rattle.book_history.specs.declared.fault.StoreFault.TheVariants.{Device, Full, Failed, SequenceLimit, OutOfMemory}
+use Rattle.book_history.specs.declared.fault.BookFault.{BookFault}
+use Rattle.book_history.specs.declared.fault.BookFault.TheVariants as fault
+
+-- the number under which a store's fault is printed
+abbrev pub store_code_of : StoreFault → ℕ
+store_code_of Device = 30
+store_code_of Full = 31
+store_code_of Failed = 35
+store_code_of SequenceLimit = 36
+store_code_of OutOfMemory = 40
+
+-- the number under which a fault is printed
+abbrev pub code_of : BookFault → ℕ
+code_of (fault.Version refused) = version_fault.code_of refused
+code_of fault.Closing = 43
+code_of fault.Gone = 44
+code_of fault.NoStore = 46
+code_of (fault.Store refused) = store_code_of refused
+
+-- whether an accepted command takes a store's fault away
+abbrev pub passes : StoreFault → Bool
+passes Device = false
+passes Full = true
+passes Failed = false
+passes SequenceLimit = true
+passes OutOfMemory = true
+
+-- the text behind a store's number
+abbrev pub store_text_of : StoreFault → List ℕ
+store_text_of Device = codes "device"
+store_text_of Full = codes "full"
+store_text_of Failed = codes "store failed"
+store_text_of SequenceLimit = codes "sequence limit"
+store_text_of OutOfMemory = codes "out of memory"
+
+-- the text that is printed behind the number
+abbrev pub text_of : BookFault → List ℕ
+text_of (fault.Version refused) = version_fault.text_of refused
+text_of fault.Closing = codes "closing"
+text_of fault.Gone = codes "gone"
+text_of fault.NoStore = codes "no store"
+text_of (fault.Store refused) = store_text_of refused
+
+-- memory ran out
+abbrev pub no_memory : BookFault
+no_memory = fault.Version (Layer NoMemory)
+
+-- why a book refuses a command: the refusal of the definitions, or memory ran out where there is none;
+-- or it closes, where it may; or it is behind, which each call says by itself
+abbrev pub IsRefused : Bool → Version → Command → BookFault → Type 0
+IsRefused closing version command (fault.Version refused) =
+    RefusedBy (Layer NoMemory) (option_map version_fault.fault_of (refusal_at version.number version.layers command)) refused
+IsRefused closing version command fault.Closing = IsTrue closing
+IsRefused closing version command fault.Gone = Unit {0}
+IsRefused closing version command fault.NoStore = ⊥
+IsRefused closing version command (fault.Store refused) = ⊥
+
+-- one fact where the fault is that the locked book is behind or cannot go on, another at each other fault
+abbrev pub IfGone : BookFault → Type 0 → Type 0 → Type 0
+IfGone (fault.Version refused) gone other = other
+IfGone fault.Closing gone other = other
+IfGone fault.Gone gone other = gone
+IfGone fault.NoStore gone other = other
+IfGone (fault.Store refused) gone other = other

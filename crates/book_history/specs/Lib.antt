@@ -1,0 +1,9 @@
+pub mod Fault
+pub mod Codes
+pub mod Logs
+pub mod Events
+pub mod Causes
+pub mod KnownCodes
+pub mod Known
+pub mod Rules
+pub mod Trails

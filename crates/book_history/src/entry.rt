@@ -1,0 +1,50 @@
+//! What is written down in the history.
+use layer_book::command::Command;
+use layer_expr::name::Name;
+use std::marker::Model;
+use tile_build::tile::Tile;
+use version_core::version::Version;
+
+/// What made a version, as it stands in the logbook. No value of it is made.
+pub enum Event {
+    Accepted(u64, Command),
+    Kept(Name, u8, Tile),
+    Durable(u64),
+}
+
+/// An event and the version that it made. No value of it is made: it is what a log is a list of.
+pub struct Entry {
+    pub event: Event,
+    pub version: Version,
+}
+
+impl Model for Entry {
+    ghost use Rattle.overlay_terms.specs.Histories as terms;
+    ghost use Rattle.book_history.specs.Codes.{entry_code};
+
+    ghost Value = { terms.Entry };
+
+    ghost coded = { entry_code };
+
+    ghost use Rattle.book_history.specs.Events.{written};
+
+    ghost view = { λ e. record { event = written e.event; version = e.version } };
+}
+
+/// What happened.
+#[derive(Clone, Copy)]
+pub enum Cause<'a> {
+    /// A session's command is accepted.
+    Accepted(u64, &'a Command),
+    /// A tile of a layer and column is kept.
+    Kept(&'a Name, u8, &'a Tile),
+    /// A number is durable.
+    Durable(u64),
+}
+
+/// What a step asks the history for.
+#[derive(Clone, Copy)]
+pub struct Ask<'a> {
+    pub cause: Cause<'a>,
+    pub version: &'a Version,
+}

@@ -1,0 +1,111 @@
+//! Why a call on the book is refused.
+ghost use Rattle.std.specs.Prelude.{◌≡◌, Some};
+ghost use Rattle.book_history.specs.Fault.{code_of, passes, store_code_of, store_text_of, text_of};
+
+use std::fmt;
+use thiserror::Error;
+use version_core::fault::VersionFault;
+
+/// What kept a store from writing a version.
+#[derive(Clone, Copy, Debug, PartialEq, Eq)]
+pub enum StoreFault {
+    /// The device failed.
+    Device,
+    /// No room is left within the limit of blocks.
+    Full,
+    /// The device failed before.
+    Failed,
+    SequenceLimit,
+    OutOfMemory,
+}
+
+impl StoreFault {
+    /// The number under which the fault is printed.
+    pub fn code(&self) -> u8
+        ensures { result ≡ store_code_of self.now }
+    {
+        match self {
+            StoreFault::Device => 30,
+            StoreFault::Full => 31,
+            StoreFault::Failed => 35,
+            StoreFault::SequenceLimit => 36,
+            StoreFault::OutOfMemory => 40,
+        }
+    }
+
+    /// Whether an accepted command takes it away.
+    pub fn passes(&self) -> bool
+        ensures { result ≡ passes self.now }
+    {
+        match self {
+            StoreFault::Full | StoreFault::SequenceLimit | StoreFault::OutOfMemory => true,
+            StoreFault::Device | StoreFault::Failed => false,
+        }
+    }
+}
+
+/// Why a call on the book is refused.
+#[derive(Clone, Copy, Debug, PartialEq, Eq, Error)]
+#[error("{}", Text(*self))]
+pub enum BookFault {
+    /// What the version says to it.
+    Version(VersionFault),
+    /// The book closes.
+    Closing,
+    /// A place or a count is refused, or what is locked is behind what was seen. Then nothing changes.
+    Gone,
+    NoStore,
+    /// The store said this.
+    Store(StoreFault),
+}
+
+impl BookFault {
+    /// The number under which the fault is printed.
+    pub fn code(&self) -> u8
+        ensures { result ≡ code_of self.now }
+    {
+        match self {
+            BookFault::Version(fault) => fault.code(),
+            BookFault::Closing => 43,
+            BookFault::Gone => 44,
+            BookFault::NoStore => 46,
+            BookFault::Store(fault) => fault.code(),
+        }
+    }
+}
+
+/// The text of a fault, as a reply says it behind the number.
+#[derive(Clone, Copy, Debug)]
+pub struct Text(pub BookFault);
+
+impl fmt::Display for Text {
+    ghost output = { λ text. Some (text_of text.0) };
+
+    fn fmt<W: fmt::Write>(&self, f: &mut fmt::Formatter<W>) -> fmt::Result {
+        match self.0 {
+            BookFault::Version(fault) => write!(f, "{}", version_core::fault::Text(fault)),
+            BookFault::Closing => write!(f, "closing"),
+            BookFault::Gone => write!(f, "gone"),
+            BookFault::NoStore => write!(f, "no store"),
+            BookFault::Store(fault) => write!(f, "{}", StoreText(fault)),
+        }
+    }
+}
+
+/// The text of a store's fault.
+#[derive(Clone, Copy, Debug)]
+pub struct StoreText(pub StoreFault);
+
+impl fmt::Display for StoreText {
+    ghost output = { λ text. Some (store_text_of text.0) };
+
+    fn fmt<W: fmt::Write>(&self, f: &mut fmt::Formatter<W>) -> fmt::Result {
+        f.write_str(match self.0 {
+            StoreFault::Device => "device",
+            StoreFault::Full => "full",
+            StoreFault::Failed => "store failed",
+            StoreFault::SequenceLimit => "sequence limit",
+            StoreFault::OutOfMemory => "out of memory",
+        })
+    }
+}

@@ -1,0 +1,107 @@
+//! What is published: a version, and the log that it ends.
+ghost use Rattle.std.specs.Prelude.{◌≡◌, IfOk};
+ghost use Rattle.std.specs.Arc.{arc_value};
+ghost use Rattle.book_history.specs.Logs.{newest_in};
+
+use crate::trace::Trace;
+use atomic_table::{Join, Split};
+use crossbeam_utils::rule::{Outcome, Protocol};
+use left_right::Absorb;
+use left_right::reader::Reader;
+use left_right::writer::Writer;
+use std::alloc::{AllocError, Global};
+use std::sync::Arc;
+use version_core::version::Version;
+
+/// A version, and the log that it ends.
+#[derive(Drop)]
+pub struct Published {
+    pub version: Arc<Version, Global>,
+    pub trace: Trace,
+    pub ghost last: { arc_value version ≡ newest_in trace.log },
+}
+
+impl Published {
+    pub fn again(&self) -> Result<Published, AllocError>
+        ensures { IfOk result (λ p. (p.trace ≡ self.now.trace) × (arc_value p.version ≡ arc_value self.now.version)) }
+    {
+        Ok(Published {
+            version: Arc::try_clone(&self.version)?,
+            trace: self.trace.again(),
+        })
+    }
+
+    pub fn into_parts(self) -> (Arc<Version, Global>, Trace)
+        ensures { (arc_value result.0 ≡ newest_in result.1.log) × (result.1 ≡ self.trace) }
+    {
+        let Published { version, trace } = self;
+        (version, trace)
+    }
+}
+
+/// An operation is what is published next.
+impl Absorb<Published> for Published {
+    type State = Trace;
+
+    ghost state = { λ p. p.trace };
+
+    ghost applied = { λ t p. p.trace };
+
+    fn absorb_first(
+        &mut self,
+        operation: &Published,
+        _other: &Published,
+    ) -> Result<(), AllocError> {
+        *self = operation.again()?;
+        Ok(())
+    }
+
+    fn absorb_second(&mut self, operation: Published, _other: &Published) -> Result<(), Published> {
+        *self = operation;
+        Ok(())
+    }
+}
+
+/// The log that is published only grows.
+pub struct Tale;
+
+impl Protocol<Published, Trace> for Tale {
+    ghost use Rattle.book_history.specs.Trails.{AllWithin, newcomer};
+
+    ghost holds = { λ p views. AllWithin p.trace views };
+
+    ghost first = { newcomer };
+}
+
+/// A step that sees what is published after it.
+pub struct Sees;
+
+impl Outcome<Published, Trace> for Sees {
+    ghost use Rattle.std.specs.Prelude.{◌≡◌};
+    ghost use Rattle.book_history.specs.Trails.{Within};
+
+    ghost then = { λ v x y w. Within v x.trace × (w ≡ y.trace) };
+}
+
+/// What the writer hands on: all that it knows.
+pub struct Notes;
+
+impl Split<Trace> for Notes {
+    ghost left = { λ v. v };
+
+    ghost right = { λ v. v };
+}
+
+impl Join<Trace> for Notes {
+    ghost use Rattle.book_history.specs.Trails.{newcomer};
+
+    ghost both = { λ v w. w };
+
+    ghost spent = { newcomer };
+}
+
+/// A place from which a token reads what is published.
+pub type Place = Reader<Published, Trace, Tale>;
+
+/// What publishes.
+pub type Press = Writer<Published, Published, Trace, Tale>;
