@@ -48,7 +48,7 @@ layers_push : (commands : List Command) (command : Command) (layers : List Layer
 layers_push [] command layers = refl
 layers_push (c ∷ commands) command layers = layers_push commands command (applied layers c)
 
-exact_after : (old new : Version) (event : Event) → Follows old event new → IsExact old → IsExact new
+pub exact_after : (old new : Version) (event : Event) → Follows old event new → IsExact old → IsExact new
 exact_after old new event follows exact =
     let stays = exactness_stays old new event follows exact.orderly exact.fit exact.exact in
     record { orderly = (layers_stay_orderly old new event follows).0 exact.orderly; fit = stays.0; exact = stays.1 }

@@ -35,7 +35,7 @@ module _ {D : Type 0} where
   called_version old Stale new calls = absurd calls
   called_version old (Durable number) new calls = absurd calls
 
-  device_version : (old : Engine D) (reply : Reply) (new : Engine D) → Devices old reply new → new.version ≡ old.version
+  pub device_version : (old : Engine D) (reply : Reply) (new : Engine D) → Devices old reply new → new.version ≡ old.version
   device_version old reply new (inl (busy, calls)) = called_version old reply new calls
   device_version old reply new (inr (inl (idle, mid, begins, calls))) =
       called_version mid reply new calls ∙ ap (λ (e : Engine D). e.version) begins.rest

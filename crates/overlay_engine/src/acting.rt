@@ -1,6 +1,7 @@
 //! One step of an engine.
 ghost use Rattle.std.specs.Prelude.{List};
 ghost use Rattle.overlay_terms.specs.Commands.{Command};
+ghost use Rattle.overlay_terms.specs.KeptLaws.{IsExact};
 ghost use Rattle.overlay_engine.specs.Start.{Start};
 ghost use Rattle.overlay_engine.specs.Covers.{Covers};
 ghost use Rattle.overlay_engine.specs.Acts.{Acts, Survives, accepted_by};
@@ -14,6 +15,8 @@ impl<D: Disk> Engine<D> {
     /// Makes one step, and answers it.
     pub fn act(&mut self, alloc: Global, step: &Step) -> Reply
         ensures acts { Acts step.now self.old result self.new }
+        // Right tiles stay right, whatever the disk does.
+        ensures exact { IsExact self.old.version → IsExact self.new.version }
         // The store goes on covering the commands, with the one that the step accepted, and a crash at any moment of
         // the step leaves what is no older than what was durable as it began.
         ensures survives { (start : Start) (commands : List Command) → Covers D.Disk start self.old.flusher self.old.version commands

@@ -1,5 +1,6 @@
 //! Lists of steps.
 ghost use Rattle.std.specs.Prelude.{◌≡◌, IfOk, OnErr};
+ghost use Rattle.overlay_terms.specs.KeptLaws.{IsExact};
 ghost use Rattle.overlay_engine.specs.Runs.{Drives};
 
 use crate::engine::Engine;
@@ -12,6 +13,8 @@ impl<D: Disk> Engine<D> {
     pub fn drive(&mut self, alloc: Global, steps: &[Step]) -> Result<Vec<Reply>, AllocError>
         // A crash at any moment of each step leaves what is no older than what was durable as that step began.
         ensures drives { IfOk result (λ replies. Drives D.Disk steps.now self.old replies.items self.new) }
+        // Right tiles stay right, whatever the disk does.
+        ensures exact { IsExact self.old.version → IsExact self.new.version }
         ensures err { OnErr result (self.new ≡ self.old) }
     {
         let mut replies = Vec::with_capacity(alloc, steps.len())?;

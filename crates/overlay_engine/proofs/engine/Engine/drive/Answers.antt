@@ -9,6 +9,7 @@ use Rattle.overlay_engine.proofs.engine.Engine.drive.Goals as goal
 pub loop-step-init : goal.loop-step-init
 loop-step-init g c = record {
   drives = subst (λ (replies : List Reply). Drives g.D.Disk [] c.args.self.now replies c.args.self.now) (sym c.in_ok-replies.ensures.items) (not_driven g.D.Disk c.args.self.now);
+  exact = λ exact. exact;
   count = c.in_ok-replies.ensures.len;
   room = omega (arith, c.in_ok-replies.ensures.exact);
 }
@@ -28,6 +29,7 @@ loop-step-preserved g c =
     record {
       drives = subst (λ (replies : List Reply). Drives k (take (i + 1) steps) old replies new) (sym c.in-Ok.ensures.items)
           (subst (λ (first : List Step). Drives k first old (c.loop-step.replies.items ++ c.act-reply.result ∷ []) new) more on);
+      exact = λ exact. c.act-reply.ensures.exact (was.exact exact);
       count = omega (arith, c.in-Ok.ensures.len, was.count);
       room = omega (arith, was.room, c.push.ensures.capacity);
     }
