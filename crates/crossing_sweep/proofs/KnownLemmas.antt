@@ -95,7 +95,7 @@ has_place (Cross a b) p h k = (p, h, k)
 has_place (Border s j) p h k = k.cut
 
 -- the same place is in the closed column, too
-bool_same : (a b : Bool) → (a ≡ true → b ≡ true) → (b ≡ true → a ≡ true) → a ≡ b
+pub bool_same : (a b : Bool) → (a ≡ true → b ≡ true) → (b ≡ true → a ≡ true) → a ≡ b
 bool_same true true f g = refl
 bool_same true false f g = sym (f refl)
 bool_same false true f g = g refl

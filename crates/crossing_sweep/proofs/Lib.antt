@@ -27,3 +27,4 @@ pub mod PassLemmas
 pub mod BeginLemmas
 pub mod AheadLemmas
 pub mod KnownLemmas
+pub mod StartLemmas

@@ -13,3 +13,4 @@ pub mod LastNode
 pub mod Passing
 pub mod Beginning
 pub mod Ahead
+pub mod Start

@@ -9,6 +9,8 @@ pub mod next_node;
 pub mod passing;
 pub mod queue;
 pub mod sides;
+pub mod start;
+pub mod starting;
 pub mod status;
 pub mod step;
 pub mod units;

@@ -1,0 +1,70 @@
+//! Units with the places where a pass over a column meets them first.
+ghost use Rattle.std.specs.Prelude.{◌≡◌};
+ghost use Rattle.std.specs.declared.cmp.Ordering.TheVariants.{Less};
+ghost use Rattle.overlay_terms.specs.Plane.{whole_cmp};
+
+use arrange::unit::Unit;
+use exact_point::crossing::direction_cmp;
+use exact_point::point::HPoint;
+use std::cmp::Ordering;
+
+/// A unit and the first place of a closed column on it. The order is by that place, then by
+/// direction, the vertical one first.
+#[derive(Clone, Copy)]
+pub struct Start {
+    pub at: HPoint,
+    pub unit: Unit,
+    pub ghost ahead: { whole_cmp unit.seg.left unit.seg.right ≡ Less },
+}
+
+impl PartialEq for Start {
+    ghost use Rattle.crossing_sweep.specs.Start.{same_start, same_start_laws};
+
+    ghost eq = { same_start };
+
+    ghost laws = { same_start_laws };
+
+    fn eq(&self, other: &Start) -> bool {
+        self.cmp(other) == Ordering::Equal
+    }
+}
+
+impl Eq for Start {
+    ghost use Rattle.crossing_sweep.specs.Start.{same_start_equiv};
+
+    ghost laws = { same_start_equiv };
+}
+
+impl PartialOrd for Start {
+    ghost use Rattle.crossing_sweep.specs.Start.{start_cmp, start_po};
+    ghost use Rattle.std.specs.Ordering.{as_partial_cmp};
+
+    ghost partial_cmp = { as_partial_cmp start_cmp };
+
+    ghost laws = { start_po };
+
+    fn partial_cmp(&self, other: &Start) -> Option<Ordering> {
+        Some(self.cmp(other))
+    }
+}
+
+impl Ord for Start {
+    ghost use Rattle.crossing_sweep.specs.Start.{start_cmp, start_total};
+    ghost use Rattle.std.specs.Prelude.{refl};
+
+    ghost cmp = { start_cmp };
+
+    ghost total = { start_total };
+
+    ghost matches_partial_cmp = { λ p q. refl };
+
+    ghost matches_eq = { λ p q. refl };
+
+    fn cmp(&self, other: &Start) -> Ordering {
+        let by_place = self.at.cmp(&other.at);
+        if by_place.is_ne() {
+            return by_place;
+        }
+        direction_cmp(&other.unit.seg, &self.unit.seg)
+    }
+}
