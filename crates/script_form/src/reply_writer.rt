@@ -1,5 +1,5 @@
 //! Replies as bytes of a writer.
-ghost use Rattle.std.specs.Prelude.{◌≡◌, ◌+◌, ◌≤◌, ◌++◌};
+ghost use Rattle.std.specs.Prelude.{◌≡◌, ◌+◌, ◌≤◌, ◌++◌, IfErr};
 ghost use Rattle.arrayvec.specs.ArrayString.{array_string_len};
 ghost use Rattle.layer_book.specs.Place.{location};
 ghost use Rattle.script_form.specs.Replies.{ok_line, error_line, location_line, built_line, verdict_line};
@@ -19,7 +19,8 @@ use version_core::verifying::Verdict;
 /// Writes the text to its end, by as many writes as the writer asks for. A write that fails or takes
 /// no byte ends it.
 pub fn write_text<W: Write>(writer: &mut W, text: &[u8]) -> Result<(), CommandFault>
-    ensures { Writes result (W.contents writer.old) (W.contents writer.new) text.now }
+    ensures writes { Writes result (W.contents writer.old) (W.contents writer.new) text.now }
+    ensures err { IfErr result (λ fault. fault ≡ CommandFault.Write) }
 {
     let mut rest = text;
     while !rest.is_empty() {
@@ -33,7 +34,8 @@ pub fn write_text<W: Write>(writer: &mut W, text: &[u8]) -> Result<(), CommandFa
 
 /// Writes the reply, without taking memory.
 pub fn write_reply<W: Write>(writer: &mut W, reply: &Reply) -> Result<(), CommandFault>
-    ensures { Writes result (W.contents writer.old) (W.contents writer.new) (reply_text reply.now) }
+    ensures writes { Writes result (W.contents writer.old) (W.contents writer.new) (reply_text reply.now) }
+    ensures err { IfErr result (λ fault. fault ≡ CommandFault.Write) }
 {
     match reply {
         Reply::Nothing => Ok(()),

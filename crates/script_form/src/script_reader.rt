@@ -1,5 +1,5 @@
 //! Chunks of a script.
-ghost use Rattle.std.specs.Prelude.{◌≡◌, ◌+◌, ◌<◌, ◌≤◌, length, take, IfOk, OnErr};
+ghost use Rattle.std.specs.Prelude.{◌≡◌, ◌+◌, ◌<◌, ◌≤◌, length, take, IfErr, IfOk, OnErr};
 ghost use Rattle.std.specs.Io.KnownBytes.{Keeps, Consumes, IsAtEnd};
 
 use crate::fault::CommandFault;
@@ -21,6 +21,7 @@ pub fn read_chunk<R: Read>(
     ensures in_limit { IfOk result (λ count. taken + count ≤ SCRIPT_MAX + 1) }
     ensures bytes { IfOk result (λ count. Consumes (R.remaining reader.old) (R.remaining reader.new) (take count chunk.new)) }
     ensures at_end { IfOk result (λ count. count ≡ 0 → IsAtEnd (R.remaining reader.new)) }
+    ensures fault { IfErr result (λ fault. fault ≡ CommandFault.Read) }
     ensures err { OnErr result (Keeps (R.remaining reader.old) (R.remaining reader.new)) }
 {
     let room = chunk.len().min(SCRIPT_MAX + 1 - taken);
