@@ -4,6 +4,8 @@ use Rattle.overlay_terms.specs.Layers.{Name}
 use Rattle.overlay_terms.specs.Histories.{Version, tile_at}
 use Rattle.store_terms.specs.Image.{Held}
 use Rattle.root_store.specs.declared.fault.StoreFault.{StoreFault}
+use Rattle.root_store.specs.declared.commit.Commit.{Commit}
+use Rattle.root_store.specs.Beginning.{HasRoom, HasNoRoom}
 use Rattle.root_store.specs.Kept.{Kept}
 use Rattle.root_store.specs.declared.phase.Progress.{Progress}
 use Rattle.root_store.specs.declared.phase.Progress.TheVariants.{Idle, Going, Done}
@@ -25,3 +27,11 @@ pub record IsImageOf (version : Version) (x : Held) : Type 0 where
 pub record IsCommitOf (version : Version) (y : Kept) : Type 0 where
   pub root : y.root.version ≡ version.number
   pub image : IsImageOf version y.held
+
+-- a store has room for the records of a version among the blocks that are free
+abbrev pub HasRoomFor : {D : Type 0} → Commit D → Version → Type 0
+HasRoomFor commit version = (x : Held) × IsImageOf version x × HasRoom commit.room x
+
+-- it has none for some record
+abbrev pub HasNoRoomFor : {D : Type 0} → Commit D → Version → Type 0
+HasNoRoomFor commit version = (x : Held) × IsImageOf version x × HasNoRoom commit.room x

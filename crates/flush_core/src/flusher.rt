@@ -5,7 +5,7 @@ ghost use Rattle.store_terms.specs.Roots.{sequence_max};
 ghost use Rattle.root_store.specs.Beginning.{IsReason};
 ghost use Rattle.root_store.specs.Kept.{Kept};
 ghost use Rattle.root_store.specs.Running.{Stands, Runs, Stepped, Counts, calls_left, is_busy, fault_in};
-ghost use Rattle.flush_core.specs.Stored.{stored_after, IsCommitOf};
+ghost use Rattle.flush_core.specs.Stored.{stored_after, IsCommitOf, HasRoomFor, HasNoRoomFor};
 
 use crate::imaging::image_of;
 use disk_model::disk::Disk;
@@ -55,7 +55,9 @@ impl<D: Disk> Flusher<D> {
         ensures err { OnErr result (self.new ≡ self.old) }
         ensures failed { self.old.commit.phase ≡ Phase.Failed → result ≡ Err StoreFault.Failed }
         ensures limit { self.old.commit.phase ≡ Phase.Idle → sequence_max ≤ self.old.commit.root.sequence → result ≡ Err StoreFault.SequenceLimit }
-        ensures errors { IfErr result (λ fault. IsReason self.old.commit.phase self.old.commit.root fault) }
+        // Where there is room for all its records among the free blocks, by first fit; where there is none, that is the reason.
+        ensures room { OnOk result (HasRoomFor self.old.commit version.now) }
+        ensures errors { IfErr result (λ fault. IsReason self.old.commit.phase self.old.commit.root (HasNoRoomFor self.old.commit version.now) fault) }
     {
         // Asked before memory is taken for the image.
         if let Some(fault) = self.commit.refusal() {

@@ -5,6 +5,7 @@ use Rattle.root_store.specs.declared.fault.StoreFault.{StoreFault}
 use Rattle.root_store.specs.declared.fault.StoreFault.TheVariants as fault
 use Rattle.root_store.specs.declared.phase.Phase.TheVariants.{Idle, Close, Failed}
 use Rattle.root_store.specs.Beginning.{IsReason}
+use Rattle.flush_core.specs.Stored.{HasRoomFor, HasNoRoomFor}
 use Rattle.root_store.specs.Fault.{code_of}
 use Rattle.root_store.specs.Running.{is_busy}
 use Rattle.overlay_engine.specs.declared.engine.Engine.{Engine}
@@ -13,9 +14,10 @@ use Rattle.overlay_engine.specs.declared.step.Reply.TheVariants.{Refused}
 use Rattle.overlay_engine.specs.Steps.{Calls}
 
 module _ {D : Type 0} where
-  -- a commit of the newest version begins: nothing changes but that it is under way
+  -- a commit of the newest version begins, as there is room for it: nothing changes but that it is under way
   pub record Begins (old mid : Engine D) : Type 0 where
     pub began : mid.flusher.commit.phase ≡ Close
+    pub room : HasRoomFor old.flusher.commit old.version
     pub stored : mid.flusher.stored ≡ old.flusher.stored
     pub disk : mid.flusher.commit.disk ≡ old.flusher.commit.disk
     pub rest : mid ≡ record old { flusher = mid.flusher }
@@ -23,7 +25,7 @@ module _ {D : Type 0} where
   -- a commit can't begin, for the first reason: the device failed before, there is no number for it, no room, or no memory; and nothing changes
   pub record IsNotBegun (old : Engine D) (reply : Reply) (new : Engine D) : Type 0 where
     pub why : StoreFault
-    pub reason : IsReason old.flusher.commit.phase old.flusher.commit.root why
+    pub reason : IsReason old.flusher.commit.phase old.flusher.commit.root (HasNoRoomFor old.flusher.commit old.version) why
     pub failed : old.flusher.commit.phase ≡ Failed → why ≡ fault.Failed
     pub limit : old.flusher.commit.phase ≡ Idle → sequence_max ≤ old.flusher.commit.root.sequence → why ≡ fault.SequenceLimit
     pub told : reply ≡ Refused (code_of why)

@@ -56,7 +56,7 @@ module _ (x : Kept) (given : List runs.Extent) (limit : ℕ) (layers : List File
     number = c.version;
     extents = refl;
     apart = subst (λ (e : Extent). all_apart (e ∷ extents_listed (map listed_of layers)) ≡ true) (sym c.catalog_is)
-        (extents_apart (extents_listed (map listed_of layers)) catalog.extent d.runs.items (planned_apart given limit _ d.runs.items draft.planned) are);
+        (extents_apart (extents_listed (map listed_of layers)) catalog.extent d.runs.items (planned_apart given limit _ d.runs.items draft.placed.planned) are);
   }
 
   is_plan : IsPlan x y d.writes.items b
@@ -66,8 +66,8 @@ module _ (x : Kept) (given : List runs.Extent) (limit : ℕ) (layers : List File
     numbered = subst (λ (n : ℕ). n ≤ version_max) (sym c.version) spell.small;
     low = c.low;
     small = c.small;
-    off = all_off x given (flat_map filed_of layers ++ catalog ∷ []) d.writes.items d.runs.items room (planned_new given limit _ d.runs.items draft.planned) draft.runs draft.writes;
-    apart = all_writes_apart (flat_map filed_of layers ++ catalog ∷ []) d.writes.items d.runs.items (planned_apart given limit _ d.runs.items draft.planned) draft.runs draft.writes;
+    off = all_off x given (flat_map filed_of layers ++ catalog ∷ []) d.writes.items d.runs.items room (planned_new given limit _ d.runs.items draft.placed.planned) draft.runs draft.writes;
+    apart = all_writes_apart (flat_map filed_of layers ++ catalog ∷ []) d.writes.items d.runs.items (planned_apart given limit _ d.runs.items draft.placed.planned) draft.runs draft.writes;
     makes = λ file shut puts. filing_makes y layers catalog d.writes.items file files draft.writes puts;
     there = c.there;
     spelled = c.spelled;

@@ -1,5 +1,5 @@
 -- One record more in a draft.
-use Rattle.std.proofs.Common.{◌≡◌, ◌⊎◌, inl, inr, ℕ, ◌+◌, ◌-◌, ◌*◌, ◌≤◌, List, [], ◌∷◌, ◌++◌, length, take, replicate, refl, sym, ◌∙◌, ap, subst, arith, Result, Ok, Err}
+use Rattle.std.proofs.Common.{◌≡◌, ◌⊎◌, inl, inr, ℕ, ◌+◌, ◌-◌, ◌*◌, ◌≤◌, List, [], ◌∷◌, ◌++◌, length, take, replicate, refl, sym, ◌∙◌, ap, subst, arith, Result, Ok, Err, IsErrAnd}
 use Rattle.std.proofs.lemmas.List.{length-append, length-replicate}
 use Rattle.extent_map.specs.declared.extent.Extent as runs
 use Rattle.extent_map.specs.Extents.{AreAlike}
@@ -15,7 +15,7 @@ use Rattle.root_store.specs.declared.fault.StoreFault.TheVariants.{Full, OutOfMe
 use Rattle.root_store.specs.Fault.{fault_of_extents}
 use Rattle.root_store.specs.Filing.{Filed, IsWriteOf, AreWritesOf}
 use Rattle.root_store.specs.Running.{AreRunsOf}
-use Rattle.root_store.specs.Drafting.{lengths_of, extents_of_filed, IsDraft}
+use Rattle.root_store.specs.Drafting.{lengths_of, extents_of_filed, ArePlaced, IsDraft}
 
 pub lengths_more : (fs : List Filed) (f : Filed) → lengths_of (fs ++ f ∷ []) ≡ lengths_of fs ++ length f.bytes ∷ []
 lengths_more [] f = refl
@@ -54,37 +54,43 @@ written_so f w r behind block size long at is =
       blocks = omega (arith, all, bytes_fit (length f.bytes), long) ∙ ap (λ (n : ℕ). 4096 * n) (long ∙ ap blocks (sym size));
     }
 
--- the draft with one record more
-pub drafted : (given : List runs.Extent) (limit : ℕ) (fs : List Filed) (old new : Draft) (f : Filed) (w : Write) (r : runs.Extent) → IsDraft given limit fs old
-    → new.room.max_blocks ≡ old.room.max_blocks → new.runs.items ≡ old.runs.items ++ r ∷ [] → new.writes.items ≡ old.writes.items ++ w ∷ []
-    → f.extent.block ≡ r.block → f.extent.size ≡ length f.bytes → r.blocks ≡ blocks_for (length f.bytes)
-    → IsFirstFit (taken_of old.room.map) old.room.max_blocks (blocks_for (length f.bytes)) r.block
-    → ((l : List runs.Extent) → AreAlike l (taken_of old.room.map) → AreAlike (r ∷ l) (taken_of new.room.map)) → IsWriteOf f w → IsDraft given limit (fs ++ f ∷ []) new
-drafted given limit fs old new f w r draft same runs_are writes_are block size long fit taken is =
-    let here = subst (λ (m : ℕ). IsFirstFit (taken_of old.room.map) m (blocks_for (length f.bytes)) r.block) draft.blocks fit in
-    let fits = fit_alike (taken_with given old.runs.items) (taken_of old.room.map) limit (blocks_for (length f.bytes)) r.block draft.alike here in
-    let planned = planned_more given limit (lengths_of fs) old.runs.items (length f.bytes) r draft.planned long fits in
-    let alike = subst (λ (l : List runs.Extent). AreAlike l (taken_of new.room.map)) (sym (taken_more given old.runs.items r)) (taken (taken_with given old.runs.items) draft.alike) in
+-- one record more has its run
+pub placed_more : (given : List runs.Extent) (limit : ℕ) (sizes : List ℕ) (old new : Draft) (n : ℕ) (r : runs.Extent) → ArePlaced given limit sizes old
+    → new.room.max_blocks ≡ old.room.max_blocks → new.runs.items ≡ old.runs.items ++ r ∷ [] → r.blocks ≡ blocks_for n
+    → IsFirstFit (taken_of old.room.map) old.room.max_blocks (blocks_for n) r.block
+    → ((l : List runs.Extent) → AreAlike l (taken_of old.room.map) → AreAlike (r ∷ l) (taken_of new.room.map)) → ArePlaced given limit (sizes ++ n ∷ []) new
+placed_more given limit sizes old new n r placed same runs_are long fit taken =
+    let here = subst (λ (m : ℕ). IsFirstFit (taken_of old.room.map) m (blocks_for n) r.block) placed.blocks fit in
+    let fits = fit_alike (taken_with given old.runs.items) (taken_of old.room.map) limit (blocks_for n) r.block placed.alike here in
+    let planned = planned_more given limit sizes old.runs.items n r placed.planned long fits in
+    let alike = subst (λ (l : List runs.Extent). AreAlike l (taken_of new.room.map)) (sym (taken_more given old.runs.items r)) (taken (taken_with given old.runs.items) placed.alike) in
     record {
-      blocks = same ∙ draft.blocks;
-      planned = subst (λ (l : List runs.Extent). IsPlanned given limit (lengths_of (fs ++ f ∷ [])) l) (sym runs_are)
-          (subst (λ (l : List ℕ). IsPlanned given limit l (old.runs.items ++ r ∷ [])) (sym (lengths_more fs f)) planned);
+      blocks = same ∙ placed.blocks;
+      planned = subst (λ (l : List runs.Extent). IsPlanned given limit (sizes ++ n ∷ []) l) (sym runs_are) planned;
       alike = subst (λ (l : List runs.Extent). AreAlike (taken_with given l) (taken_of new.room.map)) (sym runs_are) alike;
-      runs = subst (λ (l : List runs.Extent). AreRunsOf (extents_of_filed (fs ++ f ∷ [])) l) (sym runs_are) (runs_more fs old.runs.items f r draft.runs (sym block) (long ∙ ap blocks (sym size)));
-      writes = subst (λ (l : List Write). AreWritesOf (fs ++ f ∷ []) l) (sym writes_are) (writes_more fs old.writes.items f w draft.writes is);
     }
 
+-- the draft with one record more
+pub drafted : (given : List runs.Extent) (limit : ℕ) (fs : List Filed) (old new : Draft) (f : Filed) (w : Write) (r : runs.Extent) → IsDraft given limit fs old
+    → ArePlaced given limit (lengths_of fs ++ length f.bytes ∷ []) new → new.runs.items ≡ old.runs.items ++ r ∷ [] → new.writes.items ≡ old.writes.items ++ w ∷ []
+    → f.extent.block ≡ r.block → f.extent.size ≡ length f.bytes → r.blocks ≡ blocks_for (length f.bytes) → IsWriteOf f w → IsDraft given limit (fs ++ f ∷ []) new
+drafted given limit fs old new f w r draft placed runs_are writes_are block size long is = record {
+  placed = subst (λ (l : List ℕ). ArePlaced given limit l new) (sym (lengths_more fs f)) placed;
+  runs = subst (λ (l : List runs.Extent). AreRunsOf (extents_of_filed (fs ++ f ∷ [])) l) (sym runs_are) (runs_more fs old.runs.items f r draft.runs (sym block) (long ∙ ap blocks (sym size)));
+  writes = subst (λ (l : List Write). AreWritesOf (fs ++ f ∷ []) l) (sym writes_are) (writes_more fs old.writes.items f w draft.writes is);
+}
+
 -- a record for which there is no run
-pub no_run : (given : List runs.Extent) (limit : ℕ) (fs : List Filed) (d : Draft) (bytes : List ℕ) → IsDraft given limit fs d → NoFit (taken_of d.room.map) d.room.max_blocks (blocks_for (length bytes))
-    → IsFull given limit (lengths_of fs ++ length bytes ∷ [])
-no_run given limit fs d bytes draft none = record {
-  before = lengths_of fs;
-  wanted = length bytes;
+pub no_run : (given : List runs.Extent) (limit : ℕ) (sizes : List ℕ) (d : Draft) (n : ℕ) → ArePlaced given limit sizes d → NoFit (taken_of d.room.map) d.room.max_blocks (blocks_for n)
+    → IsFull given limit (sizes ++ n ∷ [])
+no_run given limit sizes d n placed none = record {
+  before = sizes;
+  wanted = n;
   behind = [];
   runs = d.runs.items;
   are = refl;
-  planned = draft.planned;
-  none = none_alike (taken_with given d.runs.items) (taken_of d.room.map) limit (blocks_for (length bytes)) draft.alike (subst (λ (m : ℕ). NoFit (taken_of d.room.map) m (blocks_for (length bytes))) draft.blocks none);
+  planned = placed.planned;
+  none = none_alike (taken_with given d.runs.items) (taken_of d.room.map) limit (blocks_for n) placed.alike (subst (λ (m : ℕ). NoFit (taken_of d.room.map) m (blocks_for n)) placed.blocks none);
 }
 
 -- an error is one whatever the type of the values is
@@ -99,8 +105,23 @@ pub same_error : (A B : Type 0) {E : Type 0} (e f : E) → error_in A e ≡ erro
 unfolding error_or
 same_error A B e f is = ap (error_in B) (ap (error_or f) is)
 
+-- the error that `?` passes on is the one that was met
+pub passed_error : {A E : Type 0} (B : Type 0) (r : Result A E) (x e : E) → IsErrAnd r (λ y. y ≡ x) → r ≡ Err e → error_in B x ≡ error_in B e
+passed_error B (Ok y) x e and is = absurd and
+passed_error {A} {E} B (Err y) x e and is = ap (error_in B) (sym and ∙ let same : y ≡ e = cc in same)
+
 -- a fault of extents that do not overlap
 pub room_fault : (e : ExtentFault) → (e ≡ extents.Overlap → ⊥) → (fault_of_extents e ≡ Full) ⊎ (fault_of_extents e ≡ OutOfMemory)
 room_fault extents.Full never = inl refl
 room_fault extents.Overlap never = absurd (never refl)
 room_fault extents.OutOfMemory never = inr refl
+
+-- nor one that is not told as full
+pub not_full : (e : ExtentFault) → (e ≡ extents.Overlap → ⊥) → (e ≡ extents.Full → ⊥) → fault_of_extents e ≡ Full → ⊥
+not_full extents.Full apart never is = never refl
+not_full extents.Overlap apart never is = apart refl
+not_full extents.OutOfMemory apart never is = absurd cc
+
+pub same_fault : (A : Type 0) {E : Type 0} (e f : E) → error_in A e ≡ error_in A f → e ≡ f
+unfolding error_or
+same_fault A e f is = ap (error_or e) is

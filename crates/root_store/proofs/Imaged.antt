@@ -40,7 +40,7 @@ all_left layers ts stored = record {
   from = from_first layers ts;
 }
 
-nothing_behind : (ts : List Finished) → ts ++ [] ≡ ts
+pub nothing_behind : (ts : List Finished) → ts ++ [] ≡ ts
 nothing_behind [] = refl
 nothing_behind (t ∷ ts) = ap (λ (l : List Finished). t ∷ l) (nothing_behind ts)
 

@@ -18,5 +18,10 @@ pub mod Placed
 pub mod Completed
 pub mod Walked
 pub mod Imaged
+pub mod Sized
+mod CatalogSize
+mod Short
+mod Roomed
+pub mod Reasons
 mod StoredLemmas
 mod OpeningLemmas

@@ -1,6 +1,6 @@
 -- What opening knows once all is read, and what it leaves.
-use Rattle.std.proofs.Common.{◌≡◌, ◌⊎◌, inl, inr, ℕ, ◌<◌, ◌≤◌, ◌^◌, Bool, true, false, List, [], ◌∷◌, Result, Ok, Err, refl, sym, ◌∙◌, ap, subst, arith}
-use Rattle.std.specs.Prelude.{IsErrAnd, OnErr}
+use Rattle.std.proofs.Common.{◌≡◌, inl, inr, ℕ, ◌≤◌, Bool, true, false, List, [], ◌∷◌, Result, Ok, Err, refl, sym, ◌∙◌, ap, subst}
+use Rattle.std.specs.Prelude.{IsErrAnd}
 use Rattle.std.proofs.lemmas.Result.{err_from_is_err_and}
 use Rattle.disk_model.specs.declared.disk.Disk.{Ghosts}
 use Rattle.disk_model.specs.Moments.{Leaves, LeavesOnly}
@@ -19,13 +19,13 @@ use Rattle.root_store.specs.declared.opening.Loaded.{Loaded}
 use Rattle.root_store.specs.Kept.{Kept, Live, Rest, Shut, Calm}
 use Rattle.root_store.specs.Healing.{kept_of}
 use Rattle.root_store.specs.Taking.{if_apart}
-use Rattle.root_store.specs.Looking.{Refuses, Gives, Causes}
+use Rattle.root_store.specs.Looking.{Refuses, Causes}
 use Rattle.root_store.specs.Opening.{Heals, held_in, IsRead, Opened, Loads, fault_of, Tells, FailedBy}
 use Rattle.root_store.specs.declared.fault.StoreFault.{StoreFault}
 use Rattle.root_store.specs.declared.load_fault.LoadFault.TheVariants.{Device, Damaged, OutOfMemory}
 use Rattle.root_store.proofs.Reading.{shut_stands}
 use Rattle.root_store.proofs.Healed.{taken_is_live}
-use Rattle.root_store.proofs.Steps.{leaves_synced, leaves_weaker}
+use Rattle.root_store.proofs.Steps.{leaves_synced}
 use Rattle.root_store.proofs.TakenLemmas.{root_found, other_shut, other_harmless}
 
 -- what a root holds, once its catalog, layers and tiles are read

@@ -1,8 +1,8 @@
 -- The records of a commit that have their places.
-use Rattle.std.specs.Prelude.{◌≡◌, ◌⊎◌, ℕ, ◌^◌, ◌≤◌, List, [], ◌∷◌, ◌++◌, length, map}
+use Rattle.std.specs.Prelude.{◌≡◌, ℕ, ◌≤◌, List, length, map}
 use Rattle.extent_map.specs.declared.extent.Extent as runs
 use Rattle.extent_map.specs.Extents.{AreAlike}
-use Rattle.extent_map.specs.FirstFit.{IsPlanned, IsFull, taken_with}
+use Rattle.extent_map.specs.FirstFit.{IsPlanned, taken_with}
 use Rattle.extent_map.specs.Taken.{taken_of}
 use Rattle.overlay_terms.specs.Commands.{version_max}
 use Rattle.store_terms.specs.declared.root.Extent.{Extent}
@@ -22,17 +22,21 @@ lengths_of fs = map (λ (f : Filed). length f.bytes) fs
 abbrev pub extents_of_filed : List Filed → List Extent
 extents_of_filed fs = map (λ (f : Filed). f.extent) fs
 
--- a draft of these records: beside what is taken, each has the lowest run that is free behind those before it, and its write
-pub record IsDraft (given : List runs.Extent) (limit : ℕ) (fs : List Filed) (d : Draft) : Type 0 where
+-- records of these sizes find, in order, the lowest runs that are free beside what is taken
+abbrev pub ArePlanned : List runs.Extent → ℕ → List ℕ → Type 0
+ArePlanned given limit sizes = (places : List runs.Extent) × IsPlanned given limit sizes places
+
+-- in a draft records of these sizes have, in order, the lowest runs that are free beside what is taken
+pub record ArePlaced (given : List runs.Extent) (limit : ℕ) (sizes : List ℕ) (d : Draft) : Type 0 where
   pub blocks : d.room.max_blocks ≡ limit
-  pub planned : IsPlanned given limit (lengths_of fs) d.runs.items
+  pub planned : IsPlanned given limit sizes d.runs.items
   pub alike : AreAlike (taken_with given d.runs.items) (taken_of d.room.map)
+
+-- a draft of these records: each has its run, and its write
+pub record IsDraft (given : List runs.Extent) (limit : ℕ) (fs : List Filed) (d : Draft) : Type 0 where
+  pub placed : ArePlaced given limit (lengths_of fs) d
   pub runs : AreRunsOf (extents_of_filed fs) d.runs.items
   pub writes : AreWritesOf fs d.writes.items
-
--- behind these records another finds no run; or it is so long that the file has no number for its size
-abbrev pub HasNoRun : List runs.Extent → ℕ → List Filed → List ℕ → Type 0
-HasNoRun given limit fs bytes = IsFull given limit (lengths_of fs ++ length bytes ∷ []) ⊎ (2 ^ 32 ≤ length bytes)
 
 -- filed layers that a catalog lists, and that spell what a version holds
 pub record Spell (layers : List FiledLayer) (listing : List Listed) (x : Held) : Type 0 where

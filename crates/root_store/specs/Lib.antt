@@ -12,6 +12,8 @@ pub mod Loading
 pub mod Contents
 pub mod Taking
 pub mod Drafting
+pub mod Sizes
 pub mod Walking
+pub mod Placing
 pub mod Beginning
 pub mod Stored

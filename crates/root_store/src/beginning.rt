@@ -1,12 +1,12 @@
 //! Beginning a commit.
-ghost use Rattle.std.specs.Prelude.{◌≡◌, ◌⊎◌, ◌+◌, ◌<◌, ◌≤◌, true, false, length, Some, IfOk, IfErr, IfSome, IfNone, OnOk, OnErr};
+ghost use Rattle.std.specs.Prelude.{◌≡◌, ◌⊎◌, ◌+◌, ◌<◌, ◌≤◌, true, false, length, Some, IfOk, IfErr, IfSome, IfNone, OnOk, OnErr, IsErrOf};
 ghost use Rattle.extent_map.specs.Taken.{taken_of};
 ghost use Rattle.store_terms.specs.Image.{Held};
 ghost use Rattle.store_terms.specs.Roots.{sequence_max};
 ghost use Rattle.root_store.specs.Kept.{Kept};
 ghost use Rattle.root_store.specs.Running.{Stands, Runs, IsMapOf, calls_left, is_busy};
 ghost use Rattle.root_store.specs.Drafting.{IsNext};
-ghost use Rattle.root_store.specs.Beginning.{IsReason};
+ghost use Rattle.root_store.specs.Beginning.{HasRoom, HasNoRoom, IsRefusal, IsReason};
 
 use crate::commit::Commit;
 use crate::completing::completed;
@@ -44,7 +44,7 @@ impl<D: Disk> Commit<D> {
     pub fn refusal(&self) -> Option<StoreFault>
         ensures failed { self.now.phase ≡ Phase.Failed → result ≡ Some StoreFault.Failed }
         ensures limit { self.now.phase ≡ Phase.Idle → sequence_max ≤ self.now.root.sequence → result ≡ Some StoreFault.SequenceLimit }
-        ensures reason { IfSome result (λ fault. IsReason self.now.phase self.now.root fault) }
+        ensures reason { IfSome result (λ fault. IsRefusal self.now.phase self.now.root fault) }
         ensures none { IfNone result (self.now.root.sequence < sequence_max) }
     {
         if matches!(self.phase, Phase::Failed) {
@@ -71,7 +71,9 @@ impl<D: Disk> Commit<D> {
         ensures err { OnErr result (self.new ≡ self.old) }
         ensures failed { self.old.phase ≡ Phase.Failed → result ≡ Err StoreFault.Failed }
         ensures limit { self.old.phase ≡ Phase.Idle → sequence_max ≤ self.old.root.sequence → result ≡ Err StoreFault.SequenceLimit }
-        ensures errors { IfErr result (λ fault. IsReason self.old.phase self.old.root fault) }
+        // Where there is room for all records among the free blocks, by first fit; where there is none, that is the reason.
+        ensures room { OnOk result (HasRoom self.old.room image) }
+        ensures errors { IfErr result (λ fault. IsReason self.old.phase self.old.root (HasNoRoom self.old.room image) fault) }
     {
         if let Some(fault) = self.refusal() {
             return Err(fault);
@@ -88,6 +90,8 @@ fn drafted(alloc: Global, image: &Image, room: &Room, root: Root) -> Result<Next
     ensures ok { (x : Kept) → x.root ≡ root → IsMapOf x.extents (taken_of room.now.map) → IfOk result (λ next. IsNext x image.now next) }
     ensures calls { IfOk result (λ next. length next.plan.items ≡ length image.now.layers + length image.now.tiles + 2) }
     ensures number { IfOk result (λ next. next.root.version ≡ image.now.number) }
+    ensures room { IfOk result (λ _. HasRoom room.now image.now) }
+    ensures full { IsErrOf result StoreFault.Full → HasNoRoom room.now image.now }
     ensures err { IfErr result (λ fault. (fault ≡ StoreFault.Full) ⊎ (fault ≡ StoreFault.OutOfMemory)) }
 {
     let number = image.number();

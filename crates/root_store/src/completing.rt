@@ -2,6 +2,7 @@
 ghost use Rattle.std.specs.Prelude.{◌≡◌, ◌⊎◌, ◌+◌, ◌^◌, ◌<◌, ◌++◌, ◌∷◌, [], ℕ, List, length, flat_map, All, IfOk, IfErr, IsErrOf};
 ghost use Rattle.overlay_terms.specs.Column.{column_count};
 ghost use Rattle.extent_map.specs.declared.extent.Extent as runs;
+ghost use Rattle.extent_map.specs.FirstFit.{IsFull};
 ghost use Rattle.record_form.specs.Listing.{listing_of, IsListable};
 ghost use Rattle.store_terms.specs.Catalog.{catalog};
 ghost use Rattle.store_terms.specs.Image.{Held};
@@ -10,7 +11,7 @@ ghost use Rattle.store_terms.specs.StandsFor.{body_at};
 ghost use Rattle.root_store.specs.Kept.{Kept, other};
 ghost use Rattle.root_store.specs.Filing.{Filed, FiledLayer, filed_of};
 ghost use Rattle.root_store.specs.Running.{IsMapOf};
-ghost use Rattle.root_store.specs.Drafting.{IsDraft, HasNoRun, Spell, IsNext};
+ghost use Rattle.root_store.specs.Drafting.{ArePlanned, ArePlaced, IsDraft, Spell, IsNext};
 
 use crate::draft::Draft;
 use crate::fault::StoreFault;
@@ -45,8 +46,10 @@ pub(crate) fn completed(
         → IsDraft given limit (flat_map filed_of layers) draft → Spell layers (listing_of listing.now) held → held.number ≡ number → IfOk result (λ next. IsNext x held next) }
     ensures calls { IfOk result (λ next. length next.plan.items ≡ length draft.writes.items + 2) }
     ensures number { IfOk result (λ next. next.root.version ≡ number) }
-    ensures full { (given : List runs.Extent) (limit : ℕ) (fs : List Filed) → IsDraft given limit fs draft
-        → IsErrOf result StoreFault.Full → HasNoRun given limit fs ((catalog column_count).text (listing_of listing.now)) }
+    ensures placed { (given : List runs.Extent) (limit : ℕ) (sizes : List ℕ) → ArePlaced given limit sizes draft
+        → IfOk result (λ _. ArePlanned given limit (sizes ++ length ((catalog column_count).text (listing_of listing.now)) ∷ [])) }
+    ensures full { (given : List runs.Extent) (limit : ℕ) (sizes : List ℕ) → ArePlaced given limit sizes draft → IsErrOf result StoreFault.Full
+        → IsFull given limit (sizes ++ length ((catalog column_count).text (listing_of listing.now)) ∷ []) }
     ensures err { (given : List runs.Extent) (limit : ℕ) (fs : List Filed) → IsDraft given limit fs draft
         → IfErr result (λ fault. (fault ≡ StoreFault.Full) ⊎ (fault ≡ StoreFault.OutOfMemory)) }
 {

@@ -1,10 +1,10 @@
 //! The records of a commit, each put in its place.
-ghost use Rattle.std.specs.Prelude.{◌≡◌, ◌⊎◌, ◌+◌, ◌-◌, ◌*◌, ◌^◌, ◌≤◌, ◌<◌, ◌++◌, ◌∷◌, [], ℕ, List, length, map, replicate, IfOk, IfErr, IsErrOf};
+ghost use Rattle.std.specs.Prelude.{◌≡◌, ◌⊎◌, ◌+◌, ◌-◌, ◌*◌, ◌^◌, ◌≤◌, ◌<◌, ◌++◌, ◌∷◌, [], ℕ, List, length, replicate, IfOk, IfErr, IsErrOf};
 ghost use Rattle.extent_map.specs.declared.extent.Extent as runs;
-ghost use Rattle.extent_map.specs.FirstFit.{blocks_for};
-ghost use Rattle.extent_map.specs.Taken.{taken_of, limit_of};
+ghost use Rattle.extent_map.specs.FirstFit.{IsFull};
+ghost use Rattle.extent_map.specs.Taken.{taken_of};
 ghost use Rattle.root_store.specs.Filing.{Filed};
-ghost use Rattle.root_store.specs.Drafting.{IsDraft, HasNoRun};
+ghost use Rattle.root_store.specs.Drafting.{ArePlaced, IsDraft};
 
 use crate::fault::StoreFault;
 use crate::room::Room;
@@ -48,15 +48,18 @@ impl Draft {
 
     /// Puts a record in the lowest place that is free for it.
     pub(crate) fn file(&mut self, bytes: Vec<u8>) -> Result<Extent, StoreFault>
-        ensures ok { (given : List runs.Extent) (limit : ℕ) (fs : List Filed) → IsDraft given limit fs self.old → IfOk result (λ e. IsDraft given limit (fs ++ record { extent = e; bytes = bytes.items } ∷ []) self.new) }
+        requires { length bytes.items < 2 ^ 32 }
+        ensures ok { (given : List runs.Extent) (limit : ℕ) (fs : List Filed) → IsDraft given limit fs self.old
+            → IfOk result (λ e. IsDraft given limit (fs ++ record { extent = e; bytes = bytes.items } ∷ []) self.new) }
         ensures within { IfOk result (λ e. (e.block < 2 ^ 32) × (e.size < 2 ^ 32)) }
         ensures count { IfOk result (λ _. length self.new.writes.items ≡ length self.old.writes.items + 1) }
-        ensures full { (given : List runs.Extent) (limit : ℕ) (fs : List Filed) → IsDraft given limit fs self.old → IsErrOf result StoreFault.Full → HasNoRun given limit fs bytes.items }
+        ensures placed { (given : List runs.Extent) (limit : ℕ) (sizes : List ℕ) → ArePlaced given limit sizes self.old
+            → IfOk result (λ _. ArePlaced given limit (sizes ++ length bytes.items ∷ []) self.new) }
+        ensures full { (given : List runs.Extent) (limit : ℕ) (sizes : List ℕ) → ArePlaced given limit sizes self.old
+            → IsErrOf result StoreFault.Full → IsFull given limit (sizes ++ length bytes.items ∷ []) }
         ensures err { IfErr result (λ fault. (fault ≡ StoreFault.Full) ⊎ (fault ≡ StoreFault.OutOfMemory)) }
     {
-        let Ok(size) = u32::try_from(bytes.len()) else {
-            return Err(StoreFault::Full);
-        };
+        let size = bytes.len() as u32;
         let run = match self.room.place(size) {
             Ok(run) => run,
             Err(fault) => return Err(fault),

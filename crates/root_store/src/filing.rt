@@ -1,12 +1,15 @@
 //! The records of an image, each put in its place.
-ghost use Rattle.std.specs.Prelude.{◌≡◌, ◌⊎◌, ◌+◌, ◌<◌, ◌≤◌, ◌++◌, ℕ, List, [], length, map, All, IfOk, IfErr, IsTrue, IsFalse};
+ghost use Rattle.std.specs.Prelude.{◌≡◌, ◌⊎◌, ◌+◌, ◌<◌, ◌≤◌, ◌++◌, ℕ, List, [], length, map, flat_map, All, IfOk, IfErr, IsErrOf, IsTrue, IsFalse};
 ghost use Rattle.overlay_terms.specs.Column.{column_count};
 ghost use Rattle.extent_map.specs.declared.extent.Extent as runs;
+ghost use Rattle.extent_map.specs.FirstFit.{IsFull};
 ghost use Rattle.record_form.specs.Image.{finished};
 ghost use Rattle.record_form.specs.Listing.{listed_of, listing_of, IsListable};
 ghost use Rattle.root_store.specs.Filing.{Filed};
-ghost use Rattle.root_store.specs.Drafting.{IsDraft};
+ghost use Rattle.root_store.specs.Drafting.{ArePlaced, IsDraft};
+ghost use Rattle.root_store.specs.Sizes.{sizes_of_layer};
 ghost use Rattle.root_store.specs.Walking.{IsHere, IsElsewhere, AreLeft, IsTileFiled, AreTilesFiled, IsLayerFiled, AreLayersFiled};
+ghost use Rattle.root_store.specs.Placing.{AreTaken, FindNone, IsTaken, FindsNone};
 
 use crate::draft::Draft;
 use crate::fault::StoreFault;
@@ -55,6 +58,10 @@ fn file_tile<'a>(
     ensures ok { (given : List runs.Extent) (limit : ℕ) (fs : List Filed) → IsDraft given limit fs draft.old
         → IfOk result (λ r. IsTileFiled given limit fs layers.now place column (map finished tiles.now) (map finished r.1.now) r.0 draft.new) }
     ensures left { IfOk result (λ r. AreLeft layers.now place (column + 1) (map finished r.1.now)) }
+    ensures taken { (given : List runs.Extent) (limit : ℕ) (sizes : List ℕ) → ArePlaced given limit sizes draft.old
+        → IfOk result (λ r. AreTaken given limit sizes layers.now place tiles.now r.1.now draft.new) }
+    ensures full { (given : List runs.Extent) (limit : ℕ) (sizes : List ℕ) → ArePlaced given limit sizes draft.old
+        → IsErrOf result StoreFault.Full → FindNone given limit sizes layers.now place tiles.now }
     ensures err { IfErr result (λ fault. (fault ≡ StoreFault.Full) ⊎ (fault ≡ StoreFault.OutOfMemory)) }
 {
     if !is_here(layers, place, column, tiles) {
@@ -79,6 +86,10 @@ fn file_tiles<'a>(
         → IfOk result (λ r. AreTilesFiled given limit fs layers.now place column_count (map finished tiles.now) (map finished r.1.now) r.0.items draft.new) }
     ensures left { IfOk result (λ r. AreLeft layers.now place column_count (map finished r.1.now)) }
     ensures count { IfOk result (λ r. length r.0.items ≡ column_count) }
+    ensures taken { (given : List runs.Extent) (limit : ℕ) (sizes : List ℕ) → ArePlaced given limit sizes draft.old
+        → IfOk result (λ r. AreTaken given limit sizes layers.now place tiles.now r.1.now draft.new) }
+    ensures full { (given : List runs.Extent) (limit : ℕ) (sizes : List ℕ) → ArePlaced given limit sizes draft.old
+        → IsErrOf result StoreFault.Full → FindNone given limit sizes layers.now place tiles.now }
     ensures err { IfErr result (λ fault. (fault ≡ StoreFault.Full) ⊎ (fault ≡ StoreFault.OutOfMemory)) }
 {
     let mut entries = Vec::new(alloc);
@@ -105,6 +116,10 @@ fn file_layer<'a>(
         → IfOk result (λ r. IsLayerFiled given limit fs layers.now place (map finished tiles.now) (map finished r.1.now) (listed_of r.0) draft.new) }
     ensures left { IfOk result (λ r. AreLeft layers.now (place + 1) 0 (map finished r.1.now)) }
     ensures listable { IfOk result (λ r. IsListable r.0) }
+    ensures taken { (given : List runs.Extent) (limit : ℕ) (sizes : List ℕ) → ArePlaced given limit sizes draft.old
+        → IfOk result (λ r. IsTaken given limit sizes layers.now place tiles.now r.1.now draft.new) }
+    ensures full { (given : List runs.Extent) (limit : ℕ) (sizes : List ℕ) → ArePlaced given limit sizes draft.old
+        → IsErrOf result StoreFault.Full → FindsNone given limit sizes layers.now place tiles.now }
     ensures err { IfErr result (λ fault. (fault ≡ StoreFault.Full) ⊎ (fault ≡ StoreFault.OutOfMemory)) }
 {
     layers.len();
@@ -114,12 +129,14 @@ fn file_layer<'a>(
     let name = Vec::from_slice(alloc, named.bytes())?;
     match layer {
         Layer::Base(rings) => {
+            rings.rings();
             let bytes = write_base(alloc, rings)?;
             let extent = draft.file(bytes)?;
             let records = Records::Base(extent);
             Ok((Listed { name, records }, tiles))
         }
         Layer::Derived(expression) => {
+            expression.root();
             let bytes = write_definition(alloc, expression)?;
             let extent = draft.file(bytes)?;
             let (entries, rest) = file_tiles(alloc, draft, layers, place, tiles)?;
@@ -141,6 +158,10 @@ pub(crate) fn file_layers(
         → IfOk result (λ v. AreLayersFiled given limit layers.now (map finished tiles.now) [] (listing_of v.items) draft.new) }
     ensures listable { IfOk result (λ v. All IsListable v.items) }
     ensures count { IfOk result (λ v. length v.items ≡ length layers.now) }
+    ensures taken { (given : List runs.Extent) (limit : ℕ) → ArePlaced given limit [] draft.old
+        → IfOk result (λ _. ArePlaced given limit (flat_map (sizes_of_layer tiles.now) layers.now) draft.new) }
+    ensures full { (given : List runs.Extent) (limit : ℕ) → ArePlaced given limit [] draft.old
+        → IsErrOf result StoreFault.Full → IsFull given limit (flat_map (sizes_of_layer tiles.now) layers.now) }
     ensures err { IfErr result (λ fault. (fault ≡ StoreFault.Full) ⊎ (fault ≡ StoreFault.OutOfMemory)) }
 {
     let mut listing = Vec::new(alloc);

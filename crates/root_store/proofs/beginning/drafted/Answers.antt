@@ -1,4 +1,4 @@
-use Rattle.std.proofs.Common.{◌≡◌, ◌+◌, [], List, length, map, sym, ◌∙◌, subst, arith}
+use Rattle.std.proofs.Common.{◌≡◌, ◌+◌, [], ◌∷◌, ◌++◌, List, length, ap, map, sym, ◌∙◌, subst, arith}
 use Rattle.std.specs.List.{flat_map}
 use Rattle.overlay_terms.specs.Layers.{Layer}
 use Rattle.overlay_terms.specs.Histories.{Finished}
@@ -11,7 +11,16 @@ use Rattle.record_form.specs.declared.catalog.Listed as code
 use Rattle.root_store.specs.declared.next.Next.{Next}
 use Rattle.root_store.specs.Filing.{filed_of}
 use Rattle.root_store.specs.Running.{IsMapOf}
-use Rattle.root_store.specs.Drafting.{Spell}
+use Rattle.overlay_terms.specs.Column.{column_count}
+use Rattle.extent_map.specs.FirstFit.{IsFull}
+use Rattle.store_terms.specs.Catalog.{catalog}
+use Rattle.root_store.specs.declared.fault.StoreFault.TheVariants.{Full}
+use Rattle.root_store.specs.Sizes.{sizes_of_layer, catalog_size}
+use Rattle.root_store.specs.Beginning.{HasRoom}
+use Rattle.root_store.specs.Drafting.{ArePlanned, ArePlaced, Spell}
+use Rattle.root_store.proofs.Drafts.{passed_error}
+use Rattle.root_store.proofs.Sized.{full_more}
+use Rattle.root_store.proofs.Roomed.{has_room, has_no_room, catalog_sized}
 use Rattle.root_store.specs.Walking.{AreLeft, AreLayersFiled}
 use Rattle.root_store.proofs.Walked.{writes_count, records_count}
 use Rattle.root_store.proofs.Imaged.{all_left, spell_of, if_ok}
@@ -66,3 +75,58 @@ returns-clause-err c =
     let in_layers = subst (λ (l : List Layer). AreLayersFiled given copy.max_blocks l (map finished c.tiles.result.now) [] ls d) c.layers-2.ensures as_read in
     let filed = subst (λ (t : List Finished). AreLayersFiled given copy.max_blocks image.layers t [] ls d) c.tiles.ensures in_layers in
     c.completed.ensures.err given copy.max_blocks (flat_map filed_of filed.filed) filed.draft
+
+pub returns-in_err-listing-clause-full : goal.returns-in_err-listing-clause-full
+returns-in_err-listing-clause-full c u =
+    let image = c.args.image.now in
+    let copy = c.in_ok-try_copy.field-0 in
+    let tiles = c.tiles.result.now in
+    let given = taken_of copy.map in
+    let limit = copy.max_blocks in
+    let full = c.in_err-listing.ensures.full given limit c.new-draft.ensures.placed (passed_error _ c.from_residual-in_err-listing.result c.in_err-listing.field-0.0 Full c.from_residual-in_err-listing.ensures.1 u) in
+    let in_layers = subst (λ (l : List Layer). IsFull given limit (flat_map (sizes_of_layer tiles) l)) c.layers-2.ensures full in
+    has_no_room c.args.room.now copy image tiles c.tiles.ensures c.in_ok-try_copy.ensures.taken c.in_ok-try_copy.ensures.limit
+    (full_more given limit (flat_map (sizes_of_layer tiles) image.layers) (catalog_size image.layers (length tiles) ∷ []) in_layers)
+
+pub returns-clause-room : goal.returns-clause-room
+returns-clause-room c =
+    let image = c.args.image.now in
+    let copy = c.in_ok-try_copy.field-0 in
+    let tiles = c.tiles.result.now in
+    let given = taken_of copy.map in
+    let limit = copy.max_blocks in
+    let d = c.file_layers.new.draft in
+    let listing = c.in_ok-listing.listing.items in
+    let ls = listing_of listing in
+    let as_read = c.in_ok-listing.ensures.ok given limit c.new-draft.ensures in
+    let in_layers = subst (λ (l : List Layer). AreLayersFiled given limit l (map finished tiles) [] ls d) c.layers-2.ensures as_read in
+    let filed = subst (λ (t : List Finished). AreLayersFiled given limit image.layers t [] ls d) c.tiles.ensures in_layers in
+    let sizes = flat_map (sizes_of_layer tiles) image.layers in
+    let placed = subst (λ (l : List Layer). ArePlaced given limit (flat_map (sizes_of_layer tiles) l) d) c.layers-2.ensures (c.in_ok-listing.ensures.taken given limit c.new-draft.ensures.placed) in
+    let listable = c.in_ok-listing.ensures.listable in
+    let whole = catalog_sized image tiles given limit listing d c.tiles.ensures filed listable in
+    let read = ap (λ (l : List code.Listed). sizes ++ length ((catalog column_count).text (listing_of l)) ∷ []) c.deref.ensures.value in
+    if_ok c.completed.result (λ _. ArePlanned given limit (sizes ++ length ((catalog column_count).text (listing_of c.deref.result.now)) ∷ [])) (λ _. HasRoom c.args.room.now image)
+    (λ next planned. has_room c.args.room.now copy image tiles c.tiles.ensures c.in_ok-try_copy.ensures.taken c.in_ok-try_copy.ensures.limit (subst (ArePlanned given limit) (read ∙ whole) planned))
+    (c.completed.ensures.placed given limit sizes placed)
+
+pub returns-clause-full : goal.returns-clause-full
+returns-clause-full c u =
+    let image = c.args.image.now in
+    let copy = c.in_ok-try_copy.field-0 in
+    let tiles = c.tiles.result.now in
+    let given = taken_of copy.map in
+    let limit = copy.max_blocks in
+    let d = c.file_layers.new.draft in
+    let listing = c.in_ok-listing.listing.items in
+    let ls = listing_of listing in
+    let as_read = c.in_ok-listing.ensures.ok given limit c.new-draft.ensures in
+    let in_layers = subst (λ (l : List Layer). AreLayersFiled given limit l (map finished tiles) [] ls d) c.layers-2.ensures as_read in
+    let filed = subst (λ (t : List Finished). AreLayersFiled given limit image.layers t [] ls d) c.tiles.ensures in_layers in
+    let sizes = flat_map (sizes_of_layer tiles) image.layers in
+    let placed = subst (λ (l : List Layer). ArePlaced given limit (flat_map (sizes_of_layer tiles) l) d) c.layers-2.ensures (c.in_ok-listing.ensures.taken given limit c.new-draft.ensures.placed) in
+    let listable = c.in_ok-listing.ensures.listable in
+    let whole = catalog_sized image tiles given limit listing d c.tiles.ensures filed listable in
+    let read = ap (λ (l : List code.Listed). sizes ++ length ((catalog column_count).text (listing_of l)) ∷ []) c.deref.ensures.value in
+    has_no_room c.args.room.now copy image tiles c.tiles.ensures c.in_ok-try_copy.ensures.taken c.in_ok-try_copy.ensures.limit
+    (subst (IsFull given limit) (read ∙ whole) (c.completed.ensures.full given limit sizes placed u))

@@ -1,4 +1,4 @@
-use Rattle.std.proofs.Common.{◌≡◌, ◌⊎◌, Err, ◌+◌, ◌<◌, List, refl, sym, ◌∙◌, ap, subst, arith}
+use Rattle.std.proofs.Common.{◌≡◌, ◌⊎◌, Err, ◌+◌, ◌^◌, ◌<◌, ◌++◌, ◌∷◌, [], ℕ, List, length, refl, sym, ◌∙◌, ap, subst, arith}
 use Rattle.std.specs.List.{flat_map}
 use Rattle.extent_map.specs.declared.extent.Extent as runs
 use Rattle.extent_map.specs.Extents as maps
@@ -14,7 +14,9 @@ use Rattle.root_store.specs.declared.write.Write.{Write}
 use Rattle.root_store.specs.declared.next.Next.{Next}
 use Rattle.root_store.specs.Kept.{other}
 use Rattle.root_store.specs.Filing.{Filed, filed_of}
-use Rattle.root_store.proofs.Drafts.{room_fault}
+use Rattle.extent_map.specs.FirstFit.{IsPlanned, IsFull}
+use Rattle.root_store.proofs.Drafts.{room_fault, not_full, passed_error, same_fault}
+use Rattle.root_store.proofs.Short.{catalog_short}
 use Rattle.root_store.proofs.Placed.{planned_apart}
 use Rattle.root_store.proofs.Completed.{completes}
 use Rattle.root_store.proofs.completing.completed.Goals as goal
@@ -44,6 +46,27 @@ returns-clause-ok c x given limit layers held root room draft spell number =
 pub returns-in-Err-clause-err : goal.returns-in-Err-clause-err
 returns-in-Err-clause-err c given limit fs draft =
     let drafted = c.in_ok-catalog.ensures.ok given limit fs draft in
-    let apart : maps.AreApart c.deref.result.now = subst maps.AreApart (sym c.deref.ensures.value) (planned_apart given limit _ c.file.new.self.runs.items drafted.planned) in
+    let apart : maps.AreApart c.deref.result.now = subst maps.AreApart (sym c.deref.ensures.value) (planned_apart given limit _ c.file.new.self.runs.items drafted.placed.planned) in
     let is = room_fault c.in-Err.fault (λ overlap. c.in-Err.ensures.overlap (ap Err overlap) apart) in
     subst (λ (e : StoreFault). (e ≡ Full) ⊎ (e ≡ OutOfMemory)) (sym c.from.ensures) is
+
+pub file-requires : goal.file-requires
+file-requires c =
+    let listing = c.args.listing.now in
+    subst (λ (l : List ℕ). length l < 2 ^ 32) (sym c.in_ok-bytes.ensures.spelled) (catalog_short listing c.requires.listable c.requires.few)
+
+pub returns-clause-placed : goal.returns-clause-placed
+returns-clause-placed c given limit sizes placed =
+    let one = c.in_ok-catalog.ensures.placed given limit sizes placed in
+    (c.file.new.self.runs.items, subst (λ (l : List ℕ). IsPlanned given limit (sizes ++ length l ∷ []) c.file.new.self.runs.items) c.in_ok-bytes.ensures.spelled one.planned)
+
+pub returns-in_err-catalog-clause-full : goal.returns-in_err-catalog-clause-full
+returns-in_err-catalog-clause-full c given limit sizes placed u =
+    let full = c.in_err-catalog.ensures.full given limit sizes placed (passed_error _ c.from_residual-in_err-catalog.result c.in_err-catalog.field-0.0 Full c.from_residual-in_err-catalog.ensures.1 u) in
+    subst (λ (l : List ℕ). IsFull given limit (sizes ++ length l ∷ [])) c.in_ok-bytes.ensures.spelled full
+
+pub returns-in-Err-clause-full : goal.returns-in-Err-clause-full
+returns-in-Err-clause-full c given limit sizes placed u =
+    let one = c.in_ok-catalog.ensures.placed given limit sizes placed in
+    let apart : maps.AreApart c.deref.result.now = subst maps.AreApart (sym c.deref.ensures.value) (planned_apart given limit _ c.file.new.self.runs.items one.planned) in
+    absurd (not_full c.in-Err.fault (λ overlap. c.in-Err.ensures.overlap (ap Err overlap) apart) (λ full. c.in-Err.ensures.never (ap Err full)) (sym c.from.ensures ∙ same_fault _ c.from.result Full u))

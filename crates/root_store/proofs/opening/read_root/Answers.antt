@@ -5,7 +5,6 @@ use Rattle.overlay_terms.specs.Histories.{Finished}
 use Rattle.record_form.specs.Image.{finished}
 use Rattle.record_form.specs.Listing as listings
 use Rattle.store_terms.specs.declared.damage.Damage.{Damage}
-use Rattle.store_terms.specs.declared.root.Extent.{Extent}
 use Rattle.store_terms.specs.Catalog.{Listed}
 use Rattle.store_terms.specs.Places.{extents_listed}
 use Rattle.store_terms.specs.Image.{Held, listing_of, layers_of, held_of}

@@ -5,7 +5,7 @@ use Rattle.store_terms.specs.Image.{held_of}
 use Rattle.store_terms.specs.Frame.{extents_of}
 use Rattle.extent_map.specs.Taken.{taken_of}
 use Rattle.root_store.specs.Finding.{has_shut_gate}
-use Rattle.root_store.specs.Looking.{Refuses, Gives}
+use Rattle.root_store.specs.Looking.{Refuses}
 use Rattle.root_store.specs.Opening.{held_in}
 use Rattle.root_store.specs.Running.{IsMapOf}
 use Rattle.root_store.proofs.Looked.{gives_err, refuses_bound}

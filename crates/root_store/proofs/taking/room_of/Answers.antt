@@ -1,4 +1,4 @@
-use Rattle.std.proofs.Common.{◌≡◌, ◌∷◌, Err, refl, sym, ap, subst}
+use Rattle.std.proofs.Common.{◌∷◌, refl, sym, subst}
 use Rattle.extent_map.specs.Taken.{taken_of}
 use Rattle.record_form.specs.Listing.{listing_of}
 use Rattle.store_terms.specs.Places.{extents_listed}
