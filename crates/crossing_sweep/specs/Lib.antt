@@ -14,3 +14,4 @@ pub mod Passing
 pub mod Beginning
 pub mod Ahead
 pub mod Start
+pub mod Member

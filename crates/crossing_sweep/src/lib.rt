@@ -5,6 +5,7 @@ pub mod ahead;
 pub mod known_places;
 pub mod last_node;
 pub mod leaning;
+pub mod member;
 pub mod next_node;
 pub mod passing;
 pub mod queue;
