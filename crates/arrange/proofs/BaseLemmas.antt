@@ -93,5 +93,5 @@ pub few_layers : (input : Input) (items : List MarkedSeg) → IsInput input → 
 few_layers input items valid same = λ k d l.
     let m = get_or items k d in
     let there : Contains input.marked (marked_of m) = subst (λ ms. Contains ms (marked_of m)) same (contains_map marked_of items m (Contains-get_or items k d l)) in
-    let known = All-contains (λ m. m.layer < input.steps.bases) input.marked (marked_of m) valid.known there in
+    let known = All-contains (λ m. m.layer < input.steps.bases) input.marked (marked_of m) valid.known_layers there in
     omega (arith, known, valid.few)

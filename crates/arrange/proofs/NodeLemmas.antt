@@ -23,13 +23,14 @@ use Rattle.arrange.specs.NamedPlaces.{spot, own_names, names_with, names_along, 
 use Rattle.arrange.specs.declared.named_place.NamedPlace.{NamedPlace}
 
 -- a border between the two of a closed column is one of them
-one_of_two : (j k : ℕ) → border k ≤ℤ (border j) → border j ≤ℤ (border (k + 1)) → (j ≡ k) ⊎ (j ≡ k + 1)
+pub one_of_two : (j k : ℕ) → border k ≤ℤ (border j) → border j ≤ℤ (border (k + 1)) → (j ≡ k) ⊎ (j ≡ k + 1)
 one_of_two j k low high = by (cases_eq j k) where
   by : (j ≡ k) ⊎ (j ≢ k) → (j ≡ k) ⊎ (j ≡ k + 1)
   by (inl e) = inl e
   by (inr n) = inr (omega (arith, ints))
 
-once_more : (x : ℤ) → x *ℤ pos 1 ≡ x
+-- a number once
+pub once_more : (x : ℤ) → x *ℤ pos 1 ≡ x
 once_more x = omega (arith, ints)
 
 module _ (input : Input) (s : Segment) (ahead : whole_cmp s.left s.right ≡ Less) (found : List NamedPlace) (h : AreFound input.column s (names_along input s) found) (p : Point) (n : IsNodeOn input s p) where
@@ -64,7 +65,7 @@ module _ (input : Input) (s : Segment) (ahead : whole_cmp s.left s.right ≡ Les
     higher = rw (← e) (le_true _ _ (and_parts (int_le (border input.column *ℤ p.w) p.x) (int_le p.x (border (input.column + 1) *ℤ p.w)) n.in_column).1)
 
     cut : IsCutOf s j p
-    cut = record { cut = record { known = known; after_left = low; before_right = high }; on_segment = n.on_segment; on_border = e }
+    cut = record { cut = record { known_column = known; after_left = low; before_right = high }; on_segment = n.on_segment; on_border = e }
 
     by : (j ≡ input.column) ⊎ (j ≡ input.column + 1) → There
     by (inl f) = let Q : ℕ → Type 0 = λ i. IsCutOf s i p in there (Border s input.column) (own (Border s input.column) (2, lit< tt, refl)) (subst Q f cut)

@@ -64,7 +64,7 @@ module _ (input : Input) (s : Segment) (known : IsKnown input s) (p : Point) (hp
 
   at_cut : (j : ℕ) → IsCutOf s j p → Node
   at_cut j cut =
-      border_node (segments_in input) known.holder j p cut.cut.known cut.on_border (known.holds p hp on_s)
+      border_node (segments_in input) known.holder j p cut.cut.known_column cut.on_border (known.holds p hp on_s)
       (wide_too known.holder s known.ahead (turn_from_parallel known.holder s known.same_way) standing) known.among
     where
       narrow : (a b : ℤ) → a <ℤ (border j) → (border j) <ℤ b → a ≡ b → ⊥

@@ -1,19 +1,18 @@
 //! The nodes on a segment.
-ghost use Rattle.std.specs.Prelude.{◌≡◌, ◌+◌, ◌++◌, ◌*ℤ◌, [], ◌∷◌, int_le, List, filter, map, IfOk, OnOk};
-ghost use Rattle.overlay_terms.specs.Column.{border};
+ghost use Rattle.std.specs.Prelude.{◌≡◌, ◌+◌, ◌++◌, [], ◌∷◌, List, filter, map, IfOk, OnOk};
 ghost use Rattle.overlay_terms.specs.Plane.{whole_cmp};
-ghost use Rattle.exact_point.specs.Place.{place};
 ghost use Rattle.exact_point.specs.declared.point_name.PointName.{PointName};
 ghost use Rattle.overlay_terms.specs.TileLaws.{IsInput};
-ghost use Rattle.arrange.specs.Arrangement.{AreNodesOn, is_in_closed_column};
+ghost use Rattle.arrange.specs.Arrangement.{AreNodesOn};
 ghost use Rattle.arrange.specs.NamedPlaces.{AreFound, AreAlong, own_names, names_with, spot};
 ghost use Rattle.overlay_terms.specs.Tiles.{is_node};
 
+use crate::closed_column::is_within;
 use crate::marked_seg::MarkedSeg;
 use crate::named_place::{NamedPlace, Places};
 use crate::node_test::is_node;
 use crate::tile_input::TileInput;
-use exact_point::{HPoint, PointName, border_side, on};
+use exact_point::{PointName, on};
 use plane_base::{Column, Seg};
 use std::alloc::{AllocError, Global};
 use std::cmp::Ordering;
@@ -104,25 +103,4 @@ fn offer(found: &mut Places, name: PointName, seg: &Seg, column: Column) -> Resu
         }
     }
     Ok(())
-}
-
-/// Whether a point lies from a column's left border to its right border.
-fn is_within(column: Column, p: &HPoint) -> bool
-    ensures { result ≡ is_in_closed_column column (place p.now) }
-{
-    let from_left = border_side(column, p);
-    let to_right = is_up_to(column, p);
-    // Eager, so that one equation says all: both sides are known by then.
-    from_left.is_ge() & to_right
-}
-
-/// Whether a point lies left of a column's right border or on it. The last column has no other
-/// column right of it, and all points lie left of its right border.
-fn is_up_to(column: Column, p: &HPoint) -> bool
-    ensures { result ≡ int_le p.now.x (border (column + 1) *ℤ p.now.w) }
-{
-    match Column::new(u64::from(column.number()) + 1) {
-        Some(next) => border_side(next, p).is_le(),
-        None => true,
-    }
 }

@@ -1,6 +1,7 @@
 //! The arrangement of the segments of one column: units, nodes and elementary pieces.
 #![tactic(auto)]
 
+pub mod closed_column;
 pub mod finding_nodes;
 pub mod finding_pieces;
 pub mod finding_units;
@@ -15,6 +16,7 @@ pub mod tile_input;
 pub mod unit;
 mod unit_ends;
 
+pub use closed_column::is_within;
 pub use finding_nodes::nodes_on;
 pub use finding_pieces::pieces;
 pub use finding_units::units;

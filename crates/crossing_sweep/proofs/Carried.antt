@@ -115,7 +115,8 @@ module _ (n : ℤ) (input : Input) (p r : Point) (piece : IsPiece (segments_in i
   reach : Reaches n piece.support p r
   reach = record {
     from = lean_at_most n (whole piece.support.left) p steep (left_small piece.support (proper_one piece.support piece.among)) nodal_p.small (after_left piece.support p piece.from_on);
-    to = lean_at_most n r (whole piece.support.right) steep nodal_r.small (right_small piece.support (proper_one piece.support piece.among)) (before_right piece.support r piece.to_positive piece.to_on);
+    to = lean_at_most n r (whole piece.support.right) steep nodal_r.small (right_small piece.support (proper_one piece.support piece.among))
+        (before_right piece.support r piece.to_positive piece.to_on);
   }
 
   ends_near : IsNear n p r
@@ -161,7 +162,8 @@ module _ (n : ℤ) (input : Input) (p r : Point) (piece : IsPiece (segments_in i
         let after : point_cmp a (whole e) ≡ Less =
         less_from_forward a (whole e) (before_from_lean n a (whole e) hn (near n a (whole e) steep small_a small) (past_true (lean n a) (lean_whole n e) past.0)) in
         let not_after : point_cmp b (whole e) ≡ Less → ⊥ =
-        λ k. not_both (lean n b) (lean n (whole e)) (lean_left n b (whole e) hn (near n b (whole e) steep small_b small) (forward_from_less b (whole e) k)) (past_false (lean n b) (lean_whole n e) (from_not (is_past (lean n b) (lean_whole n e)) past.1)) in
+        λ k. not_both (lean n b) (lean n (whole e)) (lean_left n b (whole e) hn (near n b (whole e) steep small_b small)
+        (forward_from_less b (whole e) k)) (past_false (lean n b) (lean_whole n e) (from_not (is_past (lean n b) (lean_whole n e)) past.1)) in
         let ia : IsIn input.column a = is_in input.column a small_a.positive a_in in
         let ib : IsIn input.column b = is_in input.column b small_b.positive b_in in
         and_from (int_le (border input.column *ℤ pos 1) e.x) (int_lt e.x (border (input.column + 1) *ℤ pos 1))
@@ -213,23 +215,30 @@ module _ (n : ℤ) (input : Input) (p r : Point) (piece : IsPiece (segments_in i
           ∙ ap (λ b. differ (odd first input.marked) (differ (odd second input.marked) b)) (odd_differ left_end right_end input.marked))
           ∙ odd_never (λ m. differ (first m) (differ (second m) (differ (left_end m) (right_end m)))) input.marked
           (All-weaker (λ m. strip_parity s' (lean_segment n m.segment) (lean n a) (lean n b) ≡ false) (λ m. differ (first m) (differ (second m) (differ (left_end m) (right_end m))) ≡ false)
-          (λ m h. layered (m.layer == k) (is_over_x (lean_segment n m.segment) (lean n a) && is_under (lean_segment n m.segment) s' (lean n a)) (is_over_x (lean_segment n m.segment) (lean n b) && is_under (lean_segment n m.segment) s' (lean n b))
+          (λ m h. layered (m.layer == k) (is_over_x (lean_segment n m.segment) (lean n a) && is_under (lean_segment n m.segment) s' (lean n a))
+          (is_over_x (lean_segment n m.segment) (lean n b) && is_under (lean_segment n m.segment) s' (lean n b))
           (is_in_strip s' (lean n a) (lean n b) (lean_whole n m.segment.left)) (is_in_strip s' (lean n a) (lean n b) (lean_whole n m.segment.right)) h) input.marked all_signs)
 
       -- ends have a small y
       left_low : (m : Marked) → IsProper m.segment → is_low m.segment.left ≡ true
-      left_low m pm = and_from (int_le (neg_ℤ (pos coordinate_max)) m.segment.left.y) (int_le m.segment.left.y (pos coordinate_max)) (true_le (neg_ℤ (pos coordinate_max)) m.segment.left.y pm.left_y.0) (true_le m.segment.left.y (pos coordinate_max) pm.left_y.1)
+      left_low m pm = and_from (int_le (neg_ℤ (pos coordinate_max)) m.segment.left.y) (int_le m.segment.left.y (pos coordinate_max))
+          (true_le (neg_ℤ (pos coordinate_max)) m.segment.left.y pm.left_y.0) (true_le m.segment.left.y (pos coordinate_max) pm.left_y.1)
 
       right_low : (m : Marked) → IsProper m.segment → is_low m.segment.right ≡ true
-      right_low m pm = and_from (int_le (neg_ℤ (pos coordinate_max)) m.segment.right.y) (int_le m.segment.right.y (pos coordinate_max)) (true_le (neg_ℤ (pos coordinate_max)) m.segment.right.y pm.right_y.0) (true_le m.segment.right.y (pos coordinate_max) pm.right_y.1)
+      right_low m pm = and_from (int_le (neg_ℤ (pos coordinate_max)) m.segment.right.y) (int_le m.segment.right.y (pos coordinate_max))
+          (true_le (neg_ℤ (pos coordinate_max)) m.segment.right.y pm.right_y.0) (true_le m.segment.right.y (pos coordinate_max) pm.right_y.1)
 
       -- the ends in the strip are even in number
       ends_even : differ (odd left_end input.marked) (odd right_end input.marked) ≡ false
       ends_even =
           ap (λ b. differ b (odd right_end input.marked)) (odd_agree left_end (λ m. (m.layer == k) && is_there m.segment.left) input.marked
-          (All-weaker (λ m. IsProper m.segment) (λ m. left_end m ≡ ((m.layer == k) && is_there m.segment.left)) (λ m pm. guarded (is_low m.segment.left) (m.layer == k) (is_in_strip s' (lean n a) (lean n b) (lean_whole n m.segment.left)) (left_low m pm)) input.marked valid.proper))
+          (All-weaker (λ m. IsProper m.segment) (λ m. left_end m ≡ ((m.layer == k) && is_there m.segment.left))
+          (λ m pm. guarded (is_low m.segment.left) (m.layer == k) (is_in_strip s' (lean n a) (lean n b) (lean_whole n m.segment.left))
+          (left_low m pm)) input.marked valid.proper))
           ∙ ap (differ (odd (λ m. (m.layer == k) && is_there m.segment.left) input.marked)) (odd_agree right_end (λ m. (m.layer == k) && is_there m.segment.right) input.marked
-          (All-weaker (λ m. IsProper m.segment) (λ m. right_end m ≡ ((m.layer == k) && is_there m.segment.right)) (λ m pm. guarded (is_low m.segment.right) (m.layer == k) (is_in_strip s' (lean n a) (lean n b) (lean_whole n m.segment.right)) (right_low m pm)) input.marked valid.proper))
+          (All-weaker (λ m. IsProper m.segment) (λ m. right_end m ≡ ((m.layer == k) && is_there m.segment.right))
+          (λ m pm. guarded (is_low m.segment.right) (m.layer == k) (is_in_strip s' (lean n a) (lean n b) (lean_whole n m.segment.right))
+          (right_low m pm)) input.marked valid.proper))
           ∙ sym (odd_ends is_there k input.marked)
           ∙ region_even is_there k input.marked (λ e h. valid.even k e (there_within e h))
 
@@ -237,22 +246,29 @@ module _ (n : ℤ) (input : Input) (p r : Point) (piece : IsPiece (segments_in i
       pub under_constant : under_bits (lean_marked n input.marked) s' (lean n a) k ≡ under_bits (lean_marked n input.marked) s' (lean n b) k
       under_constant =
           odd_count (λ m. (m.layer == k) && (is_over_x m.segment (lean n a) && is_under m.segment s' (lean n a))) (lean_marked n input.marked)
-          ∙ odd_map (λ (m : Marked). (m.layer == k) && (is_over_x m.segment (lean n a) && is_under m.segment s' (lean n a))) (λ (m : Marked). let z : Marked = record { layer = m.layer; segment = lean_segment n m.segment } in z) input.marked
+          ∙ odd_map (λ (m : Marked). (m.layer == k) && (is_over_x m.segment (lean n a) && is_under m.segment s' (lean n a)))
+          (λ (m : Marked). let z : Marked = record { layer = m.layer; segment = lean_segment n m.segment } in z) input.marked
           ∙ alike_from (odd first input.marked) (odd second input.marked) (differ (odd left_end input.marked) (odd right_end input.marked)) all_four ends_even
-          ∙ sym (odd_map (λ (m : Marked). (m.layer == k) && (is_over_x m.segment (lean n b) && is_under m.segment s' (lean n b))) (λ (m : Marked). let z : Marked = record { layer = m.layer; segment = lean_segment n m.segment } in z) input.marked)
+          ∙ sym (odd_map (λ (m : Marked). (m.layer == k) && (is_over_x m.segment (lean n b) && is_under m.segment s' (lean n b)))
+          (λ (m : Marked). let z : Marked = record { layer = m.layer; segment = lean_segment n m.segment } in z) input.marked)
           ∙ sym (odd_count (λ m. (m.layer == k) && (is_over_x m.segment (lean n b) && is_under m.segment s' (lean n b))) (lean_marked n input.marked))
 
       -- the bits on the line
       level_constant : bits_where (λ t. is_level t s' (lean n a)) (lean_marked n input.marked) (lean n a) k ≡ bits_where (λ t. is_level t s' (lean n b)) (lean_marked n input.marked) (lean n b) k
       level_constant =
-          count_map (λ (m : Marked). (m.layer == k) && (is_over_x m.segment (lean n a) && is_level m.segment s' (lean n a))) (λ (m : Marked). let z : Marked = record { layer = m.layer; segment = lean_segment n m.segment } in z) input.marked
-          ∙ bits_agree (λ m. (m.layer == k) && (is_over_x (lean_segment n m.segment) (lean n a) && is_level (lean_segment n m.segment) s' (lean n a))) (λ m. (m.layer == k) && (is_over_x (lean_segment n m.segment) (lean n b) && is_level (lean_segment n m.segment) s' (lean n b))) input.marked
+          count_map (λ (m : Marked). (m.layer == k) && (is_over_x m.segment (lean n a) && is_level m.segment s' (lean n a)))
+          (λ (m : Marked). let z : Marked = record { layer = m.layer; segment = lean_segment n m.segment } in z) input.marked
+          ∙ bits_agree (λ m. (m.layer == k) && (is_over_x (lean_segment n m.segment) (lean n a) && is_level (lean_segment n m.segment) s'
+          (lean n a))) (λ m. (m.layer == k) && (is_over_x (lean_segment n m.segment) (lean n b) && is_level (lean_segment n m.segment) s'
+          (lean n b))) input.marked
           (λ i d l. let m : Marked = get_or input.marked i d in
           let among : Contains (segments_in input) m.segment = all_in_map (λ m. m.segment) input.marked i d l in
           ap (λ b. (m.layer == k) && b)
           (level_kept s' (lean_segment n m.segment) (lean n p) (lean n r) (lean n a) (lean n b) (stretch n hn (segments_in input) p r piece fit reach ends_near)
-          (apart n hn (segments_in input) p r piece fit reach ends_near m.segment among (beside m.segment among)) small_a.positive small_b.positive begin later end (inl (beside m.segment among).fit.wide)))
-          ∙ sym (count_map (λ (m : Marked). (m.layer == k) && (is_over_x m.segment (lean n b) && is_level m.segment s' (lean n b))) (λ (m : Marked). let z : Marked = record { layer = m.layer; segment = lean_segment n m.segment } in z) input.marked)
+          (apart n hn (segments_in input) p r piece fit reach ends_near m.segment among
+          (beside m.segment among)) small_a.positive small_b.positive begin later end (inl (beside m.segment among).fit.wide)))
+          ∙ sym (count_map (λ (m : Marked). (m.layer == k) && (is_over_x m.segment (lean n b) && is_level m.segment s' (lean n b)))
+          (λ (m : Marked). let z : Marked = record { layer = m.layer; segment = lean_segment n m.segment } in z) input.marked)
 
       -- and both
       pub up_to_constant : up_to_bits (lean_marked n input.marked) s' (lean n a) k ≡ up_to_bits (lean_marked n input.marked) s' (lean n b) k
@@ -279,7 +295,8 @@ module _ (n : ℤ) (input : Input) (p r : Point) (piece : IsPiece (segments_in i
   z_in =
       let ip : IsIn input.column p = is_in input.column p piece.from_positive p_in in
       and_from (int_le (border input.column *ℤ (midpoint p r).w) (midpoint p r).x) (int_lt (midpoint p r).x (border (input.column + 1) *ℤ (midpoint p r).w))
-      (true_le (border input.column *ℤ (midpoint p r).w) (midpoint p r).x (least_through p (midpoint p r) (border input.column) piece.from_positive small_z.positive (x_in_order p (midpoint p r) after_p) ip.low))
+      (true_le (border input.column *ℤ (midpoint p r).w) (midpoint p r).x
+      (least_through p (midpoint p r) (border input.column) piece.from_positive small_z.positive (x_in_order p (midpoint p r) after_p) ip.low))
       (true_lt (midpoint p r).x (border (input.column + 1) *ℤ (midpoint p r).w)
       (less_middle p r (border (input.column + 1)) piece.from_positive piece.to_positive ip.high (ends_within input.column (segments_in input) p r proper ip piece)))
 
@@ -294,19 +311,24 @@ module _ (n : ℤ) (input : Input) (p r : Point) (piece : IsPiece (segments_in i
 
   below_there : (k : ℕ) → below_bits input.marked (midpoint p r) k ≡ under_bits (lean_marked n input.marked) s' (lean n (midpoint p r)) k
   below_there k =
-      bits_agree (λ m. (m.layer == k) && is_below m.segment (midpoint p r)) (λ m. (m.layer == k) && (is_over_x (lean_segment n m.segment) (lean n (midpoint p r)) && is_under (lean_segment n m.segment) s' (lean n (midpoint p r)))) input.marked
+      bits_agree (λ m. (m.layer == k) && is_below m.segment (midpoint p r))
+      (λ m. (m.layer == k) && (is_over_x (lean_segment n m.segment) (lean n (midpoint p r)) && is_under (lean_segment n m.segment) s'
+      (lean n (midpoint p r)))) input.marked
       (λ i d l. let m : Marked = get_or input.marked i d in
       let among : Contains (segments_in input) m.segment = all_in_map (λ m. m.segment) input.marked i d l in
       ap (λ b. (m.layer == k) && b)
       (sym (below_is_alike n m.segment (midpoint p r) steep (valid.proper i d l) small_z)
       ∙ below_is_under s' (lean_segment n m.segment) (lean n p) (lean n r) (lean n (midpoint p r)) (stretch n hn (segments_in input) p r piece fit reach ends_near)
       (apart n hn (segments_in input) p r piece fit reach ends_near m.segment among (beside m.segment among)) small_z.positive left_z right_z level_z (inl (beside m.segment among).fit.wide)))
-      ∙ sym (count_map (λ (m : Marked). (m.layer == k) && (is_over_x m.segment (lean n (midpoint p r)) && is_under m.segment s' (lean n (midpoint p r)))) (λ (m : Marked). let z : Marked = record { layer = m.layer; segment = lean_segment n m.segment } in z) input.marked)
+      ∙ sym (count_map (λ (m : Marked). (m.layer == k) && (is_over_x m.segment (lean n (midpoint p r)) && is_under m.segment s'
+      (lean n (midpoint p r)))) (λ (m : Marked). let z : Marked = record { layer = m.layer; segment = lean_segment n m.segment } in z) input.marked)
 
   over_there : (k : ℕ) → over_bits input.marked (midpoint p r) k ≡ up_to_bits (lean_marked n input.marked) s' (lean n (midpoint p r)) k
   over_there k =
       bits_agree (λ m. (m.layer == k) && (is_below m.segment (midpoint p r) || is_on m.segment (midpoint p r)))
-      (λ m. (m.layer == k) && (is_over_x (lean_segment n m.segment) (lean n (midpoint p r)) && (is_under (lean_segment n m.segment) s' (lean n (midpoint p r)) || is_level (lean_segment n m.segment) s' (lean n (midpoint p r))))) input.marked
+      (λ m. (m.layer == k) && (is_over_x (lean_segment n m.segment) (lean n (midpoint p r)) &&
+      (is_under (lean_segment n m.segment) s' (lean n (midpoint p r)) || is_level (lean_segment n m.segment) s'
+      (lean n (midpoint p r))))) input.marked
       (λ i d l. let m : Marked = get_or input.marked i d in
       let among : Contains (segments_in input) m.segment = all_in_map (λ m. m.segment) input.marked i d l in
       ap (λ b. (m.layer == k) && b)
@@ -314,7 +336,9 @@ module _ (n : ℤ) (input : Input) (p r : Point) (piece : IsPiece (segments_in i
       ∙ ap (λ b. is_below (lean_segment n m.segment) (lean n (midpoint p r)) || b) (sym (on_alike n m.segment (midpoint p r) steep (valid.proper i d l) small_z))
       ∙ near_is_up_to s' (lean_segment n m.segment) (lean n p) (lean n r) (lean n (midpoint p r)) (stretch n hn (segments_in input) p r piece fit reach ends_near)
       (apart n hn (segments_in input) p r piece fit reach ends_near m.segment among (beside m.segment among)) small_z.positive left_z right_z level_z (inl (beside m.segment among).fit.wide)))
-      ∙ sym (count_map (λ (m : Marked). (m.layer == k) && (is_over_x m.segment (lean n (midpoint p r)) && (is_under m.segment s' (lean n (midpoint p r)) || is_level m.segment s' (lean n (midpoint p r))))) (λ (m : Marked). let z : Marked = record { layer = m.layer; segment = lean_segment n m.segment } in z) input.marked)
+      ∙ sym (count_map (λ (m : Marked). (m.layer == k) && (is_over_x m.segment (lean n (midpoint p r)) &&
+      (is_under m.segment s' (lean n (midpoint p r)) || is_level m.segment s' (lean n (midpoint p r)))))
+      (λ (m : Marked). let z : Marked = record { layer = m.layer; segment = lean_segment n m.segment } in z) input.marked)
 
   -- ---- from the middle to any place that the piece passes in the column
   module _ (q : Point) (passed : IsPassed input.column p r q) (k : ℕ) where

@@ -15,7 +15,7 @@ use Rattle.crossing_sweep.specs.NextNode.{IsNextNode}
 use Rattle.crossing_sweep.specs.Sides.{lean_marked, IsNodal, IsPassed}
 use Rattle.crossing_sweep.specs.Queue.{IsAlong, GoesOn}
 use Rattle.crossing_sweep.specs.Kept.{IsLastOn}
-use Rattle.crossing_sweep.specs.Closed.{IsClosed, StretchIsClosed}
+use Rattle.crossing_sweep.specs.Closed.{IsPieceWithSides, StretchIsClosed}
 use Rattle.crossing_sweep.proofs.StretchLemmas.{holder_holds, no_turn}
 use Rattle.crossing_sweep.proofs.Carried.{sides_are_carried}
 use Rattle.crossing_sweep.proofs.MaskLemmas.{over_of, level_of}
@@ -103,7 +103,7 @@ module _ (n : ℤ) (input : Input) (u : Segment) (p q r : Point) (steep : IsStee
   passed : IsPassed input.column p r p
   passed = record { small = last_on.nodal.small; from = p_not_before; to = to_r; within = last_on.within }
 
-  closed : IsClosed n input u p r
+  closed : IsPieceWithSides n input u p r
   unfolding piece
   closed = record {
     piece = piece;

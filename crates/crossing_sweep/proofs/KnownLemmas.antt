@@ -1,10 +1,10 @@
 -- The places that some names stand for, and those that are known before a pass.
-use Rattle.std.proofs.Common.{◌≡◌, ℕ, ℤ, pos, ◌+◌, ◌<◌, ◌*ℤ◌, ◌<ℤ◌, ◌≤ℤ◌, ◌-ℤ◌, ◌^◌, ◌≢◌, Bool, neg_ℤ, int_le, inl, inr, ◌⊎◌, true, false, List, [], ◌∷◌, ◌++◌, map, take, length, get_or, refl, ap, sym, subst, ◌∙◌, lit<, arith}
+use Rattle.std.proofs.Common.{◌≡◌, ℕ, ℤ, pos, ◌+◌, ◌<◌, ◌*ℤ◌, ◌<ℤ◌, ◌≤ℤ◌, ◌-ℤ◌, ◌^◌, Bool, neg_ℤ, int_le, inl, inr, ◌⊎◌, true, false, List, [], ◌∷◌, ◌++◌, map, take, length, get_or, refl, ap, sym, subst, ◌∙◌, lit<, arith}
 use Rattle.std.specs.Prelude.{IsTrue, All, Any, Contains, flat_map, ◌||◌, ◌&&◌, not}
 use Rattle.std.specs.List.{list_any}
 use Rattle.std.specs.Ordering.{int_eq}
 use Rattle.std.proofs.lemmas.Int.{ints, by_lt_z}
-use Rattle.std.proofs.lemmas.Bool.{both_ways, and_parts, and_from, or_cases, or_left, or_right, not-true, cases_eq}
+use Rattle.std.proofs.lemmas.Bool.{both_ways, and_parts, and_from, or_cases, or_left, or_right, not-true}
 use Rattle.std.proofs.lemmas.List.Elements.{All-contains, All-map, Contains-append_left, Contains-append_cases}
 use Rattle.std.proofs.lemmas.List.Folds.{Any-from_list_any}
 use Rattle.overlay_terms.specs.Plane.{Point, Segment, whole, same_place, is_on, coordinate_max, denominator_max}
@@ -31,6 +31,7 @@ use Rattle.exact_point.proofs.PlaceOrder.{same_turned, same_through, level_from,
 use Rattle.arrange.specs.Arrangement.{segments_in, is_in_closed_column}
 use Rattle.arrange.specs.NamedPlaces.{own_names}
 use Rattle.arrange.specs.declared.marked_seg.MarkedSeg.{MarkedSeg}
+use Rattle.arrange.proofs.NodeLemmas.{one_of_two, once_more}
 use Rattle.std.proofs.lemmas.List.{take_more, map-append}
 use Rattle.std.proofs.lemmas.Grind.{flat_map-append}
 use Rattle.crossing_sweep.specs.Leaning.{IsSmall}
@@ -146,15 +147,6 @@ point_small p = record { positive = point_positive p; few = few p.w p.w_high; lo
 in_columns : (j : ℕ) → Contains columns j → j < column_count
 in_columns j c = omega (arith, c.1, length-range_with_len 0 column_count, sym (get_or-range_with_len 0 column_count c.0 j (omega (arith, c.1, length-range_with_len 0 column_count))) ∙ c.2)
 
-one_of_two : (j k : ℕ) → border k ≤ℤ (border j) → border j ≤ℤ (border (k + 1)) → (j ≡ k) ⊎ (j ≡ k + 1)
-one_of_two j k low high = by (cases_eq j k) where
-  by : (j ≡ k) ⊎ (j ≢ k) → (j ≡ k) ⊎ (j ≡ k + 1)
-  by (inl e) = inl e
-  by (inr n) = inr (omega (arith, ints))
-
-once_more : (x : ℤ) → x *ℤ pos 1 ≡ x
-once_more x = omega (arith, ints)
-
 -- a segment that is not vertical leads right
 wide_of : (s : Segment) → IsProper s → is_vertical s ≡ false → s.left.x <ℤ s.right.x
 wide_of s proper slanted = by (leads s proper.first)
@@ -187,7 +179,7 @@ module _ (input : Input) (is : IsInput input) (found : List (HPoint × PointName
   node_of s among name c z hz stands = first (Contains-cons_cases (Vertex s.left) (Vertex s.right ∷ Border s input.column ∷ Border s (input.column + 1) ∷ []) name c)
     where
       at_cut : (j : ℕ) → IsCutOf s j z → IsTrue (is_node segments z)
-      at_cut j cut = border_node segments s j z cut.cut.known cut.on_border cut.on_segment (wide s.left.x (border j) s.right.x cut.cut.after_left cut.cut.before_right) among
+      at_cut j cut = border_node segments s j z cut.cut.known_column cut.on_border cut.on_segment (wide s.left.x (border j) s.right.x cut.cut.after_left cut.cut.before_right) among
         where
           wide : (l b r : ℤ) → l <ℤ b → b <ℤ r → l <ℤ r
           wide l b r h k = omega (arith, ints, h, k)
@@ -260,7 +252,7 @@ module _ (input : Input) (is : IsInput input) (found : List (HPoint × PointName
       over_cut low high = by (one_of_two j input.column (most_back (border input.column) (border j) p.w hp (rw (← over) from)) (most_back (border j) (border (input.column + 1)) p.w hp (rw (← over) up_to)))
         where
           cut : IsCutOf s j p
-          cut = record { cut = record { known = known; after_left = low; before_right = high }; on_segment = on; on_border = over }
+          cut = record { cut = record { known_column = known; after_left = low; before_right = high }; on_segment = on; on_border = over }
 
           by : (j ≡ input.column) ⊎ (j ≡ input.column + 1) → IsQueued (points_of found) p
           by (inl f) = there s (Border s input.column) among (2, lit< tt, refl) (subst (λ i. IsCutOf s i p) f cut)
@@ -302,7 +294,7 @@ module _ (input : Input) (is : IsInput input) (found : List (HPoint × PointName
 
   pub known_places : AreKnownPlaces input found
   known_places = record {
-    known = record {
+    points = record {
       small = all_points IsSmall (λ e c. point_small e.0);
       nodes = all_points (λ z. IsTrue (is_node segments z)) node;
       from = all_points (λ z. (border input.column *ℤ z.w) ≤ℤ z.x) (λ e c. (in_column e c).0);

@@ -35,5 +35,5 @@ pub record AreOffered (column : ℕ) (names : List PointName) (found : List (HPo
 
 -- the places that are known before a pass over the column of an input, by their names
 pub record AreKnownPlaces (input : Input) (found : List (HPoint × PointName)) : Type 0 where
-  pub known : AreKnown (segments_in input) input.column (points_of found)
+  pub points : AreKnown (segments_in input) input.column (points_of found)
   pub named : All (λ e. HasPlace e.1 × (place e.0 ≡ place_of e.1)) found

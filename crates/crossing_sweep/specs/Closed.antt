@@ -12,7 +12,7 @@ use Rattle.crossing_sweep.specs.Queue.{GoesOn}
 use Rattle.crossing_sweep.specs.Kept.{IsLastOn}
 
 -- a piece from p to r whose sides are what lies under the stretch u and up to it just after p
-pub record IsClosed (n : ℤ) (input : Input) (u : Segment) (p r : Point) : Type 0 where
+pub record IsPieceWithSides (n : ℤ) (input : Input) (u : Segment) (p r : Point) : Type 0 where
   pub piece : IsPiece (map (λ m. m.segment) input.marked) p r
   pub under : (k : ℕ) → below_bits input.marked (midpoint p r) k ≡ under_bits (lean_marked n input.marked) (lean_segment n u) (lean n p) k
   pub over : (k : ℕ) → over_bits input.marked (midpoint p r) k ≡ up_to_bits (lean_marked n input.marked) (lean_segment n u) (lean n p) k
@@ -22,4 +22,4 @@ abbrev pub StretchIsClosed : Type 0
 StretchIsClosed =
     (n : ℤ) (input : Input) (u : Segment) (p q r : Point) → IsSteep n → IsInput input → IsStretchOf (map (λ m. m.segment) input.marked) u → GoesOn u q →
     IsLastOn input u p q → IsNextNode (map (λ m. m.segment) input.marked) q r → IsNodal r → pos 0 <ℤ q.w → height_over u r ≡ pos 0 → IsTrue (is_node (map (λ m. m.segment) input.marked) (whole u.right)) →
-    IsClosed n input u p r
+    IsPieceWithSides n input u p r

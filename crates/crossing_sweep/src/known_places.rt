@@ -1,17 +1,13 @@
 //! The places of a column that are known before a pass over it: ends of segments and border places.
-ghost use Rattle.std.specs.Prelude.{◌≡◌, ◌+◌, ◌*ℤ◌, ◌++◌, [], ◌∷◌, int_le, List, IfOk, OnOk};
-ghost use Rattle.overlay_terms.specs.Column.{border};
-ghost use Rattle.exact_point.specs.Place.{place};
+ghost use Rattle.std.specs.Prelude.{◌++◌, [], ◌∷◌, List, IfOk, OnOk};
 ghost use Rattle.exact_point.specs.declared.point_name.PointName.{PointName};
-ghost use Rattle.arrange.specs.Arrangement.{is_in_closed_column};
 ghost use Rattle.arrange.specs.NamedPlaces.{own_names};
 ghost use Rattle.crossing_sweep.specs.Ahead.{AreKnownPlaces, AreOffered};
 
 use crate::ahead::Ahead;
+use arrange::closed_column::is_within;
 use arrange::tile_input::TileInput;
-use exact_point::point::HPoint;
 use exact_point::point_name::PointName;
-use exact_point::side::border_side;
 use plane_base::column::Column;
 use plane_base::point::Seg;
 use std::alloc::{AllocError, Global};
@@ -49,25 +45,4 @@ fn offer(ahead: &mut Ahead, name: PointName, column: Column) -> Result<(), Alloc
         }
     }
     Ok(())
-}
-
-/// Whether a point lies from a column's left border to its right border.
-fn is_within(column: Column, p: &HPoint) -> bool
-    ensures { result ≡ is_in_closed_column column (place p.now) }
-{
-    let from_left = border_side(column, p);
-    let to_right = is_up_to(column, p);
-    // Eager, so that one equation says all: both sides are known by then.
-    from_left.is_ge() & to_right
-}
-
-/// Whether a point lies left of a column's right border or on it. The last column has no other
-/// column right of it, and all points lie left of its right border.
-fn is_up_to(column: Column, p: &HPoint) -> bool
-    ensures { result ≡ int_le p.now.x (border (column + 1) *ℤ p.now.w) }
-{
-    match Column::new(u64::from(column.number()) + 1) {
-        Some(next) => border_side(next, p).is_le(),
-        None => true,
-    }
 }

@@ -8,7 +8,7 @@ use Rattle.exact_point.specs.declared.point_name.PointName.TheVariants.{Vertex, 
 
 -- the border of the column lies strictly between the ends of s, by x
 pub record IsCutBy (s : Segment) (column : ℕ) : Type 0 where
-  pub known : column < column_count
+  pub known_column : column < column_count
   pub after_left : s.left.x <ℤ border column
   pub before_right : border column <ℤ s.right.x
 

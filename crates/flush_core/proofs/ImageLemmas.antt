@@ -20,6 +20,7 @@ use Rattle.layer_book.proofs.Wanted.{index_at}
 use Rattle.tile_build.specs.declared.tile.Tile as code
 use Rattle.tile_build.specs.Tile.{tile_of}
 use Rattle.version_core.specs.Version.{IsVersion}
+use Rattle.version_core.proofs.Restored.{found_is}
 use Rattle.record_form.specs.Image.{finished}
 use Rattle.flush_core.specs.Imaging.{named_tile, tiles_in, tiles_of_layer, tiles_in_order}
 
@@ -38,17 +39,6 @@ found_right (f ∷ fs) ys name k there = split (bytes_eq f.name name && (f.colum
   split : (b : Bool) → is_some (tile_at (fs ++ ys) name k) ≡ true → is_some (cond b (Some f.tile) (tile_at (fs ++ ys) name k)) ≡ true
   split true next = refl
   split false next = next
-
--- what is true of each tile is true of one that is found
-found_is : (P : Finished → Type 0) (tiles : List Finished) (name : Name) (k : ℕ) (tile : Tile) → All P tiles → tile_at tiles name k ≡ Some tile → P (record { name = name; column = k; tile = tile })
-found_is P [] name k tile all there = absurd (cc)
-found_is P (f ∷ fs) name k tile all there = split (bytes_eq f.name name && (f.column == k)) refl (found_is P fs name k tile (λ i d h. all (suc i) d (omega arith))) there where
-  split : (b : Bool) → (bytes_eq f.name name && (f.column == k)) ≡ b → (tile_at fs name k ≡ Some tile → P (record { name = name; column = k; tile = tile })) → cond b (Some f.tile) (tile_at fs name k) ≡ Some tile → P (record { name = name; column = k; tile = tile })
-  split true here next same =
-      let parts = and_parts (bytes_eq f.name name) (f.column == k) here in
-      let level : f.tile ≡ tile = cc in
-      subst P (λ i. record { name = same_name f.name name parts.0 i; column = eqb-true f.column k parts.1 i; tile = level i }) (all zero f (omega arith))
-  split false away next rest = next rest
 
 all_pairs_joined : {X : Type 0} (R : X → X → Type 0) (xs ys : List X) → AllPairs R xs → AllPairs R ys → All (λ x. All (R x) ys) xs → AllPairs R (xs ++ ys)
 all_pairs_joined R [] ys first second across = second

@@ -22,7 +22,8 @@ same_length (e ∷ es) = ap suc (same_length es)
 pub index_is : (es : List (List ℕ × Layer)) (name : List ℕ) → position_or_len (bytes_eq name) (keys_of es) ≡ index_of (layers_of es) name
 index_is [] name = refl
 index_is (e ∷ es) name = rw (turned e.0 name) (split (bytes_eq name e.0) (index_is es name)) where
-  split : (b : Bool) → position_or_len (bytes_eq name) (keys_of es) ≡ index_of (layers_of es) name → cond (not b) (1 + position_or_len (bytes_eq name) (keys_of es)) 0 ≡ cond b 0 (index_of (layers_of es) name + 1)
+  split : (b : Bool) → position_or_len (bytes_eq name) (keys_of es) ≡ index_of (layers_of es) name
+      → cond (not b) (1 + position_or_len (bytes_eq name) (keys_of es)) 0 ≡ cond b 0 (index_of (layers_of es) name + 1)
   split true h = refl
   split false h = omega (arith, h)
 
@@ -31,16 +32,20 @@ pick p n true h = (refl, (refl, grind (arith, nat_tests)))
 pick p n false h = (refl, tt)
 
 -- what a search among the keys says of the layers
-pub found : (es : List (List ℕ × Layer)) (name : List ℕ) (r : Option ℕ) → r ≡ position (bytes_eq name) (keys_of es) → (is_some r ≡ stands (layers_of es) name) × IfSome r (λ i. (i ≡ index_of (layers_of es) name) × (i < length (layers_of es)))
+pub found : (es : List (List ℕ × Layer)) (name : List ℕ) (r : Option ℕ) → r ≡ position (bytes_eq name) (keys_of es)
+    → (is_some r ≡ stands (layers_of es) name) × IfSome r (λ i. (i ≡ index_of (layers_of es) name) × (i < length (layers_of es)))
 found es name r e =
-    let at : r ≡ cond (nat_lt (index_of (layers_of es) name) (length (layers_of es))) (Some (index_of (layers_of es) name)) None = e ∙ ap (λ k. cond (nat_lt k (length (keys_of es))) (Some k) None) (index_is es name) ∙ ap (λ n. cond (nat_lt (index_of (layers_of es) name) n) (Some (index_of (layers_of es) name)) None) (same_length es) in
+    let at : r ≡ cond (nat_lt (index_of (layers_of es) name) (length (layers_of es))) (Some (index_of (layers_of es) name)) None = e ∙ ap
+    (λ k. cond (nat_lt k (length (keys_of es))) (Some k) None) (index_is es name) ∙ ap
+    (λ n. cond (nat_lt (index_of (layers_of es) name) n) (Some (index_of (layers_of es) name)) None) (same_length es) in
     rw (at, stands_is (layers_of es) name) (pick _ _ (nat_lt (index_of (layers_of es) name) (length (layers_of es))) refl)
 
 -- what a look-up finds is what stands under the name
 lookup_is : (es : List (List ℕ × Layer)) (name : List ℕ) → option_map content (lookup (bytes_eq name) es) ≡ content_named (layers_of es) name
 lookup_is [] name = refl
 lookup_is (e ∷ es) name = rw (turned e.0 name) (split (bytes_eq name e.0) (lookup_is es name)) where
-  split : (b : Bool) → option_map content (lookup (bytes_eq name) es) ≡ content_named (layers_of es) name → option_map content (cond b (Some e.1) (lookup (bytes_eq name) es)) ≡ cond b (Some (content e.1)) (content_named (layers_of es) name)
+  split : (b : Bool) → option_map content (lookup (bytes_eq name) es) ≡ content_named (layers_of es) name
+      → option_map content (cond b (Some e.1) (lookup (bytes_eq name) es)) ≡ cond b (Some (content e.1)) (content_named (layers_of es) name)
   split true h = refl
   split false h = h
 
@@ -48,7 +53,8 @@ contents_of : (r : Option (Bor Layer)) → option_map (λ layer. content layer.n
 contents_of None = refl
 contents_of (Some layer) = refl
 
-pub got : (es : List (List ℕ × Layer)) (name : List ℕ) (r : Option (Bor Layer)) → option_copied r ≡ lookup (bytes_eq name) es → option_map (λ layer. content layer.now) r ≡ content_named (layers_of es) name
+pub got : (es : List (List ℕ × Layer)) (name : List ℕ) (r : Option (Bor Layer)) → option_copied r ≡ lookup (bytes_eq name) es
+    → option_map (λ layer. content layer.now) r ≡ content_named (layers_of es) name
 got es name r e = contents_of r ∙ ap (option_map content) e ∙ lookup_is es name
 
 pub used_is : (es : List (List ℕ × Layer)) (name : List ℕ) → list_any (λ layer. uses name (content layer)) (values_of es) ≡ list_any (λ layer. uses name layer.content) (layers_of es)
@@ -56,7 +62,8 @@ used_is [] name = refl
 used_is (e ∷ es) name = ap (λ b. uses name (content e.1) || b) (used_is es name)
 
 -- an entry with a new name goes last
-pub insert_new : (es : List (List ℕ × Layer)) (name : List ℕ) (layer : Layer) → stands (layers_of es) name ≡ false → layers_of (insert_entry bytes_eq es name layer) ≡ layers_of es ++ named_layer (name, layer) ∷ []
+pub insert_new : (es : List (List ℕ × Layer)) (name : List ℕ) (layer : Layer) → stands (layers_of es) name ≡ false
+    → layers_of (insert_entry bytes_eq es name layer) ≡ layers_of es ++ named_layer (name, layer) ∷ []
 insert_new [] name layer h = refl
 insert_new (e ∷ es) name layer h =
     let parts = or_parts (bytes_eq e.0 name) (stands (layers_of es) name) h in
@@ -66,12 +73,15 @@ abbrev replaced : List ℕ → Content → terms.Layer → terms.Layer
 replaced name new layer = cond (bytes_eq layer.name name) (record { name = name; content = new }) layer
 
 -- one with a name that is there takes its place
-insert_there : (known : List Name) (es : List (List ℕ × Layer)) (name : List ℕ) (layer : Layer) → is_orderly_after known (layers_of es) ≡ true → stands (layers_of es) name ≡ true → layers_of (insert_entry bytes_eq es name layer) ≡ map (replaced name (content layer)) (layers_of es)
+insert_there : (known : List Name) (es : List (List ℕ × Layer)) (name : List ℕ) (layer : Layer) → is_orderly_after known (layers_of es) ≡ true
+    → stands (layers_of es) name ≡ true → layers_of (insert_entry bytes_eq es name layer) ≡ map (replaced name (content layer)) (layers_of es)
 insert_there known [] name layer h s = cc
 insert_there known (e ∷ es) name layer h s =
     rw (turned name e.0) (split (bytes_eq e.0 name) refl (insert_there (known ++ e.0 ∷ []) es name layer (head_of known (named_layer e) (layers_of es) h).behind))
   where
-    split : (b : Bool) → bytes_eq e.0 name ≡ b → (stands (layers_of es) name ≡ true → layers_of (insert_entry bytes_eq es name layer) ≡ map (replaced name (content layer)) (layers_of es)) → layers_of (cond b ((e.0, layer) ∷ es) (e ∷ insert_entry bytes_eq es name layer)) ≡ cond b (record { name = name; content = content layer }) (named_layer e) ∷ map (replaced name (content layer)) (layers_of es)
+    split : (b : Bool) → bytes_eq e.0 name ≡ b → (stands (layers_of es) name ≡ true → layers_of (insert_entry bytes_eq es name layer) ≡ map
+        (replaced name (content layer)) (layers_of es)) → layers_of (cond b ((e.0, layer) ∷ es) (e ∷ insert_entry bytes_eq es name layer)) ≡ cond b
+        (record { name = name; content = content layer }) (named_layer e) ∷ map (replaced name (content layer)) (layers_of es)
     split true at next =
         let same : e.0 ≡ name = same_name e.0 name at in
         let gone : stands (layers_of es) name ≡ false = subst (λ n. stands (layers_of es) n ≡ false) same (apart known (named_layer e) (layers_of es) h) in
@@ -79,19 +89,24 @@ insert_there known (e ∷ es) name layer h s =
     split false at next = ap (λ ls. named_layer e ∷ ls) (next (sym (ap (λ b. b || stands (layers_of es) name) at) ∙ s))
 
 -- `insert` puts a layer in the place of the one with its name, or last
-pub insert_is : (es : List (List ℕ × Layer)) (name : List ℕ) (layer : Layer) → is_orderly_after [] (layers_of es) ≡ true → layers_of (insert_entry bytes_eq es name layer) ≡ with_content (layers_of es) name (content layer)
+pub insert_is : (es : List (List ℕ × Layer)) (name : List ℕ) (layer : Layer) → is_orderly_after [] (layers_of es) ≡ true
+    → layers_of (insert_entry bytes_eq es name layer) ≡ with_content (layers_of es) name (content layer)
 insert_is es name layer h = split (stands (layers_of es) name) refl where
-  split : (b : Bool) → stands (layers_of es) name ≡ b → layers_of (insert_entry bytes_eq es name layer) ≡ cond b (map (replaced name (content layer)) (layers_of es)) (layers_of es ++ named_layer (name, layer) ∷ [])
+  split : (b : Bool) → stands (layers_of es) name ≡ b → layers_of (insert_entry bytes_eq es name layer) ≡ cond b
+      (map (replaced name (content layer)) (layers_of es)) (layers_of es ++ named_layer (name, layer) ∷ [])
   split true s = insert_there [] es name layer h s
   split false s = insert_new es name layer s
 
 -- `shift_remove` leaves the layers with other names
-remove_after : (known : List Name) (es : List (List ℕ × Layer)) (name : List ℕ) → is_orderly_after known (layers_of es) ≡ true → layers_of (remove_entry (bytes_eq name) es) ≡ others (layers_of es) name
+remove_after : (known : List Name) (es : List (List ℕ × Layer)) (name : List ℕ) → is_orderly_after known (layers_of es) ≡ true
+    → layers_of (remove_entry (bytes_eq name) es) ≡ others (layers_of es) name
 remove_after known [] name h = refl
 remove_after known (e ∷ es) name h =
     rw (turned name e.0) (split (bytes_eq e.0 name) refl (remove_after (known ++ e.0 ∷ []) es name (head_of known (named_layer e) (layers_of es) h).behind))
   where
-    split : (b : Bool) → bytes_eq e.0 name ≡ b → layers_of (remove_entry (bytes_eq name) es) ≡ others (layers_of es) name → layers_of (cond b es (e ∷ remove_entry (bytes_eq name) es)) ≡ cond (not b) (named_layer e ∷ others (layers_of es) name) (others (layers_of es) name)
+    split : (b : Bool) → bytes_eq e.0 name ≡ b → layers_of (remove_entry (bytes_eq name) es) ≡ others (layers_of es) name
+        → layers_of (cond b es (e ∷ remove_entry (bytes_eq name) es)) ≡ cond (not b) (named_layer e ∷ others (layers_of es) name)
+        (others (layers_of es) name)
     split true at next =
         let same : e.0 ≡ name = same_name e.0 name at in
         let gone : stands (layers_of es) name ≡ false = subst (λ n. stands (layers_of es) n ≡ false) same (apart known (named_layer e) (layers_of es) h) in
@@ -102,17 +117,21 @@ pub remove_is : (es : List (List ℕ × Layer)) (name : List ℕ) → is_orderly
 remove_is es name h = remove_after [] es name h
 
 -- while entries are copied in order, the next name is new
-pub next_is_new : (done : List (List ℕ × Layer)) (next : List ℕ × Layer) (left : List (List ℕ × Layer)) (all : List terms.Layer) → is_orderly_after [] all ≡ true → layers_of done ++ layers_of (next ∷ left) ≡ all → stands (layers_of done) next.0 ≡ false
+pub next_is_new : (done : List (List ℕ × Layer)) (next : List ℕ × Layer) (left : List (List ℕ × Layer)) (all : List terms.Layer)
+    → is_orderly_after [] all ≡ true → layers_of done ++ layers_of (next ∷ left) ≡ all → stands (layers_of done) next.0 ≡ false
 next_is_new done next left all h e =
     fresh [] (layers_of done) (named_layer next) (layers_of left) (subst (λ ls. is_orderly_after [] ls ≡ true) (sym e) h)
 
 -- the layers after `insert` into a copy
-pub with_is : (entries : List (List ℕ × Layer)) (all : List terms.Layer) (copy name : List ℕ) (layer : Layer) (made : List (List ℕ × Layer)) → is_orderly_after [] all ≡ true → layers_of entries ≡ all → copy ≡ name → made ≡ insert_entry bytes_eq entries copy layer → layers_of made ≡ with_content all name (content layer)
+pub with_is : (entries : List (List ℕ × Layer)) (all : List terms.Layer) (copy name : List ℕ) (layer : Layer) (made : List (List ℕ × Layer))
+    → is_orderly_after [] all ≡ true → layers_of entries ≡ all → copy ≡ name → made ≡ insert_entry bytes_eq entries copy layer
+    → layers_of made ≡ with_content all name (content layer)
 with_is entries all copy name layer made h e same m =
     ap layers_of m ∙ insert_is entries copy layer (subst (λ ls. is_orderly_after [] ls ≡ true) (sym e) h)
     ∙ ap (λ ls. with_content ls copy (content layer)) e ∙ ap (λ n. with_content all n (content layer)) same
 
 -- the layers after `shift_remove` from a copy
-pub without_is : (entries : List (List ℕ × Layer)) (all : List terms.Layer) (name : List ℕ) (made : List (List ℕ × Layer)) → is_orderly_after [] all ≡ true → layers_of entries ≡ all → made ≡ remove_entry (bytes_eq name) entries → layers_of made ≡ others all name
+pub without_is : (entries : List (List ℕ × Layer)) (all : List terms.Layer) (name : List ℕ) (made : List (List ℕ × Layer))
+    → is_orderly_after [] all ≡ true → layers_of entries ≡ all → made ≡ remove_entry (bytes_eq name) entries → layers_of made ≡ others all name
 without_is entries all name made h e m =
     ap layers_of m ∙ remove_is entries name (subst (λ ls. is_orderly_after [] ls ≡ true) (sym e) h) ∙ ap (λ ls. others ls name) e

@@ -26,14 +26,18 @@ marked_from column n bases =
 kept_marks : (column n : ℕ) (segs : List Segment) → kept_in column (map (mark n) segs) ≡ map (mark n) (filter (touches column) segs)
 kept_marks column n [] = refl
 kept_marks column n (s ∷ segs) = split (touches column s) (kept_marks column n segs) where
-  split : (b : Bool) → kept_in column (map (mark n) segs) ≡ map (mark n) (filter (touches column) segs) → cond b (mark n s ∷ kept_in column (map (mark n) segs)) (kept_in column (map (mark n) segs)) ≡ map (mark n) (cond b (s ∷ filter (touches column) segs) (filter (touches column) segs))
+  split : (b : Bool) → kept_in column (map (mark n) segs) ≡ map (mark n) (filter (touches column) segs)
+      → cond b (mark n s ∷ kept_in column (map (mark n) segs)) (kept_in column (map (mark n) segs)) ≡ map (mark n)
+      (cond b (s ∷ filter (touches column) segs) (filter (touches column) segs))
   split true e = ap (λ ms. mark n s ∷ ms) e
   split false e = e
 
 -- those of the first base layer, then those of the others
-first_and_rest : (column n : ℕ) (b : List (List WholePoint)) (bs : List (List (List WholePoint))) → marked_from column n (b ∷ bs) ≡ map (mark n) (filter (touches column) (segments_of b)) ++ marked_from column (n + 1) bs
+first_and_rest : (column n : ℕ) (b : List (List WholePoint)) (bs : List (List (List WholePoint)))
+    → marked_from column n (b ∷ bs) ≡ map (mark n) (filter (touches column) (segments_of b)) ++ marked_from column (n + 1) bs
 first_and_rest column n b bs =
-    filter-append (λ (m : Marked). touches column m.segment) (map (mark n) (segments_of b)) (flat_map (λ numbered. map (λ s. record { layer = numbered.0; segment = s }) (segments_of numbered.1)) (enumerate_from (n + 1) bs))
+    filter-append (λ (m : Marked). touches column m.segment) (map (mark n) (segments_of b))
+    (flat_map (λ numbered. map (λ s. record { layer = numbered.0; segment = s }) (segments_of numbered.1)) (enumerate_from (n + 1) bs))
     ∙ ap (λ ms. ms ++ marked_from column (n + 1) bs) (kept_marks column n (segments_of b))
 
 -- marked segments of base layers from a number on
@@ -57,7 +61,8 @@ from_all : (column : ℕ) (bases : List (List (List WholePoint))) (n : ℕ) → 
 from_all column [] n = tt
 from_all column (b ∷ bs) n =
     subst (AreFrom n) (sym (first_and_rest column n b bs))
-    (from_both n (map (mark n) (filter (touches column) (segments_of b))) (marked_from column (n + 1) bs) (from_marks n (filter (touches column) (segments_of b))) (from_less n (marked_from column (n + 1) bs) (from_all column bs (n + 1))))
+    (from_both n (map (mark n) (filter (touches column) (segments_of b))) (marked_from column (n + 1) bs)
+    (from_marks n (filter (touches column) (segments_of b))) (from_less n (marked_from column (n + 1) bs) (from_all column bs (n + 1))))
 
 same_number : (n : ℕ) → (n == n) ≡ true
 same_number n = (Decides-eqb n n).1 refl
@@ -73,7 +78,8 @@ and_grouped true b c = refl
 and_grouped false b c = refl
 
 -- the segments of one base layer are compared apart from those of later ones
-split_marks : (n : ℕ) (s t : List Segment) (x y : List Marked) → AreFrom (n + 1) x → AreFrom (n + 1) y → pointwise same_marked (map (mark n) s ++ x) (map (mark n) t ++ y) ≡ (pointwise same_segment s t && pointwise same_marked x y)
+split_marks : (n : ℕ) (s t : List Segment) (x y : List Marked) → AreFrom (n + 1) x → AreFrom (n + 1) y
+    → pointwise same_marked (map (mark n) s ++ x) (map (mark n) t ++ y) ≡ (pointwise same_segment s t && pointwise same_marked x y)
 split_marks n [] [] x y hx hy = refl
 split_marks n [] (v ∷ t) [] y hx hy = refl
 split_marks n [] (v ∷ t) (m ∷ x) y hx hy =
@@ -94,18 +100,23 @@ drop_there xs i x h e =
 -- one base layer more is compared
 pub compared_more : (column n : ℕ) (news olds : List (List (List WholePoint))) (new old : List (List WholePoint)) → drop n news ≡ new ∷ drop (n + 1) news → drop n olds ≡ old ∷ drop (n + 1) olds →
     pointwise same_marked (marked_from column n (drop n news)) (marked_from column n (drop n olds))
-    ≡ (pointwise same_segment (filter (touches column) (segments_of new)) (filter (touches column) (segments_of old)) && pointwise same_marked (marked_from column (n + 1) (drop (n + 1) news)) (marked_from column (n + 1) (drop (n + 1) olds)))
+    ≡ (pointwise same_segment (filter (touches column) (segments_of new)) (filter (touches column) (segments_of old)) && pointwise same_marked
+    (marked_from column (n + 1) (drop (n + 1) news)) (marked_from column (n + 1) (drop (n + 1) olds)))
 compared_more column n news olds new old e f =
     (λ i. pointwise same_marked (marked_from column n (e i)) (marked_from column n (f i)))
     ∙ (λ i. pointwise same_marked (first_and_rest column n new (drop (n + 1) news) i) (first_and_rest column n old (drop (n + 1) olds) i))
-    ∙ split_marks n (filter (touches column) (segments_of new)) (filter (touches column) (segments_of old)) (marked_from column (n + 1) (drop (n + 1) news)) (marked_from column (n + 1) (drop (n + 1) olds)) (from_all column (drop (n + 1) news) (n + 1)) (from_all column (drop (n + 1) olds) (n + 1))
+    ∙ split_marks n (filter (touches column) (segments_of new)) (filter (touches column) (segments_of old))
+    (marked_from column (n + 1) (drop (n + 1) news)) (marked_from column (n + 1) (drop (n + 1) olds))
+    (from_all column (drop (n + 1) news) (n + 1)) (from_all column (drop (n + 1) olds) (n + 1))
 
 -- a segment that is next, by whether it has a point in the column
-pub next_kept : (column : ℕ) (segs : List Segment) (i : ℕ) (s : Segment) → i < length segs → s ≡ get_or segs i s → touches column s ≡ true → filter (touches column) (drop i segs) ≡ s ∷ filter (touches column) (drop (i + 1) segs)
+pub next_kept : (column : ℕ) (segs : List Segment) (i : ℕ) (s : Segment) → i < length segs → s ≡ get_or segs i s → touches column s ≡ true
+    → filter (touches column) (drop i segs) ≡ s ∷ filter (touches column) (drop (i + 1) segs)
 next_kept column segs i s h e t =
     ap (filter (touches column)) (drop_there segs i s h e) ∙ ap (λ b. cond b (s ∷ filter (touches column) (drop (i + 1) segs)) (filter (touches column) (drop (i + 1) segs))) t
 
-pub next_skipped : (column : ℕ) (segs : List Segment) (i : ℕ) (s : Segment) → i < length segs → s ≡ get_or segs i s → touches column s ≡ false → filter (touches column) (drop i segs) ≡ filter (touches column) (drop (i + 1) segs)
+pub next_skipped : (column : ℕ) (segs : List Segment) (i : ℕ) (s : Segment) → i < length segs → s ≡ get_or segs i s → touches column s ≡ false
+    → filter (touches column) (drop i segs) ≡ filter (touches column) (drop (i + 1) segs)
 next_skipped column segs i s h e t =
     ap (filter (touches column)) (drop_there segs i s h e) ∙ ap (λ b. cond b (s ∷ filter (touches column) (drop (i + 1) segs)) (filter (touches column) (drop (i + 1) segs))) t
 
@@ -133,21 +144,27 @@ read_there (y ∷ xs) (suc i) h = read_there xs i (omega arith)
 
 -- two lists of segments are compared in a column: how far they agree
 module _ (column : ℕ) (new old : List Segment) (whole : Bool) (i next : ℕ) (told : whole ≡ pointwise same_segment (filter (touches column) (drop i new)) (filter (touches column) (drop next old))) where
-  pub told_skipped : (s : Segment) → i < length new → s ≡ get_or new i s → touches column s ≡ false → whole ≡ pointwise same_segment (filter (touches column) (drop (i + 1) new)) (filter (touches column) (drop next old))
+  pub told_skipped : (s : Segment) → i < length new → s ≡ get_or new i s → touches column s ≡ false
+      → whole ≡ pointwise same_segment (filter (touches column) (drop (i + 1) new)) (filter (touches column) (drop next old))
   told_skipped s h e t = told ∙ ap (λ ss. pointwise same_segment ss (filter (touches column) (drop next old))) (next_skipped column new i s h e t)
 
   module _ (at : ℕ) (same : filter (touches column) (drop next old) ≡ filter (touches column) (drop at old)) (there : (s : Segment) → slice_get old at ≡ Some s → touches column s ≡ true) where
     -- both come to their next segment
-    both_next : (s o : Segment) → i < length new → s ≡ get_or new i s → touches column s ≡ true → at < length old → o ≡ get_or old at o → whole ≡ (same_segment s o && pointwise same_segment (filter (touches column) (drop (i + 1) new)) (filter (touches column) (drop (at + 1) old)))
+    both_next : (s o : Segment) → i < length new → s ≡ get_or new i s → touches column s ≡ true → at < length old → o ≡ get_or old at o
+        → whole ≡ (same_segment s o && pointwise same_segment (filter (touches column) (drop (i + 1) new))
+        (filter (touches column) (drop (at + 1) old)))
     both_next s o h e t k f =
         told ∙ ap (λ ss. pointwise same_segment ss (filter (touches column) (drop next old))) (next_kept column new i s h e t)
         ∙ ap (λ os. pointwise same_segment (s ∷ filter (touches column) (drop (i + 1) new)) os) (same ∙ next_kept column old at o k f (there o (read_is old at o k f)))
 
-    pub told_more : (s o : Segment) (r : Bool) → i < length new → s ≡ get_or new i s → touches column s ≡ true → at < length old → o ≡ get_or old at o → r ≡ same_segment s o → r ≡ true → whole ≡ pointwise same_segment (filter (touches column) (drop (i + 1) new)) (filter (touches column) (drop (at + 1) old))
+    pub told_more : (s o : Segment) (r : Bool) → i < length new → s ≡ get_or new i s → touches column s ≡ true → at < length old
+        → o ≡ get_or old at o → r ≡ same_segment s o → r ≡ true → whole ≡ pointwise same_segment (filter (touches column) (drop (i + 1) new))
+        (filter (touches column) (drop (at + 1) old))
     told_more s o r h e t k f is holds =
         both_next s o h e t k f ∙ ap (λ b. b && pointwise same_segment (filter (touches column) (drop (i + 1) new)) (filter (touches column) (drop (at + 1) old))) (sym is ∙ holds)
 
-    pub told_other : (s o : Segment) (r : Bool) → i < length new → s ≡ get_or new i s → touches column s ≡ true → at < length old → o ≡ get_or old at o → r ≡ same_segment s o → r ≡ false → false ≡ whole
+    pub told_other : (s o : Segment) (r : Bool) → i < length new → s ≡ get_or new i s → touches column s ≡ true → at < length old
+        → o ≡ get_or old at o → r ≡ same_segment s o → r ≡ false → false ≡ whole
     told_other s o r h e t k f is fails =
         sym (both_next s o h e t k f ∙ ap (λ b. b && pointwise same_segment (filter (touches column) (drop (i + 1) new)) (filter (touches column) (drop (at + 1) old))) (sym is ∙ fails))
 

@@ -46,9 +46,12 @@ same_all p q h [] = refl
 same_all p q h (k ∷ ks) = λ i. h k i ∷ same_all p q h ks i
 
 -- a layer that does not reach the command's name has no touched tile
-pub none_touched : (layers : List Layer) (command : Command) (name : Name) → IsOrderly layers → refusal_of layers command ≡ None → list_any (bytes_eq name) (derived_over layers (name_of command)) ≡ false → replicate column_count false ≡ touched_columns layers command name
+pub none_touched : (layers : List Layer) (command : Command) (name : Name) → IsOrderly layers → refusal_of layers command ≡ None
+    → list_any (bytes_eq name) (derived_over layers (name_of command)) ≡ false → replicate column_count false ≡ touched_columns layers command name
 none_touched layers command name orderly accepted out =
-    sym (all_one (is_touched layers command name) false (λ k. false_from_ne_true (is_touched layers command name k) (λ t. both_ways (list_any (bytes_eq name) (derived_over layers (name_of command))) out (only_reach_is_touched layers command name k orderly accepted t))) column_count 0)
+    sym (all_one (is_touched layers command name) false (λ k. false_from_ne_true (is_touched layers command name k)
+    (λ t. both_ways (list_any (bytes_eq name) (derived_over layers (name_of command))) out
+    (only_reach_is_touched layers command name k orderly accepted t))) column_count 0)
 
 touched_by : (d s : Bool) → d ≡ true → s ≡ false → (d && not s) ≡ true
 touched_by true false e f = refl
@@ -56,9 +59,12 @@ touched_by true true e f = sym f
 touched_by false s e f = e
 
 -- a layer that is taken out has only touched tiles
-pub all_touched : (layers : List Layer) (command : Command) (name : Name) → stands_as_derived layers name ≡ true → stands_as_derived (applied layers command) name ≡ false → replicate column_count true ≡ touched_columns layers command name
+pub all_touched : (layers : List Layer) (command : Command) (name : Name) → stands_as_derived layers name ≡ true
+    → stands_as_derived (applied layers command) name ≡ false → replicate column_count true ≡ touched_columns layers command name
 all_touched layers command name before after =
-    sym (all_one (is_touched layers command name) true (λ k. touched_by (stands_as_derived layers name) (stands_as_derived (applied layers command) name && same_input (input_of (applied layers command) name k) (input_of layers name k)) before (ap (λ b. b && same_input (input_of (applied layers command) name k) (input_of layers name k)) after)) column_count 0)
+    sym (all_one (is_touched layers command name) true (λ k. touched_by (stands_as_derived layers name)
+    (stands_as_derived (applied layers command) name && same_input (input_of (applied layers command) name k) (input_of layers name k)) before
+    (ap (λ b. b && same_input (input_of (applied layers command) name k) (input_of layers name k)) after)) column_count 0)
 
 both_derived : (d e s : Bool) → d ≡ true → e ≡ true → not s ≡ (d && not (e && s))
 both_derived true true s p q = refl
@@ -66,13 +72,17 @@ both_derived true false s p q = absurd (both_ways false refl q)
 both_derived false e s p q = absurd (both_ways false refl p)
 
 -- a layer that stays derived has touched tiles where its input changes
-pub changed_touched : (layers : List Layer) (command : Command) (name : Name) → stands_as_derived layers name ≡ true → stands_as_derived (applied layers command) name ≡ true → map (λ k. not (same_input (input_of (applied layers command) name k) (input_of layers name k))) columns ≡ touched_columns layers command name
+pub changed_touched : (layers : List Layer) (command : Command) (name : Name) → stands_as_derived layers name ≡ true
+    → stands_as_derived (applied layers command) name ≡ true → map (λ k. not
+    (same_input (input_of (applied layers command) name k) (input_of layers name k))) columns ≡ touched_columns layers command name
 changed_touched layers command name before after =
     same_all (λ k. not (same_input (input_of (applied layers command) name k) (input_of layers name k))) (is_touched layers command name)
-    (λ k. both_derived (stands_as_derived layers name) (stands_as_derived (applied layers command) name) (same_input (input_of (applied layers command) name k) (input_of layers name k)) before after) columns
+    (λ k. both_derived (stands_as_derived layers name) (stands_as_derived (applied layers command) name)
+    (same_input (input_of (applied layers command) name k) (input_of layers name k)) before after) columns
 
 -- the row of a layer with a name
-row_of : (g : Name → List Bool) (layers : List Layer) (name : Name) → slice_get (map (λ (layer : Layer). g layer.name) layers) (index_of layers name) ≡ (if stands layers name then Some (g name) else None)
+row_of : (g : Name → List Bool) (layers : List Layer) (name : Name)
+    → slice_get (map (λ (layer : Layer). g layer.name) layers) (index_of layers name) ≡ (if stands layers name then Some (g name) else None)
 row_of g [] name = refl
 row_of g (l ∷ layers) name = split (bytes_eq l.name name) refl (row_of g layers name) where
   split : (b : Bool) → bytes_eq l.name name ≡ b → slice_get (map (λ (layer : Layer). g layer.name) layers) (index_of layers name) ≡ (if stands layers name then Some (g name) else None) →
@@ -106,31 +116,38 @@ get_behind (y ∷ xs) zero h = absurd (omega arith)
 get_behind (y ∷ xs) (suc i) h = get_behind xs i (omega arith)
 
 -- where there is a row for a name, its marks are the touched tiles'
-pub row_tells : (layers : List Layer) (command : Command) (name : Name) (k : ℕ) (rows : List (List Bool)) (i j : ℕ) (row : List Bool) → rows ≡ touched_rows layers command → i ≡ index_of layers name → j ≡ k → k < column_count → i < length rows → row ≡ get_or rows i row → get_or row j false ≡ is_touched layers command name k
+pub row_tells : (layers : List Layer) (command : Command) (name : Name) (k : ℕ) (rows : List (List Bool)) (i j : ℕ) (row : List Bool)
+    → rows ≡ touched_rows layers command → i ≡ index_of layers name → j ≡ k → k < column_count → i < length rows → row ≡ get_or rows i row
+    → get_or row j false ≡ is_touched layers command name k
 row_tells layers command name k rows i j row all index column h near there = split (stands layers name) (row_of (touched_columns layers command) layers name) where
   found : slice_get (touched_rows layers command) (index_of layers name) ≡ Some row
   found = sym (λ x. slice_get (all x) (index x)) ∙ get_there rows i row near there
 
-  split : (b : Bool) → slice_get (touched_rows layers command) (index_of layers name) ≡ (if b then Some (touched_columns layers command name) else None) → get_or row j false ≡ is_touched layers command name k
+  split : (b : Bool) → slice_get (touched_rows layers command) (index_of layers name) ≡
+      (if b then Some (touched_columns layers command name) else None) → get_or row j false ≡ is_touched layers command name k
   split true e =
       let same : row ≡ touched_columns layers command name = some_is (sym found ∙ e) in
       (λ x. get_or (same x) (column x) false) ∙ mark_of (is_touched layers command name) column_count 0 k h ∙ ap (is_touched layers command name) (first_number k)
   split false e = absurd (some_none (sym found ∙ e))
 
 -- where there is none, no tile is touched
-pub no_row_tells : (layers : List Layer) (command : Command) (name : Name) (k : ℕ) (rows : List (List Bool)) (i : ℕ) → rows ≡ touched_rows layers command → i ≡ index_of layers name → length rows ≤ i → false ≡ is_touched layers command name k
+pub no_row_tells : (layers : List Layer) (command : Command) (name : Name) (k : ℕ) (rows : List (List Bool)) (i : ℕ)
+    → rows ≡ touched_rows layers command → i ≡ index_of layers name → length rows ≤ i → false ≡ is_touched layers command name k
 no_row_tells layers command name k rows i all index none = split (stands layers name) refl (row_of (touched_columns layers command) layers name) where
   found : slice_get (touched_rows layers command) (index_of layers name) ≡ None
   found = sym (λ x. slice_get (all x) (index x)) ∙ get_behind rows i none
 
-  split : (b : Bool) → stands layers name ≡ b → slice_get (touched_rows layers command) (index_of layers name) ≡ (if b then Some (touched_columns layers command name) else None) → false ≡ is_touched layers command name k
+  split : (b : Bool) → stands layers name ≡ b → slice_get (touched_rows layers command) (index_of layers name) ≡
+      (if b then Some (touched_columns layers command name) else None) → false ≡ is_touched layers command name k
   split true at e = absurd (some_none (sym e ∙ found))
   split false at e =
       let out : stands_as_derived layers name ≡ false = false_from_ne_true (stands_as_derived layers name) (λ d. both_ways (stands layers name) at (derived_stands layers name d)) in
       sym (ap (λ b. b && not (tile_stays layers (applied layers command) name k)) out)
 
 -- the rows of one layer more, and of all
-pub rows_more : (g : Name → List Bool) (layers : List Layer) (i : ℕ) (layer : Layer) (old new : List (List Bool)) (row : List Bool) → slice_get layers i ≡ Some layer → old ≡ map (λ (l : Layer). g l.name) (take i layers) → row ≡ g layer.name → new ≡ old ++ row ∷ [] → new ≡ map (λ (l : Layer). g l.name) (take (i + 1) layers)
+pub rows_more : (g : Name → List Bool) (layers : List Layer) (i : ℕ) (layer : Layer) (old new : List (List Bool)) (row : List Bool)
+    → slice_get layers i ≡ Some layer → old ≡ map (λ (l : Layer). g l.name) (take i layers) → row ≡ g layer.name → new ≡ old ++ row ∷ []
+    → new ≡ map (λ (l : Layer). g l.name) (take (i + 1) layers)
 rows_more g layers i layer old new row e before is made =
     made ∙ (λ x. before x ++ is x ∷ [])
     ∙ sym (ap (map (λ (l : Layer). g l.name)) (ap (λ k. take k layers) (add-one i) ∙ take_there layers i layer e) ∙ map-append (λ (l : Layer). g l.name) (take i layers) (layer ∷ []))
@@ -139,17 +156,21 @@ take_all : (layers : List Layer) → take (length layers) layers ≡ layers
 take_all [] = refl
 take_all (l ∷ layers) = ap (λ ls. l ∷ ls) (take_all layers)
 
-pub rows_whole : (g : Name → List Bool) (layers : List Layer) (i : ℕ) (rows : List (List Bool)) → i ≡ length layers → rows ≡ map (λ (l : Layer). g l.name) (take i layers) → rows ≡ map (λ (l : Layer). g l.name) layers
+pub rows_whole : (g : Name → List Bool) (layers : List Layer) (i : ℕ) (rows : List (List Bool)) → i ≡ length layers
+    → rows ≡ map (λ (l : Layer). g l.name) (take i layers) → rows ≡ map (λ (l : Layer). g l.name) layers
 rows_whole g layers i rows e is = is ∙ ap (map (λ (l : Layer). g l.name)) (ap (λ k. take k layers) e ∙ take_all layers)
 
 -- where the definitions in reach differ, so does each input
-pub steps_differ : (layers after : List Layer) (name : Name) → same_steps (steps_in_reach after name) (steps_in_reach layers name) ≡ false → replicate column_count true ≡ map (λ k. not (same_input (input_of after name k) (input_of layers name k))) columns
+pub steps_differ : (layers after : List Layer) (name : Name) → same_steps (steps_in_reach after name) (steps_in_reach layers name) ≡ false
+    → replicate column_count true ≡ map (λ k. not (same_input (input_of after name k) (input_of layers name k))) columns
 steps_differ layers after name other =
     sym (all_one (λ k. not (same_input (input_of after name k) (input_of layers name k))) true
-    (λ k. ap (λ b. not ((k == k && pointwise same_marked (input_of after name k).marked (input_of layers name k).marked) && b)) other ∙ ap not (and_false (k == k && pointwise same_marked (input_of after name k).marked (input_of layers name k).marked))) column_count 0)
+    (λ k. ap (λ b. not ((k == k && pointwise same_marked (input_of after name k).marked (input_of layers name k).marked) && b)) other ∙ ap not
+    (and_false (k == k && pointwise same_marked (input_of after name k).marked (input_of layers name k).marked))) column_count 0)
 
 -- where they are the same, the segments tell
-pub marks_tell : (layers after : List Layer) (name : Name) (news olds : List (List (List WholePoint))) → news ≡ rings_of (layers_in_reach after name) → olds ≡ rings_of (layers_in_reach layers name) → same_steps (steps_in_reach after name) (steps_in_reach layers name) ≡ true →
+pub marks_tell : (layers after : List Layer) (name : Name) (news olds : List (List (List WholePoint))) → news ≡ rings_of (layers_in_reach after name)
+    → olds ≡ rings_of (layers_in_reach layers name) → same_steps (steps_in_reach after name) (steps_in_reach layers name) ≡ true →
     map (λ k. not (pointwise same_marked (marked_in k news) (marked_in k olds))) columns ≡ map (λ k. not (same_input (input_of after name k) (input_of layers name k))) columns
 marks_tell layers after name news olds e f same =
     same_all (λ k. not (pointwise same_marked (marked_in k news) (marked_in k olds))) (λ k. not (same_input (input_of after name k) (input_of layers name k))) (λ k. ap not (one k)) columns
@@ -161,7 +182,8 @@ marks_tell layers after name news olds e f same =
         ∙ sym ((λ x. ((Decides-eqb k k).1 refl x && marks) && same x) ∙ and_true marks)
 
 -- a mark of one column more
-pub marks_more : (p : ℕ → Bool) (marks : List Bool) (n at : ℕ) (same : Bool) → n < column_count → n < length marks → at ≡ n → not same ≡ p n → take n marks ≡ map p (take n columns) → take (n + 1) (set marks at (not same)) ≡ map p (take (n + 1) columns)
+pub marks_more : (p : ℕ → Bool) (marks : List Bool) (n at : ℕ) (same : Bool) → n < column_count → n < length marks → at ≡ n → not same ≡ p n
+    → take n marks ≡ map p (take n columns) → take (n + 1) (set marks at (not same)) ≡ map p (take (n + 1) columns)
 marks_more p marks n at same near room here is so_far =
     ap (λ i. take (n + 1) (set marks i (not same))) here ∙ take_more_set marks n (not same) room
     ∙ (λ x. so_far x ++ is x ∷ [])

@@ -10,7 +10,7 @@ use Rattle.overlay_terms.specs.Commands.{index_of, stands}
 use Rattle.overlay_terms.specs.Orderly.{used_names, is_orderly_after}
 use Rattle.layer_book.specs.declared.question.Question.{Question}
 use Rattle.layer_book.specs.declared.question.Question.TheVariants.{IsInside, IsEdge}
-use Rattle.layer_book.specs.Question.{content_answer, answers, labelled, if_wanted, wanted_layers, at_index, is_wanted, IsClosed}
+use Rattle.layer_book.specs.Question.{content_answer, answers, labelled, if_wanted, wanted_layers, at_index, is_wanted, NamesAreWanted}
 use Rattle.layer_book.proofs.Names.{same_name, own_name}
 use Rattle.layer_book.proofs.Order.{head_of, apart}
 
@@ -102,11 +102,11 @@ marks_from is_in (w ∷ ws) (layer ∷ layers) f h =
     let here = f zero layer refl in
     (here.0, here.1, marks_from is_in ws layers (λ i other e. f (suc i) other e) (omega arith))
 
-marks_hold : (layers : List Layer) (ws : List Bool) → is_orderly_after [] layers ≡ true → length layers ≤ length ws → IsClosed layers ws → Marks (is_wanted layers ws) ws layers
+marks_hold : (layers : List Layer) (ws : List Bool) → is_orderly_after [] layers ≡ true → length layers ≤ length ws → NamesAreWanted layers ws → Marks (is_wanted layers ws) ws layers
 marks_hold layers ws h n closed =
     marks_from (is_wanted layers ws) ws layers (λ i layer e. (ap (at_index ws) (index_at [] layers i layer h e), closed i layer e)) n
 
 -- the answer of a wanted layer
-pub wanted_answer : (question : Question) (p : Point) (layers : List Layer) (ws known : List Bool) (name : Name) → is_orderly_after [] layers ≡ true → length layers ≤ length ws → IsClosed layers ws → stands layers name ≡ true → is_wanted layers ws name ≡ true → labelled layers known ≡ answers question (wanted_layers ws layers) p → at_index known (index_of layers name) ≡ named false (answers question layers p) name
+pub wanted_answer : (question : Question) (p : Point) (layers : List Layer) (ws known : List Bool) (name : Name) → is_orderly_after [] layers ≡ true → length layers ≤ length ws → NamesAreWanted layers ws → stands layers name ≡ true → is_wanted layers ws name ≡ true → labelled layers known ≡ answers question (wanted_layers ws layers) p → at_index known (index_of layers name) ≡ named false (answers question layers p) name
 wanted_answer question p layers ws known name h n closed s w e =
     sym (named_at layers known name s) ∙ ap (λ found. named false found name) e ∙ agree_all (is_wanted layers ws) question p ws layers [] [] (marks_hold layers ws h n closed) (λ absent m is. refl) false name w

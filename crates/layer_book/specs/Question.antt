@@ -51,8 +51,8 @@ abbrev pub is_wanted : List Layer → List Bool → Name → Bool
 is_wanted layers wanted name = at_index wanted (index_of layers name)
 
 -- what a wanted layer names is wanted
-abbrev pub IsClosed : List Layer → List Bool → Type 0
-IsClosed layers wanted =
+abbrev pub NamesAreWanted : List Layer → List Bool → Type 0
+NamesAreWanted layers wanted =
     (i : ℕ) (layer : Layer) → slice_get layers i ≡ Some layer → at_index wanted i ≡ true →
     list_all (is_wanted layers wanted) (used_names layer.content) ≡ true
 

@@ -5,7 +5,7 @@ ghost use Rattle.overlay_terms.specs.Commands.{stands};
 ghost use Rattle.exact_point.specs.Place.{place as place_of_point};
 ghost use Rattle.layer_book.specs.Layer.{IsBook};
 ghost use Rattle.layer_book.specs.Place.{location, IsToldOf};
-ghost use Rattle.layer_book.specs.Question.{answers, is_wanted, IsClosed};
+ghost use Rattle.layer_book.specs.Question.{answers, is_wanted, NamesAreWanted};
 
 use crate::fault::LayerFault;
 use crate::layers::Layers;
@@ -67,7 +67,7 @@ impl Layers {
     ) -> bool
         requires standing { stands self.now name.now ≡ true }
         requires asked { is_wanted self.now wanted.now name.now ≡ true }
-        requires closed { IsClosed self.now wanted.now }
+        requires closed { NamesAreWanted self.now wanted.now }
         ensures { result ≡ unwrap_or told (named false (answers Question.IsInside self.now (place_of_point point.now)) name.now) }
     {
         match told {
@@ -86,7 +86,7 @@ impl Layers {
     ) -> bool
         requires standing { stands self.now name.now ≡ true }
         requires asked { is_wanted self.now wanted.now name.now ≡ true }
-        requires closed { IsClosed self.now wanted.now }
+        requires closed { NamesAreWanted self.now wanted.now }
         ensures value { result ≡ named false (answers question self.now (place_of_point point.now)) name.now }
         ensures valid { IsBook self.now }
     {

@@ -6,7 +6,7 @@ ghost use Rattle.overlay_terms.specs.Layers.{layers_in_reach};
 ghost use Rattle.overlay_terms.specs.Orderly.{used_names};
 ghost use Rattle.layer_expr.specs.Expr.{tree};
 ghost use Rattle.layer_book.specs.Layer.{IsBook};
-ghost use Rattle.layer_book.specs.Question.{at_index, content_at, is_wanted, marked, marked_layers, IsClosed};
+ghost use Rattle.layer_book.specs.Question.{at_index, content_at, is_wanted, marked, marked_layers, NamesAreWanted};
 
 use crate::layer::Layer;
 use crate::layers::Layers;
@@ -19,7 +19,7 @@ impl Layers {
     pub fn reach(&self, name: &Name) -> [bool; MAX_LAYERS]
         requires { stands self.now name.now ≡ true }
         ensures asked { is_wanted self.now result name.now ≡ true }
-        ensures closed { IsClosed self.now result }
+        ensures closed { NamesAreWanted self.now result }
         ensures room { length result ≡ MAX_LAYERS }
         // Nothing else is marked.
         ensures exactly { marked_layers result self.now ≡ layers_in_reach self.now name.now }

@@ -32,7 +32,8 @@ named-new (first ∷ known) name value h =
     ap (λ b. cond b first.1 (named false (known ++ (name, value) ∷ []) name)) apart.0 ∙ named-new known name value apart.1
 
 -- one more definition changes no leaf before it
-source_value-push : (bits : ℕ → Bool) (known : List Bool) (value : Bool) (p : ℕ) (source : Source) → stands_before p (length known) source ≡ true → source_value bits (known ++ value ∷ []) source ≡ source_value bits known source
+source_value-push : (bits : ℕ → Bool) (known : List Bool) (value : Bool) (p : ℕ) (source : Source) → stands_before p (length known) source ≡ true
+    → source_value bits (known ++ value ∷ []) source ≡ source_value bits known source
 source_value-push bits known value p (base_bit k) h = refl
 source_value-push bits known value p (definition k) h =
     unwrap_or-slice_get (known ++ value ∷ []) k false
@@ -44,7 +45,9 @@ source_value-last bits known value =
     unwrap_or-slice_get (known ++ value ∷ []) (length known) false ∙ get_or-append_seam known value [] false
 
 -- an expression over known names, and the same over their numbers
-truth-relabel : (names : List Name) (f : Name → Bool) (at : Name → Source) (g : Source → Bool) → ((n : Name) → is_among names n ≡ true → f n ≡ g (at n)) → (t : Tree Name) → list_all (is_among names) (leaves t) ≡ true → truth f t ≡ truth g (relabel at t)
+truth-relabel : (names : List Name) (f : Name → Bool) (at : Name → Source) (g : Source → Bool)
+    → ((n : Name) → is_among names n ≡ true → f n ≡ g (at n)) → (t : Tree Name) → list_all (is_among names) (leaves t) ≡ true
+    → truth f t ≡ truth g (relabel at t)
 truth-relabel names f at g agree (leaf name) h = agree name (and_parts (is_among names name) true h).0
 truth-relabel names f at g agree (combine o l r) h =
     let parts = and_parts _ _ (sym (list_all-append (is_among names) (leaves l) (leaves r)) ∙ h) in
@@ -57,19 +60,23 @@ record Agree (at : Name → Source) (bits : ℕ → Bool) (known : List (Name ×
   below : (n : Name) → is_among (names_of known) n ≡ true → stands_before p (length found) (at n) ≡ true
 
 module _ (at : Name → Source) (bits : ℕ → Bool) where
-  agree-base : (known : List (Name × Bool)) (found : List Bool) (p : ℕ) (name : Name) → is_among (names_of known) name ≡ false → at name ≡ base_bit p → Agree at bits known found p → Agree at bits (known ++ (name, bits p) ∷ []) found (p + 1)
+  agree-base : (known : List (Name × Bool)) (found : List Bool) (p : ℕ) (name : Name) → is_among (names_of known) name ≡ false → at name ≡ base_bit p
+      → Agree at bits known found p → Agree at bits (known ++ (name, bits p) ∷ []) found (p + 1)
   agree-base known found p name new here agree =
       let names : names_of (known ++ (name, bits p) ∷ []) ≡ names_of known ++ name ∷ [] = map-append (λ entry. entry.0) known ((name, bits p) ∷ []) in
       record {
         value = λ n h.
             elim (or_cases (is_among (names_of known) n) (bytes_eq name n) (sym (is_among-push (names_of known) name n) ∙ ap (λ ns. is_among ns n) (sym names) ∙ h)) [
               | inl old ↦ named-old known (name, bits p) n old ∙ agree.value n old
-              | inr found_now ↦ subst (λ m. named false (known ++ (name, bits p) ∷ []) m ≡ source_value bits found (at m)) (same_name name n found_now) (named-new known name (bits p) new ∙ sym (ap (source_value bits found) here))
+              | inr found_now ↦ subst (λ m. named false (known ++ (name, bits p) ∷ []) m ≡ source_value bits found (at m))
+                  (same_name name n found_now) (named-new known name (bits p) new ∙ sym (ap (source_value bits found) here))
             ];
-        below = λ n h. below-push at (names_of known) name p (length found) (p + 1) (length found) (omega arith) (omega arith) agree.below (ap (stands_before (p + 1) (length found)) here ∙ lt-ltb p (p + 1) (omega arith)) n (ap (λ ns. is_among ns n) (sym names) ∙ h);
+        below = λ n h. below-push at (names_of known) name p (length found) (p + 1) (length found) (omega arith) (omega arith) agree.below
+            (ap (stands_before (p + 1) (length found)) here ∙ lt-ltb p (p + 1) (omega arith)) n (ap (λ ns. is_among ns n) (sym names) ∙ h);
       }
 
-  agree-definition : (known : List (Name × Bool)) (found : List Bool) (p : ℕ) (name : Name) (v : Bool) → is_among (names_of known) name ≡ false → at name ≡ definition (length found) → Agree at bits known found p → Agree at bits (known ++ (name, v) ∷ []) (found ++ v ∷ []) p
+  agree-definition : (known : List (Name × Bool)) (found : List Bool) (p : ℕ) (name : Name) (v : Bool) → is_among (names_of known) name ≡ false
+      → at name ≡ definition (length found) → Agree at bits known found p → Agree at bits (known ++ (name, v) ∷ []) (found ++ v ∷ []) p
   agree-definition known found p name v new here agree =
       let names : names_of (known ++ (name, v) ∷ []) ≡ names_of known ++ name ∷ [] = map-append (λ entry. entry.0) known ((name, v) ∷ []) in
       let longer : length (found ++ v ∷ []) ≡ length found + 1 = length-append found (v ∷ []) in
@@ -77,18 +84,27 @@ module _ (at : Name → Source) (bits : ℕ → Bool) where
         value = λ n h.
             elim (or_cases (is_among (names_of known) n) (bytes_eq name n) (sym (is_among-push (names_of known) name n) ∙ ap (λ ns. is_among ns n) (sym names) ∙ h)) [
               | inl old ↦ named-old known (name, v) n old ∙ agree.value n old ∙ sym (source_value-push bits found v p (at n) (agree.below n old))
-              | inr found_now ↦ subst (λ m. named false (known ++ (name, v) ∷ []) m ≡ source_value bits (found ++ v ∷ []) (at m)) (same_name name n found_now) (named-new known name v new ∙ sym (ap (source_value bits (found ++ v ∷ [])) here ∙ source_value-last bits found v))
+              | inr found_now ↦ subst (λ m. named false (known ++ (name, v) ∷ []) m ≡ source_value bits (found ++ v ∷ []) (at m))
+                  (same_name name n found_now) (named-new known name v new ∙ sym
+                  (ap (source_value bits (found ++ v ∷ [])) here ∙ source_value-last bits found v))
             ];
-        below = λ n h. below-push at (names_of known) name p (length found) p (length (found ++ v ∷ [])) (omega arith) (omega (arith, longer)) agree.below (ap (stands_before p (length (found ++ v ∷ []))) here ∙ lt-ltb (length found) (length (found ++ v ∷ [])) (omega (arith, longer))) n (ap (λ ns. is_among ns n) (sym names) ∙ h);
+        below = λ n h. below-push at (names_of known) name p (length found) p (length (found ++ v ∷ [])) (omega arith)
+            (omega (arith, longer)) agree.below (ap (stands_before p (length (found ++ v ∷ []))) here ∙ lt-ltb (length found)
+            (length (found ++ v ∷ [])) (omega (arith, longer))) n (ap (λ ns. is_among ns n) (sym names) ∙ h);
       }
 
   -- the layers from some place on, where f says whether the last so far is derived
-  evaluated_after : (known : List (Name × Bool)) (found : List Bool) (p : ℕ) (layers : List Reached) → Agree at bits known found p → AreNumbered at p (length found) layers → is_ordered_after (names_of known) layers ≡ true → (f a b : Bool) → (f ≡ true → last_or a (map (λ entry. entry.1) known) ≡ last_or b found) → last_or f (map (λ layer. is_some layer.1) layers) ≡ true → last_or a (map (λ entry. entry.1) (values_after p known bits layers)) ≡ last_or b (fold (λ ks t. ks ++ truth (source_value bits ks) t ∷ []) found (map (λ d. relabel at d.1) (definitions_of layers)))
+  evaluated_after : (known : List (Name × Bool)) (found : List Bool) (p : ℕ) (layers : List Reached) → Agree at bits known found p
+      → AreNumbered at p (length found) layers → is_ordered_after (names_of known) layers ≡ true → (f a b : Bool)
+      → (f ≡ true → last_or a (map (λ entry. entry.1) known) ≡ last_or b found) → last_or f (map (λ layer. is_some layer.1) layers) ≡ true
+      → last_or a (map (λ entry. entry.1) (values_after p known bits layers)) ≡ last_or b
+      (fold (λ ks t. ks ++ truth (source_value bits ks) t ∷ []) found (map (λ d. relabel at d.1) (definitions_of layers)))
   evaluated_after known found p [] agree numbers h f a b same_last derived = same_last derived
   evaluated_after known found p ((name, None) ∷ layers) agree numbers h f a b same_last derived =
       let first = head (names_of known) (name, None) layers h in
       let names : names_of (known ++ (name, bits p) ∷ []) ≡ names_of known ++ name ∷ [] = map-append (λ entry. entry.0) known ((name, bits p) ∷ []) in
-      evaluated_after (known ++ (name, bits p) ∷ []) found (p + 1) layers (agree-base known found p name first.new numbers.0 agree) numbers.1 (ap (λ ns. is_ordered_after ns layers) names ∙ first.rest) false a b (λ e. absurd (false≢true e)) derived
+      evaluated_after (known ++ (name, bits p) ∷ []) found (p + 1) layers (agree-base known found p name first.new numbers.0 agree) numbers.1
+      (ap (λ ns. is_ordered_after ns layers) names ∙ first.rest) false a b (λ e. absurd (false≢true e)) derived
   evaluated_after known found p ((name, Some e) ∷ layers) agree numbers h f a b same_last derived =
       let first = head (names_of known) (name, Some e) layers h in
       let v = truth (named false known) e in
@@ -97,14 +113,21 @@ module _ (at : Name → Source) (bits : ℕ → Bool) where
       let both : v ≡ truth (source_value bits found) (relabel at e) = truth-relabel (names_of known) (named false known) at (source_value bits found) agree.value e first.over in
       let last : last_or a (map (λ entry. entry.1) (known ++ (name, v) ∷ [])) ≡ last_or b (found ++ v ∷ []) =
       ap (last_or a) (map-append (λ entry. entry.1) known ((name, v) ∷ [])) ∙ last_or-push a (map (λ entry. entry.1) known) v ∙ sym (last_or-push b found v) in
-      evaluated_after (known ++ (name, v) ∷ []) (found ++ v ∷ []) p layers (agree-definition known found p name v first.new numbers.0 agree) (subst (λ q. AreNumbered at p q layers) (sym longer) numbers.1) (ap (λ ns. is_ordered_after ns layers) names ∙ first.rest) true a b (λ e. last) derived
+      evaluated_after (known ++ (name, v) ∷ []) (found ++ v ∷ []) p layers (agree-definition known found p name v first.new numbers.0 agree)
+      (subst (λ q. AreNumbered at p q layers) (sym longer) numbers.1) (ap (λ ns. is_ordered_after ns layers) names ∙ first.rest) true a b
+      (λ e. last) derived
       ∙ ap (λ w. last_or b (fold (λ ks t. ks ++ truth (source_value bits ks) t ∷ []) (found ++ w ∷ []) (map (λ d. relabel at d.1) (definitions_of layers)))) both
 
-derived_last : (layers : List Reached) (bits : ℕ → Bool) → IsOrdered layers → last_or false (map (λ layer. is_some layer.1) layers) ≡ true → steps_value (numbered_steps layers) bits ≡ evaluated layers bits
+derived_last : (layers : List Reached) (bits : ℕ → Bool) → IsOrdered layers → last_or false (map (λ layer. is_some layer.1) layers) ≡ true
+    → steps_value (numbered_steps layers) bits ≡ evaluated layers bits
 derived_last layers bits h derived =
-    sym (evaluated_after (source_among layers) bits [] [] 0 layers (record { value = λ n e. absurd (false≢true e); below = λ n e. absurd (false≢true e) }) (source_among-numbers layers h) h false false _ (λ e. absurd (false≢true e)) derived)
+    sym (evaluated_after (source_among layers) bits [] [] 0 layers (record {
+      value = λ n e. absurd (false≢true e);
+      below = λ n e. absurd (false≢true e);
+    }) (source_among-numbers layers h) h false false _ (λ e. absurd (false≢true e)) derived)
 
-base_alone : (layers : List Reached) (bits : ℕ → Bool) → last_or false (map (λ layer. is_some layer.1) layers) ≡ false → (length layers == 1) ≡ true → steps_value (numbered_steps layers) bits ≡ evaluated layers bits
+base_alone : (layers : List Reached) (bits : ℕ → Bool) → last_or false (map (λ layer. is_some layer.1) layers) ≡ false → (length layers == 1) ≡ true
+    → steps_value (numbered_steps layers) bits ≡ evaluated layers bits
 base_alone [] bits h one = absurd (false≢true one)
 base_alone ((name, None) ∷ []) bits h one = refl
 base_alone ((name, Some e) ∷ []) bits h one = absurd (false≢true (sym h))

@@ -54,7 +54,7 @@ closed_is_input marked steps k column few known closed =
       column = column;
       few = few;
       touch = filter_passes (λ m. touches k m.segment) marked;
-      known = All-filter (λ m. touches k m.segment) (λ m. m.layer < steps.bases) marked known;
+      known_layers = All-filter (λ m. touches k m.segment) (λ m. m.layer < steps.bases) marked known;
       proper = All-filter (λ m. touches k m.segment) (λ m. IsProper m.segment) marked closed.proper;
       even = λ j v h. ap (λ n. n % 2) (ends_kept marked k j v (is_in k (whole v) (omega (arith, ints)) h) closed.proper) ∙ closed.even j v;
     }

@@ -1,16 +1,16 @@
 -- Closed rings leave each whole point an end of an even number of segments.
-use Rattle.std.specs.Prelude.{◌≡◌, ℕ, ◌+◌, ◌%◌, Bool, ◌&&◌, List, [], ◌∷◌, ◌++◌, length, count_by, slice_get, Some}
+use Rattle.std.specs.Prelude.{◌≡◌, ℕ, ◌+◌, ◌-◌, ◌%◌, Bool, ◌&&◌, List, [], ◌∷◌, ◌++◌, length, count_by, slice_get, Some}
 use Rattle.std.specs.List.{cons_option}
 use Rattle.std.specs.Ordering.{int_cmp, int_eq}
 use Rattle.std.specs.Cmp.{int_ranked}
 use Rattle.std.specs.declared.cmp.Ordering.{Ordering}
 use Rattle.std.specs.declared.cmp.Ordering.TheVariants.{Less, Equal, Greater}
-use Rattle.std.proofs.Common.{refl, ap, sym, ◌∙◌, cond, arith}
+use Rattle.std.proofs.Common.{suc, refl, ap, sym, ◌∙◌, cond, arith}
 use Rattle.std.proofs.lemmas.List.Elements.{All-head, All-tail}
 use Rattle.std.proofs.lemmas.List.Sums.{sum_by-cons, sum_by-append}
 use Rattle.overlay_terms.specs.Plane.{WholePoint, Segment, whole_cmp, same_whole, segment_between, ring_segments, segments_of}
 use Rattle.overlay_terms.specs.InputLaws.{IsClosed, segment_ends_at, RingsAreClosed}
-use Rattle.overlay_terms.proofs.PointOrder.{both_equal}
+use Rattle.overlay_terms.proofs.PointOrder.{both_equal, same_points}
 
 -- one where a test holds
 abbrev pub bit : Bool → ℕ
@@ -53,12 +53,12 @@ step_ends a b v rest Greater e =
     rw e (let more : segment_ends_at (record { left = b; right = a } ∷ rest) v ≡ (at b v + at a v) + segment_ends_at rest v = ends-cons (record { left = b; right = a }) rest v in omega arith)
 
 -- the last of some points, the first of which stands apart
-pub last_of : WholePoint → List WholePoint → WholePoint
+last_of : WholePoint → List WholePoint → WholePoint
 last_of a [] = a
 last_of a (b ∷ rest) = last_of b rest
 
 -- the last point is the one at the greatest place
-pub last_is : (a : WholePoint) (rest : List WholePoint) → slice_get (a ∷ rest) (length rest) ≡ Some (last_of a rest)
+last_is : (a : WholePoint) (rest : List WholePoint) → slice_get (a ∷ rest) (length rest) ≡ Some (last_of a rest)
 unfolding last_of
 last_is a [] = refl
 last_is a (b ∷ rest) = last_is b rest
@@ -72,15 +72,15 @@ path_ends a v (b ∷ rest) =
     let more : segment_ends_at (ring_segments (b ∷ rest)) v % 2 ≡ (at b v + at (last_of b rest) v) % 2 = path_ends b v rest in
     omega arith
 
--- the one in a Some
-some_same : {X : Type 0} (a b : X) → Some a ≡ Some b → a ≡ b
-some_same a b e = cc
+-- a place before the end of a list that has one more
+one_less : (n : ℕ) → suc n - 1 ≡ n
+one_less n = omega arith
 
 -- the ends of a closed ring are even
 ring_ends : (ring : List WholePoint) (v : WholePoint) → IsClosed ring → segment_ends_at (ring_segments ring) v % 2 ≡ 0
 ring_ends [] v closed = refl
 ring_ends (a ∷ rest) v closed =
-    let back : a ≡ last_of a rest = some_same a (last_of a rest) (closed ∙ ap (slice_get (a ∷ rest)) (omega arith) ∙ last_is a rest) in
+    let back : a ≡ last_of a rest = same_points a (last_of a rest) (rw (one_less (length rest), last_is a rest) at closed) in
     let path : segment_ends_at (ring_segments (a ∷ rest)) v % 2 ≡ (at a v + at (last_of a rest) v) % 2 = path_ends a v rest in
     let same : at a v ≡ at (last_of a rest) v = ap (λ b. at b v) back in
     omega arith

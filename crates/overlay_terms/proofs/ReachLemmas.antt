@@ -83,8 +83,8 @@ module _ (T : List (Name × List Name)) where
   is_reached from name = has_name (named [] T from) name
 
   -- what is reached from a reached name is reached
-  abbrev pub IsClosed : Name → Type 0
-  IsClosed n = (m k : Name) → is_reached n m ≡ true → is_reached m k ≡ true → is_reached n k ≡ true
+  abbrev pub ReachesOn : Name → Type 0
+  ReachesOn n = (m k : Name) → is_reached n m ≡ true → is_reached m k ≡ true → is_reached n k ≡ true
 
   -- a name that is the layer's own reaches what the layer does
   own_reach : (name m k : Name) → bytes_eq m name ≡ true → is_reached m k ≡ true → is_reached name k ≡ true
@@ -95,8 +95,8 @@ module _ (T : List (Name × List Name)) where
   from_leaf name k us row h =
       ap (λ ns. has_name ns k) row ∙ or_right (bytes_eq k name) _ (any-flat_map (bytes_eq k) (named [] T) us ∙ h)
 
-  -- a layer is closed where the layers that it uses are
-  closed_row : (known : List Name) (name : Name) (content : Content) → IsReachRow name content → list_all (is_among known) (used_names content) ≡ true → ((n : Name) → is_among known n ≡ true → IsClosed n) → IsClosed name
+  -- a layer reaches on where the layers that it uses do
+  closed_row : (known : List Name) (name : Name) (content : Content) → IsReachRow name content → list_all (is_among known) (used_names content) ≡ true → ((n : Name) → is_among known n ≡ true → ReachesOn n) → ReachesOn name
   closed_row known name (base rings) row uses closed m k hm hk =
       own_reach name m k (sym (or_false (bytes_eq m name)) ∙ sym (ap (λ ns. has_name ns m) row) ∙ hm) hk
   closed_row known name (derived expression) row uses closed m k hm hk =
@@ -113,12 +113,12 @@ module _ (T : List (Name × List Name)) where
   itself_row name (derived expression) row = ap (λ ns. has_name ns name) row ∙ or_left _ _ (name_itself name)
 
   -- a layer that stands reaches all that is reached from what it reaches
-  pub closed_all : (layers : List Layer) (known : List Name) → is_orderly_after known layers ≡ true → AreReachRows layers → ((n : Name) → is_among known n ≡ true → IsClosed n) → (n : Name) → is_known known layers n ≡ true → IsClosed n
+  pub closed_all : (layers : List Layer) (known : List Name) → is_orderly_after known layers ≡ true → AreReachRows layers → ((n : Name) → is_among known n ≡ true → ReachesOn n) → (n : Name) → is_known known layers n ≡ true → ReachesOn n
   closed_all [] known orderly rows closed n e = closed n (sym (or_false (is_among known n)) ∙ e)
   closed_all (layer ∷ layers) known orderly rows closed n e =
       let parts = orderly_splits known layer layers orderly in
       closed_all layers (known ++ layer.name ∷ []) parts.rest rows.1
-      (known_push IsClosed known layer.name closed (closed_row known layer.name layer.content rows.0 parts.first.uses_known closed)) n
+      (known_push ReachesOn known layer.name closed (closed_row known layer.name layer.content rows.0 parts.first.uses_known closed)) n
       (sym (is_known-cons known layer layers n) ∙ e)
 
   -- a layer that stands reaches itself
@@ -133,14 +133,14 @@ module _ (T : List (Name × List Name)) where
   UsesReached from name content = is_reached from name ≡ true → list_all (is_reached from) (used_names content) ≡ true
 
   -- the same of one layer
-  uses_row : (from : Name) (known : List Name) (name : Name) (content : Content) → IsClosed from → IsReachRow name content → list_all (is_among known) (used_names content) ≡ true → ((n : Name) → is_among known n ≡ true → is_reached n n ≡ true) → UsesReached from name content
+  uses_row : (from : Name) (known : List Name) (name : Name) (content : Content) → ReachesOn from → IsReachRow name content → list_all (is_among known) (used_names content) ≡ true → ((n : Name) → is_among known n ≡ true → is_reached n n ≡ true) → UsesReached from name content
   uses_row from known name (base rings) closed row uses itself reached = refl
   uses_row from known name (derived expression) closed row uses itself reached =
       list_all_so (λ u. list_any (λ v. is_reached v u) (leaves expression)) (is_reached from) (λ u some. closed name u reached (from_leaf name u (leaves expression) row some)) (leaves expression)
       (all_with_one is_reached (leaves expression) (list_all_so (is_among known) (λ u. is_reached u u) itself (leaves expression) uses))
 
   -- each layer that is reached uses reached layers alone
-  pub uses_all : (from : Name) → IsClosed from → (layers : List Layer) (known : List Name) → is_orderly_after known layers ≡ true → AreReachRows layers → ((n : Name) → is_among known n ≡ true → is_reached n n ≡ true) → AllByRecursion (λ layer. UsesReached from layer.name layer.content) layers
+  pub uses_all : (from : Name) → ReachesOn from → (layers : List Layer) (known : List Name) → is_orderly_after known layers ≡ true → AreReachRows layers → ((n : Name) → is_among known n ≡ true → is_reached n n ≡ true) → AllByRecursion (λ layer. UsesReached from layer.name layer.content) layers
   uses_all from closed [] known orderly rows itself = tt
   uses_all from closed (layer ∷ layers) known orderly rows itself =
       let parts = orderly_splits known layer layers orderly in (

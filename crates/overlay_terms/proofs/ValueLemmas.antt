@@ -15,7 +15,7 @@ use Rattle.overlay_terms.proofs.Functions.{fun_ext}
 use Rattle.overlay_terms.proofs.StepLaws.{nothing_from_nothing}
 use Rattle.overlay_terms.proofs.NameLemmas.{name_itself, or_false}
 use Rattle.overlay_terms.proofs.TableLemmas.{rows_fixed, no_row}
-use Rattle.overlay_terms.proofs.ReachLemmas.{has_name, is_reached, AreReachRows, IsClosed, content_reach_of_uses, closed_all, itself_all, uses_all, none_behind}
+use Rattle.overlay_terms.proofs.ReachLemmas.{has_name, is_reached, AreReachRows, ReachesOn, content_reach_of_uses, closed_all, itself_all, uses_all, none_behind}
 use Rattle.overlay_terms.proofs.BitLemmas.{below_bits_match, below_bits_false}
 use Rattle.overlay_terms.proofs.SourceLemmas.{Matches}
 use Rattle.overlay_terms.proofs.DefinitionLemmas.{base_names, derived_names, passing, passing_yes, passing_no, content_value_of_uses, definitions_give}
@@ -83,7 +83,7 @@ module _ (layers : List Layer) (name : Name) (p : Point) (orderly : IsOrderly la
   -- a derived layer is the last of its steps
   where_derived : stands layers name ≡ true → stands_as_derived layers name ≡ true → value_of layers name p ≡ answer_of p (layers_in_reach layers name)
   where_derived standing as_derived =
-      let closed : IsClosed (reaches layers) name = closed_all (reaches layers) layers [] orderly reach_rows (λ n e. absurd (false≢true e)) name standing in
+      let closed : ReachesOn (reaches layers) name = closed_all (reaches layers) layers [] orderly reach_rows (λ n e. absurd (false≢true e)) name standing in
       let itself : reached name ≡ true = itself_all (reaches layers) layers [] reach_rows (λ n e. absurd (false≢true e)) name standing in
       let uses = uses_all (reaches layers) name closed layers [] orderly reach_rows (λ n e. absurd (false≢true e)) in
       let reachable = layers_in_reach layers name in

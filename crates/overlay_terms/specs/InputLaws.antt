@@ -1,6 +1,6 @@
 -- Laws over inputs: what rings leave behind as segments.
-use Rattle.std.specs.Prelude.{◌≡◌, ℕ, ◌+◌, ◌-◌, ◌%◌, ◌<◌, ◌≤◌, List, length, filter, filter_map, count_by, slice_get, All}
-use Rattle.overlay_terms.specs.Plane.{WholePoint, Segment, same_whole, segments_of, InRange}
+use Rattle.std.specs.Prelude.{◌≡◌, ℕ, ◌+◌, ◌%◌, ◌<◌, ◌≤◌, IsTrue, List, length, filter, filter_map, count_by, All}
+use Rattle.overlay_terms.specs.Plane.{WholePoint, Segment, same_whole, is_closed, segments_of, InRange}
 use Rattle.overlay_terms.specs.Column.{column_count, touches}
 use Rattle.overlay_terms.specs.Trees.{Steps}
 use Rattle.overlay_terms.specs.Layers.{layers_max, Name, Layer, Marked, base_of, marked_segments}
@@ -9,7 +9,7 @@ use Rattle.overlay_terms.specs.TileLaws.{AreClosed, IsInput}
 
 -- the last point of a ring is its first
 abbrev pub IsClosed : List WholePoint → Type 0
-IsClosed ring = slice_get ring 0 ≡ slice_get ring (length ring - 1)
+IsClosed ring = IsTrue (is_closed ring)
 
 -- a ring as a base layer has it: closed, with coordinates in range
 pub record IsRing (ring : List WholePoint) : Type 0 where

@@ -1,5 +1,5 @@
 -- Points, segments, and what lies below, on and inside. Rings are those of ISO 19125-1:2004, 6.1.7 and 6.1.11; insides are taken even-odd.
-use Rattle.std.specs.Prelude.{ℕ, ℤ, pos, ◌-◌, ◌^◌, ◌%◌, ◌==◌, ◌*ℤ◌, ◌-ℤ◌, ◌≤ℤ◌, neg_ℤ, int_le, int_lt, Bool, ◌&&◌, not, List, length, drop, zip, sum_by, count_by, filter_map, flat_map, Option, Some, None}
+use Rattle.std.specs.Prelude.{ℕ, ℤ, pos, ◌-◌, ◌^◌, ◌%◌, ◌==◌, ◌*ℤ◌, ◌-ℤ◌, ◌≤ℤ◌, neg_ℤ, int_le, int_lt, Bool, true, false, ◌&&◌, not, List, length, drop, slice_get, zip, sum_by, count_by, filter_map, flat_map, Option, Some, None}
 use Rattle.std.specs.Ordering.{int_cmp, ordering_then, is_lt, is_gt, int_eq}
 use Rattle.std.specs.declared.cmp.Ordering.{Ordering}
 use Rattle.std.specs.declared.cmp.Ordering.TheVariants.{Less, Equal, Greater}
@@ -78,6 +78,14 @@ segment_between (a, b) = by_order (whole_cmp a b) a b where
   by_order Less a b = Some (record { left = a; right = b })
   by_order Equal a b = None
   by_order Greater a b = Some (record { left = b; right = a })
+
+-- whether the last point of a ring is its first (IsClosed of ISO 19125-1:2004, 6.1.6); a ring of no points is closed
+abbrev pub is_closed : List WholePoint → Bool
+is_closed ring = same_ends (slice_get ring 0) (slice_get ring (length ring - 1)) where
+  same_ends : Option WholePoint → Option WholePoint → Bool
+  same_ends (Some first) (Some last) = same_whole first last
+  same_ends (Some first) None = false
+  same_ends None last = true
 
 -- the pairs of consecutive points of a ring
 abbrev pub ring_steps : List WholePoint → List (WholePoint × WholePoint)

@@ -38,7 +38,7 @@ pub record IsInput (input : Input) : Type 0 where
   pub column : input.column < column_count
   pub few : input.steps.bases ≤ layers_max
   pub touch : All (λ m. IsTrue (touches input.column m.segment)) input.marked
-  pub known : All (λ m. m.layer < input.steps.bases) input.marked
+  pub known_layers : All (λ m. m.layer < input.steps.bases) input.marked
   pub proper : All (λ m. IsProper m.segment) input.marked
   pub even : (k : ℕ) (v : WholePoint) → IsTrue (is_in_column input.column (whole v)) → ends_at input.marked k v % 2 ≡ 0
 

@@ -1,14 +1,12 @@
 -- Rings without a fault, whose points are in range, are rings.
-use Rattle.std.specs.Prelude.{◌≡◌, ℕ, ◌+◌, ◌-◌, ◌<◌, ◌≤◌, nat_lt, nat_le, Bool, true, false, List, [], ◌∷◌, length, slice_get, Some, None, All, if◌then◌else◌}
-use Rattle.std.proofs.Common.{zero, suc, get_or, take, refl, ap, sym, ◌∙◌, subst, arith}
+use Rattle.std.specs.Prelude.{◌≡◌, ℕ, ◌+◌, ◌-◌, ◌<◌, ◌≤◌, nat_lt, nat_le, Bool, true, false, List, [], ◌∷◌, length, Some, None, All, if◌then◌else◌}
+use Rattle.std.proofs.Common.{zero, suc, get_or, take, refl, subst, arith}
 use Rattle.std.proofs.lemmas.Bool.{ltb-false}
 use Rattle.std.proofs.lemmas.List.Elements.{All-nil, All-cons, All-head, All-tail, All-more}
-use Rattle.overlay_terms.specs.Plane.{WholePoint, ring_step_count, steps_max}
+use Rattle.overlay_terms.specs.Plane.{WholePoint, is_closed, ring_step_count, steps_max}
 use Rattle.overlay_terms.specs.InputLaws.{IsClosed, IsRing}
 use Rattle.overlay_terms.proofs.Options.{both_absent}
-use Rattle.overlay_terms.proofs.PointOrder.{same_points}
-use Rattle.overlay_terms.proofs.ClosedRings.{last_of, last_is}
-use Rattle.plane_base.specs.BaseLayer.{IsInRange, PointsInRange, is_closed, ring_fault, first_ring_fault, rings_fault}
+use Rattle.plane_base.specs.BaseLayer.{IsInRange, PointsInRange, ring_fault, first_ring_fault, rings_fault}
 use Rattle.plane_base.specs.declared.fault.PlaneFault.TheVariants.{RingOpen, RingShort, TooManySegments}
 
 -- a fact of the first elements and of the next one
@@ -27,24 +25,13 @@ in_range_more ring (suc (suc j)) a b low high ea eb ra rb was =
 pub rings_more : (rings : List (List WholePoint)) (i : ℕ) (ring : List WholePoint) → i < length rings → ring ≡ get_or rings i ring → PointsInRange ring → All PointsInRange (take i rings) → All PointsInRange (take (i + 1) rings)
 rings_more = all_more PointsInRange
 
--- a place before the end of a list that has one more
-one_less : (n : ℕ) → suc n - 1 ≡ n
-one_less n = omega arith
-
--- a ring that passes the test is closed
-closed_ends : (ring : List WholePoint) → is_closed ring ≡ true → IsClosed ring
-closed_ends [] h = refl
-closed_ends (a ∷ rest) h =
-    let same : a ≡ last_of a rest = same_points a (last_of a rest) (rw (one_less (length rest), last_is a rest) at h) in
-    ap Some same ∙ sym (last_is a rest) ∙ ap (slice_get (a ∷ rest)) (sym (one_less (length rest)))
-
 -- a ring without a fault, by its length and whether it is closed
 ring_by : (ring : List WholePoint) (at : ℕ) (short closed : Bool) → nat_lt (length ring) 4 ≡ short → is_closed ring ≡ closed → (if short then Some (RingShort at) else (if closed then None else Some (RingOpen at))) ≡ None → PointsInRange ring → IsRing ring
 ring_by ring at true closed few ends e in_range = absurd (cc)
 ring_by ring at false false many ends e in_range = absurd (cc)
 ring_by ring at false true many ends e in_range =
     let low = ltb-false (length ring) 4 many in
-    record { closed = closed_ends ring ends; in_range = in_range (omega arith) }
+    record { closed = ends; in_range = in_range (omega arith) }
 
 -- rings without a fault, whose points are in range, are rings
 rings_from : (at : ℕ) (rings : List (List WholePoint)) → first_ring_fault at rings ≡ None → All PointsInRange rings → All IsRing rings
@@ -63,7 +50,7 @@ are_rings rings e =
 closed_by : (ring : List WholePoint) (at : ℕ) (short closed : Bool) → is_closed ring ≡ closed → (if short then Some (RingShort at) else (if closed then None else Some (RingOpen at))) ≡ None → IsClosed ring
 closed_by ring at true closed ends e = absurd (cc)
 closed_by ring at false false ends e = absurd (cc)
-closed_by ring at false true ends e = closed_ends ring ends
+closed_by ring at false true ends e = ends
 
 -- rings without a fault are closed
 closed_from : (at : ℕ) (rings : List (List WholePoint)) → first_ring_fault at rings ≡ None → All IsClosed rings

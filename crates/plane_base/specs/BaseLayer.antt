@@ -1,6 +1,6 @@
-use Rattle.std.specs.Prelude.{ℕ, Bool, false, ◌+◌, ◌-◌, List, [], ◌∷◌, length, nat_lt, nat_le, if◌then◌else◌, Option, Some, None, slice_get, ◌<◌, All}
+use Rattle.std.specs.Prelude.{ℕ, ◌+◌, List, [], ◌∷◌, length, nat_lt, nat_le, if◌then◌else◌, Option, Some, None, ◌<◌, All}
 use Rattle.std.specs.Option.{option_or}
-use Rattle.overlay_terms.specs.Plane.{WholePoint, InRange, ring_step_count, steps_max, same_whole}
+use Rattle.overlay_terms.specs.Plane.{WholePoint, InRange, is_closed, ring_step_count, steps_max}
 use Rattle.plane_base.specs.declared.fault.PlaneFault.{PlaneFault}
 use Rattle.plane_base.specs.declared.fault.PlaneFault.TheVariants.{RingOpen, RingShort, TooManySegments}
 
@@ -11,14 +11,6 @@ IsInRange p = InRange p.x × InRange p.y
 -- the points of a ring that has a step are in range
 abbrev pub PointsInRange : List WholePoint → Type 0
 PointsInRange ring = 1 < length ring → All IsInRange ring
-
--- whether the last point of a ring is its first
-abbrev pub is_closed : List WholePoint → Bool
-is_closed ring = same_ends (slice_get ring 0) (slice_get ring (length ring - 1)) where
-  same_ends : Option WholePoint → Option WholePoint → Bool
-  same_ends (Some first) (Some last) = same_whole first last
-  same_ends (Some first) None = false
-  same_ends None last = false
 
 -- what is wrong with the ring at a place, its length first
 abbrev pub ring_fault : ℕ → List WholePoint → Option PlaneFault

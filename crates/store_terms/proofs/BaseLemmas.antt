@@ -4,11 +4,11 @@ use Rattle.std.specs.List.{list_all}
 use Rattle.std.proofs.lemmas.Bool.{and_from, ltb-false, lt-ltb, leb-true, le-leb}
 use Rattle.std.proofs.lemmas.List.Sums.{sum_by-cons, get_or-le-sum_by, list_all-from_AllPass}
 use Rattle.std.proofs.lemmas.List.Elements.{All-head, All-tail}
-use Rattle.overlay_terms.specs.Plane.{WholePoint, InRange, ring_step_count, steps_max}
+use Rattle.overlay_terms.specs.Plane.{WholePoint, InRange, is_closed, ring_step_count, steps_max}
 use Rattle.overlay_terms.specs.InputLaws.{IsRing}
 use Rattle.overlay_terms.proofs.Options.{both_absent}
 use Rattle.overlay_terms.proofs.Bounds.{abs_within}
-use Rattle.plane_base.specs.BaseLayer.{is_closed, ring_fault, first_ring_fault, rings_fault}
+use Rattle.plane_base.specs.BaseLayer.{ring_fault, first_ring_fault, rings_fault}
 use Rattle.plane_base.specs.declared.fault.PlaneFault.{PlaneFault}
 use Rattle.plane_base.specs.declared.fault.PlaneFault.TheVariants.{RingOpen, RingShort, TooManySegments}
 use Rattle.store_terms.specs.BaseRecord.{is_coordinate, whole_point, ring, is_good, rings}

@@ -22,7 +22,7 @@ positive z = omega (arith, ints)
 cut_tested : (s : Segment) (k : ℕ) → IsCutBy s k → has_place (Border s k) ≡ true
 cut_tested s k cut =
     and_from (nat_lt k column_count && int_lt s.left.x (border k)) (int_lt (border k) s.right.x)
-    (and_from (nat_lt k column_count) (int_lt s.left.x (border k)) (lt-ltb k column_count cut.known) (true_lt s.left.x (border k) cut.after_left))
+    (and_from (nat_lt k column_count) (int_lt s.left.x (border k)) (lt-ltb k column_count cut.known_column) (true_lt s.left.x (border k) cut.after_left))
     (true_lt (border k) s.right.x cut.before_right)
 
 crossing_tested : (a b : Segment) (p : Point) → pos 0 <ℤ p.w → IsCrossingOf a b p → p ≡ crossing_place a b → has_place (Cross a b) ≡ true
@@ -48,7 +48,7 @@ back (Cross a b) e =
 back (Border s k) e =
     let last = and_parts (nat_lt k column_count && int_lt s.left.x (border k)) (int_lt (border k) s.right.x) e in
     let first = and_parts (nat_lt k column_count) (int_lt s.left.x (border k)) last.0 in
-    record { known = ltb-true k column_count first.0; after_left = lt_true s.left.x (border k) first.1; before_right = lt_true (border k) s.right.x last.1 }
+    record { known_column = ltb-true k column_count first.0; after_left = lt_true s.left.x (border k) first.1; before_right = lt_true (border k) s.right.x last.1 }
 
 pub tested : (n : PointName) (o : Option HPoint) → IsSome o ↔ HasPlace n → IfSome o (λ z. IsPlaceOf n (place z)) → IfSome o (λ z. place z ≡ place_of n) → is_some o ≡ has_place n
 tested n None known at is = sym (false_from_ne_true (has_place n) (λ e. false≢true (known.1 (back n e))))

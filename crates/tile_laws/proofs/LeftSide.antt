@@ -33,13 +33,15 @@ use Rattle.exact_point.proofs.Nodes.{crossing_is_node, node_at_end, end_among}
 
 -- ---- over tests
 -- of a slanted segment: from its left end, before its right end; from right of its left end to its right end; and its ends on the line
-slanted_signs : (from before past to left right h l r : Bool) → (left ≡ true → from ≡ true) → (left ≡ true → before ≡ true) → (left ≡ true → past ≡ false) → (left ≡ true → right ≡ false) → (left ≡ true → h ≡ l) → (left ≡ false → from ≡ past)
+slanted_signs : (from before past to left right h l r : Bool) → (left ≡ true → from ≡ true) → (left ≡ true → before ≡ true)
+    → (left ≡ true → past ≡ false) → (left ≡ true → right ≡ false) → (left ≡ true → h ≡ l) → (left ≡ false → from ≡ past)
     → (right ≡ true → before ≡ false) → (right ≡ true → past ≡ true) → (right ≡ true → to ≡ true) → (right ≡ true → h ≡ r) → (right ≡ false → before ≡ to)
     → differ (((from && before) && h) || false) (differ ((past && to) && h) (differ (left && l) (right && r))) ≡ false
 slanted_signs from before past to left right h l r a b c d e f g i j k m = grind (arith, a, b, c, d, e, f, g, i, j, k, m)
 
 -- of an upright segment: both its ends on the line or neither, and on it the middle between them
-upright_signs : (below on reach here l r : Bool) → below ≡ false → reach ≡ false → (here ≡ false → on ≡ false) → (here ≡ true → on ≡ differ l r) → differ (below || on) (differ reach (differ (here && l) (here && r))) ≡ false
+upright_signs : (below on reach here l r : Bool) → below ≡ false → reach ≡ false → (here ≡ false → on ≡ false) → (here ≡ true → on ≡ differ l r)
+    → differ (below || on) (differ reach (differ (here && l) (here && r))) ≡ false
 upright_signs below on reach here l r a b c d = grind (arith, a, b, c, d)
 
 -- of numbers in order, the middle one no end
@@ -156,8 +158,10 @@ same_back a b w hw e = level_of a b (most_back a b w hw (same_most (a *ℤ w) (b
 reach_by_whole : (t : Segment) (q : Point) (l : ℤ) → pos 0 <ℤ q.w → q.x ≡ l *ℤ q.w → (int_lt (t.left.x *ℤ q.w) q.x && int_le q.x (t.right.x *ℤ q.w)) ≡ (int_lt t.left.x l && int_le l t.right.x)
 reach_by_whole t q l hq e =
     ap (λ x. int_lt (t.left.x *ℤ q.w) x && int_le x (t.right.x *ℤ q.w)) e
-    ∙ ap (λ b. b && int_le (l *ℤ q.w) (t.right.x *ℤ q.w)) (same_tests _ _ (λ h. true_lt t.left.x l (less_back t.left.x l q.w hq (lt_true _ _ h))) (λ h. true_lt _ _ (less_times t.left.x l q.w hq (lt_true t.left.x l h))))
-    ∙ ap (λ b. int_lt t.left.x l && b) (same_tests _ _ (λ h. true_le l t.right.x (most_back l t.right.x q.w hq (le_true _ _ h))) (λ h. true_le _ _ (most_times l t.right.x q.w hq (le_true l t.right.x h))))
+    ∙ ap (λ b. b && int_le (l *ℤ q.w) (t.right.x *ℤ q.w)) (same_tests _ _ (λ h. true_lt t.left.x l (less_back t.left.x l q.w hq (lt_true _ _ h)))
+    (λ h. true_lt _ _ (less_times t.left.x l q.w hq (lt_true t.left.x l h))))
+    ∙ ap (λ b. int_lt t.left.x l && b) (same_tests _ _ (λ h. true_le l t.right.x (most_back l t.right.x q.w hq (le_true _ _ h)))
+    (λ h. true_le _ _ (most_times l t.right.x q.w hq (le_true l t.right.x h))))
 
 module _ (input : Input) (p r : Point) (is : IsUpright input p r) (valid : IsInput input) where
   abbrev segments : List Segment
@@ -223,7 +227,8 @@ module _ (input : Input) (p r : Point) (is : IsUpright input p r) (valid : IsInp
   is_low v = int_eq v.x l && int_lt (v.y *ℤ m.w) m.y
 
   module _ (t : Segment) (among : Contains (segments_in input) t) where
-    by_whole : ((is_below t m || is_on t m) ≡ (((int_le t.left.x l && int_lt l t.right.x) && int_lt (pos 0) (height_over t m)) || is_on t m)) × (is_left_below t m ≡ ((int_lt t.left.x l && int_le l t.right.x) && int_lt (pos 0) (height_over t m)))
+    by_whole : ((is_below t m || is_on t m) ≡ (((int_le t.left.x l && int_lt l t.right.x) && int_lt (pos 0) (height_over t m)) || is_on t m)) ×
+        (is_left_below t m ≡ ((int_lt t.left.x l && int_le l t.right.x) && int_lt (pos 0) (height_over t m)))
     by_whole = (
       ap (λ b. (b && int_lt (pos 0) (height_over t m)) || is_on t m) (over_by_whole t m l hm at_x),
       ap (λ b. b && int_lt (pos 0) (height_over t m)) (reach_by_whole t m l hm at_x),
@@ -253,14 +258,17 @@ module _ (input : Input) (p r : Point) (is : IsUpright input p r) (valid : IsInp
 
       by_right : int_eq t.right.x l ≡ true → int_lt (pos 0) (height_over t m) ≡ int_lt (t.right.y *ℤ m.w) m.y
       by_right h =
-          ap (int_lt (pos 0)) (from_right t.left.x t.left.y t.right.x t.right.y m.x m.y m.w ∙ left_height (width t) (rise t) m.x m.y t.right.x t.right.y m.w (at_x ∙ ap (λ z. z *ℤ m.w) (sym ((Decides-int_eq t.right.x l).0 h))))
+          ap (int_lt (pos 0)) (from_right t.left.x t.left.y t.right.x t.right.y m.x m.y m.w ∙ left_height (width t)
+          (rise t) m.x m.y t.right.x t.right.y m.w (at_x ∙ ap (λ z. z *ℤ m.w) (sym ((Decides-int_eq t.right.x l).0 h))))
           ∙ one_sign (width t) (t.right.y *ℤ m.w) m.y wide
 
       slanted_even : IsEven (λ t. is_below t m || is_on t m) (λ t. is_left_below t m) is_low t
       slanted_even =
-          ap (λ b. differ b (differ (is_left_below t m) (differ (is_low t.left) (is_low t.right)))) (by_whole.0 ∙ ap (λ b. ((int_le t.left.x l && int_lt l t.right.x) && int_lt (pos 0) (height_over t m)) || b) not_on)
+          ap (λ b. differ b (differ (is_left_below t m) (differ (is_low t.left) (is_low t.right))))
+          (by_whole.0 ∙ ap (λ b. ((int_le t.left.x l && int_lt l t.right.x) && int_lt (pos 0) (height_over t m)) || b) not_on)
           ∙ ap (λ b. differ (((int_le t.left.x l && int_lt l t.right.x) && int_lt (pos 0) (height_over t m)) || false) (differ b (differ (is_low t.left) (is_low t.right)))) by_whole.1
-          ∙ slanted_signs (int_le t.left.x l) (int_lt l t.right.x) (int_lt t.left.x l) (int_le l t.right.x) (int_eq t.left.x l) (int_eq t.right.x l) (int_lt (pos 0) (height_over t m)) (int_lt (t.left.y *ℤ m.w) m.y) (int_lt (t.right.y *ℤ m.w) m.y)
+          ∙ slanted_signs (int_le t.left.x l) (int_lt l t.right.x) (int_lt t.left.x l) (int_le l t.right.x) (int_eq t.left.x l) (int_eq t.right.x l)
+          (int_lt (pos 0) (height_over t m)) (int_lt (t.left.y *ℤ m.w) m.y) (int_lt (t.right.y *ℤ m.w) m.y)
           (eq_le t.left.x l) (left_lt t.left.x t.right.x l ahead_x) (eq_not_lt t.left.x l) (left_ne t.left.x t.right.x l ahead_x) by_left (ne_same t.left.x l)
           (eq_not_gt l t.right.x) (right_lt t.left.x t.right.x l ahead_x) (eq_ge l t.right.x) by_right (ne_same_back l t.right.x)
 
@@ -276,7 +284,8 @@ module _ (input : Input) (p r : Point) (is : IsUpright input p r) (valid : IsInp
       no_end h = is.piece.none_between m hm on_s after before (node_at_end segments m (end_among segments t among m h))
 
       off_line : int_eq t.left.x l ≡ false → is_on t m ≡ false
-      off_line out = false_from_ne_true (is_on t m) (λ on. both_ways (int_eq t.left.x l) out ((Decides-int_eq t.left.x l).1 (same_back t.left.x l m.w hm (sym (x_on t m flat steep (on_line t m on)) ∙ at_x))))
+      off_line out = false_from_ne_true (is_on t m) (λ on. both_ways (int_eq t.left.x l) out
+          ((Decides-int_eq t.left.x l).1 (same_back t.left.x l m.w hm (sym (x_on t m flat steep (on_line t m on)) ∙ at_x))))
 
       module _ (here : int_eq t.left.x l ≡ true) where
         t_x : m.x ≡ t.left.x *ℤ m.w
@@ -294,7 +303,8 @@ module _ (input : Input) (p r : Point) (is : IsUpright input p r) (valid : IsInp
             (λ most. absurd (no_end (or_left (same_place m (whole t.left)) (same_place m (whole t.right))
             (and_from (int_eq (m.x *ℤ pos 1) (t.left.x *ℤ m.w)) (int_eq (m.y *ℤ pos 1) (t.left.y *ℤ m.w))
             ((Decides-int_eq (m.x *ℤ pos 1) (t.left.x *ℤ m.w)).1 (once m.x ∙ t_x))
-            ((Decides-int_eq (m.y *ℤ pos 1) (t.left.y *ℤ m.w)).1 (once m.y ∙ level_of m.y (t.left.y *ℤ m.w) most (not_under (m.x -ℤ (t.left.x *ℤ m.w)) m.y (t.left.y *ℤ m.w) no_way (reached t m on).from_left)))))))
+            ((Decides-int_eq (m.y *ℤ pos 1) (t.left.y *ℤ m.w)).1 (once m.y ∙ level_of m.y (t.left.y *ℤ m.w) most
+            (not_under (m.x -ℤ (t.left.x *ℤ m.w)) m.y (t.left.y *ℤ m.w) no_way (reached t m on).from_left)))))))
 
         on_to : is_on t m ≡ true → int_lt (t.right.y *ℤ m.w) m.y ≡ false
         on_to on = not_less (t.right.y *ℤ m.w) m.y (not_under ((t.right.x *ℤ m.w) -ℤ m.x) (t.right.y *ℤ m.w) m.y no_way_back (reached t m on).to_right)
@@ -308,7 +318,8 @@ module _ (input : Input) (p r : Point) (is : IsUpright input p r) (valid : IsInp
             })
 
         lower_first : int_lt (t.right.y *ℤ m.w) m.y ≡ true → int_lt (t.left.y *ℤ m.w) m.y ≡ true
-        lower_first h = true_lt (t.left.y *ℤ m.w) m.y (through (t.left.y *ℤ m.w) (t.right.y *ℤ m.w) m.y (less_times t.left.y t.right.y m.w hm (higher t.left.y t.right.y steep)) (lt_true (t.right.y *ℤ m.w) m.y h))
+        lower_first h = true_lt (t.left.y *ℤ m.w) m.y (through (t.left.y *ℤ m.w) (t.right.y *ℤ m.w) m.y
+            (less_times t.left.y t.right.y m.w hm (higher t.left.y t.right.y steep)) (lt_true (t.right.y *ℤ m.w) m.y h))
 
         on_line_there : is_on t m ≡ differ (int_lt (t.left.y *ℤ m.w) m.y) (int_lt (t.right.y *ℤ m.w) m.y)
         on_line_there = between_signs (is_on t m) (int_lt (t.left.y *ℤ m.w) m.y) (int_lt (t.right.y *ℤ m.w) m.y) on_from on_to on_between lower_first
@@ -334,8 +345,10 @@ module _ (input : Input) (p r : Point) (is : IsUpright input p r) (valid : IsInp
       let at : v.x ≡ l = (Decides-int_eq v.x l).0 (and_parts (int_eq v.x l) (int_lt (v.y *ℤ m.w) m.y) h).0 in
       let parts = and_parts (int_le (border input.column *ℤ p.w) p.x) (int_lt p.x (border (input.column + 1) *ℤ p.w)) is.begins in
       let from : p.x ≡ l *ℤ p.w = from_x input p r is.piece none up in
-      let low : border input.column ≤ℤ l = most_back (border input.column) l p.w is.piece.from_positive (carried_le (border input.column *ℤ p.w) p.x (l *ℤ p.w) from (le_true (border input.column *ℤ p.w) p.x parts.0)) in
-      let high : l <ℤ border (input.column + 1) = less_back l (border (input.column + 1)) p.w is.piece.from_positive (carried_lt p.x (l *ℤ p.w) (border (input.column + 1) *ℤ p.w) from (lt_true p.x (border (input.column + 1) *ℤ p.w) parts.1)) in
+      let low : border input.column ≤ℤ l = most_back (border input.column) l p.w is.piece.from_positive
+      (carried_le (border input.column *ℤ p.w) p.x (l *ℤ p.w) from (le_true (border input.column *ℤ p.w) p.x parts.0)) in
+      let high : l <ℤ border (input.column + 1) = less_back l (border (input.column + 1)) p.w is.piece.from_positive
+      (carried_lt p.x (l *ℤ p.w) (border (input.column + 1) *ℤ p.w) from (lt_true p.x (border (input.column + 1) *ℤ p.w) parts.1)) in
       and_from (int_le (border input.column *ℤ pos 1) v.x) (int_lt v.x (border (input.column + 1) *ℤ pos 1))
       (true_le (border input.column *ℤ pos 1) v.x (begin (border input.column) l v.x at low)) (true_lt v.x (border (input.column + 1) *ℤ pos 1) (close (border (input.column + 1)) l v.x at high))
     where

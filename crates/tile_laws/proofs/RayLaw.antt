@@ -298,24 +298,38 @@ module _ (p : Point) (hp : pos 0 <ℤ p.w) (t : Segment) (ahead : Forward (width
       close : (a b : ℤ) → (b -ℤ a) <ℤ pos 0 → (b *ℤ pos 1) ≤ℤ a
       close a b h = omega (arith, ints)
 
-  signs : Signs (int_le (t.left.x *ℤ p.w) p.x) (int_le (t.right.x *ℤ p.w) p.x) (int_le (t.left.y *ℤ p.w) p.y) (int_le (t.right.y *ℤ p.w) p.y) (int_lt (pos 0) (height_over t p)) (int_lt (height_over t p) (pos 0))
+  signs : Signs (int_le (t.left.x *ℤ p.w) p.x) (int_le (t.right.x *ℤ p.w) p.x) (int_le (t.left.y *ℤ p.w) p.y) (int_le (t.right.y *ℤ p.w) p.y)
+      (int_lt (pos 0) (height_over t p)) (int_lt (height_over t p) (pos 0))
   signs = record {
     in_order = λ k. in_order (le_far (t.right.x *ℤ p.w) p.x k);
     not_both = λ k. above_test h (lt_true (pos 0) h k);
-    right_rising = λ ar bl br. true_lt h (pos 0) (right_rising (width t) (rise t) u v x y p.w h hp refl right_form up_way across_way ahead (le_far (t.right.x *ℤ p.w) p.x ar) (le_far (t.left.y *ℤ p.w) p.y bl) (not_le_far (t.right.y *ℤ p.w) p.y br) (not_upright (le_far (t.left.y *ℤ p.w) p.y bl) (not_le_far (t.right.y *ℤ p.w) p.y br)));
-    right_falling = λ ar bl br. true_lt (pos 0) h (right_falling (width t) (rise t) u v x y p.w h hp refl right_form up_way across_way ahead (le_far (t.right.x *ℤ p.w) p.x ar) (not_le_far (t.left.y *ℤ p.w) p.y bl) (le_far (t.right.y *ℤ p.w) p.y br) (not_at_end (falling_wide (not_le_far (t.left.y *ℤ p.w) p.y bl) (le_far (t.right.y *ℤ p.w) p.y br))));
-    left_rising = λ al bl br. above_test h (left_rising (width t) (rise t) u v x y p.w h hp refl right_form up_way across_way ahead (not_le_far (t.left.x *ℤ p.w) p.x al) (le_far (t.left.y *ℤ p.w) p.y bl) (not_le_far (t.right.y *ℤ p.w) p.y br));
-    left_falling = λ al bl br. below_test h (left_falling (width t) (rise t) u v x y p.w h hp refl right_form up_way across_way ahead (not_le_far (t.left.x *ℤ p.w) p.x al) (not_le_far (t.left.y *ℤ p.w) p.y bl) (le_far (t.right.y *ℤ p.w) p.y br));
-    across_low = λ al ar bl br. true_lt (pos 0) h (across_low (width t) (rise t) u v x y p.w h hp refl right_form up_way across_way ahead (le_far (t.left.x *ℤ p.w) p.x al) (not_le_far (t.right.x *ℤ p.w) p.x ar) (le_far (t.left.y *ℤ p.w) p.y bl) (le_far (t.right.y *ℤ p.w) p.y br) (not_level (le_far (t.left.x *ℤ p.w) p.x al) (not_le_far (t.right.x *ℤ p.w) p.x ar)));
-    across_high = λ al ar bl br. below_test h (across_high (width t) (rise t) u v x y p.w h hp refl right_form up_way across_way ahead (le_far (t.left.x *ℤ p.w) p.x al) (not_le_far (t.right.x *ℤ p.w) p.x ar) (not_le_far (t.left.y *ℤ p.w) p.y bl) (not_le_far (t.right.y *ℤ p.w) p.y br));
+    right_rising = λ ar bl br. true_lt h (pos 0) (right_rising (width t) (rise t) u v x y p.w h hp refl right_form up_way across_way ahead
+        (le_far (t.right.x *ℤ p.w) p.x ar) (le_far (t.left.y *ℤ p.w) p.y bl) (not_le_far (t.right.y *ℤ p.w) p.y br)
+        (not_upright (le_far (t.left.y *ℤ p.w) p.y bl) (not_le_far (t.right.y *ℤ p.w) p.y br)));
+    right_falling = λ ar bl br. true_lt (pos 0) h (right_falling (width t) (rise t) u v x y p.w h hp refl right_form up_way across_way ahead
+        (le_far (t.right.x *ℤ p.w) p.x ar) (not_le_far (t.left.y *ℤ p.w) p.y bl) (le_far (t.right.y *ℤ p.w) p.y br)
+        (not_at_end (falling_wide (not_le_far (t.left.y *ℤ p.w) p.y bl) (le_far (t.right.y *ℤ p.w) p.y br))));
+    left_rising = λ al bl br. above_test h (left_rising (width t) (rise t) u v x y p.w h hp refl right_form up_way across_way ahead
+        (not_le_far (t.left.x *ℤ p.w) p.x al) (le_far (t.left.y *ℤ p.w) p.y bl) (not_le_far (t.right.y *ℤ p.w) p.y br));
+    left_falling = λ al bl br. below_test h (left_falling (width t) (rise t) u v x y p.w h hp refl right_form up_way across_way ahead
+        (not_le_far (t.left.x *ℤ p.w) p.x al) (not_le_far (t.left.y *ℤ p.w) p.y bl) (le_far (t.right.y *ℤ p.w) p.y br));
+    across_low = λ al ar bl br. true_lt (pos 0) h (across_low (width t) (rise t) u v x y p.w h hp refl right_form up_way across_way ahead
+        (le_far (t.left.x *ℤ p.w) p.x al) (not_le_far (t.right.x *ℤ p.w) p.x ar) (le_far (t.left.y *ℤ p.w) p.y bl) (le_far (t.right.y *ℤ p.w) p.y br)
+        (not_level (le_far (t.left.x *ℤ p.w) p.x al) (not_le_far (t.right.x *ℤ p.w) p.x ar)));
+    across_high = λ al ar bl br. below_test h (across_high (width t) (rise t) u v x y p.w h hp refl right_form up_way across_way ahead
+        (le_far (t.left.x *ℤ p.w) p.x al) (not_le_far (t.right.x *ℤ p.w) p.x ar) (not_le_far (t.left.y *ℤ p.w) p.y bl)
+        (not_le_far (t.right.y *ℤ p.w) p.y br));
     across = λ al ar k. true_lt h (pos 0) (under h (not_level (le_far (t.left.x *ℤ p.w) p.x al) (not_le_far (t.right.x *ℤ p.w) p.x ar)) k);
   }
     where
       falling_wide : v <ℤ pos 0 → pos 0 ≤ℤ y → pos 0 <ℤ width t
-      falling_wide hv hy = sinking_wide (width t) (rise t) u v x y p.w h hp refl right_form up_way across_way ahead (sinks (width t) (rise t) u v x y p.w h hp refl right_form up_way across_way ahead hv hy)
+      falling_wide hv hy = sinking_wide (width t) (rise t) u v x y p.w h hp refl right_form up_way across_way ahead
+          (sinks (width t) (rise t) u v x y p.w h hp refl right_form up_way across_way ahead hv hy)
 
       in_order : pos 0 ≤ℤ x → int_le (t.left.x *ℤ p.w) p.x ≡ true
-      in_order hx = true_le (t.left.x *ℤ p.w) p.x (from_far (t.left.x *ℤ p.w) p.x (most u x (width t *ℤ p.w) across_way hx (not_negative_times (width t) p.w (not_back (width t) (rise t) u v x y p.w h hp refl right_form up_way across_way ahead) hp)))
+      in_order hx = true_le (t.left.x *ℤ p.w) p.x (from_far (t.left.x *ℤ p.w) p.x
+          (most u x (width t *ℤ p.w) across_way hx (not_negative_times (width t) p.w
+          (not_back (width t) (rise t) u v x y p.w h hp refl right_form up_way across_way ahead) hp)))
         where
           most : (u x k : ℤ) → u -ℤ x ≡ k → pos 0 ≤ℤ x → pos 0 ≤ℤ k → pos 0 ≤ℤ u
           most u x k e l m = omega (arith, ints)
@@ -336,9 +350,16 @@ module _ (p : Point) (hp : pos 0 <ℤ p.w) (t : Segment) (ahead : Forward (width
   pub ray_even : IsEven (λ t. is_below t p) (λ t. is_left_of t p) (λ e. int_le (e.x *ℤ p.w) p.x && int_le (e.y *ℤ p.w) p.y) t
   ray_even =
       ap (λ b. differ ((int_le (t.left.x *ℤ p.w) p.x && b) && int_lt (pos 0) (height_over t p)) (differ (is_left_of t p) (differ (is_near t.left) (is_near t.right)))) (lt_not p.x (t.right.x *ℤ p.w))
-      ∙ ap (λ b. differ ((int_le (t.left.x *ℤ p.w) p.x && not (int_le (t.right.x *ℤ p.w) p.x)) && int_lt (pos 0) (height_over t p)) (differ (((int_le (t.left.y *ℤ p.w) p.y && b) && int_lt (height_over t p) (pos 0)) || ((int_le (t.right.y *ℤ p.w) p.y && int_lt p.y (t.left.y *ℤ p.w)) && int_lt (pos 0) (height_over t p))) (differ (is_near t.left) (is_near t.right)))) (lt_not p.y (t.right.y *ℤ p.w))
-      ∙ ap (λ b. differ ((int_le (t.left.x *ℤ p.w) p.x && not (int_le (t.right.x *ℤ p.w) p.x)) && int_lt (pos 0) (height_over t p)) (differ (((int_le (t.left.y *ℤ p.w) p.y && not (int_le (t.right.y *ℤ p.w) p.y)) && int_lt (height_over t p) (pos 0)) || ((int_le (t.right.y *ℤ p.w) p.y && b) && int_lt (pos 0) (height_over t p))) (differ (is_near t.left) (is_near t.right)))) (lt_not p.y (t.left.y *ℤ p.w))
-      ∙ ray_signs (int_le (t.left.x *ℤ p.w) p.x) (int_le (t.right.x *ℤ p.w) p.x) (int_le (t.left.y *ℤ p.w) p.y) (int_le (t.right.y *ℤ p.w) p.y) (int_lt (pos 0) (height_over t p)) (int_lt (height_over t p) (pos 0)) signs
+      ∙ ap (λ b. differ ((int_le (t.left.x *ℤ p.w) p.x && not (int_le (t.right.x *ℤ p.w) p.x)) && int_lt (pos 0) (height_over t p))
+      (differ (((int_le (t.left.y *ℤ p.w) p.y && b) && int_lt (height_over t p) (pos 0)) ||
+      ((int_le (t.right.y *ℤ p.w) p.y && int_lt p.y (t.left.y *ℤ p.w)) && int_lt (pos 0) (height_over t p)))
+      (differ (is_near t.left) (is_near t.right)))) (lt_not p.y (t.right.y *ℤ p.w))
+      ∙ ap (λ b. differ ((int_le (t.left.x *ℤ p.w) p.x && not (int_le (t.right.x *ℤ p.w) p.x)) && int_lt (pos 0) (height_over t p))
+      (differ (((int_le (t.left.y *ℤ p.w) p.y && not (int_le (t.right.y *ℤ p.w) p.y)) && int_lt (height_over t p) (pos 0)) ||
+      ((int_le (t.right.y *ℤ p.w) p.y && b) && int_lt (pos 0) (height_over t p))) (differ (is_near t.left) (is_near t.right))))
+      (lt_not p.y (t.left.y *ℤ p.w))
+      ∙ ray_signs (int_le (t.left.x *ℤ p.w) p.x) (int_le (t.right.x *ℤ p.w) p.x) (int_le (t.left.y *ℤ p.w) p.y) (int_le (t.right.y *ℤ p.w) p.y)
+      (int_lt (pos 0) (height_over t p)) (int_lt (height_over t p) (pos 0)) signs
 
 -- ---- a base layer's segments, with a number
 abbrev numbered : List Segment → List Marked
@@ -361,7 +382,9 @@ ray_law rings p are hp off =
     not_held : (i : ℕ) (d : Marked) → i < length (numbered (segments_of rings)) → is_on (get_or (numbered (segments_of rings)) i d).segment p ≡ false
     not_held i d l =
         false_from_ne_true (is_on (get_or (numbered (segments_of rings)) i d).segment p)
-        (λ on. both_ways (list_any (λ s. is_on s p) (segments_of rings)) off (any_from_Contains (λ s. is_on s p) (segments_of rings) (get_or (numbered (segments_of rings)) i d).segment (held (segments_of rings) i d l) on))
+        (λ on. both_ways (list_any (λ s. is_on s p) (segments_of rings)) off
+        (any_from_Contains (λ s. is_on s p) (segments_of rings) (get_or (numbered (segments_of rings)) i d).segment
+        (held (segments_of rings) i d l) on))
       where
         held : (segments : List Segment) (i : ℕ) (d : Marked) → i < length (numbered segments) → Contains segments (get_or (numbered segments) i d).segment
         held [] i d l = absurd (omega (arith, l))

@@ -15,7 +15,7 @@ use Rattle.version_core.specs.Tiles.{is_of, AreDistinct}
 use Rattle.version_core.specs.Version.{IsVersion}
 
 -- what is true of each tile is true of one that is found
-found_is : (P : Finished → Type 0) (tiles : List Finished) (name : Name) (k : ℕ) (tile : Tile) → All P tiles → tile_at tiles name k ≡ Some tile → P (record { name = name; column = k; tile = tile })
+pub found_is : (P : Finished → Type 0) (tiles : List Finished) (name : Name) (k : ℕ) (tile : Tile) → All P tiles → tile_at tiles name k ≡ Some tile → P (record { name = name; column = k; tile = tile })
 found_is P [] name k tile all there = absurd (cc)
 found_is P (f ∷ fs) name k tile all there = split (bytes_eq f.name name && (f.column == k)) refl (found_is P fs name k tile (λ i d h. all (suc i) d (omega arith))) there where
   split : (b : Bool) → (bytes_eq f.name name && (f.column == k)) ≡ b → (tile_at fs name k ≡ Some tile → P (record { name = name; column = k; tile = tile })) → cond b (Some f.tile) (tile_at fs name k) ≡ Some tile → P (record { name = name; column = k; tile = tile })

@@ -25,7 +25,7 @@ at_right c = search (rules, to_z-of_z, c.x-right.ensures.value)
 
 cut : (c : goal.After-part_way) → IsCutBy c.args.seg.now c.args.column
 cut c = record {
-  known = search rules;
+  known_column = search rules;
   after_left = above _ _ _ _ c.if-border-left.false (at_border c) (at_left c);
   before_right = above _ _ _ _ c.if-right-border.false (at_right c) (at_border c);
 }

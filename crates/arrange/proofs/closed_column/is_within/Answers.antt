@@ -5,7 +5,7 @@ use Rattle.std.specs.Ordering.{int_cmp, is_ge, MatchOrdering}
 use Rattle.std.specs.declared.cmp.Ordering.{Ordering}
 use Rattle.std.specs.declared.cmp.Ordering.TheVariants.{Less, Equal, Greater}
 use Rattle.overlay_terms.specs.Column.{border}
-use Rattle.arrange.proofs.finding_nodes.is_within.Goals as goal
+use Rattle.arrange.proofs.closed_column.is_within.Goals as goal
 
 below : (x y : ℤ) → x <ℤ y → int_le y x ≡ false
 below x y h = grind (arith, ints)
