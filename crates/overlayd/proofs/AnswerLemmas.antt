@@ -68,7 +68,7 @@ answers_put old new name text command reply is submits before holds =
       goes = s.goes;
       answered =
           elim s.submitted [
-            | inl memory ↦ inl (refl, memory)
+            | inl memory ↦ inl (is.named, memory)
             | inr by ↦ inr (inr (is.named, inr (is.rings, is.read, subst (λ (c : Command). IsSubmitted 0 before c s.after s.made reply) is.command_is by)))
           ];
     }
@@ -83,7 +83,7 @@ answers_define old new name text command reply is submits before holds =
       goes = s.goes;
       answered =
           elim s.submitted [
-            | inl memory ↦ inl (refl, memory)
+            | inl memory ↦ inl (is.named, memory)
             | inr by ↦ inr (inr (is.named, inr (is.tree, is.read, subst (λ (c : Command). IsSubmitted 0 before c s.after s.made reply) is.command_is by)))
           ];
     }
@@ -98,7 +98,7 @@ answers_remove old new name command reply is submits before holds =
       goes = s.goes;
       answered =
           elim s.submitted [
-            | inl memory ↦ inl (refl, memory)
+            | inl memory ↦ inl (is.named, memory)
             | inr by ↦ inr (inr (is.named, subst (λ (c : Command). IsSubmitted 0 before c s.after s.made reply) is.command_is by))
           ];
     }
@@ -106,10 +106,10 @@ answers_remove old new name command reply is submits before holds =
 pub no_name : (name : List ℕ) (fault : CommandFault) → IsNoName name fault → (is_name name ≡ false) × IsRefused (Expression BadName) [] (error_line fault)
 no_name name fault none = (none.0, record { nothing_made = refl; told = ap error_line none.1 })
 
-pub put_refused : (book : Book) (name text : List ℕ) (fault : CommandFault) → IsMemory fault ⊎ IsPutRefused name text fault → Answers book (put name text) book (error_line fault)
+pub put_refused : (book : Book) (name text : List ℕ) (fault : CommandFault) → IsMemory name fault ⊎ IsPutRefused name text fault → Answers book (put name text) book (error_line fault)
 put_refused book name text fault refused before holds =
     elim refused [
-      | inl memory ↦ out_of_memory book before (put name text) fault holds memory refl
+      | inl memory ↦ out_of_memory book before (put name text) fault holds memory.1 memory.0
       | inr by ↦
           answers_there book before (put name text) (error_line fault) holds
           (inr (elim by [
@@ -118,10 +118,10 @@ put_refused book name text fault refused before holds =
           ]))
     ]
 
-pub define_refused : (book : Book) (name text : List ℕ) (fault : CommandFault) → IsMemory fault ⊎ IsDefineRefused name text fault → Answers book (define name text) book (error_line fault)
+pub define_refused : (book : Book) (name text : List ℕ) (fault : CommandFault) → IsMemory name fault ⊎ IsDefineRefused name text fault → Answers book (define name text) book (error_line fault)
 define_refused book name text fault refused before holds =
     elim refused [
-      | inl memory ↦ out_of_memory book before (define name text) fault holds memory refl
+      | inl memory ↦ out_of_memory book before (define name text) fault holds memory.1 memory.0
       | inr by ↦
           answers_there book before (define name text) (error_line fault) holds
           (inr (elim by [
@@ -130,10 +130,10 @@ define_refused book name text fault refused before holds =
           ]))
     ]
 
-pub remove_refused : (book : Book) (name : List ℕ) (fault : CommandFault) → IsMemory fault ⊎ IsNoName name fault → Answers book (remove name) book (error_line fault)
+pub remove_refused : (book : Book) (name : List ℕ) (fault : CommandFault) → IsMemory name fault ⊎ IsNoName name fault → Answers book (remove name) book (error_line fault)
 remove_refused book name fault refused before holds =
     elim refused [
-      | inl memory ↦ out_of_memory book before (remove name) fault holds memory refl
+      | inl memory ↦ out_of_memory book before (remove name) fault holds memory.1 memory.0
       | inr none ↦ answers_there book before (remove name) (error_line fault) holds (inr (inl (no_name name fault none)))
     ]
 
@@ -149,10 +149,10 @@ point_read x y w x' y' w' p ex ey ew is =
     let P : ℤ → ℤ → ℤ → Type 0 = λ a b c. p ≡ record { x = a; y = b; w = c } in
     subst (λ (v : ℤ). P v y w) ex (subst (λ (v : ℤ). P x' v w) ey (subst (λ (v : ℤ). P x' y' v) ew is))
 
-pub locate_unnamed : (book : Book) (name : List ℕ) (x y w : ℤ) (fault : CommandFault) → IsMemory fault ⊎ IsNoName name fault → Answers book (locate name x y w) book (error_line fault)
+pub locate_unnamed : (book : Book) (name : List ℕ) (x y w : ℤ) (fault : CommandFault) → IsMemory name fault ⊎ IsNoName name fault → Answers book (locate name x y w) book (error_line fault)
 locate_unnamed book name x y w fault refused before holds =
     elim refused [
-      | inl memory ↦ out_of_memory book before (locate name x y w) fault holds memory refl
+      | inl memory ↦ out_of_memory book before (locate name x y w) fault holds memory.1 memory.0
       | inr none ↦ answers_there book before (locate name x y w) (error_line fault) holds (inr (inl (no_name name fault none)))
     ]
 

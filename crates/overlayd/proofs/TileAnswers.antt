@@ -39,24 +39,24 @@ moved P version new known name n k is same number h =
 
 -- ==== Lines whose name is none, or finds no memory
 
-pub edges_unnamed : (book : Book) (name : List ℕ) (k : ℤ) (fault : CommandFault) → IsMemory fault ⊎ IsNoName name fault → Answers book (edges name k) book (error_line fault)
+pub edges_unnamed : (book : Book) (name : List ℕ) (k : ℤ) (fault : CommandFault) → IsMemory name fault ⊎ IsNoName name fault → Answers book (edges name k) book (error_line fault)
 edges_unnamed book name k fault refused before holds =
     elim refused [
-      | inl memory ↦ out_of_memory book before (edges name k) fault holds memory refl
+      | inl memory ↦ out_of_memory book before (edges name k) fault holds memory.1 memory.0
       | inr none ↦ answers_there book before (edges name k) (error_line fault) holds (inr (inl (no_name name fault none)))
     ]
 
-pub verify_unnamed : (book : Book) (name : List ℕ) (k : ℤ) (fault : CommandFault) → IsMemory fault ⊎ IsNoName name fault → Answers book (verify name k) book (error_line fault)
+pub verify_unnamed : (book : Book) (name : List ℕ) (k : ℤ) (fault : CommandFault) → IsMemory name fault ⊎ IsNoName name fault → Answers book (verify name k) book (error_line fault)
 verify_unnamed book name k fault refused before holds =
     elim refused [
-      | inl memory ↦ out_of_memory book before (verify name k) fault holds memory refl
+      | inl memory ↦ out_of_memory book before (verify name k) fault holds memory.1 memory.0
       | inr none ↦ answers_there book before (verify name k) (error_line fault) holds (inr (inl (no_name name fault none)))
     ]
 
-pub wait_unnamed : (book : Book) (name : List ℕ) (fault : CommandFault) → IsMemory fault ⊎ IsNoName name fault → Answers book (wait name) book (error_line fault)
+pub wait_unnamed : (book : Book) (name : List ℕ) (fault : CommandFault) → IsMemory name fault ⊎ IsNoName name fault → Answers book (wait name) book (error_line fault)
 wait_unnamed book name fault refused before holds =
     elim refused [
-      | inl memory ↦ out_of_memory book before (wait name) fault holds memory refl
+      | inl memory ↦ out_of_memory book before (wait name) fault holds memory.1 memory.0
       | inr none ↦ answers_there book before (wait name) (error_line fault) holds (inr (inl (no_name name fault none)))
     ]
 
@@ -66,7 +66,7 @@ pub edges_refused : (book : Book) (name known : List ℕ) (k : ℤ) (n : Option 
     → ((wrong ≡ Layer layer_fault.OutOfMemory) × (edges_refusal book.version known n ≡ None)) ⊎ (edges_refusal book.version known n ≡ Some wrong) → Answers book (edges name k) book (error_line (Version wrong))
 edges_refused book name known k n wrong same number named refused before holds =
     elim refused [
-      | inl memory ↦ out_of_memory book before (edges name k) (Version wrong) holds (ap (λ f. error_line (Version f)) memory.0) refl
+      | inl memory ↦ out_of_memory book before (edges name k) (Version wrong) holds (ap (λ f. error_line (Version f)) memory.0) named
       | inr by ↦
           answers_there book before (edges name k) (error_line (Version wrong)) holds
           (inr (inr (named, asked_some _ wrong _ (moved (λ v m c. edges_refusal v m c ≡ Some wrong) book.version (newest before) known name n (asked_column k) holds.version same number by))))
@@ -88,7 +88,7 @@ pub verify_refused : (book : Book) (name known : List ℕ) (k : ℤ) (n : Option
     → ((wrong ≡ Layer layer_fault.OutOfMemory) × (finished_refusal book.version known n ≡ None)) ⊎ (finished_refusal book.version known n ≡ Some wrong) → Answers book (verify name k) book (error_line (Version wrong))
 verify_refused book name known k n wrong same number named refused before holds =
     elim refused [
-      | inl memory ↦ out_of_memory book before (verify name k) (Version wrong) holds (ap (λ f. error_line (Version f)) memory.0) refl
+      | inl memory ↦ out_of_memory book before (verify name k) (Version wrong) holds (ap (λ f. error_line (Version f)) memory.0) named
       | inr by ↦
           answers_there book before (verify name k) (error_line (Version wrong)) holds
           (inr (inr (named, asked_some _ wrong _ (moved (λ v m c. finished_refusal v m c ≡ Some wrong) book.version (newest before) known name n (asked_column k) holds.version same number by))))
@@ -116,7 +116,7 @@ pub wait_refused : (old new : Book) (name known : List ℕ) (wrong : VersionFaul
 wait_refused old new name known wrong same named builds refused before holds =
     answers_built old new before (wait name) (error_line (Version wrong)) holds builds
     (λ after is. elim refused [
-      | inl memory ↦ inl (refl, record { nothing_made = refl; told = ap (λ f. error_line (Version f)) memory.0 })
+      | inl memory ↦ inl (named, record { nothing_made = refl; told = ap (λ f. error_line (Version f)) memory.0 })
       | inr by ↦
           let by_new = same_refusal old.version new.version known builds ∙ by in
           inr (inr (named, asked_some _ wrong _ (moved (λ v m c. wait_refusal v m ≡ Some wrong) new.version (newest after) known name None None is same refl by_new)))

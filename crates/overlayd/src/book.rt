@@ -55,6 +55,7 @@ impl Book {
     pub fn build(&mut self, alloc: Global, name: &Name) -> Result<u64, VersionFault>
         ensures builds { BuildsUp self.old.version self.new.version }
         ensures others { LeavesOthers name.now self.old.version self.new.version }
+        ensures durable { self.new.version.durable ≡ self.old.version.durable }
         ensures accepted { OnOk result (wait_refusal self.old.version name.now ≡ None) }
         ensures ok { IfOk result (λ number. IsBuilt self.new.version name.now × (self.new.version.number ≡ number)) }
         ensures refused { IfErr result (RefusedBy (Layer OutOfMemory) (wait_refusal self.old.version name.now)) }
@@ -75,6 +76,7 @@ impl Book {
         requires free { tile_refusal self.old.version.layers name.now (column_numbered column) ≡ None }
         ensures builds { BuildsUp self.old.version self.new.version }
         ensures others { LeavesOthers name.now self.old.version self.new.version }
+        ensures durable { self.new.version.durable ≡ self.old.version.durable }
         ensures built { OnOk result (IsTrue (is_some (tile_at self.new.version.tiles name.now column))) }
         ensures err { IfErr result (λ fault. fault ≡ Layer OutOfMemory) }
     {

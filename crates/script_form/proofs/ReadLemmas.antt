@@ -12,10 +12,10 @@ use Rattle.script_form.specs.Replies.{error_line}
 use Rattle.script_form.specs.Reading.{IsMemory, IsPutRefused, IsDefineRefused}
 
 -- a text that is refused behind a name
-pub put_text_refused : (name text : List ℕ) (wrong : WktFault) → IsTrue (is_name name) → (wrong ≡ wkt_fault.OutOfMemory) ⊎ wkt.IsRefusedBy text wrong → IsMemory (Wkt wrong) ⊎ IsPutRefused name text (Wkt wrong)
+pub put_text_refused : (name text : List ℕ) (wrong : WktFault) → IsTrue (is_name name) → (wrong ≡ wkt_fault.OutOfMemory) ⊎ wkt.IsRefusedBy text wrong → IsMemory name (Wkt wrong) ⊎ IsPutRefused name text (Wkt wrong)
 put_text_refused name text wrong named refused =
-    elim refused [ inl memory ↦ inl (ap (λ w. error_line (Wkt w)) memory) | inr by ↦ inr (inr (named, wrong, by, refl)) ]
+    elim refused [ inl memory ↦ inl (named, ap (λ w. error_line (Wkt w)) memory) | inr by ↦ inr (inr (named, wrong, by, refl)) ]
 
-pub define_text_refused : (name text : List ℕ) (wrong : ExprFault) → IsTrue (is_name name) → (wrong ≡ expr_fault.OutOfMemory) ⊎ expr.IsRefusedBy text wrong → IsMemory (Expression wrong) ⊎ IsDefineRefused name text (Expression wrong)
+pub define_text_refused : (name text : List ℕ) (wrong : ExprFault) → IsTrue (is_name name) → (wrong ≡ expr_fault.OutOfMemory) ⊎ expr.IsRefusedBy text wrong → IsMemory name (Expression wrong) ⊎ IsDefineRefused name text (Expression wrong)
 define_text_refused name text wrong named refused =
-    elim refused [ inl memory ↦ inl (ap (λ w. error_line (Expression w)) memory) | inr by ↦ inr (inr (named, wrong, by, refl)) ]
+    elim refused [ inl memory ↦ inl (named, ap (λ w. error_line (Expression w)) memory) | inr by ↦ inr (inr (named, wrong, by, refl)) ]

@@ -13,9 +13,9 @@ use Rattle.script_form.specs.declared.fault.CommandFault.{CommandFault}
 use Rattle.script_form.specs.declared.fault.CommandFault.TheVariants.{Wkt, Expression, OutOfMemory}
 use Rattle.script_form.specs.Replies.{error_line}
 
--- memory ran out, wherever it was asked for: the fault is told as that one
-abbrev pub IsMemory : CommandFault → Type 0
-IsMemory fault = error_line fault ≡ error_line OutOfMemory
+-- memory ran out behind a name that is one, wherever it was asked for: the fault is told as that one
+abbrev pub IsMemory : List ℕ → CommandFault → Type 0
+IsMemory name fault = IsTrue (is_name name) × (error_line fault ≡ error_line OutOfMemory)
 
 -- the bytes are no name
 abbrev pub IsNoName : List ℕ → CommandFault → Type 0

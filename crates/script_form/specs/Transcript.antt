@@ -118,19 +118,19 @@ IsAnswered session before (verify name k) after made reply =
     WithName name made reply
     (Asked (finished_refusal (newest after) name (asked_column k)) made reply (IsVerdictTold (newest after) name (asked_column k) made reply))
 
--- whether a request takes memory: for the name in it, for what is made of it, or for the lines of its reply
+-- whether a request takes memory: for the name in it, which has to be one, or for the lines of its reply
 abbrev pub takes_memory : Request → Bool
 takes_memory nothing = false
 takes_memory too_long = false
 takes_memory malformed = false
-takes_memory (put name text) = true
-takes_memory (define name text) = true
-takes_memory (remove name) = true
-takes_memory (locate name x y w) = true
+takes_memory (put name text) = is_name name
+takes_memory (define name text) = is_name name
+takes_memory (remove name) = is_name name
+takes_memory (locate name x y w) = is_name name
 takes_memory list_layers = true
-takes_memory (edges name k) = true
-takes_memory (wait name) = true
-takes_memory (verify name k) = true
+takes_memory (edges name k) = is_name name
+takes_memory (wait name) = is_name name
+takes_memory (verify name k) = is_name name
 
 -- memory ran out for a request that takes some: nothing is made, and the reply is that fault
 abbrev pub IsOutOfMemory : Request → List Command → List ℕ → Type 0

@@ -12,10 +12,10 @@ use std::alloc::{AllocError, Global};
 use std::sync::Arc;
 use wkt_form::reading::read_wkt;
 
-/// The name with these bytes.
+/// The name with these bytes. Bytes that are no name take no memory.
 pub fn read_name(alloc: Global, bytes: &[u8]) -> Result<Name, CommandFault>
     ensures ok { IfOk result (λ name. (name ≡ bytes.now) × IsTrue (is_name bytes.now)) }
-    ensures refused { IfErr result (λ fault. IsMemory fault ⊎ IsNoName bytes.now fault) }
+    ensures refused { IfErr result (λ fault. IsMemory bytes.now fault ⊎ IsNoName bytes.now fault) }
 {
     Ok(Name::new(alloc, bytes)?)
 }
@@ -23,7 +23,7 @@ pub fn read_name(alloc: Global, bytes: &[u8]) -> Result<Name, CommandFault>
 /// The PUT of a name and the text of rings. The name is looked at before the text.
 pub fn read_put(alloc: Global, name: &[u8], text: &[u8]) -> Result<Command, CommandFault>
     ensures ok { IfOk result (λ change. IsPut name.now text.now (command change)) }
-    ensures refused { IfErr result (λ fault. IsMemory fault ⊎ IsPutRefused name.now text.now fault) }
+    ensures refused { IfErr result (λ fault. IsMemory name.now fault ⊎ IsPutRefused name.now text.now fault) }
 {
     let name = read_name(alloc, name)?;
     let layer = read_wkt(alloc, text)?;
@@ -34,7 +34,7 @@ pub fn read_put(alloc: Global, name: &[u8], text: &[u8]) -> Result<Command, Comm
 /// The DEFINE of a name and the text of an expression. The name is looked at before the text.
 pub fn read_define(alloc: Global, name: &[u8], text: &[u8]) -> Result<Command, CommandFault>
     ensures ok { IfOk result (λ change. IsDefine name.now text.now (command change)) }
-    ensures refused { IfErr result (λ fault. IsMemory fault ⊎ IsDefineRefused name.now text.now fault) }
+    ensures refused { IfErr result (λ fault. IsMemory name.now fault ⊎ IsDefineRefused name.now text.now fault) }
 {
     let defined = read_name(alloc, name)?;
     let expression = read_expr(alloc, text)?;
@@ -45,7 +45,7 @@ pub fn read_define(alloc: Global, name: &[u8], text: &[u8]) -> Result<Command, C
 /// The DROP of a name.
 pub fn read_remove(alloc: Global, name: &[u8]) -> Result<Command, CommandFault>
     ensures ok { IfOk result (λ change. IsRemove name.now (command change)) }
-    ensures refused { IfErr result (λ fault. IsMemory fault ⊎ IsNoName name.now fault) }
+    ensures refused { IfErr result (λ fault. IsMemory name.now fault ⊎ IsNoName name.now fault) }
 {
     Ok(Command::Remove(read_name(alloc, name)?))
 }

@@ -35,5 +35,6 @@ loop-column-preserved c =
       free = before.free;
       builds = builds_trans first old new before.builds now.builds;
       others = others_trans c.args.name.now first old new before.others now.others;
+      durable = now.durable ∙ before.durable;
       built = built_more old new c.args.name.now c.loop-column.column now.builds before.built now.built;
     }

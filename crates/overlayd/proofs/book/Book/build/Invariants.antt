@@ -10,5 +10,6 @@ invariant-loop-column l = record {
   free : wait_refusal l.initial.self.version l.name ≡ None;
   builds : BuildsUp l.initial.self.version l.self.version;
   others : LeavesOthers l.name l.initial.self.version l.self.version;
+  durable : l.self.version.durable ≡ l.initial.self.version.durable;
   built : (k : ℕ) → k < l.column → IsTrue (is_some (tile_at l.self.version.tiles l.name k));
 }
