@@ -1,3 +1,4 @@
+pub mod Jobs
 pub mod Slots
 pub mod Standing
 pub mod Steps

@@ -1,10 +1,11 @@
 -- What the lock's methods leave a token with.
-use Rattle.std.specs.Prelude.{◌≡◌, ◌⊎◌, ◌++◌, ◌∷◌, ◌<◌, [], ℕ, zero, suc, Bool, true, false, List, Result, Ok, Err}
+use Rattle.std.specs.Prelude.{◌≡◌, ◌⊎◌, ◌++◌, ◌∷◌, ◌<◌, [], ℕ, zero, suc, Bool, true, false, List, Result, Ok, Err, IfSome, IfNone}
 use mathlib.Core.List.{IsPrefix}
 use Rattle.overlay_terms.specs.Histories.{Tile, Version, Entry, accepted, commands_of, kept, durable_to, FollowsCommand, FollowsTile, FollowsReport, StaysAtReport}
 use Rattle.overlay_terms.specs.Commands.{Command}
 use Rattle.overlay_terms.specs.Layers.{Name}
 use Rattle.overlay_terms.specs.Tiles.{Input, input_of}
+use Rattle.version_core.specs.Building.{wait_refusal}
 use Rattle.version_core.specs.Finish.{IsAwaited, IsPending}
 use Rattle.book_desk.specs.Slots.{has_mark, has_slot, unmarked_of}
 use Rattle.book_desk.specs.Standing.{HasSlots}
@@ -12,8 +13,9 @@ use Rattle.book_desk.specs.declared.slots.Slot.{Slot}
 use Rattle.book_desk.specs.declared.standing.Standing.{Standing}
 use Rattle.book_history.specs.Known.{Known}
 use Rattle.book_history.specs.Logs.{entry, newest_in, IsLog}
-use Rattle.book_history.specs.Fault.{IfGone, no_memory}
+use Rattle.book_history.specs.Fault.{IfGone}
 use Rattle.book_history.specs.declared.fault.BookFault.{BookFault}
+use Rattle.book_history.specs.declared.fault.BookFault.TheVariants as fault
 use Rattle.book_history.specs.Trails.{Trail}
 use Rattle.book_history.specs.declared.entry.Cause.{Cause}
 use Rattle.book_history.specs.declared.entry.Cause.TheVariants.{Accepted, Kept, Durable}
@@ -69,15 +71,28 @@ abbrev pub Looks : Result ℕ BookFault → Known → List Entry → Known → T
 Looks (Ok number) was log now = HasLooked was log now
 Looks (Err fault) was log now = IfGone fault (now ≡ was) (HasLooked was log now)
 
--- a wait for the tiles of a layer was told how it ends: its marks go where it ends by them, and else nothing changes
-abbrev pub IsAfterTold : Standing → Name → Result ℕ BookFault → Standing → Type 0
-IsAfterTold old name (Ok number) new = new ≡ old
-IsAfterTold old name (Err fault) new =
-    (new ≡ old)
-    ⊎ ((fault ≡ no_memory) × (has_mark name old.slots.list.items ≡ true)
-    × HasSlots old (unmarked_of name old.slots.list.items) new)
+-- the marks of a layer, of which there are some, go
+abbrev pub LosesMarks : Standing → Name → Standing → Type 0
+LosesMarks old name new =
+    (has_mark name old.slots.list.items ≡ true) × HasSlots old (unmarked_of name old.slots.list.items) new
+
+-- a wait for the tiles of a layer was told how it ends: its marks go where memory ran out, and else nothing changes;
+-- there are no marks where it ends by closing
+abbrev pub IsAfterTold : Version → Standing → Name → Result ℕ BookFault → Standing → Type 0
+IsAfterTold version old name (Ok number) new = new ≡ old
+IsAfterTold version old name (Err (fault.Version refused)) new =
+    IfSome (wait_refusal version name) (λ _. new ≡ old) × IfNone (wait_refusal version name) (LosesMarks old name new)
+IsAfterTold version old name (Err fault.Closing) new = (new ≡ old) × (has_mark name old.slots.list.items ≡ false)
+IsAfterTold version old name (Err fault.Gone) new = new ≡ old
+IsAfterTold version old name (Err fault.NoStore) new = new ≡ old
+IsAfterTold version old name (Err (fault.Store refused)) new = new ≡ old
 
 -- a log has all that a session has seen, and of its commands just those that it made
 pub record HasAllOf (log : List Entry) (session : Known) : Type 0 where
   pub longer : IsPrefix session.log log
   pub own : commands_of session.session log ≡ session.made
+
+-- a log is level with a session: it has all of it, and the book counts its commands
+pub record IsLevel (log : List Entry) (session : Known) : Type 0 where
+  pub has_all : HasAllOf log session
+  pub seat : session.session < 4

@@ -11,7 +11,7 @@ ghost use Rattle.book_history.specs.Causes.{event_of};
 ghost use Rattle.book_history.specs.Fault.{IsRefused, IfGone, no_memory};
 ghost use Rattle.book_history.specs.Logs.{entry, no_event, newest_in, IsLog};
 ghost use Rattle.book_history.specs.Rules.{head_of};
-ghost use Rattle.book_desk.specs.Steps.{HasLooked, HasSeat, IsAcceptedIn, beginners};
+ghost use Rattle.book_desk.specs.Steps.{HasLooked, HasSeat, IsAcceptedIn, IsLevel, beginners};
 
 use crate::closing::Closed;
 use book_history::entry::Cause;
@@ -118,6 +118,7 @@ impl<J: Naming, R: Wait + Drop> Desk<J, R> {
         ensures longer { IsTrue result → IsPrefix me.now.log self.now }
         ensures own { IsTrue result → commands_of me.now.session self.now ≡ me.now.made }
         ensures seat { IsTrue result → me.now.session < 4 }
+        ensures level { IsLevel self.now me.now → IsTrue result }
     {
         let by = me.number();
         by < 4 && me.is_level(&self.press.published().trace, self.counts[by as usize])
@@ -135,6 +136,7 @@ impl<J: Naming, R: Wait + Drop> Desk<J, R> {
         requires { me.old.book ≡ J.book }
         ensures ok { IfOk result (λ n. HasLooked me.old self.now me.new × ((newest_in self.now).number ≡ n)) }
         ensures err { IfErr result (λ fault. (fault ≡ BookFault.Gone) × (me.new ≡ me.old)) }
+        ensures behind { IfErr result (λ _. ¬ (IsLevel self.now me.old)) }
     {
         if !self.is_level(me) {
             return Err(BookFault::Gone);

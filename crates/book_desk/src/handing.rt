@@ -1,17 +1,18 @@
 //! Handing out tiles, under the lock.
-ghost use Rattle.std.specs.Prelude.{◌≡◌, ◌<◌, None, true, false, IfOk, IfErr, IfSome, IfNone};
+ghost use Rattle.std.specs.Prelude.{◌≡◌, ◌<◌, IsTrue, None, Ok, false, IfOk, IfErr, IfSome, IfNone};
 ghost use Rattle.overlay_terms.specs.Column.{column_count};
 ghost use Rattle.overlay_terms.specs.Histories.{tile_at};
 ghost use Rattle.overlay_terms.specs.Tiles.{input_of};
 ghost use Rattle.book_history.specs.Fault.{no_memory};
-ghost use Rattle.book_history.specs.Logs.{newest_in, IsLog};
+ghost use Rattle.book_history.specs.Logs.{newest_in};
+ghost use Rattle.book_desk.specs.Jobs.{IsJob};
 ghost use Rattle.book_desk.specs.Slots.{handed_out, has_slot};
 ghost use Rattle.book_desk.specs.Standing.{HasSlots};
 ghost use Rattle.book_desk.specs.Steps.{IsHandedOut};
 ghost use Rattle.book_desk.specs.Waits.{AllAreHeld, AreHeld, IsFree, IsIdle};
 
 use crate::desk::NO_MEMORY;
-use crate::handed::HandedOut;
+use crate::job::Job;
 use crate::shelf::Shelf;
 use arrange::tile_input::TileInput;
 use book_history::fault::BookFault;
@@ -23,16 +24,16 @@ use std::sync::Wait;
 
 impl<J: Naming, R: Wait + Drop> Shelf<J, R> {
     /// Hands out a pending tile that is neither handed out nor marked. None comes where the book closes.
-    pub fn take(&mut self, alloc: Global) -> Result<Option<HandedOut>, BookFault>
+    pub fn take(&mut self, alloc: Global) -> Result<Option<Job>, BookFault>
         requires ready { ¬ (IsIdle (newest_in self.old.desk) self.old.standing) }
         ensures log { self.new.desk ≡ self.old.desk }
         ensures job { IfOk result (λ o. IfSome o
             (λ job. IsHandedOut (newest_in self.old.desk) self.old.standing.slots.list.items job.name job.input)) }
-        ensures trace { IfOk result (λ o. IfSome o (λ job. (job.trace.book ≡ J.book)
-            × (job.trace.log ≡ self.old.desk) × IsLog self.old.desk)) }
+        ensures at { IfOk result (λ o. IfSome o (λ job. (job.book ≡ J.book) × (job.log ≡ self.old.desk) × IsJob job)) }
         ensures standing { IfOk result (λ o. IfSome o
             (λ job. HasSlots self.old.standing (handed_out job.name job.input.column self.old.standing.slots.list.items) self.new.standing)) }
-        ensures none { IfOk result (λ o. IfNone o ((self.old.standing.closing ≡ true)
+        ensures closing { IsTrue self.old.standing.closing → result ≡ Ok None }
+        ensures none { IfOk result (λ o. IfNone o (IsTrue self.old.standing.closing
             × (self.new.standing ≡ self.old.standing))) }
         ensures err { IfErr result (λ fault. (fault ≡ no_memory)
             × HasSlots self.old.standing self.old.standing.slots.list.items self.new.standing) }
@@ -50,7 +51,7 @@ impl<J: Naming, R: Wait + Drop> Shelf<J, R> {
         if self.standing.slots.hand_out(&name, column).is_err() {
             return Err(NO_MEMORY);
         }
-        Ok(Some(HandedOut { name, input, trace }))
+        Ok(Some(Job::new(name, input, trace)))
     }
 
     // A pending tile that is neither handed out nor marked.

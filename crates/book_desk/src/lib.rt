@@ -3,8 +3,8 @@
 
 pub mod closing;
 pub mod desk;
-pub mod handed;
 mod handing;
+pub mod job;
 mod keeping;
 pub mod shelf;
 pub mod slots;

@@ -1,5 +1,5 @@
 //! The book under its lock: the log, and where the book stands beside it.
-ghost use Rattle.std.specs.Prelude.{◌≡◌, ◌⊎◌, [], ◌∷◌, ◌++◌, ◌<◌, ◌≤◌, IfOk, IfErr};
+ghost use Rattle.std.specs.Prelude.{◌≡◌, ◌⊎◌, [], ◌∷◌, ◌++◌, ◌<◌, ◌≤◌, IsTrue, Err, IfOk, IfErr};
 ghost use mathlib.Core.List.{IsPrefix};
 ghost use Rattle.overlay_terms.specs.Histories.{accepted, commands_of, FollowsCommand};
 ghost use Rattle.layer_book.specs.Command.{command};
@@ -12,12 +12,12 @@ ghost use Rattle.book_desk.specs.Standing.{IsFresh};
 ghost use Rattle.book_desk.specs.Steps.{beginners, HasLooked, IsAcceptedIn, IsFinishedIn};
 
 use crate::desk::Desk;
+use crate::job::Job;
 use crate::standing::Standing;
 use book_history::fault::{BookFault, StoreFault};
 use book_history::session::Session;
 use book_history::trace::{Head, Naming, Trace};
 use layer_book::command::Command;
-use layer_expr::name::Name;
 use std::alloc::Global;
 use std::sync::Wait;
 use tile_build::built::Built;
@@ -72,6 +72,8 @@ impl<J: Naming, R: Wait + Drop> Shelf<J, R> {
             × IfGone fault (me.new ≡ me.old) (HasLooked me.old self.desk me.new)) }
         ensures refused { IfErr result.1
             (λ fault. IsRefused self.standing.closing (newest_in self.desk) (command change.now) fault) }
+        ensures closing { IsTrue self.standing.closing
+            → (result.1 ≡ Err BookFault.Closing) ⊎ (result.1 ≡ Err BookFault.Gone) }
     {
         let Shelf { desk, standing } = self;
         if standing.closing {
@@ -89,36 +91,45 @@ impl<J: Naming, R: Wait + Drop> Shelf<J, R> {
         (Shelf { desk, standing }, done)
     }
 
-    /// Keeps a built tile of a layer where it is awaited, and says whether it was: one entry, or none. The tile is
-    /// not handed out any more.
+    /// Spends a job: keeps the tile that was built of its input where it is awaited, and says whether it was, by one
+    /// entry or none. The tile is not handed out any more. Where that cannot be written down, the job comes back.
     pub fn finish(
         self,
         alloc: Global,
-        name: &Name,
+        job: Job,
         built: &Built,
-    ) -> (Shelf<J, R>, Result<bool, BookFault>)
+    ) -> (Shelf<J, R>, Result<bool, (Job, BookFault)>)
+        requires book { job.book ≡ J.book }
+        requires input { built.now.0 ≡ job.input }
         ensures log { IfOk result.1
-            (λ is_kept. IsFinishedIn self.desk name.now built.now.0 built.now.1 is_kept result.0.desk) }
+            (λ is_kept. IsFinishedIn self.desk job.name job.input built.now.1 is_kept result.0.desk) }
         ensures standing { IfOk result.1
-            (λ is_kept. IsAfterFinish self.standing name.now built.now.0.column is_kept result.0.standing) }
-        ensures err { IfErr result.1 (λ fault. (result.0.desk ≡ self.desk) × (result.0.standing ≡ self.standing)) }
-        ensures refused { IfErr result.1 (λ fault. (fault ≡ no_memory) ⊎ (fault ≡ BookFault.Gone)) }
+            (λ is_kept. IsAfterFinish self.standing job.name job.input.column is_kept result.0.standing) }
+        ensures err { IfErr result.1
+            (λ e. (e.0 ≡ job) × (result.0.desk ≡ self.desk) × (result.0.standing ≡ self.standing)) }
+        ensures refused { IfErr result.1 (λ e. (e.1 ≡ no_memory) ⊎ (e.1 ≡ BookFault.Gone)) }
     {
         let Shelf { desk, standing } = self;
-        let (desk, done) = desk.keep(alloc, name, built);
+        let (desk, done) = desk.keep(alloc, job.name(), built);
+        let kept = match done {
+            Ok(kept) => kept,
+            Err(fault) => return (Shelf { desk, standing }, Err((job, fault))),
+        };
         let mut standing = standing;
-        if let Ok(kept) = done {
-            standing.job_finished(name, built.input().column().number(), kept);
-        }
-        (Shelf { desk, standing }, done)
+        standing.job_finished(job.name(), job.input().column().number(), kept);
+        job.end();
+        (Shelf { desk, standing }, Ok(kept))
     }
 
-    /// Marks a tile that was handed out and could not be built for want of memory.
-    pub fn give_back(&mut self, name: &Name, column: u8)
+    /// Spends a job whose tile could not be built for want of memory: the tile is marked.
+    pub fn give_back(&mut self, job: Job)
+        requires { job.book ≡ J.book }
         ensures log { self.new.desk ≡ self.old.desk }
-        ensures standing { HasSlots self.old.standing (given_back name.now column self.old.standing.slots.list.items) self.new.standing }
+        ensures standing { HasSlots self.old.standing (given_back job.name job.input.column self.old.standing.slots.list.items) self.new.standing }
     {
-        self.standing.give_back(name, column);
+        self.standing
+            .give_back(job.name(), job.input().column().number());
+        job.end();
     }
 
     /// The store told a fault.

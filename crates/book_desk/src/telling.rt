@@ -2,9 +2,9 @@
 ghost use Rattle.std.specs.Prelude.{◌≡◌, ◌⊎◌, ◌<◌, ◌≤◌, ◌↔◌, IsTrue, length, IfOk, IfErr, IfSome, IfNone};
 ghost use Rattle.std.specs.Arc.{arc_value};
 ghost use mathlib.Core.List.{IsPrefix};
-ghost use Rattle.book_history.specs.Fault.{no_memory};
+ghost use Rattle.book_history.specs.Fault.{IfGone, no_memory};
 ghost use Rattle.book_history.specs.Logs.{newest_in, IsLog};
-ghost use Rattle.book_desk.specs.Steps.{IsAfterTold, IsReportedIn, Looks};
+ghost use Rattle.book_desk.specs.Steps.{IsAfterTold, IsLevel, IsReportedIn, Looks};
 ghost use Rattle.book_desk.specs.Waits.{IsBuilding, IsBuiltAt, IsIdle, IsQuiet, IsSyncRefusedAt, IsWaitRefused};
 ghost use Rattle.book_desk.specs.Waits.{IsWriting};
 
@@ -64,8 +64,9 @@ impl<J: Naming, R: Wait + Drop> Shelf<J, R> {
         ensures refused { IfErr result
             (λ fault. IsWaitRefused self.old.standing.closing (newest_in self.old.desk) name.now fault) }
         ensures seen { Looks result me.old self.old.desk me.new }
+        ensures gone { IfErr result (λ fault. IfGone fault (¬ (IsLevel self.old.desk me.old)) (Unit {0})) }
         ensures log { self.new.desk ≡ self.old.desk }
-        ensures standing { IsAfterTold self.old.standing name.now result self.new.standing }
+        ensures standing { IsAfterTold (newest_in self.old.desk) self.old.standing name.now result self.new.standing }
     {
         let number = self.desk.show(me)?;
         let version = &self.desk.last().version;
@@ -90,6 +91,7 @@ impl<J: Naming, R: Wait + Drop> Shelf<J, R> {
         ensures refused { IfErr result
             (λ fault. IsSyncRefusedAt self.now.standing (newest_in self.now.desk) number fault) }
         ensures seen { Looks result me.old self.now.desk me.new }
+        ensures gone { IfErr result (λ fault. IfGone fault (¬ (IsLevel self.now.desk me.old)) (Unit {0})) }
     {
         self.desk.show(me)?;
         if !self.standing.store {
@@ -108,14 +110,18 @@ impl<J: Naming, R: Wait + Drop> Shelf<J, R> {
 
 /// The reporter's calls, under the lock.
 impl<J: Naming, R: Wait + Drop> Shelf<J, R> {
-    /// Gives the reporter the newest version, where there are news.
+    /// Gives the reporter the newest version, where there are news. None comes where there are none, at closing.
     pub fn tell_news(&self, me: &mut Reporter) -> Result<Option<Arc<Version, Global>>, BookFault>
         requires book { me.old.book ≡ J.book }
+        requires ready { ¬ (IsQuiet self.now.standing me.old.given) }
         ensures some { IfOk result (λ o. IfSome o (λ version. (arc_value version ≡ newest_in self.now.desk)
-            × IsPrefix me.old.log self.now.desk × (me.new ≡ record { book = me.old.book; log = self.now.desk })
-            × IsLog self.now.desk)) }
-        ensures none { IfOk result (λ o. IfNone o (me.new ≡ me.old)) }
+            × IsPrefix me.old.log self.now.desk × IsLog self.now.desk)) }
+        ensures news { IfOk result (λ o. IfSome o (λ _. ¬ (self.now.standing.news ≡ me.old.given)
+            × (me.new ≡ record { book = me.old.book; log = self.now.desk; given = self.now.standing.news }))) }
+        ensures none { IfOk result (λ o. IfNone o (IsTrue self.now.standing.closing
+            × (self.now.standing.news ≡ me.old.given) × (me.new ≡ me.old))) }
         ensures err { IfErr result (λ fault. (me.new ≡ me.old) × ((fault ≡ no_memory) ⊎ (fault ≡ BookFault.Gone))) }
+        ensures gone { IfErr result (λ fault. IfGone fault (¬ (IsPrefix me.old.log self.now.desk)) (Unit {0})) }
     {
         let last = self.desk.last();
         if !me.is_level(&last.trace) {
@@ -142,7 +148,8 @@ impl<J: Naming, R: Wait + Drop> Shelf<J, R> {
         ensures ok { IfOk result.1 (λ m. IsReportedIn self.desk number result.0.desk
             × ((newest_in result.0.desk).durable ≡ m)) }
         ensures seen { IfOk result.1 (λ _. IsPrefix me.old.log self.desk
-            × (me.new ≡ record { book = me.old.book; log = result.0.desk }) × IsLog result.0.desk) }
+            × (me.new ≡ record { book = me.old.book; log = result.0.desk; given = me.old.given })
+            × IsLog result.0.desk) }
         ensures begun { 0 < length me.old.log }
         ensures standing { result.0.standing ≡ self.standing }
         ensures err { IfErr result.1 (λ fault. (result.0.desk ≡ self.desk) × (me.new ≡ me.old)

@@ -12,6 +12,12 @@ pub record Known : Type 0 where
   pub log : List Entry
   pub made : List Command
 
+-- what the reporter knows: which book it is of, the log that it has seen, and the count of the news that it gave last
+pub record Heard : Type 0 where
+  pub book : Book
+  pub log : List Entry
+  pub given : ℕ
+
 -- the history that a session has seen
 abbrev pub seen : Known → History
 seen known = history_of known.log

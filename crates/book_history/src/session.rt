@@ -100,6 +100,8 @@ impl Session {
         ensures longer { IsTrue result → IsPrefix self.now.log now.now.log }
         ensures own { IsTrue result → commands_of self.now.session now.now.log ≡ self.now.made }
         ensures count { IsTrue result → count ≡ length self.now.made }
+        ensures level { IsPrefix self.now.log now.now.log → commands_of self.now.session now.now.log ≡ self.now.made
+            → IsTrue result }
     {
         now.compare(&self.trace);
         self.trace.at() <= now.at() && self.count == count
@@ -140,7 +142,7 @@ impl Session {
         ensures newest { IfOk result (λ version. arc_value version ≡ newest (seen self.new)) }
         ensures history { IfOk result (λ _. IsHistory (seen self.new)) }
         ensures same { (self.new.book ≡ self.old.book) × (self.new.session ≡ self.old.session) × (self.new.made ≡ self.old.made) }
-        ensures err { IfErr result (λ _. self.new ≡ self.old) }
+        ensures err { IfErr result (λ fault. (fault ≡ BookFault.Gone) × (self.new ≡ self.old)) }
     {
         let Some(place) = self.place.take() else {
             return Err(BookFault::Gone);

@@ -5,9 +5,8 @@ use Rattle.overlay_terms.specs.Commands.{Command}
 use Rattle.overlay_terms.specs.Histories.{Version, Entry, History, accepted, commands_of, newest, BeginsWith}
 use Rattle.book_history.specs.Logs.{entry, newest_in, history_of, IsAccepted, IsLog}
 use Rattle.book_history.specs.Fault.{IfGone, IsRefused}
-use Rattle.book_history.specs.Known.{Known, seen, IsOwn}
+use Rattle.book_history.specs.Known.{Known, Heard, seen, IsOwn}
 use Rattle.book_desk.specs.Steps.{HasLooked, IsReportedIn, Looks}
-use Rattle.book_history.specs.Trails.{Trail}
 use Rattle.book_history.specs.declared.fault.BookFault.{BookFault}
 use Rattle.book_history.specs.declared.fault.BookFault.TheVariants as fault
 use Rattle.book_history.proofs.Chains.{begins_with, commands_in_log}
@@ -120,15 +119,15 @@ module _ (was now : Known) (old new : List Entry) where
   submit_refused (Err f) A B closing c d q = at_fault f was now old (λ v g. IsRefused true v c g) (λ v. tt) (refused_more f closing (newest_in old) c q) d.2
 
 -- ---- of a report
-module _ (was now : Trail) (log after : List Entry) (n : ℕ) where
+module _ (was now : Heard) (log after : List Entry) (n : ℕ) where
   pub report_goes : (r : Result ℕ BookFault) (A : ℕ → Type 0) (B : BookFault → Type 0) → 0 < length was.log
       → IfOk r (λ m. IsReportedIn log n after × A m)
-      → IfOk r (λ _. IsPrefix was.log log × (now ≡ record { book = was.book; log = after }) × IsLog after)
+      → IfOk r (λ _. IsPrefix was.log log × (now ≡ record { book = was.book; log = after; given = was.given }) × IsLog after)
       → IfErr r (λ f. (after ≡ log) × (now ≡ was) × B f) → BeginsWith (history_of now.log) (history_of was.log)
   report_goes (Ok m) A B long a b d =
       let whole = prefix_trans was.log log after b.0 (report_longer log after n a.0) in
-      begins_with was.log now.log long (subst (λ (t : Trail). IsPrefix was.log t.log) (sym b.1) whole)
-  report_goes (Err f) A B long a b d = begins_with was.log now.log long (subst (λ (t : Trail). IsPrefix was.log t.log) (sym d.1) (prefix_self was.log))
+      begins_with was.log now.log long (subst (λ (t : Heard). IsPrefix was.log t.log) (sym b.1) whole)
+  report_goes (Err f) A B long a b d = begins_with was.log now.log long (subst (λ (t : Heard). IsPrefix was.log t.log) (sym d.1) (prefix_self was.log))
 
   pub report_reached : (r : Result ℕ BookFault) (K : Type 0) → 0 < length was.log
       → IfOk r (λ m. IsReportedIn log n after × ((newest_in after).durable ≡ m))

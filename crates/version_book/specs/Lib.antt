@@ -1,3 +1,4 @@
+pub use Rattle.book_desk.specs.Jobs
 pub use Rattle.book_desk.specs.Steps
 pub use Rattle.book_desk.specs.Waits
 pub use Rattle.book_history.specs.Fault

@@ -2,8 +2,7 @@
 #![tactic(auto)]
 
 pub mod crossing;
-pub mod job;
 pub mod shared;
 
-pub use book_desk::closing;
+pub use book_desk::{closing, job};
 pub use book_history::{fault, reporter, session, trace};

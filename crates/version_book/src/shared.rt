@@ -4,20 +4,18 @@ ghost use Rattle.std.specs.Prelude.{length, true};
 ghost use Rattle.std.specs.Arc.{arc_value};
 ghost use mathlib.Core.List.{IsPrefix};
 ghost use Rattle.overlay_terms.specs.Histories.{commands_of, BeginsWith, newest};
-ghost use Rattle.overlay_terms.specs.Tiles.{input_of};
 ghost use Rattle.layer_book.specs.Command.{command};
-ghost use Rattle.version_core.specs.Finish.{IsPending};
 ghost use Rattle.book_history.specs.Fault.{IfGone, IsRefused, no_memory};
 ghost use Rattle.book_history.specs.Known.{seen, IsOwn};
 ghost use Rattle.book_history.specs.Logs.{entry, history_of, newest_in, no_event, IsAccepted, IsLog};
 ghost use Rattle.book_history.specs.Rules.{head_of};
+ghost use Rattle.book_desk.specs.Jobs.{IsJob};
 ghost use Rattle.book_desk.specs.Steps.{beginners, HasAllOf};
 ghost use Rattle.book_desk.specs.Waits.{IsBuilding, IsBuiltAt, IsIdle, IsQuiet, IsSyncRefused, IsWaitRefused};
 ghost use Rattle.book_desk.specs.Waits.{IsWriting};
 
-use crate::job::Job;
 use book_desk::closing::Closed;
-use book_desk::handed::HandedOut;
+use book_desk::job::Job;
 use book_desk::shelf::Shelf;
 use book_history::fault::{BookFault, StoreFault};
 use book_history::reporter::Reporter;
@@ -51,7 +49,7 @@ impl<J: Naming, R: Wait + Drop> Shared<J, R> {
         requires head { head ≡ head_of J.book }
         requires trace { (trace.book ≡ J.book) × (trace.log ≡ entry no_event version ∷ []) }
         requires sessions { (0 < sessions) × (sessions ≤ 4) }
-        ensures reporter { IfOk result (λ r. r.1 ≡ trace) }
+        ensures reporter { IfOk result (λ r. r.1 ≡ record { book = trace.book; log = trace.log; given = 0 }) }
         ensures sessions { IfOk result (λ r. r.2.items ≡ beginners trace sessions) }
         ensures of_book { IfOk result (λ r. All (λ session. session.book ≡ J.book) r.2.items) }
         ensures reporter_of_book { IfOk result (λ r. r.1.book ≡ J.book) }
@@ -98,26 +96,16 @@ impl<J: Naming, R: Wait + Drop> Shared<J, R> {
 
     /// Hands out a pending tile that is neither handed out nor marked. It waits for one; None comes at closing.
     pub fn take_job<W: Wait>(&self, rt: &W, alloc: Global) -> Result<Option<Job>, BookFault>
-        ensures book { IfOk result (λ o. IfSome o (λ job. (job.trace.book ≡ J.book) × IsLog job.trace.log)) }
-        ensures input { IfOk result (λ o. IfSome o
-            (λ job. job.input ≡ input_of (newest_in job.trace.log).layers job.name job.input.column)) }
-        ensures pending { IfOk result (λ o. IfSome o
-            (λ job. IsPending (newest_in job.trace.log) job.name job.input.column)) }
+        ensures book { IfOk result (λ o. IfSome o (λ job. job.book ≡ J.book)) }
+        ensures job { IfOk result (λ o. IfSome o (λ job. IsJob job)) }
         ensures err { IfErr result (λ fault. fault ≡ no_memory) }
     {
         let mut guard = self
             .changed
             .wait_while(rt, self.shelf.lock(rt), |shelf| is_idle(shelf));
-        let Some(shelf) = &mut *guard else {
-            return Ok(None);
-        };
-        match shelf.take(alloc) {
-            Ok(Some(handed)) => {
-                let HandedOut { name, input, trace } = handed;
-                Ok(Some(Job { name, input, trace }))
-            }
-            Ok(None) => Ok(None),
-            Err(fault) => Err(fault),
+        match &mut *guard {
+            Some(shelf) => shelf.take(alloc),
+            None => Ok(None),
         }
     }
 
@@ -130,7 +118,7 @@ impl<J: Naming, R: Wait + Drop> Shared<J, R> {
         job: Job,
         built: Built,
     ) -> Result<bool, (Job, Built, BookFault)>
-        requires book { job.trace.book ≡ J.book }
+        requires book { job.book ≡ J.book }
         requires input { built.0 ≡ job.input }
         ensures err { IfErr result (λ e. (e.0 ≡ job) × (e.1 ≡ built)) }
         ensures refused { IfErr result (λ e. (e.2 ≡ no_memory) ⊎ (e.2 ≡ BookFault.Gone)) }
@@ -139,27 +127,25 @@ impl<J: Naming, R: Wait + Drop> Shared<J, R> {
         let Some(shelf) = guard.take() else {
             return Err((job, built, BookFault::Gone));
         };
-        let (shelf, done) = shelf.finish(alloc, &job.name, &built);
+        let (shelf, done) = shelf.finish(alloc, job, &built);
         *guard = Some(shelf);
         self.changed.notify_all();
         match done {
-            Ok(kept) => {
-                job.drop_parts();
-                Ok(kept)
-            }
-            Err(fault) => Err((job, built, fault)),
+            Ok(kept) => Ok(kept),
+            Err((job, fault)) => Err((job, built, fault)),
         }
     }
 
-    /// Spends a job whose tile could not be built for want of memory: the tile is marked.
+    /// Spends a job whose tile could not be built for want of memory: the tile is marked. Were there no book under the
+    /// lock, which cannot come, it would wait for ever.
+    // It has no clause, as nothing of what lies under the lock can be said once that is given up. But a job can be let
+    // go by the lock's methods alone, and `Shelf::give_back` says what it does to the tile.
     pub fn give_back<W: Wait>(&self, rt: &W, job: Job)
-        requires { job.trace.book ≡ J.book }
+        requires { job.book ≡ J.book }
     {
         let mut guard = self.shelf.lock(rt);
-        if let Some(shelf) = &mut *guard {
-            shelf.give_back(&job.name, job.input.column().number());
-        }
-        job.drop_parts();
+        let Some(shelf) = &mut *guard else { never(rt) };
+        shelf.give_back(job);
         self.changed.notify_all();
     }
 
@@ -220,6 +206,7 @@ impl<J: Naming, R: Wait + Drop> Shared<J, R> {
         requires book { me.old.book ≡ J.book }
         ensures goes_on { BeginsWith (history_of me.new.log) (history_of me.old.log) }
         ensures newest { IfOk result (λ o. IfSome o (λ version. arc_value version ≡ newest_in me.new.log)) }
+        ensures news { IfOk result (λ o. IfSome o (λ _. ¬ (me.new.given ≡ me.old.given))) }
         ensures none { IfOk result (λ o. IfNone o (me.new ≡ me.old)) }
         ensures err { IfErr result (λ fault. (me.new ≡ me.old) × ((fault ≡ no_memory) ⊎ (fault ≡ BookFault.Gone))) }
         ensures same { me.new.book ≡ me.old.book }
@@ -247,7 +234,7 @@ impl<J: Naming, R: Wait + Drop> Shared<J, R> {
         ensures ok { IfOk result (λ m. (newest_in me.new.log).durable ≡ m) }
         ensures reached { IfOk result (λ m. number ≤ (newest_in me.old.log).number → number ≤ m) }
         ensures err { IfErr result (λ fault. (me.new ≡ me.old) × ((fault ≡ no_memory) ⊎ (fault ≡ BookFault.Gone))) }
-        ensures same { me.new.book ≡ me.old.book }
+        ensures same { (me.new.book ≡ me.old.book) × (me.new.given ≡ me.old.given) }
     {
         let _given = me.given();
         let mut guard = self.shelf.lock(rt);
@@ -274,6 +261,7 @@ impl<J: Naming, R: Wait + Drop> Shared<J, R> {
     }
 
     /// From now on commands are refused, no job is handed out, and no call waits for long.
+    // It has no clause: it gives nothing, and that the book closes is said under the lock, by `Shelf::begin_close`.
     pub fn begin_close<W: Wait>(&self, rt: &W) {
         let mut guard = self.shelf.lock(rt);
         if let Some(shelf) = &mut *guard {

@@ -1,0 +1,29 @@
+-- A tile that is handed out, and what it is to be built from.
+use Rattle.std.specs.Prelude.{◌≡◌, List, refl}
+use Rattle.std.specs.Coded.{Coded, code_by, coded_list, coded×}
+use Rattle.logbook.specs.Pages.{Book, book_coded}
+use Rattle.overlay_terms.specs.Histories.{Entry}
+use Rattle.overlay_terms.specs.InputCode.{input_code}
+use Rattle.overlay_terms.specs.Layers.{Name}
+use Rattle.overlay_terms.specs.Tiles.{Input, input_of}
+use Rattle.version_core.specs.Finish.{IsPending}
+use Rattle.book_history.specs.Codes.{entry_code, name_code}
+use Rattle.book_history.specs.Logs.{newest_in, IsLog}
+
+-- which book a job is of, the log at which it was handed out, the name of its layer, and what its tile is built from
+pub record Handed : Type 0 where
+  pub book : Book
+  pub log : List Entry
+  pub name : Name
+  pub input : Input
+
+-- the tile was pending in the newest version of the log, and this was its input there
+pub record IsJob (job : Handed) : Type 0 where
+  pub valid : IsLog job.log
+  pub pending : IsPending (newest_in job.log) job.name job.input.column
+  pub present : job.input ≡ input_of (newest_in job.log).layers job.name job.input.column
+
+-- a job as data that a model's value may hold
+abbrev pub handed_code : Coded Handed
+handed_code =
+    code_by (Book × (List Entry × (Name × Input))) (coded× book_coded (coded× (coded_list entry_code) (coded× name_code input_code))) (λ j. (j.book, (j.log, (j.name, j.input)))) (λ p. record { book = p.0; log = p.1.0; name = p.1.1.0; input = p.1.1.1 }) (λ _. refl)
