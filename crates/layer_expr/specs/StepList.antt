@@ -71,7 +71,7 @@ values_after next known bits ((name, Some expression) ∷ layers) =
 abbrev pub evaluated : List Reached → (ℕ → Bool) → Bool
 evaluated layers bits = last_or false (map (λ entry. entry.1) (values_after 0 [] bits layers))
 
--- whether a leaf stands for one of the base layers, or for a definition before a place
+-- whether a leaf stands for one of the base layers, or for a definition before an index
 abbrev pub stands_before : ℕ → ℕ → Source → Bool
 stands_before bases place (base_bit k) = nat_lt k bases
 stands_before bases place (definition k) = nat_lt k place

@@ -169,7 +169,7 @@ fn source_named(name: &Name, layers: &[(&Name, Option<&Expr>)]) -> Source
     }
 }
 
-/// The place of a name among the base layers.
+/// The index of a name among the base layers.
 fn base_number(name: &Name, layers: &[(&Name, Option<&Expr>)]) -> Option<usize>
     ensures place { result
         ≡ position (λ layer. bytes_eq layer.0.now name.now) (filter (λ layer. is_none layer.1) layers.now) }

@@ -26,7 +26,7 @@ OnlyReachIsTouched =
     (layers : List Layer) (command : Command) (name : Name) (k : ℕ) → IsOrderly layers → refusal_of layers command ≡ None →
     IsTrue (is_touched layers command name k) → IsTrue (list_any (bytes_eq name) (derived_over layers (name_of command)))
 
--- tiles have their place among layers: each is of a derived layer that stands, and of a column that there is
+-- tiles fit layers: each is of a derived layer that stands, and of a column that there is
 abbrev pub AreFitting : List Layer → List Finished → Type 0
 AreFitting layers tiles =
     (name : Name) (k : ℕ) (tile : Tile) → tile_at tiles name k ≡ Some tile → IsTrue (stands_as_derived layers name) × (k < column_count)
@@ -36,7 +36,7 @@ abbrev pub AreExact : List Layer → List Finished → Type 0
 AreExact layers tiles =
     (name : Name) (k : ℕ) (tile : Tile) → tile_at tiles name k ≡ Some tile → IsTileAt pieces_max (input_of layers name k) tile
 
--- the tiles of a version have their place among its layers
+-- the tiles of a version fit its layers
 abbrev pub TilesFit : Version → Type 0
 TilesFit version = AreFitting version.layers version.tiles
 
@@ -56,7 +56,7 @@ LayersStayOrderly =
     (old new : Version) (event : Event) → Follows old event new →
     (IsOrderly old.layers → IsOrderly new.layers) × (length old.layers ≤ layers_max → length new.layers ≤ layers_max)
 
--- a version whose layers are orderly, and whose tiles have their place and are exact
+-- a version whose layers are orderly, and whose tiles fit and are exact
 pub record IsExact (version : Version) : Type 0 where
   pub orderly : IsOrderly version.layers
   pub fit : TilesFit version

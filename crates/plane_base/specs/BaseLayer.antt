@@ -12,12 +12,12 @@ IsInRange p = InRange p.x × InRange p.y
 abbrev pub PointsInRange : List WholePoint → Type 0
 PointsInRange ring = 1 < length ring → All IsInRange ring
 
--- what is wrong with the ring at a place, its length first
+-- what is wrong with a ring, by its index: its length first
 abbrev pub ring_fault : ℕ → List WholePoint → Option PlaneFault
 ring_fault at ring =
     if nat_lt (length ring) 4 then Some (RingShort at) else (if is_closed ring then None else Some (RingOpen at))
 
--- the first fault of the rings, the first of which stands at the given place
+-- the first fault of the rings, the first of which has the given index
 abbrev pub first_ring_fault : ℕ → List (List WholePoint) → Option PlaneFault
 first_ring_fault at [] = None
 first_ring_fault at (ring ∷ rings) = option_or (ring_fault at ring) (first_ring_fault (at + 1) rings)

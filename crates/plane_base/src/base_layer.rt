@@ -43,7 +43,7 @@ impl Ring {
         self.points
     }
 
-    /// What is wrong with the ring, which stands at this place among its rings.
+    /// What is wrong with the ring, which has this index among its layer's rings.
     fn fault(&self, at: usize) -> Option<PlaneFault>
         ensures { result ≡ ring_fault at self.now }
     {
