@@ -41,7 +41,7 @@ foot_small : (column : ℕ) → IsSmall (foot column)
 foot_small column = record { positive = one_positive; few = search arith; low = omega (arith, ints); high = omega (arith, ints) }
 
 -- a place of a proper segment from the left border on comes after it
-after_foot : (column : ℕ) (s : Segment) (z : Point) → IsProper s → pos 0 <ℤ z.w → IsTrue (is_on s z) → (border column *ℤ z.w) ≤ℤ z.x → point_cmp (foot column) z ≡ Less
+pub after_foot : (column : ℕ) (s : Segment) (z : Point) → IsProper s → pos 0 <ℤ z.w → IsTrue (is_on s z) → (border column *ℤ z.w) ≤ℤ z.x → point_cmp (foot column) z ≡ Less
 after_foot column s z proper hz on from =
     less_from_forward (foot column) z (steps z.x z.y z.w (border column) hz from (y_on_proper s z proper hz on).low)
   where

@@ -28,3 +28,9 @@ pub mod BeginLemmas
 pub mod AheadLemmas
 pub mod KnownLemmas
 pub mod StartLemmas
+pub mod UnitBits
+pub mod Labels
+pub mod Passed
+pub mod RowLemmas
+pub mod RowOrder
+pub mod RowCode

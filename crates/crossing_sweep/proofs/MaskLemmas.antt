@@ -37,7 +37,7 @@ use Rattle.crossing_sweep.proofs.Pairs.{pairs_head, pairs_rest}
 use Rattle.crossing_sweep.proofs.QueueLemmas.{along_turn, Order, lower, same, higher, order_of}
 
 -- ---- images of lists
-pairs_map : {X Y : Type 0} (R : Y → Y → Type 0) (f : X → Y) (xs : List X) → AllPairs (λ a b. R (f a) (f b)) xs → AllPairs R (map f xs)
+pub pairs_map : {X Y : Type 0} (R : Y → Y → Type 0) (f : X → Y) (xs : List X) → AllPairs (λ a b. R (f a) (f b)) xs → AllPairs R (map f xs)
 pairs_map R f [] h = λ i j d l m. absurd (omega (arith, m))
 pairs_map R f (x ∷ xs) h = AllPairs-cons R (f x) (map f xs) (All-map (R (f x)) f xs (pairs_head (λ a b. R (f a) (f b)) x xs h)) (pairs_map R f xs (pairs_rest (λ a b. R (f a) (f b)) x xs h))
 

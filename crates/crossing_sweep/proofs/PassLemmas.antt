@@ -78,7 +78,7 @@ regrouped under bundle over w1 w2 (inr e) =
 -- ---- where a segment is met first
 module _ (column : ℕ) (r : Point) (u : Segment) (proper : IsProper u) (hr : pos 0 <ℤ r.w) where
   -- one that is met at the place holds it
-  entered_holds : (z : Point) → IsEntry column u z → IsTrue (same_place z r) → height_over u r ≡ pos 0
+  pub entered_holds : (z : Point) → IsEntry column u z → IsTrue (same_place z r) → height_over u r ≡ pos 0
   entered_holds z entry same = on_line u r (sym (on_same u z r entry.positive hr same) ∙ entry.on)
 
   -- one that is met later at the left border waits there

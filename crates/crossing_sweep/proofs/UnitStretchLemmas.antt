@@ -40,13 +40,13 @@ module _ (input : Input) (valid : IsInput input) where
       by p (inl e) = subst IsInRange (sym e) (record { x = p.left_x; y = p.left_y })
       by p (inr e) = subst IsInRange (sym e) (record { x = p.right_x; y = p.right_y })
 
-  proper_unit : (s : Segment) → IsUnit input.marked s → IsProper s
+  pub proper_unit : (s : Segment) → IsUnit input.marked s → IsProper s
   proper_unit s unit =
       let l : IsInRange s.left = end_in_range s s.left (end_of input.marked s s.left unit.from_end) in
       let r : IsInRange s.right = end_in_range s s.right (end_of input.marked s s.right unit.to_end) in
       record { first = unit.forward; left_x = l.x; left_y = l.y; right_x = r.x; right_y = r.y }
 
-  stretch_of : (s : Segment) → IsUnit input.marked s → IsStretchOf (segments_in input) s
+  pub stretch_of : (s : Segment) → IsUnit input.marked s → IsStretchOf (segments_in input) s
   stretch_of s unit =
       let h : Holder input.marked s = holder_of input.marked valid.proper s unit in
       let tests = and_parts (is_on h.of.segment (whole s.left)) (is_on h.of.segment (whole s.right)) h.cover in

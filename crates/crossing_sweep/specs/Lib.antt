@@ -15,3 +15,5 @@ pub mod Beginning
 pub mod Ahead
 pub mod Start
 pub mod Member
+pub mod Rows
+pub mod RowLaws

@@ -9,6 +9,8 @@ pub mod member;
 pub mod next_node;
 pub mod passing;
 pub mod queue;
+pub mod row;
+pub mod rows;
 pub mod sides;
 pub mod start;
 pub mod starting;

@@ -1,0 +1,156 @@
+-- What a pass carries along from node to node, and the rows that it makes: the pieces of the boundary that it has come to the end of.
+use Rattle.std.specs.Prelude.{◌≡◌, ℕ, ℤ, pos, ◌<◌, [], ◌∷◌, ◌≤ℤ◌, ◌<ℤ◌, ◌*ℤ◌, Bool, not, ◌&&◌, if◌then◌else◌, IsTrue, List, map, filter, length, get_or, All, AllPairs, Any, Contains}
+use Rattle.std.specs.Int.RustNames.{bit_xor}
+use Rattle.std.specs.List.Sorted.{IsPermutation, IsSortedByKey}
+use Rattle.std.specs.Ordering.{nat_cmp, ordering_then}
+use Rattle.std.specs.declared.cmp.Ordering.{Ordering}
+use Rattle.std.specs.declared.cmp.Ordering.TheVariants.{Less}
+use Rattle.overlay_terms.specs.Plane.{Point, Segment, point_cmp, same_place, is_on}
+use Rattle.overlay_terms.specs.Column.{border, is_in_column}
+use Rattle.overlay_terms.specs.Layers.{layers_max}
+use Rattle.overlay_terms.specs.Trees.{Steps, steps_value, mask_bits}
+use Rattle.overlay_terms.specs.Tiles.{Input, is_node, IsBoundary}
+use Rattle.exact_point.specs.PointName.{HasPlace}
+use Rattle.exact_point.specs.PlaceOf.{place_of}
+use Rattle.arrange.specs.Arrangement.{segments_in}
+use Rattle.arrange.specs.declared.unit.Unit as units
+use Rattle.exact_point.specs.declared.point_name.PointName.{PointName}
+use Rattle.tile_laws.specs.JustRight.{under_bits, up_to_bits}
+use Rattle.crossing_sweep.specs.Leaning.{lean, lean_segment, IsSmall}
+use Rattle.crossing_sweep.specs.Sides.{lean_marked, IsNodal}
+use Rattle.crossing_sweep.specs.Queue.{IsUpTo, IsQueued}
+use Rattle.crossing_sweep.specs.Kept.{IsLastOn}
+use Rattle.crossing_sweep.specs.Member.{seg_of}
+use Rattle.crossing_sweep.specs.declared.member.Begin.{Begin}
+use Rattle.crossing_sweep.specs.declared.member.Member.{Member}
+use Rattle.crossing_sweep.specs.declared.row.Row.{Row}
+
+-- ---- places passed
+-- the places of all nodes of a closed column up to a place, in order
+pub record ArePassed (segments : List Segment) (column : ℕ) (q : Point) (passed : List Point) : Type 0 where
+  pub ordered : AllPairs (λ a b. point_cmp a b ≡ Less) passed
+  pub small : All IsSmall passed
+  pub nodes : All (λ z. IsTrue (is_node segments z)) passed
+  pub from : All (λ z. (border column *ℤ z.w) ≤ℤ z.x) passed
+  pub up_to : All (λ z. point_cmp q z ≡ Less → ⊥) passed
+  pub complete : (p : Point) → pos 0 <ℤ p.w → IsTrue (is_node segments p) → (border column *ℤ p.w) ≤ℤ p.x → IsUpTo column p → (point_cmp q p ≡ Less → ⊥) → IsQueued passed p
+
+-- a name is that of the place with a number among those passed
+pub record IsNumbered (passed : List Point) (name : PointName) (number : ℕ) : Type 0 where
+  pub named : HasPlace name
+  pub known : number < length passed
+  pub at : (d : Point) → get_or passed number d ≡ place_of name
+
+-- ---- what a member carries
+-- whether one holds and the other does not
+abbrev pub is_one_of : Bool → Bool → Bool
+is_one_of a b = if a then not b else b
+
+-- a mask has the bits of the base layers
+abbrev pub HasBits : ℕ → (ℕ → Bool) → Type 0
+HasBits mask bits = (k : ℕ) → k < layers_max → mask_bits mask k ≡ bits k
+
+-- what lies under a unit just after a place
+abbrev pub under_unit : ℤ → Input → Segment → Point → ℕ → Bool
+under_unit n input u p = under_bits (lean_marked n input.marked) (lean_segment n u) (lean n p)
+
+-- what lies up to it
+abbrev pub up_to_unit : ℤ → Input → Segment → Point → ℕ → Bool
+up_to_unit n input u p = up_to_bits (lean_marked n input.marked) (lean_segment n u) (lean n p)
+
+-- whether the steps differ under a unit and over it just after a place
+abbrev pub sides_differ : ℤ → Input → Segment → Point → Bool
+sides_differ n input u p = is_one_of (steps_value input.steps (under_unit n input u p)) (steps_value input.steps (up_to_unit n input u p))
+
+-- what a member carries after a place q from the place p on its unit where it begins. In the column, p is the last node on the unit, the
+-- mask is what lies up to it just after p, and it differs where the steps do there; on the column's right border it begins no piece
+-- of the column
+pub record IsCarriedFrom (n : ℤ) (input : Input) (p q : Point) (m : Member) : Type 0 where
+  pub on : IsTrue (is_on (seg_of m) p)
+  pub last : IsTrue (is_in_column input.column p) → IsLastOn input (seg_of m) p q
+  pub over : IsTrue (is_in_column input.column p) → HasBits m.over (up_to_unit n input (seg_of m) p)
+  pub differs : m.differs ≡ (is_in_column input.column p && sides_differ n input (seg_of m) p)
+
+-- so it is with a member that begins at one of the places passed
+pub record IsCarried (n : ℤ) (input : Input) (passed : List Point) (q : Point) (m : Member) : Type 0 where
+  pub begins : IsNumbered passed m.begin.name m.begin.number
+  pub carried : IsCarriedFrom n input (place_of m.begin.name) q m
+
+-- ---- rows
+-- the places of the ends of a row
+abbrev pub row_ends : Row → Point × Point
+row_ends row = (place_of row.from, place_of row.to)
+
+-- a row is a piece of the boundary in the column between two of the places passed, both on its support
+pub record IsRow (input : Input) (passed : List Point) (row : Row) : Type 0 where
+  pub from : IsNumbered passed row.from row.first
+  pub to : IsNumbered passed row.to row.last
+  pub from_on : IsTrue (is_on row.support (place_of row.from))
+  pub to_on : IsTrue (is_on row.support (place_of row.to))
+  pub boundary : IsBoundary input.marked input.steps input.column (place_of row.from) (place_of row.to)
+
+-- the rows of a pass that has come to a place: the pieces of the boundary in the column that end there or before it, each once
+pub record AreRows (input : Input) (passed : List Point) (q : Point) (rows : List Row) : Type 0 where
+  pub sound : All (IsRow input passed) rows
+  pub once : AllPairs (λ a b. a.first ≡ b.first → a.last ≡ b.last → ⊥) rows
+  pub complete : (p r : Point) → IsBoundary input.marked input.steps input.column p r → (point_cmp q r ≡ Less → ⊥)
+      → Any (λ row. IsTrue (same_place p (place_of row.from) && same_place r (place_of row.to))) rows
+
+-- by the number of the left end, then of the right end
+abbrev pub number_cmp : ℕ × ℕ → ℕ × ℕ → Ordering
+number_cmp a b = ordering_then (nat_cmp a.0 b.0) (nat_cmp a.1 b.1)
+
+-- the numbers of the ends of a row
+abbrev pub row_numbers : Row → ℕ × ℕ
+row_numbers row = (row.first, row.last)
+
+-- some rows put in the order of these numbers
+pub record AreSorted (rows sorted : List Row) : Type 0 where
+  pub moved : IsPermutation rows sorted
+  pub in_order : IsSortedByKey row_numbers number_cmp sorted
+
+-- ---- one step
+-- the row that a member makes where its piece ends
+abbrev pub row_to : Begin → Member → Row
+row_to end m = record { support = m.unit.seg; from = m.begin.name; to = end.name; first = m.begin.number; last = end.number }
+
+-- the rows of a bundle: of the members that differ
+abbrev pub rows_of : Begin → List Member → List Row
+rows_of end bundle = map (row_to end) (filter (λ m. m.differs) bundle)
+
+-- what holds over the highest of some members, or else what lies under all of them
+abbrev pub mask_over : ℕ → List Member → ℕ
+mask_over under [] = under
+mask_over under (m ∷ ms) = mask_over m.over ms
+
+-- what the steps are over a mask, whatever lies beyond the base layers
+abbrev pub HasValue : Steps → ℕ → Bool → Type 0
+HasValue steps mask value = (bits : ℕ → Bool) → HasBits mask bits → value ≡ steps_value steps bits
+
+-- a member begins at a place, within the column or not, over what a mask says: its own mask changes that, and it differs where the
+-- steps do
+pub record IsBegun (steps : Steps) (under : ℕ) (begin : Begin) (within : Bool) (m : Member) : Type 0 where
+  pub begins : m.begin ≡ begin
+  pub over : m.over ≡ bit_xor under m.unit.mask
+  pub differs : (low high : ℕ → Bool) → HasBits under low → HasBits m.over high → m.differs ≡ (within && is_one_of (steps_value steps low) (steps_value steps high))
+
+-- so do all members of a bundle, each over the one below it
+abbrev pub AreBegun : Steps → ℕ → Begin → Bool → List Member → Type 0
+AreBegun steps under begin within [] = Unit {0}
+AreBegun steps under begin within (m ∷ ms) = IsBegun steps under begin within m × AreBegun steps m.over begin within ms
+
+-- at a node r after the places passed, the pieces of some members begin, each with its mask over those of the members under the node
+pub record BeginAt (input : Input) (units : List units.Unit) (r : Point) (passed : List Point) (under stay : List Member) (end : Begin) : Type 0 where
+  pub named : HasPlace end.name
+  pub at : place_of end.name ≡ r
+  pub number : end.number ≡ length passed
+  pub nodal : IsNodal r
+  pub among : All (λ m. Contains units m.unit) stay
+  pub begun : AreBegun input.steps (mask_over 0 under) end (is_in_column input.column r) stay
+
+-- ---- the whole
+-- what a pass has when it has come to a place: the places passed, what the entered members carry, and the rows
+pub record Carries (n : ℤ) (input : Input) (q : Point) (passed : List Point) (entered : List Member) (rows : List Row) : Type 0 where
+  pub passes : ArePassed (segments_in input) input.column q passed
+  pub members : All (IsCarried n input passed q) entered
+  pub are_rows : AreRows input passed q rows

@@ -1,0 +1,98 @@
+//! Rows of a pass: the pieces of the boundary, made where they end, and what the members carry up to there.
+ghost use Rattle.std.specs.Prelude.{◌≡◌, ◌++◌, map, OnOk};
+ghost use Rattle.crossing_sweep.specs.Rows.{mask_over as highest_mask, row_to as row_of_member, rows_of, AreBegun, AreSorted, HasValue, IsBegun};
+
+use crate::member::{Begin, Member};
+use arrange::tile_input::TileInput;
+use exact_point::point_name::PointName;
+use plane_base::point::Seg;
+use std::alloc::AllocError;
+
+/// A piece whose sides differ, with the numbers of its ends among the nodes of the closed column.
+#[derive(Clone, Copy)]
+pub struct Row {
+    pub support: Seg,
+    pub from: PointName,
+    pub to: PointName,
+    pub first: u128,
+    pub last: u128,
+}
+
+/// Closes the pieces of a bundle: those of the boundary become rows.
+pub(crate) fn close(rows: &mut Vec<Row>, bundle: &[Member], end: &Begin) -> Result<(), AllocError>
+    ensures { OnOk result (rows.new.items ≡ rows.old.items ++ rows_of end.now bundle.now) }
+{
+    for member in bundle {
+        if member.differs {
+            rows.push(row_to(member, end))?;
+        }
+    }
+    Ok(())
+}
+
+/// The row of a member whose piece ends at a place.
+fn row_to(member: &Member, end: &Begin) -> Row
+    ensures { result ≡ row_of_member end.now member.now }
+{
+    Row {
+        support: member.unit.seg,
+        from: member.begin.name,
+        to: end.name,
+        first: member.begin.number,
+        last: end.number,
+    }
+}
+
+/// What holds over the highest of some members, from the lowest to the highest.
+pub(crate) fn mask_over(members: &[Member]) -> u32
+    ensures { result ≡ highest_mask 0 members.now }
+{
+    match members.last() {
+        Some(member) => member.over,
+        None => 0,
+    }
+}
+
+/// Begins the pieces of a bundle at a place: each stands on what holds over the one below it.
+pub(crate) fn label(input: &TileInput, stay: &mut [Member], under: u32, begin: &Begin, within: bool)
+    ensures units { map (λ m. m.unit) stay.new ≡ map (λ m. m.unit) stay.old }
+    ensures begun { AreBegun input.now.steps under begin.now within stay.new }
+{
+    let mut mask = under;
+    let mut value = input.steps().value(under);
+    for member in stay.iter_mut() {
+        value = begin_over(input, member, mask, value, begin, within);
+        mask = member.over;
+    }
+}
+
+/// Begins a member's piece over what a mask says, where the value of the expression there is known, and
+/// says the value over the member.
+fn begin_over(
+    input: &TileInput,
+    member: &mut Member,
+    mask: u32,
+    value: bool,
+    begin: &Begin,
+    within: bool,
+) -> bool
+    requires { HasValue input.now.steps mask value }
+    ensures unit { member.new.unit ≡ member.old.unit }
+    ensures begun { IsBegun input.now.steps mask begin.now within member.new }
+    ensures value { HasValue input.now.steps member.new.over result }
+{
+    let over = mask ^ member.unit.mask;
+    let next = input.steps().value(over);
+    member.begin = *begin;
+    member.over = over;
+    // Eager, so that one equation says all: both values are known by then.
+    member.differs = within & (value ^ next);
+    next
+}
+
+/// Puts rows in the order of the numbers of their ends.
+pub(crate) fn sort(rows: &mut Vec<Row>)
+    ensures { AreSorted rows.old.items rows.new.items }
+{
+    rows.sort_unstable_by_key(|row| (row.first, row.last));
+}
