@@ -1,5 +1,5 @@
 -- Which version is stored, and what of it.
-use Rattle.std.specs.Prelude.{◌≡◌, ℕ, Result, Ok, Err}
+use Rattle.std.specs.Prelude.{◌≡◌, ℕ, ◌+◌, length, Result, Ok, Err}
 use Rattle.overlay_terms.specs.Layers.{Name}
 use Rattle.overlay_terms.specs.Histories.{Version, tile_at}
 use Rattle.store_terms.specs.Image.{Held}
@@ -9,6 +9,7 @@ use Rattle.root_store.specs.Beginning.{HasRoom, HasNoRoom}
 use Rattle.root_store.specs.Kept.{Kept}
 use Rattle.root_store.specs.declared.phase.Progress.{Progress}
 use Rattle.root_store.specs.declared.phase.Progress.TheVariants.{Idle, Going, Done}
+use Rattle.flush_core.specs.Imaging.{tiles_in_order, version_held}
 
 -- the number of the version that is stored after a step: only one that answers Done changes it, to the number of its commit
 abbrev pub stored_after : Result Progress StoreFault → ℕ → ℕ
@@ -30,8 +31,12 @@ pub record IsCommitOf (version : Version) (y : Kept) : Type 0 where
 
 -- a store has room for the records of a version among the blocks that are free
 abbrev pub HasRoomFor : {D : Type 0} → Commit D → Version → Type 0
-HasRoomFor commit version = (x : Held) × IsImageOf version x × HasRoom commit.room x
+HasRoomFor commit version = HasRoom commit.room (version_held version)
 
 -- it has none for some record
 abbrev pub HasNoRoomFor : {D : Type 0} → Commit D → Version → Type 0
-HasNoRoomFor commit version = (x : Held) × IsImageOf version x × HasNoRoom commit.room x
+HasNoRoomFor commit version = HasNoRoom commit.room (version_held version)
+
+-- the device calls of the commit of a version: one for each record and the catalog, and six more
+abbrev pub calls_of : Version → ℕ
+calls_of version = length version.layers + length (tiles_in_order version) + 7

@@ -5,7 +5,7 @@ ghost use Rattle.store_terms.specs.Roots.{sequence_max};
 ghost use Rattle.root_store.specs.Beginning.{IsReason};
 ghost use Rattle.root_store.specs.Kept.{Kept};
 ghost use Rattle.root_store.specs.Running.{Stands, Runs, Stepped, Counts, calls_left, is_busy, fault_in};
-ghost use Rattle.flush_core.specs.Stored.{stored_after, IsCommitOf, HasRoomFor, HasNoRoomFor};
+ghost use Rattle.flush_core.specs.Stored.{stored_after, IsCommitOf, HasRoomFor, HasNoRoomFor, calls_of};
 
 use crate::imaging::image_of;
 use disk_model::disk::Disk;
@@ -51,6 +51,8 @@ impl<D: Disk> Flusher<D> {
         ensures begun { (x : Kept) → Stands D.Disk self.old.commit x → OnOk result ((y : Kept) × IsCommitOf version.now y × Runs D.Disk self.new.commit x y) }
         ensures stored { self.new.stored ≡ self.old.stored }
         ensures begins { OnOk result (self.new.commit.phase ≡ Phase.Close) }
+        // So many calls lead to Done.
+        ensures calls { OnOk result (calls_left self.new.commit ≡ calls_of version.now) }
         ensures disk { self.new.commit.disk ≡ self.old.commit.disk }
         ensures err { OnErr result (self.new ≡ self.old) }
         ensures failed { self.old.commit.phase ≡ Phase.Failed → result ≡ Err StoreFault.Failed }

@@ -2,7 +2,7 @@
 ghost use Rattle.std.specs.Prelude.{◌≡◌, ◌++◌, map, IfOk, OnOk};
 ghost use Rattle.overlay_terms.specs.Column.{columns};
 ghost use Rattle.record_form.specs.Image.{finished};
-ghost use Rattle.flush_core.specs.Imaging.{tiles_in, tiles_in_order};
+ghost use Rattle.flush_core.specs.Imaging.{tiles_in, tiles_in_order, version_held};
 ghost use Rattle.flush_core.specs.Stored.{IsImageOf};
 
 use layer_expr::name::Name;
@@ -14,7 +14,9 @@ use version_core::version::Version;
 
 /// What a commit of a version writes: its number, its layers and all its finished tiles.
 pub fn image_of(alloc: Global, version: &Version) -> Result<Image, AllocError>
-    ensures { IfOk result (λ image. IsImageOf version.now image) }
+    ensures value { IfOk result (λ image. image ≡ version_held version.now) }
+    // It answers for each tile as the version does.
+    ensures tiles { IfOk result (λ image. IsImageOf version.now image) }
 {
     let tiles = tiles_in_order(alloc, version)?;
     let layers = version.layers().try_copy(alloc)?;

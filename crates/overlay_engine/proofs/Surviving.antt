@@ -16,18 +16,18 @@ use Rattle.overlay_engine.specs.declared.step.Reply.{Reply}
 use Rattle.overlay_engine.specs.declared.step.Reply.TheVariants.{Accepted, Refused, Taken, NoJob, Kept, Stale, Going, Done, Durable}
 use Rattle.overlay_engine.specs.Start.{Start}
 use Rattle.overlay_engine.specs.Covers.{Covered, Covers, Moves, added, ReportsStored}
-use Rattle.overlay_engine.specs.Steps.{Submits, Takes, Finishes, Reports, Calls}
-use Rattle.overlay_engine.specs.Devices.{Devices}
+use Rattle.overlay_engine.specs.Steps.{Submits, Takes, Finishes, Reports}
+use Rattle.overlay_engine.specs.Devices.{Calls, Devices}
 use Rattle.overlay_engine.specs.Committing.{IsToCommit, Committed}
 use Rattle.overlay_engine.specs.Acts.{Survives, accepted_by}
 use Rattle.overlay_engine.proofs.Covering.{events_cover}
 use Rattle.overlay_engine.proofs.Recovering.{stays_covered}
 
-module _ {D : Type 0} where
-  called_version : (old : Engine D) (reply : Reply) (new : Engine D) → Calls old reply new → new.version ≡ old.version
+module _ {D : Type 0} (g : Ghosts D) where
+  called_version : (old : Engine D) (reply : Reply) (new : Engine D) → Calls g old reply new → new.version ≡ old.version
   called_version old Going new calls = ap (λ (e : Engine D). e.version) calls.2
   called_version old (Done number) new calls = ap (λ (e : Engine D). e.version) calls.2
-  called_version old (Refused code) new calls = ap (λ (e : Engine D). e.version) calls.3
+  called_version old (Refused code) new calls = ap (λ (e : Engine D). e.version) calls.4
   called_version old (Accepted number) new calls = absurd calls
   called_version old (Taken number) new calls = absurd calls
   called_version old NoJob new calls = absurd calls
@@ -35,18 +35,18 @@ module _ {D : Type 0} where
   called_version old Stale new calls = absurd calls
   called_version old (Durable number) new calls = absurd calls
 
-  pub device_version : (old : Engine D) (reply : Reply) (new : Engine D) → Devices old reply new → new.version ≡ old.version
+  pub device_version : (old : Engine D) (reply : Reply) (new : Engine D) → Devices g old reply new → new.version ≡ old.version
   device_version old reply new (inl (busy, calls)) = called_version old reply new calls
   device_version old reply new (inr (inl (idle, mid, begins, calls))) =
       called_version mid reply new calls ∙ ap (λ (e : Engine D). e.version) begins.rest
   device_version old reply new (inr (inr (idle, not_begun))) = ap (λ (e : Engine D). e.version) not_begun.same
 
 module _ {D : Type 0} (g : Ghosts D) (start : Start) (commands : List Command) (old : Engine D) (covers : Covers g start old.flusher old.version commands) where
-  pub moved : (reply : Reply) (new : Engine D) → Devices old reply new → Moves g start old.flusher new.flusher old.version commands
+  pub moved : (reply : Reply) (new : Engine D) → Devices g old reply new → Moves g start old.flusher new.flusher old.version commands
       → ((version : Version) → IsToCommit g old version → Committed g version reply new.flusher) → Survives g start commands Device old reply new
   moved reply new devices moves commits = record {
     covers = subst (Covers g start new.flusher new.version) (sym (append-nil commands))
-        (subst (λ (v : Version). Covers g start new.flusher v commands) (sym (device_version old reply new devices)) moves.covers);
+        (subst (λ (v : Version). Covers g start new.flusher v commands) (sym (device_version g old reply new devices)) moves.covers);
     moments = moves.moments;
     commits = commits;
   }

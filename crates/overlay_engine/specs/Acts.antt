@@ -17,12 +17,12 @@ use Rattle.overlay_engine.specs.Steps.{Submits, Takes, Finishes, Reports}
 use Rattle.overlay_engine.specs.Devices.{Devices}
 
 -- a step is made and answered: what becomes of the engine
-abbrev pub Acts : {D : Type 0} → Step → Engine D → Reply → Engine D → Type 0
-Acts (Submit change) old reply new = Submits (command change) old reply new
-Acts (Take name column) old reply new = Takes name column old reply new
-Acts (Finish number) old reply new = Finishes number old reply new
-Acts Device old reply new = Devices old reply new
-Acts Report old reply new = Reports old reply new
+abbrev pub Acts : {D : Type 0} → Ghosts D → Step → Engine D → Reply → Engine D → Type 0
+Acts g (Submit change) old reply new = Submits (command change) old reply new
+Acts g (Take name column) old reply new = Takes name column old reply new
+Acts g (Finish number) old reply new = Finishes number old reply new
+Acts g Device old reply new = Devices g old reply new
+Acts g Report old reply new = Reports old reply new
 
 -- the command that a step added, where it was accepted
 abbrev pub accepted_by : Step → Reply → List Command

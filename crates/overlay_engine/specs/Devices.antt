@@ -1,23 +1,26 @@
 -- The device step of an engine.
 use Rattle.std.specs.Prelude.{◌≡◌, ◌⊎◌, ◌≤◌, true, false}
+use Rattle.disk_model.specs.declared.disk.Disk.{Ghosts}
+use Rattle.disk_model.specs.Disk as disks
 use Rattle.store_terms.specs.Roots.{sequence_max}
 use Rattle.root_store.specs.declared.fault.StoreFault.{StoreFault}
 use Rattle.root_store.specs.declared.fault.StoreFault.TheVariants as fault
 use Rattle.root_store.specs.declared.phase.Phase.TheVariants.{Idle, Close, Failed}
+use Rattle.root_store.specs.declared.phase.Progress.TheVariants as progress
 use Rattle.root_store.specs.Beginning.{IsReason}
-use Rattle.flush_core.specs.Stored.{HasRoomFor, HasNoRoomFor}
+use Rattle.flush_core.specs.Stored.{HasRoomFor, HasNoRoomFor, calls_of}
 use Rattle.root_store.specs.Fault.{code_of}
-use Rattle.root_store.specs.Running.{is_busy}
+use Rattle.root_store.specs.Running.{Counts, calls_left, is_busy}
 use Rattle.overlay_engine.specs.declared.engine.Engine.{Engine}
 use Rattle.overlay_engine.specs.declared.step.Reply.{Reply}
-use Rattle.overlay_engine.specs.declared.step.Reply.TheVariants.{Refused}
-use Rattle.overlay_engine.specs.Steps.{Calls}
+use Rattle.overlay_engine.specs.declared.step.Reply.TheVariants.{Refused, Going, Done}
 
 module _ {D : Type 0} where
-  -- a commit of the newest version begins, as there is room for it: nothing changes but that it is under way
+  -- a commit of the newest version begins, as there is room for it: nothing changes but that it is under way, with so many calls left
   pub record Begins (old mid : Engine D) : Type 0 where
     pub began : mid.flusher.commit.phase ≡ Close
     pub room : HasRoomFor old.flusher.commit old.version
+    pub calls : calls_left mid.flusher.commit ≡ calls_of old.version
     pub stored : mid.flusher.stored ≡ old.flusher.stored
     pub disk : mid.flusher.commit.disk ≡ old.flusher.commit.disk
     pub rest : mid ≡ record old { flusher = mid.flusher }
@@ -30,6 +33,22 @@ module _ {D : Type 0} where
     pub limit : old.flusher.commit.phase ≡ Idle → sequence_max ≤ old.flusher.commit.root.sequence → why ≡ fault.SequenceLimit
     pub told : reply ≡ Refused (code_of why)
     pub same : new ≡ old
+
+module _ {D : Type 0} (g : Ghosts D) where
+  -- the device failed from one engine to the next
+  abbrev pub DeviceFailed : Engine D → Engine D → Type 0
+  DeviceFailed old new =
+      g.is_honest old.flusher.commit.disk → disks.Failed (g.faults old.flusher.commit.disk) (g.faults new.flusher.commit.disk)
+
+  -- one device call of the commit under way: a call fewer is left; or it was the last, and the commit's version is stored; or the device failed in it, and no commit is under way any more
+  abbrev pub Calls : Engine D → Reply → Engine D → Type 0
+  Calls old Going new =
+      Counts progress.Going (calls_left old.flusher.commit) (calls_left new.flusher.commit) × (new.flusher.stored ≡ old.flusher.stored) × (new ≡ record old { flusher = new.flusher })
+  Calls old (Done number) new =
+      Counts (progress.Done number) (calls_left old.flusher.commit) (calls_left new.flusher.commit) × (new.flusher.stored ≡ number) × (new ≡ record old { flusher = new.flusher })
+  Calls old (Refused code) new =
+      (code ≡ 30) × DeviceFailed old new × (new.flusher.commit.phase ≡ Failed) × (new.flusher.stored ≡ old.flusher.stored) × (new ≡ record old { flusher = new.flusher })
+  Calls old reply new = ⊥
 
   -- where a commit is under way, one call of it; else the first call of the commit of the newest version, or a refusal of that
   abbrev pub Devices : Engine D → Reply → Engine D → Type 0

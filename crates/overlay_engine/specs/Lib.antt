@@ -1,8 +1,10 @@
 pub mod Acts
 pub mod Committing
+pub mod Counting
 pub mod Covers
 pub mod Devices
 pub mod Laws
+pub mod Lives
 pub mod Recovery
 pub mod Runs
 pub mod Start

@@ -16,11 +16,15 @@ pub record Made (D : Type 0) : Type 0 where
   pub reply : Reply
   pub new : Engine D
 
-module _ {D : Type 0} where
+-- the commands that were accepted in a run
+abbrev pub accepted_in : {D : Type 0} → List (Made D) → List Command
+accepted_in {D = D} run = flat_map (λ (made : Made D). accepted_by made.step made.reply) run
+
+module _ {D : Type 0} (g : Ghosts D) where
   -- each step is made of the engine that the one before it left
   abbrev pub Leads : Engine D → List (Made D) → Engine D → Type 0
   Leads old [] new = new ≡ old
-  Leads old (made ∷ run) new = (made.old ≡ old) × Acts made.step made.old made.reply made.new × Leads made.new run new
+  Leads old (made ∷ run) new = (made.old ≡ old) × Acts g made.step made.old made.reply made.new × Leads made.new run new
 
   -- a run of these steps, with these answers
   pub record IsRun (steps : List Step) (old : Engine D) (replies : List Reply) (new : Engine D) (run : List (Made D)) : Type 0 where
@@ -28,25 +32,21 @@ module _ {D : Type 0} where
     pub answered : map (λ (made : Made D). made.reply) run ≡ replies
     pub leads : Leads old run new
 
-  -- the commands that were accepted in a run
-  abbrev pub accepted_in : List (Made D) → List Command
-  accepted_in run = flat_map (λ (made : Made D). accepted_by made.step made.reply) run
-
   -- a crash within any step of a run leaves a version of the commands that were accepted before the step, no older than what was durable as the step began
-  abbrev pub EachSurvives : Ghosts D → Start → List Command → List (Made D) → Type 0
-  EachSurvives g start commands [] = Unit {0}
-  EachSurvives g start commands (made ∷ run) =
-      Survives g start commands made.step made.old made.reply made.new × EachSurvives g start (commands ++ accepted_by made.step made.reply) run
+  abbrev pub EachSurvives : Start → List Command → List (Made D) → Type 0
+  EachSurvives start commands [] = Unit {0}
+  EachSurvives start commands (made ∷ run) =
+      Survives g start commands made.step made.old made.reply made.new × EachSurvives start (commands ++ accepted_by made.step made.reply) run
 
   -- steps are made one after the other, by a run that a crash within any of its steps survives; in the end the store covers the commands, with those that were accepted
-  pub record Drives (g : Ghosts D) (steps : List Step) (old : Engine D) (replies : List Reply) (new : Engine D) : Type 0 where
+  pub record Drives (steps : List Step) (old : Engine D) (replies : List Reply) (new : Engine D) : Type 0 where
     pub run : List (Made D)
     pub is : IsRun steps old replies new run
     pub survives : (start : Start) (commands : List Command) → Covers g start old.flusher old.version commands
-        → EachSurvives g start commands run × Covers g start new.flusher new.version (commands ++ accepted_in run)
+        → EachSurvives start commands run × Covers g start new.flusher new.version (commands ++ accepted_in run)
 
   -- a machine crashes within a step of a run: a disk may leave only what a crash at some moment of that step may have left
-  pub record CrashesIn (g : Ghosts D) (run : List (Made D)) (disk : D) : Type 0 where
+  pub record CrashesIn (run : List (Made D)) (disk : D) : Type 0 where
     pub before : List (Made D)
     pub made : Made D
     pub after : List (Made D)

@@ -13,13 +13,10 @@ use Rattle.layer_book.specs.TileRefusal.{tile_refusal}
 use Rattle.version_core.specs.Finish.{IsAwaited}
 use Rattle.version_core.specs.declared.finishing.Finish.{Finish}
 use Rattle.version_core.specs.declared.finishing.Finish.TheVariants as finish
-use Rattle.root_store.specs.declared.phase.Phase.TheVariants.{Failed}
-use Rattle.root_store.specs.declared.phase.Progress.TheVariants as progress
-use Rattle.root_store.specs.Running.{Counts, calls_left}
 use Rattle.overlay_engine.specs.declared.engine.Engine.{Engine}
 use Rattle.overlay_engine.specs.declared.engine.Job.{Job}
 use Rattle.overlay_engine.specs.declared.step.Reply.{Reply}
-use Rattle.overlay_engine.specs.declared.step.Reply.TheVariants.{Accepted, Refused, Taken, NoJob, Kept, Stale, Going, Done, Durable}
+use Rattle.overlay_engine.specs.declared.step.Reply.TheVariants.{Accepted, Refused, Taken, NoJob, Kept, Stale, Done, Durable}
 
 -- the number of a refusal: that of the first reason; where there is none, that of want of memory
 abbrev pub RefusedAs : Option LayerFault → ℕ → Type 0
@@ -106,13 +103,3 @@ module _ {D : Type 0} where
       IsReported old.version old.flusher.stored new.version × (number ≡ new.version.durable) × (new ≡ record old { version = new.version })
   Reports old (Refused code) new = (code ≡ 40) × (new ≡ old)
   Reports old reply new = ⊥
-
-  -- one device call of the commit under way: a call fewer is left; or it was the last, and the commit's version is stored; or the device failed, and no commit is under way any more
-  abbrev pub Calls : Engine D → Reply → Engine D → Type 0
-  Calls old Going new =
-      Counts progress.Going (calls_left old.flusher.commit) (calls_left new.flusher.commit) × (new.flusher.stored ≡ old.flusher.stored) × (new ≡ record old { flusher = new.flusher })
-  Calls old (Done number) new =
-      Counts (progress.Done number) (calls_left old.flusher.commit) (calls_left new.flusher.commit) × (new.flusher.stored ≡ number) × (new ≡ record old { flusher = new.flusher })
-  Calls old (Refused code) new =
-      (code ≡ 30) × (new.flusher.commit.phase ≡ Failed) × (new.flusher.stored ≡ old.flusher.stored) × (new ≡ record old { flusher = new.flusher })
-  Calls old reply new = ⊥

@@ -4,7 +4,7 @@ ghost use Rattle.overlay_terms.specs.Commands.{Command};
 ghost use Rattle.overlay_terms.specs.KeptLaws.{IsExact};
 ghost use Rattle.overlay_engine.specs.Start.{Start};
 ghost use Rattle.overlay_engine.specs.Covers.{Covers};
-ghost use Rattle.overlay_engine.specs.Acts.{Acts, Survives, accepted_by};
+ghost use Rattle.overlay_engine.specs.Acts.{Acts, Survives};
 
 use crate::engine::Engine;
 use crate::step::{Reply, Step};
@@ -14,7 +14,7 @@ use std::alloc::Global;
 impl<D: Disk> Engine<D> {
     /// Makes one step, and answers it.
     pub fn act(&mut self, alloc: Global, step: &Step) -> Reply
-        ensures acts { Acts step.now self.old result self.new }
+        ensures acts { Acts D.Disk step.now self.old result self.new }
         // Right tiles stay right, whatever the disk does.
         ensures exact { IsExact self.old.version → IsExact self.new.version }
         // The store goes on covering the commands, with the one that the step accepted, and a crash at any moment of

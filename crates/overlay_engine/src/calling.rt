@@ -7,7 +7,8 @@ ghost use Rattle.root_store.specs.Running.{is_busy};
 ghost use Rattle.overlay_engine.specs.Start.{Start};
 ghost use Rattle.overlay_engine.specs.Covers.{Covers, CoveredExactly, Moves};
 ghost use Rattle.overlay_engine.specs.Committing.{Commits, Committed};
-ghost use Rattle.overlay_engine.specs.Steps.{Calls, IfDone};
+ghost use Rattle.overlay_engine.specs.Steps.{IfDone};
+ghost use Rattle.overlay_engine.specs.Devices.{Calls};
 
 use crate::engine::Engine;
 use crate::step::Reply;
@@ -18,7 +19,7 @@ impl<D: Disk> Engine<D> {
     /// Makes one device call of the commit that is under way.
     pub(crate) fn call(&mut self) -> Reply
         requires { is_busy self.old.flusher.commit.phase ≡ true }
-        ensures calls { Calls self.old result self.new }
+        ensures calls { Calls D.Disk self.old result self.new }
         // A crash at any moment of the call leaves what is no older than what was durable as it began.
         ensures moves { (start : Start) (commands : List Command) → Covers D.Disk start self.old.flusher self.old.version commands
             → Moves D.Disk start self.old.flusher self.new.flusher self.old.version commands }

@@ -1,5 +1,5 @@
 //! The device step.
-ghost use Rattle.std.specs.Prelude.{◌≡◌, List};
+ghost use Rattle.std.specs.Prelude.{List};
 ghost use Rattle.disk_model.specs.Moments.{Leaves};
 ghost use Rattle.overlay_terms.specs.Commands.{Command};
 ghost use Rattle.overlay_terms.specs.Histories.{Version};
@@ -18,7 +18,7 @@ impl<D: Disk> Engine<D> {
     /// Makes one device call. Where no commit is under way, that of the newest version begins with it; where it can't
     /// begin, no call is made.
     pub(crate) fn device(&mut self, alloc: Global) -> Reply
-        ensures device { Devices self.old result self.new }
+        ensures device { Devices D.Disk self.old result self.new }
         // A crash at any moment of the step leaves what is no older than what was durable as it began.
         ensures moves { (start : Start) (commands : List Command) → Covers D.Disk start self.old.flusher self.old.version commands
             → Moves D.Disk start self.old.flusher self.new.flusher self.old.version commands }

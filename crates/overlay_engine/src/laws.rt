@@ -1,6 +1,9 @@
 //! Laws over the definitions: each function does nothing, and its contract is the law.
+ghost use Rattle.overlay_engine.specs.Counting.{CommitCounts, DeviceRefusals};
 ghost use Rattle.overlay_engine.specs.Laws.{BegunCovers, CoveredStays, EventsCover, OpenedRecovers, OpeningIsCovered};
+ghost use Rattle.overlay_engine.specs.Lives.{NothingIsLost};
 ghost use Rattle.overlay_engine.specs.Recovery.{RecoveredAnswers};
+ghost use Rattle.overlay_engine.specs.Start.{Start};
 
 use disk_model::disk::Disk;
 
@@ -32,4 +35,20 @@ pub fn begun_covers<D: Disk>()
 /// Of a recovered version `Version::locate` tells where a point lies for the layers after the commands: no premise is left.
 pub fn recovered_answers<D: Disk>()
     ensures { RecoveredAnswers D.Disk }
+{}
+
+/// A refusal by 30 is that of a device step in which the device failed.
+pub fn device_refusals<D: Disk>()
+    ensures { DeviceRefusals D.Disk }
+{}
+
+/// From the step that begins it to the one that ends it a commit makes one device call for each record and the catalog,
+/// and six more.
+pub fn commit_counts<D: Disk>()
+    ensures { CommitCounts D.Disk }
+{}
+
+/// Through any steps, crashes and recoveries nothing is lost that was durable at some moment.
+pub fn nothing_is_lost<D: Disk>()
+    ensures { (start : Start) → NothingIsLost D.Disk start }
 {}

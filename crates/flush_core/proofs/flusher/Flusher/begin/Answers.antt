@@ -1,12 +1,10 @@
-use Rattle.std.proofs.Common.{Result, Ok, Err, OnOk}
-use Rattle.root_store.specs.Beginning.{HasRoom, HasNoRoom}
-use Rattle.root_store.proofs.Reasons.{refused_so, reason_of}
-use Rattle.flush_core.specs.Stored.{HasRoomFor, HasNoRoomFor}
+use Rattle.std.proofs.Common.{◌≡◌, ◌+◌, length, OnOk, IfErr, subst}
+use Rattle.store_terms.specs.Image.{Held}
+use Rattle.root_store.specs.Beginning.{HasRoom, HasNoRoom, IsReason}
+use Rattle.root_store.specs.Running.{calls_left}
+use Rattle.root_store.proofs.Reasons.{refused_so}
+use Rattle.flush_core.specs.Stored.{HasNoRoomFor}
 use Rattle.flush_core.proofs.flusher.Flusher.begin.Goals as goal
-
-room_of : {T E : Type 0} (r : Result T E) (A B : Type 0) → (A → B) → OnOk r A → OnOk r B
-room_of (Ok x) A B more is = more is
-room_of (Err e) A B more is = tt
 
 pub returns-in-Some-clause-errors : goal.returns-in-Some-clause-errors
 returns-in-Some-clause-errors g c =
@@ -16,11 +14,13 @@ returns-in-Some-clause-errors g c =
 pub returns-clause-room : goal.returns-clause-room
 returns-clause-room g c =
     let s = c.args.self.now.commit in
-    let image = c.in_ok-image.image in
-    room_of c.begin.result (HasRoom s.room image) (HasRoomFor s c.args.version.now) (λ room. (image, c.in_ok-image.ensures, room)) c.begin.ensures.room
+    subst (λ (x : Held). OnOk c.begin.result (HasRoom s.room x)) c.in_ok-image.ensures.value c.begin.ensures.room
 
 pub returns-clause-errors : goal.returns-clause-errors
 returns-clause-errors g c =
     let s = c.args.self.now.commit in
-    let image = c.in_ok-image.image in
-    reason_of c.begin.result s.phase s.root (HasNoRoom s.room image) (HasNoRoomFor s c.args.version.now) (λ none. (image, c.in_ok-image.ensures, none)) c.begin.ensures.errors
+    subst (λ (x : Held). IfErr c.begin.result (λ fault. IsReason s.phase s.root (HasNoRoom s.room x) fault)) c.in_ok-image.ensures.value c.begin.ensures.errors
+
+pub returns-clause-calls : goal.returns-clause-calls
+returns-clause-calls g c =
+    subst (λ (x : Held). OnOk c.begin.result (calls_left c.begin.new.self ≡ length x.layers + length x.tiles + 7)) c.in_ok-image.ensures.value c.begin.ensures.calls

@@ -2,7 +2,7 @@ use Rattle.std.proofs.Common.{sym, subst}
 use Rattle.overlay_engine.specs.declared.step.Step.{Step}
 use Rattle.overlay_engine.specs.declared.step.Step.TheVariants.{Submit, Take, Finish, Device, Report}
 use Rattle.overlay_engine.specs.Acts.{Survives}
-use Rattle.overlay_engine.proofs.KeptExact.{acts_exact}
+use Rattle.overlay_engine.proofs.Following.{acts_exact}
 use Rattle.overlay_engine.proofs.Surviving.{moved, submitted, taken, finished, reported}
 use Rattle.overlay_engine.proofs.engine.Engine.act.Goals as goal
 
@@ -42,16 +42,16 @@ returns-in-Report-clause-survives g c start commands covers =
     c.report.result c.report.new.self c.report.ensures)
 
 pub returns-in-Submit-clause-exact : goal.returns-in-Submit-clause-exact
-returns-in-Submit-clause-exact g c exact = acts_exact (Submit c.in-Submit.change) c.args.self.now c.submit.result c.submit.new.self c.submit.ensures exact
+returns-in-Submit-clause-exact g c exact = acts_exact g.D.Disk (Submit c.in-Submit.change) c.args.self.now c.submit.result c.submit.new.self c.submit.ensures exact
 
 pub returns-in-Take-clause-exact : goal.returns-in-Take-clause-exact
-returns-in-Take-clause-exact g c exact = acts_exact (Take c.in-Take.name c.in-Take.column) c.args.self.now c.take.result c.take.new.self c.take.ensures exact
+returns-in-Take-clause-exact g c exact = acts_exact g.D.Disk (Take c.in-Take.name c.in-Take.column) c.args.self.now c.take.result c.take.new.self c.take.ensures exact
 
 pub returns-in-Finish-clause-exact : goal.returns-in-Finish-clause-exact
-returns-in-Finish-clause-exact g c exact = acts_exact (Finish c.in-Finish.number) c.args.self.now c.finish.result c.finish.new.self c.finish.ensures exact
+returns-in-Finish-clause-exact g c exact = acts_exact g.D.Disk (Finish c.in-Finish.number) c.args.self.now c.finish.result c.finish.new.self c.finish.ensures exact
 
 pub returns-in-Device-clause-exact : goal.returns-in-Device-clause-exact
-returns-in-Device-clause-exact g c exact = acts_exact Device c.args.self.now c.device.result c.device.new.self c.device.ensures.device exact
+returns-in-Device-clause-exact g c exact = acts_exact g.D.Disk Device c.args.self.now c.device.result c.device.new.self c.device.ensures.device exact
 
 pub returns-in-Report-clause-exact : goal.returns-in-Report-clause-exact
-returns-in-Report-clause-exact g c exact = acts_exact Report c.args.self.now c.report.result c.report.new.self c.report.ensures exact
+returns-in-Report-clause-exact g c exact = acts_exact g.D.Disk Report c.args.self.now c.report.result c.report.new.self c.report.ensures exact

@@ -9,7 +9,7 @@ returns-in-Ok-clause-device g c =
     inr (inl (
       sym c.busy.ensures ∙ c.if-busy.false,
       record e { flusher = c.begin.new.self },
-      record { began = c.in-Ok.ensures.begins; room = c.in-Ok.ensures.room; stored = c.begin.ensures.stored; disk = c.begin.ensures.disk; rest = refl },
+      record { began = c.in-Ok.ensures.begins; room = c.in-Ok.ensures.room; calls = c.in-Ok.ensures.calls; stored = c.begin.ensures.stored; disk = c.begin.ensures.disk; rest = refl },
       c.call-in-Ok.ensures.calls,
     ))
 

@@ -1,0 +1,166 @@
+-- The device calls of a commit are counted, and a refusal by 30 is the device's.
+use Rattle.std.proofs.Common.{◌≡◌, inl, inr, ℕ, ◌+◌, ◌<◌, true, false, List, [], ◌∷◌, ◌++◌, length, Option, Some, None, refl, sym, ◌∙◌, ap, subst, arith}
+use Rattle.std.proofs.lemmas.Bool.{false≢true}
+use Rattle.std.specs.List.{AllByRecursion}
+use Rattle.disk_model.specs.declared.disk.Disk.{Ghosts}
+use Rattle.disk_model.specs.Disk as disks
+use Rattle.layer_book.specs.declared.fault.LayerFault.{LayerFault}
+use Rattle.layer_book.specs.declared.fault.LayerFault.TheVariants as layer
+use Rattle.layer_book.specs.Fault as layer_faults
+use Rattle.root_store.specs.declared.fault.StoreFault.{StoreFault}
+use Rattle.root_store.specs.declared.fault.StoreFault.TheVariants as store
+use Rattle.root_store.specs.Fault as store_faults
+use Rattle.root_store.specs.declared.phase.Phase.{Phase}
+use Rattle.root_store.specs.declared.phase.Phase.TheVariants as phase
+use Rattle.root_store.specs.declared.phase.Progress.TheVariants as progress
+use Rattle.root_store.specs.declared.commit.Commit.{Commit}
+use Rattle.root_store.specs.Beginning.{IsReason}
+use Rattle.root_store.specs.Running.{Counts, calls_in, calls_left, is_busy}
+use Rattle.flush_core.specs.declared.flusher.Flusher.{Flusher}
+use Rattle.flush_core.specs.Stored.{calls_of}
+use Rattle.overlay_engine.specs.declared.engine.Engine.{Engine}
+use Rattle.overlay_engine.specs.declared.step.Step.{Step}
+use Rattle.overlay_engine.specs.declared.step.Step.TheVariants.{Submit, Take, Finish, Device, Report}
+use Rattle.overlay_engine.specs.declared.step.Reply.{Reply}
+use Rattle.overlay_engine.specs.declared.step.Reply.TheVariants.{Refused, Going, Done}
+use Rattle.overlay_engine.specs.Steps.{RefusedAs}
+use Rattle.overlay_engine.specs.Devices.{DeviceFailed, Devices}
+use Rattle.overlay_engine.specs.Acts.{Acts}
+use Rattle.overlay_engine.specs.Runs.{Made, Leads}
+use Rattle.overlay_engine.specs.Counting.{calls_asked, calls_asked_in, DeviceRefusals, CommitCounts}
+use Rattle.overlay_engine.proofs.Following.{makes}
+
+-- ---- a refusal by 30
+
+no_layer_fault : (fault : LayerFault) → 30 ≡ layer_faults.code_of fault → ⊥
+no_layer_fault layer.UnknownLayer is = omega (arith, is)
+no_layer_fault layer.NotBase is = omega (arith, is)
+no_layer_fault layer.NotDerived is = omega (arith, is)
+no_layer_fault layer.LaterLayer is = omega (arith, is)
+no_layer_fault layer.InUse is = omega (arith, is)
+no_layer_fault layer.TooManyLayers is = omega (arith, is)
+no_layer_fault layer.VersionLimit is = omega (arith, is)
+no_layer_fault layer.BadColumn is = omega (arith, is)
+no_layer_fault layer.OutOfMemory is = omega (arith, is)
+
+no_refusal : (reason : Option LayerFault) → RefusedAs reason 30 → ⊥
+no_refusal (Some fault) is = no_layer_fault fault is
+no_refusal None is = omega (arith, is)
+
+-- no commit is kept from beginning by the device
+no_reason : {D : Type 0} (s : Commit D) (no_room : Type 0) (why : StoreFault) → IsReason s.phase s.root no_room why → 30 ≡ store_faults.code_of why → ⊥
+no_reason s no_room store.Device reason is = reason
+no_reason s no_room store.Full reason is = omega (arith, is)
+no_reason s no_room (store.Damaged damage) reason is = reason
+no_reason s no_room store.NotEmpty reason is = reason
+no_reason s no_room store.Failed reason is = omega (arith, is)
+no_reason s no_room store.SequenceLimit reason is = omega (arith, is)
+no_reason s no_room store.OutOfMemory reason is = omega (arith, is)
+
+module _ {D : Type 0} (g : Ghosts D) where
+  device_failed : (old new : Engine D) → Devices g old (Refused 30) new → DeviceFailed g old new
+  device_failed old new (inl (busy, calls)) = calls.1
+  device_failed old new (inr (inl (idle, mid, begins, calls))) =
+      subst (λ (d : D). g.is_honest d → disks.Failed (g.faults d) (g.faults new.flusher.commit.disk)) begins.disk calls.1
+  device_failed old new (inr (inr (idle, not_begun))) =
+      let is : 30 ≡ store_faults.code_of not_begun.why = cc (not_begun.told) in
+      absurd (no_reason old.flusher.commit _ not_begun.why not_begun.reason is)
+
+  pub device_refusals : DeviceRefusals g
+  device_refusals (Submit change) old new acts = absurd (no_refusal _ acts.0)
+  device_refusals (Take name column) old new acts = absurd (no_refusal _ acts.0)
+  device_refusals (Finish number) old new acts = absurd (omega (arith, acts.1))
+  device_refusals Device old new acts = (refl, device_failed old new acts)
+  device_refusals Report old new acts = absurd (omega (arith, acts.0))
+
+  -- ---- the calls of a commit
+
+  none_left : (p : Phase) (n i : ℕ) → is_busy p ≡ false → calls_in p n i ≡ 0
+  none_left phase.Idle n i idle = refl
+  none_left phase.Close n i idle = absurd (false≢true (sym idle))
+  none_left phase.Settle n i idle = absurd (false≢true (sym idle))
+  none_left phase.Put n i idle = absurd (false≢true (sym idle))
+  none_left phase.Open n i idle = absurd (false≢true (sym idle))
+  none_left phase.Finish n i idle = absurd (false≢true (sym idle))
+  none_left phase.Failed n i idle = refl
+
+  abbrev left_by : Engine D → ℕ
+  left_by e = calls_left e.flusher.commit
+
+  -- where calls are left, a commit is under way
+  at_rest : (e : Engine D) → is_busy e.flusher.commit.phase ≡ false → 0 < left_by e → ⊥
+  at_rest e idle left =
+      let s = e.flusher.commit in
+      omega (arith, left, none_left s.phase (length s.plan.items) s.next idle)
+
+  as_device : (old new : Engine D) (reply : Reply) (step : Step) (told : Reply) → step ≡ Device → told ≡ reply → Acts g step old told new → Devices g old reply new
+  as_device old new reply step told is same acts = subst (λ (r : Reply). Devices g old r new) same (subst (λ (s : Step). Acts g s old told new) is acts)
+
+  -- a step of another kind leaves as many calls
+  other : (step : Step) (old new : Engine D) → calls_asked step ≡ 0 → 0 < left_by old → new.flusher ≡ old.flusher → (left_by old ≡ left_by new + calls_asked step) × (0 < left_by new)
+  other step old new none left same =
+      let level = ap (λ (f : Flusher D). calls_left f.commit) same in
+      (omega (arith, level, none), omega (arith, level, left))
+
+  device_going : (old new : Engine D) → 0 < left_by old → Devices g old Going new → Counts progress.Going (left_by old) (left_by new)
+  device_going old new left (inl (busy, calls)) = calls.0
+  device_going old new left (inr (inl (idle, mid, begins, calls))) = absurd (at_rest old idle left)
+  device_going old new left (inr (inr (idle, not_begun))) = absurd (at_rest old idle left)
+
+  device_done : (old new : Engine D) (number : ℕ) → 0 < left_by old → Devices g old (Done number) new → left_by old ≡ 1
+  device_done old new number left (inl (busy, calls)) = calls.0.0
+  device_done old new number left (inr (inl (idle, mid, begins, calls))) = absurd (at_rest old idle left)
+  device_done old new number left (inr (inr (idle, not_begun))) = absurd (at_rest old idle left)
+
+  -- the step that begins a commit makes the first of its calls
+  device_begins : (old new : Engine D) → is_busy old.flusher.commit.phase ≡ false → Devices g old Going new
+      → (calls_of old.version ≡ left_by new + 1) × (0 < left_by new)
+  device_begins old new idle (inl (busy, calls)) = absurd (false≢true (sym idle ∙ busy))
+  device_begins old new idle (inr (inl (rests, mid, begins, calls))) = (sym begins.calls ∙ calls.0.0, calls.0.1)
+  device_begins old new idle (inr (inr (rests, not_begun))) = absurd (cc (not_begun.told))
+
+  -- a step of a commit that goes on leaves so many calls fewer as it asked for
+  one_more : (step : Step) (old : Engine D) (reply : Reply) (new : Engine D) → (step ≡ Device → reply ≡ Going) → 0 < left_by old → Acts g step old reply new
+      → (left_by old ≡ left_by new + calls_asked step) × (0 < left_by new)
+  one_more Device old reply new goes_on left acts =
+      device_going old new left (subst (λ (r : Reply). Devices g old r new) (goes_on refl) acts)
+  one_more (Submit change) old reply new goes_on left acts = other (Submit change) old new refl left ((makes g (Submit change) old reply new acts).1 refl)
+  one_more (Take name column) old reply new goes_on left acts = other (Take name column) old new refl left ((makes g (Take name column) old reply new acts).1 refl)
+  one_more (Finish number) old reply new goes_on left acts = other (Finish number) old new refl left ((makes g (Finish number) old reply new acts).1 refl)
+  one_more Report old reply new goes_on left acts = other Report old new refl left ((makes g Report old reply new acts).1 refl)
+
+  going_on : (run : List (Made D)) (old new : Engine D) → Leads g old run new → AllByRecursion (λ (made : Made D). made.step ≡ Device → made.reply ≡ Going) run
+      → 0 < left_by old → (left_by old ≡ left_by new + calls_asked_in run) × (0 < left_by new)
+  going_on [] old new same all left =
+      let level = ap left_by same in
+      (omega (arith, level), omega (arith, level, left))
+  going_on (made ∷ run) old new (joins, acts, leads) (goes_on, all) left =
+      let level = ap left_by joins in
+      let one = one_more made.step made.old made.reply made.new goes_on (omega (arith, level, left)) acts in
+      let more = going_on run made.new new leads all one.1 in
+      (omega (arith, level, one.0, more.0), more.1)
+
+  -- a run in two parts
+  leads_between : (run : List (Made D)) (last : Made D) (old new : Engine D) → Leads g old (run ++ last ∷ []) new → Leads g old run last.old × Acts g last.step last.old last.reply last.new
+  leads_between [] last old new (joins, acts, ends) = (joins, acts)
+  leads_between (made ∷ run) last old new (joins, acts, leads) =
+      let rest = leads_between run last made.new new leads in
+      ((joins, acts, rest.0), rest.1)
+
+  asked_push : (run : List (Made D)) (last : Made D) → calls_asked_in (run ++ last ∷ []) ≡ calls_asked_in run + calls_asked last.step
+  asked_push [] last = omega arith
+  asked_push (made ∷ run) last = omega (arith, asked_push run last)
+
+  pub commit_counts : CommitCounts g
+  commit_counts old run new whole =
+      let first = whole.first in
+      let last = whole.last in
+      let joins = whole.leads.0 in
+      let begun = device_begins first.old first.new (subst (λ (e : Engine D). is_busy e.flusher.commit.phase ≡ false) (sym joins) whole.idle)
+      (as_device first.old first.new Going first.step first.reply whole.begins.0 whole.begins.1 whole.leads.1) in
+      let parts = leads_between whole.between last first.new new whole.leads.2 in
+      let on = going_on whole.between first.new last.old parts.0 whole.goes_on begun.1 in
+      let done = device_done last.old last.new whole.number on.1
+      (as_device last.old last.new (Done whole.number) last.step last.reply whole.ends.0 whole.ends.1 parts.1) in
+      ap calls_asked_in whole.parts ∙ omega (arith, asked_push whole.between last, ap calls_asked whole.begins.0, ap calls_asked whole.ends.0, begun.0, on.0, done)
+      ∙ ap (λ (e : Engine D). calls_of e.version) joins

@@ -1,0 +1,48 @@
+-- What the answers to device steps tell: how many calls a commit makes, and whether the device failed.
+use Rattle.std.specs.Prelude.{◌≡◌, ℕ, ◌+◌, false, List, [], ◌∷◌, ◌++◌}
+use Rattle.std.specs.List.{AllByRecursion}
+use Rattle.disk_model.specs.declared.disk.Disk.{Ghosts}
+use Rattle.root_store.specs.Running.{is_busy}
+use Rattle.flush_core.specs.Stored.{calls_of}
+use Rattle.overlay_engine.specs.declared.engine.Engine.{Engine}
+use Rattle.overlay_engine.specs.declared.step.Step.{Step}
+use Rattle.overlay_engine.specs.declared.step.Step.TheVariants.{Submit, Take, Finish, Device, Report}
+use Rattle.overlay_engine.specs.declared.step.Reply.TheVariants.{Refused, Going, Done}
+use Rattle.overlay_engine.specs.Acts.{Acts}
+use Rattle.overlay_engine.specs.Devices.{DeviceFailed}
+use Rattle.overlay_engine.specs.Runs.{Made, Leads}
+
+-- how many device calls are asked for by a step
+abbrev pub calls_asked : Step → ℕ
+calls_asked (Submit change) = 0
+calls_asked (Take name column) = 0
+calls_asked (Finish number) = 0
+calls_asked Device = 1
+calls_asked Report = 0
+
+-- how many by the steps of a run
+abbrev pub calls_asked_in : {D : Type 0} → List (Made D) → ℕ
+calls_asked_in [] = 0
+calls_asked_in (made ∷ run) = calls_asked made.step + calls_asked_in run
+
+module _ {D : Type 0} (g : Ghosts D) where
+  -- a refusal by 30 is that of a device step in which the device failed
+  abbrev pub DeviceRefusals : Type 0
+  DeviceRefusals = (step : Step) (old new : Engine D) → Acts g step old (Refused 30) new → (step ≡ Device) × DeviceFailed g old new
+
+  -- a commit from its begin to its end: the first step begins it, each device step among the others goes on with it, and the last one ends it
+  pub record IsWholeCommit (old : Engine D) (run : List (Made D)) (new : Engine D) : Type 0 where
+    pub first : Made D
+    pub between : List (Made D)
+    pub last : Made D
+    pub number : ℕ
+    pub parts : run ≡ first ∷ between ++ last ∷ []
+    pub leads : Leads g old (first ∷ between ++ last ∷ []) new
+    pub idle : is_busy old.flusher.commit.phase ≡ false
+    pub begins : (first.step ≡ Device) × (first.reply ≡ Going)
+    pub goes_on : AllByRecursion (λ (made : Made D). made.step ≡ Device → made.reply ≡ Going) between
+    pub ends : (last.step ≡ Device) × (last.reply ≡ Done number)
+
+  -- it makes as many calls as are told of the version that it began with
+  abbrev pub CommitCounts : Type 0
+  CommitCounts = (old : Engine D) (run : List (Made D)) (new : Engine D) → IsWholeCommit old run new → calls_asked_in run ≡ calls_of old.version
