@@ -21,11 +21,14 @@ BLOCK = 4096
 
 SOURCE = r"""//! Works on the bytes of a record or a file so many times, for bench/store.py.
 #![tactic(auto)]
+ghost use Rattle.std.specs.Prelude.{IsTrue};
+ghost use Rattle.overlay_terms.specs.Histories.{is_formed};
+ghost use Rattle.tile_build.specs.Tile.{tile_of};
 
 use disk_model::mem_disk::{Call, MemDisk};
 use record_form::base_record::{read_base, write_base};
 use record_form::image::Image;
-use record_form::tile_record::read_tile;
+use record_form::tile_record::{read_tile, write_tile};
 use root_store::commit::Commit;
 use root_store::opening::open;
 use root_store::phase::Progress;
@@ -33,6 +36,9 @@ use std::alloc::Global;
 use std::test::Fail;
 use std::{env, fs};
 use tile_build::Tile;
+
+/// The column of the tiles that are measured.
+const COLUMN: u8 = 8;
 
 /// The store on a disk, and what it holds.
 fn opened(alloc: Global, disk: MemDisk) -> Result<(Commit<MemDisk>, Image), Fail> {
@@ -83,7 +89,7 @@ fn read(alloc: Global, is_tile: bool, record: &[u8], times: u32) -> Result<usize
     let mut sum = 0usize;
     for _ in 0..times {
         let size = if is_tile {
-            usize::from(matches!(read_tile(alloc, 8, record)?, Tile::Oversize))
+            usize::from(matches!(read_tile(alloc, COLUMN, record)?, Tile::Oversize))
         } else {
             read_base(alloc, record)?.rings().len()
         };
@@ -92,8 +98,26 @@ fn read(alloc: Global, is_tile: bool, record: &[u8], times: u32) -> Result<usize
     Ok(sum)
 }
 
+/// Writes a tile so many times.
+fn write_often(alloc: Global, tile: &Tile, times: u32) -> Result<usize, Fail>
+    requires { IsTrue (is_formed (tile_of tile.now) 8) }
+{
+    let mut sum = 0usize;
+    for _ in 0..times {
+        sum = sum.wrapping_add(write_tile(alloc, COLUMN, tile)?.len());
+    }
+    Ok(sum)
+}
+
+/// Reads a tile, and writes it so many times.
+#[tactic(auto, using(record_form::proofs::StoredLemmas::read_has_form))]
+fn write_tiles(alloc: Global, record: &[u8], times: u32) -> Result<usize, Fail> {
+    let tile = read_tile(alloc, COLUMN, record)?;
+    write_often(alloc, &tile, times)
+}
+
 /// Writes a base layer so many times.
-fn write(alloc: Global, record: &[u8], times: u32) -> Result<usize, Fail> {
+fn write_bases(alloc: Global, record: &[u8], times: u32) -> Result<usize, Fail> {
     let layer = read_base(alloc, record)?;
     let mut sum = 0usize;
     for _ in 0..times {
@@ -127,7 +151,8 @@ fn main(rt: HostRuntime) -> Result<(), Fail> {
     let (first, second) = match word.as_str() {
         "read_base" => (read(rt.alloc(), false, &file, times)?, 0),
         "read_tile" => (read(rt.alloc(), true, &file, times)?, 0),
-        "write_base" => (write(rt.alloc(), &file, times)?, 0),
+        "write_base" => (write_bases(rt.alloc(), &file, times)?, 0),
+        "write_tile" => (write_tiles(rt.alloc(), &file, times)?, 0),
         "open" => count(&open_often(rt.alloc(), file, times, false)?),
         _ => count(&open_often(rt.alloc(), file, times, true)?),
     };
@@ -137,7 +162,7 @@ fn main(rt: HostRuntime) -> Result<(), Fail> {
 """
 
 CRATES = (
-    "store_bench: overlay_terms plane_base layer_expr disk_model extent_map store_terms tile_build layer_book record_form root_store\n"
+    "store_bench: overlay_terms plane_base layer_expr disk_model extent_map store_terms tile_build layer_book record_form root_reading root_store\n"
 )
 
 
@@ -241,8 +266,8 @@ def records(program, folder):
     print(f"base layer of 2,048 steps, {size} bytes: read {size / reading / 1e6:.0f} MB/s, written {size / writing / 1e6:.0f} MB/s")
     for name, path in [("ends on whole points", whole), ("right ends at crossings", crossed)]:
         size = path.stat().st_size
-        took = each(program, "read_tile", path, 10)
-        print(f"tile of 60,000 pieces, {name}, {size} bytes: read {size / took / 1e6:.0f} MB/s")
+        reading, writing = each(program, "read_tile", path, 10), each(program, "write_tile", path, 100)
+        print(f"tile of 60,000 pieces, {name}, {size} bytes: read {size / reading / 1e6:.0f} MB/s, written {size / writing / 1e6:.0f} MB/s")
 
 
 def files(program, folder):

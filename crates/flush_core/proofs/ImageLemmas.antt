@@ -21,7 +21,7 @@ use Rattle.tile_build.specs.declared.tile.Tile as code
 use Rattle.tile_build.specs.Tile.{tile_of}
 use Rattle.version_core.specs.Version.{IsVersion}
 use Rattle.version_core.proofs.Restored.{found_is}
-use Rattle.record_form.specs.Image.{finished}
+use Rattle.record_form.specs.Image.{finished_of}
 use Rattle.flush_core.specs.Imaging.{named_tile, tiles_in, tiles_of_layer, tiles_in_order}
 
 -- ---- what is found in lists, one behind the other
@@ -231,8 +231,8 @@ layers_more version layers i layer e =
 
 -- a tile that is pushed is the one of its name and column
 pub pushed : (list : List (Name × ℕ × code.Tile)) (x : Name × ℕ × code.Tile) (name : Name) (k : ℕ) (tile : Tile) (found : Option Tile) → x.0 ≡ name → x.1 ≡ k → tile_of x.2 ≡ tile → Some tile ≡ found
-    → map finished (list ++ x ∷ []) ≡ map finished list ++ named_tile name k found
+    → map finished_of (list ++ x ∷ []) ≡ map finished_of list ++ named_tile name k found
 pushed list x name k tile found same level right is =
-    map-append finished list (x ∷ [])
-    ∙ ap (λ f. map finished list ++ f ∷ []) (λ i. record { name = same i; column = level i; tile = right i })
-    ∙ ap (λ o. map finished list ++ named_tile name k o) is
+    map-append finished_of list (x ∷ [])
+    ∙ ap (λ f. map finished_of list ++ f ∷ []) (λ i. record { name = same i; column = level i; tile = right i })
+    ∙ ap (λ o. map finished_of list ++ named_tile name k o) is

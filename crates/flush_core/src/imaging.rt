@@ -1,7 +1,7 @@
 //! Images of versions.
 ghost use Rattle.std.specs.Prelude.{◌≡◌, ◌++◌, map, IfOk, OnOk};
 ghost use Rattle.overlay_terms.specs.Column.{columns};
-ghost use Rattle.record_form.specs.Image.{finished};
+ghost use Rattle.record_form.specs.Image.{finished_of};
 ghost use Rattle.flush_core.specs.Imaging.{tiles_in, tiles_in_order, version_held};
 ghost use Rattle.flush_core.specs.Stored.{IsImageOf};
 
@@ -25,7 +25,7 @@ pub fn image_of(alloc: Global, version: &Version) -> Result<Image, AllocError>
 
 /// The finished tiles of a version, by layer and column.
 fn tiles_in_order(alloc: Global, version: &Version) -> Result<Vec<(Name, u8, Tile)>, AllocError>
-    ensures { IfOk result (λ list. map finished list.items ≡ tiles_in_order version.now) }
+    ensures { IfOk result (λ list. map finished_of list.items ≡ tiles_in_order version.now) }
 {
     let mut list = Vec::new(alloc);
     let layers = version.layers();
@@ -49,7 +49,7 @@ fn add_tiles(
     version: &Version,
     name: &Name,
 ) -> Result<(), AllocError>
-    ensures { OnOk result (map finished list.new.items ≡ map finished list.old.items ++ tiles_in version.now name.now columns) }
+    ensures { OnOk result (map finished_of list.new.items ≡ map finished_of list.old.items ++ tiles_in version.now name.now columns) }
 {
     for column in 0..COLUMN_COUNT {
         match version.tile(name, column) {

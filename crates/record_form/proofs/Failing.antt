@@ -8,12 +8,14 @@ use Rattle.record_form.specs.declared.fault.ReadFault.{ReadFault}
 use Rattle.record_form.specs.declared.fault.ReadFault.TheVariants as faults
 use Rattle.record_form.specs.Answers.{Fails, told_as, Tells}
 
-pub fails : {A : Type 0} (read : List ℕ → Option (A × List ℕ)) (fault : ReadFault) (front : List A) (count i : ℕ) (bytes : List ℕ) (total : Option (List A × List ℕ)) → i < count → Fails fault (read bytes)
+pub fails : {A : Type 0} (read : List ℕ → Option (A × List ℕ)) (fault : ReadFault) (front : List A) (count i : ℕ)
+    (bytes : List ℕ) (total : Option (List A × List ℕ)) → i < count → Fails fault (read bytes)
     → with_front front (read_many read (count - i) bytes) ≡ total → Fails fault total
 fails read faults.Memory front count i bytes total lt given so_far = tt
 fails read faults.Form front count i bytes total lt given so_far = ends read front count i bytes total lt given so_far
 
 -- what gives no value tells its damage
-pub tells : {Y : Type 0} (damage : Damage) (fault : ReadFault) (read : Option Y) → Fails fault read → Tells (told_as damage fault) (or_fault damage read)
+pub tells : {Y : Type 0} (damage : Damage) (fault : ReadFault) (read : Option Y) → Fails fault read
+    → Tells (told_as damage fault) (or_fault damage read)
 tells damage faults.Memory read given = tt
 tells damage faults.Form read given = ap (or_fault damage) given

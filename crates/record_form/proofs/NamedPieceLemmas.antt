@@ -32,10 +32,17 @@ module _ (s : Segment) (f t : PointName) where
   -- what the test of a piece says
   pub tested : is_piece the_piece ≡ true → (has_place f ≡ true) × (has_place t ≡ true) × IsBetween s f t
   tested e =
-      let seven = and_parts (has_place f && has_place t && int_lt (pos 0) (place_of f).w && int_lt (pos 0) (place_of t).w && is_on s (place_of f) && is_on s (place_of t)) (is_lt (point_cmp (place_of f) (place_of t))) e in
-      let six = and_parts (has_place f && has_place t && int_lt (pos 0) (place_of f).w && int_lt (pos 0) (place_of t).w && is_on s (place_of f)) (is_on s (place_of t)) seven.0 in
-      let five = and_parts (has_place f && has_place t && int_lt (pos 0) (place_of f).w && int_lt (pos 0) (place_of t).w) (is_on s (place_of f)) six.0 in
-      let four = and_parts (has_place f && has_place t && int_lt (pos 0) (place_of f).w) (int_lt (pos 0) (place_of t).w) five.0 in
+      let seven = and_parts
+      (has_place f && has_place t && int_lt (pos 0) (place_of f).w && int_lt (pos 0) (place_of t).w
+      && is_on s (place_of f) && is_on s (place_of t)) (is_lt (point_cmp (place_of f) (place_of t))) e in
+      let six = and_parts
+      (has_place f && has_place t && int_lt (pos 0) (place_of f).w && int_lt (pos 0) (place_of t).w
+      && is_on s (place_of f)) (is_on s (place_of t)) seven.0 in
+      let five = and_parts
+      (has_place f && has_place t && int_lt (pos 0) (place_of f).w && int_lt (pos 0) (place_of t).w)
+      (is_on s (place_of f)) six.0 in
+      let four = and_parts (has_place f && has_place t && int_lt (pos 0) (place_of f).w)
+      (int_lt (pos 0) (place_of t).w) five.0 in
       let three = and_parts (has_place f && has_place t) (int_lt (pos 0) (place_of f).w) four.0 in
       let two = and_parts (has_place f) (has_place t) three.0 in (
         two.0,
@@ -53,9 +60,12 @@ module _ (s : Segment) (f t : PointName) where
 
   pub passes : has_place f ≡ true → has_place t ≡ true → IsBetween s f t → is_piece the_piece ≡ true
   passes from to between =
-      and_from (has_place f && has_place t && int_lt (pos 0) (place_of f).w && int_lt (pos 0) (place_of t).w && is_on s (place_of f) && is_on s (place_of t)) (is_lt (point_cmp (place_of f) (place_of t)))
-      (and_from (has_place f && has_place t && int_lt (pos 0) (place_of f).w && int_lt (pos 0) (place_of t).w && is_on s (place_of f)) (is_on s (place_of t))
-      (and_from (has_place f && has_place t && int_lt (pos 0) (place_of f).w && int_lt (pos 0) (place_of t).w) (is_on s (place_of f))
+      and_from (has_place f && has_place t && int_lt (pos 0) (place_of f).w && int_lt (pos 0) (place_of t).w
+      && is_on s (place_of f) && is_on s (place_of t)) (is_lt (point_cmp (place_of f) (place_of t)))
+      (and_from (has_place f && has_place t && int_lt (pos 0) (place_of f).w && int_lt (pos 0) (place_of t).w
+      && is_on s (place_of f)) (is_on s (place_of t))
+      (and_from (has_place f && has_place t && int_lt (pos 0) (place_of f).w && int_lt (pos 0) (place_of t).w)
+      (is_on s (place_of f))
       (and_from (has_place f && has_place t && int_lt (pos 0) (place_of f).w) (int_lt (pos 0) (place_of t).w)
       (and_from (has_place f && has_place t) (int_lt (pos 0) (place_of f).w)
       (and_from (has_place f) (has_place t) from to)
@@ -69,7 +79,8 @@ module _ (s : Segment) (f t : PointName) where
   chosen = cond (is_piece the_piece) (Some the_piece) None
 
   none_chosen : (is_piece the_piece ≡ true → ⊥) → None ≡ chosen
-  none_chosen never = sym (cond-false (is_piece the_piece) (Some the_piece) None (false_from_ne_true (is_piece the_piece) never))
+  none_chosen never =
+      sym (cond-false (is_piece the_piece) (Some the_piece) None (false_from_ne_true (is_piece the_piece) never))
 
   pub no_left_end : has_place f ≡ false → None ≡ chosen
   no_left_end none = none_chosen (λ e. false≢true (sym none ∙ (tested e).0))
@@ -77,31 +88,54 @@ module _ (s : Segment) (f t : PointName) where
   pub no_right_end : has_place t ≡ false → None ≡ chosen
   no_right_end none = none_chosen (λ e. false≢true (sym none ∙ (tested e).1))
 
-  pub made_piece : (r : Option NamedPiece) → has_place f ≡ true → has_place t ≡ true → IsSome r ↔ IsBetween s f t → IfSome r (λ q. q ≡ the_piece) → r ≡ chosen
+  pub made_piece : (r : Option NamedPiece) → has_place f ≡ true → has_place t ≡ true → IsSome r ↔ IsBetween s f t
+      → IfSome r (λ q. q ≡ the_piece) → r ≡ chosen
   made_piece None from to known is = none_chosen (λ e. false≢true (known.1 (tested e).2))
-  made_piece (Some q) from to known is = ap (λ (p : NamedPiece). Some p) is ∙ sym (cond-true (is_piece the_piece) (Some the_piece) None (passes from to (known.0 refl)))
+  made_piece (Some q) from to known is =
+      ap (λ (p : NamedPiece). Some p) is
+      ∙ sym (cond-true (is_piece the_piece) (Some the_piece) None (passes from to (known.0 refl)))
 
 -- a segment is its ends
-pub put_ends : (s : Segment) (l r : WholePoint) (old mid new : List ℕ) → l ≡ s.left → r ≡ s.right → whole_cmp s.left s.right ≡ Less → IsPut whole_point l old mid → IsPut whole_point r mid new → IsPut segment s old new
+pub put_ends : (s : Segment) (l r : WholePoint) (old mid new : List ℕ) → l ≡ s.left → r ≡ s.right
+    → whole_cmp s.left s.right ≡ Less → IsPut whole_point l old mid → IsPut whole_point r mid new
+    → IsPut segment s old new
 put_ends s l r old mid new left right less first second =
-    let put = put_both whole_point whole_point s.left s.right old mid new (subst (λ (p : WholePoint). IsPut whole_point p old mid) left first) (subst (λ (p : WholePoint). IsPut whole_point p mid new) right second) in
-    record { fits = and_from ((both whole_point whole_point).fits (s.left, s.right)) (is_lt (whole_cmp s.left s.right)) put.fits (ap is_lt less); spelled = put.spelled }
+    let put = put_both whole_point whole_point s.left s.right old mid new
+    (subst (λ (p : WholePoint). IsPut whole_point p old mid) left first)
+    (subst (λ (p : WholePoint). IsPut whole_point p mid new) right second) in
+    record {
+      fits =
+          and_from ((both whole_point whole_point).fits (s.left, s.right)) (is_lt (whole_cmp s.left s.right)) put.fits
+          (ap is_lt less);
+      spelled = put.spelled;
+    }
 
-pub put_crossing : (a b : Segment) (old tag mid new : List ℕ) → tag ≡ old ++ 1 ∷ [] → IsPut segment a tag mid → IsPut segment b mid new → IsPut point_name (Cross a b) old new
+pub put_crossing : (a b : Segment) (old tag mid new : List ℕ) → tag ≡ old ++ 1 ∷ [] → IsPut segment a tag mid
+    → IsPut segment b mid new → IsPut point_name (Cross a b) old new
 put_crossing a b old tag mid new is first second =
-    let put = put_two whole_point (both segment segment) (both segment (number 1)) old tag new (a, b) is (put_both segment segment a b tag mid new first second) in
+    let put = put_two whole_point (both segment segment) (both segment (number 1)) old tag new (a, b) is
+    (put_both segment segment a b tag mid new first second) in
     record { fits = put.fits; spelled = put.spelled }
 
-pub put_cut : (s : Segment) (k : ℕ) (old tag mid new : List ℕ) → k < 256 → tag ≡ old ++ 2 ∷ [] → IsPut segment s tag mid → new ≡ mid ++ k ∷ [] → IsPut point_name (Border s k) old new
+pub put_cut : (s : Segment) (k : ℕ) (old tag mid new : List ℕ) → k < 256 → tag ≡ old ++ 2 ∷ [] → IsPut segment s tag mid
+    → new ≡ mid ++ k ∷ [] → IsPut point_name (Border s k) old new
 put_cut s k old tag mid new small is first second =
-    let put = put_three whole_point (both segment segment) (both segment (number 1)) old tag new (s, k) is (put_both segment (number 1) s k tag mid new first (put_byte k mid new small second)) in
+    let put = put_three whole_point (both segment segment) (both segment (number 1)) old tag new (s, k) is
+    (put_both segment (number 1) s k tag mid new first (put_byte k mid new small second)) in
     record { fits = put.fits; spelled = put.spelled }
 
 -- a piece is its segment, and the names of its ends
-pub put_parts : (p : NamedPiece) (old a b new : List ℕ) → is_piece p ≡ true → IsPut segment p.support old a → IsPut point_name p.from a b → IsPut point_name p.to b new → IsPut piece p old new
+pub put_parts : (p : NamedPiece) (old a b new : List ℕ) → is_piece p ≡ true → IsPut segment p.support old a
+    → IsPut point_name p.from a b → IsPut point_name p.to b new → IsPut piece p old new
 put_parts p old a b new passed support from to =
-    let put = put_both segment (both point_name point_name) p.support (p.from, p.to) old a new support (put_both point_name point_name p.from p.to a b new from to) in
-    record { fits = and_from ((both segment (both point_name point_name)).fits (p.support, (p.from, p.to))) (is_piece p) put.fits passed; spelled = put.spelled }
+    let put = put_both segment (both point_name point_name) p.support (p.from, p.to) old a new support
+    (put_both point_name point_name p.from p.to a b new from to) in
+    record {
+      fits =
+          and_from ((both segment (both point_name point_name)).fits (p.support, (p.from, p.to)))
+          (is_piece p) put.fits passed;
+      spelled = put.spelled;
+    }
 
 -- ---- reading
 abbrev both_names : Field (PointName × PointName)
@@ -129,17 +163,21 @@ abbrev front : NamedPiece → List ℕ → NamedPiece × List ℕ
 front p rest = (p, rest)
 
 -- a piece from its segment and the names of its ends
-pub read_parts : (bytes behind after rest : List ℕ) (s : Segment) (f t : PointName) → segment.read bytes ≡ Some (s, behind) → point_name.read behind ≡ Some (f, after) → point_name.read after ≡ Some (t, rest)
+pub read_parts : (bytes behind after rest : List ℕ) (s : Segment) (f t : PointName)
+    → segment.read bytes ≡ Some (s, behind) → point_name.read behind ≡ Some (f, after)
+    → point_name.read after ≡ Some (t, rest)
     → piece.read bytes ≡ cond (is_piece (the_piece s f t)) (Some (front (the_piece s f t) rest)) None
 read_parts bytes behind after rest s f t support from to =
     ap (λ (o : Option (Segment × List ℕ)). ((o >>= behind_segment) >>= making) >>= sieving) support
     ∙ ap (λ (o : Option (PointName × List ℕ)). (((o >>= behind_first) >>= with_names s) >>= making) >>= sieving) from
     ∙ ap (λ (o : Option (PointName × List ℕ)). (((o >>= with_second f) >>= with_names s) >>= making) >>= sieving) to
 
-pub keeps : (b : Bool) (p q : NamedPiece) (rest : List ℕ) → cond b (Some p) None ≡ Some q → cond b (Some (front p rest)) None ≡ Some (front q rest)
+pub keeps : (b : Bool) (p q : NamedPiece) (rest : List ℕ) → cond b (Some p) None ≡ Some q
+    → cond b (Some (front p rest)) None ≡ Some (front q rest)
 keeps true p q rest e = ap (λ (x : NamedPiece). Some (front x rest)) (same_Some p q e)
 keeps false p q rest e = absurd cc
 
-pub keeps_none : (b : Bool) (p : NamedPiece) (rest : List ℕ) → cond b (Some p) None ≡ None → cond b (Some (front p rest)) None ≡ None
+pub keeps_none : (b : Bool) (p : NamedPiece) (rest : List ℕ) → cond b (Some p) None ≡ None
+    → cond b (Some (front p rest)) None ≡ None
 keeps_none true p rest e = absurd cc
 keeps_none false p rest e = refl

@@ -21,30 +21,43 @@ abbrev is_next : Pair → Pair → Bool
 is_next a b = is_lt (pair_cmp a b)
 
 -- a piece that is behind another stands before the next
-one_more : (xs : List Pair) (i j : ℕ) (d : Pair) → j ≡ suc i → j < length xs → is_rising (drop i xs) ≡ (is_next (get_or xs i d) (get_or xs j d) && is_rising (drop j xs))
+one_more : (xs : List Pair) (i j : ℕ) (d : Pair) → j ≡ suc i → j < length xs
+    → is_rising (drop i xs) ≡ (is_next (get_or xs i d) (get_or xs j d) && is_rising (drop j xs))
 one_more xs i j d is lt =
     let here : drop i xs ≡ get_or xs i d ∷ drop (suc i) xs = drop-cons xs i d (omega (arith, is, lt)) in
-    let behind : drop (suc i) xs ≡ get_or xs j d ∷ drop (suc j) xs = ap (λ (k : ℕ). drop k xs) (sym is) ∙ drop-cons xs j d lt in
+    let behind : drop (suc i) xs ≡ get_or xs j d ∷ drop (suc j) xs =
+    ap (λ (k : ℕ). drop k xs) (sym is) ∙ drop-cons xs j d lt in
     let all : drop j xs ≡ get_or xs j d ∷ drop (suc j) xs = drop-cons xs j d lt in
-    ap is_rising here ∙ ap (λ (l : List Pair). is_rising (get_or xs i d ∷ l)) behind ∙ ap (λ (l : List Pair). is_next (get_or xs i d) (get_or xs j d) && is_rising l) (sym all)
+    ap is_rising here ∙ ap (λ (l : List Pair). is_rising (get_or xs i d ∷ l)) behind
+    ∙ ap (λ (l : List Pair). is_next (get_or xs i d) (get_or xs j d) && is_rising l) (sym all)
 
 module _ (xs : List Pair) (i : ℕ) (d : Pair) (from : 1 ≤ i) where
   -- the next pair is not in order
-  pub falls : i < length xs → is_next (get_or xs (i - 1) d) (get_or xs i d) ≡ false → is_rising (drop (i - 1) xs) ≡ is_rising xs → false ≡ is_rising xs
-  falls lt not_so so_far = sym (one_more xs (i - 1) i d (omega (arith, from)) lt ∙ ap (λ (b : Bool). b && is_rising (drop i xs)) not_so) ∙ so_far
+  pub falls : i < length xs → is_next (get_or xs (i - 1) d) (get_or xs i d) ≡ false
+      → is_rising (drop (i - 1) xs) ≡ is_rising xs → false ≡ is_rising xs
+  falls lt not_so so_far =
+      sym (one_more xs (i - 1) i d (omega (arith, from)) lt ∙ ap (λ (b : Bool). b && is_rising (drop i xs)) not_so)
+      ∙ so_far
 
   -- the next pair is
-  pub rises : i < length xs → is_next (get_or xs (i - 1) d) (get_or xs i d) ≡ true → is_rising (drop (i - 1) xs) ≡ is_rising xs → is_rising (drop (i + 1 - 1) xs) ≡ is_rising xs
+  pub rises : i < length xs → is_next (get_or xs (i - 1) d) (get_or xs i d) ≡ true
+      → is_rising (drop (i - 1) xs) ≡ is_rising xs → is_rising (drop (i + 1 - 1) xs) ≡ is_rising xs
   rises lt so so_far =
       let k : i + 1 - 1 ≡ i = omega arith in
-      ap (λ (n : ℕ). is_rising (drop n xs)) k ∙ sym (one_more xs (i - 1) i d (omega (arith, from)) lt ∙ ap (λ (b : Bool). b && is_rising (drop i xs)) so) ∙ so_far
+      ap (λ (n : ℕ). is_rising (drop n xs)) k
+      ∙ sym (one_more xs (i - 1) i d (omega (arith, from)) lt ∙ ap (λ (b : Bool). b && is_rising (drop i xs)) so)
+      ∙ so_far
 
 -- neighbours among pieces, as pairs of their ends
-pub pair_at : (named : List NamedPiece) (i : ℕ) (a b : NamedPiece) → 1 ≤ i → i < length named → a ≡ get_or named (i - 1) a → b ≡ get_or named i b
-    → is_next (get_or (map ends_of named) (i - 1) (ends_of a)) (get_or (map ends_of named) i (ends_of a)) ≡ is_next (ends_of a) (ends_of b)
+pub pair_at : (named : List NamedPiece) (i : ℕ) (a b : NamedPiece) → 1 ≤ i → i < length named
+    → a ≡ get_or named (i - 1) a → b ≡ get_or named i b
+    → is_next (get_or (map ends_of named) (i - 1) (ends_of a)) (get_or (map ends_of named) i (ends_of a))
+    ≡ is_next (ends_of a) (ends_of b)
 pair_at named i a b from lt first second =
-    let left : get_or (map ends_of named) (i - 1) (ends_of a) ≡ ends_of a = get_or-map ends_of named (i - 1) a (ends_of a) (omega (arith, from, lt)) ∙ ap ends_of (sym first) in
-    let right : get_or (map ends_of named) i (ends_of a) ≡ ends_of b = get_or-map ends_of named i b (ends_of a) lt ∙ ap ends_of (sym second) in
+    let left : get_or (map ends_of named) (i - 1) (ends_of a) ≡ ends_of a =
+    get_or-map ends_of named (i - 1) a (ends_of a) (omega (arith, from, lt)) ∙ ap ends_of (sym first) in
+    let right : get_or (map ends_of named) i (ends_of a) ≡ ends_of b =
+    get_or-map ends_of named i b (ends_of a) lt ∙ ap ends_of (sym second) in
     (λ k. is_next (left k) (right k))
 
 short_rises : (xs : List Pair) → length xs ≤ 1 → is_rising xs ≡ true
@@ -73,16 +86,22 @@ lt_turned x y h = grind (arith, ints)
 
 module _ (k : ℕ) (p : Point) where
   pub left_of_it : is_lt (int_cmp p.x (border k *ℤ p.w)) ≡ true → false ≡ is_in_column k p
-  left_of_it h = sym (ap (λ (b : Bool). b && int_lt p.x (border (k + 1) *ℤ p.w)) (le_turned p.x (border k *ℤ p.w) (sym (lt_is p.x (border k *ℤ p.w)) ∙ h)))
+  left_of_it h =
+      sym (ap (λ (b : Bool). b && int_lt p.x (border (k + 1) *ℤ p.w))
+      (le_turned p.x (border k *ℤ p.w) (sym (lt_is p.x (border k *ℤ p.w)) ∙ h)))
 
-  pub by_the_next : (next : ℕ) → next ≡ k + 1 → is_lt (int_cmp p.x (border k *ℤ p.w)) ≡ false → is_lt (int_cmp p.x (border next *ℤ p.w)) ≡ is_in_column k p
+  pub by_the_next : (next : ℕ) → next ≡ k + 1 → is_lt (int_cmp p.x (border k *ℤ p.w)) ≡ false
+      → is_lt (int_cmp p.x (border next *ℤ p.w)) ≡ is_in_column k p
   by_the_next next is h =
       lt_is p.x (border next *ℤ p.w) ∙ ap (λ (n : ℕ). int_lt p.x (border n *ℤ p.w)) is
-      ∙ sym (ap (λ (b : Bool). b && int_lt p.x (border (k + 1) *ℤ p.w)) (lt_turned p.x (border k *ℤ p.w) (sym (lt_is p.x (border k *ℤ p.w)) ∙ h)))
+      ∙ sym (ap (λ (b : Bool). b && int_lt p.x (border (k + 1) *ℤ p.w))
+      (lt_turned p.x (border k *ℤ p.w) (sym (lt_is p.x (border k *ℤ p.w)) ∙ h)))
 
-  pub in_the_last : k ≡ 16 → pos 1 ≤ℤ p.w → p.x ≤ℤ (pos 1048576 *ℤ p.w) → is_lt (int_cmp p.x (border k *ℤ p.w)) ≡ false → true ≡ is_in_column k p
+  pub in_the_last : k ≡ 16 → pos 1 ≤ℤ p.w → p.x ≤ℤ (pos 1048576 *ℤ p.w) → is_lt (int_cmp p.x (border k *ℤ p.w)) ≡ false
+      → true ≡ is_in_column k p
   in_the_last is wide within h =
-      sym (and_from (int_le (border k *ℤ p.w) p.x) (int_lt p.x (border (k + 1) *ℤ p.w)) (lt_turned p.x (border k *ℤ p.w) (sym (lt_is p.x (border k *ℤ p.w)) ∙ h))
+      sym (and_from (int_le (border k *ℤ p.w) p.x) (int_lt p.x (border (k + 1) *ℤ p.w))
+      (lt_turned p.x (border k *ℤ p.w) (sym (lt_is p.x (border k *ℤ p.w)) ∙ h))
       (ap (λ (n : ℕ). int_lt p.x (border (n + 1) *ℤ p.w)) is ∙ beyond p.x p.w wide within))
     where
       beyond : (x w : ℤ) → pos 1 ≤ℤ w → x ≤ℤ (pos 1048576 *ℤ w) → int_lt x (pos 1179648 *ℤ w) ≡ true
@@ -95,7 +114,9 @@ module _ (k : ℕ) (named : List NamedPiece) where
 
   pub too_many : pieces_max < length named → false ≡ form
   too_many more =
-      sym (ap (λ (b : Bool). b && list_all (λ e. is_in_column k e.0) (map ends_of named) && is_rising (map ends_of named)) (lt-leb (length (map ends_of named)) pieces_max (omega (arith, more, length-map named ends_of))))
+      sym (ap (λ (b : Bool). b && list_all (λ e. is_in_column k e.0) (map ends_of named)
+      && is_rising (map ends_of named)) (lt-leb (length (map ends_of named)) pieces_max
+      (omega (arith, more, length-map named ends_of))))
 
   begun : list_all (λ e. is_in_column k e.0) (map ends_of named) ≡ list_all (λ p. is_in_column k (ends_of p).0) named
   begun = list_all-map (λ e. is_in_column k e.0) ends_of named
@@ -103,12 +124,16 @@ module _ (k : ℕ) (named : List NamedPiece) where
   few : length named ≤ pieces_max → nat_le (length (map ends_of named)) pieces_max ≡ true
   few le = le-leb (length (map ends_of named)) pieces_max (omega (arith, le, length-map named ends_of))
 
-  pub begin_elsewhere : length named ≤ pieces_max → list_all (λ p. is_in_column k (ends_of p).0) named ≡ false → false ≡ form
+  pub begin_elsewhere : length named ≤ pieces_max → list_all (λ p. is_in_column k (ends_of p).0) named ≡ false
+      → false ≡ form
   begin_elsewhere le e =
-      sym (ap (λ (b : Bool). b && list_all (λ e. is_in_column k e.0) (map ends_of named) && is_rising (map ends_of named)) (few le)
+      sym (ap (λ (b : Bool). b && list_all (λ e. is_in_column k e.0) (map ends_of named)
+      && is_rising (map ends_of named)) (few le)
       ∙ ap (λ (b : Bool). b && is_rising (map ends_of named)) (begun ∙ e))
 
-  pub begin_here : length named ≤ pieces_max → list_all (λ p. is_in_column k (ends_of p).0) named ≡ true → is_rising (map ends_of named) ≡ form
+  pub begin_here : length named ≤ pieces_max → list_all (λ p. is_in_column k (ends_of p).0) named ≡ true
+      → is_rising (map ends_of named) ≡ form
   begin_here le e =
-      sym (ap (λ (b : Bool). b && list_all (λ e. is_in_column k e.0) (map ends_of named) && is_rising (map ends_of named)) (few le)
+      sym (ap (λ (b : Bool). b && list_all (λ e. is_in_column k e.0) (map ends_of named)
+      && is_rising (map ends_of named)) (few le)
       ∙ ap (λ (b : Bool). b && is_rising (map ends_of named)) (begun ∙ e))

@@ -20,14 +20,21 @@ its_tile k (Pieces list) = refl
 its_tile k Oversize = refl
 
 -- what is written of a tile of its form is its record
-pub written_is_record : (k : ℕ) (tile : Tile) (old new : List ℕ) → k < column_count → IsTrue (is_formed (code.tile_of tile) k) → old ≡ [] → IsPut unsieved (named_by k tile) old new → IsTileRecord k (code.tile_of tile) new
+pub written_is_record : (k : ℕ) (tile : Tile) (old new : List ℕ) → k < column_count
+    → IsTrue (is_formed (code.tile_of tile) k) → old ≡ [] → IsPut unsieved (named_by k tile) old new
+    → IsTileRecord k (code.tile_of tile) new
 written_is_record k tile old new known form none put =
     let t = named_by k tile in
-    let formed_so : is_formed (tile_of t) (column_of_tile t) ≡ true = (λ i. is_formed (its_tile k tile i) (its_number k tile i)) ∙ form in
-    let known_so : nat_lt (column_of_tile t) column_count ≡ true = ap (λ (n : ℕ). nat_lt n column_count) (its_number k tile) ∙ lt-ltb k column_count known in
+    let formed_so : is_formed (tile_of t) (column_of_tile t) ≡ true =
+    (λ i. is_formed (its_tile k tile i) (its_number k tile i)) ∙ form in
+    let known_so : nat_lt (column_of_tile t) column_count ≡ true =
+    ap (λ (n : ℕ). nat_lt n column_count) (its_number k tile) ∙ lt-ltb k column_count known in
     record {
       named = t;
-      fits = and_from (unsieved.fits t) (nat_lt (column_of_tile t) column_count && is_formed (tile_of t) (column_of_tile t)) put.fits (and_from (nat_lt (column_of_tile t) column_count) (is_formed (tile_of t) (column_of_tile t)) known_so formed_so);
+      fits = and_from (unsieved.fits t)
+          (nat_lt (column_of_tile t) column_count && is_formed (tile_of t) (column_of_tile t)) put.fits
+          (and_from (nat_lt (column_of_tile t) column_count)
+          (is_formed (tile_of t) (column_of_tile t)) known_so formed_so);
       column = its_number k tile;
       is = its_tile k tile;
       spelled = put.spelled ∙ ap (λ (l : List ℕ). l ++ unsieved.text t) none;

@@ -12,12 +12,12 @@ use Rattle.tile_build.specs.Tile.{tile_of}
 use Rattle.store_terms.specs.Image.{Held}
 
 -- a tile of the code as a finished tile
-abbrev pub finished : Name × ℕ × Tile → terms.Finished
-finished t = record { name = t.0; column = t.1; tile = tile_of t.2 }
+abbrev pub finished_of : Name × ℕ × Tile → terms.Finished
+finished_of t = record { name = t.0; column = t.1; tile = tile_of t.2 }
 
 -- number, layers and tiles of the code as what a store holds
 abbrev pub held : ℕ → List Layer → List (Name × ℕ × Tile) → Held
-held number layers tiles = record { number = number; layers = layers; tiles = map finished tiles }
+held number layers tiles = record { number = number; layers = layers; tiles = map finished_of tiles }
 
 -- what a store may hold: no number that is too great, and tiles of their form in their order
 pub record IsImage (x : Held) : Type 0 where

@@ -55,7 +55,8 @@ fn catalog_in(alloc: Global, bytes: &[u8]) -> Result<Vec<Listed>, ReadFault>
 
 /// So many layers, one behind another, and what follows them.
 fn listing_at(alloc: Global, count: u16, bytes: &[u8]) -> Result<(Vec<Listed>, &[u8]), ReadFault>
-    ensures { Gives (λ x. (listing_of x.0.items, x.1.now)) result (read_many (listed column_count).read count bytes.now) }
+    ensures { Gives (λ x. (listing_of x.0.items, x.1.now)) result
+        (read_many (listed column_count).read count bytes.now) }
 {
     let mut listing = Vec::new(alloc);
     let mut rest = bytes;

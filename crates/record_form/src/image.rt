@@ -2,7 +2,7 @@
 ghost use Rattle.std.specs.Prelude.{◌≡◌, ◌≤◌, map};
 ghost use Rattle.overlay_terms.specs.Commands.{version_max};
 ghost use Rattle.overlay_terms.specs.StoredTiles.{AreStored};
-ghost use Rattle.record_form.specs.Image.{finished, held, IsImage};
+ghost use Rattle.record_form.specs.Image.{finished_of, held, IsImage};
 
 use layer_book::layers::Layers;
 use layer_expr::name::Name;
@@ -36,7 +36,7 @@ impl Image {
     /// but have their form and their order.
     pub fn new(number: u64, layers: Layers, tiles: Vec<(Name, u8, Tile)>) -> Image
         requires small { number ≤ version_max }
-        requires stored { AreStored layers (map finished tiles.items) }
+        requires stored { AreStored layers (map finished_of tiles.items) }
         ensures { result ≡ held number layers tiles.items }
     {
         Image {
@@ -62,7 +62,7 @@ impl Image {
 
     /// The finished tiles, by layer and column.
     pub fn tiles(&self) -> &[(Name, u8, Tile)]
-        ensures { map finished result.now ≡ self.now.tiles }
+        ensures { map finished_of result.now ≡ self.now.tiles }
     {
         &self.tiles
     }

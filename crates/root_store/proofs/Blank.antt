@@ -14,27 +14,32 @@ use Rattle.store_terms.proofs.BodyLemmas.{body_again}
 
 pub blank_is_at_rest : BlankIsAtRest
 blank_is_at_rest file blank opened =
-    let place : is_placed file first_root.catalog ≡ true = ap (λ (n : ℕ). nat_le 2 2 && nat_le (2 + blocks 2) (n / 4096)) blank.size in
-    let spells : Spells file first_root.catalog (catalog_of_record) [] = record { placed = place; is = ap (catalog_of_record) blank.catalog } in
+    let place : is_placed file first_root.catalog ≡ true =
+    ap (λ (n : ℕ). nat_le 2 2 && nat_le (2 + blocks 2) (n / 4096)) blank.size in
+    let spells : Spells file first_root.catalog (catalog_of_record) [] =
+    record { placed = place; is = ap (catalog_of_record) blank.catalog } in
     let read : listing_of file first_root ≡ Ok [] = listing_spelled file first_root [] spells in
     record {
       live = record {
         opened = opened;
         named = record {
           long = omega (arith, blank.size);
-          spelt = ap body_in blank.first ∙ body_again first_root (omega arith) (omega arith) (omega arith) (omega arith);
+          spelt = ap body_in blank.first
+              ∙ body_again first_root (omega arith) (omega arith) (omega arith) (omega arith);
           bounded = omega arith;
           numbered = omega arith;
           parity = refl;
           extents = ap (λ l. first_root.catalog ∷ listed_extents l) read;
           placed = (place, tt);
-          holds = spelled_is_held file first_root nothing_kept.held (record { orderly = refl; few = omega arith; named = tt })
+          holds = spelled_is_held file first_root nothing_kept.held
+              (record { orderly = refl; few = omega arith; named = tt })
               (record { listing = []; catalog = spells; layers = (refl, refl); apart = refl; number = refl });
         };
       };
       harmless = record {
         root = second_root;
-        spelt = ap body_in blank.second ∙ body_again second_root (omega arith) (omega arith) (omega arith) (omega arith);
+        spelt = ap body_in blank.second
+            ∙ body_again second_root (omega arith) (omega arith) (omega arith) (omega arith);
         bounded = omega arith;
         numbered = omega arith;
         parity = refl;
@@ -43,30 +48,37 @@ blank_is_at_rest file blank opened =
     }
 
 -- both bodies and the catalog, put into so many bytes
-pub blank_made : (zero one two three : List ℕ) → length zero ≡ 12288 → Torn 16 48 zero one → Holds one 16 (body_text first_root) → Torn 4112 48 one two → Holds two 4112 (body_text second_root)
+pub blank_made : (zero one two three : List ℕ) → length zero ≡ 12288 → Torn 16 48 zero one
+    → Holds one 16 (body_text first_root) → Torn 4112 48 one two → Holds two 4112 (body_text second_root)
     → Torn 8192 2 two three → Holds three 8192 (0 ∷ 0 ∷ []) → IsBlank three
 blank_made zero one two three size torn1 held1 torn2 held2 torn3 held3 =
     let s1 : length one ≡ 12288 = omega (arith, torn1.no_shorter, torn1.no_longer, size) in
     let s2 : length two ≡ 12288 = omega (arith, torn2.no_shorter, torn2.no_longer, s1) in
     record {
       size = omega (arith, torn3.no_shorter, torn3.no_longer, s2);
-      first = part_kept two three 8192 2 16 40 torn3 (omega (arith, s2)) (inr (omega arith)) ∙ part_kept one two 4112 48 16 40 torn2 (omega (arith, s1)) (inr (omega arith))
+      first = part_kept two three 8192 2 16 40 torn3 (omega (arith, s2)) (inr (omega arith))
+          ∙ part_kept one two 4112 48 16 40 torn2 (omega (arith, s1)) (inr (omega arith))
           ∙ part_written_front one 16 40 (body_text first_root) (omega arith) held1;
-      second = part_kept two three 8192 2 4112 40 torn3 (omega (arith, s2)) (inr (omega arith)) ∙ part_written_front two 4112 40 (body_text second_root) (omega arith) held2;
+      second = part_kept two three 8192 2 4112 40 torn3 (omega (arith, s2)) (inr (omega arith))
+          ∙ part_written_front two 4112 40 (body_text second_root) (omega arith) held2;
       catalog = part_written three 8192 (0 ∷ 0 ∷ []) held3;
     }
 
 -- a file that a blank was put into, from its start
-pub blank_put : (old new bytes : List ℕ) → length old ≡ 0 → IsBlank bytes → Torn 0 (length bytes) old new → Holds new 0 bytes → IsBlank new
+pub blank_put : (old new bytes : List ℕ) → length old ≡ 0 → IsBlank bytes → Torn 0 (length bytes) old new
+    → Holds new 0 bytes → IsBlank new
 blank_put old new bytes empty blank torn held =
     let size : length new ≡ 12288 = omega (arith, torn.no_longer, held.within, empty, blank.size) in
     let same : (k : ℕ) → k < 12288 → get_or new k 0 ≡ get_or bytes k 0 = λ k h.
     let e : k ≡ 0 + k = omega arith in ap (λ (n : ℕ). get_or new n 0) e ∙ held.each k (omega (arith, blank.size)) in
     record {
       size = size;
-      first = part_same bytes new 16 40 (omega (arith, blank.size)) (omega (arith, size)) (λ i h. same (16 + i) (omega arith)) ∙ blank.first;
-      second = part_same bytes new 4112 40 (omega (arith, blank.size)) (omega (arith, size)) (λ i h. same (4112 + i) (omega arith)) ∙ blank.second;
-      catalog = part_same bytes new 8192 2 (omega (arith, blank.size)) (omega (arith, size)) (λ i h. same (8192 + i) (omega arith)) ∙ blank.catalog;
+      first = part_same bytes new 16 40 (omega (arith, blank.size)) (omega (arith, size))
+          (λ i h. same (16 + i) (omega arith)) ∙ blank.first;
+      second = part_same bytes new 4112 40 (omega (arith, blank.size)) (omega (arith, size))
+          (λ i h. same (4112 + i) (omega arith)) ∙ blank.second;
+      catalog = part_same bytes new 8192 2 (omega (arith, blank.size)) (omega (arith, size))
+          (λ i h. same (8192 + i) (omega arith)) ∙ blank.catalog;
     }
 
 -- the first gate may be anything

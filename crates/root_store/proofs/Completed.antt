@@ -17,15 +17,16 @@ use Rattle.root_store.specs.declared.next.Next.{Next}
 use Rattle.root_store.specs.Kept.{Kept, other}
 use Rattle.root_store.specs.Planning.{IsPlan, Plans}
 use Rattle.root_store.specs.Filing.{Filed, FiledLayer, listed_of, filed_of, Files}
-use Rattle.root_store.specs.Running.{AreRunsOf, IsMapOf}
+use Rattle.root_reading.specs.Taking.{AreRunsOf, IsMapOf}
 use Rattle.root_store.specs.Drafting.{IsDraft, Spell, IsNext}
 use Rattle.root_store.proofs.Filed.{filing_makes}
 use Rattle.root_store.proofs.Plan.{plans}
-use Rattle.root_store.proofs.Rooms.{map_of_runs}
+use Rattle.root_reading.proofs.Rooms.{map_of_runs}
 use Rattle.root_store.proofs.Placed.{planned_new, planned_apart, all_off, all_writes_apart, extents_apart, map_turned, extents_both, listed_are}
 
 -- what is known of the root, the catalog and the body
-pub record IsCompleted (x : Kept) (held : Held) (listing : List Listed) (catalog : Filed) (b : Write) (d : Draft) (next : Next) : Type 0 where
+pub record IsCompleted (x : Kept) (held : Held) (listing : List Listed) (catalog : Filed) (b : Write) (d : Draft)
+    (next : Next) : Type 0 where
   pub read : catalog_of_record catalog.bytes ≡ Some listing
   pub after : next.root.sequence ≡ x.root.sequence + 1
   pub below : x.root.sequence < sequence_max
@@ -38,14 +39,17 @@ pub record IsCompleted (x : Kept) (held : Held) (listing : List Listed) (catalog
   pub alike : AreAlike d.runs.items (taken_of next.room.map)
   pub plan : next.plan.items ≡ d.writes.items ++ b ∷ []
 
-module _ (x : Kept) (given : List runs.Extent) (limit : ℕ) (layers : List FiledLayer) (held : Held) (listing : List Listed) (catalog : Filed) (b : Write) (d : Draft) (next : Next)
-    (room : IsMapOf x.extents given) (draft : IsDraft given limit (flat_map filed_of layers ++ catalog ∷ []) d) (spell : Spell layers listing held) (c : IsCompleted x held listing catalog b d next) where
+module _ (x : Kept) (given : List runs.Extent) (limit : ℕ) (layers : List FiledLayer) (held : Held)
+    (listing : List Listed) (catalog : Filed) (b : Write) (d : Draft) (next : Next)
+    (room : IsMapOf x.extents given) (draft : IsDraft given limit (flat_map filed_of layers ++ catalog ∷ []) d)
+    (spell : Spell layers listing held) (c : IsCompleted x held listing catalog b d next) where
   abbrev y : Kept
   y = record { root = next.root; extents = next.root.catalog ∷ extents_listed (map listed_of layers); held = held }
 
   are : AreRunsOf (extents_listed (map listed_of layers) ++ catalog.extent ∷ []) d.runs.items
   are = subst (λ (l : List Extent). AreRunsOf l d.runs.items)
-      (extents_both (flat_map filed_of layers) (catalog ∷ []) ∙ ap (λ (l : List Extent). l ++ catalog.extent ∷ []) (listed_are layers)) draft.runs
+      (extents_both (flat_map filed_of layers) (catalog ∷ [])
+      ∙ ap (λ (l : List Extent). l ++ catalog.extent ∷ []) (listed_are layers)) draft.runs
 
   files : Files y layers catalog
   files = record {
@@ -56,7 +60,8 @@ module _ (x : Kept) (given : List runs.Extent) (limit : ℕ) (layers : List File
     number = c.version;
     extents = refl;
     apart = subst (λ (e : Extent). all_apart (e ∷ extents_listed (map listed_of layers)) ≡ true) (sym c.catalog_is)
-        (extents_apart (extents_listed (map listed_of layers)) catalog.extent d.runs.items (planned_apart given limit _ d.runs.items draft.placed.planned) are);
+        (extents_apart (extents_listed (map listed_of layers)) catalog.extent d.runs.items
+        (planned_apart given limit _ d.runs.items draft.placed.planned) are);
   }
 
   is_plan : IsPlan x y d.writes.items b
@@ -66,8 +71,10 @@ module _ (x : Kept) (given : List runs.Extent) (limit : ℕ) (layers : List File
     numbered = subst (λ (n : ℕ). n ≤ version_max) (sym c.version) spell.small;
     low = c.low;
     small = c.small;
-    off = all_off x given (flat_map filed_of layers ++ catalog ∷ []) d.writes.items d.runs.items room (planned_new given limit _ d.runs.items draft.placed.planned) draft.runs draft.writes;
-    apart = all_writes_apart (flat_map filed_of layers ++ catalog ∷ []) d.writes.items d.runs.items (planned_apart given limit _ d.runs.items draft.placed.planned) draft.runs draft.writes;
+    off = all_off x given (flat_map filed_of layers ++ catalog ∷ []) d.writes.items d.runs.items room
+        (planned_new given limit _ d.runs.items draft.placed.planned) draft.runs draft.writes;
+    apart = all_writes_apart (flat_map filed_of layers ++ catalog ∷ []) d.writes.items d.runs.items
+        (planned_apart given limit _ d.runs.items draft.placed.planned) draft.runs draft.writes;
     makes = λ file shut puts. filing_makes y layers catalog d.writes.items file files draft.writes puts;
     there = c.there;
     spelled = c.spelled;
@@ -78,8 +85,10 @@ module _ (x : Kept) (given : List runs.Extent) (limit : ℕ) (layers : List File
     kept = y;
     holds = refl;
     root = refl;
-    room = subst (λ (e : Extent). IsMapOf (e ∷ extents_listed (map listed_of layers)) (taken_of next.room.map)) (sym c.catalog_is)
+    room = subst (λ (e : Extent). IsMapOf (e ∷ extents_listed (map listed_of layers)) (taken_of next.room.map))
+        (sym c.catalog_is)
         (map_turned (extents_listed (map listed_of layers)) catalog.extent (taken_of next.room.map)
-        (map_of_runs (extents_listed (map listed_of layers) ++ catalog.extent ∷ []) d.runs.items (taken_of next.room.map) are c.alike));
+        (map_of_runs (extents_listed (map listed_of layers) ++ catalog.extent ∷ []) d.runs.items
+        (taken_of next.room.map) are c.alike));
     plans = subst (λ (ws : List Write). Plans x y ws) (sym c.plan) (plans x y d.writes.items b is_plan);
   }

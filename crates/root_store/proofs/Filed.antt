@@ -42,19 +42,24 @@ put_is_filed : (file : List ℕ) (f : Filed) (w : Write) → IsWriteOf f w → I
 put_is_filed file f w write put =
     let e = f.extent in
     let end : w.at + length w.bytes.items ≤ length file = put.within in
-    let fits : e.block + blocks e.size ≤ length file / 4096 = blocks_fit e.block (blocks e.size) (length file) (omega (arith, end, write.there, write.blocks)) in
+    let fits : e.block + blocks e.size ≤ length file / 4096 =
+    blocks_fit e.block (blocks e.size) (length file) (omega (arith, end, write.there, write.blocks)) in
     let short : e.size ≤ length w.bytes.items = omega (arith, size_in_blocks e.size, write.blocks) in
     record {
-      placed = and_from (nat_le 2 e.block) (nat_le (e.block + blocks e.size) (length file / 4096)) (le-leb 2 e.block write.behind) (le-leb _ _ fits);
+      placed = and_from (nat_le 2 e.block) (nat_le (e.block + blocks e.size) (length file / 4096))
+          (le-leb 2 e.block write.behind) (le-leb _ _ fits);
       bytes = ap (λ (n : ℕ). part file n e.size) (sym write.there)
-          ∙ sym (front_of_part file w.at e.size (length w.bytes.items) short) ∙ ap (take e.size) put.bytes ∙ write.front;
+          ∙ sym (front_of_part file w.at e.size (length w.bytes.items) short) ∙ ap (take e.size) put.bytes
+          ∙ write.front;
     }
 
-all_filed : (file : List ℕ) (fs : List Filed) (ws : List Write) → AreWritesOf fs ws → AllByRecursion (IsPut file) ws → AllByRecursion (IsFiled file) fs
+all_filed : (file : List ℕ) (fs : List Filed) (ws : List Write) → AreWritesOf fs ws → AllByRecursion (IsPut file) ws
+    → AllByRecursion (IsFiled file) fs
 all_filed file [] [] writes puts = tt
 all_filed file [] (w ∷ ws) writes puts = absurd writes
 all_filed file (f ∷ fs) [] writes puts = absurd writes
-all_filed file (f ∷ fs) (w ∷ ws) writes puts = (put_is_filed file f w writes.0 puts.0, all_filed file fs ws writes.1 puts.1)
+all_filed file (f ∷ fs) (w ∷ ws) writes puts =
+    (put_is_filed file f w writes.0 puts.0, all_filed file fs ws writes.1 puts.1)
 
 front_filed : (P : Filed → Type 0) (xs ys : List Filed) → AllByRecursion P (xs ++ ys) → AllByRecursion P xs
 front_filed P [] ys all = tt
@@ -64,22 +69,35 @@ back_filed : (P : Filed → Type 0) (xs ys : List Filed) → AllByRecursion P (x
 back_filed P [] ys all = all
 back_filed P (x ∷ xs) ys all = back_filed P xs ys all.1
 
-filed_spells : {A : Type 0} (file : List ℕ) (f : Filed) (read : List ℕ → Option A) (value : A) → IsFiled file f → read f.bytes ≡ Some value → Spells file f.extent read value
+filed_spells : {A : Type 0} (file : List ℕ) (f : Filed) (read : List ℕ → Option A) (value : A) → IsFiled file f
+    → read f.bytes ≡ Some value → Spells file f.extent read value
 filed_spells file f read value filed is = record { placed = filed.placed; is = ap read filed.bytes ∙ is }
 
-tiles_filed : (file : List ℕ) (name : Name) (k : ℕ) (ts : List (Option Filed)) (tiles : List Finished) → AllByRecursion (IsFiled file) (filed_tiles ts) → SpellTiles name k ts tiles
+tiles_filed : (file : List ℕ) (name : Name) (k : ℕ) (ts : List (Option Filed)) (tiles : List Finished)
+    → AllByRecursion (IsFiled file) (filed_tiles ts) → SpellTiles name k ts tiles
     → TilesAre file name k (map (option_map (λ (t : Filed). t.extent)) ts) tiles
 tiles_filed file name k [] tiles filed spell = spell
 tiles_filed file name k (None ∷ ts) tiles filed spell = tiles_filed file name (k + 1) ts tiles filed spell
-tiles_filed file name k (Some f ∷ ts) tiles filed spell =
-    (spell.0, spell.1, spell.2, filed_spells file f (tile_of_record k) spell.0 filed.0 spell.3, tiles_filed file name (k + 1) ts spell.1 filed.1 spell.4)
+tiles_filed file name k (Some f ∷ ts) tiles filed spell = (
+  spell.0,
+  spell.1,
+  spell.2,
+  filed_spells file f (tile_of_record k) spell.0 filed.0 spell.3,
+  tiles_filed file name
+      (k + 1) ts spell.1 filed.1 spell.4,
+)
 
-layer_filed : (file : List ℕ) (l : FiledLayer) (layer : Layer) (tiles : List Finished) → AllByRecursion (IsFiled file) (filed_of l) → SpellLayer l layer tiles → LayerIs file (listed_of l).name (listed_of l).records layer tiles
-layer_filed file (a_base name f) layer tiles filed spell = (spell.0, spell.1, spell.2, filed_spells file f base_of_record spell.0 filed.0 spell.3)
+layer_filed : (file : List ℕ) (l : FiledLayer) (layer : Layer) (tiles : List Finished)
+    → AllByRecursion (IsFiled file) (filed_of l) → SpellLayer l layer tiles
+    → LayerIs file (listed_of l).name (listed_of l).records layer tiles
+layer_filed file (a_base name f) layer tiles filed spell =
+    (spell.0, spell.1, spell.2, filed_spells file f base_of_record spell.0 filed.0 spell.3)
 layer_filed file (a_definition name f ts) layer tiles filed spell =
     (spell.0, spell.1, filed_spells file f definition_of_record spell.0 filed.0 spell.2, tiles_filed file name 0 ts tiles filed.1 spell.3)
 
-layers_filed : (file : List ℕ) (ls : List FiledLayer) (layers : List Layer) (tiles : List Finished) → AllByRecursion (IsFiled file) (flat_map filed_of ls) → SpellLayers ls layers tiles → LayersAre file (map listed_of ls) layers tiles
+layers_filed : (file : List ℕ) (ls : List FiledLayer) (layers : List Layer) (tiles : List Finished)
+    → AllByRecursion (IsFiled file) (flat_map filed_of ls) → SpellLayers ls layers tiles
+    → LayersAre file (map listed_of ls) layers tiles
 layers_filed file [] layers tiles filed spell = spell
 layers_filed file (l ∷ ls) layers tiles filed spell = (
   spell.0,
@@ -98,7 +116,8 @@ filing_makes y layers listing ws file files writes puts =
     let records = front_filed (IsFiled file) (flat_map filed_of layers) (listing ∷ []) filed in
     let last = back_filed (IsFiled file) (flat_map filed_of layers) (listing ∷ []) filed in
     let catalog_spells : Spells file y.root.catalog catalog_of_record (map listed_of layers) =
-    subst (λ (e : Extent). Spells file e catalog_of_record (map listed_of layers)) (sym files.there) (filed_spells file listing catalog_of_record (map listed_of layers) last.0 files.catalog) in
+    subst (λ (e : Extent). Spells file e catalog_of_record (map listed_of layers)) (sym files.there)
+    (filed_spells file listing catalog_of_record (map listed_of layers) last.0 files.catalog) in
     let holds : held_of file y.root ≡ Ok y.held = spelled_is_held file y.root y.held files.stored (record {
       listing = map listed_of layers;
       catalog = catalog_spells;
@@ -106,10 +125,13 @@ filing_makes y layers listing ws file files writes puts =
       apart = files.apart;
       number = files.number;
     }) in
-    let read : listing_of file y.root ≡ Ok (map listed_of layers) = listing_spelled file y.root (map listed_of layers) catalog_spells in
-    let extents : extents_of file y.root ≡ y.extents = ap (λ (l : Result (List Listed) Damage). y.root.catalog ∷ listed_extents l) read ∙ sym files.extents in
+    let read : listing_of file y.root ≡ Ok (map listed_of layers) =
+    listing_spelled file y.root (map listed_of layers) catalog_spells in
+    let extents : extents_of file y.root ≡ y.extents =
+    ap (λ (l : Result (List Listed) Damage). y.root.catalog ∷ listed_extents l) read ∙ sym files.extents in
     record {
       extents = extents;
-      placed = subst (λ (es : List Extent). AllByRecursion (λ e. is_placed file e ≡ true) es) extents (held_is_placed file y.root y.held holds);
+      placed = subst (λ (es : List Extent). AllByRecursion (λ e. is_placed file e ≡ true) es) extents
+          (held_is_placed file y.root y.held holds);
       holds = holds;
     }

@@ -28,13 +28,16 @@ taken_is_live file r held taken holds = record {
 pub twin_heals : TwinHeals
 twin_heals x old new below low small shut torn held =
     let shut_new = body_spares x old new shut torn in
-    let front : part new (body_at (other x.root)) 40 ≡ take 40 (body_text (twin x.root)) = part_written_front new (body_at (other x.root)) 40 (body_text (twin x.root)) (omega arith) held in
+    let front : part new (body_at (other x.root)) 40 ≡ take 40 (body_text (twin x.root)) =
+    part_written_front new (body_at (other x.root)) 40 (body_text (twin x.root)) (omega arith) held in
     let numbered = shut.live.named.numbered in
     record {
       live = shut_new.live;
       harmless = record {
         root = twin x.root;
-        spelt = ap body_in front ∙ body_again (twin x.root) (omega (arith, below)) (omega (arith, numbered)) (omega (arith, low)) (omega (arith, small));
+        spelt = ap body_in front
+            ∙ body_again (twin x.root) (omega (arith, below)) (omega (arith, numbered)) (omega (arith, low))
+            (omega (arith, small));
         bounded = omega (arith, below);
         numbered = numbered;
         parity = refl;

@@ -20,7 +20,8 @@ each : {A : Type 0} (P : A → Type 0) (xs : List A) → All P xs → AllByRecur
 each P [] all = tt
 each P (x ∷ xs) all = (all zero x (omega arith), each P xs (λ k d h. all (suc k) d (omega (arith, h))))
 
-in_order : (layers : List Layer) (ts : List Finished) → AllPairs (λ a b. IsTrue (is_tile_before layers a b)) ts → AreOrdered layers ts
+in_order : (layers : List Layer) (ts : List Finished) → AllPairs (λ a b. IsTrue (is_tile_before layers a b)) ts
+    → AreOrdered layers ts
 in_order layers [] all = tt
 in_order layers (t ∷ ts) all = (
   each (λ u. IsTrue (is_tile_before layers t u)) ts (λ k d h. all zero (suc k) d (omega arith) (omega (arith, h))),
@@ -29,7 +30,11 @@ in_order layers (t ∷ ts) all = (
 
 from_first : (layers : List Layer) (ts : List Finished) → AreFrom layers 0 0 ts
 from_first layers [] = tt
-from_first layers (t ∷ ts) = (⊎_elim (λ later. inl later) (λ le. inr (omega (arith, le), omega arith)) (cases_lt 0 (index_of layers t.name)), from_first layers ts)
+from_first layers (t ∷ ts) = (
+  ⊎_elim (λ later. inl later) (λ le. inr (omega (arith, le), omega arith))
+      (cases_lt 0 (index_of layers t.name)),
+  from_first layers ts,
+)
 
 pub all_left : (layers : List Layer) (ts : List Finished) → AreStored layers ts → AreLeft layers 0 0 ts
 all_left layers ts stored = record {
@@ -44,9 +49,11 @@ pub nothing_behind : (ts : List Finished) → ts ++ [] ≡ ts
 nothing_behind [] = refl
 nothing_behind (t ∷ ts) = ap (λ (l : List Finished). t ∷ l) (nothing_behind ts)
 
-pub spell_of : (x : Held) (given : List runs.Extent) (limit : ℕ) (ls : List Listed) (d : Draft) → IsImage x → IsBook x.layers → (a : AreLayersFiled given limit x.layers x.tiles [] ls d) → Spell a.filed ls x
+pub spell_of : (x : Held) (given : List runs.Extent) (limit : ℕ) (ls : List Listed) (d : Draft) → IsImage x
+    → IsBook x.layers → (a : AreLayersFiled given limit x.layers x.tiles [] ls d) → Spell a.filed ls x
 spell_of x given limit ls d image book a = record {
-  spelled = subst (λ (ts : List Finished). SpellLayers a.filed x.layers ts) (sym (a.split ∙ nothing_behind a.own)) a.spelled;
+  spelled = subst (λ (ts : List Finished). SpellLayers a.filed x.layers ts)
+      (sym (a.split ∙ nothing_behind a.own)) a.spelled;
   stored = record { orderly = book.sound.orderly; few = book.sound.few; named = book.named };
   small = image.small;
   listed = a.listed;

@@ -30,10 +30,12 @@ is_behind file e placed =
     let p = and_parts (nat_le 2 e.block) (nat_le (e.block + blocks e.size) (length file / 4096)) placed in
     record { behind = leb-true 2 e.block p.0; within = leb-true _ _ p.1 }
 
-pub still_placed : (old new : List ℕ) (e : Extent) → length old ≤ length new → is_placed old e ≡ true → is_placed new e ≡ true
+pub still_placed : (old new : List ℕ) (e : Extent) → length old ≤ length new → is_placed old e ≡ true
+    → is_placed new e ≡ true
 still_placed old new e le placed =
     let b = is_behind old e placed in
-    and_from (nat_le 2 e.block) (nat_le (e.block + blocks e.size) (length new / 4096)) (le-leb 2 e.block b.behind) (le-leb _ _ (omega (arith, b.within, more_blocks (length old) (length new) le)))
+    and_from (nat_le 2 e.block) (nat_le (e.block + blocks e.size) (length new / 4096)) (le-leb 2 e.block b.behind)
+    (le-leb _ _ (omega (arith, b.within, more_blocks (length old) (length new) le)))
 
 abbrev pub AllPlaced : List ℕ → List Extent → Type 0
 AllPlaced file es = AllByRecursion (λ e. is_placed file e ≡ true) es
@@ -45,14 +47,16 @@ ApartFrom at n es = AllByRecursion (λ e. Apart at n (4096 * e.block) e.size) es
 -- a range in the slots touches no extent
 pub low_apart : (file : List ℕ) (at n : ℕ) (es : List Extent) → at + n ≤ 8192 → AllPlaced file es → ApartFrom at n es
 low_apart file at n [] low all = tt
-low_apart file at n (e ∷ es) low all = (inl (omega (arith, low, (is_behind file e all.0).behind)), low_apart file at n es low all.1)
+low_apart file at n (e ∷ es) low all =
+    (inl (omega (arith, low, (is_behind file e all.0).behind)), low_apart file at n es low all.1)
 
 module _ (old new : List ℕ) (at n : ℕ) (torn : Torn at n old new) where
   same_at : (e : Extent) → is_placed old e ≡ true → Apart at n (4096 * e.block) e.size → IsSameAt old new e
   same_at e placed apart =
       let b = is_behind old e placed in
       record {
-        bytes = part_kept old new at n (4096 * e.block) e.size torn (bytes_within e.block e.size (length old) b.within) apart;
+        bytes = part_kept old new at n (4096 * e.block) e.size torn
+            (bytes_within e.block e.size (length old) b.within) apart;
         placed = still_placed old new e torn.no_shorter placed ∙ sym placed;
       }
 
@@ -70,9 +74,12 @@ module _ (old new : List ℕ) (at n : ℕ) (torn : Torn at n old new) where
   pub gate_kept : (k : ℕ) → k ≤ 1 → 8192 ≤ length old → Apart at n (gate_at k) 1 → gate new k ≡ gate old k
   gate_kept k small long apart = byte_kept old new at n (gate_at k) torn (omega arith) apart
 
-  pub named_kept : (k : ℕ) (x : Kept) → k ≤ 1 → Apart at n (body_at k) 40 → ApartFrom at n x.extents → Named k x old → Named k x new
+  pub named_kept : (k : ℕ) (x : Kept) → k ≤ 1 → Apart at n (body_at k) 40 → ApartFrom at n x.extents → Named k x old
+      → Named k x new
   named_kept k x small off_body off_extents named =
-      let same = elsewhere_has_no_meaning old new x.root (subst (λ (es : List Extent). AllByRecursion (IsSameAt old new) es) (sym named.extents) (all_same x.extents named.placed off_extents)) in
+      let same = elsewhere_has_no_meaning old new x.root
+      (subst (λ (es : List Extent). AllByRecursion (IsSameAt old new) es) (sym named.extents)
+      (all_same x.extents named.placed off_extents)) in
       record {
         long = omega (arith, named.long, torn.no_shorter);
         spelt = body_kept k small named.long off_body ∙ named.spelt;
@@ -84,13 +91,15 @@ module _ (old new : List ℕ) (at n : ℕ) (torn : Torn at n old new) where
         holds = same.0 ∙ named.holds;
       }
 
-  pub live_kept : (x : Kept) → Apart at n (gate_at (own x.root)) 1 → Apart at n (body_at (own x.root)) 40 → ApartFrom at n x.extents → Live x old → Live x new
+  pub live_kept : (x : Kept) → Apart at n (gate_at (own x.root)) 1 → Apart at n (body_at (own x.root)) 40
+      → ApartFrom at n x.extents → Live x old → Live x new
   live_kept x off_gate off_body off_extents live = record {
     opened = gate_kept (own x.root) (omega arith) live.named.long off_gate ∙ live.opened;
     named = named_kept (own x.root) x (omega arith) off_body off_extents live.named;
   }
 
-  pub harmless_kept : (k : ℕ) (r : Root) → k ≤ 1 → 8192 ≤ length old → Apart at n (body_at k) 40 → Harmless k r old → Harmless k r new
+  pub harmless_kept : (k : ℕ) (r : Root) → k ≤ 1 → 8192 ≤ length old → Apart at n (body_at k) 40 → Harmless k r old
+      → Harmless k r new
   harmless_kept k r small long apart h = record {
     root = h.root;
     spelt = body_kept k small long apart ∙ h.spelt;
@@ -114,18 +123,25 @@ pub rest_kept : (x : Kept) (old new : List ℕ) → Rest x old → Torn (gate_at
 rest_kept x old new rest torn =
     let r = x.root in
     record {
-      live = live_kept old new (gate_at (other r)) 1 torn x (off_own_gate r) (off_body r (own r) (omega arith)) (low_apart old (gate_at (other r)) 1 x.extents (low_gate r) rest.live.named.placed) rest.live;
-      harmless = harmless_kept old new (gate_at (other r)) 1 torn (other r) r (omega arith) rest.live.named.long (off_body r (other r) (omega arith)) rest.harmless;
+      live = live_kept old new (gate_at (other r)) 1 torn x (off_own_gate r) (off_body r (own r) (omega arith))
+          (low_apart old (gate_at (other r)) 1 x.extents (low_gate r) rest.live.named.placed) rest.live;
+      harmless = harmless_kept old new (gate_at (other r)) 1 torn (other r) r (omega arith) rest.live.named.long
+          (off_body r (other r) (omega arith)) rest.harmless;
     }
 
-pub ready_kept : (x y : Kept) (old new : List ℕ) → Ready x y old → Torn (gate_at (other x.root)) 1 old new → Ready x y new
+pub ready_kept : (x y : Kept) (old new : List ℕ) → Ready x y old → Torn (gate_at (other x.root)) 1 old new
+    → Ready x y new
 ready_kept x y old new ready torn =
     let r = x.root in
     record {
-      live = live_kept old new (gate_at (other r)) 1 torn x (off_own_gate r) (off_body r (own r) (omega arith)) (low_apart old (gate_at (other r)) 1 x.extents (low_gate r) ready.live.named.placed) ready.live;
-      named = named_kept old new (gate_at (other r)) 1 torn (other r) y (omega arith) (off_body r (other r) (omega arith)) (low_apart old (gate_at (other r)) 1 y.extents (low_gate r) ready.named.placed) ready.named;
+      live = live_kept old new (gate_at (other r)) 1 torn x (off_own_gate r) (off_body r (own r) (omega arith))
+          (low_apart old (gate_at (other r)) 1 x.extents (low_gate r) ready.live.named.placed) ready.live;
+      named = named_kept old new (gate_at (other r)) 1 torn (other r) y (omega arith)
+          (off_body r (other r) (omega arith))
+          (low_apart old (gate_at (other r)) 1 y.extents (low_gate r) ready.named.placed) ready.named;
       after = ready.after;
     }
 
 pub gate_written : (file : List ℕ) (k v : ℕ) → Holds file (gate_at k) (v ∷ []) → gate file k ≡ v
-gate_written file k v holds = ap (λ (n : ℕ). get_or file n 0) (let e : gate_at k ≡ gate_at k + 0 = omega arith in e) ∙ holds.each 0 (omega arith)
+gate_written file k v holds =
+    ap (λ (n : ℕ). get_or file n 0) (let e : gate_at k ≡ gate_at k + 0 = omega arith in e) ∙ holds.each 0 (omega arith)

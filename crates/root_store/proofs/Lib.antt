@@ -5,14 +5,8 @@ pub mod Plan
 pub mod Healed
 pub mod Filed
 pub mod Blank
-mod FindingLemmas
 mod TakenLemmas
 mod HealingLemmas
-pub mod Rooms
-mod LoadingLemmas
-mod Looked
-mod TakingLemmas
-mod NearLemmas
 pub mod Drafts
 pub mod Placed
 pub mod Completed
@@ -23,5 +17,4 @@ mod CatalogSize
 mod Short
 mod Roomed
 pub mod Reasons
-mod StoredLemmas
 mod OpeningLemmas

@@ -14,43 +14,53 @@ use Rattle.store_terms.specs.Places.{extents_listed}
 use Rattle.store_terms.specs.Roots.{sequence_max}
 use Rattle.store_terms.specs.Image.{◌>>=◌, Held, layers_of, listing_of, held_by, held_of}
 use Rattle.store_terms.specs.StandsFor.{root_of, reading}
-use Rattle.root_store.specs.declared.load_fault.LoadFault.{LoadFault}
+use Rattle.root_reading.specs.declared.load_fault.LoadFault.{LoadFault}
 use Rattle.root_store.specs.declared.opening.Loaded.{Loaded}
 use Rattle.root_store.specs.Kept.{Kept, Live, Rest, Shut, Calm}
 use Rattle.root_store.specs.Healing.{kept_of}
-use Rattle.root_store.specs.Taking.{if_apart}
-use Rattle.root_store.specs.Looking.{Refuses, Causes}
+use Rattle.root_reading.specs.Taking.{if_apart}
+use Rattle.root_reading.specs.Looking.{Refuses, Causes}
 use Rattle.root_store.specs.Opening.{Heals, held_in, IsRead, Opened, Loads, fault_of, Tells, FailedBy}
 use Rattle.root_store.specs.declared.fault.StoreFault.{StoreFault}
-use Rattle.root_store.specs.declared.load_fault.LoadFault.TheVariants.{Device, Damaged, OutOfMemory}
+use Rattle.root_reading.specs.declared.load_fault.LoadFault.TheVariants.{Device, Damaged, OutOfMemory}
 use Rattle.root_store.proofs.Reading.{shut_stands}
 use Rattle.root_store.proofs.Healed.{taken_is_live}
 use Rattle.root_store.proofs.Steps.{leaves_synced}
 use Rattle.root_store.proofs.TakenLemmas.{root_found, other_shut, other_harmless}
 
 -- what a root holds, once its catalog, layers and tiles are read
-pub held_steps : (file : List ℕ) (r : Root) (ls : List Listed) (x : List Layer × List Finished) → listing_of file r ≡ Ok ls → layers_of file [] ls ≡ Ok x
-    → held_of file r ≡ if_apart (r.catalog ∷ extents_listed ls) (record { number = r.version; layers = x.0; tiles = x.1 })
+pub held_steps : (file : List ℕ) (r : Root) (ls : List Listed) (x : List Layer × List Finished)
+    → listing_of file r ≡ Ok ls → layers_of file [] ls ≡ Ok x
+    → held_of file r
+    ≡ if_apart (r.catalog ∷ extents_listed ls) (record { number = r.version; layers = x.0; tiles = x.1 })
 held_steps file r ls x listing layers =
     ap (λ (l : Result (List Listed) Damage). l >>= held_by file r) listing
-    ∙ ap (λ (h : Result (List Layer × List Finished) Damage). h >>= λ held. if_apart (r.catalog ∷ extents_listed ls) (record { number = r.version; layers = held.0; tiles = held.1 })) layers
+    ∙ ap (λ (h : Result (List Layer × List Finished) Damage). h >>= λ held. if_apart (r.catalog ∷ extents_listed ls)
+    (record { number = r.version; layers = held.0; tiles = held.1 })) layers
 
 -- what opening gives of a file with a root
 pub reading_root : (file : List ℕ) (r : Root) → root_of file ≡ Ok r → reading file ≡ held_of file r
 reading_root file r root = ap (λ (x : Result Root Damage). x >>= λ q. held_of file q) root
 
-module _ {D : Type 0} (g : Ghosts D) (old mid : D) (x : Loaded) (is_alone : Bool) (run : LeavesOnly g old mid (g.may_leave old)) (read : IsRead g old mid x is_alone) (reads : reading (g.seen old) ≡ Ok (held_in x)) where
+module _ {D : Type 0} (g : Ghosts D) (old mid : D) (x : Loaded) (is_alone : Bool)
+    (run : LeavesOnly g old mid (g.may_leave old)) (read : IsRead g old mid x is_alone)
+    (reads : reading (g.seen old) ≡ Ok (held_in x)) where
   kept : Kept
   kept = kept_of (g.seen old) x.root (held_in x)
 
   live : Live (kept_of (g.seen old) x.root (held_in x)) (g.seen old)
-  live = taken_is_live (g.seen old) x.root (held_in x) (root_found (g.seen old) x.root read.root).taken (sym (reading_root (g.seen old) x.root read.root) ∙ reads)
+  live = taken_is_live (g.seen old) x.root (held_in x) (root_found (g.seen old) x.root read.root).taken
+      (sym (reading_root (g.seen old) x.root read.root) ∙ reads)
 
   opened : LeavesOnly g old mid (Opened g old)
   opened = widened g old mid (g.may_leave old) (Opened g old) (λ c left. inl left) run
 
   shut : is_alone ≡ true → Shut (kept_of (g.seen old) x.root (held_in x)) (g.seen old)
-  shut alone = record { live = live; closed = other_shut (g.seen old) x.root (root_found (g.seen old) x.root read.root).taken (sym read.alone ∙ alone) }
+  shut alone = record {
+    live = live;
+    closed =
+        other_shut (g.seen old) x.root (root_found (g.seen old) x.root read.root).taken (sym read.alone ∙ alone);
+  }
 
   pub shuts : is_alone ≡ true → Leaves g mid (Shut (kept_of (g.seen old) x.root (held_in x)))
   shuts alone = leaves_synced g mid (g.seen old) (Shut (kept_of (g.seen old) x.root (held_in x))) read.only (shut alone)
@@ -58,12 +68,24 @@ module _ {D : Type 0} (g : Ghosts D) (old mid : D) (x : Loaded) (is_alone : Bool
   -- no gate is shut
   pub both_loads : g.is_honest mid → is_alone ≡ false → Loads g old mid (Ok x)
   both_loads honest alone =
-      let rest : Rest (kept_of (g.seen old) x.root (held_in x)) (g.seen old) = record { live = live; harmless = other_harmless (g.seen old) x.root (root_found (g.seen old) x.root read.root) (sym read.alone ∙ alone) } in
+      let rest : Rest (kept_of (g.seen old) x.root (held_in x)) (g.seen old) =
+      record {
+        live = live;
+        harmless =
+            other_harmless (g.seen old) x.root (root_found (g.seen old) x.root read.root) (sym read.alone ∙ alone);
+      } in
       record {
         honest = honest;
         gives = reads;
         run = opened;
-        ok = (kept_of (g.seen old) x.root (held_in x), refl, refl, read.room, leaves_synced g mid (g.seen old) (Calm (kept_of (g.seen old) x.root (held_in x))) read.only (inl rest));
+        ok = (
+          kept_of (g.seen old) x.root (held_in x),
+          refl,
+          refl,
+          read.room,
+          leaves_synced g mid (g.seen old)
+              (Calm (kept_of (g.seen old) x.root (held_in x))) read.only (inl rest),
+        );
         err = tt;
       }
 
@@ -73,16 +95,25 @@ module _ {D : Type 0} (g : Ghosts D) (old mid : D) (x : Loaded) (is_alone : Bool
     honest = honest;
     gives = reads;
     run = opened;
-    ok = (kept_of (g.seen old) x.root (held_in x), refl, refl, read.room, leaves_synced g mid (g.seen old) (Calm (kept_of (g.seen old) x.root (held_in x))) read.only (inr (shut alone, last)));
+    ok = (
+      kept_of (g.seen old) x.root (held_in x),
+      refl,
+      refl,
+      read.room,
+      leaves_synced g mid (g.seen old)
+          (Calm (kept_of (g.seen old) x.root (held_in x))) read.only (inr (shut alone, last)),
+    );
     err = tt;
   }
 
   same_stands : (f : List ℕ) → Shut (kept_of (g.seen old) x.root (held_in x)) f → Opened g old f
   same_stands f is = inr (shut_stands (kept_of (g.seen old) x.root (held_in x)) f is ∙ sym reads)
 
-  module _ (new : D) (result : Result (Unit {0}) LoadFault) (heals : Heals g mid new result (kept_of (g.seen old) x.root (held_in x))) where
+  module _ (new : D) (result : Result (Unit {0}) LoadFault)
+      (heals : Heals g mid new result (kept_of (g.seen old) x.root (held_in x))) where
     whole : LeavesOnly g old new (Opened g old)
-    whole = joined g old mid new (Opened g old) (Shut (kept_of (g.seen old) x.root (held_in x))) same_stands opened heals.run
+    whole = joined g old mid new (Opened g old)
+        (Shut (kept_of (g.seen old) x.root (held_in x))) same_stands opened heals.run
 
     -- the body is made whole
     pub healed_loads : Leaves g new (Rest (kept_of (g.seen old) x.root (held_in x))) → Loads g old new (Ok x)
@@ -95,22 +126,44 @@ module _ {D : Type 0} (g : Ghosts D) (old mid : D) (x : Loaded) (is_alone : Bool
     }
 
     -- or the device failed
-    pub failed_loads : (fault : LoadFault) (answer : Result Loaded LoadFault) → IsErrAnd answer (λ e. e ≡ fault) → Refuses fault (reading (g.seen old)) → Leaves g new (Shut (kept_of (g.seen old) x.root (held_in x))) → Loads g old new answer
+    pub failed_loads : (fault : LoadFault) (answer : Result Loaded LoadFault) → IsErrAnd answer (λ e. e ≡ fault)
+        → Refuses fault (reading (g.seen old)) → Leaves g new (Shut (kept_of (g.seen old) x.root (held_in x)))
+        → Loads g old new answer
     failed_loads fault answer is refuses still =
         let p = err_from_is_err_and answer is in
         let same : answer ≡ Err fault = p.1 ∙ ap Err p.2 in
-        subst (Loads g old new) (sym same) (record { honest = heals.honest; gives = refuses; run = whole; ok = tt; err = λ f left. same_stands f (still f left) })
+        subst (Loads g old new) (sym same)
+        (record {
+          honest = heals.honest;
+          gives = refuses;
+          run = whole;
+          ok = tt;
+          err =
+              λ f left. same_stands f (still f left);
+        })
 
 -- nothing is read
-pub unread_loads : {D : Type 0} (g : Ghosts D) (old new : D) (fault : LoadFault) (answer : Result Loaded LoadFault) → IsErrAnd answer (λ e. e ≡ fault) → Refuses fault (reading (g.seen old)) → g.is_honest new
-    → ((c : List ℕ) → g.may_leave new c → g.may_leave old c) → LeavesOnly g old new (g.may_leave old) → Loads g old new answer
+pub unread_loads : {D : Type 0} (g : Ghosts D) (old new : D) (fault : LoadFault) (answer : Result Loaded LoadFault)
+    → IsErrAnd answer (λ e. e ≡ fault) → Refuses fault (reading (g.seen old)) → g.is_honest new
+    → ((c : List ℕ) → g.may_leave new c → g.may_leave old c) → LeavesOnly g old new (g.may_leave old)
+    → Loads g old new answer
 unread_loads g old new fault answer is refuses honest fewer run =
     let p = err_from_is_err_and answer is in
     let same : answer ≡ Err fault = p.1 ∙ ap Err p.2 in
-    subst (Loads g old new) (sym same) (record { honest = honest; gives = refuses; run = widened g old new (g.may_leave old) (Opened g old) (λ c left. inl left) run; ok = tt; err = λ c left. inl (fewer c left) })
+    subst (Loads g old new) (sym same)
+    (record {
+      honest = honest;
+      gives = refuses;
+      run =
+          widened g old new (g.may_leave old) (Opened g old) (λ c left. inl left) run;
+      ok = tt;
+      err =
+          λ c left. inl (fewer c left);
+    })
 
 -- a fault, as the store tells it
-pub tells_of : (fault : LoadFault) (told : StoreFault) (read : Result Held Damage) → told ≡ fault_of fault → Refuses fault read → Tells told read
+pub tells_of : (fault : LoadFault) (told : StoreFault) (read : Result Held Damage) → told ≡ fault_of fault
+    → Refuses fault read → Tells told read
 tells_of fault told read is refuses = subst (λ (f : StoreFault). Tells f read) (sym is) (by_case fault read refuses)
   where
     by_case : (fault : LoadFault) (read : Result Held Damage) → Refuses fault read → Tells (fault_of fault) read
@@ -118,7 +171,8 @@ tells_of fault told read is refuses = subst (λ (f : StoreFault). Tells f read) 
     by_case OutOfMemory read refuses = tt
     by_case (Damaged damage) read refuses = refuses
 
-pub failed_of : (fault : LoadFault) (told : StoreFault) (old new : ℕ) → told ≡ fault_of fault → Causes {X = Loaded} (Err fault) old new → FailedBy told old new
+pub failed_of : (fault : LoadFault) (told : StoreFault) (old new : ℕ) → told ≡ fault_of fault
+    → Causes {X = Loaded} (Err fault) old new → FailedBy told old new
 failed_of fault told old new is causes = subst (λ (f : StoreFault). FailedBy f old new) (sym is) (by_case fault causes)
   where
     by_case : (fault : LoadFault) → Causes {X = Loaded} (Err fault) old new → FailedBy (fault_of fault) old new

@@ -8,7 +8,7 @@ use Rattle.extent_map.specs.FirstFit.{IsFull}
 use Rattle.extent_map.specs.Taken.{taken_of}
 use Rattle.store_terms.specs.Catalog.{catalog}
 use Rattle.store_terms.specs.Image.{Held}
-use Rattle.record_form.specs.Image.{finished}
+use Rattle.record_form.specs.Image.{finished_of}
 use Rattle.record_form.specs.Listing.{listing_of, IsListable}
 use Rattle.record_form.specs.declared.catalog.Listed as code
 use Rattle.root_store.specs.declared.room.Room.{Room}
@@ -20,7 +20,8 @@ use Rattle.root_store.specs.Beginning.{HasRoom, HasNoRoom}
 use Rattle.root_store.proofs.CatalogSize.{catalog_long, have_columns}
 use Rattle.root_store.proofs.Imaged.{nothing_behind}
 
-module _ (room copy : Room) (x : Held) (tiles : List NamedTile) (named : map finished tiles ≡ x.tiles) (taken : taken_of copy.map ≡ taken_of room.map) (limit : copy.max_blocks ≡ room.max_blocks) where
+module _ (room copy : Room) (x : Held) (tiles : List NamedTile) (named : map finished_of tiles ≡ x.tiles)
+    (taken : taken_of copy.map ≡ taken_of room.map) (limit : copy.max_blocks ≡ room.max_blocks) where
   pub has_room : ArePlanned (taken_of copy.map) copy.max_blocks (record_sizes x.layers tiles) → HasRoom room x
   has_room planned = record {
     sizes = record_sizes x.layers tiles;
@@ -38,12 +39,15 @@ module _ (room copy : Room) (x : Held) (tiles : List NamedTile) (named : map fin
   }
 
 -- the catalog that lists the records of what is held has its size
-pub catalog_sized : (x : Held) (tiles : List NamedTile) (given : List runs.Extent) (limit : ℕ) (listing : List code.Listed) (d : Draft) → map finished tiles ≡ x.tiles
+pub catalog_sized : (x : Held) (tiles : List NamedTile) (given : List runs.Extent) (limit : ℕ)
+    (listing : List code.Listed) (d : Draft) → map finished_of tiles ≡ x.tiles
     → AreLayersFiled given limit x.layers x.tiles [] (listing_of listing) d → All IsListable listing
-    → flat_map (sizes_of_layer tiles) x.layers ++ length ((catalog column_count).text (listing_of listing)) ∷ [] ≡ record_sizes x.layers tiles
+    → flat_map (sizes_of_layer tiles) x.layers ++ length ((catalog column_count).text (listing_of listing)) ∷ []
+    ≡ record_sizes x.layers tiles
 catalog_sized x tiles given limit listing d named filed listable =
     let columns = have_columns listing filed.filed listable filed.listed in
     let own : filed.own ≡ x.tiles = sym (filed.split ∙ nothing_behind filed.own) in
     let long = catalog_long filed.filed x.layers filed.own filed.spelled columns in
-    let count : length filed.own ≡ length tiles = ap length (own ∙ sym named) ∙ length-map tiles finished in
-    ap (λ (n : ℕ). flat_map (sizes_of_layer tiles) x.layers ++ n ∷ []) (ap (λ l. length ((catalog column_count).text l)) (sym filed.listed) ∙ long ∙ ap (catalog_size x.layers) count)
+    let count : length filed.own ≡ length tiles = ap length (own ∙ sym named) ∙ length-map tiles finished_of in
+    ap (λ (n : ℕ). flat_map (sizes_of_layer tiles) x.layers ++ n ∷ [])
+    (ap (λ l. length ((catalog column_count).text l)) (sym filed.listed) ∙ long ∙ ap (catalog_size x.layers) count)

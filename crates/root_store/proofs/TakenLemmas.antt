@@ -12,23 +12,27 @@ use Rattle.store_terms.specs.Roots.{ours, sequence_max}
 use Rattle.store_terms.specs.StandsFor.{gate, body, open_gate, fits_slot, is_foreign, slot, newest, root_of}
 use Rattle.overlay_terms.specs.Commands.{version_max}
 use Rattle.root_store.specs.Kept.{other, Harmless}
-use Rattle.root_store.specs.Healing.{IsTaken}
-use Rattle.root_store.specs.Finding.{has_shut_gate, Found}
-use Rattle.root_store.proofs.FindingLemmas.{short_root, foreign_root, slots_root}
+use Rattle.root_store.specs.Healing.{IsTaken, Found}
+use Rattle.root_reading.specs.Finding.{has_shut_gate}
+use Rattle.root_reading.proofs.FindingLemmas.{short_root, foreign_root, slots_root}
 
 -- a value that comes of two steps
-ok_bound : {A B : Type 0} (o : Result A Damage) (f : A → Result B Damage) (y : B) → (o >>= f) ≡ Ok y → (x : A) × (o ≡ Ok x) × (f x ≡ Ok y)
+ok_bound : {A B : Type 0} (o : Result A Damage) (f : A → Result B Damage) (y : B) → (o >>= f) ≡ Ok y
+    → (x : A) × (o ≡ Ok x) × (f x ≡ Ok y)
 ok_bound (Ok x) f y e = (x, refl, e)
 ok_bound (Err fault) f y e = absurd (cc e)
 
 -- the tests that a slot has passed
-slot_tests : (g f t : Bool) (root : Root) (r : Root) → cond g (cond f (cond t (Ok (Some root)) (Err Numbers)) (Err Format)) (Ok None) ≡ Ok (Some r) → (g ≡ true) × (f ≡ true) × (t ≡ true) × (root ≡ r)
+slot_tests : (g f t : Bool) (root : Root) (r : Root)
+    → cond g (cond f (cond t (Ok (Some root)) (Err Numbers)) (Err Format)) (Ok None) ≡ Ok (Some r)
+    → (g ≡ true) × (f ≡ true) × (t ≡ true) × (root ≡ r)
 slot_tests true true true root r e = (refl, refl, refl, cc e)
 slot_tests true true false root r e = absurd (cc e)
 slot_tests true false t root r e = absurd (cc e)
 slot_tests false f t root r e = absurd (cc e)
 
-slot_none : (g f t : Bool) (root : Root) → cond g (cond f (cond t (Ok (Some root)) (Err Numbers)) (Err Format)) (Ok None) ≡ Ok None → g ≡ false
+slot_none : (g f t : Bool) (root : Root)
+    → cond g (cond f (cond t (Ok (Some root)) (Err Numbers)) (Err Format)) (Ok None) ≡ Ok None → g ≡ false
 slot_none true true true root e = absurd (cc e)
 slot_none true true false root e = absurd (cc e)
 slot_none true false t root e = absurd (cc e)
@@ -66,7 +70,9 @@ is_open file k r mine is =
 
 is_shut : (file : List ℕ) (k : ℕ) → slot file k ≡ Ok None → gate file k ≢ open_gate
 is_shut file k is opened =
-    let shut : (gate file k == open_gate) ≡ false = slot_none (gate file k == open_gate) ((body file k).format == 1) (fits_slot k (body file k).root) (body file k).root is in
+    let shut : (gate file k == open_gate) ≡ false =
+    slot_none (gate file k == open_gate) ((body file k).format == 1) (fits_slot k (body file k).root)
+    (body file k).root is in
     grind (arith, nat_tests)
 
 bit : (n : ℕ) → (n % 2 ≡ 0) ⊎ (n % 2 ≡ 1)
@@ -85,13 +91,15 @@ taken file k r long o = record {
 }
 
 -- only one slot is open
-one_open : (file : List ℕ) (k j : ℕ) (r : Root) → block_size * 2 ≤ length file → IsOpen file k r → (k + j ≡ 1) → gate file j ≢ open_gate → Found file r
+one_open : (file : List ℕ) (k j : ℕ) (r : Root) → block_size * 2 ≤ length file → IsOpen file k r → (k + j ≡ 1)
+    → gate file j ≢ open_gate → Found file r
 one_open file k j r long o sum shut =
     let there : other r ≡ j = parity_other r.sequence k j o.parity sum in
     record { taken = taken file k r long o; beside = inl (subst (λ (n : ℕ). gate file n ≢ open_gate) (sym there) shut) }
 
 -- both are open
-harmless : (file : List ℕ) (k j : ℕ) (r q : Root) → IsOpen file k r → IsOpen file j q → (k + j ≡ 1) → q.sequence < r.sequence → Harmless (other r) r file
+harmless : (file : List ℕ) (k j : ℕ) (r q : Root) → IsOpen file k r → IsOpen file j q → (k + j ≡ 1)
+    → q.sequence < r.sequence → Harmless (other r) r file
 harmless file k j r q o p sum less =
     let there : other r ≡ j = parity_other r.sequence k j o.parity sum in
     record {
@@ -106,17 +114,24 @@ harmless file k j r q o p sum less =
 abbrev pick : Bool → Root → Root → Result Root Damage
 pick b p q = cond b (Ok p) (Ok q)
 
-both_open : (file : List ℕ) (p q r : Root) → block_size * 2 ≤ length file → IsOpen file 0 p → IsOpen file 1 q → newest (Some p) (Some q) ≡ Ok r → Found file r
+both_open : (file : List ℕ) (p q r : Root) → block_size * 2 ≤ length file → IsOpen file 0 p → IsOpen file 1 q
+    → newest (Some p) (Some q) ≡ Ok r → Found file r
 both_open file p q r long o_0 o_1 is =
     ⊎_elim
     (λ less.
     let t : nat_lt q.sequence p.sequence ≡ true = grind (arith, nat_tests) in
     let same : p ≡ r = ok_same p r (ap (λ b. pick b p q) (sym t) ∙ is) in
-    subst (Found file) same (record { taken = taken file 0 p long o_0; beside = inr (harmless file 0 1 p q o_0 o_1 refl less) }))
+    subst (Found file) same
+    (record { taken = taken file 0 p long o_0; beside = inr (harmless file 0 1 p q o_0 o_1 refl less) }))
     (λ more.
     let t : nat_lt q.sequence p.sequence ≡ false = grind (arith, nat_tests) in
     let same : q ≡ r = ok_same q r (ap (λ b. pick b p q) (sym t) ∙ is) in
-    subst (Found file) same (record { taken = taken file 1 q long o_1; beside = inr (harmless file 1 0 q p o_1 o_0 refl (apart p.sequence q.sequence o_0.parity o_1.parity more)) }))
+    subst (Found file) same
+    (record {
+      taken = taken file 1 q long o_1;
+      beside =
+          inr (harmless file 1 0 q p o_1 o_0 refl (apart p.sequence q.sequence o_0.parity o_1.parity more));
+    }))
     (cases_lt q.sequence p.sequence)
   where
     ok_same : (x y : Root) → newest (Some x) None ≡ Ok y → x ≡ y
@@ -126,15 +141,18 @@ both_open file p q r long o_0 o_1 is =
     apart m n even odd le = omega arith
 
 -- the newer of the roots of two slots
-newest_found : (file : List ℕ) (a b : Option Root) (r : Root) → block_size * 2 ≤ length file → is_foreign file 0 ≡ false → is_foreign file 1 ≡ false
+newest_found : (file : List ℕ) (a b : Option Root) (r : Root) → block_size * 2 ≤ length file → is_foreign file 0 ≡ false
+    → is_foreign file 1 ≡ false
     → slot file 0 ≡ Ok a → slot file 1 ≡ Ok b → newest a b ≡ Ok r → Found file r
 newest_found file None None r long ours_0 ours_1 first second is = absurd (cc is)
 newest_found file (Some p) None r long ours_0 ours_1 first second is =
     let same : p ≡ r = cc is in
-    one_open file 0 1 r long (is_open file 0 r ours_0 (first ∙ ap (λ (x : Root). Ok (Some x)) same)) refl (is_shut file 1 second)
+    one_open file 0 1 r long (is_open file 0 r ours_0 (first ∙ ap (λ (x : Root). Ok (Some x)) same)) refl
+    (is_shut file 1 second)
 newest_found file None (Some q) r long ours_0 ours_1 first second is =
     let same : q ≡ r = cc is in
-    one_open file 1 0 r long (is_open file 1 r ours_1 (second ∙ ap (λ (x : Root). Ok (Some x)) same)) refl (is_shut file 0 first)
+    one_open file 1 0 r long (is_open file 1 r ours_1 (second ∙ ap (λ (x : Root). Ok (Some x)) same)) refl
+    (is_shut file 0 first)
 newest_found file (Some p) (Some q) r long ours_0 ours_1 first second is =
     both_open file p q r long (is_open file 0 p ours_0 first) (is_open file 1 q ours_1 second) is
 
@@ -154,7 +172,8 @@ root_found file r is =
     (cases_lt (length file) (block_size * 2))
 
 -- where a gate is shut, it is that of the other slot
-pub other_shut : (file : List ℕ) (r : Root) → IsTaken file r → has_shut_gate file ≡ true → gate file (other r) ≢ open_gate
+pub other_shut : (file : List ℕ) (r : Root) → IsTaken file r → has_shut_gate file ≡ true
+    → gate file (other r) ≢ open_gate
 other_shut file r taken shut opened = ⊎_elim
     (λ zero. both (ap (gate file) (sym zero) ∙ taken.opened) (ap (gate file) (sym (one_more r.sequence zero)) ∙ opened))
     (λ one. both (ap (gate file) (sym (none_more r.sequence one)) ∙ opened) (ap (gate file) (sym one) ∙ taken.opened))
@@ -174,7 +193,8 @@ pub other_harmless : (file : List ℕ) (r : Root) → Found file r → has_shut_
 other_harmless file r found none = ⊎_elim (λ shut. absurd (shut opened)) (λ h. h) found.beside
   where
     gate_of : (n : ℕ) → gate file 0 ≡ open_gate → gate file 1 ≡ open_gate → gate file ((n + 1) % 2) ≡ open_gate
-    gate_of n first second = ⊎_elim (λ zero. ap (gate file) zero ∙ first) (λ one. ap (gate file) one ∙ second) (bit (n + 1))
+    gate_of n first second =
+        ⊎_elim (λ zero. ap (gate file) zero ∙ first) (λ one. ap (gate file) one ∙ second) (bit (n + 1))
 
     opened : gate file (other r) ≡ open_gate
     opened = gate_of r.sequence (grind (arith, nat_tests)) (grind (arith, nat_tests))

@@ -16,7 +16,11 @@ abbrev pub second_root : Root
 second_root = record { sequence = 1; version = 0; catalog = record { block = 2; size = 2 } }
 
 abbrev pub nothing_kept : Kept
-nothing_kept = record { root = first_root; extents = record { block = 2; size = 2 } ∷ []; held = record { number = 0; layers = []; tiles = [] } }
+nothing_kept = record {
+  root = first_root;
+  extents = record { block = 2; size = 2 } ∷ [];
+  held = record { number = 0; layers = []; tiles = [] };
+}
 
 -- three blocks with both bodies and an empty catalog, whatever the gates
 pub record IsBlank (file : List ℕ) : Type 0 where
@@ -31,7 +35,8 @@ BlankIsAtRest = (file : List ℕ) → IsBlank file → gate file 0 ≡ open_gate
 
 -- why no store is made of a file: it is not empty, or there is no block for the catalog
 abbrev pub refusal_of_new : List ℕ → ℕ → Option StoreFault
-refusal_of_new file max_blocks = if not (length file == 0) then Some NotEmpty else if nat_lt max_blocks 3 then Some Full else None
+refusal_of_new file max_blocks =
+    if not (length file == 0) then Some NotEmpty else if nat_lt max_blocks 3 then Some Full else None
 
 -- a fault tells the reason, unless the device failed or memory ran out
 abbrev pub Tells : StoreFault → Option StoreFault → Type 0

@@ -14,7 +14,7 @@ use Rattle.root_store.specs.declared.next.Next.{Next}
 use Rattle.root_store.specs.Kept.{Kept}
 use Rattle.root_store.specs.Planning.{Plans}
 use Rattle.root_store.specs.Filing.{Filed, FiledLayer, listed_of, SpellLayers, AreWritesOf}
-use Rattle.root_store.specs.Running.{AreRunsOf, IsMapOf}
+use Rattle.root_reading.specs.Taking.{AreRunsOf, IsMapOf}
 
 abbrev pub lengths_of : List Filed → List ℕ
 lengths_of fs = map (λ (f : Filed). length f.bytes) fs

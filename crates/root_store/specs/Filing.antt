@@ -1,4 +1,4 @@
--- Records with their places, as a commit writes them: one list, from which the catalog, the extents and the writes come.
+-- Records with their places, as a commit writes them: the catalog, the extents and the writes come from one list.
 use Rattle.std.specs.Prelude.{◌≡◌, ℕ, ◌+◌, ◌*◌, ◌≤◌, true, List, [], ◌∷◌, ◌++◌, length, take, map, flat_map, Option, Some, None}
 use Rattle.std.proofs.Common.{inl, inr}
 use Rattle.std.specs.Option.{option_map}
@@ -30,7 +30,8 @@ pub data FiledLayer : Type 0 where
 
 abbrev pub listed_of : FiledLayer → Listed
 listed_of (a_base name f) = record { name = name; records = inl f.extent }
-listed_of (a_definition name f tiles) = record { name = name; records = inr (f.extent, map (option_map (λ (t : Filed). t.extent)) tiles) }
+listed_of (a_definition name f tiles) =
+    record { name = name; records = inr (f.extent, map (option_map (λ (t : Filed). t.extent)) tiles) }
 
 abbrev pub filed_tiles : List (Option Filed) → List Filed
 filed_tiles [] = []
@@ -47,19 +48,23 @@ abbrev pub SpellTiles : Name → ℕ → List (Option Filed) → List Finished �
 SpellTiles name k [] tiles = tiles ≡ []
 SpellTiles name k (None ∷ ts) tiles = SpellTiles name (k + 1) ts tiles
 SpellTiles name k (Some f ∷ ts) tiles =
-    (tile : Tile) × (rest : List Finished) × (tiles ≡ record { name = name; column = k; tile = tile } ∷ rest) × (tile_of_record k f.bytes ≡ Some tile) × SpellTiles name (k + 1) ts rest
+    (tile : Tile) × (rest : List Finished) × (tiles ≡ record { name = name; column = k; tile = tile } ∷ rest)
+    × (tile_of_record k f.bytes ≡ Some tile) × SpellTiles name (k + 1) ts rest
 
 -- the layer that its records spell, and its tiles
 abbrev pub SpellLayer : FiledLayer → Layer → List Finished → Type 0
 SpellLayer (a_base name f) layer tiles =
-    (rings : List (List WholePoint)) × (layer ≡ record { name = name; content = base rings }) × (tiles ≡ []) × (base_of_record f.bytes ≡ Some rings)
+    (rings : List (List WholePoint)) × (layer ≡ record { name = name; content = base rings }) × (tiles ≡ [])
+    × (base_of_record f.bytes ≡ Some rings)
 SpellLayer (a_definition name f ts) layer tiles =
-    (tree : Tree Name) × (layer ≡ record { name = name; content = derived tree }) × (definition_of_record f.bytes ≡ Some tree) × SpellTiles name 0 ts tiles
+    (tree : Tree Name) × (layer ≡ record { name = name; content = derived tree })
+    × (definition_of_record f.bytes ≡ Some tree) × SpellTiles name 0 ts tiles
 
 abbrev pub SpellLayers : List FiledLayer → List Layer → List Finished → Type 0
 SpellLayers [] layers tiles = (layers ≡ []) × (tiles ≡ [])
 SpellLayers (l ∷ ls) layers tiles =
-    (layer : Layer) × (rest : List Layer) × (own : List Finished) × (more : List Finished) × (layers ≡ layer ∷ rest) × (tiles ≡ own ++ more) × SpellLayer l layer own × SpellLayers ls rest more
+    (layer : Layer) × (rest : List Layer) × (own : List Finished) × (more : List Finished) × (layers ≡ layer ∷ rest)
+    × (tiles ≡ own ++ more) × SpellLayer l layer own × SpellLayers ls rest more
 
 -- the write of a record: whole blocks, the record in front
 pub record IsWriteOf (f : Filed) (w : Write) : Type 0 where
@@ -89,5 +94,6 @@ pub record Files (y : Kept) (layers : List FiledLayer) (listing : Filed) : Type 
 -- where all of them are put, the file holds what the root names
 abbrev pub FilingMakes : Type 0
 FilingMakes =
-    (y : Kept) (layers : List FiledLayer) (listing : Filed) (ws : List Write) (file : List ℕ) → Files y layers listing → AreWritesOf (flat_map filed_of layers ++ listing ∷ []) ws
+    (y : Kept) (layers : List FiledLayer) (listing : Filed) (ws : List Write) (file : List ℕ) → Files y layers listing
+    → AreWritesOf (flat_map filed_of layers ++ listing ∷ []) ws
     → AllByRecursion (IsPut file) ws → Makes y file

@@ -1,5 +1,5 @@
 -- What opening knows of a file that it has read, and what the completing write makes of it.
-use Rattle.std.specs.Prelude.{◌≡◌, ℕ, ◌+◌, ◌*◌, ◌^◌, ◌<◌, ◌≤◌, List, length, Ok}
+use Rattle.std.specs.Prelude.{◌≡◌, ◌≢◌, ◌⊎◌, ℕ, ◌+◌, ◌*◌, ◌^◌, ◌<◌, ◌≤◌, List, length, Ok}
 use Rattle.overlay_terms.specs.Commands.{version_max}
 use Rattle.disk_model.specs.Disk.{Holds, Torn}
 use Rattle.store_terms.specs.Places.{block_size}
@@ -8,7 +8,7 @@ use Rattle.store_terms.specs.Roots.{body_text, ours, sequence_max}
 use Rattle.store_terms.specs.Image.{Held, held_of}
 use Rattle.store_terms.specs.Frame.{extents_of}
 use Rattle.store_terms.specs.StandsFor.{gate, open_gate, body, body_at}
-use Rattle.root_store.specs.Kept.{Kept, own, other, Live, Shut, Rest}
+use Rattle.root_store.specs.Kept.{Kept, own, other, Harmless, Live, Shut, Rest}
 
 -- a root with what it names in a file
 abbrev pub kept_of : List ℕ → Root → Held → Kept
@@ -22,9 +22,15 @@ pub record IsTaken (file : List ℕ) (r : Root) : Type 0 where
   pub bounded : r.sequence ≤ sequence_max
   pub numbered : r.version ≤ version_max
 
+-- the root of a file: it is taken, and behind a gate of the other slot that is open stands one that does no harm
+pub record Found (file : List ℕ) (r : Root) : Type 0 where
+  pub taken : IsTaken file r
+  pub beside : (gate file (other r) ≢ open_gate) ⊎ Harmless (other r) r file
+
 -- a root that is taken, and what it holds, is live
 abbrev pub TakenIsLive : Type 0
-TakenIsLive = (file : List ℕ) (r : Root) (held : Held) → IsTaken file r → held_of file r ≡ Ok held → Live (kept_of file r held) file
+TakenIsLive = (file : List ℕ) (r : Root) (held : Held) → IsTaken file r → held_of file r ≡ Ok held
+    → Live (kept_of file r held) file
 
 -- the twin of a root: the next sequence, and the same version and catalog
 abbrev pub twin : Root → Root
@@ -33,5 +39,7 @@ twin r = record { sequence = r.sequence + 1; version = r.version; catalog = r.ca
 -- the twin's body behind the shut gate, put whole, leaves the store at rest
 abbrev pub TwinHeals : Type 0
 TwinHeals =
-    (x : Kept) (old new : List ℕ) → x.root.sequence < sequence_max → x.root.catalog.block < 2 ^ 64 → x.root.catalog.size < 2 ^ 32 → Shut x old
-    → Torn (body_at (other x.root)) 48 old new → Holds new (body_at (other x.root)) (body_text (twin x.root)) → Rest x new
+    (x : Kept) (old new : List ℕ) → x.root.sequence < sequence_max → x.root.catalog.block < 2 ^ 64
+    → x.root.catalog.size < 2 ^ 32 → Shut x old
+    → Torn (body_at (other x.root)) 48 old new → Holds new (body_at (other x.root)) (body_text (twin x.root))
+    → Rest x new

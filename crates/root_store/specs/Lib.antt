@@ -5,15 +5,9 @@ pub mod Running
 pub mod Filing
 pub mod Healing
 pub mod Creating
-pub mod Looking
-pub mod Finding
 pub mod Opening
-pub mod Loading
-pub mod Contents
-pub mod Taking
 pub mod Drafting
 pub mod Sizes
 pub mod Walking
 pub mod Placing
 pub mod Beginning
-pub mod Stored

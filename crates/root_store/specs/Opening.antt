@@ -4,23 +4,25 @@ use Rattle.disk_model.specs.declared.disk.Disk.{Ghosts}
 use Rattle.disk_model.specs.Disk.{Only, Failed}
 use Rattle.disk_model.specs.Moments.{Leaves, LeavesOnly}
 use Rattle.extent_map.specs.Taken.{taken_of}
-use Rattle.record_form.specs.Image.{finished}
+use Rattle.record_form.specs.Image.{finished_of}
 use Rattle.store_terms.specs.Image.{Held}
 use Rattle.store_terms.specs.Frame.{extents_of}
 use Rattle.store_terms.specs.StandsFor.{root_of, reading}
 use Rattle.store_terms.specs.declared.damage.Damage.{Damage}
 use Rattle.root_store.specs.declared.fault.StoreFault.{StoreFault}
 use Rattle.root_store.specs.declared.fault.StoreFault.TheVariants as stores
-use Rattle.root_store.specs.declared.load_fault.LoadFault.{LoadFault}
-use Rattle.root_store.specs.declared.load_fault.LoadFault.TheVariants.{Device, Damaged, OutOfMemory}
+use Rattle.root_reading.specs.declared.load_fault.LoadFault.{LoadFault}
+use Rattle.root_reading.specs.declared.load_fault.LoadFault.TheVariants.{Device, Damaged, OutOfMemory}
 use Rattle.root_store.specs.declared.opening.Loaded.{Loaded}
 use Rattle.root_store.specs.Kept.{Kept, Rest, Shut, Calm}
-use Rattle.root_store.specs.Running.{IsMapOf}
-use Rattle.root_store.specs.Looking.{Gives}
-use Rattle.root_store.specs.Finding.{has_shut_gate}
+use Rattle.root_reading.specs.Taking.{IsMapOf}
+use Rattle.root_reading.specs.Looking.{Gives}
+use Rattle.root_reading.specs.Finding.{has_shut_gate}
 
--- the completing write and its sync: a crash at any moment leaves what stands for x behind its one open gate, and in the end whatever the other gate holds
-pub record Heals {D : Type 0} (g : Ghosts D) (old new : D) (result : Result (Unit {0}) LoadFault) (x : Kept) : Type 0 where
+-- the completing write and its sync: a crash at any moment leaves what stands for x behind its one open gate, and in
+-- the end whatever the other gate holds
+pub record Heals {D : Type 0} (g : Ghosts D) (old new : D) (result : Result (Unit {0}) LoadFault)
+    (x : Kept) : Type 0 where
   pub honest : g.is_honest new
   pub run : LeavesOnly g old new (Shut x)
   pub ok : OnOk result (Leaves g new (Rest x))
@@ -28,7 +30,7 @@ pub record Heals {D : Type 0} (g : Ghosts D) (old new : D) (result : Result (Uni
 
 -- what is read, as what a file holds
 abbrev pub held_in : Loaded → Held
-held_in x = record { number = x.root.version; layers = x.content.layers; tiles = map finished x.content.tiles.items }
+held_in x = record { number = x.root.version; layers = x.content.layers; tiles = map finished_of x.content.tiles.items }
 
 -- after the first sync, all is read: a crash leaves the bytes that were seen, and nothing else
 pub record IsRead {D : Type 0} (g : Ghosts D) (old new : D) (x : Loaded) (is_alone : Bool) : Type 0 where
@@ -46,7 +48,9 @@ pub record Loads {D : Type 0} (g : Ghosts D) (old new : D) (result : Result Load
   pub honest : g.is_honest new
   pub gives : Gives held_in result (reading (g.seen old))
   pub run : LeavesOnly g old new (Opened g old)
-  pub ok : IfOk result (λ x. (k : Kept) × (k.root ≡ x.root) × (k.held ≡ held_in x) × IsMapOf k.extents (taken_of x.room.map) × Leaves g new (Calm k))
+  pub ok : IfOk result
+      (λ x. (k : Kept) × (k.root ≡ x.root) × (k.held ≡ held_in x) × IsMapOf k.extents (taken_of x.room.map)
+      × Leaves g new (Calm k))
   pub err : OnErr result (Leaves g new (Opened g old))
 
 -- a fault of opening, as one of the store

@@ -15,14 +15,16 @@ use Rattle.root_store.specs.Kept.{Kept, other, Shut, Ready}
 -- after these writes, in order, the file has P
 abbrev pub Leads : (List ℕ → Type 0) → List Write → List ℕ → Type 0
 Leads P [] file = P file
-Leads P (w ∷ ws) file = (after : List ℕ) → Torn w.at (length w.bytes.items) file after → Holds after w.at w.bytes.items → Leads P ws after
+Leads P (w ∷ ws) file =
+    (after : List ℕ) → Torn w.at (length w.bytes.items) file after → Holds after w.at w.bytes.items → Leads P ws after
 
 -- none of these writes, torn anywhere, takes P away
 abbrev pub Spare : (List ℕ → Type 0) → List Write → Type 0
 Spare P [] = Unit {0}
 Spare P (w ∷ ws) = ((old new : List ℕ) → P old → Torn w.at (length w.bytes.items) old new → P new) × Spare P ws
 
--- what a plan has to do: from any file whose other gate is shut it leads to both roots whole, and no write of it harms the live one
+-- what a plan has to do: from any file whose other gate is shut it leads to both roots whole, and no write of it harms
+-- the live one
 pub record Plans (x y : Kept) (plan : List Write) : Type 0 where
   pub leads : (file : List ℕ) → Shut x file → Leads (Ready x y) plan file
   pub spares : Spare (Shut x) plan
@@ -51,8 +53,8 @@ pub record Makes (y : Kept) (file : List ℕ) : Type 0 where
   pub placed : AllByRecursion (λ e. is_placed file e ≡ true) y.extents
   pub holds : held_of file y.root ≡ Ok y.held
 
--- the writes of new extents, and then that of the body, take a store from x to y. An extent of x that y keeps is one that
--- none of them writes: what they make of a file may rest on what x has there
+-- the writes of new extents, and then that of the body, take a store from x to y. An extent of x that y keeps is one
+-- that none of them writes: what they make of a file may rest on what x has there
 pub record IsPlan (x y : Kept) (ws : List Write) (b : Write) : Type 0 where
   pub after : y.root.sequence ≡ x.root.sequence + 1
   pub bounded : y.root.sequence ≤ sequence_max

@@ -1,13 +1,8 @@
 -- What is known of a store between the calls of its disk.
 use Rattle.std.specs.Prelude.{◌≡◌, ◌⊎◌, ℕ, ◌+◌, ◌-◌, ◌<◌, ◌≤◌, Bool, true, false, List, [], ◌∷◌, length, drop, Result, IfOk, OnErr}
-use Rattle.std.specs.List.{AllByRecursion}
 use Rattle.disk_model.specs.declared.disk.Disk.{Ghosts}
 use Rattle.disk_model.specs.Moments.{Leaves, LeavesOnly}
-use Rattle.extent_map.specs.declared.extent.Extent as runs
-use Rattle.extent_map.specs.Extents.{IsFree}
 use Rattle.extent_map.specs.Taken.{taken_of}
-use Rattle.store_terms.specs.declared.root.Extent.{Extent}
-use Rattle.store_terms.specs.Places.{blocks}
 use Rattle.store_terms.specs.StandsFor.{gate, open_gate}
 use Rattle.root_store.specs.declared.fault.StoreFault.{StoreFault}
 use Rattle.root_store.specs.declared.fault.StoreFault.TheVariants as faults
@@ -16,20 +11,9 @@ use Rattle.root_store.specs.declared.phase.Phase.TheVariants.{Idle, Close, Settl
 use Rattle.root_store.specs.declared.phase.Progress.{Progress}
 use Rattle.root_store.specs.declared.phase.Progress.TheVariants as progress
 use Rattle.root_store.specs.declared.commit.Commit.{Commit}
+use Rattle.root_reading.specs.Taking.{IsMapOf}
 use Rattle.root_store.specs.Kept.{Kept, other, Rest, Shut, Calm, Ready, Either}
 use Rattle.root_store.specs.Planning.{Leads, Spare}
-
--- the runs of some extents, one for each, in order
-abbrev pub AreRunsOf : List Extent → List runs.Extent → Type 0
-AreRunsOf [] [] = Unit {0}
-AreRunsOf [] (r ∷ rs) = ⊥
-AreRunsOf (e ∷ es) [] = ⊥
-AreRunsOf (e ∷ es) (r ∷ rs) = (r.block ≡ e.block) × (r.blocks ≡ blocks e.size) × AreRunsOf es rs
-
--- what blocks are free of the runs that are taken are free of the extents, and no others
-pub record IsMapOf (extents : List Extent) (taken : List runs.Extent) : Type 0 where
-  pub there : (start need : ℕ) → IsFree taken start need → AllByRecursion (λ e. (start + need ≤ e.block) ⊎ (e.block + blocks e.size ≤ start)) extents
-  pub back : (start need : ℕ) → AllByRecursion (λ e. (start + need ≤ e.block) ⊎ (e.block + blocks e.size ≤ start)) extents → IsFree taken start need
 
 module _ {D : Type 0} (g : Ghosts D) where
   -- the store stands for x
@@ -43,11 +27,16 @@ module _ {D : Type 0} (g : Ghosts D) where
   -- what is known before the call that a phase is named for
   abbrev pub Before : Phase → Commit D → Kept → Kept → Type 0
   Before Idle s x y = ⊥
-  Before Close s x y = Leaves g s.disk (Rest x) × ((file : List ℕ) → Shut x file → Leads (Ready x y) (drop s.next s.plan.items) file) × Spare (Shut x) (drop s.next s.plan.items)
-  Before Settle s x y =
-      Leaves g s.disk (Rest x) × (gate (g.seen s.disk) (other x.root) ≡ 0) × ((file : List ℕ) → Shut x file → Leads (Ready x y) (drop s.next s.plan.items) file)
+  Before Close s x y =
+      Leaves g s.disk (Rest x) × ((file : List ℕ) → Shut x file → Leads (Ready x y) (drop s.next s.plan.items) file)
       × Spare (Shut x) (drop s.next s.plan.items)
-  Before Put s x y = Leaves g s.disk (Shut x) × Leads (Ready x y) (drop s.next s.plan.items) (g.seen s.disk) × Spare (Shut x) (drop s.next s.plan.items)
+  Before Settle s x y =
+      Leaves g s.disk (Rest x) × (gate (g.seen s.disk) (other x.root) ≡ 0)
+      × ((file : List ℕ) → Shut x file → Leads (Ready x y) (drop s.next s.plan.items) file)
+      × Spare (Shut x) (drop s.next s.plan.items)
+  Before Put s x y =
+      Leaves g s.disk (Shut x) × Leads (Ready x y) (drop s.next s.plan.items) (g.seen s.disk)
+      × Spare (Shut x) (drop s.next s.plan.items)
   Before Open s x y = Leaves g s.disk (Ready x y)
   Before Finish s x y = Leaves g s.disk (Ready x y) × (gate (g.seen s.disk) (other x.root) ≡ open_gate)
   Before Failed s x y = Leaves g s.disk (Either x y)

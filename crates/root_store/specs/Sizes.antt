@@ -8,7 +8,7 @@ use Rattle.tile_build.specs.declared.tile.Tile.{Tile}
 use Rattle.store_terms.specs.BaseRecord as bases
 use Rattle.store_terms.specs.TileRecord.{named_tile}
 use Rattle.store_terms.specs.Image.{Held}
-use Rattle.record_form.specs.Image.{finished}
+use Rattle.record_form.specs.Image.{finished_of}
 use Rattle.record_form.specs.Tiles.{named_by}
 
 -- a layer's own record: its rings, or its expression
@@ -26,7 +26,8 @@ tile_size t = length (named_tile.text (named_by t.1 t.2))
 
 -- those of a layer's records: its own, then those of its tiles
 abbrev pub sizes_of_layer : List NamedTile → Layer → List ℕ
-sizes_of_layer tiles layer = length (own_record layer.content) ∷ map tile_size (filter (λ t. bytes_eq layer.name t.0) tiles)
+sizes_of_layer tiles layer =
+    length (own_record layer.content) ∷ map tile_size (filter (λ t. bytes_eq layer.name t.0) tiles)
 
 -- those of the catalog's entry of a layer, but for where its finished tiles lie
 abbrev pub entry_size : Layer → ℕ
@@ -34,7 +35,7 @@ entry_size layer = 14 + length layer.name + (if is_derived layer.content then co
 
 -- those of the catalog: the number of layers, an entry for each, and where each of so many finished tiles lies
 abbrev pub catalog_size : List Layer → ℕ → ℕ
-catalog_size layers finished = 2 + sum_by entry_size layers + 12 * finished
+catalog_size layers finished_of = 2 + sum_by entry_size layers + 12 * finished_of
 
 -- the sizes of all records, layer by layer, the catalog last
 abbrev pub record_sizes : List Layer → List NamedTile → List ℕ
@@ -43,5 +44,5 @@ record_sizes layers tiles = flat_map (sizes_of_layer tiles) layers ++ catalog_si
 -- the sizes of the records of what is held; which names the ends of its tiles' pieces have is open
 pub record AreSizesOf (x : Held) (sizes : List ℕ) : Type 0 where
   pub tiles : List NamedTile
-  pub named : map finished tiles ≡ x.tiles
+  pub named : map finished_of tiles ≡ x.tiles
   pub are : sizes ≡ record_sizes x.layers tiles

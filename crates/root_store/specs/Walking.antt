@@ -23,12 +23,15 @@ IsElsewhere layers place k (t ∷ ts) = index_of layers t.name ≡ place → t.c
 -- a layer's column takes the first tile, which its record spells; or leaves it, which is another's
 abbrev pub Takes : List Layer → ℕ → ℕ → Option Filed → List Finished → List Finished → Type 0
 Takes layers place k None ts rest = (ts ≡ rest) × IsElsewhere layers place k ts
-Takes layers place k (Some f) ts rest = (t : Finished) × (ts ≡ t ∷ rest) × (index_of layers t.name ≡ place) × (t.column ≡ k) × (tile_of_record k f.bytes ≡ Some t.tile)
+Takes layers place k (Some f) ts rest =
+    (t : Finished) × (ts ≡ t ∷ rest) × (index_of layers t.name ≡ place) × (t.column ≡ k)
+    × (tile_of_record k f.bytes ≡ Some t.tile)
 
 -- the columns of a layer from one on take theirs
 abbrev pub TakesAll : List Layer → ℕ → ℕ → List (Option Filed) → List Finished → List Finished → Type 0
 TakesAll layers place k [] ts rest = ts ≡ rest
-TakesAll layers place k (o ∷ os) ts rest = (mid : List Finished) × Takes layers place k o ts mid × TakesAll layers place (k + 1) os mid rest
+TakesAll layers place k (o ∷ os) ts rest =
+    (mid : List Finished) × Takes layers place k o ts mid × TakesAll layers place (k + 1) os mid rest
 
 -- a tile is that of a layer and a column, or of a later one
 abbrev pub IsFrom : List Layer → ℕ → ℕ → Finished → Type 0
@@ -57,14 +60,16 @@ pub record AreLeft (layers : List Layer) (place k : ℕ) (ts : List Finished) : 
   pub from : AreFrom layers place k ts
 
 -- in a draft of some records a column of a layer has taken its tile, if that is the first
-pub record IsTileFiled (given : List runs.Extent) (limit : ℕ) (fs : List Filed) (layers : List Layer) (place k : ℕ) (ts rest : List Finished) (e : Option Extent) (d : Draft) : Type 0 where
+pub record IsTileFiled (given : List runs.Extent) (limit : ℕ) (fs : List Filed) (layers : List Layer) (place k : ℕ)
+    (ts rest : List Finished) (e : Option Extent) (d : Draft) : Type 0 where
   pub filed : Option Filed
   pub extent : e ≡ option_map (λ (f : Filed). f.extent) filed
   pub draft : IsDraft given limit (fs ++ filed_tiles (filed ∷ [])) d
   pub takes : Takes layers place k filed ts rest
 
 -- the same of the columns before one
-pub record AreTilesFiled (given : List runs.Extent) (limit : ℕ) (fs : List Filed) (layers : List Layer) (place k : ℕ) (ts rest : List Finished) (es : List (Option Extent)) (d : Draft) : Type 0 where
+pub record AreTilesFiled (given : List runs.Extent) (limit : ℕ) (fs : List Filed) (layers : List Layer) (place k : ℕ)
+    (ts rest : List Finished) (es : List (Option Extent)) (d : Draft) : Type 0 where
   pub filed : List (Option Filed)
   pub extents : es ≡ map (option_map (λ (f : Filed). f.extent)) filed
   pub count : length filed ≡ k
@@ -72,7 +77,8 @@ pub record AreTilesFiled (given : List runs.Extent) (limit : ℕ) (fs : List Fil
   pub takes : TakesAll layers place 0 filed ts rest
 
 -- the records of a layer have their places, and an entry of a listing
-pub record IsLayerFiled (given : List runs.Extent) (limit : ℕ) (fs : List Filed) (layers : List Layer) (place : ℕ) (ts rest : List Finished) (l : Listed) (d : Draft) : Type 0 where
+pub record IsLayerFiled (given : List runs.Extent) (limit : ℕ) (fs : List Filed) (layers : List Layer) (place : ℕ)
+    (ts rest : List Finished) (l : Listed) (d : Draft) : Type 0 where
   pub filed : FiledLayer
   pub listed : listed_of filed ≡ l
   pub draft : IsDraft given limit (fs ++ filed_of filed) d
@@ -83,7 +89,8 @@ pub record IsLayerFiled (given : List runs.Extent) (limit : ℕ) (fs : List File
   pub spelled : SpellLayer filed layer own
 
 -- the same of layers one behind another
-pub record AreLayersFiled (given : List runs.Extent) (limit : ℕ) (layers : List Layer) (ts rest : List Finished) (ls : List Listed) (d : Draft) : Type 0 where
+pub record AreLayersFiled (given : List runs.Extent) (limit : ℕ) (layers : List Layer) (ts rest : List Finished)
+    (ls : List Listed) (d : Draft) : Type 0 where
   pub filed : List FiledLayer
   pub listed : map listed_of filed ≡ ls
   pub draft : IsDraft given limit (flat_map filed_of filed) d

@@ -4,7 +4,8 @@ ghost use Rattle.extent_map.specs.Taken.{taken_of};
 ghost use Rattle.store_terms.specs.Image.{Held};
 ghost use Rattle.store_terms.specs.Roots.{sequence_max};
 ghost use Rattle.root_store.specs.Kept.{Kept};
-ghost use Rattle.root_store.specs.Running.{Stands, Runs, IsMapOf, calls_left, is_busy};
+ghost use Rattle.root_store.specs.Running.{Stands, Runs, calls_left, is_busy};
+ghost use Rattle.root_reading.specs.Taking.{IsMapOf};
 ghost use Rattle.root_store.specs.Drafting.{IsNext};
 ghost use Rattle.root_store.specs.Beginning.{HasRoom, HasNoRoom, IsRefusal, IsReason};
 
@@ -18,13 +19,15 @@ use crate::phase::Phase;
 use crate::room::Room;
 use disk_model::disk::Disk;
 use record_form::image::Image;
+use root_reading::finding::NUMBER_MAX;
 use std::alloc::Global;
 use store_terms::root::Root;
 
 impl<D: Disk> Commit<D> {
     /// Begins the commit that leads to what comes next. It makes no device call.
     pub(crate) fn start(&mut self, next: Next)
-        ensures begun { (x : Kept) (held : Held) → Stands D.Disk self.old x → x.root.sequence < sequence_max → IsNext x held next → (y : Kept) × (y.held ≡ held) × Runs D.Disk self.new x y }
+        ensures begun { (x : Kept) (held : Held) → Stands D.Disk self.old x → x.root.sequence < sequence_max
+            → IsNext x held next → (y : Kept) × (y.held ≡ held) × Runs D.Disk self.new x y }
         ensures disk { self.new.disk ≡ self.old.disk }
         ensures root { self.new.next_root ≡ next.root }
         ensures busy { is_busy self.new.phase ≡ true }
@@ -43,14 +46,15 @@ impl<D: Disk> Commit<D> {
     /// for the commit.
     pub fn refusal(&self) -> Option<StoreFault>
         ensures failed { self.now.phase ≡ Phase.Failed → result ≡ Some StoreFault.Failed }
-        ensures limit { self.now.phase ≡ Phase.Idle → sequence_max ≤ self.now.root.sequence → result ≡ Some StoreFault.SequenceLimit }
+        ensures limit { self.now.phase ≡ Phase.Idle → sequence_max ≤ self.now.root.sequence
+            → result ≡ Some StoreFault.SequenceLimit }
         ensures reason { IfSome result (λ fault. IsRefusal self.now.phase self.now.root fault) }
         ensures none { IfNone result (self.now.root.sequence < sequence_max) }
     {
         if matches!(self.phase, Phase::Failed) {
             return Some(StoreFault::Failed);
         }
-        if self.root.sequence >= 1 << 62 {
+        if self.root.sequence >= NUMBER_MAX {
             return Some(StoreFault::SequenceLimit);
         }
         None
@@ -60,7 +64,8 @@ impl<D: Disk> Commit<D> {
     pub fn begin(&mut self, alloc: Global, image: Image) -> Result<(), StoreFault>
         requires { is_busy self.old.phase ≡ false }
         // From the content that the store stands for to that of the image.
-        ensures begun { (x : Kept) → Stands D.Disk self.old x → OnOk result ((y : Kept) × (y.held ≡ image) × Runs D.Disk self.new x y) }
+        ensures begun { (x : Kept) → Stands D.Disk self.old x
+            → OnOk result ((y : Kept) × (y.held ≡ image) × Runs D.Disk self.new x y) }
         // The root that it leads to has the image's number, and the first call shuts the other slot's gate.
         ensures number { OnOk result (self.new.next_root.version ≡ image.number) }
         ensures begins { OnOk result (self.new.phase ≡ Phase.Close) }
@@ -70,10 +75,13 @@ impl<D: Disk> Commit<D> {
         ensures disk { self.new.disk ≡ self.old.disk }
         ensures err { OnErr result (self.new ≡ self.old) }
         ensures failed { self.old.phase ≡ Phase.Failed → result ≡ Err StoreFault.Failed }
-        ensures limit { self.old.phase ≡ Phase.Idle → sequence_max ≤ self.old.root.sequence → result ≡ Err StoreFault.SequenceLimit }
-        // Where there is room for all records among the free blocks, by first fit; where there is none, that is the reason.
+        ensures limit { self.old.phase ≡ Phase.Idle → sequence_max ≤ self.old.root.sequence
+            → result ≡ Err StoreFault.SequenceLimit }
+        // Where there is room for all records among the free blocks, by first fit; where there is none, that is the
+        // reason.
         ensures room { OnOk result (HasRoom self.old.room image) }
-        ensures errors { IfErr result (λ fault. IsReason self.old.phase self.old.root (HasNoRoom self.old.room image) fault) }
+        ensures errors { IfErr result
+            (λ fault. IsReason self.old.phase self.old.root (HasNoRoom self.old.room image) fault) }
     {
         if let Some(fault) = self.refusal() {
             return Err(fault);
@@ -87,8 +95,10 @@ impl<D: Disk> Commit<D> {
 /// What the commit of an image goes on to from a root and the blocks that it takes.
 fn drafted(alloc: Global, image: &Image, room: &Room, root: Root) -> Result<Next, StoreFault>
     requires { root.sequence < sequence_max }
-    ensures ok { (x : Kept) → x.root ≡ root → IsMapOf x.extents (taken_of room.now.map) → IfOk result (λ next. IsNext x image.now next) }
-    ensures calls { IfOk result (λ next. length next.plan.items ≡ length image.now.layers + length image.now.tiles + 2) }
+    ensures ok { (x : Kept) → x.root ≡ root → IsMapOf x.extents (taken_of room.now.map)
+        → IfOk result (λ next. IsNext x image.now next) }
+    ensures calls { IfOk result
+        (λ next. length next.plan.items ≡ length image.now.layers + length image.now.tiles + 2) }
     ensures number { IfOk result (λ next. next.root.version ≡ image.now.number) }
     ensures room { IfOk result (λ _. HasRoom room.now image.now) }
     ensures full { IsErrOf result StoreFault.Full → HasNoRoom room.now image.now }

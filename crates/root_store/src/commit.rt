@@ -1,5 +1,5 @@
 //! A store, and a commit of it, one device call a step.
-ghost use Rattle.std.specs.Prelude.{◌≡◌, ◌↔◌, ◌+◌, ◌*◌, ◌%◌, IfOk, OnErr, IsErrOf, IfErr};
+ghost use Rattle.std.specs.Prelude.{◌≡◌, ◌↔◌, IfOk, OnErr, IsErrOf, IfErr};
 ghost use Rattle.disk_model.specs.Disk.{Failed};
 ghost use Rattle.root_store.specs.Kept.{Kept};
 ghost use Rattle.root_store.specs.Running.{Runs, Stepped, Counts, calls_left, is_busy, fault_in};
@@ -7,18 +7,15 @@ ghost use Rattle.root_store.specs.Running.{Runs, Stepped, Counts, calls_left, is
 use crate::fault::StoreFault;
 use crate::phase::{Phase, Progress};
 use crate::room::Room;
+use crate::slots::other_gate;
 use crate::write::Write;
 use disk_model::disk::Disk;
+use root_reading::finding::GATE_OPEN;
 use std::mem;
 use store_terms::root::Root;
 
-/// The value of a gate that is open, and the one that a commit shuts it with.
-pub(crate) const GATE_OPEN: u8 = 0xA7;
-
+/// The value with which a commit shuts a gate.
 const GATE_CLOSED: u8 = 0;
-
-/// How many bytes a block has.
-const BLOCK: usize = 4096;
 
 /// A store on a disk: its live root with the blocks that it takes, and the commit that is under way.
 #[derive(Drop)]
@@ -35,13 +32,6 @@ pub struct Commit<D: Disk> {
     pub(crate) plan: Vec<Write>,
     /// How many of them are made.
     pub(crate) next: usize,
-}
-
-/// Where the gate of the slot stands that the root is not in.
-fn other_gate(root: Root) -> usize
-    ensures { result ≡ 4096 * ((root.sequence + 1) % 2) }
-{
-    if root.sequence % 2 == 0 { BLOCK } else { 0 }
 }
 
 impl<D: Disk> Commit<D> {
@@ -70,7 +60,8 @@ impl<D: Disk> Commit<D> {
         ensures stuck { self.old.phase ≡ Phase.Failed → (result ≡ Err StoreFault.Failed) × (self.new ≡ self.old) }
         ensures failed { OnErr result (self.new.phase ≡ Phase.Failed) }
         ensures errors { IfErr result (λ fault. fault ≡ fault_in self.old.phase) }
-        ensures cause { D.is_honest self.old.disk → IsErrOf result StoreFault.Device → Failed (D.faults self.old.disk) (D.faults self.new.disk) }
+        ensures cause { D.is_honest self.old.disk → IsErrOf result StoreFault.Device
+            → Failed (D.faults self.old.disk) (D.faults self.new.disk) }
     {
         match self.phase {
             Phase::Idle => Ok(Progress::Idle),

@@ -7,29 +7,22 @@ ghost use Rattle.record_form.specs.Listing.{listing_of, IsListable};
 ghost use Rattle.store_terms.specs.Catalog.{catalog};
 ghost use Rattle.store_terms.specs.Image.{Held};
 ghost use Rattle.store_terms.specs.Roots.{sequence_max};
-ghost use Rattle.store_terms.specs.StandsFor.{body_at};
-ghost use Rattle.root_store.specs.Kept.{Kept, other};
+ghost use Rattle.root_store.specs.Kept.{Kept};
 ghost use Rattle.root_store.specs.Filing.{Filed, FiledLayer, filed_of};
-ghost use Rattle.root_store.specs.Running.{IsMapOf};
+ghost use Rattle.root_reading.specs.Taking.{IsMapOf};
 ghost use Rattle.root_store.specs.Drafting.{ArePlanned, ArePlaced, IsDraft, Spell, IsNext};
 
 use crate::draft::Draft;
 use crate::fault::StoreFault;
 use crate::next::Next;
 use crate::room::Room;
+use crate::slots::other_body;
 use crate::write::Write;
 use record_form::catalog::Listed;
 use record_form::catalog_writing::write_catalog;
 use record_form::root_body::write_body;
 use std::alloc::Global;
 use store_terms::root::Root;
-
-/// Where the body stands of the slot that the root is not in.
-fn other_body(root: Root) -> usize
-    ensures { result ≡ body_at (other root) }
-{
-    if root.sequence % 2 == 0 { 4112 } else { 16 }
-}
 
 /// Adds the catalog that lists the records of a draft, and the body of the root that comes after one.
 pub(crate) fn completed(
@@ -42,13 +35,18 @@ pub(crate) fn completed(
     requires few { length listing.now < 2 ^ 16 }
     requires listable { All IsListable listing.now }
     requires below { root.sequence < sequence_max }
-    ensures ok { (x : Kept) (given : List runs.Extent) (limit : ℕ) (layers : List FiledLayer) (held : Held) → x.root ≡ root → IsMapOf x.extents given
-        → IsDraft given limit (flat_map filed_of layers) draft → Spell layers (listing_of listing.now) held → held.number ≡ number → IfOk result (λ next. IsNext x held next) }
+    ensures ok { (x : Kept) (given : List runs.Extent) (limit : ℕ) (layers : List FiledLayer) (held : Held)
+        → x.root ≡ root → IsMapOf x.extents given
+        → IsDraft given limit (flat_map filed_of layers) draft → Spell layers (listing_of listing.now) held
+        → held.number ≡ number → IfOk result (λ next. IsNext x held next) }
     ensures calls { IfOk result (λ next. length next.plan.items ≡ length draft.writes.items + 2) }
     ensures number { IfOk result (λ next. next.root.version ≡ number) }
     ensures placed { (given : List runs.Extent) (limit : ℕ) (sizes : List ℕ) → ArePlaced given limit sizes draft
-        → IfOk result (λ _. ArePlanned given limit (sizes ++ length ((catalog column_count).text (listing_of listing.now)) ∷ [])) }
-    ensures full { (given : List runs.Extent) (limit : ℕ) (sizes : List ℕ) → ArePlaced given limit sizes draft → IsErrOf result StoreFault.Full
+        → IfOk result
+        (λ _. ArePlanned given limit
+        (sizes ++ length ((catalog column_count).text (listing_of listing.now)) ∷ [])) }
+    ensures full { (given : List runs.Extent) (limit : ℕ) (sizes : List ℕ) → ArePlaced given limit sizes draft
+        → IsErrOf result StoreFault.Full
         → IsFull given limit (sizes ++ length ((catalog column_count).text (listing_of listing.now)) ∷ []) }
     ensures err { (given : List runs.Extent) (limit : ℕ) (fs : List Filed) → IsDraft given limit fs draft
         → IfErr result (λ fault. (fault ≡ StoreFault.Full) ⊎ (fault ≡ StoreFault.OutOfMemory)) }

@@ -4,10 +4,11 @@ ghost use Rattle.disk_model.specs.Disk.{Holds, Torn, Fewer, Failed, CountsFailur
 ghost use Rattle.disk_model.specs.Moments.{Leaves};
 ghost use Rattle.extent_map.specs.Taken.{taken_of, limit_of};
 ghost use Rattle.root_store.specs.Kept.{Rest};
-ghost use Rattle.root_store.specs.Running.{Stands, IsMapOf};
+ghost use Rattle.root_store.specs.Running.{Stands};
+ghost use Rattle.root_reading.specs.Taking.{IsMapOf};
 ghost use Rattle.root_store.specs.Creating.{nothing_kept, IsBlank, refusal_of_new, Tells};
 
-use crate::commit::{Commit, GATE_OPEN};
+use crate::commit::Commit;
 use crate::fault::StoreFault;
 use crate::open_fault::OpenFault;
 use crate::phase::Phase;
@@ -16,6 +17,7 @@ use disk_model::disk::Disk;
 use disk_model::fault::DiskFault;
 use extent_map::extent::Extent as Run;
 use record_form::root_body::write_body;
+use root_reading::finding::GATE_OPEN;
 use std::alloc::{AllocError, Global};
 use store_terms::root::{Extent, Root};
 
@@ -65,10 +67,13 @@ fn blank(alloc: Global) -> Result<Vec<u8>, AllocError>
 /// Refuses a file that is not empty, and a limit that leaves no block for the catalog.
 fn check<D: Disk>(disk: &mut D, max_blocks: u32) -> Result<(), StoreFault>
     ensures honest { D.is_honest disk.new ↔ D.is_honest disk.old }
-    ensures answer { D.is_honest disk.old → MatchResult result (λ _. refusal_of_new (D.seen disk.old) max_blocks ≡ None) (λ fault. Tells fault (refusal_of_new (D.seen disk.old) max_blocks)) }
+    ensures answer { D.is_honest disk.old
+        → MatchResult result (λ _. refusal_of_new (D.seen disk.old) max_blocks ≡ None)
+        (λ fault. Tells fault (refusal_of_new (D.seen disk.old) max_blocks)) }
     ensures seen { D.is_honest disk.old → D.seen disk.new ≡ D.seen disk.old }
     ensures crash { D.is_honest disk.old → Fewer (D.may_leave disk.old) (D.may_leave disk.new) }
-    ensures cause { D.is_honest disk.old → IsErrOf result StoreFault.Device → Failed (D.faults disk.old) (D.faults disk.new) }
+    ensures cause { D.is_honest disk.old → IsErrOf result StoreFault.Device
+        → Failed (D.faults disk.old) (D.faults disk.new) }
     ensures count { D.is_honest disk.old → OnOk result (D.faults disk.new ≡ D.faults disk.old) }
 {
     if disk.length()? != 0 {
@@ -84,7 +89,8 @@ fn check<D: Disk>(disk: &mut D, max_blocks: u32) -> Result<(), StoreFault>
 fn format<D: Disk>(disk: &mut D, bytes: &[u8]) -> Result<(), DiskFault>
     requires { IsBlank bytes.now }
     ensures honest { D.is_honest disk.new ↔ D.is_honest disk.old }
-    ensures ready { D.is_honest disk.old → length (D.seen disk.old) ≡ 0 → OnOk result (Leaves D.Disk disk.new (Rest nothing_kept)) }
+    ensures ready { D.is_honest disk.old → length (D.seen disk.old) ≡ 0
+        → OnOk result (Leaves D.Disk disk.new (Rest nothing_kept)) }
     ensures cause { D.is_honest disk.old → CountsFailure result (D.faults disk.old) (D.faults disk.new) }
 {
     disk.write_at(0, bytes)?;
@@ -117,9 +123,13 @@ fn prepare<D: Disk>(
     ensures ready { D.is_honest disk.old → IfOk result (λ rooms. Leaves D.Disk disk.new (Rest nothing_kept)) }
     ensures room { IfOk result (λ rooms. IsMapOf nothing_kept.extents (taken_of rooms.0.map)) }
     ensures limit { IfOk result (λ rooms. limit_of rooms.0.map ≡ max_blocks) }
-    ensures answer { D.is_honest disk.old → MatchResult result (λ _. refusal_of_new (D.seen disk.old) max_blocks ≡ None) (λ fault. Tells fault (refusal_of_new (D.seen disk.old) max_blocks)) }
-    ensures unchanged { D.is_honest disk.old → refusal_of_new (D.seen disk.old) max_blocks ≢ None → (D.seen disk.new ≡ D.seen disk.old) × Fewer (D.may_leave disk.old) (D.may_leave disk.new) }
-    ensures cause { D.is_honest disk.old → IsErrOf result StoreFault.Device → Failed (D.faults disk.old) (D.faults disk.new) }
+    ensures answer { D.is_honest disk.old
+        → MatchResult result (λ _. refusal_of_new (D.seen disk.old) max_blocks ≡ None)
+        (λ fault. Tells fault (refusal_of_new (D.seen disk.old) max_blocks)) }
+    ensures unchanged { D.is_honest disk.old → refusal_of_new (D.seen disk.old) max_blocks ≢ None
+        → (D.seen disk.new ≡ D.seen disk.old) × Fewer (D.may_leave disk.old) (D.may_leave disk.new) }
+    ensures cause { D.is_honest disk.old → IsErrOf result StoreFault.Device
+        → Failed (D.faults disk.old) (D.faults disk.new) }
 {
     check(disk, max_blocks)?;
     let bytes = blank(alloc)?;
@@ -137,11 +147,17 @@ pub fn create<D: Disk>(
 ) -> Result<Commit<D>, OpenFault<D>>
     ensures ok { D.is_honest disk → IfOk result (λ store. Stands D.Disk store nothing_kept) }
     ensures limit { IfOk result (λ store. limit_of store.room.map ≡ max_blocks) }
-    ensures answer { D.is_honest disk → MatchResult result (λ _. refusal_of_new (D.seen disk) max_blocks ≡ None) (λ refused. Tells refused.fault (refusal_of_new (D.seen disk) max_blocks)) }
-    ensures honest { MatchResult result (λ store. D.is_honest store.disk ↔ D.is_honest disk) (λ refused. D.is_honest refused.disk ↔ D.is_honest disk) }
+    ensures answer { D.is_honest disk
+        → MatchResult result (λ _. refusal_of_new (D.seen disk) max_blocks ≡ None)
+        (λ refused. Tells refused.fault (refusal_of_new (D.seen disk) max_blocks)) }
+    ensures honest { MatchResult result (λ store. D.is_honest store.disk ↔ D.is_honest disk)
+        (λ refused. D.is_honest refused.disk ↔ D.is_honest disk) }
     // A file that is refused stays as it is.
-    ensures unchanged { D.is_honest disk → refusal_of_new (D.seen disk) max_blocks ≢ None → IfErr result (λ refused. (D.seen refused.disk ≡ D.seen disk) × Fewer (D.may_leave disk) (D.may_leave refused.disk)) }
-    ensures cause { D.is_honest disk → IfErr result (λ refused. refused.fault ≡ StoreFault.Device → Failed (D.faults disk) (D.faults refused.disk)) }
+    ensures unchanged { D.is_honest disk → refusal_of_new (D.seen disk) max_blocks ≢ None
+        → IfErr result
+        (λ refused. (D.seen refused.disk ≡ D.seen disk) × Fewer (D.may_leave disk) (D.may_leave refused.disk)) }
+    ensures cause { D.is_honest disk
+        → IfErr result (λ refused. refused.fault ≡ StoreFault.Device → Failed (D.faults disk) (D.faults refused.disk)) }
 {
     match prepare(alloc, &mut disk, max_blocks) {
         Ok((room, next_room)) => Ok(Commit {

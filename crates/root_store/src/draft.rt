@@ -10,11 +10,9 @@ use crate::fault::StoreFault;
 use crate::room::Room;
 use crate::write::Write;
 use extent_map::extent::Extent as Run;
+use root_reading::fetching::BLOCK;
 use std::alloc::{AllocError, Global};
 use store_terms::root::Extent;
-
-/// How many bytes a block has.
-const BLOCK: usize = 4096;
 
 /// The records that have their places: what is taken with them, the runs that they take, and their writes.
 #[derive(Drop)]

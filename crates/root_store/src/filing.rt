@@ -3,7 +3,7 @@ ghost use Rattle.std.specs.Prelude.{◌≡◌, ◌⊎◌, ◌+◌, ◌<◌, ◌�
 ghost use Rattle.overlay_terms.specs.Column.{column_count};
 ghost use Rattle.extent_map.specs.declared.extent.Extent as runs;
 ghost use Rattle.extent_map.specs.FirstFit.{IsFull};
-ghost use Rattle.record_form.specs.Image.{finished};
+ghost use Rattle.record_form.specs.Image.{finished_of};
 ghost use Rattle.record_form.specs.Listing.{listed_of, listing_of, IsListable};
 ghost use Rattle.root_store.specs.Filing.{Filed};
 ghost use Rattle.root_store.specs.Drafting.{ArePlaced, IsDraft};
@@ -28,8 +28,8 @@ use tile_build::Tile;
 /// Whether the first of some tiles is that of a layer and column.
 fn is_here(layers: &Layers, place: usize, column: u8, tiles: &[(Name, u8, Tile)]) -> bool
     requires { place < length layers.now }
-    ensures here { IsTrue result → IsHere layers.now place column (map finished tiles.now) }
-    ensures elsewhere { IsFalse result → IsElsewhere layers.now place column (map finished tiles.now) }
+    ensures here { IsTrue result → IsHere layers.now place column (map finished_of tiles.now) }
+    ensures elsewhere { IsFalse result → IsElsewhere layers.now place column (map finished_of tiles.now) }
 {
     if tiles.is_empty() {
         return false;
@@ -54,10 +54,12 @@ fn file_tile<'a>(
     tiles: &'a [(Name, u8, Tile)],
 ) -> Result<(Option<Extent>, &'a [(Name, u8, Tile)]), StoreFault>
     requires place { place < length layers.now }
-    requires left { AreLeft layers.now place column (map finished tiles.now) }
+    requires left { AreLeft layers.now place column (map finished_of tiles.now) }
     ensures ok { (given : List runs.Extent) (limit : ℕ) (fs : List Filed) → IsDraft given limit fs draft.old
-        → IfOk result (λ r. IsTileFiled given limit fs layers.now place column (map finished tiles.now) (map finished r.1.now) r.0 draft.new) }
-    ensures left { IfOk result (λ r. AreLeft layers.now place (column + 1) (map finished r.1.now)) }
+        → IfOk result
+        (λ r. IsTileFiled given limit fs layers.now place column (map finished_of tiles.now)
+        (map finished_of r.1.now) r.0 draft.new) }
+    ensures left { IfOk result (λ r. AreLeft layers.now place (column + 1) (map finished_of r.1.now)) }
     ensures taken { (given : List runs.Extent) (limit : ℕ) (sizes : List ℕ) → ArePlaced given limit sizes draft.old
         → IfOk result (λ r. AreTaken given limit sizes layers.now place tiles.now r.1.now draft.new) }
     ensures full { (given : List runs.Extent) (limit : ℕ) (sizes : List ℕ) → ArePlaced given limit sizes draft.old
@@ -81,10 +83,12 @@ fn file_tiles<'a>(
     tiles: &'a [(Name, u8, Tile)],
 ) -> Result<(Vec<Option<Extent>>, &'a [(Name, u8, Tile)]), StoreFault>
     requires place { place < length layers.now }
-    requires left { AreLeft layers.now place 0 (map finished tiles.now) }
+    requires left { AreLeft layers.now place 0 (map finished_of tiles.now) }
     ensures ok { (given : List runs.Extent) (limit : ℕ) (fs : List Filed) → IsDraft given limit fs draft.old
-        → IfOk result (λ r. AreTilesFiled given limit fs layers.now place column_count (map finished tiles.now) (map finished r.1.now) r.0.items draft.new) }
-    ensures left { IfOk result (λ r. AreLeft layers.now place column_count (map finished r.1.now)) }
+        → IfOk result
+        (λ r. AreTilesFiled given limit fs layers.now place column_count (map finished_of tiles.now)
+        (map finished_of r.1.now) r.0.items draft.new) }
+    ensures left { IfOk result (λ r. AreLeft layers.now place column_count (map finished_of r.1.now)) }
     ensures count { IfOk result (λ r. length r.0.items ≡ column_count) }
     ensures taken { (given : List runs.Extent) (limit : ℕ) (sizes : List ℕ) → ArePlaced given limit sizes draft.old
         → IfOk result (λ r. AreTaken given limit sizes layers.now place tiles.now r.1.now draft.new) }
@@ -111,10 +115,12 @@ fn file_layer<'a>(
     tiles: &'a [(Name, u8, Tile)],
 ) -> Result<(Listed, &'a [(Name, u8, Tile)]), StoreFault>
     requires place { place < length layers.now }
-    requires left { AreLeft layers.now place 0 (map finished tiles.now) }
+    requires left { AreLeft layers.now place 0 (map finished_of tiles.now) }
     ensures ok { (given : List runs.Extent) (limit : ℕ) (fs : List Filed) → IsDraft given limit fs draft.old
-        → IfOk result (λ r. IsLayerFiled given limit fs layers.now place (map finished tiles.now) (map finished r.1.now) (listed_of r.0) draft.new) }
-    ensures left { IfOk result (λ r. AreLeft layers.now (place + 1) 0 (map finished r.1.now)) }
+        → IfOk result
+        (λ r. IsLayerFiled given limit fs layers.now place (map finished_of tiles.now) (map finished_of r.1.now)
+        (listed_of r.0) draft.new) }
+    ensures left { IfOk result (λ r. AreLeft layers.now (place + 1) 0 (map finished_of r.1.now)) }
     ensures listable { IfOk result (λ r. IsListable r.0) }
     ensures taken { (given : List runs.Extent) (limit : ℕ) (sizes : List ℕ) → ArePlaced given limit sizes draft.old
         → IfOk result (λ r. IsTaken given limit sizes layers.now place tiles.now r.1.now draft.new) }
@@ -153,9 +159,10 @@ pub(crate) fn file_layers(
     layers: &Layers,
     tiles: &[(Name, u8, Tile)],
 ) -> Result<Vec<Listed>, StoreFault>
-    requires { AreLeft layers.now 0 0 (map finished tiles.now) }
+    requires { AreLeft layers.now 0 0 (map finished_of tiles.now) }
     ensures ok { (given : List runs.Extent) (limit : ℕ) → IsDraft given limit [] draft.old
-        → IfOk result (λ v. AreLayersFiled given limit layers.now (map finished tiles.now) [] (listing_of v.items) draft.new) }
+        → IfOk result
+        (λ v. AreLayersFiled given limit layers.now (map finished_of tiles.now) [] (listing_of v.items) draft.new) }
     ensures listable { IfOk result (λ v. All IsListable v.items) }
     ensures count { IfOk result (λ v. length v.items ≡ length layers.now) }
     ensures taken { (given : List runs.Extent) (limit : ℕ) → ArePlaced given limit [] draft.old

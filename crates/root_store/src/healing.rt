@@ -1,22 +1,15 @@
 //! The completing write of opening a store.
 ghost use Rattle.std.specs.Prelude.{◌≡◌, ◌↔◌, ◌<◌, ◌^◌, IfErr};
 ghost use Rattle.disk_model.specs.Moments.{Leaves};
-ghost use Rattle.store_terms.specs.StandsFor.{body_at};
-ghost use Rattle.root_store.specs.Kept.{Kept, other, Shut};
-ghost use Rattle.root_store.specs.Looking.{Causes};
+ghost use Rattle.root_store.specs.Kept.{Kept, Shut};
+ghost use Rattle.root_reading.specs.Looking.{Causes};
 ghost use Rattle.root_store.specs.Opening.{Heals};
 
-use crate::load_fault::LoadFault;
+use crate::slots::other_body;
 use disk_model::disk::Disk;
 use record_form::root_body::write_body;
+use root_reading::load_fault::LoadFault;
 use store_terms::root::Root;
-
-/// Where the body of the slot stands that the root is not in.
-fn other_body(root: Root) -> usize
-    ensures { result ≡ body_at (other root) }
-{
-    if root.sequence % 2 == 0 { 4112 } else { 16 }
-}
 
 /// Puts behind the shut gate of the other slot a body that does no harm should it come open: the
 /// next sequence, and the same version and catalog.
@@ -25,7 +18,8 @@ pub(crate) fn heal<D: Disk>(disk: &mut D, root: Root) -> Result<(), LoadFault>
     ensures honest { D.is_honest disk.new ↔ D.is_honest disk.old }
     ensures err { IfErr result (λ e. e ≡ LoadFault.Device) }
     ensures cause { D.is_honest disk.old → Causes result (D.faults disk.old) (D.faults disk.new) }
-    ensures heals { D.is_honest disk.old → (x : Kept) → x.root ≡ root → Leaves D.Disk disk.old (Shut x) → Heals D.Disk disk.old disk.new result x }
+    ensures heals { D.is_honest disk.old → (x : Kept) → x.root ≡ root → Leaves D.Disk disk.old (Shut x)
+        → Heals D.Disk disk.old disk.new result x }
 {
     let twin = Root {
         sequence: root.sequence + 1,

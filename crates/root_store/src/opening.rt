@@ -1,36 +1,35 @@
 //! Opening a store.
-ghost use Rattle.std.specs.Prelude.{◌≡◌, ◌↔◌, ◌<◌, ◌≤◌, ◌^◌, length, map, Ok, IfOk, IfErr, MatchResult};
-ghost use Rattle.disk_model.specs.Disk.{Fewer};
+ghost use Rattle.std.specs.Prelude.{◌≡◌, ◌↔◌, ◌<◌, ◌≤◌, ◌^◌, length, map, Ok, IfOk, IfErr, OnOk, MatchResult};
+ghost use Rattle.disk_model.specs.Disk.{Fewer, Only};
 ghost use Rattle.disk_model.specs.Moments.{Leaves, LeavesOnly};
 ghost use Rattle.overlay_terms.specs.Commands.{version_max};
 ghost use Rattle.overlay_terms.specs.StoredTiles.{AreStored};
-ghost use Rattle.record_form.specs.Image.{finished};
+ghost use Rattle.record_form.specs.Image.{finished_of};
 ghost use Rattle.extent_map.specs.Taken.{taken_of, limit_of};
 ghost use Rattle.store_terms.specs.Frame.{extents_of};
 ghost use Rattle.store_terms.specs.Image.{held_of};
 ghost use Rattle.store_terms.specs.StandsFor.{reading};
 ghost use Rattle.root_store.specs.Kept.{Kept};
-ghost use Rattle.root_store.specs.Running.{IsMapOf, Stands};
-ghost use Rattle.root_store.specs.Looking.{Gives, Looks, Causes};
-ghost use Rattle.root_store.specs.Opening.{held_in, IsRead, Loads, Opened, Tells, FailedBy};
+ghost use Rattle.root_store.specs.Running.{Stands};
+ghost use Rattle.root_reading.specs.Taking.{IsMapOf};
+ghost use Rattle.root_reading.specs.Looking.{Gives, Looks, Causes};
+ghost use Rattle.root_store.specs.Opening.{held_in, IsRead, Loads, Opened, Tells, FailedBy, fault_of};
 
 use crate::commit::Commit;
-use crate::finding::find_root;
+use crate::fault::StoreFault;
 use crate::healing::heal;
-use crate::load_fault::LoadFault;
-use crate::loading::{Content, content_of};
 use crate::open_fault::OpenFault;
 use crate::phase::Phase;
-use crate::records::listing_at;
 use crate::room::Room;
 use crate::taking::room_of;
 use disk_model::disk::Disk;
 use record_form::image::Image;
+use root_reading::finding::{NUMBER_MAX, find_root};
+use root_reading::load_fault::LoadFault;
+use root_reading::loading::{Content, content_of};
+use root_reading::records::listing_at;
 use std::alloc::Global;
 use store_terms::root::Root;
-
-/// The greatest number of a commit.
-const SEQUENCE_MAX: u64 = 1 << 62;
 
 /// What is read of a file: its root, what the root holds, and the blocks that it takes.
 #[derive(Drop)]
@@ -61,11 +60,13 @@ fn read_root<D: Disk>(
 ) -> Result<Loaded, LoadFault>
     ensures honest { D.is_honest disk.new ↔ D.is_honest disk.old }
     ensures looks { D.is_honest disk.old → Looks D.Disk disk.old disk.new }
-    ensures gives { D.is_honest disk.old → length (D.seen disk.old) < 2 ^ 64 → Gives held_in result (held_of (D.seen disk.old) root) }
-    ensures room { D.is_honest disk.old → length (D.seen disk.old) < 2 ^ 64 → IfOk result (λ x. IsMapOf (extents_of (D.seen disk.old) root) (taken_of x.room.map)) }
+    ensures gives { D.is_honest disk.old → length (D.seen disk.old) < 2 ^ 64
+        → Gives held_in result (held_of (D.seen disk.old) root) }
+    ensures room { D.is_honest disk.old → length (D.seen disk.old) < 2 ^ 64
+        → IfOk result (λ x. IsMapOf (extents_of (D.seen disk.old) root) (taken_of x.room.map)) }
     ensures root { IfOk result (λ x. x.root ≡ root) }
     ensures limit { IfOk result (λ x. limit_of x.room.map ≡ max_blocks) }
-    ensures stored { IfOk result (λ x. AreStored x.content.layers (map finished x.content.tiles.items)) }
+    ensures stored { IfOk result (λ x. AreStored x.content.layers (map finished_of x.content.tiles.items)) }
     ensures cause { D.is_honest disk.old → Causes result (D.faults disk.old) (D.faults disk.new) }
 {
     let listing = listing_at(alloc, disk, root)?;
@@ -81,6 +82,18 @@ fn read_root<D: Disk>(
     })
 }
 
+/// Makes what was written stay: from then on a crash leaves what is seen, and nothing else.
+fn settle<D: Disk>(disk: &mut D) -> Result<(), LoadFault>
+    ensures honest { D.is_honest disk.new ↔ D.is_honest disk.old }
+    ensures looks { D.is_honest disk.old → Looks D.Disk disk.old disk.new }
+    ensures only { D.is_honest disk.old → OnOk result (Only (D.seen disk.old) (D.may_leave disk.new)) }
+    ensures err { IfErr result (λ e. e ≡ LoadFault.Device) }
+    ensures cause { D.is_honest disk.old → Causes result (D.faults disk.old) (D.faults disk.new) }
+{
+    disk.sync()?;
+    Ok(())
+}
+
 /// What a file holds, read after a sync, and whether one of its gates is shut.
 fn read_store<D: Disk>(
     alloc: Global,
@@ -93,11 +106,11 @@ fn read_store<D: Disk>(
     ensures gives { D.is_honest disk.old → Gives (λ x. held_in x.0) result (reading (D.seen disk.old)) }
     ensures read { D.is_honest disk.old → IfOk result (λ x. IsRead D.Disk disk.old disk.new x.0 x.1) }
     ensures limit { IfOk result (λ x. limit_of x.0.room.map ≡ max_blocks) }
-    ensures stored { IfOk result (λ x. AreStored x.0.content.layers (map finished x.0.content.tiles.items)) }
+    ensures stored { IfOk result (λ x. AreStored x.0.content.layers (map finished_of x.0.content.tiles.items)) }
     ensures numbered { IfOk result (λ x. x.0.root.version ≤ version_max) }
     ensures cause { D.is_honest disk.old → Causes result (D.faults disk.old) (D.faults disk.new) }
 {
-    disk.sync()?;
+    settle(disk)?;
     let (root, is_alone) = find_root(disk)?;
     let loaded = read_root(alloc, disk, root, max_blocks)?;
     Ok((loaded, is_alone))
@@ -112,7 +125,7 @@ pub(crate) fn load<D: Disk>(
     ensures honest { D.is_honest disk.new ↔ D.is_honest disk.old }
     ensures loads { D.is_honest disk.old → Loads D.Disk disk.old disk.new result }
     ensures limit { IfOk result (λ x. limit_of x.room.map ≡ max_blocks) }
-    ensures stored { IfOk result (λ x. AreStored x.content.layers (map finished x.content.tiles.items)) }
+    ensures stored { IfOk result (λ x. AreStored x.content.layers (map finished_of x.content.tiles.items)) }
     ensures numbered { IfOk result (λ x. x.root.version ≤ version_max) }
     ensures cause { D.is_honest disk.old → Causes result (D.faults disk.old) (D.faults disk.new) }
 {
@@ -120,11 +133,22 @@ pub(crate) fn load<D: Disk>(
     if !is_alone {
         return Ok(loaded);
     }
-    if loaded.root.sequence >= SEQUENCE_MAX {
+    if loaded.root.sequence >= NUMBER_MAX {
         return Ok(loaded);
     }
     heal(disk, loaded.root)?;
     Ok(loaded)
+}
+
+/// The fault as one of the store.
+fn told(fault: LoadFault) -> StoreFault
+    ensures { result ≡ fault_of fault }
+{
+    match fault {
+        LoadFault::Device => StoreFault::Device,
+        LoadFault::Damaged(damage) => StoreFault::Damaged(damage),
+        LoadFault::OutOfMemory => StoreFault::OutOfMemory,
+    }
 }
 
 /// Opens the store of a file that a crash may have left: what it stands for, or what is wrong with it.
@@ -134,13 +158,24 @@ pub fn open<D: Disk>(
     mut disk: D,
     max_blocks: u32,
 ) -> Result<(Commit<D>, Image), OpenFault<D>>
-    ensures gives { D.is_honest disk → MatchResult result (λ x. reading (D.seen disk) ≡ Ok x.1) (λ refused. Tells refused.fault (reading (D.seen disk))) }
+    ensures gives { D.is_honest disk
+        → MatchResult result (λ x. reading (D.seen disk) ≡ Ok x.1)
+        (λ refused. Tells refused.fault (reading (D.seen disk))) }
     // A crash at any moment of the call leaves what it might have left before, or what stands for the same.
-    ensures ok { D.is_honest disk → IfOk result (λ x. (k : Kept) × (k.held ≡ x.1) × Stands D.Disk x.0 k × LeavesOnly D.Disk disk x.0.disk (Opened D.Disk disk)) }
-    ensures err { D.is_honest disk → IfErr result (λ refused. D.is_honest refused.disk × Leaves D.Disk refused.disk (Opened D.Disk disk) × LeavesOnly D.Disk disk refused.disk (Opened D.Disk disk)) }
-    ensures honest { MatchResult result (λ x. D.is_honest x.0.disk ↔ D.is_honest disk) (λ refused. D.is_honest refused.disk ↔ D.is_honest disk) }
+    ensures ok { D.is_honest disk
+        → IfOk result
+        (λ x. (k : Kept) × (k.held ≡ x.1) × Stands D.Disk x.0 k
+        × LeavesOnly D.Disk disk x.0.disk (Opened D.Disk disk)) }
+    ensures err { D.is_honest disk
+        → IfErr result
+        (λ refused. D.is_honest refused.disk × Leaves D.Disk refused.disk (Opened D.Disk disk)
+        × LeavesOnly D.Disk disk refused.disk (Opened D.Disk disk)) }
+    ensures honest { MatchResult result (λ x. D.is_honest x.0.disk ↔ D.is_honest disk)
+        (λ refused. D.is_honest refused.disk ↔ D.is_honest disk) }
     ensures limit { IfOk result (λ x. limit_of x.0.room.map ≡ max_blocks) }
-    ensures cause { D.is_honest disk → MatchResult result (λ x. D.faults x.0.disk ≡ D.faults disk) (λ refused. FailedBy refused.fault (D.faults disk) (D.faults refused.disk)) }
+    ensures cause { D.is_honest disk
+        → MatchResult result (λ x. D.faults x.0.disk ≡ D.faults disk)
+        (λ refused. FailedBy refused.fault (D.faults disk) (D.faults refused.disk)) }
 {
     match load(alloc, &mut disk, max_blocks) {
         Ok(loaded) => {
@@ -159,7 +194,7 @@ pub fn open<D: Disk>(
             Ok((commit, image))
         }
         Err(fault) => Err(OpenFault {
-            fault: fault.told(),
+            fault: told(fault),
             disk,
         }),
     }

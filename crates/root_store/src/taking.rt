@@ -1,90 +1,21 @@
-//! The blocks that the records of a root take.
-ghost use Rattle.std.specs.Prelude.{◌≡◌, ◌++◌, ◌∷◌, [], ◌⊎◌, List, IfOk, OnOk, IfErr};
+//! The room that the records of a root take.
+ghost use Rattle.std.specs.Prelude.{◌≡◌, ◌∷◌, ◌⊎◌, IfOk, IfErr};
 ghost use Rattle.extent_map.specs.Taken.{taken_of, limit_of};
-ghost use Rattle.record_form.specs.Listing.{listing_of, records_of};
-ghost use Rattle.store_terms.specs.Places.{blocks, some_extents, extents_of_records, extents_listed};
-ghost use Rattle.store_terms.specs.declared.root.Extent as terms;
-ghost use Rattle.root_store.specs.Running.{IsMapOf};
-ghost use Rattle.root_store.specs.Taking.{IsNear, AllNear, AreRunsFor, if_apart};
-ghost use Rattle.root_store.specs.Looking.{Gives};
+ghost use Rattle.record_form.specs.Listing.{listing_of};
 ghost use Rattle.store_terms.specs.Image.{Held};
+ghost use Rattle.store_terms.specs.Places.{extents_listed};
 ghost use Rattle.store_terms.specs.declared.damage.Damage.TheVariants.{Overlap};
+ghost use Rattle.root_reading.specs.Looking.{Gives};
+ghost use Rattle.root_reading.specs.Taking.{IsMapOf, AllNear, if_apart};
 
-use crate::fetching::blocks_of;
-use crate::load_fault::LoadFault;
 use crate::room::Room;
-use extent_map::extent::Extent as Run;
 use extent_map::fault::ExtentFault;
-use record_form::catalog::{Listed, Records};
-use std::alloc::{AllocError, Global};
+use record_form::catalog::Listed;
+use root_reading::load_fault::LoadFault;
+use root_reading::taking::runs_of;
+use std::alloc::Global;
 use store_terms::damage::Damage;
 use store_terms::root::Extent;
-
-/// The run of blocks of an extent; some run where its end is no number of 64 bits.
-fn run_of(extent: Extent) -> Run
-    ensures { IsNear extent → (result.block ≡ extent.block) × (result.blocks ≡ blocks extent.size) }
-{
-    if let Some(run) = Run::new(extent.block, blocks_of(extent.size)) {
-        return run;
-    }
-    let Some(first) = Run::new(0, 1) else {
-        unreachable!()
-    };
-    first
-}
-
-#[tactic(auto, using(crate::proofs::TakingLemmas::runs_more))]
-fn add_run(runs: &mut Vec<Run>, extent: Extent) -> Result<(), AllocError>
-    ensures { (es : List terms.Extent) → AreRunsFor es runs.old.items → OnOk result (AreRunsFor (es ++ extent ∷ []) runs.new.items) }
-{
-    runs.push(run_of(extent))?;
-    Ok(())
-}
-
-/// Adds the run of a tile, if it is finished.
-fn add_entry(runs: &mut Vec<Run>, entry: Option<Extent>) -> Result<(), AllocError>
-    ensures { (es : List terms.Extent) → AreRunsFor es runs.old.items → OnOk result (AreRunsFor (es ++ some_extents (entry ∷ [])) runs.new.items) }
-{
-    match entry {
-        Some(extent) => add_run(runs, extent),
-        None => Ok(()),
-    }
-}
-
-/// Adds the run of each tile that is finished.
-fn add_entries(runs: &mut Vec<Run>, entries: &[Option<Extent>]) -> Result<(), AllocError>
-    ensures { (es : List terms.Extent) → AreRunsFor es runs.old.items → OnOk result (AreRunsFor (es ++ some_extents entries.now) runs.new.items) }
-{
-    for entry in entries.iter() {
-        add_entry(runs, *entry)?;
-    }
-    Ok(())
-}
-
-/// Adds the runs of a layer's records.
-fn add_records(runs: &mut Vec<Run>, records: &Records) -> Result<(), AllocError>
-    ensures { (es : List terms.Extent) → AreRunsFor es runs.old.items → OnOk result (AreRunsFor (es ++ extents_of_records (records_of records.now)) runs.new.items) }
-{
-    match records {
-        Records::Base(extent) => add_run(runs, *extent),
-        Records::Derived(extent, entries) => {
-            add_run(runs, *extent)?;
-            add_entries(runs, entries)
-        }
-    }
-}
-
-/// The runs of a catalog and of the records that it lists.
-fn runs_of(alloc: Global, catalog: Extent, listing: &[Listed]) -> Result<Vec<Run>, AllocError>
-    ensures { IfOk result (λ runs. AreRunsFor (catalog ∷ extents_listed (listing_of listing.now)) runs.items) }
-{
-    let mut runs = Vec::new(alloc);
-    add_run(&mut runs, catalog)?;
-    for layer in listing {
-        add_records(&mut runs, &layer.records)?;
-    }
-    Ok(runs)
-}
 
 /// The room that a catalog and the records that it lists take, if no two have a block in common.
 pub(crate) fn room_of(
@@ -93,8 +24,10 @@ pub(crate) fn room_of(
     listing: &[Listed],
     max_blocks: u32,
 ) -> Result<Room, LoadFault>
-    ensures taken { AllNear (catalog ∷ extents_listed (listing_of listing.now)) → IfOk result (λ room. IsMapOf (catalog ∷ extents_listed (listing_of listing.now)) (taken_of room.map)) }
-    ensures reads { AllNear (catalog ∷ extents_listed (listing_of listing.now)) → (held : Held) → Gives (λ room. held) result (if_apart (catalog ∷ extents_listed (listing_of listing.now)) held) }
+    ensures taken { AllNear (catalog ∷ extents_listed (listing_of listing.now))
+        → IfOk result (λ room. IsMapOf (catalog ∷ extents_listed (listing_of listing.now)) (taken_of room.map)) }
+    ensures reads { AllNear (catalog ∷ extents_listed (listing_of listing.now)) → (held : Held)
+        → Gives (λ room. held) result (if_apart (catalog ∷ extents_listed (listing_of listing.now)) held) }
     ensures errors { IfErr result (λ e. (e ≡ LoadFault.OutOfMemory) ⊎ (e ≡ LoadFault.Damaged Overlap)) }
     ensures limit { IfOk result (λ room. limit_of room.map ≡ max_blocks) }
 {

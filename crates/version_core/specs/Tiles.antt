@@ -15,8 +15,8 @@ abbrev pub finished : FinishedTile → Finished
 finished f = record { name = f.name; column = f.column; tile = tile_of f.tile.value }
 
 -- a tile with its name and its column, as a caller gives it
-abbrev pub given : Name × ℕ × Tile → Finished
-given t = record { name = t.0; column = t.1; tile = tile_of t.2 }
+abbrev pub finished_of : Name × ℕ × Tile → Finished
+finished_of t = record { name = t.0; column = t.1; tile = tile_of t.2 }
 
 -- whether a finished tile is that of a layer and column
 abbrev pub is_of : Name → ℕ → Finished → Bool

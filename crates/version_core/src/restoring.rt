@@ -3,7 +3,7 @@ ghost use Rattle.std.specs.Prelude.{◌≡◌, ◌<◌, ◌≤◌, All, IfOk, If
 ghost use Rattle.overlay_terms.specs.Column.{column_count};
 ghost use Rattle.overlay_terms.specs.Commands.{version_max};
 ghost use Rattle.overlay_terms.specs.StoredTiles.{AreStored};
-ghost use Rattle.version_core.specs.Tiles.{finished, given};
+ghost use Rattle.version_core.specs.Tiles.{finished, finished_of};
 
 use crate::fault::VersionFault;
 use crate::tiles::FinishedTile;
@@ -27,8 +27,8 @@ impl Version {
         tiles: Vec<(Name, u8, Tile)>,
     ) -> Result<Version, VersionFault>
         requires small { number ≤ version_max }
-        requires stored { AreStored layers (map given tiles.items) }
-        ensures ok { IfOk result (λ version. version ≡ record { number = number; layers = layers; tiles = map given tiles.items; durable = number }) }
+        requires stored { AreStored layers (map finished_of tiles.items) }
+        ensures ok { IfOk result (λ version. version ≡ record { number = number; layers = layers; tiles = map finished_of tiles.items; durable = number }) }
         ensures err { IfErr result (λ fault. fault ≡ VersionFault.Layer LayerFault.OutOfMemory) }
     {
         prove!(layers.len() <= MAX_LAYERS);
@@ -44,8 +44,8 @@ impl Version {
 
 /// The tiles, as versions share them.
 fn shared(alloc: Global, tiles: Vec<(Name, u8, Tile)>) -> Result<Vec<FinishedTile>, AllocError>
-    requires { All (λ f. f.column < column_count) (map given tiles.items) }
-    ensures { IfOk result (λ held. map finished held.items ≡ map given tiles.items) }
+    requires { All (λ f. f.column < column_count) (map finished_of tiles.items) }
+    ensures { IfOk result (λ held. map finished held.items ≡ map finished_of tiles.items) }
 {
     let mut held = Vec::new(alloc);
     for tile in tiles {
@@ -56,8 +56,8 @@ fn shared(alloc: Global, tiles: Vec<(Name, u8, Tile)>) -> Result<Vec<FinishedTil
 
 /// A tile, as versions share it.
 fn shared_tile(alloc: Global, tile: (Name, u8, Tile)) -> Result<FinishedTile, AllocError>
-    requires { (given tile).column < column_count }
-    ensures { IfOk result (λ held. finished held ≡ given tile) }
+    requires { (finished_of tile).column < column_count }
+    ensures { IfOk result (λ held. finished held ≡ finished_of tile) }
 {
     let (name, column, tile) = tile;
     match Column::new(u64::from(column)) {

@@ -2,7 +2,7 @@ use Rattle.std.proofs.Common.{◌≡◌, List, map, ap, sym, subst, ◌∙◌}
 use Rattle.overlay_terms.specs.Layers.{Layer}
 use Rattle.overlay_terms.specs.Histories.{Finished, tile_at}
 use Rattle.overlay_terms.specs.StoredTiles.{AreStored}
-use Rattle.record_form.specs.Image.{finished, held}
+use Rattle.record_form.specs.Image.{finished_of, held}
 use Rattle.flush_core.specs.Imaging.{version_held}
 use Rattle.flush_core.specs.Stored.{IsImageOf}
 use Rattle.flush_core.proofs.ImageLemmas.{same_tiles, are_stored}
@@ -11,7 +11,7 @@ use Rattle.flush_core.proofs.imaging.image_of.Goals as goal
 pub new-requires-clause-stored : goal.new-requires-clause-stored
 new-requires-clause-stored c =
     let version = c.args.version.now in
-    subst (λ (layers : List Layer). AreStored layers (map finished c.in_ok-tiles.tiles.items)) (sym (c.in_ok-layers.ensures ∙ c.layers.ensures.value))
+    subst (λ (layers : List Layer). AreStored layers (map finished_of c.in_ok-tiles.tiles.items)) (sym (c.in_ok-layers.ensures ∙ c.layers.ensures.value))
     (subst (AreStored version.layers) (sym c.in_ok-tiles.ensures) (are_stored version c.layers.ensures.valid))
 
 pub returns-clause-value : goal.returns-clause-value

@@ -8,7 +8,9 @@ use Rattle.record_form.proofs.base_record.points_at.Goals as goal
 pub returns-in_err-rest : goal.returns-in_err-rest
 returns-in_err-rest c =
     let p = err_from_is_err_and c.from_residual.result c.from_residual.ensures.1 in
-    rw (p.1, p.2) (fails whole_point.read c.in_err-rest.field-0.0 c.loop.points.items c.args.count c.loop.counter c.loop.rest.now (read_many whole_point.read c.args.count c.args.bytes.now) c.loop-test.true c.in_err-rest.ensures.err c.loop.invariant)
+    rw (p.1, p.2)
+    (fails whole_point.read c.in_err-rest.field-0.0 c.loop.points.items c.args.count c.loop.counter c.loop.rest.now
+    (read_many whole_point.read c.args.count c.args.bytes.now) c.loop-test.true c.in_err-rest.ensures.err c.loop.invariant)
 
 pub loop-preserved : goal.loop-preserved
 loop-preserved c =

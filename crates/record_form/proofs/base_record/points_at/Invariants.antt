@@ -5,4 +5,6 @@ use Rattle.store_terms.proofs.Loops.{with_front}
 use Rattle.record_form.proofs.base_record.points_at.Given as goal
 
 abbrev pub invariant-loop : goal.invariant-loop
-invariant-loop l = with_front l.points.items (read_many whole_point.read (l.count - l.counter) l.rest) ≡ read_many whole_point.read l.count l.bytes
+invariant-loop l =
+    with_front l.points.items (read_many whole_point.read (l.count - l.counter) l.rest)
+    ≡ read_many whole_point.read l.count l.bytes

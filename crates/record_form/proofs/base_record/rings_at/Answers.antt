@@ -8,7 +8,9 @@ use Rattle.record_form.proofs.base_record.rings_at.Goals as goal
 pub returns-in_err-ring : goal.returns-in_err-ring
 returns-in_err-ring c =
     let p = err_from_is_err_and c.from_residual.result c.from_residual.ensures.1 in
-    rw (p.1, p.2) (fails ring.read c.in_err-ring.field-0.0 c.loop.rings.items c.args.count c.loop.counter c.loop.rest.now (read_many ring.read c.args.count c.args.bytes.now) c.loop-test.true c.in_err-ring.ensures c.loop.invariant)
+    rw (p.1, p.2)
+    (fails ring.read c.in_err-ring.field-0.0 c.loop.rings.items c.args.count c.loop.counter c.loop.rest.now
+    (read_many ring.read c.args.count c.args.bytes.now) c.loop-test.true c.in_err-ring.ensures c.loop.invariant)
 
 pub loop-preserved : goal.loop-preserved
 loop-preserved c =

@@ -21,6 +21,9 @@ returns-clause-reads_back c =
     let all = c.rings-rings.result.now in
     let held : all ≡ c.args.layer.now = c.rings-rings.ensures.value in
     let text : c.loop-ring.out.items ≡ rings.text all =
-    c.loop-ring.invariant ∙ ap (λ (l : List (List WholePoint)). big_bytes 2 (length all) ++ flat_map ring.text l) (take_all c.loop-ring.ring-index all c.loop-ring-test.false) in
+    c.loop-ring.invariant
+    ∙ ap (λ (l : List (List WholePoint)). big_bytes 2 (length all) ++ flat_map ring.text l)
+    (take_all c.loop-ring.ring-index all c.loop-ring-test.false) in
     ap base_of_record (text ∙ ap rings.text held)
-    ∙ base_reads_back c.args.layer.now (ap rings_fault (sym held) ∙ c.rings-rings.ensures.valid) c.rings-rings.ensures.rings
+    ∙ base_reads_back c.args.layer.now
+    (ap rings_fault (sym held) ∙ c.rings-rings.ensures.valid) c.rings-rings.ensures.rings

@@ -13,10 +13,15 @@ pub returns-in_err-layer : goal.returns-in_err-layer
 returns-in_err-layer c =
     let p = err_from_is_err_and c.from_residual.result c.from_residual.ensures.1 in
     rw (p.1, p.2)
-    (fails (listed column_count).read c.in_err-layer.field-0.0 (listing_of c.loop.listing.items) c.args.count c.loop.counter c.loop.rest.now (read_many (listed column_count).read c.args.count c.args.bytes.now) c.loop-test.true c.in_err-layer.ensures c.loop.invariant)
+    (fails (listed column_count).read c.in_err-layer.field-0.0
+    (listing_of c.loop.listing.items) c.args.count c.loop.counter c.loop.rest.now
+    (read_many (listed column_count).read c.args.count c.args.bytes.now) c.loop-test.true c.in_err-layer.ensures c.loop.invariant)
 
 pub loop-preserved : goal.loop-preserved
 loop-preserved c =
-    let pushed = ap listing_of c.in_ok-push.ensures.items ∙ map-append listed_of c.loop.listing.items (c.in_ok-layer.layer ∷ []) in
+    let pushed = ap listing_of c.in_ok-push.ensures.items
+    ∙ map-append listed_of c.loop.listing.items (c.in_ok-layer.layer ∷ []) in
     rw pushed
-    (goes_on (listed column_count).read (listing_of c.loop.listing.items) c.args.count c.loop.counter c.loop.rest.now (listed_of c.in_ok-layer.layer) c.in_ok-layer.after.now (read_many (listed column_count).read c.args.count c.args.bytes.now) c.loop-test.true c.in_ok-layer.ensures c.loop.invariant)
+    (goes_on (listed column_count).read (listing_of c.loop.listing.items) c.args.count c.loop.counter c.loop.rest.now
+    (listed_of c.in_ok-layer.layer) c.in_ok-layer.after.now
+    (read_many (listed column_count).read c.args.count c.args.bytes.now) c.loop-test.true c.in_ok-layer.ensures c.loop.invariant)

@@ -7,4 +7,6 @@ use Rattle.record_form.specs.Listing.{listing_of}
 use Rattle.record_form.proofs.catalog.listing_at.Given as goal
 
 abbrev pub invariant-loop : goal.invariant-loop
-invariant-loop l = with_front (listing_of l.listing.items) (read_many (listed column_count).read (l.count - l.counter) l.rest) ≡ read_many (listed column_count).read l.count l.bytes
+invariant-loop l =
+    with_front (listing_of l.listing.items) (read_many (listed column_count).read (l.count - l.counter) l.rest)
+    ≡ read_many (listed column_count).read l.count l.bytes

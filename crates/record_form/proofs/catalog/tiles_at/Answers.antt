@@ -9,7 +9,9 @@ use Rattle.record_form.proofs.catalog.tiles_at.Goals as goal
 pub returns-in_err-tile : goal.returns-in_err-tile
 returns-in_err-tile c =
     let p = err_from_is_err_and c.from_residual.result c.from_residual.ensures.1 in
-    rw (p.1, p.2) (fails (optional extent).read c.in_err-tile.field-0.0 c.loop.tiles.items 17 c.loop.counter c.loop.rest.now (read_many (optional extent).read 17 c.args.bytes.now) c.loop-test.true c.in_err-tile.ensures c.loop.invariant)
+    rw (p.1, p.2)
+    (fails (optional extent).read c.in_err-tile.field-0.0 c.loop.tiles.items 17 c.loop.counter c.loop.rest.now
+    (read_many (optional extent).read 17 c.args.bytes.now) c.loop-test.true c.in_err-tile.ensures c.loop.invariant)
 
 pub loop-preserved : goal.loop-preserved
 loop-preserved c =

@@ -6,4 +6,6 @@ use Rattle.store_terms.proofs.Loops.{with_front}
 use Rattle.record_form.proofs.catalog.tiles_at.Given as goal
 
 abbrev pub invariant-loop : goal.invariant-loop
-invariant-loop l = with_front l.tiles.items (read_many (optional extent).read (17 - l.counter) l.rest) ≡ read_many (optional extent).read 17 l.bytes
+invariant-loop l =
+    with_front l.tiles.items (read_many (optional extent).read (17 - l.counter) l.rest)
+    ≡ read_many (optional extent).read 17 l.bytes

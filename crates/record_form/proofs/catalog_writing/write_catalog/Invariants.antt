@@ -6,4 +6,5 @@ use Rattle.record_form.specs.Putting.{ArePut}
 use Rattle.record_form.proofs.catalog_writing.write_catalog.Given as goal
 
 abbrev pub invariant-loop-layer : goal.invariant-loop-layer
-invariant-loop-layer l = ArePut (listed column_count) (take l.layer-index (listing_of l.listing)) l.initial.out.items l.out.items
+invariant-loop-layer l =
+    ArePut (listed column_count) (take l.layer-index (listing_of l.listing)) l.initial.out.items l.out.items

@@ -11,10 +11,12 @@ returns-in_err-expression c =
 
 pub returns-then-ne : goal.returns-then-ne
 returns-then-ne c =
-    another_text c.as_slice.result.now c.args.bytes.now c.in_ok-expression.expression c.in_ok-expression.ensures.ok (c.as_slice.ensures.value ∙ c.in_ok-text.ensures)
+    another_text c.as_slice.result.now c.args.bytes.now c.in_ok-expression.expression c.in_ok-expression.ensures.ok
+    (c.as_slice.ensures.value ∙ c.in_ok-text.ensures)
     (not-true _ (sym c.ne.ensures ∙ c.if-ne.true))
 
 pub returns : goal.returns
 returns c =
-    same_text c.as_slice.result.now c.args.bytes.now c.in_ok-expression.expression c.in_ok-expression.ensures.ok (c.as_slice.ensures.value ∙ c.in_ok-text.ensures)
+    same_text c.as_slice.result.now c.args.bytes.now c.in_ok-expression.expression c.in_ok-expression.ensures.ok
+    (c.as_slice.ensures.value ∙ c.in_ok-text.ensures)
     (not-false _ (sym c.ne.ensures ∙ c.if-ne.false))

@@ -8,7 +8,9 @@ use Rattle.record_form.proofs.pieces.pieces_at.Goals as goal
 pub returns-in_err-piece : goal.returns-in_err-piece
 returns-in_err-piece c =
     let p = err_from_is_err_and c.from_residual.result c.from_residual.ensures.1 in
-    rw (p.1, p.2) (fails piece.read c.in_err-piece.field-0.0 c.loop.pieces.items c.args.count c.loop.counter c.loop.rest.now (read_many piece.read c.args.count c.args.bytes.now) c.loop-test.true c.in_err-piece.ensures c.loop.invariant)
+    rw (p.1, p.2)
+    (fails piece.read c.in_err-piece.field-0.0 c.loop.pieces.items c.args.count c.loop.counter c.loop.rest.now
+    (read_many piece.read c.args.count c.args.bytes.now) c.loop-test.true c.in_err-piece.ensures c.loop.invariant)
 
 pub loop-preserved : goal.loop-preserved
 loop-preserved c =

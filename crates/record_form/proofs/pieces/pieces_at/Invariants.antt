@@ -5,4 +5,5 @@ use Rattle.store_terms.proofs.Loops.{with_front}
 use Rattle.record_form.proofs.pieces.pieces_at.Given as goal
 
 abbrev pub invariant-loop : goal.invariant-loop
-invariant-loop l = with_front l.pieces.items (read_many piece.read (l.count - l.counter) l.rest) ≡ read_many piece.read l.count l.bytes
+invariant-loop l =
+    with_front l.pieces.items (read_many piece.read (l.count - l.counter) l.rest) ≡ read_many piece.read l.count l.bytes

@@ -3,4 +3,5 @@ use Rattle.store_terms.proofs.NameTests.{tested}
 use Rattle.record_form.proofs.pieces.stands_for_a_place.Goals as goal
 
 pub returns : goal.returns
-returns c = c.is_some.ensures ∙ tested c.args.name.now c.point.result c.point.ensures.known c.point.ensures.place c.point.ensures.value
+returns c = c.is_some.ensures
+    ∙ tested c.args.name.now c.point.result c.point.ensures.known c.point.ensures.place c.point.ensures.value

@@ -13,4 +13,9 @@ returns c =
     let version = c.read_u64-2.ensures ∙ ap (big_number 8) (tail_is 20 bytes) in
     let block = c.read_u64-3.ensures ∙ ap (big_number 8) (tail_is 28 bytes) in
     let size = c.read_u32-2.ensures ∙ ap (big_number 4) (tail_is 36 bytes) in
-    λ i. record { is_ours = c.eq.ensures i; format = format i; root = record { sequence = sequence i; version = version i; catalog = record { block = block i; size = size i } } }
+    λ i. record {
+      is_ours = c.eq.ensures i;
+      format = format i;
+      root =
+          record { sequence = sequence i; version = version i; catalog = record { block = block i; size = size i } };
+    }

@@ -1,8 +1,8 @@
 use Rattle.std.proofs.Common.{[], ◌∷◌}
 use Rattle.extent_map.specs.Taken.{taken_of}
-use Rattle.root_store.specs.Running.{AreRunsOf}
+use Rattle.root_reading.specs.Taking.{AreRunsOf}
 use Rattle.root_store.specs.Creating.{nothing_kept}
-use Rattle.root_store.proofs.Rooms.{map_of_runs}
+use Rattle.root_reading.proofs.Rooms.{map_of_runs}
 use Rattle.root_store.proofs.creating.rooms.Goals as goal
 
 pub returns-clause-room : goal.returns-clause-room

@@ -1,7 +1,7 @@
 use Rattle.std.proofs.Common.{◌≡◌, ℕ, List, [], length, take, map}
 use Rattle.std.specs.List.{All, flat_map}
 use Rattle.extent_map.specs.declared.extent.Extent as runs
-use Rattle.record_form.specs.Image.{finished}
+use Rattle.record_form.specs.Image.{finished_of}
 use Rattle.record_form.specs.Listing.{listing_of, IsListable}
 use Rattle.root_store.specs.Drafting.{ArePlaced, IsDraft}
 use Rattle.root_store.specs.Sizes.{sizes_of_layer}
@@ -11,9 +11,13 @@ use Rattle.root_store.proofs.filing.file_layers.Given as goal
 
 abbrev pub invariant-loop-place : goal.invariant-loop-place
 invariant-loop-place l = record {
-  ok : (given : List runs.Extent) (limit : ℕ) → IsDraft given limit [] l.fn.draft → AreLayersFiled given limit (take l.place l.layers) (map finished l.tiles) (map finished l.rest) (listing_of l.listing.items) l.draft;
-  taken : (given : List runs.Extent) (limit : ℕ) → ArePlaced given limit [] l.fn.draft → ArePlaced given limit (flat_map (sizes_of_layer l.tiles) (take l.place l.layers)) l.draft × AreSplit l.layers l.place l.tiles l.rest;
-  left : AreLeft l.layers l.place 0 (map finished l.rest);
+  ok : (given : List runs.Extent) (limit : ℕ) → IsDraft given limit [] l.fn.draft
+      → AreLayersFiled given limit (take l.place l.layers) (map finished_of l.tiles) (map finished_of l.rest)
+      (listing_of l.listing.items) l.draft;
+  taken : (given : List runs.Extent) (limit : ℕ) → ArePlaced given limit [] l.fn.draft
+      → ArePlaced given limit (flat_map (sizes_of_layer l.tiles) (take l.place l.layers)) l.draft
+      × AreSplit l.layers l.place l.tiles l.rest;
+  left : AreLeft l.layers l.place 0 (map finished_of l.rest);
   listable : All IsListable l.listing.items;
   count : length l.listing.items ≡ l.place;
 }

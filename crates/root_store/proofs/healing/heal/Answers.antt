@@ -15,11 +15,13 @@ returns-in_err-write_at-clause-heals g c honest x is all =
     let old = c.args.disk.now in
     let mid = c.write_at.new.self in
     let w = c.write_at.ensures in
-    let now : (f : List ℕ) → k.left_since old (k.moment old) f → k.may_leave old f = λ f left. g.met.D.Disk.only_now old f honest left in
+    let now : (f : List ℕ) → k.left_since old (k.moment old) f → k.may_leave old f =
+    λ f left. g.met.D.Disk.only_now old f honest left in
     let there = c.other_body.ensures ∙ ap (λ (r : Root). body_at (other r)) (sym is) in
     let text = c.write_body-body.ensures.spelled ∙ ap (λ (r : Root). body_text (twin r)) (sym is) in
     let shut = still_shut k old mid x c.other_body.result c.write_body-body.result there text all (w.crash honest) in
-    healing_failed k old mid c.from_residual.result x c.from_residual.ensures.0 (w.honest.1 honest) (one_call k old mid (Shut x) now all (w.time honest) shut) shut
+    healing_failed k old mid c.from_residual.result x c.from_residual.ensures.0 (w.honest.1 honest)
+    (one_call k old mid (Shut x) now all (w.time honest) shut) shut
 
 pub returns-in_err-sync-clause-heals : goal.returns-in_err-sync-clause-heals
 returns-in_err-sync-clause-heals g c honest x is all =
@@ -28,14 +30,16 @@ returns-in_err-sync-clause-heals g c honest x is all =
     let mid = c.write_at.new.self in
     let new = c.sync.new.self in
     let w = c.write_at.ensures in
-    let now : (f : List ℕ) → k.left_since old (k.moment old) f → k.may_leave old f = λ f left. g.met.D.Disk.only_now old f honest left in
+    let now : (f : List ℕ) → k.left_since old (k.moment old) f → k.may_leave old f =
+    λ f left. g.met.D.Disk.only_now old f honest left in
     let there = c.other_body.ensures ∙ ap (λ (r : Root). body_at (other r)) (sym is) in
     let text = c.write_body-body.ensures.spelled ∙ ap (λ (r : Root). body_text (twin r)) (sym is) in
     let shut = still_shut k old mid x c.other_body.result c.write_body-body.result there text all (w.crash honest) in
     let written = one_call k old mid (Shut x) now all (w.time honest) shut in
     let on = w.honest.1 honest in
     let still = leaves_fewer k mid new (Shut x) shut (c.sync.ensures.crash on) in
-    healing_failed k old new c.from_residual-in_err-sync.result x c.from_residual-in_err-sync.ensures.0 (c.sync.ensures.honest.1 on) (goes_on k old mid new (Shut x) written (c.sync.ensures.time on) still) still
+    healing_failed k old new c.from_residual-in_err-sync.result x c.from_residual-in_err-sync.ensures.0
+    (c.sync.ensures.honest.1 on) (goes_on k old mid new (Shut x) written (c.sync.ensures.time on) still) still
 
 pub returns-clause-heals : goal.returns-clause-heals
 returns-clause-heals g c honest x is all =
@@ -44,7 +48,8 @@ returns-clause-heals g c honest x is all =
     let mid = c.write_at.new.self in
     let new = c.sync.new.self in
     let w = c.write_at.ensures in
-    let now : (f : List ℕ) → k.left_since old (k.moment old) f → k.may_leave old f = λ f left. g.met.D.Disk.only_now old f honest left in
+    let now : (f : List ℕ) → k.left_since old (k.moment old) f → k.may_leave old f =
+    λ f left. g.met.D.Disk.only_now old f honest left in
     let there = c.other_body.ensures ∙ ap (λ (r : Root). body_at (other r)) (sym is) in
     let text = c.write_body-body.ensures.spelled ∙ ap (λ (r : Root). body_text (twin r)) (sym is) in
     let shut = still_shut k old mid x c.other_body.result c.write_body-body.result there text all (w.crash honest) in
@@ -55,7 +60,8 @@ returns-clause-heals g c honest x is all =
     let below : x.root.sequence < sequence_max = subst (λ (r : Root). r.sequence < sequence_max) (sym is) c.requires in
     let low : x.root.catalog.block < 2 ^ 64 = subst (λ (r : Root). r.catalog.block < 2 ^ 64) (sym is) (omega arith) in
     let small : x.root.catalog.size < 2 ^ 32 = subst (λ (r : Root). r.catalog.size < 2 ^ 32) (sym is) (omega arith) in
-    let rest = at_rest k old mid x c.other_body.result c.write_body-body.result there text below low small (k.seen old) (k.seen mid) here (w.others honest) (c.in_ok-write_at.ensures.written honest) in
+    let rest = at_rest k old mid x c.other_body.result c.write_body-body.result there text below low small (k.seen old)
+    (k.seen mid) here (w.others honest) (c.in_ok-write_at.ensures.written honest) in
     record {
       honest = c.sync.ensures.honest.1 on;
       run = goes_on k old mid new (Shut x) written (c.sync.ensures.time on) still;

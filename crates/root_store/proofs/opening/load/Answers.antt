@@ -2,7 +2,7 @@ use Rattle.std.proofs.Common.{◌≡◌, true, refl, rules, arith}
 use Rattle.store_terms.specs.StandsFor.{reading}
 use Rattle.root_store.specs.Healing.{kept_of}
 use Rattle.root_store.specs.Opening.{held_in}
-use Rattle.root_store.proofs.Looked.{refuses_device}
+use Rattle.root_reading.proofs.Looked.{refuses_device}
 use Rattle.root_store.proofs.OpeningLemmas.{shuts, both_loads, last_loads, healed_loads, failed_loads, unread_loads}
 use Rattle.root_store.proofs.opening.load.Goals as goal
 
@@ -14,12 +14,14 @@ returns-in_err-loaded-clause-loads g c honest =
 pub returns-then-not-is_alone-clause-loads : goal.returns-then-not-is_alone-clause-loads
 returns-then-not-is_alone-clause-loads g c honest =
     let r = c.in_ok-loaded.ensures in
-    both_loads g.D.Disk c.args.disk.now c.read_store.new.disk c.in_ok-loaded.loaded c.in_ok-loaded.is_alone (r.run honest) (r.read honest) (r.gives honest) (r.honest.1 honest) (search rules)
+    both_loads g.D.Disk c.args.disk.now c.read_store.new.disk c.in_ok-loaded.loaded c.in_ok-loaded.is_alone
+    (r.run honest) (r.read honest) (r.gives honest) (r.honest.1 honest) (search rules)
 
-pub returns-then-loaded-ge-SEQUENCE_MAX-clause-loads : goal.returns-then-loaded-ge-SEQUENCE_MAX-clause-loads
-returns-then-loaded-ge-SEQUENCE_MAX-clause-loads g c honest =
+pub returns-then-loaded-ge-NUMBER_MAX-clause-loads : goal.returns-then-loaded-ge-NUMBER_MAX-clause-loads
+returns-then-loaded-ge-NUMBER_MAX-clause-loads g c honest =
     let r = c.in_ok-loaded.ensures in
-    last_loads g.D.Disk c.args.disk.now c.read_store.new.disk c.in_ok-loaded.loaded c.in_ok-loaded.is_alone (r.run honest) (r.read honest) (r.gives honest) (r.honest.1 honest) (search rules) (omega arith)
+    last_loads g.D.Disk c.args.disk.now c.read_store.new.disk c.in_ok-loaded.loaded c.in_ok-loaded.is_alone
+    (r.run honest) (r.read honest) (r.gives honest) (r.honest.1 honest) (search rules) (omega arith)
 
 pub returns-in_err-heal-clause-loads : goal.returns-in_err-heal-clause-loads
 returns-in_err-heal-clause-loads g c honest =
@@ -31,9 +33,12 @@ returns-in_err-heal-clause-loads g c honest =
     let alone : c.in_ok-loaded.is_alone ≡ true = search rules in
     let settled = shuts k old mid x c.in_ok-loaded.is_alone (r.run honest) (r.read honest) (r.gives honest) alone in
     let heals = c.heal.ensures.heals (r.honest.1 honest) (kept_of (k.seen old) x.root (held_in x)) refl settled in
-    let still = (c.in_err-heal.ensures.heals (r.honest.1 honest) (kept_of (k.seen old) x.root (held_in x)) refl settled).err in
-    failed_loads k old mid x c.in_ok-loaded.is_alone (r.run honest) (r.read honest) (r.gives honest) c.heal.new.disk c.heal.result heals c.in_err-heal.field-0.0 c.from_residual-in_err-heal.result
-    c.from_residual-in_err-heal.ensures.1 (refuses_device c.in_err-heal.field-0.0 (reading (k.seen old)) c.in_err-heal.ensures.err) still
+    let still = (c.in_err-heal.ensures.heals (r.honest.1 honest)
+    (kept_of (k.seen old) x.root (held_in x)) refl settled).err in
+    failed_loads k old mid x c.in_ok-loaded.is_alone (r.run honest) (r.read honest)
+    (r.gives honest) c.heal.new.disk c.heal.result heals c.in_err-heal.field-0.0 c.from_residual-in_err-heal.result
+    c.from_residual-in_err-heal.ensures.1
+    (refuses_device c.in_err-heal.field-0.0 (reading (k.seen old)) c.in_err-heal.ensures.err) still
 
 pub returns-clause-loads : goal.returns-clause-loads
 returns-clause-loads g c honest =
@@ -45,5 +50,7 @@ returns-clause-loads g c honest =
     let alone : c.in_ok-loaded.is_alone ≡ true = search rules in
     let settled = shuts k old mid x c.in_ok-loaded.is_alone (r.run honest) (r.read honest) (r.gives honest) alone in
     let heals = c.heal.ensures.heals (r.honest.1 honest) (kept_of (k.seen old) x.root (held_in x)) refl settled in
-    let rest = (c.in_ok-heal.ensures.heals (r.honest.1 honest) (kept_of (k.seen old) x.root (held_in x)) refl settled).ok in
-    healed_loads k old mid x c.in_ok-loaded.is_alone (r.run honest) (r.read honest) (r.gives honest) c.heal.new.disk c.heal.result heals rest
+    let rest = (c.in_ok-heal.ensures.heals (r.honest.1 honest)
+    (kept_of (k.seen old) x.root (held_in x)) refl settled).ok in
+    healed_loads k old mid x c.in_ok-loaded.is_alone (r.run honest) (r.read honest)
+    (r.gives honest) c.heal.new.disk c.heal.result heals rest

@@ -9,14 +9,29 @@ returns-in-Ok-clause-gives g c honest = (c.in-Ok.ensures.loads honest).gives ∙
 pub returns-in-Ok-clause-ok : goal.returns-in-Ok-clause-ok
 returns-in-Ok-clause-ok g c honest =
     let l = c.in-Ok.ensures.loads honest in
-    let k = l.ok in
-    (k.0, k.2 ∙ sym c.new-image.ensures, record { honest = l.honest; idle = refl; root = sym k.1; room = k.3; leaves = k.4 }, l.run)
+    let k = l.ok in (
+      k.0,
+      k.2 ∙ sym c.new-image.ensures,
+      record {
+        honest = l.honest;
+        idle = refl;
+        root = sym k.1;
+        room = k.3;
+        leaves =
+            k.4;
+      },
+      l.run,
+    )
 
 pub returns-in-Err-clause-gives : goal.returns-in-Err-clause-gives
-returns-in-Err-clause-gives g c honest = tells_of c.in-Err.fault c.told.result (reading (g.D.Disk.seen c.args.disk)) c.told.ensures (c.in-Err.ensures.loads honest).gives
+returns-in-Err-clause-gives g c honest =
+    tells_of c.in-Err.fault c.told.result (reading (g.D.Disk.seen c.args.disk)) c.told.ensures
+    (c.in-Err.ensures.loads honest).gives
 
 pub returns-in-Err-clause-err : goal.returns-in-Err-clause-err
 returns-in-Err-clause-err g c honest = let l = c.in-Err.ensures.loads honest in (l.honest, l.err, l.run)
 
 pub returns-in-Err-clause-cause : goal.returns-in-Err-clause-cause
-returns-in-Err-clause-cause g c honest = failed_of c.in-Err.fault c.told.result (g.D.Disk.faults c.args.disk) (g.D.Disk.faults c.load.new.disk) c.told.ensures (c.in-Err.ensures.cause honest)
+returns-in-Err-clause-cause g c honest =
+    failed_of c.in-Err.fault c.told.result (g.D.Disk.faults c.args.disk)
+    (g.D.Disk.faults c.load.new.disk) c.told.ensures (c.in-Err.ensures.cause honest)

@@ -2,19 +2,19 @@ use Rattle.std.proofs.Common.{◌≡◌, ◌∷◌, [], List, ℕ, Result, Ok, s
 use Rattle.extent_map.specs.Taken.{taken_of}
 use Rattle.overlay_terms.specs.Layers.{Layer}
 use Rattle.overlay_terms.specs.Histories.{Finished}
-use Rattle.record_form.specs.Image.{finished}
+use Rattle.record_form.specs.Image.{finished_of}
 use Rattle.record_form.specs.Listing as listings
 use Rattle.store_terms.specs.declared.damage.Damage.{Damage}
 use Rattle.store_terms.specs.Catalog.{Listed}
 use Rattle.store_terms.specs.Places.{extents_listed}
 use Rattle.store_terms.specs.Image.{Held, listing_of, layers_of, held_of}
 use Rattle.store_terms.specs.Frame.{listed_extents}
-use Rattle.root_store.specs.Looking.{Refuses}
+use Rattle.root_reading.specs.Looking.{Refuses}
 use Rattle.root_store.specs.Opening.{held_in}
-use Rattle.root_store.specs.Running.{IsMapOf}
-use Rattle.root_store.specs.Taking.{AllNear}
-use Rattle.root_store.proofs.Looked.{gives_err, causes_still}
-use Rattle.root_store.proofs.NearLemmas.{near_catalog, near_layers}
+use Rattle.root_reading.specs.Taking.{IsMapOf}
+use Rattle.root_reading.specs.Taking.{AllNear}
+use Rattle.root_reading.proofs.Looked.{gives_err, causes_still}
+use Rattle.root_reading.proofs.NearLemmas.{near_catalog, near_layers}
 use Rattle.root_store.proofs.OpeningLemmas.{held_steps}
 use Rattle.root_store.proofs.opening.read_root.Goals as goal
 
@@ -25,13 +25,20 @@ returns-in_err-room-clause-gives g c honest short =
     let root = c.args.root in
     let looks1 = c.listing_at.ensures.looks honest in
     let ls = listings.listing_of c.as_slice-listed.result.now in
-    let x : List Layer × List Finished = (c.in_ok-content.content.layers, map finished c.in_ok-content.content.tiles.items) in
-    let listing : listing_of file root ≡ Ok ls = c.in_ok-listing.ensures.gives honest ∙ ap (λ l. Ok (listings.listing_of l)) (sym c.as_slice-listed.ensures.value) in
-    let layers : layers_of file [] ls ≡ Ok x = subst (λ (f : List ℕ). layers_of f [] ls ≡ Ok x) looks1.seen (c.in_ok-content.ensures.gives looks1.honest) in
-    let near : AllNear (root.catalog ∷ extents_listed ls) = (near_catalog file short root ls listing, near_layers file short [] ls x layers) in
+    let x : List Layer × List Finished =
+    (c.in_ok-content.content.layers, map finished_of c.in_ok-content.content.tiles.items) in
+    let listing : listing_of file root ≡ Ok ls =
+    c.in_ok-listing.ensures.gives honest
+    ∙ ap (λ l. Ok (listings.listing_of l)) (sym c.as_slice-listed.ensures.value) in
+    let layers : layers_of file [] ls ≡ Ok x =
+    subst (λ (f : List ℕ). layers_of f [] ls ≡ Ok x) looks1.seen (c.in_ok-content.ensures.gives looks1.honest) in
+    let near : AllNear (root.catalog ∷ extents_listed ls) =
+    (near_catalog file short root ls listing, near_layers file short [] ls x layers) in
     let held : Held = record { number = root.version; layers = x.0; tiles = x.1 } in
-    gives_err held_in c.from_residual-in_err-room.result c.in_err-room.field-0.0 (held_of file root) c.from_residual-in_err-room.ensures.1
-    (subst (Refuses c.in_err-room.field-0.0) (sym (held_steps file root ls x listing layers)) (c.in_err-room.ensures.reads near held))
+    gives_err held_in c.from_residual-in_err-room.result c.in_err-room.field-0.0
+    (held_of file root) c.from_residual-in_err-room.ensures.1
+    (subst (Refuses c.in_err-room.field-0.0) (sym (held_steps file root ls x listing layers))
+    (c.in_err-room.ensures.reads near held))
 
 pub returns-in_err-room-clause-cause : goal.returns-in_err-room-clause-cause
 returns-in_err-room-clause-cause g c honest =
@@ -46,10 +53,15 @@ returns-clause-gives g c honest short =
     let root = c.args.root in
     let looks1 = c.listing_at.ensures.looks honest in
     let ls = listings.listing_of c.as_slice-listed.result.now in
-    let x : List Layer × List Finished = (c.in_ok-content.content.layers, map finished c.in_ok-content.content.tiles.items) in
-    let listing : listing_of file root ≡ Ok ls = c.in_ok-listing.ensures.gives honest ∙ ap (λ l. Ok (listings.listing_of l)) (sym c.as_slice-listed.ensures.value) in
-    let layers : layers_of file [] ls ≡ Ok x = subst (λ (f : List ℕ). layers_of f [] ls ≡ Ok x) looks1.seen (c.in_ok-content.ensures.gives looks1.honest) in
-    let near : AllNear (root.catalog ∷ extents_listed ls) = (near_catalog file short root ls listing, near_layers file short [] ls x layers) in
+    let x : List Layer × List Finished =
+    (c.in_ok-content.content.layers, map finished_of c.in_ok-content.content.tiles.items) in
+    let listing : listing_of file root ≡ Ok ls =
+    c.in_ok-listing.ensures.gives honest
+    ∙ ap (λ l. Ok (listings.listing_of l)) (sym c.as_slice-listed.ensures.value) in
+    let layers : layers_of file [] ls ≡ Ok x =
+    subst (λ (f : List ℕ). layers_of f [] ls ≡ Ok x) looks1.seen (c.in_ok-content.ensures.gives looks1.honest) in
+    let near : AllNear (root.catalog ∷ extents_listed ls) =
+    (near_catalog file short root ls listing, near_layers file short [] ls x layers) in
     let held : Held = record { number = root.version; layers = x.0; tiles = x.1 } in
     held_steps file root ls x listing layers ∙ c.in_ok-room.ensures.reads near held
 
@@ -60,8 +72,14 @@ returns-clause-room g c honest short =
     let root = c.args.root in
     let looks1 = c.listing_at.ensures.looks honest in
     let ls = listings.listing_of c.as_slice-listed.result.now in
-    let x : List Layer × List Finished = (c.in_ok-content.content.layers, map finished c.in_ok-content.content.tiles.items) in
-    let listing : listing_of file root ≡ Ok ls = c.in_ok-listing.ensures.gives honest ∙ ap (λ l. Ok (listings.listing_of l)) (sym c.as_slice-listed.ensures.value) in
-    let layers : layers_of file [] ls ≡ Ok x = subst (λ (f : List ℕ). layers_of f [] ls ≡ Ok x) looks1.seen (c.in_ok-content.ensures.gives looks1.honest) in
-    let near : AllNear (root.catalog ∷ extents_listed ls) = (near_catalog file short root ls listing, near_layers file short [] ls x layers) in
-    subst (λ (l : Result (List Listed) Damage). IsMapOf (root.catalog ∷ listed_extents l) (taken_of c.in_ok-room.room.map)) (sym listing) (c.in_ok-room.ensures.taken near)
+    let x : List Layer × List Finished =
+    (c.in_ok-content.content.layers, map finished_of c.in_ok-content.content.tiles.items) in
+    let listing : listing_of file root ≡ Ok ls =
+    c.in_ok-listing.ensures.gives honest
+    ∙ ap (λ l. Ok (listings.listing_of l)) (sym c.as_slice-listed.ensures.value) in
+    let layers : layers_of file [] ls ≡ Ok x =
+    subst (λ (f : List ℕ). layers_of f [] ls ≡ Ok x) looks1.seen (c.in_ok-content.ensures.gives looks1.honest) in
+    let near : AllNear (root.catalog ∷ extents_listed ls) =
+    (near_catalog file short root ls listing, near_layers file short [] ls x layers) in
+    subst (λ (l : Result (List Listed) Damage). IsMapOf (root.catalog ∷ listed_extents l)
+    (taken_of c.in_ok-room.room.map)) (sym listing) (c.in_ok-room.ensures.taken near)

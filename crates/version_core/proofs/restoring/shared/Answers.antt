@@ -3,7 +3,7 @@ use Rattle.std.proofs.lemmas.List.{map-append}
 use Rattle.std.specs.Vec.Iter.{into_iter_items}
 use Rattle.overlay_terms.specs.Column.{column_count}
 use Rattle.overlay_terms.specs.Histories.{Finished}
-use Rattle.version_core.specs.Tiles.{given}
+use Rattle.version_core.specs.Tiles.{finished_of}
 use Rattle.version_core.proofs.Restored.{in_middle}
 use Rattle.version_core.proofs.restoring.shared.Goals as goal
 
@@ -13,5 +13,5 @@ shared_tile-requires c =
     let tile = c.in-Some.tile in
     let rest = into_iter_items c.next.new.self in
     let parts = ap (λ ts. at.yielded ++ ts) (sym c.in-Some.ensures.steps.0) ∙ at.invariant.all ∙ c.into_iter-tile-iterator.ensures.into_iter_gives.0 in
-    in_middle (λ (f : Finished). f.column < column_count) (map given at.yielded) (given tile) (map given rest)
-    (subst (All (λ (f : Finished). f.column < column_count)) (sym (ap (map given) parts) ∙ map-append given at.yielded (tile ∷ rest)) c.requires)
+    in_middle (λ (f : Finished). f.column < column_count) (map finished_of at.yielded) (finished_of tile) (map finished_of rest)
+    (subst (All (λ (f : Finished). f.column < column_count)) (sym (ap (map finished_of) parts) ∙ map-append finished_of at.yielded (tile ∷ rest)) c.requires)

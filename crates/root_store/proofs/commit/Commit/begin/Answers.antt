@@ -13,4 +13,5 @@ returns-in_err-next-clause-errors g c =
     let s = c.args.self.now in
     let x = c.in_err-next.field-0.0 in
     let no_room = HasNoRoom s.room c.args.image in
-    passed_on (IsReason s.phase s.root no_room) c.from_residual.result x c.from_residual.ensures.1 (no_room_or_memory Next s.phase s.root no_room x c.in_err-next.ensures.err c.in_err-next.ensures.full)
+    passed_on (IsReason s.phase s.root no_room) c.from_residual.result x c.from_residual.ensures.1
+    (no_room_or_memory Next s.phase s.root no_room x c.in_err-next.ensures.err c.in_err-next.ensures.full)

@@ -10,6 +10,10 @@ returns-clause-begun g c x held stands below next = (
     root = stands.root;
     next_root = next.root;
     next_room = next.room;
-    before = ((λ f left. calm_rest x f below (stands.leaves f left)), (λ file shut. next.plans.leads file shut), next.plans.spares);
+    before = (
+      (λ f left. calm_rest x f below (stands.leaves f left)),
+      (λ file shut. next.plans.leads file shut),
+      next.plans.spares,
+    );
   },
 )

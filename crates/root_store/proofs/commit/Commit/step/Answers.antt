@@ -3,7 +3,8 @@ use Rattle.disk_model.specs.Disk.{Torn, Holds, Follows}
 use Rattle.root_store.specs.declared.phase.Phase.{Phase}
 use Rattle.store_terms.specs.StandsFor.{gate_at}
 use Rattle.root_store.specs.Kept.{other, Either, Rest, Shut, Ready}
-use Rattle.root_store.specs.Running.{IsMapOf, Before}
+use Rattle.root_store.specs.Running.{Before}
+use Rattle.root_reading.specs.Taking.{IsMapOf}
 use Rattle.root_store.specs.declared.room.Room.{Room}
 use Rattle.extent_map.specs.Taken.{taken_of}
 use Rattle.root_store.specs.Planning.{Leads}
@@ -22,11 +23,15 @@ returns-in_err-write_at-in-Close-clause-moves g c x y runs =
     let b = subst (λ (p : Phase). Before k p s x y) c.in-Close.is runs.before in
     let time = w.time runs.honest in
     let stop = w.crash runs.honest in
-    let now : (f : List ℕ) → k.left_since s.disk (k.moment s.disk) f → k.may_leave s.disk f = λ f left. g.met.D.Disk.only_now s.disk f runs.honest left in
-    let torn : Follows (Torn (gate_at (other x.root)) 1) (k.may_leave s.disk) (k.may_leave new) = subst (λ (a : ℕ). Follows (Torn a 1) (k.may_leave s.disk) (k.may_leave new)) (c.other_gate.ensures ∙ ap (λ (r : Root). gate_at (other r)) runs.root) stop in
+    let now : (f : List ℕ) → k.left_since s.disk (k.moment s.disk) f → k.may_leave s.disk f =
+    λ f left. g.met.D.Disk.only_now s.disk f runs.honest left in
+    let torn : Follows (Torn (gate_at (other x.root)) 1) (k.may_leave s.disk) (k.may_leave new) =
+    subst (λ (a : ℕ). Follows (Torn a 1) (k.may_leave s.disk) (k.may_leave new))
+    (c.other_gate.ensures ∙ ap (λ (r : Root). gate_at (other r)) runs.root) stop in
     let early = rest_either k x y s.disk b.0 in
     let late = rest_either k x y new (closing k x y s.disk new b.0 torn) in
-    failed k s _ c.from_residual.result x y c.from_residual.ensures.0 refl (one_call k s.disk new (Either x y) now early time late) late
+    failed k s _ c.from_residual.result x y c.from_residual.ensures.0 refl
+    (one_call k s.disk new (Either x y) now early time late) late
 
 pub returns-in_err-sync-in-Settle-clause-moves : goal.returns-in_err-sync-in-Settle-clause-moves
 returns-in_err-sync-in-Settle-clause-moves g c x y runs =
@@ -37,10 +42,12 @@ returns-in_err-sync-in-Settle-clause-moves g c x y runs =
     let b = subst (λ (p : Phase). Before k p s x y) c.in-Settle.is runs.before in
     let time = w.time runs.honest in
     let stop = w.crash runs.honest in
-    let now : (f : List ℕ) → k.left_since s.disk (k.moment s.disk) f → k.may_leave s.disk f = λ f left. g.met.D.Disk.only_now s.disk f runs.honest left in
+    let now : (f : List ℕ) → k.left_since s.disk (k.moment s.disk) f → k.may_leave s.disk f =
+    λ f left. g.met.D.Disk.only_now s.disk f runs.honest left in
     let early = rest_either k x y s.disk b.0 in
     let late = rest_either k x y new (leaves_fewer k s.disk new (Rest x) b.0 stop) in
-    failed k s _ c.from_residual-in_err-sync-in-Settle.result x y c.from_residual-in_err-sync-in-Settle.ensures.0 refl (one_call k s.disk new (Either x y) now early time late) late
+    failed k s _ c.from_residual-in_err-sync-in-Settle.result x y c.from_residual-in_err-sync-in-Settle.ensures.0 refl
+    (one_call k s.disk new (Either x y) now early time late) late
 
 pub returns-in_err-write_at-in-Put-clause-moves : goal.returns-in_err-write_at-in-Put-clause-moves
 returns-in_err-write_at-in-Put-clause-moves g c x y runs =
@@ -51,15 +58,19 @@ returns-in_err-write_at-in-Put-clause-moves g c x y runs =
     let b = subst (λ (p : Phase). Before k p s x y) c.in-Put.is runs.before in
     let time = w.time runs.honest in
     let stop = w.crash runs.honest in
-    let now : (f : List ℕ) → k.left_since s.disk (k.moment s.disk) f → k.may_leave s.disk f = λ f left. g.met.D.Disk.only_now s.disk f runs.honest left in
+    let now : (f : List ℕ) → k.left_since s.disk (k.moment s.disk) f → k.may_leave s.disk f =
+    λ f left. g.met.D.Disk.only_now s.disk f runs.honest left in
     let v = c.index-write.result.now in
     let spares = next_spares k x y (Shut x) s.plan.items s.next v (search rules) (search rules) b.2 in
     let same : c.deref.result.now ≡ v.bytes.items = search rules in
-    let torn : Follows (Torn v.at (length v.bytes.items)) (k.may_leave s.disk) (k.may_leave new) = subst (λ (bytes : List ℕ). Follows (Torn v.at (length bytes)) (k.may_leave s.disk) (k.may_leave new)) same stop in
+    let torn : Follows (Torn v.at (length v.bytes.items)) (k.may_leave s.disk) (k.may_leave new) =
+    subst (λ (bytes : List ℕ). Follows (Torn v.at (length bytes)) (k.may_leave s.disk)
+    (k.may_leave new)) same stop in
     let shut = leaves_torn k s.disk new (Shut x) v.at (length v.bytes.items) b.0 torn spares.0 in
     let early = shut_either k x y s.disk b.0 in
     let late = shut_either k x y new shut in
-    failed k s _ c.from_residual-in_err-write_at-in-Put.result x y c.from_residual-in_err-write_at-in-Put.ensures.0 refl (one_call k s.disk new (Either x y) now early time late) late
+    failed k s _ c.from_residual-in_err-write_at-in-Put.result x y c.from_residual-in_err-write_at-in-Put.ensures.0 refl
+    (one_call k s.disk new (Either x y) now early time late) late
 
 pub returns-in_err-sync-in-Put-clause-moves : goal.returns-in_err-sync-in-Put-clause-moves
 returns-in_err-sync-in-Put-clause-moves g c x y runs =
@@ -70,10 +81,12 @@ returns-in_err-sync-in-Put-clause-moves g c x y runs =
     let b = subst (λ (p : Phase). Before k p s x y) c.in-Put.is runs.before in
     let time = w.time runs.honest in
     let stop = w.crash runs.honest in
-    let now : (f : List ℕ) → k.left_since s.disk (k.moment s.disk) f → k.may_leave s.disk f = λ f left. g.met.D.Disk.only_now s.disk f runs.honest left in
+    let now : (f : List ℕ) → k.left_since s.disk (k.moment s.disk) f → k.may_leave s.disk f =
+    λ f left. g.met.D.Disk.only_now s.disk f runs.honest left in
     let early = shut_either k x y s.disk b.0 in
     let late = shut_either k x y new (leaves_fewer k s.disk new (Shut x) b.0 stop) in
-    failed k s _ c.from_residual-in_err-sync-in-Put.result x y c.from_residual-in_err-sync-in-Put.ensures.0 refl (one_call k s.disk new (Either x y) now early time late) late
+    failed k s _ c.from_residual-in_err-sync-in-Put.result x y c.from_residual-in_err-sync-in-Put.ensures.0 refl
+    (one_call k s.disk new (Either x y) now early time late) late
 
 pub returns-in_err-write_at-in-Open-clause-moves : goal.returns-in_err-write_at-in-Open-clause-moves
 returns-in_err-write_at-in-Open-clause-moves g c x y runs =
@@ -84,8 +97,11 @@ returns-in_err-write_at-in-Open-clause-moves g c x y runs =
     let b = subst (λ (p : Phase). Before k p s x y) c.in-Open.is runs.before in
     let time = w.time runs.honest in
     let stop = w.crash runs.honest in
-    let now : (f : List ℕ) → k.left_since s.disk (k.moment s.disk) f → k.may_leave s.disk f = λ f left. g.met.D.Disk.only_now s.disk f runs.honest left in
-    let torn : Follows (Torn (gate_at (other x.root)) 1) (k.may_leave s.disk) (k.may_leave new) = subst (λ (a : ℕ). Follows (Torn a 1) (k.may_leave s.disk) (k.may_leave new)) (c.other_gate-in-Open.ensures ∙ ap (λ (r : Root). gate_at (other r)) runs.root) stop in
+    let now : (f : List ℕ) → k.left_since s.disk (k.moment s.disk) f → k.may_leave s.disk f =
+    λ f left. g.met.D.Disk.only_now s.disk f runs.honest left in
+    let torn : Follows (Torn (gate_at (other x.root)) 1) (k.may_leave s.disk) (k.may_leave new) =
+    subst (λ (a : ℕ). Follows (Torn a 1) (k.may_leave s.disk) (k.may_leave new))
+    (c.other_gate-in-Open.ensures ∙ ap (λ (r : Root). gate_at (other r)) runs.root) stop in
     let early = both_either k x y s.disk b in
     let late = both_either k x y new (opening k x y s.disk new b torn) in
     failed k s _ c.from_residual-in_err-write_at-in-Open.result x y c.from_residual-in_err-write_at-in-Open.ensures.0 refl (one_call k s.disk new (Either x y) now early time late) late
@@ -99,10 +115,12 @@ returns-in_err-sync-in-Finish-clause-moves g c x y runs =
     let b = subst (λ (p : Phase). Before k p s x y) c.in-Finish.is runs.before in
     let time = w.time runs.honest in
     let stop = w.crash runs.honest in
-    let now : (f : List ℕ) → k.left_since s.disk (k.moment s.disk) f → k.may_leave s.disk f = λ f left. g.met.D.Disk.only_now s.disk f runs.honest left in
+    let now : (f : List ℕ) → k.left_since s.disk (k.moment s.disk) f → k.may_leave s.disk f =
+    λ f left. g.met.D.Disk.only_now s.disk f runs.honest left in
     let early = both_either k x y s.disk b.0 in
     let late = both_either k x y new (leaves_fewer k s.disk new (Ready x y) b.0 stop) in
-    failed k s _ c.from_residual-in_err-sync-in-Finish.result x y c.from_residual-in_err-sync-in-Finish.ensures.0 refl (one_call k s.disk new (Either x y) now early time late) late
+    failed k s _ c.from_residual-in_err-sync-in-Finish.result x y c.from_residual-in_err-sync-in-Finish.ensures.0 refl
+    (one_call k s.disk new (Either x y) now early time late) late
 
 pub returns-in_ok-write_at-in-Close-clause-moves : goal.returns-in_ok-write_at-in-Close-clause-moves
 returns-in_ok-write_at-in-Close-clause-moves g c x y runs =
@@ -113,14 +131,32 @@ returns-in_ok-write_at-in-Close-clause-moves g c x y runs =
     let b = subst (λ (p : Phase). Before k p s x y) c.in-Close.is runs.before in
     let time = w.time runs.honest in
     let stop = w.crash runs.honest in
-    let now : (f : List ℕ) → k.left_since s.disk (k.moment s.disk) f → k.may_leave s.disk f = λ f left. g.met.D.Disk.only_now s.disk f runs.honest left in
-    let torn : Follows (Torn (gate_at (other x.root)) 1) (k.may_leave s.disk) (k.may_leave new) = subst (λ (a : ℕ). Follows (Torn a 1) (k.may_leave s.disk) (k.may_leave new)) (c.other_gate.ensures ∙ ap (λ (r : Root). gate_at (other r)) runs.root) stop in
-    let held : Holds (k.seen new) (gate_at (other x.root)) (0 ∷ []) = subst (λ (a : ℕ). Holds (k.seen new) a (0 ∷ [])) (c.other_gate.ensures ∙ ap (λ (r : Root). gate_at (other r)) runs.root) (c.in_ok-write_at-in-Close.ensures.written runs.honest) in
+    let now : (f : List ℕ) → k.left_since s.disk (k.moment s.disk) f → k.may_leave s.disk f =
+    λ f left. g.met.D.Disk.only_now s.disk f runs.honest left in
+    let torn : Follows (Torn (gate_at (other x.root)) 1) (k.may_leave s.disk) (k.may_leave new) =
+    subst (λ (a : ℕ). Follows (Torn a 1) (k.may_leave s.disk) (k.may_leave new))
+    (c.other_gate.ensures ∙ ap (λ (r : Root). gate_at (other r)) runs.root) stop in
+    let held : Holds (k.seen new) (gate_at (other x.root)) (0 ∷ []) =
+    subst (λ (a : ℕ). Holds (k.seen new) a (0 ∷ []))
+    (c.other_gate.ensures ∙ ap (λ (r : Root). gate_at (other r)) runs.root)
+    (c.in_ok-write_at-in-Close.ensures.written runs.honest) in
     let shown = gate_written (k.seen new) (other x.root) 0 held in
     let all = closing k x y s.disk new b.0 torn in
     let early = rest_either k x y s.disk b.0 in
     let late = rest_either k x y new all in
-    record { moments = one_call k s.disk new (Either x y) now early time late; ok = record { honest = w.honest.1 runs.honest; root = runs.root; next_root = runs.next_root; next_room = runs.next_room; before = (all, shown, b.1, b.2) }; err = tt }
+    record {
+      moments = one_call k s.disk new (Either x y) now early time late;
+      ok =
+          record {
+            honest = w.honest.1 runs.honest;
+            root = runs.root;
+            next_root = runs.next_root;
+            next_room =
+                runs.next_room;
+            before = (all, shown, b.1, b.2);
+          };
+      err = tt;
+    }
 
 pub returns-in_ok-sync-in-Settle-clause-moves : goal.returns-in_ok-sync-in-Settle-clause-moves
 returns-in_ok-sync-in-Settle-clause-moves g c x y runs =
@@ -131,13 +167,28 @@ returns-in_ok-sync-in-Settle-clause-moves g c x y runs =
     let b = subst (λ (p : Phase). Before k p s x y) c.in-Settle.is runs.before in
     let time = w.time runs.honest in
     let stop = w.crash runs.honest in
-    let now : (f : List ℕ) → k.left_since s.disk (k.moment s.disk) f → k.may_leave s.disk f = λ f left. g.met.D.Disk.only_now s.disk f runs.honest left in
-    let here = settles k x y (k.seen s.disk) (b.0 (k.seen s.disk) (g.met.D.Disk.seen_may_stay s.disk runs.honest)) b.1 in
+    let now : (f : List ℕ) → k.left_since s.disk (k.moment s.disk) f → k.may_leave s.disk f =
+    λ f left. g.met.D.Disk.only_now s.disk f runs.honest left in
+    let here = settles k x y (k.seen s.disk)
+    (b.0 (k.seen s.disk) (g.met.D.Disk.seen_may_stay s.disk runs.honest)) b.1 in
     let all = leaves_synced k new (k.seen s.disk) (Shut x) (c.in_ok-sync-in-Settle.ensures.durable runs.honest) here in
-    let leads = subst (Leads (Ready x y) (drop s.next s.plan.items)) (sym (w.seen runs.honest)) (b.2 (k.seen s.disk) here) in
+    let leads = subst (Leads (Ready x y) (drop s.next s.plan.items)) (sym (w.seen runs.honest))
+    (b.2 (k.seen s.disk) here) in
     let early = rest_either k x y s.disk b.0 in
     let late = shut_either k x y new all in
-    record { moments = one_call k s.disk new (Either x y) now early time late; ok = record { honest = w.honest.1 runs.honest; root = runs.root; next_root = runs.next_root; next_room = runs.next_room; before = (all, leads, b.3) }; err = tt }
+    record {
+      moments = one_call k s.disk new (Either x y) now early time late;
+      ok =
+          record {
+            honest = w.honest.1 runs.honest;
+            root = runs.root;
+            next_root = runs.next_root;
+            next_room =
+                runs.next_room;
+            before = (all, leads, b.3);
+          };
+      err = tt;
+    }
 
 pub returns-in_ok-write_at-in-Put-clause-moves : goal.returns-in_ok-write_at-in-Put-clause-moves
 returns-in_ok-write_at-in-Put-clause-moves g c x y runs =
@@ -148,18 +199,36 @@ returns-in_ok-write_at-in-Put-clause-moves g c x y runs =
     let b = subst (λ (p : Phase). Before k p s x y) c.in-Put.is runs.before in
     let time = w.time runs.honest in
     let stop = w.crash runs.honest in
-    let now : (f : List ℕ) → k.left_since s.disk (k.moment s.disk) f → k.may_leave s.disk f = λ f left. g.met.D.Disk.only_now s.disk f runs.honest left in
+    let now : (f : List ℕ) → k.left_since s.disk (k.moment s.disk) f → k.may_leave s.disk f =
+    λ f left. g.met.D.Disk.only_now s.disk f runs.honest left in
     let v = c.index-write.result.now in
     let spares = next_spares k x y (Shut x) s.plan.items s.next v (search rules) (search rules) b.2 in
     let same : c.deref.result.now ≡ v.bytes.items = search rules in
-    let torn : Follows (Torn v.at (length v.bytes.items)) (k.may_leave s.disk) (k.may_leave new) = subst (λ (bytes : List ℕ). Follows (Torn v.at (length bytes)) (k.may_leave s.disk) (k.may_leave new)) same stop in
+    let torn : Follows (Torn v.at (length v.bytes.items)) (k.may_leave s.disk) (k.may_leave new) =
+    subst (λ (bytes : List ℕ). Follows (Torn v.at (length bytes)) (k.may_leave s.disk)
+    (k.may_leave new)) same stop in
     let shut = leaves_torn k s.disk new (Shut x) v.at (length v.bytes.items) b.0 torn spares.0 in
-    let others : Torn v.at (length v.bytes.items) (k.seen s.disk) (k.seen new) = subst (λ (bytes : List ℕ). Torn v.at (length bytes) (k.seen s.disk) (k.seen new)) same (w.others runs.honest) in
-    let held : Holds (k.seen new) v.at v.bytes.items = subst (Holds (k.seen new) v.at) same (c.in_ok-write_at-in-Put.ensures.written runs.honest) in
-    let leads = next_leads k x y (Ready x y) s.plan.items s.next v (k.seen s.disk) (k.seen new) (search rules) (search rules) b.1 others held in
+    let others : Torn v.at (length v.bytes.items) (k.seen s.disk) (k.seen new) =
+    subst (λ (bytes : List ℕ). Torn v.at (length bytes) (k.seen s.disk) (k.seen new)) same (w.others runs.honest) in
+    let held : Holds (k.seen new) v.at v.bytes.items =
+    subst (Holds (k.seen new) v.at) same (c.in_ok-write_at-in-Put.ensures.written runs.honest) in
+    let leads = next_leads k x y (Ready x y) s.plan.items s.next v (k.seen s.disk) (k.seen new) (search rules)
+    (search rules) b.1 others held in
     let early = shut_either k x y s.disk b.0 in
     let late = shut_either k x y new shut in
-    record { moments = one_call k s.disk new (Either x y) now early time late; ok = record { honest = w.honest.1 runs.honest; root = runs.root; next_root = runs.next_root; next_room = runs.next_room; before = (shut, leads, spares.1) }; err = tt }
+    record {
+      moments = one_call k s.disk new (Either x y) now early time late;
+      ok =
+          record {
+            honest = w.honest.1 runs.honest;
+            root = runs.root;
+            next_root = runs.next_root;
+            next_room =
+                runs.next_room;
+            before = (shut, leads, spares.1);
+          };
+      err = tt;
+    }
 
 pub returns-in_ok-sync-in-Put-clause-moves : goal.returns-in_ok-sync-in-Put-clause-moves
 returns-in_ok-sync-in-Put-clause-moves g c x y runs =
@@ -170,12 +239,25 @@ returns-in_ok-sync-in-Put-clause-moves g c x y runs =
     let b = subst (λ (p : Phase). Before k p s x y) c.in-Put.is runs.before in
     let time = w.time runs.honest in
     let stop = w.crash runs.honest in
-    let now : (f : List ℕ) → k.left_since s.disk (k.moment s.disk) f → k.may_leave s.disk f = λ f left. g.met.D.Disk.only_now s.disk f runs.honest left in
+    let now : (f : List ℕ) → k.left_since s.disk (k.moment s.disk) f → k.may_leave s.disk f =
+    λ f left. g.met.D.Disk.only_now s.disk f runs.honest left in
     let here = led k x y (Ready x y) s.plan.items s.next (k.seen s.disk) (search rules) b.1 in
     let all = leaves_synced k new (k.seen s.disk) (Ready x y) (c.in_ok-sync-in-Put.ensures.durable runs.honest) here in
     let early = shut_either k x y s.disk b.0 in
     let late = both_either k x y new all in
-    record { moments = one_call k s.disk new (Either x y) now early time late; ok = record { honest = w.honest.1 runs.honest; root = runs.root; next_root = runs.next_root; next_room = runs.next_room; before = all }; err = tt }
+    record {
+      moments = one_call k s.disk new (Either x y) now early time late;
+      ok =
+          record {
+            honest = w.honest.1 runs.honest;
+            root = runs.root;
+            next_root = runs.next_root;
+            next_room =
+                runs.next_room;
+            before = all;
+          };
+      err = tt;
+    }
 
 pub returns-in_ok-write_at-in-Open-clause-moves : goal.returns-in_ok-write_at-in-Open-clause-moves
 returns-in_ok-write_at-in-Open-clause-moves g c x y runs =
@@ -186,14 +268,32 @@ returns-in_ok-write_at-in-Open-clause-moves g c x y runs =
     let b = subst (λ (p : Phase). Before k p s x y) c.in-Open.is runs.before in
     let time = w.time runs.honest in
     let stop = w.crash runs.honest in
-    let now : (f : List ℕ) → k.left_since s.disk (k.moment s.disk) f → k.may_leave s.disk f = λ f left. g.met.D.Disk.only_now s.disk f runs.honest left in
-    let torn : Follows (Torn (gate_at (other x.root)) 1) (k.may_leave s.disk) (k.may_leave new) = subst (λ (a : ℕ). Follows (Torn a 1) (k.may_leave s.disk) (k.may_leave new)) (c.other_gate-in-Open.ensures ∙ ap (λ (r : Root). gate_at (other r)) runs.root) stop in
-    let held : Holds (k.seen new) (gate_at (other x.root)) (167 ∷ []) = subst (λ (a : ℕ). Holds (k.seen new) a (167 ∷ [])) (c.other_gate-in-Open.ensures ∙ ap (λ (r : Root). gate_at (other r)) runs.root) (c.in_ok-write_at-in-Open.ensures.written runs.honest) in
+    let now : (f : List ℕ) → k.left_since s.disk (k.moment s.disk) f → k.may_leave s.disk f =
+    λ f left. g.met.D.Disk.only_now s.disk f runs.honest left in
+    let torn : Follows (Torn (gate_at (other x.root)) 1) (k.may_leave s.disk) (k.may_leave new) =
+    subst (λ (a : ℕ). Follows (Torn a 1) (k.may_leave s.disk) (k.may_leave new))
+    (c.other_gate-in-Open.ensures ∙ ap (λ (r : Root). gate_at (other r)) runs.root) stop in
+    let held : Holds (k.seen new) (gate_at (other x.root)) (167 ∷ []) =
+    subst (λ (a : ℕ). Holds (k.seen new) a (167 ∷ []))
+    (c.other_gate-in-Open.ensures ∙ ap (λ (r : Root). gate_at (other r)) runs.root)
+    (c.in_ok-write_at-in-Open.ensures.written runs.honest) in
     let shown = gate_written (k.seen new) (other x.root) 167 held in
     let all = opening k x y s.disk new b torn in
     let early = both_either k x y s.disk b in
     let late = both_either k x y new all in
-    record { moments = one_call k s.disk new (Either x y) now early time late; ok = record { honest = w.honest.1 runs.honest; root = runs.root; next_root = runs.next_root; next_room = runs.next_room; before = (all, shown) }; err = tt }
+    record {
+      moments = one_call k s.disk new (Either x y) now early time late;
+      ok =
+          record {
+            honest = w.honest.1 runs.honest;
+            root = runs.root;
+            next_root = runs.next_root;
+            next_room =
+                runs.next_room;
+            before = (all, shown);
+          };
+      err = tt;
+    }
 
 pub returns-in_ok-sync-in-Finish-clause-moves : goal.returns-in_ok-sync-in-Finish-clause-moves
 returns-in_ok-sync-in-Finish-clause-moves g c x y runs =
@@ -204,11 +304,27 @@ returns-in_ok-sync-in-Finish-clause-moves g c x y runs =
     let b = subst (λ (p : Phase). Before k p s x y) c.in-Finish.is runs.before in
     let time = w.time runs.honest in
     let stop = w.crash runs.honest in
-    let now : (f : List ℕ) → k.left_since s.disk (k.moment s.disk) f → k.may_leave s.disk f = λ f left. g.met.D.Disk.only_now s.disk f runs.honest left in
-    let room : IsMapOf y.extents (taken_of c.swap.new.x.map) = subst (λ (r : Room). IsMapOf y.extents (taken_of r.map)) (sym c.swap.ensures.x_after) runs.next_room in
+    let now : (f : List ℕ) → k.left_since s.disk (k.moment s.disk) f → k.may_leave s.disk f =
+    λ f left. g.met.D.Disk.only_now s.disk f runs.honest left in
+    let room : IsMapOf y.extents (taken_of c.swap.new.x.map) =
+    subst (λ (r : Room). IsMapOf y.extents (taken_of r.map)) (sym c.swap.ensures.x_after) runs.next_room in
     let ready = b.0 (k.seen s.disk) (g.met.D.Disk.seen_may_stay s.disk runs.honest) in
     let here = opened_rest x y (k.seen s.disk) ready b.1 in
     let all = leaves_synced k new (k.seen s.disk) (Rest y) (c.in_ok-sync-in-Finish.ensures.durable runs.honest) here in
     let early = both_either k x y s.disk b.0 in
     let late = both_either k x y new (leaves_fewer k s.disk new (Ready x y) b.0 stop) in
-    record { moments = one_call k s.disk new (Either x y) now early time late; ok = (record { honest = w.honest.1 runs.honest; idle = refl; root = runs.next_root; room = room; leaves = λ f left. inl (all f left) }, ap (λ (r : Root). r.version) runs.next_root); err = tt }
+    record {
+      moments = one_call k s.disk new (Either x y) now early time late;
+      ok = (
+        record {
+          honest = w.honest.1 runs.honest;
+          idle = refl;
+          root = runs.next_root;
+          room = room;
+          leaves =
+              λ f left. inl (all f left);
+        },
+        ap (λ (r : Root). r.version) runs.next_root,
+      );
+      err = tt;
+    }

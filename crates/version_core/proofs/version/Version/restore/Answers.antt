@@ -1,5 +1,5 @@
 use Rattle.std.proofs.Common.{map, sym, subst}
-use Rattle.version_core.specs.Tiles.{given}
+use Rattle.version_core.specs.Tiles.{finished_of}
 use Rattle.version_core.specs.Version.{IsVersion}
 use Rattle.version_core.proofs.Restored.{restored_is_version}
 use Rattle.version_core.proofs.version.Version.restore.Goals as goal
@@ -7,4 +7,4 @@ use Rattle.version_core.proofs.version.Version.restore.Goals as goal
 pub invariant_of-result : goal.invariant_of-result
 invariant_of-result c =
     subst (λ ts. IsVersion (record { number = c.args.number; layers = c.args.layers; tiles = ts; durable = c.args.number })) (sym c.in_ok-tiles.ensures)
-    (restored_is_version c.args.number c.args.layers (map given c.args.tiles.items) c.requires.small c.len.ensures.valid c.requires.stored)
+    (restored_is_version c.args.number c.args.layers (map finished_of c.args.tiles.items) c.requires.small c.len.ensures.valid c.requires.stored)

@@ -1,0 +1,20 @@
+use Rattle.std.proofs.Common.{◌≡◌, ◌↔◌, [], drop, map}
+use Rattle.overlay_terms.specs.StoredTiles.{AreStored}
+use Rattle.record_form.specs.Image.{finished_of}
+use Rattle.record_form.specs.Listing.{listing_of}
+use Rattle.store_terms.specs.Image.{layers_of}
+use Rattle.root_reading.specs.Looking.{Looks}
+use Rattle.root_reading.specs.Loading.{then_layers}
+use Rattle.root_reading.proofs.loading.content_of.Given as goal
+
+abbrev pub invariant-loop-entry : goal.invariant-loop-entry
+invariant-loop-entry g l = record {
+  honest : g.D.Disk.is_honest l.disk ↔ g.D.Disk.is_honest l.fn.disk;
+  looks : g.D.Disk.is_honest l.fn.disk → Looks g.D.Disk l.fn.disk l.disk;
+  faults : g.D.Disk.is_honest l.fn.disk → g.D.Disk.faults l.disk ≡ g.D.Disk.faults l.fn.disk;
+  stored : AreStored l.content.layers (map finished_of l.content.tiles.items);
+  rest : g.D.Disk.is_honest l.fn.disk
+      → then_layers (map finished_of l.content.tiles.items)
+      (layers_of (g.D.Disk.seen l.fn.disk) l.content.layers (drop l.entry-index (listing_of l.listing)))
+      ≡ layers_of (g.D.Disk.seen l.fn.disk) [] (listing_of l.listing);
+}

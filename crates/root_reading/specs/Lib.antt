@@ -1,0 +1,6 @@
+pub mod Looking
+pub mod Finding
+pub mod Loading
+pub mod Contents
+pub mod Taking
+pub mod Stored

@@ -1,0 +1,49 @@
+//! Records as the disk has them.
+ghost use Rattle.std.specs.Prelude.{◌≡◌, ◌↔◌, ◌+◌, ◌*◌, ◌/◌, ◌≤◌, ◌&&◌, nat_le, length, IfOk};
+ghost use Rattle.store_terms.specs.Places.{blocks};
+ghost use Rattle.store_terms.specs.Image.{placed_bytes};
+ghost use Rattle.root_reading.specs.Looking.{Gives, Looks, Causes};
+
+use crate::load_fault::LoadFault;
+use disk_model::disk::Disk;
+use std::alloc::Global;
+use store_terms::damage::Damage;
+use store_terms::root::Extent;
+
+/// How many bytes a block has.
+pub const BLOCK: usize = 4096;
+
+/// How many blocks a record of so many bytes takes.
+pub(crate) fn blocks_of(size: u32) -> u64
+    ensures { result ≡ blocks size }
+{
+    ((u64::from(size) + 4095) / 4096).max(1)
+}
+
+/// Whether a record lies behind the slots in a file of so many blocks.
+fn is_within(extent: Extent, whole: u64) -> bool
+    ensures { result ≡ (nat_le 2 extent.block && nat_le (extent.block + blocks extent.size) whole) }
+{
+    extent.block >= 2 && extent.block <= whole && blocks_of(extent.size) <= whole - extent.block
+}
+
+/// The bytes of a record; the damage where it is not placed in the file.
+pub(crate) fn fetch<D: Disk>(
+    alloc: Global,
+    disk: &mut D,
+    extent: Extent,
+    damage: Damage,
+) -> Result<Vec<u8>, LoadFault>
+    ensures honest { D.is_honest disk.new ↔ D.is_honest disk.old }
+    ensures looks { D.is_honest disk.old → Looks D.Disk disk.old disk.new }
+    ensures gives { D.is_honest disk.old → Gives (λ v. v.items) result (placed_bytes damage (D.seen disk.old) extent) }
+    ensures cause { D.is_honest disk.old → Causes result (D.faults disk.old) (D.faults disk.new) }
+{
+    let whole = (disk.length()? / BLOCK) as u64;
+    if !is_within(extent, whole) {
+        return Err(LoadFault::Damaged(damage));
+    }
+    let mut bytes = vec![in alloc; 0; extent.size as usize]?;
+    disk.read(extent.block as usize * BLOCK, &mut bytes)?;
+    Ok(bytes)
+}

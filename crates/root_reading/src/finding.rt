@@ -1,0 +1,130 @@
+//! The root of a file.
+ghost use Rattle.std.specs.Prelude.{◌≡◌, ◌↔◌, ◌==◌, ◌&&◌, ◌*◌, ◌^◌, ◌<◌, ◌≤◌, ℕ, List, length, not, IfSome, IfOk, IfErr};
+ghost use Rattle.overlay_terms.specs.Commands.{version_max};
+ghost use Rattle.store_terms.specs.Places.{block_size};
+ghost use Rattle.store_terms.specs.StandsFor.{gate, slot, newest, root_of, is_foreign, open_gate};
+ghost use Rattle.root_reading.specs.Looking.{Gives, Looks, Causes};
+ghost use Rattle.root_reading.specs.Finding.{IsSlot, has_shut_gate};
+
+use crate::fetching::BLOCK;
+use crate::load_fault::LoadFault;
+use disk_model::disk::Disk;
+use record_form::root_body::{FORMAT, read_body};
+use store_terms::damage::Damage;
+use store_terms::root::{Body, Root};
+
+/// The value of a gate that is open.
+pub const GATE_OPEN: u8 = 0xA7;
+
+/// The greatest number of a commit, and of a version.
+pub const NUMBER_MAX: u64 = 1 << 62;
+
+/// What stands in a slot: its gate, and its body whatever the gate.
+#[derive(Clone, Copy)]
+pub(crate) struct Slot {
+    pub(crate) gate: u8,
+    pub(crate) body: Body,
+}
+
+impl Slot {
+    fn is_open(&self) -> bool
+        ensures { result ≡ (self.now.gate == open_gate) }
+    {
+        self.gate == GATE_OPEN
+    }
+
+    /// Whether the slot is open and not ours.
+    fn is_foreign(&self) -> bool
+        ensures { (file : List ℕ) (k : ℕ) → IsSlot file k self.now → result ≡ is_foreign file k }
+    {
+        self.is_open() && !self.body.is_ours
+    }
+
+    /// The root in the slot with this number, if its gate is open.
+    fn root(&self, number: u64) -> Result<Option<Root>, Damage>
+        ensures gives { (file : List ℕ) → IsSlot file number self.now → result ≡ slot file number }
+        ensures numbered { IfOk result (λ o. IfSome o (λ r. r.version ≤ version_max)) }
+    {
+        if !self.is_open() {
+            return Ok(None);
+        }
+        if self.body.format != FORMAT {
+            return Err(Damage::Format);
+        }
+        let root = self.body.root;
+        if root.sequence > NUMBER_MAX || root.version > NUMBER_MAX || root.sequence % 2 != number {
+            return Err(Damage::Numbers);
+        }
+        Ok(Some(root))
+    }
+}
+
+fn newer(first: Option<Root>, second: Option<Root>) -> Result<Root, Damage>
+    ensures gives { result ≡ newest first second }
+    ensures numbered { IfSome first (λ r. r.version ≤ version_max) → IfSome second (λ r. r.version ≤ version_max)
+        → IfOk result (λ r. r.version ≤ version_max) }
+{
+    match (first, second) {
+        (None, None) => Err(Damage::NotAStore),
+        (Some(a), None) => Ok(a),
+        (None, Some(b)) => Ok(b),
+        (Some(a), Some(b)) => {
+            if b.sequence < a.sequence {
+                Ok(a)
+            } else {
+                Ok(b)
+            }
+        }
+    }
+}
+
+/// The root that two slots of a file name.
+fn root_in(first: &Slot, second: &Slot) -> Result<Root, Damage>
+    ensures gives { (file : List ℕ) → block_size * 2 ≤ length file → IsSlot file 0 first.now → IsSlot file 1 second.now
+        → result ≡ root_of file }
+    ensures numbered { IfOk result (λ r. r.version ≤ version_max) }
+{
+    if first.is_foreign() || second.is_foreign() {
+        return Err(Damage::NotAStore);
+    }
+    let older = first.root(0)?;
+    let other = second.root(1)?;
+    newer(older, other)
+}
+
+/// What stands in the slot with this number.
+fn read_slot<D: Disk>(disk: &mut D, number: usize) -> Result<Slot, LoadFault>
+    requires small { number ≤ 1 }
+    requires long { D.is_honest disk.old → block_size * 2 ≤ length (D.seen disk.old) }
+    ensures honest { D.is_honest disk.new ↔ D.is_honest disk.old }
+    ensures looks { D.is_honest disk.old → Looks D.Disk disk.old disk.new }
+    ensures read { D.is_honest disk.old → IfOk result (IsSlot (D.seen disk.old) number) }
+    ensures err { IfErr result (λ e. e ≡ LoadFault.Device) }
+    ensures cause { D.is_honest disk.old → Causes result (D.faults disk.old) (D.faults disk.new) }
+{
+    let mut bytes = [0; 56];
+    disk.read(number * BLOCK, &mut bytes)?;
+    Ok(Slot {
+        gate: bytes[0],
+        body: read_body(&bytes[16..]),
+    })
+}
+
+/// The root of the file, and whether one of its gates is shut.
+pub fn find_root<D: Disk>(disk: &mut D) -> Result<(Root, bool), LoadFault>
+    ensures honest { D.is_honest disk.new ↔ D.is_honest disk.old }
+    ensures looks { D.is_honest disk.old → Looks D.Disk disk.old disk.new }
+    ensures gives { D.is_honest disk.old → Gives (λ x. x.0) result (root_of (D.seen disk.old)) }
+    ensures numbered { IfOk result (λ x. x.0.version ≤ version_max) }
+    ensures small { D.is_honest disk.old → IfOk result (λ x. length (D.seen disk.old) < 2 ^ 64) }
+    ensures alone { D.is_honest disk.old → IfOk result (λ x. x.1 ≡ has_shut_gate (D.seen disk.old)) }
+    ensures cause { D.is_honest disk.old → Causes result (D.faults disk.old) (D.faults disk.new) }
+{
+    if disk.length()? < 2 * BLOCK {
+        return Err(LoadFault::Damaged(Damage::NotAStore));
+    }
+    let first = read_slot(disk, 0)?;
+    let second = read_slot(disk, 1)?;
+    let root = root_in(&first, &second)?;
+    Ok((root, !(first.is_open() && second.is_open())))
+}

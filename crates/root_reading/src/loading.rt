@@ -1,0 +1,182 @@
+//! The layers and finished tiles of a file.
+ghost use Rattle.std.specs.Prelude.{◌↔◌, [], List, map, IfOk, OnOk, IfErr};
+ghost use Rattle.std.proofs.Common.{inl, inr};
+ghost use Rattle.overlay_terms.specs.Histories.{Finished};
+ghost use Rattle.overlay_terms.specs.StoredTiles.{AreStored};
+ghost use Rattle.record_form.specs.Image.{finished_of};
+ghost use Rattle.record_form.specs.Listing.{listed_of, listing_of};
+ghost use Rattle.store_terms.specs.Image.{layers_of};
+ghost use Rattle.root_reading.specs.Looking.{Gives, Looks, Causes};
+ghost use Rattle.root_reading.specs.Loading.{layers_with_base, layers_with_derived};
+ghost use Rattle.root_reading.specs.Stored.{AreStoredTo};
+ghost use Rattle.root_reading.specs.Contents.{Adds, RefusesLayer};
+
+use crate::keeping::{keep, name_in};
+use crate::load_fault::LoadFault;
+use crate::records::{base_at, expression_at};
+use crate::tiles::add_tiles;
+use disk_model::disk::Disk;
+use layer_book::command::Command;
+use layer_book::layers::Layers;
+use layer_expr::name::Name;
+use record_form::catalog::{Listed, Records};
+use std::alloc::Global;
+use std::sync::Arc;
+use store_terms::root::Extent;
+use tile_build::tile::Tile;
+
+/// What is read so far: layers, and the finished tiles of them.
+#[derive(Drop)]
+pub struct Content {
+    pub layers: Layers,
+    pub tiles: Vec<(Name, u8, Tile)>,
+}
+
+/// The layers with a base layer more, whose record lies in an extent.
+fn with_base<D: Disk>(
+    alloc: Global,
+    disk: &mut D,
+    layers: &Layers,
+    name: &[u8],
+    extent: Extent,
+) -> Result<Layers, LoadFault>
+    ensures honest { D.is_honest disk.new ↔ D.is_honest disk.old }
+    ensures looks { D.is_honest disk.old → Looks D.Disk disk.old disk.new }
+    ensures gives { D.is_honest disk.old
+        → Gives (λ l. l) result (layers_with_base (D.seen disk.old) layers.now name.now extent) }
+    ensures stored { (tiles : List Finished) → AreStored layers.now tiles → IfOk result (λ l. AreStored l tiles) }
+    ensures cause { D.is_honest disk.old → Causes result (D.faults disk.old) (D.faults disk.new) }
+{
+    let rings = base_at(alloc, disk, extent)?;
+    let name = name_in(alloc, name)?;
+    let rings = Arc::new(alloc, rings)?;
+    let layers = keep(alloc, layers, &Command::Put(name, rings))?;
+    Ok(layers)
+}
+
+/// The layers with a derived layer more, whose definition record lies in an extent.
+fn with_derived<D: Disk>(
+    alloc: Global,
+    disk: &mut D,
+    layers: &Layers,
+    name: &[u8],
+    extent: Extent,
+) -> Result<Layers, LoadFault>
+    ensures honest { D.is_honest disk.new ↔ D.is_honest disk.old }
+    ensures looks { D.is_honest disk.old → Looks D.Disk disk.old disk.new }
+    ensures gives { D.is_honest disk.old
+        → Gives (λ l. l) result (layers_with_derived (D.seen disk.old) layers.now name.now extent) }
+    ensures stored { (tiles : List Finished) → AreStored layers.now tiles
+        → IfOk result (λ l. AreStoredTo l tiles name.now 0) }
+    ensures cause { D.is_honest disk.old → Causes result (D.faults disk.old) (D.faults disk.new) }
+{
+    let expression = expression_at(alloc, disk, extent)?;
+    let name = name_in(alloc, name)?;
+    let expression = Arc::new(alloc, expression)?;
+    let layers = keep(alloc, layers, &Command::Define(name, expression))?;
+    Ok(layers)
+}
+
+/// Adds a base layer.
+fn add_base<D: Disk>(
+    alloc: Global,
+    disk: &mut D,
+    name: &[u8],
+    extent: Extent,
+    content: &mut Content,
+) -> Result<(), LoadFault>
+    ensures honest { D.is_honest disk.new ↔ D.is_honest disk.old }
+    ensures looks { D.is_honest disk.old → Looks D.Disk disk.old disk.new }
+    ensures adds { D.is_honest disk.old
+        → OnOk result
+        (Adds (D.seen disk.old) content.old content.new (record { name = name.now; records = inl extent })) }
+    ensures refuses { D.is_honest disk.old
+        → IfErr result
+        (λ e. RefusesLayer e (D.seen disk.old) content.old (record { name = name.now; records = inl extent })) }
+    ensures stored { AreStored content.old.layers (map finished_of content.old.tiles.items)
+        → OnOk result (AreStored content.new.layers (map finished_of content.new.tiles.items)) }
+    ensures cause { D.is_honest disk.old → Causes result (D.faults disk.old) (D.faults disk.new) }
+{
+    let layers = with_base(alloc, disk, &content.layers, name, extent)?;
+    content.layers = layers;
+    Ok(())
+}
+
+/// Adds a derived layer and its finished tiles.
+fn add_derived<D: Disk>(
+    alloc: Global,
+    disk: &mut D,
+    name: &[u8],
+    extent: Extent,
+    entries: &[Option<Extent>],
+    content: &mut Content,
+) -> Result<(), LoadFault>
+    ensures honest { D.is_honest disk.new ↔ D.is_honest disk.old }
+    ensures looks { D.is_honest disk.old → Looks D.Disk disk.old disk.new }
+    ensures adds { D.is_honest disk.old
+        → OnOk result
+        (Adds (D.seen disk.old) content.old content.new
+        (record { name = name.now; records = inr (extent, entries.now) })) }
+    ensures refuses { D.is_honest disk.old
+        → IfErr result
+        (λ e. RefusesLayer e (D.seen disk.old) content.old
+        (record { name = name.now; records = inr (extent, entries.now) })) }
+    ensures stored { AreStored content.old.layers (map finished_of content.old.tiles.items)
+        → OnOk result (AreStored content.new.layers (map finished_of content.new.tiles.items)) }
+    ensures cause { D.is_honest disk.old → Causes result (D.faults disk.old) (D.faults disk.new) }
+{
+    let layers = with_derived(alloc, disk, &content.layers, name, extent)?;
+    let own = name_in(alloc, name)?;
+    add_tiles(alloc, disk, &own, entries, &mut content.tiles)?;
+    content.layers = layers;
+    Ok(())
+}
+
+/// Adds a layer that the catalog lists.
+fn add_layer<D: Disk>(
+    alloc: Global,
+    disk: &mut D,
+    entry: &Listed,
+    content: &mut Content,
+) -> Result<(), LoadFault>
+    ensures honest { D.is_honest disk.new ↔ D.is_honest disk.old }
+    ensures looks { D.is_honest disk.old → Looks D.Disk disk.old disk.new }
+    ensures adds { D.is_honest disk.old
+        → OnOk result (Adds (D.seen disk.old) content.old content.new (listed_of entry.now)) }
+    ensures refuses { D.is_honest disk.old
+        → IfErr result (λ e. RefusesLayer e (D.seen disk.old) content.old (listed_of entry.now)) }
+    ensures stored { AreStored content.old.layers (map finished_of content.old.tiles.items)
+        → OnOk result (AreStored content.new.layers (map finished_of content.new.tiles.items)) }
+    ensures cause { D.is_honest disk.old → Causes result (D.faults disk.old) (D.faults disk.new) }
+{
+    match &entry.records {
+        Records::Base(extent) => add_base(alloc, disk, &entry.name, *extent, content),
+        Records::Derived(extent, entries) => {
+            add_derived(alloc, disk, &entry.name, *extent, entries, content)
+        }
+    }
+}
+
+/// The layers and finished tiles that a catalog lists.
+pub fn content_of<D: Disk>(
+    alloc: Global,
+    disk: &mut D,
+    listing: &[Listed],
+) -> Result<Content, LoadFault>
+    ensures honest { D.is_honest disk.new ↔ D.is_honest disk.old }
+    ensures looks { D.is_honest disk.old → Looks D.Disk disk.old disk.new }
+    ensures gives { D.is_honest disk.old
+        → Gives (λ x. (x.layers, map finished_of x.tiles.items)) result
+        (layers_of (D.seen disk.old) [] (listing_of listing.now)) }
+    ensures stored { IfOk result (λ x. AreStored x.layers (map finished_of x.tiles.items)) }
+    ensures cause { D.is_honest disk.old → Causes result (D.faults disk.old) (D.faults disk.new) }
+{
+    let mut content = Content {
+        layers: Layers::new(alloc),
+        tiles: Vec::new(alloc),
+    };
+    for entry in listing {
+        add_layer(alloc, disk, entry, &mut content)?;
+    }
+    Ok(content)
+}

@@ -1,0 +1,110 @@
+//! The finished tiles of a layer, as the disk has them.
+ghost use Rattle.std.specs.Prelude.{◌≡◌, ◌↔◌, ◌+◌, ◌<◌, ◌∷◌, List, Option, map, true, IfOk, OnOk, IfErr};
+ghost use Rattle.overlay_terms.specs.Column.{column_count};
+ghost use Rattle.overlay_terms.specs.Histories.{is_formed};
+ghost use Rattle.overlay_terms.specs.Layers.{Layer};
+ghost use Rattle.overlay_terms.specs.StoredTiles.{AreStored};
+ghost use Rattle.tile_build.specs.Tile.{tile_of};
+ghost use Rattle.record_form.specs.Image.{finished_of};
+ghost use Rattle.store_terms.specs.Image.{tiles_of};
+ghost use Rattle.store_terms.specs.declared.root.Extent as terms;
+ghost use Rattle.root_reading.specs.Looking.{Gives, Refuses, Looks, Causes};
+ghost use Rattle.root_reading.specs.Loading.{tile_at, then_tiles};
+ghost use Rattle.root_reading.specs.Stored.{AreStoredTo};
+
+use crate::fetching::fetch;
+use crate::load_fault::LoadFault;
+use disk_model::disk::Disk;
+use layer_expr::name::Name;
+use plane_base::COLUMN_COUNT;
+use record_form::tile_record::read_tile;
+use std::alloc::Global;
+use store_terms::damage::Damage;
+use store_terms::root::Extent;
+use tile_build::tile::Tile;
+
+/// The tile of a column whose record lies in an extent.
+#[tactic(auto, using(record_form::proofs::StoredLemmas::read_has_form))]
+fn tile_at<D: Disk>(
+    alloc: Global,
+    disk: &mut D,
+    column: usize,
+    extent: Extent,
+) -> Result<Tile, LoadFault>
+    ensures known { IfOk result (λ tile. column < column_count) }
+    ensures formed { IfOk result (λ tile. is_formed (tile_of tile) column ≡ true) }
+    ensures honest { D.is_honest disk.new ↔ D.is_honest disk.old }
+    ensures looks { D.is_honest disk.old → Looks D.Disk disk.old disk.new }
+    ensures gives { D.is_honest disk.old
+        → Gives (λ tile. tile_of tile) result (tile_at (D.seen disk.old) column extent) }
+    ensures cause { D.is_honest disk.old → Causes result (D.faults disk.old) (D.faults disk.new) }
+{
+    let bytes = fetch(alloc, disk, extent, Damage::RecordPlace)?;
+    if column >= usize::from(COLUMN_COUNT) {
+        return Err(LoadFault::Damaged(Damage::TileForm));
+    }
+    let tile = read_tile(alloc, column as u8, &bytes)?;
+    Ok(tile)
+}
+
+/// Adds the tile of a column, if its entry says where its record lies.
+#[tactic(auto, using(crate::proofs::StoredLemmas::next_column))]
+fn add_tile<D: Disk>(
+    alloc: Global,
+    disk: &mut D,
+    name: &Name,
+    column: usize,
+    entry: Option<Extent>,
+    tiles: &mut Vec<(Name, u8, Tile)>,
+) -> Result<(), LoadFault>
+    ensures honest { D.is_honest disk.new ↔ D.is_honest disk.old }
+    ensures looks { D.is_honest disk.old → Looks D.Disk disk.old disk.new }
+    ensures adds { D.is_honest disk.old
+        → OnOk result
+        ((rest : List (Option terms.Extent))
+        → then_tiles (map finished_of tiles.old.items) (tiles_of (D.seen disk.old) name.now column (entry ∷ rest))
+        ≡ then_tiles (map finished_of tiles.new.items) (tiles_of (D.seen disk.old) name.now (column + 1) rest)) }
+    ensures refuses { D.is_honest disk.old
+        → IfErr result
+        (λ e. (rest : List (Option terms.Extent))
+        → Refuses e (then_tiles (map finished_of tiles.old.items)
+        (tiles_of (D.seen disk.old) name.now column (entry ∷ rest)))) }
+    ensures stored { (layers : List Layer) → AreStoredTo layers (map finished_of tiles.old.items) name.now column
+        → OnOk result (AreStoredTo layers (map finished_of tiles.new.items) name.now (column + 1)) }
+    ensures cause { D.is_honest disk.old → Causes result (D.faults disk.old) (D.faults disk.new) }
+{
+    let Some(extent) = entry else {
+        return Ok(());
+    };
+    let tile = tile_at(alloc, disk, column, extent)?;
+    tiles.push((name.clone()?, column as u8, tile))?;
+    Ok(())
+}
+
+/// Adds the finished tiles of a layer, by column.
+pub(crate) fn add_tiles<D: Disk>(
+    alloc: Global,
+    disk: &mut D,
+    name: &Name,
+    entries: &[Option<Extent>],
+    tiles: &mut Vec<(Name, u8, Tile)>,
+) -> Result<(), LoadFault>
+    ensures honest { D.is_honest disk.new ↔ D.is_honest disk.old }
+    ensures looks { D.is_honest disk.old → Looks D.Disk disk.old disk.new }
+    ensures adds { D.is_honest disk.old
+        → OnOk result
+        (then_tiles (map finished_of tiles.old.items) (tiles_of (D.seen disk.old) name.now 0 entries.now)
+        ≡ Ok (map finished_of tiles.new.items)) }
+    ensures refuses { D.is_honest disk.old
+        → IfErr result
+        (λ e. Refuses e
+        (then_tiles (map finished_of tiles.old.items) (tiles_of (D.seen disk.old) name.now 0 entries.now))) }
+    ensures stored { (layers : List Layer) → AreStoredTo layers (map finished_of tiles.old.items) name.now 0
+        → OnOk result (AreStored layers (map finished_of tiles.new.items)) }
+    ensures cause { D.is_honest disk.old → Causes result (D.faults disk.old) (D.faults disk.new) }
+{
+    for (column, entry) in entries.iter().enumerate() {
+        add_tile(alloc, disk, name, column, *entry, tiles)?;
+    }
+    Ok(())
+}

@@ -1,6 +1,0 @@
-use Rattle.std.proofs.Common.{map}
-use Rattle.record_form.specs.Image.{finished}
-use Rattle.root_store.proofs.loading.add_base.Goals as goal
-
-pub returns-clause-stored : goal.returns-clause-stored
-returns-clause-stored g c stored = c.in_ok-layers.ensures.stored (map finished c.args.content.now.tiles.items) stored

@@ -1,0 +1,21 @@
+//! Where the gate and the body stand of the slot that a root is not in.
+ghost use Rattle.std.specs.Prelude.{◌≡◌, ◌+◌, ◌*◌, ◌%◌};
+ghost use Rattle.store_terms.specs.StandsFor.{body_at};
+ghost use Rattle.root_store.specs.Kept.{other};
+
+use root_reading::fetching::BLOCK;
+use store_terms::root::Root;
+
+/// Where the gate of the other slot stands.
+pub(crate) fn other_gate(root: Root) -> usize
+    ensures { result ≡ 4096 * ((root.sequence + 1) % 2) }
+{
+    if root.sequence % 2 == 0 { BLOCK } else { 0 }
+}
+
+/// Where the body of the other slot stands.
+pub(crate) fn other_body(root: Root) -> usize
+    ensures { result ≡ body_at (other root) }
+{
+    if root.sequence % 2 == 0 { 4112 } else { 16 }
+}
