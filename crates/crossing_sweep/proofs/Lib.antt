@@ -34,3 +34,4 @@ pub mod Passed
 pub mod RowLemmas
 pub mod RowOrder
 pub mod RowCode
+pub mod SplitLemmas

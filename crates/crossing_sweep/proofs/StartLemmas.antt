@@ -157,7 +157,7 @@ map_pairs f R [] h = λ i j d l m. absurd (omega (arith, m))
 map_pairs f R (x ∷ xs) h =
     AllPairs-cons R (f x) (map f xs) (All-map (R (f x)) f xs (pairs_head (λ a b. R (f a) (f b)) x xs h)) (map_pairs f R xs (pairs_rest (λ a b. R (f a) (f b)) x xs h))
 
-unmap_pairs : {X Y : Type 0} (f : X → Y) (R : Y → Y → Type 0) (xs : List X) → AllPairs R (map f xs) → AllPairs (λ a b. R (f a) (f b)) xs
+pub unmap_pairs : {X Y : Type 0} (f : X → Y) (R : Y → Y → Type 0) (xs : List X) → AllPairs R (map f xs) → AllPairs (λ a b. R (f a) (f b)) xs
 unmap_pairs f R [] h = λ i j d l m. absurd (omega (arith, m))
 unmap_pairs f R (x ∷ xs) h =
     AllPairs-cons (λ a b. R (f a) (f b)) x xs (all_of (λ b. R (f x) (f b)) xs (λ b c. All-contains (R (f x)) (map f xs) (f b) (pairs_head R (f x) (map f xs) h) (contains_map f xs b c)))

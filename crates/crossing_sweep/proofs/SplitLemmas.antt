@@ -1,0 +1,138 @@
+-- A status falls into three parts at a place: the members under it, those that hold it, and those over it.
+use Rattle.std.proofs.Common.{◌≡◌, ℕ, ℤ, pos, ◌<◌, ◌≤◌, ◌<ℤ◌, ◌≤ℤ◌, ◌+◌, Bool, inl, inr, ◌⊎◌, true, false, List, length, get_or, take, drop, ap, sym, subst, arith}
+use Rattle.std.specs.Prelude.{All, ◌≢◌}
+use Rattle.std.specs.List.{AllPairs, AllWithin}
+use Rattle.std.specs.List.Sorted.{IsPartitionedBy, IsPartitionPoint}
+use Rattle.std.specs.Cmp.{int_cmp_is, int_ranks}
+use Rattle.std.specs.Ordering.{int_cmp, is_gt, is_ge, MatchOrdering}
+use Rattle.std.specs.declared.cmp.Ordering.{Ordering}
+use Rattle.std.specs.declared.cmp.Ordering.TheVariants.{Less, Equal, Greater}
+use Rattle.std.proofs.lemmas.Int.{ints, by_lt_z}
+use Rattle.std.proofs.lemmas.Bool.{false≢true, cases_eq}
+use Rattle.std.proofs.lemmas.List.{get_or-take, get_or-drop, length-take-le, length-drop}
+use Rattle.std.proofs.lemmas.List.Elements.{All-take}
+use Rattle.overlay_terms.specs.Plane.{Point, Segment, height_over, side_of}
+use Rattle.crossing_sweep.specs.Status.{SidesFallAlong}
+use Rattle.crossing_sweep.specs.Member.{seg_of, segs_of}
+use Rattle.crossing_sweep.specs.declared.member.Member.{Member}
+use Rattle.crossing_sweep.proofs.StartLemmas.{unmap_pairs}
+
+-- ---- tests of a height
+gt_by : (h : ℤ) (o : Ordering) → MatchOrdering o (h <ℤ pos 0) (h ≡ pos 0) (pos 0 <ℤ h) → is_gt o ≡ true → pos 0 <ℤ h
+gt_by h Less m e = absurd (false≢true e)
+gt_by h Equal m e = absurd (false≢true e)
+gt_by h Greater m e = m
+
+not_gt_by : (h : ℤ) (o : Ordering) → MatchOrdering o (h <ℤ pos 0) (h ≡ pos 0) (pos 0 <ℤ h) → is_gt o ≡ false → h ≤ℤ pos 0
+not_gt_by h Less m e = omega (arith, ints, m)
+not_gt_by h Equal m e = omega (arith, ints, m)
+not_gt_by h Greater m e = absurd (false≢true (sym e))
+
+ge_by : (h : ℤ) (o : Ordering) → MatchOrdering o (h <ℤ pos 0) (h ≡ pos 0) (pos 0 <ℤ h) → is_ge o ≡ true → pos 0 ≤ℤ h
+ge_by h Less m e = absurd (false≢true e)
+ge_by h Equal m e = omega (arith, ints, m)
+ge_by h Greater m e = omega (arith, ints, m)
+
+not_ge_by : (h : ℤ) (o : Ordering) → MatchOrdering o (h <ℤ pos 0) (h ≡ pos 0) (pos 0 <ℤ h) → is_ge o ≡ false → h <ℤ pos 0
+not_ge_by h Less m e = m
+not_ge_by h Equal m e = absurd (false≢true (sym e))
+not_ge_by h Greater m e = absurd (false≢true (sym e))
+
+ge_from : (h : ℤ) (o : Ordering) → MatchOrdering o (h <ℤ pos 0) (h ≡ pos 0) (pos 0 <ℤ h) → pos 0 ≤ℤ h → is_ge o ≡ true
+ge_from h Less m k = absurd (no_way h m k)
+  where
+    no_way : (h : ℤ) → h <ℤ pos 0 → pos 0 ≤ℤ h → ⊥
+    no_way h m k = omega (arith, ints, m, k)
+ge_from h Equal m k = search
+ge_from h Greater m k = search
+
+gt_from : (h : ℤ) → pos 0 <ℤ h → is_gt (int_cmp h (pos 0)) ≡ true
+gt_from h k = ap is_gt (sym (int_cmp_is h (pos 0) Greater k))
+
+module _ (r : Point) where
+  -- a member passes under the place
+  abbrev pub is_under : Member → Bool
+  is_under m = is_gt (side_of m.unit.seg r)
+
+  -- under it or through it
+  abbrev pub is_up_to : Member → Bool
+  is_up_to m = is_ge (side_of m.unit.seg r)
+
+  abbrev height : Member → ℤ
+  height m = height_over m.unit.seg r
+
+  under_height : (m : Member) → is_under m ≡ true → pos 0 <ℤ height m
+  under_height m e = gt_by (height m) (int_cmp (height m) (pos 0)) (int_ranks (height m) (pos 0)) e
+
+  not_under_height : (m : Member) → is_under m ≡ false → height m ≤ℤ pos 0
+  not_under_height m e = not_gt_by (height m) (int_cmp (height m) (pos 0)) (int_ranks (height m) (pos 0)) e
+
+  up_to_height : (m : Member) → is_up_to m ≡ true → pos 0 ≤ℤ height m
+  up_to_height m e = ge_by (height m) (int_cmp (height m) (pos 0)) (int_ranks (height m) (pos 0)) e
+
+  over_height : (m : Member) → is_up_to m ≡ false → height m <ℤ pos 0
+  over_height m e = not_ge_by (height m) (int_cmp (height m) (pos 0)) (int_ranks (height m) (pos 0)) e
+
+  -- of two in order, what passes the test for the later passes it for the earlier
+  same_or_before : (P : ℕ → Type 0) (i j : ℕ) → i ≤ j → P j → (i < j → P i) → P i
+  same_or_before P i j l e f = by (cases_eq i j)
+    where
+      by : (i ≡ j) ⊎ (i ≢ j) → P i
+      by (inl g) = subst P (sym g) e
+      by (inr n) = f (omega (arith, l, n))
+
+  module _ (ms : List Member) (falls : SidesFallAlong r (segs_of ms)) where
+    not_above : AllPairs (λ a b. height a ≤ℤ pos 0 → height b ≤ℤ pos 0) ms
+    not_above = unmap_pairs seg_of (λ a b. height_over a r ≤ℤ pos 0 → height_over b r ≤ℤ pos 0) ms falls.not_above
+
+    below : AllPairs (λ a b. height a <ℤ pos 0 → height b <ℤ pos 0) ms
+    below = unmap_pairs seg_of (λ a b. height_over a r <ℤ pos 0 → height_over b r <ℤ pos 0) ms falls.below
+
+    no_both : (h : ℤ) → pos 0 <ℤ h → h ≤ℤ pos 0 → ⊥
+    no_both h k l = omega (arith, ints, k, l)
+
+    no_low : (h : ℤ) → pos 0 ≤ℤ h → h <ℤ pos 0 → ⊥
+    no_low h k l = omega (arith, ints, k, l)
+
+    pub under_falls : IsPartitionedBy is_under ms
+    under_falls i j d l m e = same_or_before (λ k. is_under (get_or ms k d) ≡ true) i j l e earlier
+      where
+        earlier : i < j → is_under (get_or ms i d) ≡ true
+        earlier k =
+            by_lt_z (pos 0) (height (get_or ms i d)) (gt_from (height (get_or ms i d)))
+            (λ low. absurd (no_both (height (get_or ms j d)) (under_height (get_or ms j d) e) (not_above i j d k m low)))
+
+    pub up_to_falls : IsPartitionedBy is_up_to ms
+    up_to_falls i j d l m e = same_or_before (λ k. is_up_to (get_or ms k d) ≡ true) i j l e earlier
+      where
+        earlier : i < j → is_up_to (get_or ms i d) ≡ true
+        earlier k =
+            by_lt_z (height (get_or ms i d)) (pos 0) (λ low. absurd (no_low (height (get_or ms j d)) (up_to_height (get_or ms j d) e) (below i j d k m low)))
+            (λ high. ge_from (height (get_or ms i d)) (int_cmp (height (get_or ms i d)) (pos 0)) (int_ranks (height (get_or ms i d)) (pos 0)) high)
+
+-- ---- the two parts at a partition point
+module _ {X : Type 0} (P Q : X → Type 0) (xs : List X) (k : ℕ) (few : k ≤ length xs) (at : IsPartitionPoint P Q xs k) where
+  pub first_part : All P (take k xs)
+  first_part i d l = let inside : i < k = omega (arith, l, length-take-le k xs few) in subst P (sym (get_or-take k xs i d inside)) (at.0 i d (omega arith) inside)
+
+  pub second_part : All Q (drop k xs)
+  second_part i d l = subst Q (sym (get_or-drop k xs i d)) (at.1 (k + i) d (omega arith) (omega (arith, l, length-drop k xs, few)))
+
+module _ (r : Point) (ms : List Member) (k : ℕ) (few : k ≤ length ms) (falls : SidesFallAlong r (segs_of ms)) where
+  pub all_under : IsPartitionPoint (λ m. is_under r m ≡ true) (λ m. is_under r m ≡ false) ms k → All (λ m. pos 0 <ℤ height_over m.unit.seg r) (take k ms)
+  all_under at i d l = under_height r (get_or (take k ms) i d) (first_part (λ m. is_under r m ≡ true) (λ m. is_under r m ≡ false) ms k few at i d l)
+
+  pub none_under : IsPartitionPoint (λ m. is_under r m ≡ true) (λ m. is_under r m ≡ false) ms k → All (λ m. height_over m.unit.seg r ≤ℤ pos 0) (drop k ms)
+  none_under at i d l = not_under_height r (get_or (drop k ms) i d) (second_part (λ m. is_under r m ≡ true) (λ m. is_under r m ≡ false) ms k few at i d l)
+
+  pub all_hold : IsPartitionPoint (λ m. is_up_to r m ≡ true) (λ m. is_up_to r m ≡ false) ms k → All (λ m. height_over m.unit.seg r ≤ℤ pos 0) ms
+      → All (λ m. height_over m.unit.seg r ≡ pos 0) (take k ms)
+  all_hold at most i d l =
+      level (height_over (get_or (take k ms) i d).unit.seg r) (All-take (λ m. height_over m.unit.seg r ≤ℤ pos 0) k ms most i d l)
+      (up_to_height r (get_or (take k ms) i d) (first_part (λ m. is_up_to r m ≡ true) (λ m. is_up_to r m ≡ false) ms k few at i d l))
+    where
+      level : (h : ℤ) → h ≤ℤ pos 0 → pos 0 ≤ℤ h → h ≡ pos 0
+      level h a b = omega (arith, ints, a, b)
+
+  pub all_over : IsPartitionPoint (λ m. is_up_to r m ≡ true) (λ m. is_up_to r m ≡ false) ms k → All (λ m. height_over m.unit.seg r <ℤ pos 0) (drop k ms)
+  all_over at i d l = over_height r (get_or (drop k ms) i d) (second_part (λ m. is_up_to r m ≡ true) (λ m. is_up_to r m ≡ false) ms k few at i d l)

@@ -1,0 +1,30 @@
+//! Where a status passes under a place, through it and over it.
+ghost use Rattle.std.specs.Prelude.{pos, ◌<ℤ◌, ◌≤ℤ◌, ◌≤◌, ◌≡◌, All, length, take, drop};
+ghost use Rattle.overlay_terms.specs.Plane.{height_over};
+ghost use Rattle.exact_point.specs.Place.{place};
+ghost use Rattle.crossing_sweep.specs.Status.{SidesFallAlong};
+ghost use Rattle.crossing_sweep.specs.Member.{segs_of};
+
+use crate::member::Member;
+use exact_point::point::HPoint;
+use exact_point::side::side;
+
+/// How many members of a status pass under a place.
+pub fn count_under(status: &[Member], at: &HPoint) -> usize
+    ensures few { result ≤ length status.now }
+    ensures under { SidesFallAlong (place at.now) (segs_of status.now) → All (λ m. pos 0 <ℤ height_over m.unit.seg (place at.now)) (take result status.now) }
+    ensures not_under { SidesFallAlong (place at.now) (segs_of status.now) → All (λ m. height_over m.unit.seg (place at.now) ≤ℤ pos 0) (drop result status.now) }
+{
+    status.partition_point(|member| side(&member.unit.seg, at).is_gt())
+}
+
+/// How many members of a status hold a place that none of them passes under.
+pub fn count_holding(status: &[Member], at: &HPoint) -> usize
+    ensures few { result ≤ length status.now }
+    ensures hold { SidesFallAlong (place at.now) (segs_of status.now) → All (λ m. height_over m.unit.seg (place at.now) ≤ℤ pos 0) status.now →
+        All (λ m. height_over m.unit.seg (place at.now) ≡ pos 0) (take result status.now) }
+    ensures over { SidesFallAlong (place at.now) (segs_of status.now) → All (λ m. height_over m.unit.seg (place at.now) ≤ℤ pos 0) status.now →
+        All (λ m. height_over m.unit.seg (place at.now) <ℤ pos 0) (drop result status.now) }
+{
+    status.partition_point(|member| side(&member.unit.seg, at).is_ge())
+}

@@ -1,0 +1,61 @@
+//! The members that go on after a place, with those that enter there.
+ghost use Rattle.std.specs.Prelude.{◌≡◌, ◌++◌, map, filter, IfOk, OnOk};
+ghost use Rattle.overlay_terms.specs.Plane.{point_cmp, whole};
+ghost use Rattle.std.specs.List.{prefix_len};
+ghost use Rattle.exact_point.specs.Place.{place, same_hpoint};
+ghost use Rattle.crossing_sweep.specs.Member.{seg_of, segs_of, ends_after};
+
+use crate::member::{Begin, Member};
+use crate::start::Start;
+use exact_point::point::HPoint;
+use plane_base::point::Seg;
+use std::alloc::{AllocError, Global};
+
+/// Whether a segment ends after a place.
+fn ends_after(seg: &Seg, at: &HPoint) -> bool
+    ensures { result ≡ ends_after (place at.now) seg.now }
+{
+    *at < HPoint::of(seg.right())
+}
+
+/// The members that go on after a place that they hold.
+pub fn staying(alloc: Global, bundle: &[Member], at: &HPoint) -> Result<Vec<Member>, AllocError>
+    ensures { IfOk result (λ stay. stay.items ≡ filter (λ m. ends_after (place at.now) m.unit.seg) bundle.now) }
+{
+    let mut stay = Vec::new(alloc);
+    for member in bundle {
+        if ends_after(&member.unit.seg, at) {
+            stay.push(*member)?;
+        }
+    }
+    Ok(stay)
+}
+
+/// How many of the units to come enter at a place: the first ones.
+pub fn count_entering(coming: &[Start], at: &HPoint) -> usize
+    ensures { result ≡ prefix_len (λ s. same_hpoint s.at at.now) coming.now }
+{
+    coming.iter().take_while(|start| start.at == *at).count()
+}
+
+/// Adds the units that enter at a place and go on after it.
+pub fn enter(
+    stay: &mut Vec<Member>,
+    entering: &[Start],
+    at: &HPoint,
+    begin: &Begin,
+) -> Result<(), AllocError>
+    ensures { OnOk result (segs_of stay.new.items ≡ segs_of stay.old.items ++ filter (ends_after (place at.now)) (map (λ s. s.unit.seg) entering.now)) }
+{
+    for start in entering {
+        if ends_after(&start.unit.seg, at) {
+            stay.push(Member {
+                unit: start.unit,
+                begin: *begin,
+                over: 0,
+                differs: false,
+            })?;
+        }
+    }
+    Ok(())
+}
