@@ -9,10 +9,10 @@ use Rattle.std.proofs.lemmas.List.Elements.{All-contains, All-map, Contains-appe
 use Rattle.std.proofs.lemmas.List.Folds.{Any-from_list_any}
 use Rattle.overlay_terms.specs.Plane.{Point, Segment, whole, same_place, is_on, coordinate_max, denominator_max}
 use Rattle.overlay_terms.specs.Column.{border, columns, column_count}
-use Rattle.overlay_terms.specs.Tiles.{Input, is_end, is_on_border, is_node, is_vertical}
+use Rattle.overlay_terms.specs.Tiles.{Input, is_end, is_crossing, is_on_border, is_node, is_vertical}
 use Rattle.overlay_terms.specs.TileLaws.{IsInput, IsProper}
-use Rattle.overlay_terms.proofs.InputNumbers.{le_true, true_le, most_back, most_times, last_turned, between_from_on}
-use Rattle.overlay_terms.proofs.InputNodes.{border_node}
+use Rattle.overlay_terms.proofs.InputNumbers.{border_found, false_eq, le_true, true_le, most_back, most_times, last_turned, between_from_on}
+use Rattle.overlay_terms.proofs.InputLists.{any_from_Contains}
 use Rattle.overlay_terms.proofs.Lists.{any_from, any_contains, Contains-cons_cases, none_in_empty, contains_map, in_flat_map, from_flat_map}
 use Rattle.exact_point.specs.Place.{place}
 use Rattle.exact_point.specs.PlaceOf.{place_of}
@@ -174,40 +174,55 @@ module _ (input : Input) (is : IsInput input) (found : List (HPoint × PointName
   proper : (s : Segment) → Contains segments s → IsProper s
   proper s c = All-contains IsProper segments s (All-map IsProper (λ (m : Marked). m.segment) input.marked is.proper) c
 
-  -- ---- each of them is a node
-  node_of : (s : Segment) → Contains segments s → (name : PointName) → Contains (own s) name → (z : Point) → pos 0 <ℤ z.w → IsPlaceOf name z → IsTrue (is_node segments z)
-  node_of s among name c z hz stands = first (Contains-cons_cases (Vertex s.left) (Vertex s.right ∷ Border s input.column ∷ Border s (input.column + 1) ∷ []) name c)
+  -- ---- each of them is an end or lies on a border
+  fixed_of : (s : Segment) → Contains segments s → (name : PointName) → Contains (own s) name → (z : Point) → pos 0 <ℤ z.w → IsPlaceOf name z → IsTrue (is_end segments z || is_on_border segments z)
+  fixed_of s among name c z hz stands = first (Contains-cons_cases (Vertex s.left) (Vertex s.right ∷ Border s input.column ∷ Border s (input.column + 1) ∷ []) name c)
     where
-      at_cut : (j : ℕ) → IsCutOf s j z → IsTrue (is_node segments z)
-      at_cut j cut = border_node segments s j z cut.cut.known_column cut.on_border cut.on_segment (wide s.left.x (border j) s.right.x cut.cut.after_left cut.cut.before_right) among
+      at_end : IsTrue (is_end segments z) → IsTrue (is_end segments z || is_on_border segments z)
+      at_end e = or_left (is_end segments z) (is_on_border segments z) e
+
+      at_cut : (j : ℕ) → IsCutOf s j z → IsTrue (is_end segments z || is_on_border segments z)
+      at_cut j cut =
+          or_right (is_end segments z) (is_on_border segments z)
+          (and_from _ _ (border_found j z cut.cut.known_column cut.on_border)
+          (any_from_Contains (λ t. is_on t z && not (is_vertical t)) segments s among
+          (and_from _ _ cut.on_segment (false_eq s.left.x s.right.x (wide s.left.x (border j) s.right.x cut.cut.after_left cut.cut.before_right)))))
         where
           wide : (l b r : ℤ) → l <ℤ b → b <ℤ r → l <ℤ r
           wide l b r h k = omega (arith, ints, h, k)
 
-      last : (Border s (input.column + 1) ≡ name) ⊎ Contains [] name → IsTrue (is_node segments z)
+      last : (Border s (input.column + 1) ≡ name) ⊎ Contains [] name → IsTrue (is_end segments z || is_on_border segments z)
       last (inl e) = at_cut (input.column + 1) (subst (λ n. IsPlaceOf n z) (sym e) stands)
       last (inr h) = absurd (none_in_empty name h)
 
-      third : (Border s input.column ≡ name) ⊎ Contains (Border s (input.column + 1) ∷ []) name → IsTrue (is_node segments z)
+      third : (Border s input.column ≡ name) ⊎ Contains (Border s (input.column + 1) ∷ []) name → IsTrue (is_end segments z || is_on_border segments z)
       third (inl e) = at_cut input.column (subst (λ n. IsPlaceOf n z) (sym e) stands)
       third (inr h) = last (Contains-cons_cases (Border s (input.column + 1)) [] name h)
 
-      second : (Vertex s.right ≡ name) ⊎ Contains (Border s input.column ∷ Border s (input.column + 1) ∷ []) name → IsTrue (is_node segments z)
+      second : (Vertex s.right ≡ name) ⊎ Contains (Border s input.column ∷ Border s (input.column + 1) ∷ []) name → IsTrue (is_end segments z || is_on_border segments z)
       second (inl e) =
-          node_at_end segments z (end_among segments s among z
+          at_end (end_among segments s among z
           (or_right (same_place z (whole s.left)) (same_place z (whole s.right)) (same_turned (whole s.right) z (subst (λ n. IsPlaceOf n z) (sym e) stands))))
       second (inr h) = third (Contains-cons_cases (Border s input.column) (Border s (input.column + 1) ∷ []) name h)
 
-      first : (Vertex s.left ≡ name) ⊎ Contains (Vertex s.right ∷ Border s input.column ∷ Border s (input.column + 1) ∷ []) name → IsTrue (is_node segments z)
+      first : (Vertex s.left ≡ name) ⊎ Contains (Vertex s.right ∷ Border s input.column ∷ Border s (input.column + 1) ∷ []) name → IsTrue (is_end segments z || is_on_border segments z)
       first (inl e) =
-          node_at_end segments z (end_among segments s among z
+          at_end (end_among segments s among z
           (or_left (same_place z (whole s.left)) (same_place z (whole s.right)) (same_turned (whole s.left) z (subst (λ n. IsPlaceOf n z) (sym e) stands))))
       first (inr h) = second (Contains-cons_cases (Vertex s.right) (Border s input.column ∷ Border s (input.column + 1) ∷ []) name h)
 
-  node : (e : HPoint × PointName) → Contains found e → IsTrue (is_node segments (place e.0))
-  node e c =
+  is_fixed : (e : HPoint × PointName) → Contains found e → IsTrue (is_end segments (place e.0) || is_on_border segments (place e.0))
+  is_fixed e c =
       let offered = from_flat_map own segments e.1 (entry e c).offered in
-      node_of offered.0 offered.1 e.1 offered.2 (place e.0) (point_positive e.0) (entry e c).stands
+      fixed_of offered.0 offered.1 e.1 offered.2 (place e.0) (point_positive e.0) (entry e c).stands
+
+  -- so it is a node
+  node : (e : HPoint × PointName) → Contains found e → IsTrue (is_node segments (place e.0))
+  node e c = by (or_cases (is_end segments (place e.0)) (is_on_border segments (place e.0)) (is_fixed e c))
+    where
+      by : (is_end segments (place e.0) ≡ true) ⊎ (is_on_border segments (place e.0) ≡ true) → IsTrue (is_node segments (place e.0))
+      by (inl h) = node_at_end segments (place e.0) h
+      by (inr h) = or_right (is_end segments (place e.0) || is_crossing segments (place e.0)) (is_on_border segments (place e.0)) h
 
   -- ---- all ends and border places are among them
   module _ (p : Point) (hp : pos 0 <ℤ p.w) (from : (border input.column *ℤ p.w) ≤ℤ p.x) (up_to : IsUpTo input.column p) where
@@ -302,4 +317,5 @@ module _ (input : Input) (is : IsInput input) (found : List (HPoint × PointName
       fixed = λ p hp h from up_to. fixed p hp from up_to h;
     };
     named = all_of (λ (e : HPoint × PointName). HasPlace e.1 × (place e.0 ≡ place_of e.1)) found (λ e c. ((entry e c).named, (entry e c).told));
+    fixed = all_of (λ (e : HPoint × PointName). IsTrue (is_end segments (place e.0) || is_on_border segments (place e.0))) found is_fixed;
   }

@@ -35,3 +35,5 @@ pub mod RowLemmas
 pub mod RowOrder
 pub mod RowCode
 pub mod SplitLemmas
+pub mod TestLemmas
+pub mod ComingLemmas

@@ -146,6 +146,40 @@ module _ (column : ℕ) (r : Point) (u : Segment) (proper : IsProper u) (hr : po
     pub waits_on : IsWaiting column r u
     waits_on = record { begins_left = begins; on_border = over_border; passes_over = above }
 
+-- ---- the first of the places found ahead
+module _ (n : ℤ) (segments units : List Segment) (column : ℕ) (q r : Point) (entered to_come : List Segment) (keys : List Point) (steep : IsSteep n) (proper : All IsProper segments)
+    (come : HasCome n segments units column q entered to_come (r ∷ keys)) (least : All (λ z. point_cmp r z ≡ Less) keys) where
+  first_ahead : IsAhead segments column q r
+  first_ahead = All-head (IsAhead segments column q) r keys come.ahead
+
+  -- what waits after the old place
+  all_waiting : All (IsWaiting column q) (waiting column to_come)
+  all_waiting =
+      all_of (IsWaiting column q) (waiting column to_come)
+      (λ u c. let parts = filter_contains (begins_left column) to_come u c in (All-contains (IsToCome column q) to_come u come.coming parts.0).waits parts.1)
+
+  not_earlier : (z : Point) → pos 0 <ℤ z.w → (r ≡ z) ⊎ Contains keys z → point_cmp z r ≡ Less → ⊥
+  not_earlier z hz (inl e) =
+      subst (λ x. point_cmp x r ≡ Less → ⊥) e (not_before_self r r first_ahead.small.positive first_ahead.small.positive (same_self r))
+  not_earlier z hz (inr c) = not_after_less r z first_ahead.small.positive hz (All-contains (λ z. point_cmp r z ≡ Less) keys z least c)
+
+  -- it is the next node
+  pub first_is_node : IsNextNode segments q r
+  first_is_node =
+      first_is_next_at_border n segments column q r entered (waiting column to_come) (r ∷ keys) steep proper
+      (record { few = come.few; status_at = come.full.status_at; wait = all_waiting; queue = come.queue })
+      (record {
+        small = first_ahead.small;
+        node = first_ahead.node;
+        after = first_ahead.after;
+        up_to = first_ahead.up_to;
+        positive = all_of (λ z. pos 0 <ℤ z.w) (r ∷ keys) positive;
+        least = all_of (λ z. point_cmp z r ≡ Less → ⊥) (r ∷ keys) (λ z c. not_earlier z (positive z c) (Contains-cons_cases r keys z c));
+      })
+    where
+      positive : (z : Point) → Contains (r ∷ keys) z → pos 0 <ℤ z.w
+      positive z c = (All-contains (IsAhead segments column q) (r ∷ keys) z come.ahead c).small.positive
+
 -- ---- one step
 module _ (n : ℤ) (segments units : List Segment) (column : ℕ) (q r : Point) (under bundle over entering stay rest : List Segment) (keys new : List Point) (steep : IsSteep n) (proper : All IsProper segments)
     (are : AreStretches segments units) (come : HasCome n segments units column q (under ++ bundle ++ over) (entering ++ rest) (r ∷ keys))
@@ -166,31 +200,8 @@ module _ (n : ℤ) (segments units : List Segment) (column : ℕ) (q r : Point) 
   w2 = waiting column rest
 
   -- ---- the place is the next node
-  -- what waits after the old place
-  all_wait : All (IsWaiting column q) (waiting column (entering ++ rest))
-  all_wait =
-      all_of (IsWaiting column q) (waiting column (entering ++ rest))
-      (λ u c. let parts = filter_contains (begins_left column) (entering ++ rest) u c in (All-contains (IsToCome column q) (entering ++ rest) u come.coming parts.0).waits parts.1)
-
-  later_keys : (z : Point) → pos 0 <ℤ z.w → (r ≡ z) ⊎ Contains keys z → point_cmp z r ≡ Less → ⊥
-  later_keys z hz (inl e) = subst (λ x. point_cmp x r ≡ Less → ⊥) e (not_before_self r r hr hr (same_self r))
-  later_keys z hz (inr c) = not_after_less r z hr hz (All-contains (λ z. point_cmp r z ≡ Less) keys z step.least c)
-
   next : IsNextNode segments q r
-  next =
-      first_is_next_at_border n segments column q r (under ++ bundle ++ over) (waiting column (entering ++ rest)) (r ∷ keys) steep proper
-      (record { few = come.few; status_at = come.full.status_at; wait = all_wait; queue = come.queue })
-      (record {
-        small = first.small;
-        node = first.node;
-        after = first.after;
-        up_to = first.up_to;
-        positive = all_of (λ z. pos 0 <ℤ z.w) (r ∷ keys) positive;
-        least = all_of (λ z. point_cmp z r ≡ Less → ⊥) (r ∷ keys) (λ z c. later_keys z (positive z c) (Contains-cons_cases r keys z c));
-      })
-    where
-      positive : (z : Point) → Contains (r ∷ keys) z → pos 0 <ℤ z.w
-      positive z c = (All-contains (IsAhead segments column q) (r ∷ keys) z come.ahead c).small.positive
+  next = first_is_node n segments units column q r (under ++ bundle ++ over) (entering ++ rest) keys steep proper come step.least
 
   -- ---- those that enter, and those that are still to come
   unit_proper : (u : Segment) → Contains units u → IsProper u

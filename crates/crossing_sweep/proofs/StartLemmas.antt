@@ -298,6 +298,11 @@ module _ (input : Input) (units : List Unit) (are : AreUnits input.marked units)
       met_before (get_or new i d) (get_or new j d) (Contains-get_or new i d (omega (arith, l, m))) (Contains-get_or new j d m) (apart i j d l m)
       (sorted_far (λ x y. is_lt (start_cmp x y)) (ranks_by start_total (λ (s : Start). s)) new sorted i j d (omega (arith, l)) m))
 
+  places_ordered : AllPairs (λ s t. ¬ (point_cmp (place t.at) (place s.at) ≡ Less)) new
+  places_ordered i j d l m e =
+      both_ways (is_lt (start_cmp (get_or new j d) (get_or new i d))) (sorted_far (λ x y. is_lt (start_cmp x y)) (ranks_by start_total (λ (s : Start). s)) new sorted i j d (omega (arith, l)) m)
+      (ap (λ o. is_lt (ordering_then o (int_cmp (pos 0) (turn_of (get_or new i d).unit.seg (get_or new j d).unit.seg)))) e)
+
   pub starts_from : AreStarts input new
   starts_from = record {
     units = units;
@@ -311,4 +316,6 @@ module _ (input : Input) (units : List Unit) (are : AreUnits input.marked units)
       complete = complete;
       ordered = ordered;
     };
+    once = apart;
+    ordered = places_ordered;
   }

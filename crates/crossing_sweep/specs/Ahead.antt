@@ -1,7 +1,7 @@
 -- The places that a sweep has found ahead.
-use Rattle.std.specs.Prelude.{◌≡◌, ℕ, pos, ◌<ℤ◌, ◌⊎◌, IsTrue, List, map, All, Any, Contains}
+use Rattle.std.specs.Prelude.{◌≡◌, ℕ, pos, ◌<ℤ◌, ◌⊎◌, ◌||◌, IsTrue, List, map, All, Any, Contains}
 use Rattle.overlay_terms.specs.Plane.{Point, same_place}
-use Rattle.overlay_terms.specs.Tiles.{Input}
+use Rattle.overlay_terms.specs.Tiles.{Input, is_end, is_on_border}
 use Rattle.exact_point.specs.Place.{place}
 use Rattle.exact_point.specs.PlaceOf.{place_of}
 use Rattle.exact_point.specs.PointName.{HasPlace, IsPlaceOf}
@@ -37,3 +37,4 @@ pub record AreOffered (column : ℕ) (names : List PointName) (found : List (HPo
 pub record AreKnownPlaces (input : Input) (found : List (HPoint × PointName)) : Type 0 where
   pub points : AreKnown (segments_in input) input.column (points_of found)
   pub named : All (λ e. HasPlace e.1 × (place e.0 ≡ place_of e.1)) found
+  pub fixed : All (λ e. IsTrue (is_end (segments_in input) (place e.0) || is_on_border (segments_in input) (place e.0))) found

@@ -17,3 +17,4 @@ pub mod Start
 pub mod Member
 pub mod Rows
 pub mod RowLaws
+pub mod Testing

@@ -18,4 +18,5 @@ pub mod starting;
 pub mod status;
 pub mod staying;
 pub mod step;
+pub mod testing;
 pub mod units;
