@@ -1,5 +1,5 @@
 -- The units that are still to come: none of them is met before the next node.
-use Rattle.std.proofs.Common.{◌≡◌, ℕ, ℤ, pos, ◌+◌, ◌<◌, ◌-ℤ◌, ◌*ℤ◌, ◌<ℤ◌, ◌≤ℤ◌, inl, inr, ◌⊎◌, true, false, Bool, List, [], ◌∷◌, ◌++◌, map, take, drop, length, get_or, ap, sym, subst, ◌∙◌, arith}
+use Rattle.std.proofs.Common.{◌≡◌, ℕ, ℤ, pos, ◌+◌, ◌<◌, ◌≤◌, ◌-ℤ◌, ◌*ℤ◌, ◌<ℤ◌, ◌≤ℤ◌, inl, inr, ◌⊎◌, true, false, Bool, List, ◌++◌, map, take, drop, length, get_or, ap, sym, subst, ◌∙◌, arith}
 use Rattle.std.specs.Prelude.{IsTrue, All, Contains, ◌≢◌}
 use Rattle.std.specs.List.{AllPairs, prefix_len}
 use Rattle.std.specs.Ordering.{int_eq}
@@ -16,7 +16,6 @@ use Rattle.overlay_terms.specs.Tiles.{is_node}
 use Rattle.overlay_terms.specs.TileLaws.{IsProper}
 use Rattle.overlay_terms.proofs.InputNumbers.{x_in_order, less_times, last_turned}
 use Rattle.overlay_terms.proofs.InputNodes.{border_node}
-use Rattle.overlay_terms.proofs.Lists.{contains_map}
 use Rattle.overlay_terms.proofs.PointOrder.{is_eq_then}
 use Rattle.exact_point.specs.Place.{place, same_hpoint}
 use Rattle.exact_point.specs.declared.point.HPoint.{HPoint}
@@ -38,7 +37,7 @@ use Rattle.crossing_sweep.proofs.Pairs.{all_first, pairs_first}
 use Rattle.crossing_sweep.proofs.QueueLemmas.{up_to_next}
 use Rattle.crossing_sweep.proofs.StatusLemmas.{sides_fall}
 use Rattle.crossing_sweep.proofs.StretchLemmas.{holder_holds, no_turn}
-use Rattle.crossing_sweep.proofs.PassLemmas.{all_of, contains_filter}
+use Rattle.crossing_sweep.proofs.PassLemmas.{contains_filter}
 use Rattle.crossing_sweep.proofs.AheadLemmas.{point_positive}
 
 -- ---- where one that waits is met is a node after the place
@@ -179,46 +178,47 @@ module _ (column : ℕ) (at_r : HPoint) (coming : List Start) (entries : All (λ
           let inside : i < k = omega (arith, l, length-take-le k coming few) in
           let e = get_or-take k coming i d inside in
           subst (λ s. (z : Point) × IsEntry column (seg_of_start s) z × IsTrue (same_place z r)) (sym e)
-          (place (get_or coming i d).at, (entries i d (omega (arith, inside, few)), same_from (get_or coming i d) (prefix_len_passes enters coming i d inside)))
+          (place (get_or coming i d).at, entries i d (omega (arith, inside, few)), same_from (get_or coming i d) (prefix_len_passes enters coming i d inside))
 
   module _ (ordered : AllPairs (λ s t. ¬ (point_cmp (place t.at) (place s.at) ≡ Less)) coming) (none_before : (s : Start) → Contains coming s → point_cmp (place s.at) r ≡ Less → ⊥) where
     -- one after the first ones is met later
-    later : (i : ℕ) (d : Start) → k + i < length coming → point_cmp r (place (get_or coming (k + i) d).at) ≡ Less
-    later i d l = by_first (way_of r x hr' hx)
-      where
-        abbrev x : Point
-        x = place (get_or coming k d).at
+    module _ (i : ℕ) (d : Start) (l : k + i < length coming) where
+      abbrev x : Point
+      x = place (get_or coming k d).at
 
-        abbrev z : Point
-        z = place (get_or coming (k + i) d).at
+      abbrev z : Point
+      z = place (get_or coming (k + i) d).at
 
-        hx : pos 0 <ℤ x.w
-        hx = point_positive (get_or coming k d).at
+      hx : pos 0 <ℤ x.w
+      hx = point_positive (get_or coming k d).at
 
-        hz : pos 0 <ℤ z.w
-        hz = point_positive (get_or coming (k + i) d).at
+      hz : pos 0 <ℤ z.w
+      hz = point_positive (get_or coming (k + i) d).at
 
-        inside : k < length coming
-        inside = omega (arith, l)
+      inside : k < length coming
+      inside = omega (arith, l)
 
-        not_back : point_cmp z x ≡ Less → ⊥
-        not_back = by (cases_eq i 0)
-          where
-            by : (i ≡ 0) ⊎ (i ≢ 0) → point_cmp z x ≡ Less → ⊥
-            by (inl e) =
-                let same : k + i ≡ k = omega (arith, e) in
-                subst (λ j. point_cmp (place (get_or coming j d).at) x ≡ Less → ⊥) (sym same) (not_before_self x x hx hx (same_self x))
-            by (inr ne) = ordered k (k + i) d (omega (arith, ne)) l
+      not_back : point_cmp z x ≡ Less → ⊥
+      not_back = by (cases_eq i 0)
+        where
+          by : (i ≡ 0) ⊎ (i ≢ 0) → point_cmp z x ≡ Less → ⊥
+          by (inl e) =
+              let same : k + i ≡ k = omega (arith, e) in
+              subst (λ j. point_cmp (place (get_or coming j d).at) x ≡ Less → ⊥) (sym same) (not_before_self x x hx hx (same_self x))
+          by (inr ne) = ordered k (k + i) d (omega (arith, ne)) l
 
-        by_next : point_cmp r x ≡ Less → Way r z → point_cmp r z ≡ Less
-        by_next h (before e) = e
-        by_next h (at e) = absurd (not_back (sym (alike_left r z x hr' hz hx e) ∙ h))
-        by_next h (after e) = absurd (not_back (less_through z r x hz hr' hx e h))
+      by_next : point_cmp r x ≡ Less → Way r z → point_cmp r z ≡ Less
+      by_next h (before e) = e
+      by_next h (at e) = absurd (not_back (sym (alike_left r z x hr' hz hx e) ∙ h))
+      by_next h (after e) = absurd (not_back (less_through z r x hz hr' hx e h))
 
-        by_first : Way r x → point_cmp r z ≡ Less
-        by_first (before e) = by_next e (way_of r z hr' hz)
-        by_first (at e) = absurd (both_ways (enters (get_or coming k d)) (prefix_len_stops enters coming d inside) (is_eq_then _ _ ∙ same_turned r x e))
-        by_first (after e) = absurd (none_before (get_or coming k d) (Contains-get_or coming k d inside) e)
+      by_first : Way r x → point_cmp r z ≡ Less
+      by_first (before e) = by_next e (way_of r z hr' hz)
+      by_first (at e) = absurd (both_ways (enters (get_or coming k d)) (prefix_len_stops enters coming d inside) (is_eq_then _ _ ∙ same_turned r x e))
+      by_first (after e) = absurd (none_before (get_or coming k d) (Contains-get_or coming k d inside) e)
+
+      later : point_cmp r z ≡ Less
+      later = by_first (way_of r x hr' hx)
 
     pub all_later : All (λ u. (z : Point) × IsEntry column u z × (point_cmp r z ≡ Less)) (map seg_of_start (drop k coming))
     all_later = All-map (λ u. (z : Point) × IsEntry column u z × (point_cmp r z ≡ Less)) seg_of_start (drop k coming) each
@@ -227,4 +227,4 @@ module _ (column : ℕ) (at_r : HPoint) (coming : List Start) (entries : All (λ
         each i d l =
             let inside : k + i < length coming = omega (arith, l, length-drop k coming, few) in
             subst (λ s. (z : Point) × IsEntry column (seg_of_start s) z × (point_cmp r z ≡ Less)) (sym (get_or-drop k coming i d))
-            (place (get_or coming (k + i) d).at, (entries (k + i) d inside, later i d inside))
+            (place (get_or coming (k + i) d).at, entries (k + i) d inside, later i d inside)

@@ -37,3 +37,7 @@ pub mod RowCode
 pub mod SplitLemmas
 pub mod TestLemmas
 pub mod ComingLemmas
+pub mod StayLemmas
+pub mod TurnedLemmas
+pub mod TakenLemmas
+pub mod SeamLemmas

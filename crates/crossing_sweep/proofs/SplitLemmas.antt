@@ -1,7 +1,7 @@
 -- A status falls into three parts at a place: the members under it, those that hold it, and those over it.
-use Rattle.std.proofs.Common.{◌≡◌, ℕ, ℤ, pos, ◌<◌, ◌≤◌, ◌<ℤ◌, ◌≤ℤ◌, ◌+◌, Bool, inl, inr, ◌⊎◌, true, false, List, length, get_or, take, drop, ap, sym, subst, arith}
-use Rattle.std.specs.Prelude.{All, ◌≢◌}
-use Rattle.std.specs.List.{AllPairs, AllWithin}
+use Rattle.std.proofs.Common.{◌≡◌, ℕ, ℤ, pos, ◌<◌, ◌≤◌, ◌<ℤ◌, ◌≤ℤ◌, ◌+◌, ◌-◌, ◌++◌, ◌∙◌, Bool, inl, inr, ◌⊎◌, true, false, List, length, get_or, take, drop, ap, sym, subst, arith}
+use Rattle.std.specs.Prelude.{All, IsTrue, ◌≢◌}
+use Rattle.std.specs.List.{AllPairs, slice_range}
 use Rattle.std.specs.List.Sorted.{IsPartitionedBy, IsPartitionPoint}
 use Rattle.std.specs.Cmp.{int_cmp_is, int_ranks}
 use Rattle.std.specs.Ordering.{int_cmp, is_gt, is_ge, MatchOrdering}
@@ -9,12 +9,14 @@ use Rattle.std.specs.declared.cmp.Ordering.{Ordering}
 use Rattle.std.specs.declared.cmp.Ordering.TheVariants.{Less, Equal, Greater}
 use Rattle.std.proofs.lemmas.Int.{ints, by_lt_z}
 use Rattle.std.proofs.lemmas.Bool.{false≢true, cases_eq}
-use Rattle.std.proofs.lemmas.List.{get_or-take, get_or-drop, length-take-le, length-drop}
-use Rattle.std.proofs.lemmas.List.Elements.{All-take}
-use Rattle.overlay_terms.specs.Plane.{Point, Segment, height_over, side_of}
+use Rattle.std.proofs.lemmas.List.{get_or-take, get_or-drop, length-take-le, length-drop, take-append-drop, drop-drop, map-append}
+use Rattle.std.proofs.lemmas.List.Elements.{All-take, All-map}
+use Rattle.overlay_terms.specs.Plane.{Point, height_over, side_of, is_on}
 use Rattle.crossing_sweep.specs.Status.{SidesFallAlong}
+use Rattle.crossing_sweep.specs.Step.{IsSplitAt}
 use Rattle.crossing_sweep.specs.Member.{seg_of, segs_of}
 use Rattle.crossing_sweep.specs.declared.member.Member.{Member}
+use Rattle.crossing_sweep.proofs.Pairs.{all_second, pairs_second}
 use Rattle.crossing_sweep.proofs.StartLemmas.{unmap_pairs}
 
 -- ---- tests of a height
@@ -136,3 +138,33 @@ module _ (r : Point) (ms : List Member) (k : ℕ) (few : k ≤ length ms) (falls
 
   pub all_over : IsPartitionPoint (λ m. is_up_to r m ≡ true) (λ m. is_up_to r m ≡ false) ms k → All (λ m. height_over m.unit.seg r <ℤ pos 0) (drop k ms)
   all_over at i d l = over_height r (get_or (drop k ms) i d) (second_part (λ m. is_up_to r m ≡ true) (λ m. is_up_to r m ≡ false) ms k few at i d l)
+
+-- ---- the three parts
+module _ (r : Point) (ms : List Member) (low count : ℕ) (falls : SidesFallAlong r (segs_of ms)) where
+  segs_split : segs_of ms ≡ segs_of (take low ms) ++ segs_of (drop low ms)
+  segs_split = ap segs_of (sym (take-append-drop low ms)) ∙ map-append seg_of (take low ms) (drop low ms)
+
+  -- those that are not under the place fall along it, too
+  pub rest_falls : SidesFallAlong r (segs_of (drop low ms))
+  rest_falls = record {
+    not_above = pairs_second (λ a b. height_over a r ≤ℤ pos 0 → height_over b r ≤ℤ pos 0) (segs_of (take low ms)) (segs_of (drop low ms)) all.not_above;
+    below = pairs_second (λ a b. height_over a r <ℤ pos 0 → height_over b r <ℤ pos 0) (segs_of (take low ms)) (segs_of (drop low ms)) all.below;
+    held = all_second (λ a. height_over a r ≡ pos 0 → IsTrue (is_on a r)) (segs_of (take low ms)) (segs_of (drop low ms)) all.held;
+  }
+    where
+      all : SidesFallAlong r (segs_of (take low ms) ++ segs_of (drop low ms))
+      all = subst (λ us. SidesFallAlong r us) segs_split falls
+
+  pub split_parts : All (λ m. pos 0 <ℤ height_over m.unit.seg r) (take low ms) → All (λ m. height_over m.unit.seg r ≡ pos 0) (take count (drop low ms))
+      → All (λ m. height_over m.unit.seg r <ℤ pos 0) (drop count (drop low ms)) → IsSplitAt r (segs_of (take low ms)) (segs_of (slice_range ms low (low + count))) (segs_of (drop (low + count) ms))
+  split_parts under hold over = record {
+    passes_under = All-map (λ u. pos 0 <ℤ height_over u r) seg_of (take low ms) under;
+    hold = subst (λ xs. All (λ u. height_over u r ≡ pos 0) (segs_of xs)) middle (All-map (λ u. height_over u r ≡ pos 0) seg_of (take count (drop low ms)) hold);
+    passes_over = subst (λ xs. All (λ u. height_over u r <ℤ pos 0) (segs_of xs)) (drop-drop count low ms) (All-map (λ u. height_over u r <ℤ pos 0) seg_of (drop count (drop low ms)) over);
+  }
+    where
+      middle : take count (drop low ms) ≡ slice_range ms low (low + count)
+      middle = ap (λ k. take k (drop low ms)) (size low count)
+        where
+          size : (a b : ℕ) → b ≡ a + b - a
+          size a b = omega arith

@@ -48,7 +48,7 @@ left_held s ahead =
     within_on s (whole s.left) one_positive (left_on_line s) (not_before_self (whole s.left) (whole s.left) one_positive one_positive (same_self (whole s.left)))
     (not_after_less (whole s.left) (whole s.right) one_positive one_positive (ends_in_order s ahead))
 
-right_held : (s : Segment) → whole_cmp s.left s.right ≡ Less → IsTrue (is_on s (whole s.right))
+pub right_held : (s : Segment) → whole_cmp s.left s.right ≡ Less → IsTrue (is_on s (whole s.right))
 right_held s ahead =
     within_on s (whole s.right) one_positive (right_on_line s) (not_after_less (whole s.left) (whole s.right) one_positive one_positive (ends_in_order s ahead))
     (not_before_self (whole s.right) (whole s.right) one_positive one_positive (same_self (whole s.right)))
@@ -152,7 +152,7 @@ left_out p items i x l e old new inv out eq =
     ap (map (λ (s : Start). s.unit)) eq ∙ inv
     ∙ sym (filter_more p items i x l ∙ ap (λ b. filter p (take i items) ++ cond b (get_or items i x ∷ []) []) (ap p (sym e) ∙ out) ∙ append-nil (filter p (take i items)))
 
-map_pairs : {X Y : Type 0} (f : X → Y) (R : Y → Y → Type 0) (xs : List X) → AllPairs (λ a b. R (f a) (f b)) xs → AllPairs R (map f xs)
+pub map_pairs : {X Y : Type 0} (f : X → Y) (R : Y → Y → Type 0) (xs : List X) → AllPairs (λ a b. R (f a) (f b)) xs → AllPairs R (map f xs)
 map_pairs f R [] h = λ i j d l m. absurd (omega (arith, m))
 map_pairs f R (x ∷ xs) h =
     AllPairs-cons R (f x) (map f xs) (All-map (R (f x)) f xs (pairs_head (λ a b. R (f a) (f b)) x xs h)) (map_pairs f R xs (pairs_rest (λ a b. R (f a) (f b)) x xs h))

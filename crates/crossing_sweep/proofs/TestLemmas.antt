@@ -1,5 +1,5 @@
 -- Two neighbours that have been tested.
-use Rattle.std.proofs.Common.{◌≡◌, ℕ, pos, ◌<ℤ◌, inl, inr, ◌⊎◌, Bool, true, false, List, subst, sym, ap, ◌∙◌}
+use Rattle.std.proofs.Common.{◌≡◌, ℕ, pos, ◌<ℤ◌, inl, inr, ◌⊎◌, Bool, true, false, List, subst, ap, ◌∙◌}
 use Rattle.std.specs.Prelude.{IsTrue, Contains, ◌&&◌}
 use Rattle.std.specs.Ordering.{is_lt}
 use Rattle.std.proofs.lemmas.Bool.{both_ways, and_parts, and_from, false≢true}
@@ -15,7 +15,6 @@ use Rattle.exact_point.specs.declared.point_name.PointName.{PointName}
 use Rattle.exact_point.specs.declared.point_name.PointName.TheVariants.{Cross}
 use Rattle.exact_point.proofs.PlaceOrder.{same_through, same_turned, alike_right}
 use Rattle.arrange.specs.Arrangement.{is_in_closed_column}
-use Rattle.crossing_sweep.specs.Queue.{IsQueued}
 use Rattle.crossing_sweep.specs.Ahead.{points_of, HasAdded}
 use Rattle.crossing_sweep.specs.Testing.{IsFound, AreTested}
 use Rattle.crossing_sweep.proofs.AheadLemmas.{point_positive}
@@ -63,7 +62,7 @@ module _ (column : ℕ) (r : Point) (hr : pos 0 <ℤ r.w) (a b : Segment) (old :
         parts = and_parts (is_lt (point_cmp r (place z))) (is_in_closed_column column (place z)) holds
 
         here : IsFound column r a b (z, Cross a b)
-        here = record { crossing = meets; after = less_of (point_cmp r (place z)) parts.0; in_column = parts.1; named = (place z, (point_positive z, meets)); told = value }
+        here = record { crossing = meets; after = less_of (point_cmp r (place z)) parts.0; in_column = parts.1; named = (place z, point_positive z, meets); told = value }
 
         which : (e : HPoint × PointName) → Contains old e ⊎ ((z, Cross a b) ≡ e) → Contains old e ⊎ IsFound column r a b e
         which e (inl h) = inl h

@@ -18,3 +18,4 @@ pub mod Member
 pub mod Rows
 pub mod RowLaws
 pub mod Testing
+pub mod Stepping

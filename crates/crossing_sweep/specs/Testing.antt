@@ -11,6 +11,7 @@ use Rattle.exact_point.specs.declared.point_name.PointName.{PointName}
 use Rattle.arrange.specs.Arrangement.{is_in_closed_column}
 use Rattle.crossing_sweep.specs.Queue.{IsQueued}
 use Rattle.crossing_sweep.specs.Ahead.{points_of}
+use Rattle.crossing_sweep.specs.declared.testing.Search.{Search}
 
 -- two segments cross at a known place, after r and in the closed column; its name stands for it
 pub record IsFound (column : ℕ) (r : Point) (a b : Segment) (e : HPoint × PointName) : Type 0 where
@@ -25,3 +26,25 @@ pub record AreTested (column : ℕ) (r : Point) (a b : Segment) (old new : List 
   pub kept : (e : HPoint × PointName) → Contains old e → Contains new e
   pub found : (p : Point) → pos 0 <ℤ p.w → IsCrossingOf a b p → point_cmp r p ≡ Less → IsTrue (is_in_closed_column column p) → IsQueued (points_of new) p
   pub only : (e : HPoint × PointName) → Contains new e → Contains old e ⊎ IsFound column r a b e
+
+-- a place that a test of two neighbours of a status has found; where the tests are listed, theirs is
+pub record IsFoundIn (column : ℕ) (r : Point) (status : List Segment) (listed : Bool) (tests : List (Segment × Segment)) (e : HPoint × PointName) : Type 0 where
+  pub lower : Segment
+  pub upper : Segment
+  pub lower_among : Contains status lower
+  pub upper_among : Contains status upper
+  pub found : IsFound column r lower upper e
+  pub told : listed ≡ true → Contains tests (lower, upper)
+
+-- the neighbours at some seams of a status have been tested: at a seam the members under it end. What was known is known, where neighbours
+-- at a seam cross after r in the closed column is known, and nothing else has come; at most one test a seam is listed, and none where no list is kept
+pub record AreSeamsTested (column : ℕ) (r : Point) (status : List Segment) (seams : List ℕ) (old new : Search) : Type 0 where
+  pub listed : new.listed ≡ old.listed
+  pub kept : (e : HPoint × PointName) → Contains old.ahead e → Contains new.ahead e
+  pub found : (i : ℕ) (d : Segment) (p : Point) → Contains seams (i + 1) → i + 1 < length status → pos 0 <ℤ p.w → IsCrossingOf (get_or status i d) (get_or status (i + 1) d) p
+      → point_cmp r p ≡ Less → IsTrue (is_in_closed_column column p) → IsQueued (points_of new.ahead) p
+  pub only : (e : HPoint × PointName) → Contains new.ahead e → Contains old.ahead e ⊎ IsFoundIn column r status old.listed new.tests.items e
+  pub more : List (Segment × Segment)
+  pub tests : new.tests.items ≡ old.tests.items ++ more
+  pub few : length more ≤ length seams
+  pub unlisted : old.listed ≡ false → more ≡ []

@@ -18,5 +18,6 @@ pub mod starting;
 pub mod status;
 pub mod staying;
 pub mod step;
+pub mod stepping;
 pub mod testing;
 pub mod units;

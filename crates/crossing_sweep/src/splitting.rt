@@ -1,16 +1,30 @@
 //! Where a status passes under a place, through it and over it.
 ghost use Rattle.std.specs.Prelude.{pos, ◌<ℤ◌, ◌≤ℤ◌, ◌≤◌, ◌≡◌, All, length, take, drop};
+ghost use Rattle.std.specs.List.{slice_range};
 ghost use Rattle.overlay_terms.specs.Plane.{height_over};
 ghost use Rattle.exact_point.specs.Place.{place};
 ghost use Rattle.crossing_sweep.specs.Status.{SidesFallAlong};
+ghost use Rattle.crossing_sweep.specs.Step.{IsSplitAt};
 ghost use Rattle.crossing_sweep.specs.Member.{segs_of};
 
 use crate::member::Member;
 use exact_point::point::HPoint;
 use exact_point::side::side;
 
+/// Where the members of a status that hold a place begin and end.
+pub fn bundle_at(status: &[Member], at: &HPoint) -> (usize, usize)
+    ensures in_order { result.0 ≤ result.1 }
+    ensures few { result.1 ≤ length status.now }
+    ensures split { SidesFallAlong (place at.now) (segs_of status.now) →
+        IsSplitAt (place at.now) (segs_of (take result.0 status.now)) (segs_of (slice_range status.now result.0 result.1)) (segs_of (drop result.1 status.now)) }
+{
+    let low = count_under(status, at);
+    let count = count_holding(&status[low..], at);
+    (low, low + count)
+}
+
 /// How many members of a status pass under a place.
-pub fn count_under(status: &[Member], at: &HPoint) -> usize
+fn count_under(status: &[Member], at: &HPoint) -> usize
     ensures few { result ≤ length status.now }
     ensures under { SidesFallAlong (place at.now) (segs_of status.now) → All (λ m. pos 0 <ℤ height_over m.unit.seg (place at.now)) (take result status.now) }
     ensures not_under { SidesFallAlong (place at.now) (segs_of status.now) → All (λ m. height_over m.unit.seg (place at.now) ≤ℤ pos 0) (drop result status.now) }
@@ -19,7 +33,7 @@ pub fn count_under(status: &[Member], at: &HPoint) -> usize
 }
 
 /// How many members of a status hold a place that none of them passes under.
-pub fn count_holding(status: &[Member], at: &HPoint) -> usize
+fn count_holding(status: &[Member], at: &HPoint) -> usize
     ensures few { result ≤ length status.now }
     ensures hold { SidesFallAlong (place at.now) (segs_of status.now) → All (λ m. height_over m.unit.seg (place at.now) ≤ℤ pos 0) status.now →
         All (λ m. height_over m.unit.seg (place at.now) ≡ pos 0) (take result status.now) }

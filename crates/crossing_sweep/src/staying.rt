@@ -1,7 +1,9 @@
 //! The members that go on after a place, with those that enter there.
-ghost use Rattle.std.specs.Prelude.{◌≡◌, ◌++◌, map, filter, IfOk, OnOk};
+ghost use Rattle.std.specs.Prelude.{pos, ◌≤ℤ◌, AllPairs, ◌≡◌, ◌++◌, map, filter, IfOk, OnOk};
 ghost use Rattle.overlay_terms.specs.Plane.{point_cmp, whole};
 ghost use Rattle.std.specs.List.{prefix_len};
+ghost use Rattle.std.specs.List.Sorted.{IsPermutation};
+ghost use Rattle.exact_point.specs.Crossing.{turn_of};
 ghost use Rattle.exact_point.specs.Place.{place, same_hpoint};
 ghost use Rattle.crossing_sweep.specs.Member.{seg_of, segs_of, ends_after};
 
@@ -18,8 +20,26 @@ fn ends_after(seg: &Seg, at: &HPoint) -> bool
     *at < HPoint::of(seg.right())
 }
 
+/// The members of a bundle that go on after a place, with the units that enter there and go on, in
+/// the order of their directions.
+pub fn turned(
+    alloc: Global,
+    bundle: &[Member],
+    entering: &[Start],
+    at: &HPoint,
+    begin: &Begin,
+) -> Result<Vec<Member>, AllocError>
+    ensures moved { IfOk result (λ stay. IsPermutation (filter (ends_after (place at.now)) (segs_of bundle.now ++ map (λ s. s.unit.seg) entering.now)) (segs_of stay.items)) }
+    ensures turned { IfOk result (λ stay. AllPairs (λ a b. pos 0 ≤ℤ turn_of a b) (segs_of stay.items)) }
+{
+    let mut stay = staying(alloc, bundle, at)?;
+    enter(&mut stay, entering, at, begin)?;
+    stay.sort_unstable();
+    Ok(stay)
+}
+
 /// The members that go on after a place that they hold.
-pub fn staying(alloc: Global, bundle: &[Member], at: &HPoint) -> Result<Vec<Member>, AllocError>
+fn staying(alloc: Global, bundle: &[Member], at: &HPoint) -> Result<Vec<Member>, AllocError>
     ensures { IfOk result (λ stay. stay.items ≡ filter (λ m. ends_after (place at.now) m.unit.seg) bundle.now) }
 {
     let mut stay = Vec::new(alloc);
@@ -39,7 +59,7 @@ pub fn count_entering(coming: &[Start], at: &HPoint) -> usize
 }
 
 /// Adds the units that enter at a place and go on after it.
-pub fn enter(
+fn enter(
     stay: &mut Vec<Member>,
     entering: &[Start],
     at: &HPoint,

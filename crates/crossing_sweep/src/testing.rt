@@ -1,13 +1,14 @@
 //! Tests of neighbours of a status.
-ghost use Rattle.std.specs.Prelude.{◌≡◌, ◌&&◌, OnOk};
+ghost use Rattle.std.specs.Prelude.{◌≡◌, ◌≤◌, ◌&&◌, ◌++◌, [], ◌∷◌, true, false, OnOk};
 ghost use Rattle.std.specs.Ordering.{is_lt};
 ghost use Rattle.overlay_terms.specs.Plane.{point_cmp};
 ghost use Rattle.exact_point.specs.Place.{place};
 ghost use Rattle.arrange.specs.Arrangement.{is_in_closed_column};
-ghost use Rattle.crossing_sweep.specs.Testing.{AreTested};
+ghost use Rattle.crossing_sweep.specs.Member.{segs_of};
+ghost use Rattle.crossing_sweep.specs.Testing.{AreTested, AreSeamsTested};
 
 use crate::ahead::Ahead;
-
+use crate::member::Member;
 use arrange::closed_column::is_within;
 use exact_point::crossing::cross_of;
 use exact_point::point::HPoint;
@@ -15,6 +16,73 @@ use exact_point::point_name::PointName;
 use plane_base::column::Column;
 use plane_base::point::Seg;
 use std::alloc::AllocError;
+
+/// The places that a pass has found ahead, and the pairs of neighbours that it has tested, if they
+/// are listed.
+#[derive(Drop)]
+pub struct Search {
+    pub ahead: Ahead,
+    pub listed: bool,
+    pub tests: Vec<(Seg, Seg)>,
+}
+
+impl Search {
+    /// Lists a pair, if pairs are listed.
+    fn list(&mut self, lower: Seg, upper: Seg) -> Result<(), AllocError>
+        ensures ahead { self.new.ahead ≡ self.old.ahead }
+        ensures listed { self.new.listed ≡ self.old.listed }
+        ensures told { OnOk result (self.old.listed ≡ true → self.new.tests.items ≡ self.old.tests.items ++ (lower, upper) ∷ []) }
+        ensures untold { OnOk result (self.old.listed ≡ false → self.new.tests.items ≡ self.old.tests.items) }
+    {
+        if self.listed {
+            self.tests.push((lower, upper))?;
+        }
+        Ok(())
+    }
+
+    /// Tests the two neighbours at a seam of a status, so many members from the lowest one on, if
+    /// there are two.
+    pub fn test_at(
+        &mut self,
+        column: Column,
+        at: &HPoint,
+        status: &[Member],
+        seam: usize,
+    ) -> Result<(), AllocError>
+        ensures { OnOk result (AreSeamsTested column (place at.now) (segs_of status.now) (seam ∷ []) self.old self.new) }
+    {
+        if seam == 0 {
+            return Ok(());
+        }
+        if status.len() <= seam {
+            return Ok(());
+        }
+        let lower = status[seam - 1].unit.seg;
+        let upper = status[seam].unit.seg;
+        self.list(lower, upper)?;
+        test_pair(&mut self.ahead, column, at, &lower, &upper)?;
+        Ok(())
+    }
+
+    /// Tests the neighbours at two seams, which may be one.
+    pub fn test_both(
+        &mut self,
+        column: Column,
+        at: &HPoint,
+        status: &[Member],
+        low: usize,
+        high: usize,
+    ) -> Result<(), AllocError>
+        requires in_order { low ≤ high }
+        ensures { OnOk result (AreSeamsTested column (place at.now) (segs_of status.now) (low ∷ high ∷ []) self.old self.new) }
+    {
+        self.test_at(column, at, status, low)?;
+        if low < high {
+            self.test_at(column, at, status, high)?;
+        }
+        Ok(())
+    }
+}
 
 /// Tests two neighbours: where they cross after a place, in the closed column, that place is found.
 pub fn test_pair(

@@ -1,4 +1,4 @@
-use Rattle.std.proofs.Common.{rules, of_calls, ◌≡◌, true, false, List}
+use Rattle.std.proofs.Common.{rules, of_calls, List}
 use Rattle.std.proofs.lemmas.Fn.{always_returns_same}
 use Rattle.overlay_terms.specs.Plane.{Point}
 use Rattle.exact_point.specs.Place.{place}

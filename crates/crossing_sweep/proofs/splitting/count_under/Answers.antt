@@ -1,10 +1,7 @@
-use Rattle.std.proofs.Common.{rules, of_calls, ◌≡◌, true, false, List}
-use Rattle.std.specs.List.Sorted.{IsPartitionPoint}
+use Rattle.std.proofs.Common.{rules, of_calls, List}
 use Rattle.std.proofs.lemmas.Fn.{always_returns_same}
 use Rattle.overlay_terms.specs.Plane.{Point}
 use Rattle.exact_point.specs.Place.{place}
-use Rattle.crossing_sweep.specs.Status.{SidesFallAlong}
-use Rattle.crossing_sweep.specs.Member.{segs_of}
 use Rattle.crossing_sweep.specs.declared.member.Member.{Member}
 use Rattle.crossing_sweep.proofs.SplitLemmas.{is_under, under_falls, all_under, none_under}
 use Rattle.crossing_sweep.proofs.splitting.count_under.Goals as goal

@@ -1,0 +1,284 @@
+-- What the code does at a node is one step of a pass.
+use Rattle.std.proofs.Common.{◌≡◌, ℕ, ℤ, pos, ◌+◌, ◌<◌, ◌≤◌, ◌*ℤ◌, ◌<ℤ◌, ◌≤ℤ◌, int_le, append_assoc, inl, inr, ◌⊎◌, List, [], ◌∷◌, ◌++◌, map, take, drop, length, get_or, ap, sym, subst, ◌∙◌, arith}
+use Rattle.std.specs.Prelude.{IsTrue, All, Contains, filter, ◌≢◌}
+use Rattle.std.specs.List.{AllPairs, prefix_len, slice_range}
+use Rattle.std.specs.List.Sorted.{IsPermutation}
+use Rattle.std.proofs.lemmas.Int.{ints}
+use Rattle.std.proofs.lemmas.Bool.{and_parts, and_from}
+use Rattle.std.proofs.lemmas.List.{map-append, take-append-drop, length-map, length-take-le}
+use Rattle.std.proofs.lemmas.List.Folds.{drop_split}
+use Rattle.std.proofs.Math.ListN.{length-append}
+use Rattle.std.proofs.lemmas.List.Elements.{All-map, All-contains, Contains-append_cases, Contains-append_left, Contains-append_right}
+use Rattle.std.specs.declared.cmp.Ordering.TheVariants.{Less}
+use Rattle.overlay_terms.specs.Plane.{Point, Segment, point_cmp, same_place}
+use Rattle.overlay_terms.specs.Column.{border}
+use Rattle.overlay_terms.specs.Layers.{Marked}
+use Rattle.overlay_terms.specs.Tiles.{Input}
+use Rattle.overlay_terms.specs.TileLaws.{IsProper}
+use Rattle.overlay_terms.proofs.InputNumbers.{x_in_order, most_back, most_times, last_turned, le_true, true_le}
+use Rattle.overlay_terms.proofs.Lists.{any_from, any_contains, contains_map, Contains-cons_cases, contains_first, contains_rest}
+use Rattle.exact_point.specs.Crossing.{IsCrossingOf, turn_of}
+use Rattle.exact_point.specs.Place.{place, same_hpoint}
+use Rattle.exact_point.specs.declared.point.HPoint.{HPoint}
+use Rattle.exact_point.specs.declared.point_name.PointName.{PointName}
+use Rattle.exact_point.proofs.PlaceOrder.{not_before_self, same_turned}
+use Rattle.arrange.specs.Arrangement.{segments_in, is_in_closed_column}
+use Rattle.arrange.specs.Units.{IsUnit}
+use Rattle.arrange.specs.declared.unit.Unit.{Unit}
+use Rattle.crossing_sweep.specs.Status.{IsStretchOf, SidesFallAlong}
+use Rattle.crossing_sweep.specs.NextNode.{IsNextNode}
+use Rattle.crossing_sweep.specs.Queue.{GoesOn, IsUpTo, IsQueued}
+use Rattle.crossing_sweep.specs.Step.{AreStretches, IsSplitAt, IsGrown}
+use Rattle.crossing_sweep.specs.Passing.{waiting, IsAhead, HasCome, IsEntry, IsStepTo}
+use Rattle.crossing_sweep.specs.Ahead.{points_of}
+use Rattle.crossing_sweep.specs.Member.{seg_of, segs_of, ends_after}
+use Rattle.crossing_sweep.specs.Testing.{IsFoundIn, AreSeamsTested}
+use Rattle.crossing_sweep.specs.Stepping.{segs_to_come, StandsBefore, IsStepped}
+use Rattle.crossing_sweep.specs.declared.member.Member.{Member}
+use Rattle.crossing_sweep.specs.declared.start.Start.{Start}
+use Rattle.crossing_sweep.specs.declared.testing.Search.{Search}
+use Rattle.crossing_sweep.proofs.Pairs.{pairs_first}
+use Rattle.crossing_sweep.proofs.MaskLemmas.{from_map}
+use Rattle.crossing_sweep.proofs.StretchLemmas.{stretches_cross}
+use Rattle.crossing_sweep.proofs.UnitStretchLemmas.{units_are_stretches}
+use Rattle.crossing_sweep.proofs.StartLemmas.{map_pairs}
+use Rattle.crossing_sweep.proofs.PassLemmas.{all_of, first_is_node}
+use Rattle.crossing_sweep.proofs.AheadLemmas.{point_positive}
+use Rattle.crossing_sweep.proofs.KnownLemmas.{point_small}
+use Rattle.crossing_sweep.proofs.ComingLemmas.{falls, not_met_before, all_enter, all_later}
+use Rattle.crossing_sweep.proofs.StayLemmas.{stay_from, stay_all, stay_turned}
+
+-- the segments of the three parts of a status
+pub segs_parts : (under bundle over : List Member) → segs_of (under ++ bundle ++ over) ≡ segs_of under ++ segs_of bundle ++ segs_of over
+segs_parts under bundle over = map-append seg_of (under ++ bundle) over ∙ ap (λ us. us ++ segs_of over) (map-append seg_of under bundle)
+
+module _ (input : Input) (n : ℤ) (units : List Unit) (q : Point) (at : HPoint) (under bundle over stay : List Member) (coming entering rest : List Start) (old new : Search)
+    (stands : StandsBefore n input units q at (under ++ bundle ++ over) coming old.ahead)
+    (enters : entering ≡ take (prefix_len (λ s. same_hpoint s.at at) coming) coming) (remains : rest ≡ drop (prefix_len (λ s. same_hpoint s.at at) coming) coming)
+    (split_of : SidesFallAlong (place at) (segs_of (under ++ bundle ++ over)) → IsSplitAt (place at) (segs_of under) (segs_of bundle) (segs_of over))
+    (moved : IsPermutation (filter (ends_after (place at)) (segs_of bundle ++ segs_to_come entering)) (segs_of stay)) (sorted : AllPairs (λ a b. pos 0 ≤ℤ turn_of a b) (segs_of stay))
+    (tested : AreSeamsTested input.column (place at) (segs_of (under ++ stay ++ over)) (length under ∷ length (under ++ stay) ∷ []) old new) where
+  abbrev r : Point
+  r = place at
+
+  abbrev segments : List Segment
+  segments = segments_in input
+
+  abbrev unit_segs : List Segment
+  unit_segs = map (λ (u : Unit). u.seg) units
+
+  abbrev keys : List Point
+  keys = points_of old.ahead
+
+  abbrev u : List Segment
+  u = segs_of under
+
+  abbrev b : List Segment
+  b = segs_of bundle
+
+  abbrev o : List Segment
+  o = segs_of over
+
+  abbrev s : List Segment
+  s = segs_of stay
+
+  abbrev e : List Segment
+  e = segs_to_come entering
+
+  abbrev t : List Segment
+  t = segs_to_come rest
+
+  proper : All IsProper segments
+  proper = All-map IsProper (λ (m : Marked). m.segment) input.marked stands.valid.proper
+
+  stretches : AreStretches segments unit_segs
+  stretches = units_are_stretches input units stands.valid stands.are
+
+  whole_coming : entering ++ rest ≡ coming
+  whole_coming =
+      ap (λ xs. xs ++ rest) enters ∙ ap (λ ys. take (prefix_len (λ s. same_hpoint s.at at) coming) coming ++ ys) remains ∙ take-append-drop (prefix_len (λ s. same_hpoint s.at at) coming) coming
+
+  coming_parts : segs_to_come coming ≡ e ++ t
+  coming_parts = ap segs_to_come (sym whole_coming) ∙ map-append (λ (s : Start). s.unit.seg) entering rest
+
+  come : HasCome n segments unit_segs input.column q (u ++ b ++ o) (e ++ t) (r ∷ keys)
+  come =
+      subst (λ (us : List Segment). HasCome n segments unit_segs input.column q us (e ++ t) (r ∷ keys)) (segs_parts under bundle over)
+      (subst (λ (us : List Segment). HasCome n segments unit_segs input.column q (segs_of (under ++ bundle ++ over)) us (r ∷ keys)) coming_parts stands.come)
+
+  least : All (λ z. point_cmp r z ≡ Less) keys
+  least = All-map (λ z. point_cmp r z ≡ Less) (λ (d : HPoint × PointName). place d.0) old.ahead stands.least
+
+  next : IsNextNode segments q r
+  next = first_is_node n segments unit_segs input.column q r (u ++ b ++ o) (e ++ t) keys stands.steep proper come least
+
+  hr : pos 0 <ℤ r.w
+  hr = point_positive at
+
+  split : IsSplitAt r u b o
+  split = split_of (subst (λ (us : List Segment). SidesFallAlong r us) (sym (segs_parts under bundle over))
+      (falls n segments unit_segs input.column q r (u ++ b ++ o) (e ++ t) (r ∷ keys) stands.steep proper stretches come next))
+
+  -- ---- those that enter, and those that come later
+  enter : All (λ u. (z : Point) × IsEntry input.column u z × IsTrue (same_place z r)) e
+  enter =
+      subst (λ (xs : List Start). All (λ u. (z : Point) × IsEntry input.column u z × IsTrue (same_place z r)) (segs_to_come xs)) (sym enters) (all_enter input.column at coming stands.entries)
+
+  not_earlier : (x : Start) → Contains coming x → point_cmp (place x.at) r ≡ Less → ⊥
+  not_earlier x c =
+      not_met_before n segments unit_segs input.column q r (u ++ b ++ o) (e ++ t) (r ∷ keys) stands.steep proper stretches come next x.unit.seg
+      (subst (λ (us : List Segment). Contains us x.unit.seg) coming_parts (contains_map (λ (s : Start). s.unit.seg) coming x c)) (place x.at)
+      (All-contains (λ s. IsEntry input.column s.unit.seg (place s.at)) coming x stands.entries c)
+
+  remain : All (λ u. (z : Point) × IsEntry input.column u z × (point_cmp r z ≡ Less)) t
+  remain =
+      subst (λ (xs : List Start). All (λ u. (z : Point) × IsEntry input.column u z × (point_cmp r z ≡ Less)) (segs_to_come xs)) (sym remains)
+      (all_later input.column at coming stands.entries stands.ordered not_earlier)
+
+  once : AllPairs (λ a b. a ≢ b) e
+  once =
+      map_pairs (λ (s : Start). s.unit.seg) (λ a b. a ≢ b) entering
+      (pairs_first (λ (x y : Start). x.unit.seg ≢ y.unit.seg) entering rest (subst (λ (xs : List Start). AllPairs (λ x y. x.unit.seg ≢ y.unit.seg) xs) (sym whole_coming) stands.once))
+
+  are_units : All (IsUnit input.marked) unit_segs
+  are_units = All-map (IsUnit input.marked) (λ (u : Unit). u.seg) units stands.are.sound
+
+  -- ---- those that stay
+  from : (v : Segment) → Contains s v → (Contains b v ⊎ Contains e v) × GoesOn v r
+  from v c = stay_from n segments unit_segs input.marked input.column q r u b o e t (r ∷ keys) stands.steep stretches are_units come next split enter once s moved v c
+
+  abbrev w : List Segment
+  w = waiting input.column (e ++ t)
+
+  stretch_of : (v : Segment) → Contains (segs_of (under ++ stay ++ over)) v → IsStretchOf segments v
+  stretch_of v c = last (Contains-append_cases (u ++ s) o v (subst (λ (us : List Segment). Contains us v) (segs_parts under stay over) c))
+    where
+      of_status : Contains (u ++ b ++ o) v → IsStretchOf segments v
+      of_status d = All-contains (IsStretchOf segments) (u ++ b ++ o ++ w) v come.full.status_at.stretches (Contains-append_left (u ++ b ++ o) w v d)
+
+      of_stay : Contains b v ⊎ Contains e v → IsStretchOf segments v
+      of_stay (inl d) = of_status (Contains-append_left (u ++ b) o v (Contains-append_right u b v d))
+      of_stay (inr d) = All-contains (IsStretchOf segments) unit_segs v stretches.stretches (All-contains (Contains unit_segs) (e ++ t) v come.among (Contains-append_left e t v d))
+
+      two : Contains u v ⊎ Contains s v → IsStretchOf segments v
+      two (inl d) = of_status (Contains-append_left (u ++ b) o v (Contains-append_left u b v d))
+      two (inr d) = of_stay (from v d).0
+
+      last : Contains (u ++ s) v ⊎ Contains o v → IsStretchOf segments v
+      last (inl d) = two (Contains-append_cases u s v d)
+      last (inr d) = of_status (Contains-append_right (u ++ b) o v d)
+
+  -- ---- the places found ahead
+  first : IsAhead segments input.column q r
+  first = All-contains (IsAhead segments input.column q) (r ∷ keys) r come.ahead (contains_first r keys)
+
+  ahead : All (IsAhead segments input.column r) (points_of new.ahead)
+  ahead = All-map (IsAhead segments input.column r) (λ (d : HPoint × PointName). place d.0) new.ahead (all_of (λ (d : HPoint × PointName). IsAhead segments input.column r (place d.0)) new.ahead (λ d c. by d (tested.only d c)))
+    where
+      by : (d : HPoint × PointName) → Contains old.ahead d ⊎ IsFoundIn input.column r (segs_of (under ++ stay ++ over)) old.listed new.tests.items d → IsAhead segments input.column r (place d.0)
+      by d (inl c) =
+          let was = All-contains (IsAhead segments input.column q) (r ∷ keys) (place d.0) come.ahead (contains_rest r keys (place d.0) (contains_map (λ (d : HPoint × PointName). place d.0) old.ahead d c)) in
+          record { small = was.small; node = was.node; after = All-contains (λ (d : HPoint × PointName). point_cmp r (place d.0) ≡ Less) old.ahead d stands.least c; from = was.from; up_to = was.up_to }
+      by d (inr f) =
+          let parts = and_parts (int_le (border input.column *ℤ (place d.0).w) (place d.0).x) (int_le (place d.0).x (border (input.column + 1) *ℤ (place d.0).w)) f.found.in_column in
+          record {
+            small = point_small d.0;
+            node = stretches_cross segments f.lower f.upper (place d.0) (stretch_of f.lower f.lower_among) (stretch_of f.upper f.upper_among) (point_positive d.0) f.found.crossing.on_first f.found.crossing.on_second
+                f.found.crossing.not_parallel;
+            after = f.found.after;
+            from = le_true (border input.column *ℤ (place d.0).w) (place d.0).x parts.0;
+            up_to = le_true (place d.0).x (border (input.column + 1) *ℤ (place d.0).w) parts.1;
+          }
+
+  kept : (p : Point) → pos 0 <ℤ p.w → IsQueued (r ∷ keys) p → point_cmp r p ≡ Less → IsQueued (points_of new.ahead) p
+  kept p hp queued less = by (Contains-cons_cases r keys queued.1 (any_contains (λ z. IsTrue (same_place p z)) (r ∷ keys) queued))
+    where
+      by : (r ≡ queued.1) ⊎ Contains keys queued.1 → IsQueued (points_of new.ahead) p
+      by (inl f) = absurd (not_before_self r p hr hp (same_turned p r (subst (λ z. IsTrue (same_place p z)) (sym f) queued.4)) less)
+      by (inr c) =
+          let d = from_map (λ (d : HPoint × PointName). place d.0) old.ahead queued.1 c in
+          any_from (λ z. IsTrue (same_place p z)) (points_of new.ahead) (place d.0.0) (contains_map (λ (d : HPoint × PointName). place d.0) new.ahead d.0 (tested.kept d.0 d.1))
+          (subst (λ z. IsTrue (same_place p z)) (sym d.2) queued.4)
+
+  within : (p : Point) → pos 0 <ℤ p.w → point_cmp r p ≡ Less → IsUpTo input.column p → IsTrue (is_in_closed_column input.column p)
+  within p hp less up_to =
+      and_from (int_le (border input.column *ℤ p.w) p.x) (int_le p.x (border (input.column + 1) *ℤ p.w))
+      (true_le (border input.column *ℤ p.w) p.x (from_later (border input.column) r.x r.w p.x p.w hr hp first.from (x_in_order r p less)))
+      (true_le p.x (border (input.column + 1) *ℤ p.w) up_to)
+    where
+      from_later : (b x w y v : ℤ) → pos 0 <ℤ w → pos 0 <ℤ v → (b *ℤ w) ≤ℤ x → (x *ℤ v) ≤ℤ (y *ℤ w) → (b *ℤ v) ≤ℤ y
+      from_later b x w y v hw hv h k = most_back (b *ℤ v) y w hw (omega (arith, ints, k, most_times (b *ℤ w) x v hv h, last_turned b w v))
+
+  abbrev seams : List ℕ
+  seams = length under ∷ length (under ++ stay) ∷ []
+
+  grown : IsGrown input.column r u s o (r ∷ keys) (points_of new.ahead)
+  grown = record {
+    kept = kept;
+    tested = λ i d p which inside hp crossing less up_to. found i d p (seam i which) inside hp crossing less (within p hp less up_to);
+  }
+    where
+      found : (i : ℕ) (d : Segment) (p : Point) → Contains seams (i + 1) → i + 1 < length (u ++ s ++ o) → pos 0 <ℤ p.w → IsCrossingOf (get_or (u ++ s ++ o) i d) (get_or (u ++ s ++ o) (i + 1) d) p
+          → point_cmp r p ≡ Less → IsTrue (is_in_closed_column input.column p) → IsQueued (points_of new.ahead) p
+      found =
+          subst (λ (us : List Segment).
+          (i : ℕ) (d : Segment) (p : Point) → Contains seams (i + 1) → i + 1 < length us → pos 0 <ℤ p.w → IsCrossingOf (get_or us i d) (get_or us (i + 1) d) p
+          → point_cmp r p ≡ Less → IsTrue (is_in_closed_column input.column p) → IsQueued (points_of new.ahead) p)
+          (segs_parts under stay over) tested.found
+
+      seam : (i : ℕ) → (i + 1 ≡ length u) ⊎ (i + 1 ≡ length (u ++ s)) → Contains seams (i + 1)
+      seam i (inl f) = subst (λ x. Contains seams x) (sym (f ∙ length-map under seg_of)) (contains_first (length under) (length (under ++ stay) ∷ []))
+      seam i (inr f) =
+          subst (λ x. Contains seams x) (sym (f ∙ ap length (sym (map-append seg_of under stay)) ∙ length-map (under ++ stay) seg_of))
+          (contains_rest (length under) (length (under ++ stay) ∷ []) (length (under ++ stay)) (contains_first (length (under ++ stay)) []))
+
+  pub is_step : IsStepTo segments input.column r u b o e s t keys (points_of new.ahead)
+  is_step = record {
+    split = split;
+    enter = enter;
+    remain = remain;
+    stay_from = stay_from n segments unit_segs input.marked input.column q r u b o e t (r ∷ keys) stands.steep stretches are_units come next split enter once s moved;
+    stay_all = stay_all n segments unit_segs input.marked input.column q r u b o e t (r ∷ keys) stands.steep stretches are_units come next split enter once s moved;
+    turned = stay_turned n segments unit_segs input.marked input.column q r u b o e t (r ∷ keys) stands.steep stretches are_units come next split enter once s moved sorted;
+    least = least;
+    grown = grown;
+    ahead = ahead;
+  }
+
+-- what the code has done, by the numbers of members
+pub stepped : (input : Input) (at : HPoint) (ms after stay : List Member) (low high len k : ℕ) (coming : List Start) (old new : Search) → low ≤ high → high ≤ length ms
+    → (SidesFallAlong (place at) (segs_of ms) → IsSplitAt (place at) (segs_of (take low ms)) (segs_of (slice_range ms low high)) (segs_of (drop high ms)))
+    → k ≡ prefix_len (λ s. same_hpoint s.at at) coming → IsPermutation (filter (ends_after (place at)) (segs_of (slice_range ms low high) ++ segs_to_come (take k coming))) (segs_of stay)
+    → AllPairs (λ a b. pos 0 ≤ℤ turn_of a b) (segs_of stay) → after ≡ take low ms ++ stay ++ drop high ms → len ≡ length stay
+    → AreSeamsTested input.column (place at) (segs_of after) (low ∷ (low + len) ∷ []) old new → IsStepped input at ms after coming (drop k coming) old new
+stepped input at ms after stay low high len k coming old new in_order few split count moved sorted is long tested = record {
+  under = take low ms;
+  bundle = slice_range ms low high;
+  over = drop high ms;
+  stay = stay;
+  entering = take k coming;
+  was = was;
+  is = is;
+  came = sym (take-append-drop k coming);
+  tested = at_seams;
+  step = λ n units q stands.
+      is_step input n units q at (take low ms) (slice_range ms low high) (drop high ms) stay coming (take k coming) (drop k coming) old new
+      (subst (λ (xs : List Member). StandsBefore n input units q at xs coming old.ahead) was stands) (ap (λ j. take j coming) count) (ap (λ j. drop j coming) count)
+      (λ falls. split (subst (λ (xs : List Member). SidesFallAlong (place at) (segs_of xs)) (sym was) falls)) moved sorted
+      (subst (λ (xs : List Member). AreSeamsTested input.column (place at) (segs_of xs) (length (take low ms) ∷ length (take low ms ++ stay) ∷ []) old new) is at_seams);
+}
+  where
+    was : ms ≡ take low ms ++ slice_range ms low high ++ drop high ms
+    was =
+        sym (take-append-drop low ms) ∙ ap (λ ys. take low ms ++ ys) (drop_split ms low high in_order) ∙ sym (append_assoc (take low ms) (slice_range ms low high) (drop high ms))
+
+    below : length (take low ms) ≡ low
+    below = length-take-le low ms (omega (arith, in_order, few))
+
+    up : low + len ≡ length (take low ms ++ stay)
+    up = omega (arith, length-append (take low ms) stay, below, long)
+
+    at_seams : AreSeamsTested input.column (place at) (segs_of after) (length (take low ms) ∷ length (take low ms ++ stay) ∷ []) old new
+    at_seams =
+        subst (λ j. AreSeamsTested input.column (place at) (segs_of after) (j ∷ length (take low ms ++ stay) ∷ []) old new) (sym below)
+        (subst (λ j. AreSeamsTested input.column (place at) (segs_of after) (low ∷ j ∷ []) old new) up tested)

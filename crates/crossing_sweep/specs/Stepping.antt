@@ -1,0 +1,51 @@
+-- One step of a pass, from the members and the units to come before the next node to those after it.
+use Rattle.std.specs.Prelude.{◌≡◌, ℤ, ◌++◌, [], ◌∷◌, List, map, length, All, AllPairs}
+use Rattle.std.specs.declared.cmp.Ordering.TheVariants.{Less}
+use Rattle.overlay_terms.specs.Plane.{Point, Segment, point_cmp}
+use Rattle.overlay_terms.specs.Tiles.{Input}
+use Rattle.overlay_terms.specs.TileLaws.{IsInput}
+use Rattle.exact_point.specs.Place.{place}
+use Rattle.exact_point.specs.declared.point.HPoint.{HPoint}
+use Rattle.exact_point.specs.declared.point_name.PointName.{PointName}
+use Rattle.arrange.specs.Arrangement.{segments_in}
+use Rattle.arrange.specs.Units.{AreUnits}
+use Rattle.arrange.specs.declared.unit.Unit.{Unit}
+use Rattle.crossing_sweep.specs.Leaning.{IsSteep}
+use Rattle.crossing_sweep.specs.Passing.{HasCome, IsEntry, IsStepTo}
+use Rattle.crossing_sweep.specs.Ahead.{points_of}
+use Rattle.crossing_sweep.specs.Member.{segs_of}
+use Rattle.crossing_sweep.specs.Testing.{AreSeamsTested}
+use Rattle.crossing_sweep.specs.declared.member.Member.{Member}
+use Rattle.crossing_sweep.specs.declared.start.Start.{Start}
+use Rattle.crossing_sweep.specs.declared.testing.Search.{Search}
+
+-- the segments of units to come
+abbrev pub segs_to_come : List Start → List Segment
+segs_to_come starts = map (λ (s : Start). s.unit.seg) starts
+
+-- a pass has come to q with some members, some units to come in the order in which they are met, and some places found ahead, of which
+-- one that was taken out is the first
+pub record StandsBefore (n : ℤ) (input : Input) (units : List Unit) (q : Point) (at : HPoint) (status : List Member) (coming : List Start) (ahead : List (HPoint × PointName)) : Type 0 where
+  pub valid : IsInput input
+  pub steep : IsSteep n
+  pub are : AreUnits input.marked units
+  pub come : HasCome n (segments_in input) (map (λ (u : Unit). u.seg) units) input.column q (segs_of status) (segs_to_come coming) (place at ∷ points_of ahead)
+  pub least : All (λ e. point_cmp (place at) (place e.0) ≡ Less) ahead
+  pub entries : All (λ s. IsEntry input.column s.unit.seg (place s.at)) coming
+  pub once : AllPairs (λ s t. ¬ (s.unit.seg ≡ t.unit.seg)) coming
+  pub ordered : AllPairs (λ s t. ¬ (point_cmp (place t.at) (place s.at) ≡ Less)) coming
+
+-- a step to a place: of the members those that hold it give way to those that stay, some units to come enter, and the neighbours at the two
+-- new seams are tested. So it is one step of the pass
+pub record IsStepped (input : Input) (at : HPoint) (status after : List Member) (coming rest : List Start) (old new : Search) : Type 0 where
+  pub under : List Member
+  pub bundle : List Member
+  pub over : List Member
+  pub stay : List Member
+  pub entering : List Start
+  pub was : status ≡ under ++ bundle ++ over
+  pub is : after ≡ under ++ stay ++ over
+  pub came : coming ≡ entering ++ rest
+  pub tested : AreSeamsTested input.column (place at) (segs_of after) (length under ∷ length (under ++ stay) ∷ []) old new
+  pub step : (n : ℤ) (units : List Unit) (q : Point) → StandsBefore n input units q at status coming old.ahead
+      → IsStepTo (segments_in input) input.column (place at) (segs_of under) (segs_of bundle) (segs_of over) (segs_to_come entering) (segs_of stay) (segs_to_come rest) (points_of old.ahead) (points_of new.ahead)
