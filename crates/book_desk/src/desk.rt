@@ -82,9 +82,7 @@ impl<J: Naming, R: Wait + Drop> Desk<J, R> {
     {
         let first = trace.again();
         let number = version.number();
-        let Ok(version) = Arc::new(alloc, version) else {
-            return Err(NO_MEMORY);
-        };
+        let version = shared(alloc, version)?;
         let begun = Published { version, trace };
         let Some(press) = first_press(&rt, alloc, begun, sessions + 1) else {
             return Err(NO_MEMORY);
@@ -301,6 +299,17 @@ fn counted(counts: [u64; 4], cause: Cause<'_>) -> [u64; 4]
     counts
 }
 
+// A version for as many as ask for it.
+pub(crate) fn shared(alloc: Global, version: Version) -> Result<Arc<Version, Global>, BookFault>
+    ensures ok { IfOk result (λ v. arc_value v ≡ version) }
+    ensures err { IfErr result (λ fault. fault ≡ no_memory) }
+{
+    match Arc::new(alloc, version) {
+        Ok(version) => Ok(version),
+        Err(_) => Err(NO_MEMORY),
+    }
+}
+
 // The version after a command.
 #[tactic(auto, using(book_history::proofs::Gone::no_reason))]
 fn next_version(
@@ -313,10 +322,7 @@ fn next_version(
     ensures there { IfErr result (λ fault. IfGone fault ⊥ (Unit {0})) }
 {
     match now.submit(alloc, change) {
-        Ok(next) => match Arc::new(alloc, next) {
-            Ok(version) => Ok(version),
-            Err(_) => Err(NO_MEMORY),
-        },
+        Ok(next) => shared(alloc, next),
         Err(fault) => Err(BookFault::Version(fault)),
     }
 }

@@ -4,13 +4,13 @@ ghost use Rattle.book_history.specs.Fault.{no_memory};
 ghost use Rattle.book_history.specs.Logs.{newest_in};
 ghost use Rattle.book_desk.specs.Steps.{IsFinishedIn, IsReportedIn};
 
-use crate::desk::{Desk, NO_MEMORY};
+use crate::desk::{Desk, shared};
 use book_history::entry::Cause;
 use book_history::fault::BookFault;
 use book_history::trace::Naming;
 use layer_expr::name::Name;
 use std::alloc::Global;
-use std::sync::{Arc, Wait};
+use std::sync::Wait;
 use tile_build::built::Built;
 use version_core::finishing::Finish;
 
@@ -30,8 +30,9 @@ impl<J: Naming, R: Wait + Drop> Desk<J, R> {
             Ok(Finish::Stale) => return (self, Ok(false)),
             Err(fault) => return (self, Err(BookFault::Version(fault))),
         };
-        let Ok(version) = Arc::new(alloc, next) else {
-            return (self, Err(NO_MEMORY));
+        let version = match shared(alloc, next) {
+            Ok(version) => version,
+            Err(fault) => return (self, Err(fault)),
         };
         let column = built.input().column().number();
         let desk = match self.add(Cause::Kept(name, column, built.tile()), version) {
@@ -55,8 +56,9 @@ impl<J: Naming, R: Wait + Drop> Desk<J, R> {
             Ok(next) => next,
             Err(fault) => return (self, Err(BookFault::Version(fault))),
         };
-        let Ok(version) = Arc::new(alloc, next) else {
-            return (self, Err(NO_MEMORY));
+        let version = match shared(alloc, next) {
+            Ok(version) => version,
+            Err(fault) => return (self, Err(fault)),
         };
         let desk = match self.add(Cause::Durable(number), version) {
             Ok(desk) => desk,
