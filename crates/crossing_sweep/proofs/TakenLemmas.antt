@@ -11,7 +11,7 @@ use Rattle.std.proofs.Math.ListN.{length-append}
 use Rattle.std.proofs.lemmas.List.Elements.{All-map, All-contains, Contains-append_cases, Contains-append_left, Contains-append_right}
 use Rattle.std.specs.declared.cmp.Ordering.TheVariants.{Less}
 use Rattle.overlay_terms.specs.Plane.{Point, Segment, point_cmp, same_place}
-use Rattle.overlay_terms.specs.Column.{border}
+use Rattle.overlay_terms.specs.Column.{border, is_in_column}
 use Rattle.overlay_terms.specs.Layers.{Marked}
 use Rattle.overlay_terms.specs.Tiles.{Input}
 use Rattle.overlay_terms.specs.TileLaws.{IsProper}
@@ -31,7 +31,10 @@ use Rattle.crossing_sweep.specs.Queue.{GoesOn, IsUpTo, IsQueued}
 use Rattle.crossing_sweep.specs.Step.{AreStretches, IsSplitAt, IsGrown}
 use Rattle.crossing_sweep.specs.Passing.{waiting, IsAhead, HasCome, IsEntry, IsStepTo}
 use Rattle.crossing_sweep.specs.Ahead.{points_of}
-use Rattle.crossing_sweep.specs.Member.{seg_of, segs_of, ends_after}
+use Rattle.crossing_sweep.specs.Member.{seg_of, units_of, segs_of, ends_after}
+use Rattle.crossing_sweep.specs.Rows.{AreBegun, mask_over, rows_of}
+use Rattle.crossing_sweep.specs.declared.member.Begin.{Begin}
+use Rattle.crossing_sweep.specs.declared.row.Row.{Row}
 use Rattle.crossing_sweep.specs.Testing.{IsFoundIn, AreSeamsTested}
 use Rattle.crossing_sweep.specs.Stepping.{segs_to_come, StandsBefore, IsStepped}
 use Rattle.crossing_sweep.specs.declared.member.Member.{Member}
@@ -47,6 +50,7 @@ use Rattle.crossing_sweep.proofs.AheadLemmas.{point_positive}
 use Rattle.crossing_sweep.proofs.KnownLemmas.{point_small}
 use Rattle.crossing_sweep.proofs.ComingLemmas.{falls, not_met_before, all_enter, all_later}
 use Rattle.crossing_sweep.proofs.StayLemmas.{stay_from, stay_all, stay_turned}
+use Rattle.crossing_sweep.proofs.TurnedLemmas.{unit_after, same_segs, segs_moved, stay_units}
 
 -- the segments of the three parts of a status
 pub segs_parts : (under bundle over : List Member) → segs_of (under ++ bundle ++ over) ≡ segs_of under ++ segs_of bundle ++ segs_of over
@@ -246,39 +250,53 @@ module _ (input : Input) (n : ℤ) (units : List Unit) (q : Point) (at : HPoint)
   }
 
 -- what the code has done, by the numbers of members
-pub stepped : (input : Input) (at : HPoint) (ms after stay : List Member) (low high len k : ℕ) (coming : List Start) (old new : Search) → low ≤ high → high ≤ length ms
-    → (SidesFallAlong (place at) (segs_of ms) → IsSplitAt (place at) (segs_of (take low ms)) (segs_of (slice_range ms low high)) (segs_of (drop high ms)))
-    → k ≡ prefix_len (λ s. same_hpoint s.at at) coming → IsPermutation (filter (ends_after (place at)) (segs_of (slice_range ms low high) ++ segs_to_come (take k coming))) (segs_of stay)
-    → AllPairs (λ a b. pos 0 ≤ℤ turn_of a b) (segs_of stay) → after ≡ take low ms ++ stay ++ drop high ms → len ≡ length stay
-    → AreSeamsTested input.column (place at) (segs_of after) (low ∷ (low + len) ∷ []) old new → IsStepped input at ms after coming (drop k coming) old new
-stepped input at ms after stay low high len k coming old new in_order few split count moved sorted is long tested = record {
-  under = take low ms;
-  bundle = slice_range ms low high;
-  over = drop high ms;
-  stay = stay;
-  entering = take k coming;
-  was = was;
-  is = is;
-  came = sym (take-append-drop k coming);
-  tested = at_seams;
-  step = λ n units q stands.
-      is_step input n units q at (take low ms) (slice_range ms low high) (drop high ms) stay coming (take k coming) (drop k coming) old new
-      (subst (λ (xs : List Member). StandsBefore n input units q at xs coming old.ahead) was stands) (ap (λ j. take j coming) count) (ap (λ j. drop j coming) count)
-      (λ falls. split (subst (λ (xs : List Member). SidesFallAlong (place at) (segs_of xs)) (sym was) falls)) moved sorted
-      (subst (λ (xs : List Member). AreSeamsTested input.column (place at) (segs_of xs) (length (take low ms) ∷ length (take low ms ++ stay) ∷ []) old new) is at_seams);
-}
-  where
-    was : ms ≡ take low ms ++ slice_range ms low high ++ drop high ms
-    was =
-        sym (take-append-drop low ms) ∙ ap (λ ys. take low ms ++ ys) (drop_split ms low high in_order) ∙ sym (append_assoc (take low ms) (slice_range ms low high) (drop high ms))
+module _ (input : Input) (at : HPoint) (begin : Begin) (ms after turned stay : List Member) (low high len k : ℕ) (coming : List Start) (old new : Search) (rows more_rows : List Row) (in_order : low ≤ high)
+    (few : high ≤ length ms)
+    (split : SidesFallAlong (place at) (segs_of ms) → IsSplitAt (place at) (segs_of (take low ms)) (segs_of (slice_range ms low high)) (segs_of (drop high ms)))
+    (count : k ≡ prefix_len (λ s. same_hpoint s.at at) coming)
+    (moved : IsPermutation (filter (unit_after (place at)) (units_of (slice_range ms low high) ++ map (λ (s : Start). s.unit) (take k coming))) (units_of turned))
+    (sorted : AllPairs (λ a b. pos 0 ≤ℤ turn_of a b) (segs_of turned)) (labelled : units_of stay ≡ units_of turned)
+    (begun : AreBegun input.steps (mask_over 0 (take low ms)) begin (is_in_column input.column (place at)) stay) (closed : more_rows ≡ rows ++ rows_of begin (slice_range ms low high))
+    (is : after ≡ take low ms ++ stay ++ drop high ms) (long : len ≡ length stay) (tested : AreSeamsTested input.column (place at) (segs_of after) (low ∷ (low + len) ∷ []) old new) where
+  was : ms ≡ take low ms ++ slice_range ms low high ++ drop high ms
+  was =
+      sym (take-append-drop low ms) ∙ ap (λ ys. take low ms ++ ys) (drop_split ms low high in_order) ∙ sym (append_assoc (take low ms) (slice_range ms low high) (drop high ms))
 
-    below : length (take low ms) ≡ low
-    below = length-take-le low ms (omega (arith, in_order, few))
+  below : length (take low ms) ≡ low
+  below = length-take-le low ms (omega (arith, in_order, few))
 
-    up : low + len ≡ length (take low ms ++ stay)
-    up = omega (arith, length-append (take low ms) stay, below, long)
+  up : low + len ≡ length (take low ms ++ stay)
+  up = omega (arith, length-append (take low ms) stay, below, long)
 
-    at_seams : AreSeamsTested input.column (place at) (segs_of after) (length (take low ms) ∷ length (take low ms ++ stay) ∷ []) old new
-    at_seams =
-        subst (λ j. AreSeamsTested input.column (place at) (segs_of after) (j ∷ length (take low ms ++ stay) ∷ []) old new) (sym below)
-        (subst (λ j. AreSeamsTested input.column (place at) (segs_of after) (low ∷ j ∷ []) old new) up tested)
+  at_seams : AreSeamsTested input.column (place at) (segs_of after) (length (take low ms) ∷ length (take low ms ++ stay) ∷ []) old new
+  at_seams =
+      subst (λ j. AreSeamsTested input.column (place at) (segs_of after) (j ∷ length (take low ms ++ stay) ∷ []) old new) (sym below)
+      (subst (λ j. AreSeamsTested input.column (place at) (segs_of after) (low ∷ j ∷ []) old new) up tested)
+
+  stay_moved : IsPermutation (filter (unit_after (place at)) (units_of (slice_range ms low high) ++ map (λ (s : Start). s.unit) (take k coming))) (units_of stay)
+  stay_moved =
+      subst (λ (us : List Unit). IsPermutation (filter (unit_after (place at)) (units_of (slice_range ms low high) ++ map (λ (s : Start). s.unit) (take k coming))) us) (sym labelled) moved
+
+  stay_sorted : AllPairs (λ a b. pos 0 ≤ℤ turn_of a b) (segs_of stay)
+  stay_sorted = subst (λ (us : List Segment). AllPairs (λ a b. pos 0 ≤ℤ turn_of a b) us) (same_segs turned stay (sym labelled)) sorted
+
+  pub stepped : IsStepped input at begin ms after coming (drop k coming) old new rows more_rows
+  stepped = record {
+    under = take low ms;
+    bundle = slice_range ms low high;
+    over = drop high ms;
+    stay = stay;
+    entering = take k coming;
+    was = was;
+    is = is;
+    came = sym (take-append-drop k coming);
+    among = stay_units (place at) (slice_range ms low high) stay (take k coming) stay_moved;
+    begun = begun;
+    closed = closed;
+    tested = at_seams;
+    step = λ n units q stands.
+        is_step input n units q at (take low ms) (slice_range ms low high) (drop high ms) stay coming (take k coming) (drop k coming) old new
+        (subst (λ (xs : List Member). StandsBefore n input units q at xs coming old.ahead) was stands) (ap (λ j. take j coming) count) (ap (λ j. drop j coming) count)
+        (λ falls. split (subst (λ (xs : List Member). SidesFallAlong (place at) (segs_of xs)) (sym was) falls)) (segs_moved (place at) (slice_range ms low high) stay (take k coming) stay_moved) stay_sorted
+        (subst (λ (xs : List Member). AreSeamsTested input.column (place at) (segs_of xs) (length (take low ms) ∷ length (take low ms ++ stay) ∷ []) old new) is at_seams);
+  }

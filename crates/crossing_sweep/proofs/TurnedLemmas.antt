@@ -1,6 +1,6 @@
--- The segments of members that a sort has put in the order of their directions.
-use Rattle.std.proofs.Common.{◌≡◌, ℕ, ℤ, pos, neg_ℤ, ◌<◌, ◌<ℤ◌, ◌≤ℤ◌, false, List, [], ◌∷◌, ◌++◌, get_or, length, refl, ap, sym, subst, ◌∙◌, arith}
-use Rattle.std.specs.Prelude.{filter}
+-- The units and segments of members that a sort has put in the order of their directions.
+use Rattle.std.proofs.Common.{◌≡◌, ◌⊎◌, inl, inr, Bool, ℕ, ℤ, pos, neg_ℤ, ◌<◌, ◌<ℤ◌, ◌≤ℤ◌, false, List, [], ◌∷◌, ◌++◌, map, get_or, length, refl, ap, sym, subst, ◌∙◌, arith}
+use Rattle.std.specs.Prelude.{filter, All, Contains}
 use Rattle.std.specs.List.{AllPairs}
 use Rattle.std.specs.List.Sorted.{IsPermutation, IsSorted}
 use Rattle.std.specs.Ordering.{is_lt, int_cmp}
@@ -8,33 +8,95 @@ use Rattle.std.specs.Cmp.{int_cmp_is}
 use Rattle.std.specs.declared.cmp.Ordering.TheVariants.{Less}
 use Rattle.std.proofs.lemmas.Int.{ints, by_lt_z}
 use Rattle.std.proofs.lemmas.Bool.{both_ways}
-use Rattle.std.proofs.lemmas.List.Elements.{filter-append}
-use Rattle.std.proofs.lemmas.List.Sorted.{sorted_far, ranks_by, IsPermutation-map}
+use Rattle.std.proofs.lemmas.List.Elements.{filter-append, Contains-append_cases, All-contains}
+use Rattle.std.proofs.lemmas.List.{map-append}
+use Rattle.std.proofs.lemmas.Simd.{map-map}
+use Rattle.overlay_terms.proofs.Lists.{contains_map}
+use Rattle.arrange.specs.declared.unit.Unit.{Unit}
+use Rattle.crossing_sweep.specs.declared.start.Start.{Start}
+use Rattle.crossing_sweep.proofs.MaskLemmas.{from_map}
+use Rattle.crossing_sweep.proofs.PassLemmas.{all_of, filter_contains}
+use Rattle.std.proofs.lemmas.List.Sorted.{sorted_far, ranks_by, IsPermutation-map, IsPermutation-sym, Contains-permutation}
 use Rattle.overlay_terms.specs.Plane.{Point, Segment}
 use Rattle.exact_point.specs.Crossing.{turn_of}
 use Rattle.exact_point.proofs.Lines.{width, rise}
 use Rattle.tile_laws.proofs.Ranks.{Told, yes, no, told}
-use Rattle.crossing_sweep.specs.Member.{seg_of, segs_of, ends_after, member_cmp, member_total}
+use Rattle.crossing_sweep.specs.Member.{units_of, seg_of, segs_of, ends_after, member_cmp, member_total}
 use Rattle.crossing_sweep.specs.declared.member.Member.{Member}
 use Rattle.crossing_sweep.proofs.Keeping.{turn_back}
 use Rattle.crossing_sweep.proofs.StartLemmas.{map_pairs}
 
-segs_filter : (r : Point) (ms : List Member) → segs_of (filter (λ m. ends_after r m.unit.seg) ms) ≡ filter (ends_after r) (segs_of ms)
-segs_filter r [] = refl
-segs_filter r (m ∷ ms) = by (segs_filter r ms) (told (ends_after r m.unit.seg))
+abbrev pub unit_after : Point → Unit → Bool
+unit_after r u = ends_after r u.seg
+
+units_filter : (r : Point) (ms : List Member) → units_of (filter (λ m. ends_after r m.unit.seg) ms) ≡ filter (unit_after r) (units_of ms)
+units_filter r [] = refl
+units_filter r (m ∷ ms) = by (units_filter r ms) (told (ends_after r m.unit.seg))
   where
-    by : segs_of (filter (λ m. ends_after r m.unit.seg) ms) ≡ filter (ends_after r) (segs_of ms) → Told (ends_after r m.unit.seg)
-        → segs_of (filter (λ m. ends_after r m.unit.seg) (m ∷ ms)) ≡ filter (ends_after r) (segs_of (m ∷ ms))
-    by more (yes e) = rw e (ap (λ us. m.unit.seg ∷ us) more)
+    by : units_of (filter (λ m. ends_after r m.unit.seg) ms) ≡ filter (unit_after r) (units_of ms) → Told (ends_after r m.unit.seg)
+        → units_of (filter (λ m. ends_after r m.unit.seg) (m ∷ ms)) ≡ filter (unit_after r) (units_of (m ∷ ms))
+    by more (yes e) = rw e (ap (λ us. m.unit ∷ us) more)
+    by more (no e) = rw e more
+
+segs_filter : (r : Point) (us : List Unit) → map (λ (u : Unit). u.seg) (filter (unit_after r) us) ≡ filter (ends_after r) (map (λ (u : Unit). u.seg) us)
+segs_filter r [] = refl
+segs_filter r (u ∷ us) = by (segs_filter r us) (told (ends_after r u.seg))
+  where
+    by : map (λ (u : Unit). u.seg) (filter (unit_after r) us) ≡ filter (ends_after r) (map (λ (u : Unit). u.seg) us) → Told (ends_after r u.seg)
+        → map (λ (u : Unit). u.seg) (filter (unit_after r) (u ∷ us)) ≡ filter (ends_after r) (map (λ (u : Unit). u.seg) (u ∷ us))
+    by more (yes e) = rw e (ap (λ ss. u.seg ∷ ss) more)
     by more (no e) = rw e more
 
 -- what was kept and what was added, moved
-pub all_moved : (r : Point) (bundle kept added stay : List Member) (entering : List Segment) → kept ≡ filter (λ m. ends_after r m.unit.seg) bundle → segs_of added ≡ segs_of kept ++ filter (ends_after r) entering
-    → IsPermutation added stay → IsPermutation (filter (ends_after r) (segs_of bundle ++ entering)) (segs_of stay)
+pub all_moved : (r : Point) (bundle kept added stay : List Member) (entering : List Unit) → kept ≡ filter (λ m. ends_after r m.unit.seg) bundle → units_of added ≡ units_of kept ++ filter (unit_after r) entering
+    → IsPermutation added stay → IsPermutation (filter (unit_after r) (units_of bundle ++ entering)) (units_of stay)
 all_moved r bundle kept added stay entering e f moved =
-    subst (λ (us : List Segment). IsPermutation us (segs_of stay))
-    (f ∙ ap (λ (ms : List Member). segs_of ms ++ filter (ends_after r) entering) e ∙ ap (λ us. us ++ filter (ends_after r) entering) (segs_filter r bundle) ∙ sym (filter-append (ends_after r) (segs_of bundle) entering))
-    (IsPermutation-map seg_of added stay moved)
+    subst (λ (us : List Unit). IsPermutation us (units_of stay))
+    (f ∙ ap (λ (ms : List Member). units_of ms ++ filter (unit_after r) entering) e ∙ ap (λ us. us ++ filter (unit_after r) entering) (units_filter r bundle) ∙ sym (filter-append (unit_after r) (units_of bundle) entering))
+    (IsPermutation-map (λ (m : Member). m.unit) added stay moved)
+
+-- the segments of the units of members are their segments
+segs_of_units : (ms : List Member) → map (λ (u : Unit). u.seg) (units_of ms) ≡ segs_of ms
+segs_of_units ms = map-map (λ (u : Unit). u.seg) (λ (m : Member). m.unit) ms
+
+pub same_segs : (a b : List Member) → units_of a ≡ units_of b → segs_of a ≡ segs_of b
+same_segs a b e = sym (segs_of_units a) ∙ ap (map (λ (u : Unit). u.seg)) e ∙ segs_of_units b
+
+pub segs_moved : (r : Point) (bundle stay : List Member) (entering : List Start) → IsPermutation (filter (unit_after r) (units_of bundle ++ map (λ (s : Start). s.unit) entering)) (units_of stay)
+    → IsPermutation (filter (ends_after r) (segs_of bundle ++ map (λ (s : Start). s.unit.seg) entering)) (segs_of stay)
+segs_moved r bundle stay entering moved =
+    subst (λ (us : List Segment). IsPermutation us (segs_of stay)) from
+    (subst (λ (us : List Segment). IsPermutation (map (λ (u : Unit). u.seg) (filter (unit_after r) (units_of bundle ++ map (λ (s : Start). s.unit) entering))) us) (segs_of_units stay)
+    (IsPermutation-map (λ (u : Unit). u.seg) (filter (unit_after r) (units_of bundle ++ map (λ (s : Start). s.unit) entering)) (units_of stay) moved))
+  where
+    from : map (λ (u : Unit). u.seg) (filter (unit_after r) (units_of bundle ++ map (λ (s : Start). s.unit) entering)) ≡ filter (ends_after r) (segs_of bundle ++ map (λ (s : Start). s.unit.seg) entering)
+    from =
+        segs_filter r (units_of bundle ++ map (λ (s : Start). s.unit) entering)
+        ∙ ap (filter (ends_after r))
+        (map-append (λ (u : Unit). u.seg) (units_of bundle) (map (λ (s : Start). s.unit) entering)
+        ∙ ap (λ us. us ++ map (λ (u : Unit). u.seg) (map (λ (s : Start). s.unit) entering)) (segs_of_units bundle)
+        ∙ ap (λ us. segs_of bundle ++ us) (map-map (λ (u : Unit). u.seg) (λ (s : Start). s.unit) entering))
+
+-- the units that stay are among those of the bundle and those that enter
+module _ (r : Point) (bundle stay : List Member) (entering : List Start) (moved : IsPermutation (filter (unit_after r) (units_of bundle ++ map (λ (s : Start). s.unit) entering)) (units_of stay)) (units : List Unit)
+    (from_bundle : All (λ m. Contains units m.unit) bundle) (from_entering : All (λ s. Contains units s.unit) entering) where
+  stays : (m : Member) → Contains stay m → Contains (units_of bundle) m.unit ⊎ Contains (map (λ (s : Start). s.unit) entering) m.unit
+  stays m c =
+      Contains-append_cases (units_of bundle) (map (λ (s : Start). s.unit) entering) m.unit
+      (filter_contains (unit_after r) (units_of bundle ++ map (λ (s : Start). s.unit) entering) m.unit
+      (Contains-permutation (units_of stay) (filter (unit_after r) (units_of bundle ++ map (λ (s : Start). s.unit) entering)) m.unit
+      (IsPermutation-sym (filter (unit_after r) (units_of bundle ++ map (λ (s : Start). s.unit) entering)) (units_of stay) moved) (contains_map (λ (m : Member). m.unit) stay m c))).0
+
+  known : (u : Unit) → Contains (units_of bundle) u ⊎ Contains (map (λ (s : Start). s.unit) entering) u → Contains units u
+  known u (inl c) =
+      let m = from_map (λ (m : Member). m.unit) bundle u c in
+      subst (λ v. Contains units v) m.2 (All-contains (λ m. Contains units m.unit) bundle m.0 from_bundle m.1)
+  known u (inr c) =
+      let s = from_map (λ (s : Start). s.unit) entering u c in
+      subst (λ v. Contains units v) s.2 (All-contains (λ s. Contains units s.unit) entering s.0 from_entering s.1)
+
+  pub stay_units : All (λ m. Contains units m.unit) stay
+  stay_units = all_of (λ m. Contains units m.unit) stay (λ m c. known m.unit (stays m c))
 
 -- sorted members turn left
 module _ (stay : List Member) (sorted : IsSorted member_cmp stay) where

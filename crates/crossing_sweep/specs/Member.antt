@@ -8,6 +8,7 @@ use Rattle.overlay_terms.specs.Plane.{Point, Segment, whole, point_cmp}
 use Rattle.exact_point.specs.Crossing.{turn_of}
 use Rattle.exact_point.proofs.OnSegment.{leads}
 use Rattle.arrange.specs.Directions.{Step, step_cmp_total}
+use Rattle.arrange.specs.declared.unit.Unit.{Unit}
 use Rattle.crossing_sweep.specs.declared.member.Member.{Member}
 
 step_of : Member → Step
@@ -41,6 +42,10 @@ member_po = partial_order_from_agreeing_total member_cmp member_total (λ p q. r
 -- the segment of a member
 abbrev pub seg_of : Member → Segment
 seg_of m = m.unit.seg
+
+-- the units of some members
+abbrev pub units_of : List Member → List Unit
+units_of members = map (λ m. m.unit) members
 
 -- the segments of some members
 abbrev pub segs_of : List Member → List Segment

@@ -5,7 +5,7 @@ ghost use Rattle.std.specs.List.{prefix_len};
 ghost use Rattle.std.specs.List.Sorted.{IsPermutation};
 ghost use Rattle.exact_point.specs.Crossing.{turn_of};
 ghost use Rattle.exact_point.specs.Place.{place, same_hpoint};
-ghost use Rattle.crossing_sweep.specs.Member.{seg_of, segs_of, ends_after};
+ghost use Rattle.crossing_sweep.specs.Member.{units_of, seg_of, segs_of, ends_after};
 
 use crate::member::{Begin, Member};
 use crate::start::Start;
@@ -29,7 +29,7 @@ pub fn turned(
     at: &HPoint,
     begin: &Begin,
 ) -> Result<Vec<Member>, AllocError>
-    ensures moved { IfOk result (λ stay. IsPermutation (filter (ends_after (place at.now)) (segs_of bundle.now ++ map (λ s. s.unit.seg) entering.now)) (segs_of stay.items)) }
+    ensures moved { IfOk result (λ stay. IsPermutation (filter (λ u. ends_after (place at.now) u.seg) (units_of bundle.now ++ map (λ s. s.unit) entering.now)) (units_of stay.items)) }
     ensures turned { IfOk result (λ stay. AllPairs (λ a b. pos 0 ≤ℤ turn_of a b) (segs_of stay.items)) }
 {
     let mut stay = staying(alloc, bundle, at)?;
@@ -65,7 +65,7 @@ fn enter(
     at: &HPoint,
     begin: &Begin,
 ) -> Result<(), AllocError>
-    ensures { OnOk result (segs_of stay.new.items ≡ segs_of stay.old.items ++ filter (ends_after (place at.now)) (map (λ s. s.unit.seg) entering.now)) }
+    ensures { OnOk result (units_of stay.new.items ≡ units_of stay.old.items ++ filter (λ u. ends_after (place at.now) u.seg) (map (λ s. s.unit) entering.now)) }
 {
     for start in entering {
         if ends_after(&start.unit.seg, at) {
