@@ -1,5 +1,5 @@
 -- Tiles that are read in the order of a catalog are as a file holds them.
-use Rattle.std.proofs.Common.{◌≡◌, inl, inr, ⊎_elim, ℕ, ◌+◌, ◌<◌, ◌==◌, ◌&&◌, ◌||◌, not, nat_lt, Bool, true, false, cond, List, [], ◌∷◌, ◌++◌, length, get_or, map, Option, Some, None, Ok, Err, refl, sym, ◌∙◌, ap, subst, arith}
+use Rattle.std.proofs.Common.{◌≡◌, inl, inr, ⊎_elim, ℕ, ◌+◌, ◌<◌, ◌&&◌, ◌||◌, not, nat_lt, Bool, true, false, cond, List, [], ◌∷◌, ◌++◌, length, get_or, map, Ok, Err, refl, sym, ◌∙◌, ap, subst, arith}
 use Rattle.std.specs.Prelude.{bytes_eq, IsTrue}
 use Rattle.std.proofs.lemmas.Bool.{cases_Bool, and_parts, and_from, or_cases, or_parts, or_left, or_right, cond-true, cond-false}
 use Rattle.std.proofs.lemmas.Bool.Decides.{nat_tests}
@@ -15,17 +15,12 @@ use Rattle.overlay_terms.specs.StoredTiles.{is_tile_before, AreStored}
 use Rattle.overlay_terms.proofs.KeptDerived.{derived_stands}
 use Rattle.layer_book.proofs.Closing.{near_index}
 use Rattle.layer_expr.specs.Name.{is_name}
-use Rattle.store_terms.specs.declared.damage.Damage.TheVariants.{LayerRefused, TileForm}
-use Rattle.store_terms.specs.Fields as fields
-use Rattle.store_terms.specs.Fields.{both, number, counted}
-use Rattle.store_terms.specs.Choices.{either}
-use Rattle.store_terms.specs.TileRecord.{NamedTile, column_of_tile, tile_of, piece, tile_of_record}
+use Rattle.store_terms.specs.declared.damage.Damage.TheVariants.{LayerRefused}
 use Rattle.tile_build.specs.declared.tile.Tile as code
 use Rattle.tile_build.specs.Tile.{tile_of as code_tile}
 use Rattle.record_form.specs.Image.{finished_of}
 use Rattle.std.proofs.lemmas.List.{map-append}
-use Rattle.store_terms.specs.Image.{or_fault, may_stand, is_accepted, refusal_of_keeping, with_layer}
-use Rattle.store_terms.proofs.FieldLemmas.{bound}
+use Rattle.store_terms.specs.Image.{may_stand, is_accepted, refusal_of_keeping, with_layer}
 use Rattle.root_reading.specs.Stored.{AreStoredTo}
 
 -- ---- a layer more
