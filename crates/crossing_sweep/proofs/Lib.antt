@@ -41,3 +41,5 @@ pub mod StayLemmas
 pub mod TurnedLemmas
 pub mod TakenLemmas
 pub mod SeamLemmas
+pub mod NodeCount
+pub mod UnderWay

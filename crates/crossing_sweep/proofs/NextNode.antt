@@ -1,5 +1,5 @@
 -- The next node after a place: the first of a finite list that has the place of each node.
-use Rattle.std.proofs.Common.{◌≡◌, ℕ, ℤ, pos, ◌<◌, ◌^◌, ◌*ℤ◌, ◌<ℤ◌, ◌≤ℤ◌, neg_ℤ, inl, inr, ◌⊎◌, true, false, List, [], ◌∷◌, refl, ap, sym, ◌∙◌, arith, get_or}
+use Rattle.std.proofs.Common.{◌≡◌, ℕ, ℤ, pos, ◌<◌, ◌≤◌, length, ◌^◌, ◌*ℤ◌, ◌<ℤ◌, ◌≤ℤ◌, neg_ℤ, inl, inr, ◌⊎◌, true, false, List, [], ◌∷◌, refl, ap, sym, ◌∙◌, arith, get_or}
 use Rattle.std.specs.Prelude.{Bool, IsTrue, All, Contains, int_lt, ◌&&◌, ◌||◌, not, map, flat_map, count_by, if◌then◌else◌}
 use Rattle.std.specs.List.{list_any}
 use Rattle.std.specs.Ordering.{is_lt, int_eq}
@@ -9,6 +9,7 @@ use Rattle.std.proofs.lemmas.Int.{ints}
 use Rattle.std.proofs.lemmas.Bool.{and_parts, and_from, or_cases, false≢true, false_from_ne_true}
 use Rattle.std.proofs.lemmas.List.Elements.{All-nil, All-cons, All-head, All-tail, All-append, All-map, All-contains}
 use Rattle.std.proofs.lemmas.List.Folds.{Any-from_list_any}
+use Rattle.std.proofs.lemmas.List.Sums.{count_by-le-length}
 use Rattle.overlay_terms.specs.Within.{IsWithin}
 use Rattle.overlay_terms.specs.Plane.{Point, Segment, whole, point_cmp, same_place, is_on, coordinate_max}
 use Rattle.overlay_terms.specs.Column.{border, columns}
@@ -201,10 +202,15 @@ module _ (segments : List Segment) (proper : All IsProper segments) where
       next = (first.0, record { small = small; node = r_parts.1; after = after_less first.0 r_parts.0; clear = none_before }, λ h. none_before z hz node less h)
 
   -- ---- how many of them come after a place
-  rest_of : Point → ℕ
+  pub rest_of : Point → ℕ
   rest_of q = count_by (λ c. int_lt (pos 0) c.w && is_lt (point_cmp q c)) places
 
-  fewer : (q r : Point) → pos 0 <ℤ q.w → pos 0 <ℤ r.w → IsTrue (is_node segments r) → point_cmp q r ≡ Less → rest_of r < rest_of q
+  -- as many as there are places, at most
+  pub few_rest : (q : Point) → rest_of q ≤ length places
+  unfolding rest_of
+  few_rest q = count_by-le-length (λ c. int_lt (pos 0) c.w && is_lt (point_cmp q c)) places
+
+  pub fewer : (q r : Point) → pos 0 <ℤ q.w → pos 0 <ℤ r.w → IsTrue (is_node segments r) → point_cmp q r ≡ Less → rest_of r < rest_of q
   unfolding rest_of
   fewer q r hq hr node less =
       let c : IsAmong places r = node_place r hr node in

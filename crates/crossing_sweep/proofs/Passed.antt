@@ -51,7 +51,7 @@ module _ (passed : List Point) (r : Point) where
       plus_zero i = omega arith
 
 -- ---- one more place
-module _ (segments : List Segment) (column : ℕ) (q r : Point) (passed : List Point) (is : ArePassed segments column q passed) (next : IsNextNode segments q r) (hq : pos 0 <ℤ q.w) (from : (border column *ℤ r.w) ≤ℤ r.x) where
+module _ (segments : List Segment) (column : ℕ) (q r : Point) (passed : List Point) (is : ArePassed segments column q passed) (next : IsNextNode segments q r) (hq : pos 0 <ℤ q.w) (from : (border column *ℤ r.w) ≤ℤ r.x) (within : IsUpTo column r) where
   hr : pos 0 <ℤ r.w
   hr = next.small.positive
 
@@ -80,6 +80,7 @@ module _ (segments : List Segment) (column : ℕ) (q r : Point) (passed : List P
     small = All-push IsSmall passed r is.small next.small;
     nodes = All-push (λ z. IsTrue (is_node segments z)) passed r is.nodes next.node;
     from = All-push (λ z. (border column *ℤ z.w) ≤ℤ z.x) passed r is.from from;
+    within = All-push (IsUpTo column) passed r is.within within;
     up_to = All-push (λ z. point_cmp r z ≡ Less → ⊥) passed r (λ i d l h. not_after_less (get_or passed i d) r (is.small i d l).positive hr (before_r i d l) h) (λ h. not_after_less r r hr hr h h);
     complete = complete;
   }

@@ -487,7 +487,7 @@ module _ (n : ℤ) (input : Input) (units : List Unit) (q r : Point) (under bund
 
   on_it_goes : Carries n input r (passed ++ r ∷ []) (under ++ stay ++ over) (rows ++ rows_of end bundle)
   on_it_goes = record {
-    passes = one_passed (segments_in input) input.column q r passed carries.passes next hq first.from;
+    passes = one_passed (segments_in input) input.column q r passed carries.passes next hq first.from first.up_to;
     members = All-append (IsCarried n input (passed ++ r ∷ []) r) (under ++ stay) over (All-append (IsCarried n input (passed ++ r ∷ []) r) under stay kept_under begun) kept_over;
     are_rows = record {
       sound = All-append (IsRow input (passed ++ r ∷ [])) rows (rows_of end bundle) (λ i d l. old_row (get_or rows i d) (carries.are_rows.sound i d l)) new_rows;

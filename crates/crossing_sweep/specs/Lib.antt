@@ -19,3 +19,4 @@ pub mod Rows
 pub mod RowLaws
 pub mod Testing
 pub mod Stepping
+pub mod Crossed

@@ -32,6 +32,7 @@ pub record ArePassed (segments : List Segment) (column : ℕ) (q : Point) (passe
   pub small : All IsSmall passed
   pub nodes : All (λ z. IsTrue (is_node segments z)) passed
   pub from : All (λ z. (border column *ℤ z.w) ≤ℤ z.x) passed
+  pub within : All (IsUpTo column) passed
   pub up_to : All (λ z. point_cmp q z ≡ Less → ⊥) passed
   pub complete : (p : Point) → pos 0 <ℤ p.w → IsTrue (is_node segments p) → (border column *ℤ p.w) ≤ℤ p.x → IsUpTo column p → (point_cmp q p ≡ Less → ⊥) → IsQueued passed p
 

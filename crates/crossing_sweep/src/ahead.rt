@@ -52,6 +52,7 @@ impl Ahead {
         ensures first { IfSome result (λ e. self.old ≡ e ∷ self.new) }
         ensures least { IfSome result (λ e. All (λ other. point_cmp (place e.0) (place other.0) ≡ Less) self.new) }
         ensures none { IsNone result → self.old ≡ [] }
+        ensures left { IsNone result → self.new ≡ [] }
     {
         self.places.pop_first()
     }

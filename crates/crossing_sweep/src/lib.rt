@@ -7,6 +7,7 @@ pub mod last_node;
 pub mod leaning;
 pub mod member;
 pub mod next_node;
+pub mod pass;
 pub mod passing;
 pub mod queue;
 pub mod row;
@@ -21,3 +22,6 @@ pub mod step;
 pub mod stepping;
 pub mod testing;
 pub mod units;
+
+pub use pass::{Crossed, cross};
+pub use row::Row;

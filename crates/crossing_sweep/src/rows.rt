@@ -1,6 +1,6 @@
 //! Laws of what a pass carries along: each function does nothing, and its contract is the law.
 
-ghost use Rattle.crossing_sweep.specs.RowLaws.{RowsAreSome, RowsBegin, RowsEnd, RowsGoOn, RowsInOrder, RowsTellOversize, UnitChangesMasks};
+ghost use Rattle.crossing_sweep.specs.RowLaws.{NodesAreFew, RowsAreSome, RowsBegin, RowsEnd, RowsGoOn, RowsInOrder, RowsTellOversize, UnitChangesMasks};
 
 /// Just after a place, what lies up to a unit is what lies under it, changed by the layers over the unit.
 pub fn unit_changes_masks()
@@ -36,4 +36,10 @@ pub fn rows_tell_oversize()
 /// Where no place is found ahead, the rows are the tile, and all nodes of the closed column are passed.
 pub fn rows_end()
     ensures { RowsEnd }
+{}
+
+/// The places passed are few: at most three for each two segments of the input, and one for each
+/// segment and border.
+pub fn nodes_are_few()
+    ensures { NodesAreFew }
 {}

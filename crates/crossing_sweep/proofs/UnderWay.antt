@@ -1,0 +1,405 @@
+-- A pass under way: how it begins, goes on from node to node, and what it has found at the end.
+use Rattle.std.proofs.Common.{◌≡◌, ℕ, ℤ, pos, ◌+◌, ◌-◌, ◌*◌, ◌<◌, ◌≤◌, ◌^◌, ◌*ℤ◌, ◌<ℤ◌, ◌≤ℤ◌, inl, inr, ◌⊎◌, Bool, true, false, ◌&&◌, ◌||◌, List, [], ◌∷◌, ◌++◌, length, get_or, map, refl, ap, sym, subst, ◌∙◌, arith}
+use Rattle.std.specs.Prelude.{IsTrue, All, AllPairs, Contains, not}
+use Rattle.std.specs.List.{list_any}
+use Rattle.std.specs.Ordering.{int_eq}
+use Rattle.std.specs.declared.cmp.Ordering.TheVariants.{Less}
+use Rattle.std.proofs.lemmas.Int.{ints}
+use Rattle.std.proofs.lemmas.Bool.{and_parts, both_ways, or_cases, or_left, or_right}
+use Rattle.std.proofs.lemmas.List.{map-append}
+use Rattle.std.proofs.lemmas.List.Elements.{All-nil, All-head, All-tail, All-map, All-append, All-push, All-weaker, All-contains, Contains-append_left}
+use Rattle.std.proofs.lemmas.List.Folds.{Any-from_list_any, list_any-from_Any}
+use Rattle.std.proofs.lemmas.List.Sorted.{All-permutation, length_permutation}
+use Rattle.std.proofs.lemmas.Nat.{mul-le}
+use Rattle.std.proofs.Math.ListN.{length-append}
+use Rattle.overlay_terms.specs.Plane.{Point, Segment, whole, point_cmp, same_place, is_on}
+use Rattle.overlay_terms.specs.Column.{columns, border}
+use Rattle.overlay_terms.specs.Tiles.{Input, is_end, is_on_border, is_vertical}
+use Rattle.overlay_terms.specs.TileLaws.{IsInput, IsProper}
+use Rattle.overlay_terms.proofs.InputNumbers.{less_back, less_times, last_turned}
+use Rattle.overlay_terms.proofs.Lists.{any_from, any_contains}
+use Rattle.overlay_terms.proofs.PlaceLemmas.{IsSamePlace, places_alike}
+use Rattle.exact_point.specs.Crossing.{IsCrossingOf}
+use Rattle.exact_point.specs.Place.{place}
+use Rattle.exact_point.specs.PlaceOf.{place_of}
+use Rattle.exact_point.specs.PointName.{HasPlace}
+use Rattle.exact_point.specs.declared.point.HPoint.{HPoint}
+use Rattle.exact_point.specs.declared.point_name.PointName.{PointName}
+use Rattle.exact_point.proofs.PlaceOrder.{one_positive, same_through, on_same, level_from}
+use Rattle.tile_laws.proofs.Statements.{segments_in}
+use Rattle.arrange.specs.declared.unit.Unit.{Unit}
+use Rattle.arrange.proofs.NodeLemmas.{one_of_two}
+use Rattle.crossing_sweep.specs.Leaning.{IsSteep, IsSmall}
+use Rattle.crossing_sweep.specs.Queue.{IsQueued}
+use Rattle.crossing_sweep.specs.Passing.{HasCome, IsEntry, IsStepTo, IsTaken}
+use Rattle.crossing_sweep.specs.Beginning.{foot}
+use Rattle.crossing_sweep.specs.Ahead.{points_of, AreKnownPlaces}
+use Rattle.crossing_sweep.specs.Start.{AreStarts}
+use Rattle.crossing_sweep.specs.Member.{segs_of}
+use Rattle.crossing_sweep.specs.Testing.{IsFoundIn}
+use Rattle.crossing_sweep.specs.Stepping.{segs_to_come, StandsBefore, IsStepped}
+use Rattle.crossing_sweep.specs.RowLaws.{AreAll}
+use Rattle.crossing_sweep.specs.Rows.{IsRow, AreSorted, BeginAt, Carries}
+use Rattle.crossing_sweep.specs.Crossed.{IsInner, IsCrossingAmong, IsSpan, AreCounted, HasFound, IsCaused, IsKey, IsUnderWay}
+use Rattle.crossing_sweep.specs.declared.member.Begin.{Begin}
+use Rattle.crossing_sweep.specs.declared.member.Member.{Member}
+use Rattle.crossing_sweep.specs.declared.start.Start.{Start}
+use Rattle.crossing_sweep.specs.declared.row.Row.{Row}
+use Rattle.crossing_sweep.specs.declared.testing.Search.{Search}
+use Rattle.crossing_sweep.proofs.Pairs.{all_first, all_second, pairs_second}
+use Rattle.crossing_sweep.proofs.KnownLemmas.{point_small}
+use Rattle.crossing_sweep.proofs.UnitStretchLemmas.{units_are_stretches}
+use Rattle.crossing_sweep.proofs.PassLemmas.{pass_goes_on, all_of}
+use Rattle.crossing_sweep.proofs.BeginLemmas.{pass_begins}
+use Rattle.crossing_sweep.proofs.TakenLemmas.{segs_parts}
+use Rattle.crossing_sweep.proofs.RowLemmas.{rows_go_on}
+use Rattle.crossing_sweep.proofs.NodeCount.{nodes_are_few}
+use Rattle.crossing_sweep.proofs.RowOrder.{rows_begin, rows_tell_oversize, rows_end}
+
+proper_segments : (input : Input) → IsInput input → All IsProper (segments_in input)
+proper_segments input valid = All-map IsProper (λ m. m.segment) input.marked valid.proper
+
+-- ---- a pass begins
+steep_enough : IsSteep (pos (2 ^ 200))
+steep_enough = omega (arith, ints)
+
+begins_way : (input : Input) (listed : Bool) (starts : List Start) (ahead : List (HPoint × PointName)) → IsInput input → AreStarts input starts → AreKnownPlaces input ahead → IsUnderWay input listed [] starts ahead [] [] 0
+begins_way input listed starts ahead valid are known = record {
+  valid = valid;
+  n = pos (2 ^ 200);
+  steep = steep_enough;
+  units = are.units;
+  are = are.are;
+  q = foot input.column;
+  come = pass_begins (pos (2 ^ 200)) (segments_in input) (map (λ (u : Unit). u.seg) are.units) input.column (segs_to_come starts) (points_of ahead) steep_enough (proper_segments input valid) (units_are_stretches input are.units valid are.are) valid.column are.met known.points;
+  entries = are.entries;
+  once = are.once;
+  ordered = are.ordered;
+  to_enter = are.among;
+  entered = All-nil (λ (m : Member). Contains are.units m.unit);
+  passed = [];
+  carries = rows_begin (pos (2 ^ 200)) input valid;
+  counted = refl;
+  few = omega arith;
+  unlisted = λ e. refl;
+  keys = λ i d l. let one = known.named i d l in record { named = one.0; told = one.1; caused = inl (known.fixed i d l) };
+  causes = All-nil (IsCaused input listed []);
+}
+
+-- with what is empty at first
+pub begins_there : (input : Input) (listed : Bool) (starts : List Start) (ahead : List (HPoint × PointName)) (status : List Member) (tests : List (Segment × Segment)) (rows : List Row) → IsInput input → AreStarts input starts → AreKnownPlaces input ahead
+    → status ≡ [] → tests ≡ [] → rows ≡ [] → IsUnderWay input listed status starts ahead tests rows 0
+begins_there input listed starts ahead status tests rows valid are known e f g =
+    let P : List Member → Type 0 = λ l. IsUnderWay input listed l starts ahead tests rows 0 in
+    let Q : List (Segment × Segment) → Type 0 = λ l. IsUnderWay input listed [] starts ahead l rows 0 in
+    let R : List Row → Type 0 = λ l. IsUnderWay input listed [] starts ahead [] l 0 in
+    subst P (sym e) (subst Q (sym f) (subst R (sym g) (begins_way input listed starts ahead valid are known)))
+
+-- ---- and goes on
+-- what was tested is tested after more tests
+more_among : (tests more : List (Segment × Segment)) (p : Point) → IsCrossingAmong tests p → IsCrossingAmong (tests ++ more) p
+more_among tests more p any =
+    any_from (λ (t : Segment × Segment). IsCrossingOf t.0 t.1 p) (tests ++ more) any.1 (Contains-append_left tests more any.1 (any_contains (λ (t : Segment × Segment). IsCrossingOf t.0 t.1 p) tests any)) any.4
+
+still_caused : (input : Input) (listed : Bool) (tests more : List (Segment × Segment)) (p : Point) → IsCaused input listed tests p → IsCaused input listed (tests ++ more) p
+still_caused input listed tests more p (inl h) = inl h
+still_caused input listed tests more p (inr h) = inr (λ e. more_among tests more p (h e))
+
+module _ (input : Input) (valid : IsInput input) (status after : List Member) (coming rest : List Start) (at : HPoint) (name : PointName) (begin : Begin) (old new : Search) (rows more_rows : List Row) (nodes : ℕ)
+    (way : IsUnderWay input old.listed status coming ((at, name) ∷ old.ahead) old.tests.items rows nodes) (least : All (λ e. point_cmp (place at) (place e.0) ≡ Less) old.ahead)
+    (named : begin.name ≡ name) (numbered : begin.number ≡ nodes) (stepped : IsStepped input at begin status after coming rest old new rows more_rows) where
+  abbrev u : List Member
+  u = stepped.under
+
+  abbrev b : List Member
+  b = stepped.bundle
+
+  abbrev o : List Member
+  o = stepped.over
+
+  abbrev s : List Member
+  s = stepped.stay
+
+  abbrev e : List Start
+  e = stepped.entering
+
+  key : IsKey input old.listed old.tests.items (at, name)
+  key = All-head (IsKey input old.listed old.tests.items) (at, name) old.ahead way.keys
+
+  stands : StandsBefore way.n input way.units way.q at status coming old.ahead
+  stands = record { valid = valid; steep = way.steep; are = way.are; come = way.come; least = least; entries = way.entries; once = way.once; ordered = way.ordered }
+
+  step : IsStepTo (segments_in input) input.column (place at) (segs_of u) (segs_of b) (segs_of o) (segs_to_come e) (segs_of s) (segs_to_come rest) (points_of old.ahead) (points_of new.ahead)
+  step = stepped.step way.n way.units way.q stands
+
+  status_parts : segs_of status ≡ segs_of u ++ segs_of b ++ segs_of o
+  status_parts = ap segs_of stepped.was ∙ segs_parts u b o
+
+  after_parts : segs_of u ++ segs_of s ++ segs_of o ≡ segs_of after
+  after_parts = sym (ap segs_of stepped.is ∙ segs_parts u s o)
+
+  coming_parts : segs_to_come coming ≡ segs_to_come e ++ segs_to_come rest
+  coming_parts = ap segs_to_come stepped.came ∙ map-append (λ (s : Start). s.unit.seg) e rest
+
+  abbrev unit_segs : List Segment
+  unit_segs = map (λ (u : Unit). u.seg) way.units
+
+  come : HasCome way.n (segments_in input) (map (λ (u : Unit). u.seg) way.units) input.column way.q (segs_of u ++ segs_of b ++ segs_of o) (segs_to_come e ++ segs_to_come rest) (place at ∷ points_of old.ahead)
+  come =
+      let P : List Segment → Type 0 = λ (l : List Segment). HasCome way.n (segments_in input) (map (λ (u : Unit). u.seg) way.units) input.column way.q l (segs_to_come coming) (place at ∷ points_of old.ahead) in
+      let Q : List Segment → Type 0 = λ (l : List Segment). HasCome way.n (segments_in input) (map (λ (u : Unit). u.seg) way.units) input.column way.q (segs_of u ++ segs_of b ++ segs_of o) l (place at ∷ points_of old.ahead) in
+      subst Q coming_parts (subst P status_parts way.come)
+
+  taken : IsTaken way.n (segments_in input) (map (λ (u : Unit). u.seg) way.units) input.column way.q (place at) (segs_of u ++ segs_of s ++ segs_of o) (segs_to_come rest) (points_of new.ahead)
+  taken =
+      pass_goes_on way.n (segments_in input) (map (λ (u : Unit). u.seg) way.units) input.column way.q (place at) (segs_of u) (segs_of b) (segs_of o) (segs_to_come e) (segs_of s) (segs_to_come rest) (points_of old.ahead) (points_of new.ahead)
+      way.steep (proper_segments input valid) (units_are_stretches input way.units valid way.are) come step
+
+  come_after : HasCome way.n (segments_in input) (map (λ (u : Unit). u.seg) way.units) input.column (place at) (segs_of after) (segs_to_come rest) (points_of new.ahead)
+  come_after =
+      let P : List Segment → Type 0 = λ (l : List Segment). HasCome way.n (segments_in input) (map (λ (u : Unit). u.seg) way.units) input.column (place at) l (segs_to_come rest) (points_of new.ahead) in
+      subst P after_parts taken.come
+
+  -- ---- the members
+  entered_parts : All (λ m. Contains way.units m.unit) (u ++ b ++ o)
+  entered_parts = subst (λ (l : List Member). All (λ m. Contains way.units m.unit) l) stepped.was way.entered
+
+  abbrev IsOfUnit : Member → Type 0
+  IsOfUnit m = Contains way.units m.unit
+
+  stay_units : All (λ m. Contains way.units m.unit) s
+  stay_units =
+      stepped.among way.units (all_second IsOfUnit u b (all_first IsOfUnit (u ++ b) o entered_parts))
+      (all_first (λ (s : Start). Contains way.units s.unit) e rest (subst (λ (l : List Start). All (λ s. Contains way.units s.unit) l) stepped.came way.to_enter))
+
+  after_units : All (λ m. Contains way.units m.unit) after
+  after_units =
+      subst (λ (l : List Member). All (λ m. Contains way.units m.unit) l) (sym stepped.is)
+      (All-append IsOfUnit (u ++ s) o (All-append IsOfUnit u s (all_first IsOfUnit u b (all_first IsOfUnit (u ++ b) o entered_parts)) stay_units) (all_second IsOfUnit (u ++ b) o entered_parts))
+
+  begin_at : BeginAt input way.units (place at) way.passed u s begin
+  begin_at = record {
+    named = let P : PointName → Type 0 = λ x. HasPlace x in subst P (sym named) key.named;
+    at = ap place_of named ∙ sym key.told;
+    number = numbered ∙ way.counted;
+    nodal = record { small = point_small at; few = at.w_high };
+    among = stay_units;
+    begun = stepped.begun;
+  }
+
+  carries : Carries way.n input (place at) (way.passed ++ place at ∷ []) after more_rows
+  carries =
+      let P : List Member → Type 0 = λ (l : List Member). Carries way.n input way.q way.passed l rows in
+      let Q : List Member → Type 0 = λ (l : List Member). Carries way.n input (place at) (way.passed ++ place at ∷ []) l more_rows in
+      let R : List Row → Type 0 = λ (l : List Row). Carries way.n input (place at) (way.passed ++ place at ∷ []) (u ++ s ++ o) l in
+      subst Q (sym stepped.is)
+      (subst R (sym stepped.closed)
+      (rows_go_on way.n input way.units way.q (place at) u b o s (segs_to_come e) (segs_to_come rest) (points_of old.ahead) (points_of new.ahead) way.passed rows begin way.steep valid way.are come step begin_at (subst P stepped.was way.carries)))
+
+  -- ---- the units to come
+  abbrev ComesLater : Start → Start → Type 0
+  ComesLater s t = ¬ (point_cmp (place t.at) (place s.at) ≡ Less)
+
+  abbrev AreTwo : Start → Start → Type 0
+  AreTwo s t = ¬ (s.unit.seg ≡ t.unit.seg)
+
+  -- ---- the tests
+  abbrev more : List (Segment × Segment)
+  more = stepped.tested.more
+
+  still : (p : Point) → IsCaused input old.listed old.tests.items p → IsCaused input new.listed new.tests.items p
+  still p h =
+      let P : List (Segment × Segment) → Type 0 = λ (l : List (Segment × Segment)). IsCaused input new.listed l p in
+      let Q : Bool → Type 0 = λ (l : Bool). IsCaused input l (old.tests.items ++ stepped.tested.more) p in
+      subst P (sym stepped.tested.tests) (subst Q (sym stepped.tested.listed) (still_caused input old.listed old.tests.items stepped.tested.more p h))
+
+  new_key : (x : HPoint × PointName) → Contains old.ahead x ⊎ IsFoundIn input.column (place at) (segs_of after) old.listed new.tests.items x → IsKey input new.listed new.tests.items x
+  new_key x (inl c) =
+      let is = All-contains (IsKey input old.listed old.tests.items) old.ahead x (All-tail (IsKey input old.listed old.tests.items) (at, name) old.ahead way.keys) c in
+      record { named = is.named; told = is.told; caused = still (place x.0) is.caused }
+  new_key x (inr is) = record {
+    named = is.found.named;
+    told = is.found.told;
+    caused = inr (λ l. any_from (λ (t : Segment × Segment). IsCrossingOf t.0 t.1 (place x.0)) new.tests.items (is.lower, is.upper) (is.told (sym stepped.tested.listed ∙ l)) is.found.crossing);
+  }
+
+  few : length new.tests.items ≤ 2 * (nodes + 1)
+  few =
+      let long : length new.tests.items ≡ length old.tests.items + length stepped.tested.more = ap length stepped.tested.tests ∙ length-append old.tests.items stepped.tested.more in
+      let two : length stepped.tested.more ≤ 2 = stepped.tested.few in
+      omega (arith, long, two, way.few)
+
+  unlisted : new.listed ≡ false → new.tests.items ≡ []
+  unlisted l =
+      let none : old.listed ≡ false = sym stepped.tested.listed ∙ l in
+      stepped.tested.tests ∙ ap (λ (l : List (Segment × Segment)). l ++ stepped.tested.more) (way.unlisted none) ∙ stepped.tested.unlisted none
+
+  pub goes_way : IsUnderWay input new.listed after rest new.ahead new.tests.items more_rows (nodes + 1)
+  goes_way = record {
+    valid = valid;
+    n = way.n;
+    steep = way.steep;
+    units = way.units;
+    are = way.are;
+    q = place at;
+    come = come_after;
+    entries = all_second (λ (s : Start). IsEntry input.column s.unit.seg (place s.at)) e rest (subst (λ (l : List Start). All (λ s. IsEntry input.column s.unit.seg (place s.at)) l) stepped.came way.entries);
+    once = pairs_second AreTwo e rest (subst (λ (l : List Start). AllPairs AreTwo l) stepped.came way.once);
+    ordered = pairs_second ComesLater e rest (subst (λ (l : List Start). AllPairs ComesLater l) stepped.came way.ordered);
+    to_enter = all_second (λ (s : Start). Contains way.units s.unit) e rest (subst (λ (l : List Start). All (λ s. Contains way.units s.unit) l) stepped.came way.to_enter);
+    entered = after_units;
+    passed = way.passed ++ place at ∷ [];
+    carries = carries;
+    counted = ap (λ k. k + 1) way.counted ∙ sym (length-append way.passed (place at ∷ []));
+    few = few;
+    unlisted = unlisted;
+    keys = all_of (IsKey input new.listed new.tests.items) new.ahead (λ x c. new_key x (stepped.tested.only x c));
+    causes = All-push (IsCaused input new.listed new.tests.items) way.passed (place at) (λ i d l. still (get_or way.passed i d) (way.causes i d l)) (still (place at) key.caused);
+  }
+
+-- ---- what it has found
+-- an end at one of two same places is one at the other
+end_there : (segments : List Segment) (p z : Point) → pos 0 <ℤ p.w → pos 0 <ℤ z.w → IsTrue (same_place p z) → is_end segments z ≡ true → is_end segments p ≡ true
+end_there segments p z hp hz e h =
+    let which = Any-from_list_any (λ s. same_place z (whole s.left) || same_place z (whole s.right)) segments h in
+    list_any-from_Any (λ s. same_place p (whole s.left) || same_place p (whole s.right)) segments
+    (any_from (λ s. (same_place p (whole s.left) || same_place p (whole s.right)) ≡ true) segments which.1 (any_contains (λ s. (same_place z (whole s.left) || same_place z (whole s.right)) ≡ true) segments which)
+    (by which.1 (or_cases (same_place z (whole which.1.left)) (same_place z (whole which.1.right)) which.4)))
+  where
+    by : (s : Segment) → (same_place z (whole s.left) ≡ true) ⊎ (same_place z (whole s.right) ≡ true) → (same_place p (whole s.left) || same_place p (whole s.right)) ≡ true
+    by s (inl f) = or_left (same_place p (whole s.left)) (same_place p (whole s.right)) (same_through p z (whole s.left) hp hz one_positive e f)
+    by s (inr f) = or_right (same_place p (whole s.left)) (same_place p (whole s.right)) (same_through p z (whole s.right) hp hz one_positive e f)
+
+-- no place of a border lies strictly between the borders of a column
+not_on_border : (segments : List Segment) (k : ℕ) (p z : Point) → pos 0 <ℤ p.w → pos 0 <ℤ z.w → IsTrue (same_place p z) → (border k *ℤ p.w) <ℤ p.x → p.x <ℤ (border (k + 1) *ℤ p.w) → is_on_border segments z ≡ true → ⊥
+not_on_border segments k p z hp hz e low high on =
+    let parts = and_parts (list_any (λ j. int_eq z.x (border j *ℤ z.w)) columns) (list_any (λ s. is_on s z && not (is_vertical s)) segments) on in
+    let which = Any-from_list_any (λ j. int_eq z.x (border j *ℤ z.w)) columns parts.0 in
+    at_one which.1 (level_from z.x (border which.1 *ℤ z.w) which.4)
+  where
+    alike : IsSamePlace p z
+    alike = places_alike p z hp hz e
+
+    under_it : (b c x w y v : ℤ) → pos 0 <ℤ v → x *ℤ v ≡ y *ℤ w → y ≡ c *ℤ v → (b *ℤ w) <ℤ x → (b *ℤ w) <ℤ (c *ℤ w)
+    under_it b c x w y v hv f g h = less_back (b *ℤ w) (c *ℤ w) v hv (omega (arith, ints, f, ap (λ t. t *ℤ w) g, last_turned c v w, less_times (b *ℤ w) x v hv h))
+
+    over_it : (b c x w y v : ℤ) → pos 0 <ℤ v → x *ℤ v ≡ y *ℤ w → y ≡ c *ℤ v → x <ℤ (b *ℤ w) → (c *ℤ w) <ℤ (b *ℤ w)
+    over_it b c x w y v hv f g h = less_back (c *ℤ w) (b *ℤ w) v hv (omega (arith, ints, f, ap (λ t. t *ℤ w) g, last_turned c v w, less_times x (b *ℤ w) v hv h))
+
+    at_one : (j : ℕ) → z.x ≡ border j *ℤ z.w → ⊥
+    at_one j f =
+        let after_low : border k <ℤ border j = less_back (border k) (border j) p.w hp (under_it (border k) (border j) p.x p.w z.x z.w hz alike.x_level f low) in
+        let before_high : border j <ℤ border (k + 1) = less_back (border j) (border (k + 1)) p.w hp (over_it (border (k + 1)) (border j) p.x p.w z.x z.w hz alike.x_level f high) in
+        by after_low before_high (one_of_two j k (most after_low) (most before_high))
+      where
+        most : {a b : ℤ} → a <ℤ b → a ≤ℤ b
+        most {a} {b} h = omega (arith, ints, h)
+
+        not_less : (a : ℤ) → a <ℤ a → ⊥
+        not_less a h = omega (arith, ints, h)
+
+        by : border k <ℤ border j → border j <ℤ border (k + 1) → (j ≡ k) ⊎ (j ≡ k + 1) → ⊥
+        by h l (inl g) = not_less (border k) (let P : ℕ → Type 0 = λ i. border k <ℤ border i in subst P g h)
+        by h l (inr g) = not_less (border (k + 1)) (let P : ℕ → Type 0 = λ i. border i <ℤ border (k + 1) in subst P g l)
+
+module _ (input : Input) (valid : IsInput input) (listed : Bool) (status : List Member) (coming : List Start) (ahead : List (HPoint × PointName)) (tests : List (Segment × Segment)) (rows sorted : List Row) (nodes cap : ℕ)
+    (way : IsUnderWay input listed status coming ahead tests rows nodes) (ended : (ahead ≡ []) ⊎ (cap < length rows)) (are : AreSorted rows sorted) where
+  as_many : length sorted ≡ length rows
+  as_many = length_permutation rows sorted are.moved
+
+  spans : All IsSpan sorted
+  spans =
+      All-weaker (IsRow input way.passed) IsSpan
+      (λ row is. record {
+        from_named = is.from.named;
+        to_named = is.to.named;
+        from_positive = is.boundary.piece.from_positive;
+        to_positive = is.boundary.piece.to_positive;
+        from_on = is.from_on;
+        to_on = is.to_on;
+        in_order = is.boundary.piece.in_order;
+      })
+      sorted (All-permutation (IsRow input way.passed) rows sorted are.moved way.carries.are_rows.sound)
+
+  none_ahead : length sorted ≤ cap → ahead ≡ []
+  none_ahead few = by ended
+    where
+      by : (ahead ≡ []) ⊎ (cap < length rows) → ahead ≡ []
+      by (inl e) = e
+      by (inr h) = absurd (omega (arith, h, few, as_many))
+
+  at_end : length sorted ≤ cap → AreAll input way.passed sorted
+  at_end few =
+      let P : List (HPoint × PointName) → Type 0 = λ (l : List (HPoint × PointName)). HasCome way.n (segments_in input) (map (λ (u : Unit). u.seg) way.units) input.column way.q (segs_of status) (segs_to_come coming) (points_of l) in
+      rows_end way.n input way.units way.q status (segs_to_come coming) way.passed rows sorted way.steep valid (subst P (none_ahead few) way.come) way.carries are
+
+  counted : AreCounted input (length sorted ≤ cap) nodes
+  counted = record {
+    places = way.passed;
+    counted = way.counted;
+    ordered = way.carries.passes.ordered;
+    nodes = λ i d l. record { positive = (way.carries.passes.small i d l).positive; node = way.carries.passes.nodes i d l; from = way.carries.passes.from i d l; up_to = way.carries.passes.within i d l };
+    all = λ few p is. (at_end few).nodes p is.positive is.node is.from is.up_to;
+  }
+
+  crossings : listed ≡ true → length sorted ≤ cap → (p : Point) → IsInner input p → IsCrossingAmong tests p
+  crossings l few p is = by ((at_end few).nodes p is.positive is.node (most (border input.column *ℤ p.w) p.x is.after_border) (most p.x (border (input.column + 1) *ℤ p.w) is.before_border))
+    where
+      most : (a b : ℤ) → a <ℤ b → a ≤ℤ b
+      most a b h = omega (arith, ints, h)
+
+      by : IsQueued way.passed p → IsCrossingAmong tests p
+      by any = because (All-contains (IsCaused input listed tests) way.passed any.1 way.causes among)
+        where
+          among : Contains way.passed any.1
+          among = any_contains (λ z. IsTrue (same_place p z)) way.passed any
+
+          hz : pos 0 <ℤ any.1.w
+          hz = (All-contains IsSmall way.passed any.1 way.carries.passes.small among).positive
+
+          fixed : (is_end (segments_in input) any.1 ≡ true) ⊎ (is_on_border (segments_in input) any.1 ≡ true) → ⊥
+          fixed (inl h) = both_ways (is_end (segments_in input) p) is.no_end (end_there (segments_in input) p any.1 is.positive hz any.4 h)
+          fixed (inr h) = not_on_border (segments_in input) input.column p any.1 is.positive hz any.4 is.after_border is.before_border h
+
+          moved : (t : Segment × Segment) → IsCrossingOf t.0 t.1 any.1 → IsCrossingOf t.0 t.1 p
+          moved t c = record { not_parallel = c.not_parallel; on_first = on_same t.0 p any.1 is.positive hz any.4 ∙ c.on_first; on_second = on_same t.1 p any.1 is.positive hz any.4 ∙ c.on_second }
+
+          because : IsCaused input listed tests any.1 → IsCrossingAmong tests p
+          because (inl h) = absurd (fixed (or_cases (is_end (segments_in input) any.1) (is_on_border (segments_in input) any.1) h))
+          because (inr h) = let c = h l in any_from (λ (t : Segment × Segment). IsCrossingOf t.0 t.1 p) tests c.1 (any_contains (λ (t : Segment × Segment). IsCrossingOf t.0 t.1 any.1) tests c) (moved c.1 c.4)
+
+  pub ends_way : HasFound input cap listed sorted tests nodes
+  ends_way = record {
+    spans = spans;
+    tile = λ few. (at_end few).tile;
+    too_many = λ more. rows_tell_oversize way.n input way.q way.passed status rows sorted cap valid way.carries are (omega (arith, more, as_many));
+    are_counted = counted;
+    few = way.few;
+    unlisted = way.unlisted;
+    crossings = crossings;
+  }
+
+-- ---- numbers that fit
+-- no more nodes are counted than there can be
+pub count_most : (input : Input) {listed : Bool} {status : List Member} {coming : List Start} {ahead : List (HPoint × PointName)} {tests : List (Segment × Segment)} {rows : List Row} (nodes : ℕ) → IsUnderWay input listed status coming ahead tests rows nodes
+    → nodes ≤ length input.marked * (length input.marked * 3 + 17)
+count_most input nodes way =
+    most nodes (length way.passed) (length input.marked * (length input.marked * 3 + 17)) way.counted (nodes_are_few input way.q way.passed way.valid way.carries.passes)
+  where
+    most : (k p m : ℕ) → k ≡ p → p ≤ m → k ≤ m
+    most k p m e h = omega (arith, e, h)
+
+-- one more leaves fewer to come
+pub fewer_left : (m old new : ℕ) → new ≡ old + 1 → new ≤ m → m - new < m - old
+fewer_left m old new e h = omega (arith, e, h)
+
+-- so few nodes are counted that one more fits
+pub count_fits : (input : Input) {listed : Bool} {status : List Member} {coming : List Start} {ahead : List (HPoint × PointName)} {tests : List (Segment × Segment)} {rows : List Row} (nodes n : ℕ) → IsUnderWay input listed status coming ahead tests rows nodes
+    → length input.marked ≡ n → n * 40 < 9223372036854775808 → nodes + 1 < 2 ^ 128
+count_fits input nodes n way long few =
+    let small : n ≤ 230584300921369396 = omega (arith, few) in
+    let product : n * (n * 3 + 17) ≤ 230584300921369396 * (230584300921369396 * 3 + 17) = mul-le n (n * 3 + 17) 230584300921369396 (230584300921369396 * 3 + 17) small (omega (arith, small)) in
+    fits nodes (length input.marked * (length input.marked * 3 + 17)) (n * (n * 3 + 17)) (count_most input nodes way) (ap (λ m. m * (m * 3 + 17)) long) product
+  where
+    fits : (k m o : ℕ) → k ≤ m → m ≡ o → o ≤ 230584300921369396 * (230584300921369396 * 3 + 17) → k + 1 < 2 ^ 128
+    fits k m o h f l = omega (arith, h, f, l)
