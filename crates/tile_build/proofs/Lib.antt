@@ -2,3 +2,4 @@ pub mod PieceLemmas
 pub mod SortLemmas
 pub mod BoundaryLemmas
 pub mod SameLemmas
+pub mod CountedLemmas

@@ -1,3 +1,4 @@
 pub mod Boundary
 pub mod Piece
 pub mod Tile
+pub mod Counted

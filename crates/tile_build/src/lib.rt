@@ -3,10 +3,14 @@
 
 pub mod building;
 pub mod built;
+pub mod counted;
+pub mod counting;
 pub mod piece;
 pub mod tile;
 
 pub use building::build;
 pub use built::{Built, PIECES_MAX};
+pub use counted::Counted;
+pub use counting::build_counted;
 pub use piece::Piece;
 pub use tile::Tile;

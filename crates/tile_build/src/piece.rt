@@ -5,6 +5,7 @@ ghost use Rattle.exact_point.specs.Place.{place};
 ghost use Rattle.exact_point.specs.NamedPiece.{ends_of};
 
 use arrange::Elementary;
+use crossing_sweep::row::Row;
 use exact_point::side::side;
 use exact_point::{HPoint, PointName, on, x_cmp};
 use plane_base::Seg;
@@ -98,6 +99,18 @@ impl Piece {
             support: piece.support,
             from: piece.from,
             to: piece.to,
+        }
+    }
+
+    /// The row of a pass as a piece of the boundary.
+    pub(crate) fn of_row(row: &Row) -> Piece
+        requires { IsBetween row.now.support row.now.from row.now.to }
+        ensures { result ≡ record { support = row.now.support; from = row.now.from; to = row.now.to } }
+    {
+        Piece {
+            support: row.support,
+            from: row.from,
+            to: row.to,
         }
     }
 
