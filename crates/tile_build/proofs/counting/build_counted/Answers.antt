@@ -1,5 +1,5 @@
 use Rattle.std.proofs.Common.{◌<◌, ◌≤◌, ◌≡◌, List, map, length, subst, sym, ap, ◌∙◌, arith}
-use Rattle.std.specs.Prelude.{All, Unit}
+use Rattle.std.specs.Prelude.{All}
 use Rattle.crossing_sweep.specs.Crossed.{HasFound}
 use Rattle.crossing_sweep.specs.Rows.{row_ends}
 use Rattle.crossing_sweep.specs.declared.row.Row.{Row}
