@@ -1,6 +1,6 @@
 -- What a tile's building tells beside the tile: the nodes, and the pairs of neighbours that were tested.
-use Rattle.std.specs.Prelude.{ℕ, ◌*◌, ◌≤◌, List, length}
-use Rattle.overlay_terms.specs.Plane.{Point, Segment}
+use Rattle.std.specs.Prelude.{ℕ, ◌*◌, ◌≤◌, length}
+use Rattle.overlay_terms.specs.Plane.{Point}
 use Rattle.overlay_terms.specs.Histories.{IsTileAt}
 use Rattle.overlay_terms.specs.Tiles.{Input}
 use Rattle.crossing_sweep.specs.Crossed.{IsInner, IsCrossingAmong, AreCounted}

@@ -1,16 +1,12 @@
 //! Building a tile from neighbours alone, and counting what it takes.
-ghost use Rattle.std.specs.Prelude.{◌≡◌, map, All, IfOk};
-ghost use Rattle.exact_point.specs.NamedPiece.{ends_of};
-ghost use Rattle.crossing_sweep.specs.Rows.{row_ends};
+ghost use Rattle.std.specs.Prelude.{IfOk};
 ghost use Rattle.tile_build.specs.Counted.{IsCounted};
-ghost use Rattle.tile_build.specs.Piece.{IsBetween};
 
+use crate::building::pieces_of;
 use crate::counted::Counted;
-use crate::piece::Piece;
 use crate::tile::Tile;
 use arrange::TileInput;
 use crossing_sweep::pass::cross;
-use crossing_sweep::row::Row;
 use std::alloc::{AllocError, Global};
 
 /// The tile of an input as `build` makes it, by one pass over the column that tests neighbours
@@ -32,16 +28,4 @@ pub fn build_counted(alloc: Global, input: &TileInput, cap: usize) -> Result<Cou
         tests: found.tests,
         nodes: found.nodes,
     })
-}
-
-/// Rows as pieces of the boundary, in their order.
-fn pieces_of(alloc: Global, rows: &[Row]) -> Result<Vec<Piece>, AllocError>
-    requires { All (λ row. IsBetween row.support row.from row.to) rows.now }
-    ensures { IfOk result (λ list. map ends_of list.items ≡ map row_ends rows.now) }
-{
-    let mut list = Vec::new(alloc);
-    for row in rows {
-        list.push(Piece::of_row(row))?;
-    }
-    Ok(list)
 }

@@ -1,6 +1,5 @@
-use Rattle.std.proofs.Common.{◌<◌, ◌≤◌, ◌≡◌, List, map, length, subst, sym, ap, ◌∙◌, arith}
+use Rattle.std.proofs.Common.{◌<◌, ◌≤◌, ◌≡◌, List, map, length, true, refl, subst, sym, ap, ◌∙◌, arith}
 use Rattle.std.specs.Prelude.{All}
-use Rattle.crossing_sweep.specs.Crossed.{HasFound}
 use Rattle.crossing_sweep.specs.Rows.{row_ends}
 use Rattle.crossing_sweep.specs.declared.row.Row.{Row}
 use Rattle.exact_point.specs.NamedPiece.{ends_of}
@@ -14,7 +13,7 @@ returns-then-len-cap c =
     let more : c.args.cap < length c.in_ok-found.found.rows.items = omega arith in
     record {
       tile = found.too_many more;
-      nodes = counted_for c.args.input.now c.args.cap c.in_ok-found.found.rows.items c.in_ok-found.found.tests.items c.in_ok-found.found.nodes found ⊥ (λ h. absurd h);
+      nodes = counted_for c.args.input.now c.args.cap true c.in_ok-found.found.rows.items c.in_ok-found.found.tests.items c.in_ok-found.found.nodes found ⊥ (λ h. absurd h);
       few = found.few;
       crossings = λ h. absurd h;
     }
@@ -31,8 +30,8 @@ returns c =
     let few : length rows ≤ c.args.cap = omega arith in
     let ends : map ends_of c.in_ok-pieces.pieces.items ≡ map row_ends rows = c.in_ok-pieces.ensures ∙ ap (map row_ends) c.deref.ensures.value in
     record {
-      tile = tile_for c.args.input.now c.args.cap rows c.in_ok-found.found.tests.items c.in_ok-found.found.nodes found few (map ends_of c.in_ok-pieces.pieces.items) ends;
-      nodes = counted_for c.args.input.now c.args.cap rows c.in_ok-found.found.tests.items c.in_ok-found.found.nodes found (Unit {0}) (λ h. few);
+      tile = tile_for c.args.input.now c.args.cap true rows c.in_ok-found.found.tests.items c.in_ok-found.found.nodes found few (map ends_of c.in_ok-pieces.pieces.items) ends;
+      nodes = counted_for c.args.input.now c.args.cap true rows c.in_ok-found.found.tests.items c.in_ok-found.found.nodes found (Unit {0}) (λ h. few);
       few = found.few;
-      crossings = crossings_for c.args.input.now c.args.cap rows c.in_ok-found.found.tests.items c.in_ok-found.found.nodes found (Unit {0}) (λ h. few);
+      crossings = crossings_for c.args.input.now c.args.cap true rows c.in_ok-found.found.tests.items c.in_ok-found.found.nodes found refl (Unit {0}) (λ h. few);
     }

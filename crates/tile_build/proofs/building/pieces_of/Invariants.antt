@@ -1,7 +1,7 @@
 use Rattle.std.proofs.Common.{◌≡◌, map, take}
 use Rattle.exact_point.specs.NamedPiece.{ends_of}
 use Rattle.crossing_sweep.specs.Rows.{row_ends}
-use Rattle.tile_build.proofs.counting.pieces_of.Given as goal
+use Rattle.tile_build.proofs.building.pieces_of.Given as goal
 
 -- the first rows are pieces
 abbrev pub invariant-loop-row : goal.invariant-loop-row
