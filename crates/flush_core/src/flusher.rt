@@ -1,10 +1,10 @@
 //! A store, and the number of the version that is stored.
-ghost use Rattle.std.specs.Prelude.{◌≡◌, ◌↔◌, ◌≤◌, false, Err, IfOk, OnOk, OnErr, IsErrOf, IfErr};
+ghost use Rattle.std.specs.Prelude.{◌≡◌, ◌↔◌, ◌≤◌, ℕ, false, Err, IfOk, OnOk, OnErr, IsErrOf, IfErr};
 ghost use Rattle.disk_model.specs.Disk.{Failed};
 ghost use Rattle.store_terms.specs.Roots.{sequence_max};
 ghost use Rattle.root_store.specs.Beginning.{IsReason};
 ghost use Rattle.root_store.specs.Kept.{Kept};
-ghost use Rattle.root_store.specs.Running.{Stands, Runs, Stepped, Counts, calls_left, is_busy, fault_in};
+ghost use Rattle.root_store.specs.Running.{Stands, Runs, KeepsTo, Stepped, Counts, calls_left, is_busy, fault_in};
 ghost use Rattle.flush_core.specs.Stored.{stored_after, IsCommitOf, HasRoomFor, HasNoRoomFor, calls_of};
 
 use crate::imaging::image_of;
@@ -51,6 +51,8 @@ impl<D: Disk> Flusher<D> {
         ensures begun { (x : Kept) → Stands D.Disk self.old.commit x → OnOk result ((y : Kept) × IsCommitOf version.now y × Runs D.Disk self.new.commit x y) }
         ensures stored { self.new.stored ≡ self.old.stored }
         ensures begins { OnOk result (self.new.commit.phase ≡ Phase.Close) }
+        // The blocks that the file may have stay as many.
+        ensures blocks { (limit : ℕ) → KeepsTo limit self.old.commit → KeepsTo limit self.new.commit }
         // So many calls lead to Done.
         ensures calls { OnOk result (calls_left self.new.commit ≡ calls_of version.now) }
         ensures disk { self.new.commit.disk ≡ self.old.commit.disk }
@@ -82,6 +84,8 @@ impl<D: Disk> Flusher<D> {
         ensures moves { (x y : Kept) → Runs D.Disk self.old.commit x y → Stepped D.Disk self.old.commit self.new.commit result x y }
         ensures stored { self.new.stored ≡ stored_after result self.old.stored }
         ensures honest { D.is_honest self.new.commit.disk ↔ D.is_honest self.old.commit.disk }
+        // The blocks that the file may have stay as many.
+        ensures blocks { (limit : ℕ) → KeepsTo limit self.old.commit → KeepsTo limit self.new.commit }
         // One device call fewer is left, until Done.
         ensures counted { IfOk result (λ p. Counts p (calls_left self.old.commit) (calls_left self.new.commit)) }
         ensures idle { self.old.commit.phase ≡ Phase.Idle → (result ≡ Ok Progress.Idle) × (self.new ≡ self.old) }

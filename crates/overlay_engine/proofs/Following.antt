@@ -1,9 +1,11 @@
 -- What each step makes of the version and the store, whatever the disk does.
-use Rattle.std.proofs.Common.{◌≡◌, ◌⊎◌, inl, inr, ◌≤◌, sym, ap, subst, arith}
+use Rattle.std.proofs.Common.{◌≡◌, ◌⊎◌, inl, inr, ◌≤◌, ℕ, sym, ap, subst, arith}
 use Rattle.disk_model.specs.declared.disk.Disk.{Ghosts}
 use Rattle.overlay_terms.specs.Histories.{Version, Event, accepted, kept, durable_to, Follows}
 use Rattle.overlay_terms.specs.KeptLaws.{IsExact}
 use Rattle.layer_book.specs.Command.{command}
+use Rattle.root_store.specs.Running.{KeepsTo}
+use Rattle.flush_core.specs.declared.flusher.Flusher.{Flusher}
 use Rattle.overlay_engine.specs.declared.engine.Engine.{Engine}
 use Rattle.overlay_engine.specs.declared.step.Step.{Step}
 use Rattle.overlay_engine.specs.declared.step.Step.TheVariants.{Submit, Take, Finish, Device, Report}
@@ -72,6 +74,10 @@ module _ {D : Type 0} (g : Ghosts D) where
     kept_exact : GoesOn old.version new.version → IsExact new.version
     kept_exact (inl same) = subst IsExact (sym same) exact
     kept_exact (inr (event, follows)) = exact_after old.version new.version event follows exact
+
+  -- a step that asks for no device call keeps the store, and so the blocks that its file may have
+  pub acts_keep : (step : Step) (old : Engine D) (reply : Reply) (new : Engine D) → Acts g step old reply new → calls_asked step ≡ 0 → (limit : ℕ) → KeepsTo limit old.flusher.commit → KeepsTo limit new.flusher.commit
+  acts_keep step old reply new acts none limit keeps = subst (λ (f : Flusher D). KeepsTo limit f.commit) (sym ((makes step old reply new acts).1 none)) keeps
 
   -- the durable number never falls
   pub durable_rises : (step : Step) (old : Engine D) (reply : Reply) (new : Engine D) → Acts g step old reply new → old.version.durable ≤ new.version.durable

@@ -1,7 +1,8 @@
 //! One step of an engine.
-ghost use Rattle.std.specs.Prelude.{List};
+ghost use Rattle.std.specs.Prelude.{ℕ, List};
 ghost use Rattle.overlay_terms.specs.Commands.{Command};
 ghost use Rattle.overlay_terms.specs.KeptLaws.{IsExact};
+ghost use Rattle.root_store.specs.Running.{KeepsTo};
 ghost use Rattle.overlay_engine.specs.Start.{Start};
 ghost use Rattle.overlay_engine.specs.Covers.{Covers};
 ghost use Rattle.overlay_engine.specs.Acts.{Acts, Survives};
@@ -17,6 +18,8 @@ impl<D: Disk> Engine<D> {
         ensures acts { Acts D.Disk step.now self.old result self.new }
         // Right tiles stay right, whatever the disk does.
         ensures exact { IsExact self.old.version → IsExact self.new.version }
+        // The blocks that the file may have stay as many.
+        ensures blocks { (limit : ℕ) → KeepsTo limit self.old.flusher.commit → KeepsTo limit self.new.flusher.commit }
         // The store goes on covering the commands, with the one that the step accepted, and a crash at any moment of
         // the step leaves what is no older than what was durable as it began.
         ensures survives { (start : Start) (commands : List Command) → Covers D.Disk start self.old.flusher self.old.version commands

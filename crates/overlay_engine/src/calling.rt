@@ -1,9 +1,9 @@
 //! Device calls.
-ghost use Rattle.std.specs.Prelude.{◌≡◌, true, List};
+ghost use Rattle.std.specs.Prelude.{◌≡◌, ℕ, true, List};
 ghost use Rattle.disk_model.specs.Moments.{Leaves};
 ghost use Rattle.overlay_terms.specs.Commands.{Command};
 ghost use Rattle.overlay_terms.specs.Histories.{Version};
-ghost use Rattle.root_store.specs.Running.{is_busy};
+ghost use Rattle.root_store.specs.Running.{KeepsTo, is_busy};
 ghost use Rattle.overlay_engine.specs.Start.{Start};
 ghost use Rattle.overlay_engine.specs.Covers.{Covers, CoveredExactly, Moves};
 ghost use Rattle.overlay_engine.specs.Committing.{Commits, Committed};
@@ -20,6 +20,8 @@ impl<D: Disk> Engine<D> {
     pub(crate) fn call(&mut self) -> Reply
         requires { is_busy self.old.flusher.commit.phase ≡ true }
         ensures calls { Calls D.Disk self.old result self.new }
+        // The blocks that the file may have stay as many.
+        ensures blocks { (limit : ℕ) → KeepsTo limit self.old.flusher.commit → KeepsTo limit self.new.flusher.commit }
         // A crash at any moment of the call leaves what is no older than what was durable as it began.
         ensures moves { (start : Start) (commands : List Command) → Covers D.Disk start self.old.flusher self.old.version commands
             → Moves D.Disk start self.old.flusher self.new.flusher self.old.version commands }

@@ -1,9 +1,9 @@
 //! New engines.
 ghost use Rattle.std.specs.Prelude.{◌≡◌, ◌≢◌, ◌↔◌, [], None, IfOk, IfErr, MatchResult};
 ghost use Rattle.disk_model.specs.Disk.{Failed, Fewer};
-ghost use Rattle.extent_map.specs.Taken.{limit_of};
 ghost use Rattle.overlay_terms.specs.Histories.{empty_version};
 ghost use Rattle.root_store.specs.Creating.{refusal_of_new, Tells};
+ghost use Rattle.root_store.specs.Running.{KeepsTo};
 ghost use Rattle.overlay_engine.specs.Start.{from_nothing};
 ghost use Rattle.overlay_engine.specs.Covers.{Covers};
 
@@ -23,7 +23,7 @@ impl<D: Disk> Engine<D> {
         ensures covers { D.is_honest disk → IfOk result (λ e. Covers D.Disk from_nothing e.flusher e.version []) }
         ensures version { IfOk result (λ e. e.version ≡ empty_version) }
         ensures jobs { IfOk result (λ e. (e.jobs.items ≡ []) × (e.next_job ≡ 0)) }
-        ensures limit { IfOk result (λ e. limit_of e.flusher.commit.room.map ≡ max_blocks) }
+        ensures limit { IfOk result (λ e. KeepsTo max_blocks e.flusher.commit) }
         ensures answer { D.is_honest disk → MatchResult result (λ _. refusal_of_new (D.seen disk) max_blocks ≡ None) (λ refused. Tells refused.fault (refusal_of_new (D.seen disk) max_blocks)) }
         ensures honest { MatchResult result (λ e. D.is_honest e.flusher.commit.disk ↔ D.is_honest disk) (λ refused. D.is_honest refused.disk ↔ D.is_honest disk) }
         // A file that is refused stays as it is.

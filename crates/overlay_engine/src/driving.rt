@@ -1,6 +1,7 @@
 //! Lists of steps.
-ghost use Rattle.std.specs.Prelude.{◌≡◌, IfOk, OnErr};
+ghost use Rattle.std.specs.Prelude.{◌≡◌, ℕ, IfOk, OnErr};
 ghost use Rattle.overlay_terms.specs.KeptLaws.{IsExact};
+ghost use Rattle.root_store.specs.Running.{KeepsTo};
 ghost use Rattle.overlay_engine.specs.Runs.{Drives};
 
 use crate::engine::Engine;
@@ -15,6 +16,8 @@ impl<D: Disk> Engine<D> {
         ensures drives { IfOk result (λ replies. Drives D.Disk steps.now self.old replies.items self.new) }
         // Right tiles stay right, whatever the disk does.
         ensures exact { IsExact self.old.version → IsExact self.new.version }
+        // The blocks that the file may have stay as many.
+        ensures blocks { (limit : ℕ) → KeepsTo limit self.old.flusher.commit → KeepsTo limit self.new.flusher.commit }
         ensures err { OnErr result (self.new ≡ self.old) }
     {
         let mut replies = Vec::with_capacity(alloc, steps.len())?;

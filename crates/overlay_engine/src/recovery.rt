@@ -1,11 +1,11 @@
 //! Recovery of an engine from what a crash has left.
 ghost use Rattle.std.specs.Prelude.{◌≡◌, ◌↔◌, [], ◌++◌, ℕ, List, Ok, IfOk, IfErr, MatchResult};
 ghost use Rattle.disk_model.specs.Moments.{Leaves};
-ghost use Rattle.extent_map.specs.Taken.{limit_of};
 ghost use Rattle.overlay_terms.specs.Commands.{Command};
 ghost use Rattle.store_terms.specs.Image.{Held};
 ghost use Rattle.store_terms.specs.StandsFor.{reading};
 ghost use Rattle.root_store.specs.Opening.{Tells, FailedBy};
+ghost use Rattle.root_store.specs.Running.{KeepsTo};
 ghost use Rattle.overlay_engine.specs.Start.{Start};
 ghost use Rattle.overlay_engine.specs.Covers.{version_of, Covered};
 ghost use Rattle.overlay_engine.specs.Recovery.{Recovered, Refused};
@@ -45,7 +45,7 @@ impl<D: Disk> Engine<D> {
             (λ refused. D.is_honest refused.disk ↔ D.is_honest disk) }
         ensures cause { D.is_honest disk → MatchResult result (λ e. D.faults e.flusher.commit.disk ≡ D.faults disk)
             (λ refused. FailedBy refused.fault (D.faults disk) (D.faults refused.disk)) }
-        ensures limit { IfOk result (λ e. limit_of e.flusher.commit.room.map ≡ max_blocks) }
+        ensures limit { IfOk result (λ e. KeepsTo max_blocks e.flusher.commit) }
         ensures stored { IfOk result (λ e. e.flusher.stored ≡ e.version.number) }
         ensures jobs { IfOk result (λ e. (e.jobs.items ≡ []) × (e.next_job ≡ 0)) }
     {

@@ -2,7 +2,7 @@
 use Rattle.std.specs.Prelude.{◌≡◌, ℕ, ◌+◌, ◌-◌, ◌<◌, Bool, true, false, List, length, drop, Result, IfOk, OnErr}
 use Rattle.disk_model.specs.declared.disk.Disk.{Ghosts}
 use Rattle.disk_model.specs.Moments.{Leaves, LeavesOnly}
-use Rattle.extent_map.specs.Taken.{taken_of}
+use Rattle.extent_map.specs.Taken.{taken_of, limit_of}
 use Rattle.store_terms.specs.StandsFor.{gate, open_gate}
 use Rattle.root_store.specs.declared.fault.StoreFault.{StoreFault}
 use Rattle.root_store.specs.declared.fault.StoreFault.TheVariants as faults
@@ -61,6 +61,10 @@ module _ {D : Type 0} (g : Ghosts D) where
     pub ok : IfOk result (λ p. Outcome new p x y)
     -- open the disk again
     pub err : OnErr result (Leaves g new.disk (Either x y) × (new.phase ≡ Failed))
+
+-- the file may have at most so many blocks: that is the limit of the live root's room, and of the room after a commit
+abbrev pub KeepsTo : {D : Type 0} → ℕ → Commit D → Type 0
+KeepsTo limit s = (limit_of s.room.map ≡ limit) × (limit_of s.next_room.map ≡ limit)
 
 -- whether a commit is under way
 abbrev pub is_busy : Phase → Bool

@@ -1,10 +1,10 @@
 //! Beginning a commit.
-ghost use Rattle.std.specs.Prelude.{◌≡◌, ◌⊎◌, ◌+◌, ◌<◌, ◌≤◌, true, false, length, Some, IfOk, IfErr, IfSome, IfNone, OnOk, OnErr, IsErrOf};
-ghost use Rattle.extent_map.specs.Taken.{taken_of};
+ghost use Rattle.std.specs.Prelude.{◌≡◌, ◌⊎◌, ◌+◌, ◌<◌, ◌≤◌, ℕ, true, false, length, Some, IfOk, IfErr, IfSome, IfNone, OnOk, OnErr, IsErrOf};
+ghost use Rattle.extent_map.specs.Taken.{taken_of, limit_of};
 ghost use Rattle.store_terms.specs.Image.{Held};
 ghost use Rattle.store_terms.specs.Roots.{sequence_max};
 ghost use Rattle.root_store.specs.Kept.{Kept};
-ghost use Rattle.root_store.specs.Running.{Stands, Runs, calls_left, is_busy};
+ghost use Rattle.root_store.specs.Running.{Stands, Runs, KeepsTo, calls_left, is_busy};
 ghost use Rattle.root_reading.specs.Taking.{IsMapOf};
 ghost use Rattle.root_store.specs.Drafting.{IsNext};
 ghost use Rattle.root_store.specs.Beginning.{HasRoom, HasNoRoom, IsRefusal, IsReason};
@@ -30,6 +30,8 @@ impl<D: Disk> Commit<D> {
             → IsNext x held next → (y : Kept) × (y.held ≡ held) × Runs D.Disk self.new x y }
         ensures disk { self.new.disk ≡ self.old.disk }
         ensures root { self.new.next_root ≡ next.root }
+        ensures blocks { (limit : ℕ) → limit_of self.old.room.map ≡ limit → limit_of next.room.map ≡ limit
+            → KeepsTo limit self.new }
         ensures busy { is_busy self.new.phase ≡ true }
         ensures begins { self.new.phase ≡ Phase.Close }
         // One for each write, and five more.
@@ -73,6 +75,8 @@ impl<D: Disk> Commit<D> {
         // One for each record and the catalog, and six more.
         ensures calls { OnOk result (calls_left self.new ≡ length image.layers + length image.tiles + 7) }
         ensures disk { self.new.disk ≡ self.old.disk }
+        // The blocks that the file may have stay as many.
+        ensures blocks { (limit : ℕ) → KeepsTo limit self.old → KeepsTo limit self.new }
         ensures err { OnErr result (self.new ≡ self.old) }
         ensures failed { self.old.phase ≡ Phase.Failed → result ≡ Err StoreFault.Failed }
         ensures limit { self.old.phase ≡ Phase.Idle → sequence_max ≤ self.old.root.sequence
@@ -101,6 +105,7 @@ fn drafted(alloc: Global, image: &Image, room: &Room, root: Root) -> Result<Next
         (λ next. length next.plan.items ≡ length image.now.layers + length image.now.tiles + 2) }
     ensures number { IfOk result (λ next. next.root.version ≡ image.now.number) }
     ensures room { IfOk result (λ _. HasRoom room.now image.now) }
+    ensures blocks { IfOk result (λ next. limit_of next.room.map ≡ limit_of room.now.map) }
     ensures full { IsErrOf result StoreFault.Full → HasNoRoom room.now image.now }
     ensures err { IfErr result (λ fault. (fault ≡ StoreFault.Full) ⊎ (fault ≡ StoreFault.OutOfMemory)) }
 {

@@ -1,8 +1,8 @@
 //! A store, and a commit of it, one device call a step.
-ghost use Rattle.std.specs.Prelude.{◌≡◌, ◌↔◌, IfOk, OnErr, IsErrOf, IfErr};
+ghost use Rattle.std.specs.Prelude.{◌≡◌, ◌↔◌, ℕ, IfOk, OnErr, IsErrOf, IfErr};
 ghost use Rattle.disk_model.specs.Disk.{Failed};
 ghost use Rattle.root_store.specs.Kept.{Kept};
-ghost use Rattle.root_store.specs.Running.{Runs, Stepped, Counts, calls_left, is_busy, fault_in};
+ghost use Rattle.root_store.specs.Running.{Runs, KeepsTo, Stepped, Counts, calls_left, is_busy, fault_in};
 
 use crate::fault::StoreFault;
 use crate::phase::{Phase, Progress};
@@ -58,6 +58,8 @@ impl<D: Disk> Commit<D> {
         ensures counted { IfOk result (λ p. Counts p (calls_left self.old) (calls_left self.new)) }
         ensures idle { self.old.phase ≡ Phase.Idle → (result ≡ Ok Progress.Idle) × (self.new ≡ self.old) }
         ensures stuck { self.old.phase ≡ Phase.Failed → (result ≡ Err StoreFault.Failed) × (self.new ≡ self.old) }
+        // The blocks that the file may have stay as many.
+        ensures blocks { (limit : ℕ) → KeepsTo limit self.old → KeepsTo limit self.new }
         ensures failed { OnErr result (self.new.phase ≡ Phase.Failed) }
         ensures errors { IfErr result (λ fault. fault ≡ fault_in self.old.phase) }
         ensures cause { D.is_honest self.old.disk → IsErrOf result StoreFault.Device

@@ -3,6 +3,7 @@ ghost use Rattle.std.specs.Prelude.{◌≡◌, ◌⊎◌, ◌+◌, ◌^◌, ◌<
 ghost use Rattle.overlay_terms.specs.Column.{column_count};
 ghost use Rattle.extent_map.specs.declared.extent.Extent as runs;
 ghost use Rattle.extent_map.specs.FirstFit.{IsFull};
+ghost use Rattle.extent_map.specs.Taken.{limit_of};
 ghost use Rattle.record_form.specs.Listing.{listing_of, IsListable};
 ghost use Rattle.store_terms.specs.Catalog.{catalog};
 ghost use Rattle.store_terms.specs.Image.{Held};
@@ -45,6 +46,8 @@ pub(crate) fn completed(
         → IfOk result
         (λ _. ArePlanned given limit
         (sizes ++ length ((catalog column_count).text (listing_of listing.now)) ∷ [])) }
+    ensures blocks { (given : List runs.Extent) (limit : ℕ) (sizes : List ℕ) → ArePlaced given limit sizes draft
+        → IfOk result (λ next. limit_of next.room.map ≡ limit) }
     ensures full { (given : List runs.Extent) (limit : ℕ) (sizes : List ℕ) → ArePlaced given limit sizes draft
         → IsErrOf result StoreFault.Full
         → IsFull given limit (sizes ++ length ((catalog column_count).text (listing_of listing.now)) ∷ []) }

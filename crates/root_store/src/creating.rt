@@ -4,7 +4,7 @@ ghost use Rattle.disk_model.specs.Disk.{Holds, Torn, Fewer, Failed, CountsFailur
 ghost use Rattle.disk_model.specs.Moments.{Leaves};
 ghost use Rattle.extent_map.specs.Taken.{taken_of, limit_of};
 ghost use Rattle.root_store.specs.Kept.{Rest};
-ghost use Rattle.root_store.specs.Running.{Stands};
+ghost use Rattle.root_store.specs.Running.{Stands, KeepsTo};
 ghost use Rattle.root_reading.specs.Taking.{IsMapOf};
 ghost use Rattle.root_store.specs.Creating.{nothing_kept, IsBlank, refusal_of_new, Tells};
 
@@ -103,6 +103,7 @@ fn format<D: Disk>(disk: &mut D, bytes: &[u8]) -> Result<(), DiskFault>
 fn rooms(alloc: Global, max_blocks: u32) -> Result<(Room, Room), StoreFault>
     ensures room { IfOk result (λ rooms. IsMapOf nothing_kept.extents (taken_of rooms.0.map)) }
     ensures limit { IfOk result (λ rooms. limit_of rooms.0.map ≡ max_blocks) }
+    ensures next_limit { IfOk result (λ rooms. limit_of rooms.1.map ≡ max_blocks) }
     ensures err { IfErr result (λ fault. fault ≡ StoreFault.OutOfMemory) }
 {
     let Some(run) = Run::new(2, 1) else {
@@ -123,6 +124,7 @@ fn prepare<D: Disk>(
     ensures ready { D.is_honest disk.old → IfOk result (λ rooms. Leaves D.Disk disk.new (Rest nothing_kept)) }
     ensures room { IfOk result (λ rooms. IsMapOf nothing_kept.extents (taken_of rooms.0.map)) }
     ensures limit { IfOk result (λ rooms. limit_of rooms.0.map ≡ max_blocks) }
+    ensures next_limit { IfOk result (λ rooms. limit_of rooms.1.map ≡ max_blocks) }
     ensures answer { D.is_honest disk.old
         → MatchResult result (λ _. refusal_of_new (D.seen disk.old) max_blocks ≡ None)
         (λ fault. Tells fault (refusal_of_new (D.seen disk.old) max_blocks)) }
@@ -146,7 +148,7 @@ pub fn create<D: Disk>(
     max_blocks: u32,
 ) -> Result<Commit<D>, OpenFault<D>>
     ensures ok { D.is_honest disk → IfOk result (λ store. Stands D.Disk store nothing_kept) }
-    ensures limit { IfOk result (λ store. limit_of store.room.map ≡ max_blocks) }
+    ensures limit { IfOk result (λ store. KeepsTo max_blocks store) }
     ensures answer { D.is_honest disk
         → MatchResult result (λ _. refusal_of_new (D.seen disk) max_blocks ≡ None)
         (λ refused. Tells refused.fault (refusal_of_new (D.seen disk) max_blocks)) }

@@ -10,7 +10,7 @@ ghost use Rattle.store_terms.specs.Frame.{extents_of};
 ghost use Rattle.store_terms.specs.Image.{held_of};
 ghost use Rattle.store_terms.specs.StandsFor.{reading};
 ghost use Rattle.root_store.specs.Kept.{Kept};
-ghost use Rattle.root_store.specs.Running.{Stands};
+ghost use Rattle.root_store.specs.Running.{Stands, KeepsTo};
 ghost use Rattle.root_reading.specs.Taking.{IsMapOf};
 ghost use Rattle.root_reading.specs.Looking.{Gives, Looks, Causes};
 ghost use Rattle.root_store.specs.Opening.{held_in, IsRead, Loads, Opened, Tells, FailedBy, fault_of};
@@ -43,7 +43,8 @@ pub(crate) struct Loaded {
 
 /// The room in which nothing is taken.
 fn no_room(alloc: Global, max_blocks: u32) -> Result<Room, LoadFault>
-    ensures { IfErr result (λ e. e ≡ LoadFault.OutOfMemory) }
+    ensures limit { IfOk result (λ room. limit_of room.map ≡ max_blocks) }
+    ensures err { IfErr result (λ e. e ≡ LoadFault.OutOfMemory) }
 {
     match Room::of(alloc, &[], max_blocks) {
         Ok(room) => Ok(room),
@@ -66,6 +67,7 @@ fn read_root<D: Disk>(
         → IfOk result (λ x. IsMapOf (extents_of (D.seen disk.old) root) (taken_of x.room.map)) }
     ensures root { IfOk result (λ x. x.root ≡ root) }
     ensures limit { IfOk result (λ x. limit_of x.room.map ≡ max_blocks) }
+    ensures next_limit { IfOk result (λ x. limit_of x.next_room.map ≡ max_blocks) }
     ensures stored { IfOk result (λ x. AreStored x.content.layers (map finished_of x.content.tiles.items)) }
     ensures cause { D.is_honest disk.old → Causes result (D.faults disk.old) (D.faults disk.new) }
 {
@@ -106,6 +108,7 @@ fn read_store<D: Disk>(
     ensures gives { D.is_honest disk.old → Gives (λ x. held_in x.0) result (reading (D.seen disk.old)) }
     ensures read { D.is_honest disk.old → IfOk result (λ x. IsRead D.Disk disk.old disk.new x.0 x.1) }
     ensures limit { IfOk result (λ x. limit_of x.0.room.map ≡ max_blocks) }
+    ensures next_limit { IfOk result (λ x. limit_of x.0.next_room.map ≡ max_blocks) }
     ensures stored { IfOk result (λ x. AreStored x.0.content.layers (map finished_of x.0.content.tiles.items)) }
     ensures numbered { IfOk result (λ x. x.0.root.version ≤ version_max) }
     ensures cause { D.is_honest disk.old → Causes result (D.faults disk.old) (D.faults disk.new) }
@@ -125,6 +128,7 @@ pub(crate) fn load<D: Disk>(
     ensures honest { D.is_honest disk.new ↔ D.is_honest disk.old }
     ensures loads { D.is_honest disk.old → Loads D.Disk disk.old disk.new result }
     ensures limit { IfOk result (λ x. limit_of x.room.map ≡ max_blocks) }
+    ensures next_limit { IfOk result (λ x. limit_of x.next_room.map ≡ max_blocks) }
     ensures stored { IfOk result (λ x. AreStored x.content.layers (map finished_of x.content.tiles.items)) }
     ensures numbered { IfOk result (λ x. x.root.version ≤ version_max) }
     ensures cause { D.is_honest disk.old → Causes result (D.faults disk.old) (D.faults disk.new) }
@@ -172,7 +176,7 @@ pub fn open<D: Disk>(
         × LeavesOnly D.Disk disk refused.disk (Opened D.Disk disk)) }
     ensures honest { MatchResult result (λ x. D.is_honest x.0.disk ↔ D.is_honest disk)
         (λ refused. D.is_honest refused.disk ↔ D.is_honest disk) }
-    ensures limit { IfOk result (λ x. limit_of x.0.room.map ≡ max_blocks) }
+    ensures limit { IfOk result (λ x. KeepsTo max_blocks x.0) }
     ensures cause { D.is_honest disk
         → MatchResult result (λ x. D.faults x.0.disk ≡ D.faults disk)
         (λ refused. FailedBy refused.fault (D.faults disk) (D.faults refused.disk)) }

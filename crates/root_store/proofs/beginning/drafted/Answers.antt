@@ -3,7 +3,7 @@ use Rattle.std.specs.List.{flat_map}
 use Rattle.overlay_terms.specs.Layers.{Layer}
 use Rattle.overlay_terms.specs.Histories.{Finished}
 use Rattle.extent_map.specs.declared.extent.Extent as runs
-use Rattle.extent_map.specs.Taken.{taken_of}
+use Rattle.extent_map.specs.Taken.{taken_of, limit_of}
 use Rattle.layer_book.specs.Layer.{IsBook}
 use Rattle.record_form.specs.Image.{finished_of}
 use Rattle.record_form.specs.Listing.{listing_of}
@@ -165,3 +165,14 @@ returns-clause-full c u =
     ++ length ((catalog column_count).text (listing_of l)) ∷ []) c.deref.ensures.value in
     has_no_room c.args.room.now copy image tiles c.tiles.ensures c.in_ok-try_copy.ensures.taken c.in_ok-try_copy.ensures.limit
     (subst (IsFull given limit) (read ∙ whole) (c.completed.ensures.full given limit sizes placed u))
+
+pub returns-clause-blocks : goal.returns-clause-blocks
+returns-clause-blocks c =
+    let room = c.args.room.now in
+    let copy = c.in_ok-try_copy.field-0 in
+    let placed = c.in_ok-listing.ensures.taken (taken_of copy.map) copy.max_blocks c.new-draft.ensures.placed in
+    if_ok c.completed.result (λ (next : Next). limit_of next.room.map ≡ copy.max_blocks)
+    (λ (next : Next). limit_of next.room.map ≡ limit_of room.map)
+    (λ next is. is ∙ c.in_ok-try_copy.ensures.limit ∙ sym room.limit)
+    (c.completed.ensures.blocks (taken_of copy.map) copy.max_blocks
+    (flat_map (sizes_of_layer c.tiles.result.now) c.layers-2.result.now) placed)

@@ -89,3 +89,7 @@ returns-in-Err-clause-full c given limit sizes placed u =
     (planned_apart given limit _ c.file.new.self.runs.items one.planned) in
     absurd (not_full c.in-Err.fault (λ overlap. c.in-Err.ensures.overlap (ap Err overlap) apart)
     (λ full. c.in-Err.ensures.never (ap Err full)) (sym c.from.ensures ∙ same_fault _ c.from.result Full u))
+
+pub returns-clause-blocks : goal.returns-clause-blocks
+returns-clause-blocks c given limit sizes placed =
+    c.in-Ok.ensures.limit ∙ (c.in_ok-catalog.ensures.placed given limit sizes placed).blocks

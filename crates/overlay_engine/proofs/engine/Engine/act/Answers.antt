@@ -1,8 +1,8 @@
-use Rattle.std.proofs.Common.{sym, subst}
+use Rattle.std.proofs.Common.{refl, sym, subst}
 use Rattle.overlay_engine.specs.declared.step.Step.{Step}
 use Rattle.overlay_engine.specs.declared.step.Step.TheVariants.{Submit, Take, Finish, Device, Report}
 use Rattle.overlay_engine.specs.Acts.{Survives}
-use Rattle.overlay_engine.proofs.Following.{acts_exact}
+use Rattle.overlay_engine.proofs.Following.{acts_exact, acts_keep}
 use Rattle.overlay_engine.proofs.Surviving.{moved, submitted, taken, finished, reported}
 use Rattle.overlay_engine.proofs.engine.Engine.act.Goals as goal
 
@@ -55,3 +55,15 @@ returns-in-Device-clause-exact g c exact = acts_exact g.D.Disk Device c.args.sel
 
 pub returns-in-Report-clause-exact : goal.returns-in-Report-clause-exact
 returns-in-Report-clause-exact g c exact = acts_exact g.D.Disk Report c.args.self.now c.report.result c.report.new.self c.report.ensures exact
+
+pub returns-in-Submit-clause-blocks : goal.returns-in-Submit-clause-blocks
+returns-in-Submit-clause-blocks g c limit keeps = acts_keep g.D.Disk (Submit c.in-Submit.change) c.args.self.now c.submit.result c.submit.new.self c.submit.ensures refl limit keeps
+
+pub returns-in-Take-clause-blocks : goal.returns-in-Take-clause-blocks
+returns-in-Take-clause-blocks g c limit keeps = acts_keep g.D.Disk (Take c.in-Take.name c.in-Take.column) c.args.self.now c.take.result c.take.new.self c.take.ensures refl limit keeps
+
+pub returns-in-Finish-clause-blocks : goal.returns-in-Finish-clause-blocks
+returns-in-Finish-clause-blocks g c limit keeps = acts_keep g.D.Disk (Finish c.in-Finish.number) c.args.self.now c.finish.result c.finish.new.self c.finish.ensures refl limit keeps
+
+pub returns-in-Report-clause-blocks : goal.returns-in-Report-clause-blocks
+returns-in-Report-clause-blocks g c limit keeps = acts_keep g.D.Disk Report c.args.self.now c.report.result c.report.new.self c.report.ensures refl limit keeps

@@ -36,3 +36,9 @@ returns-in-Ok-clause-commits g c start commands covers version is =
 pub returns-then-busy-clause-commits : goal.returns-then-busy-clause-commits
 returns-then-busy-clause-commits g c start commands covers version is =
     c.call.ensures.commits version (busy_commits g.D.Disk c.args.self.now version (sym c.busy.ensures ∙ c.if-busy.true) is)
+
+pub returns-in-Ok-clause-blocks : goal.returns-in-Ok-clause-blocks
+returns-in-Ok-clause-blocks g c limit keeps = c.call-in-Ok.ensures.blocks limit (c.begin.ensures.blocks limit keeps)
+
+pub returns-in-Err-clause-blocks : goal.returns-in-Err-clause-blocks
+returns-in-Err-clause-blocks g c limit keeps = c.begin.ensures.blocks limit keeps

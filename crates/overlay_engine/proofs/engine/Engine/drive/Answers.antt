@@ -10,6 +10,7 @@ pub loop-step-init : goal.loop-step-init
 loop-step-init g c = record {
   drives = subst (λ (replies : List Reply). Drives g.D.Disk [] c.args.self.now replies c.args.self.now) (sym c.in_ok-replies.ensures.items) (not_driven g.D.Disk c.args.self.now);
   exact = λ exact. exact;
+  blocks = λ limit keeps. keeps;
   count = c.in_ok-replies.ensures.len;
   room = omega (arith, c.in_ok-replies.ensures.exact);
 }
@@ -30,6 +31,7 @@ loop-step-preserved g c =
       drives = subst (λ (replies : List Reply). Drives k (take (i + 1) steps) old replies new) (sym c.in-Ok.ensures.items)
           (subst (λ (first : List Step). Drives k first old (c.loop-step.replies.items ++ c.act-reply.result ∷ []) new) more on);
       exact = λ exact. c.act-reply.ensures.exact (was.exact exact);
+      blocks = λ limit keeps. c.act-reply.ensures.blocks limit (was.blocks limit keeps);
       count = omega (arith, c.in-Ok.ensures.len, was.count);
       room = omega (arith, was.room, c.push.ensures.capacity);
     }

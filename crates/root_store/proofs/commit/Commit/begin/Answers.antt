@@ -1,3 +1,4 @@
+use Rattle.std.proofs.Common.{◌∙◌}
 use Rattle.root_store.specs.Beginning.{HasNoRoom, IsReason}
 use Rattle.root_store.specs.declared.next.Next.{Next}
 use Rattle.root_store.proofs.Reasons.{refused_so, passed_on, no_room_or_memory}
@@ -15,3 +16,6 @@ returns-in_err-next-clause-errors g c =
     let no_room = HasNoRoom s.room c.args.image in
     passed_on (IsReason s.phase s.root no_room) c.from_residual.result x c.from_residual.ensures.1
     (no_room_or_memory Next s.phase s.root no_room x c.in_err-next.ensures.err c.in_err-next.ensures.full)
+
+pub returns-clause-blocks : goal.returns-clause-blocks
+returns-clause-blocks g c limit keeps = c.start.ensures.blocks limit keeps.0 (c.in_ok-next.ensures.blocks ∙ keeps.0)

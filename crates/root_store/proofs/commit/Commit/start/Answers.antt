@@ -17,3 +17,6 @@ returns-clause-begun g c x held stands below next = (
     );
   },
 )
+
+pub returns-clause-blocks : goal.returns-clause-blocks
+returns-clause-blocks g c limit room next = (room, next)

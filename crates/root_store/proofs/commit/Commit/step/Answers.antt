@@ -6,7 +6,7 @@ use Rattle.root_store.specs.Kept.{other, Either, Rest, Shut, Ready}
 use Rattle.root_store.specs.Running.{Before}
 use Rattle.root_reading.specs.Taking.{IsMapOf}
 use Rattle.root_store.specs.declared.room.Room.{Room}
-use Rattle.extent_map.specs.Taken.{taken_of}
+use Rattle.extent_map.specs.Taken.{taken_of, limit_of}
 use Rattle.root_store.specs.Planning.{Leads}
 use Rattle.store_terms.specs.declared.root.Root.{Root}
 use Rattle.root_store.proofs.Kept.{gate_written}
@@ -328,3 +328,9 @@ returns-in_ok-sync-in-Finish-clause-moves g c x y runs =
       );
       err = tt;
     }
+
+pub returns-in_ok-sync-in-Finish-clause-blocks : goal.returns-in_ok-sync-in-Finish-clause-blocks
+returns-in_ok-sync-in-Finish-clause-blocks g c limit keeps = (
+  ap (λ (r : Room). limit_of r.map) c.swap.ensures.x_after ∙ keeps.1,
+  ap (λ (r : Room). limit_of r.map) c.swap.ensures.y_after ∙ keeps.0,
+)
