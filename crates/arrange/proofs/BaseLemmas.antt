@@ -1,9 +1,10 @@
 -- Base layers one after another, and what they make of an input.
-use Rattle.std.specs.Prelude.{◌≡◌, ℕ, ◌+◌, ◌<◌, ◌≤◌, None, List, [], ◌∷◌, ◌++◌, length, map, get_or, take, All, Contains}
+use Rattle.std.specs.Prelude.{◌≡◌, ℕ, ◌+◌, ◌*◌, ◌<◌, ◌≤◌, None, List, [], ◌∷◌, ◌++◌, length, map, get_or, take, All, Contains}
 use Rattle.std.proofs.Common.{ap, sym, subst, ◌∙◌, arith, append_assoc, append-nil, take_all, Bor}
 use Rattle.std.proofs.lemmas.List.{map_more, length-map, length-take-le}
 use Rattle.std.proofs.lemmas.List.Elements.{All-append, All-push, All-map, All-contains, Contains-get_or, filter-append}
-use Rattle.overlay_terms.specs.Plane.{WholePoint, segments_of}
+use Rattle.std.proofs.Math.ListN.{length-append}
+use Rattle.overlay_terms.specs.Plane.{WholePoint, segments_of, steps_max}
 use Rattle.overlay_terms.specs.Column.{column_count, touches}
 use Rattle.overlay_terms.specs.Layers.{Marked, marked_segments}
 use Rattle.overlay_terms.specs.Trees.{Steps}
@@ -15,9 +16,10 @@ use Rattle.overlay_terms.proofs.ClosedInputs.{closed_is_input}
 use Rattle.overlay_terms.proofs.Lists.{contains_map}
 use Rattle.plane_base.specs.BaseLayer.{rings_fault}
 use Rattle.plane_base.proofs.RingLemmas.{are_closed}
-use Rattle.arrange.specs.Marked.{marked_of, marked_by, kept_in, AllProper}
+use Rattle.arrange.specs.Marked.{marked_of, marked_by, kept_in, segments_max, AllProper}
 use Rattle.arrange.specs.declared.marked_seg.MarkedSeg.{MarkedSeg}
 use Rattle.arrange.proofs.KeptLemmas.{mark}
+use Rattle.arrange.proofs.FewSegments.{kept_few}
 
 -- one more base layer behind others
 from_push : (n : ℕ) (bases : List (List (List WholePoint))) (rings : List (List WholePoint)) → marked_from n (bases ++ rings ∷ []) ≡ marked_from n bases ++ marked_by (n + length bases) rings
@@ -37,23 +39,29 @@ segments_push n bases rings e =
 abbrev pub rings_of : List (Bor (List (List WholePoint))) → List (List (List WholePoint))
 rings_of bases = map (λ b. b.now) bases
 
--- what the base layers so far have made: the marked segments that the column keeps
+-- what the base layers so far have made: the marked segments that the column keeps, no more than so many layers can have
 pub record IsMadeOf (column : ℕ) (bases : List (List (List WholePoint))) (marked : List Marked) : Type 0 where
   pub kept : marked ≡ kept_in column (marked_segments bases)
   pub proper : AllProper (marked_segments bases)
   pub closed : All (All IsClosed) bases
+  pub few : length marked ≤ length bases * steps_max
 
 -- one more base layer
 made_push : (column n : ℕ) (bases : List (List (List WholePoint))) (rings : List (List WholePoint)) (now new : List Marked) → length bases ≡ n → IsMadeOf column bases now →
-    new ≡ now ++ kept_in column (marked_by n rings) → All IsProper (segments_of rings) → All IsClosed rings → IsMadeOf column (bases ++ rings ∷ []) new
-made_push column n bases rings now new few made added proper valid = record {
+    new ≡ now ++ kept_in column (marked_by n rings) → All IsProper (segments_of rings) → rings_fault rings ≡ None → IsMadeOf column (bases ++ rings ∷ []) new
+made_push column n bases rings now new count made added proper valid = record {
   kept = added ∙ ap (λ ms. ms ++ kept_in column (marked_by n rings)) made.kept
       ∙ sym (filter-append (λ (m : Marked). touches column m.segment) (marked_segments bases) (marked_by n rings))
-      ∙ ap (kept_in column) (sym (segments_push n bases rings few));
-  proper = subst AllProper (sym (segments_push n bases rings few))
+      ∙ ap (kept_in column) (sym (segments_push n bases rings count));
+  proper = subst AllProper (sym (segments_push n bases rings count))
       (All-append (λ (m : Marked). IsProper m.segment) (marked_segments bases) (marked_by n rings) made.proper (All-map (λ (m : Marked). IsProper m.segment) (mark n) (segments_of rings) proper));
-  closed = All-push (All IsClosed) bases rings made.closed valid;
+  closed = All-push (All IsClosed) bases rings made.closed (are_closed rings valid);
+  few = more (length bases) (length (kept_in column (marked_by n rings))) (length now) (length new) (length (bases ++ rings ∷ [])) made.few (kept_few column n rings valid)
+      (ap length added ∙ length-append now (kept_in column (marked_by n rings))) (length-append bases (rings ∷ []));
 }
+  where
+    more : (b k m l c : ℕ) → m ≤ b * 2048 → k ≤ 2048 → l ≡ m + k → c ≡ b + 1 → l ≤ c * 2048
+    more b k m l c h g e f = omega (arith, h, g, e, f)
 
 -- as many as are taken
 taken : (bases : List (Bor (List (List WholePoint)))) (i : ℕ) → i ≤ length bases → length (rings_of (take i bases)) ≡ i
@@ -64,9 +72,9 @@ pub made_more : (column i j : ℕ) (bases : List (Bor (List (List WholePoint))))
     IsMadeOf column (rings_of (take (i + 1) bases)) new
 made_more column i j bases b now new h same e made added proper valid =
     let is : b ≡ get_or bases i b = e ∙ ap (λ k. get_or bases k b) same in
-    let few : length (rings_of (take i bases)) ≡ i = taken bases i (omega arith) in
+    let count : length (rings_of (take i bases)) ≡ i = taken bases i (omega arith) in
     let more = map_more (λ (r : Bor (List (List WholePoint))). r.now) bases i b h ∙ ap (λ r. rings_of (take i bases) ++ r.now ∷ []) (sym is) in
-    subst (λ bs. IsMadeOf column bs new) (sym more) (made_push column i (rings_of (take i bases)) b.now now new few made added proper (are_closed b.now valid))
+    subst (λ bs. IsMadeOf column bs new) (sym more) (made_push column i (rings_of (take i bases)) b.now now new count made added proper valid)
 
 -- all of them
 pub made_whole : (column i : ℕ) (bases : List (Bor (List (List WholePoint)))) (marked : List Marked) → length bases ≤ i → IsMadeOf column (rings_of (take i bases)) marked → IsMadeOf column (rings_of bases) marked
@@ -87,6 +95,15 @@ made_input column bases marked steps small few count made =
     let rings = rings_of bases in
     let all : 0 + length rings ≤ steps.bases = omega (arith, length-map bases (λ (b : Bor (List (List WholePoint))). b.now)) in
     rw made.kept (closed_is_input (marked_segments rings) steps column small few (numbered 0 steps.bases rings all) (record { proper = made.proper; even = λ k v. from_even 0 rings k v made.closed }))
+
+-- and no more segments than an input can have
+pub made_few : (column : ℕ) (bases : List (Bor (List (List WholePoint)))) (marked : List Marked) (n : ℕ) → n ≤ 32 → length bases ≡ n → IsMadeOf column (rings_of bases) marked → length marked ≤ segments_max
+made_few column bases marked n few count made =
+    let all : length (rings_of bases) ≡ n = length-map bases (λ (b : Bor (List (List WholePoint))). b.now) ∙ count in
+    most (length marked) (length (rings_of bases)) n made.few all few
+  where
+    most : (m b n : ℕ) → m ≤ b * 2048 → b ≡ n → n ≤ 32 → m ≤ 65536
+    most m b n h e k = omega (arith, h, e, k)
 
 -- the layers of an input are below 32
 pub few_layers : (input : Input) (items : List MarkedSeg) → IsInput input → map marked_of items ≡ input.marked → All (λ m. m.layer < 32) items

@@ -7,6 +7,7 @@ pub mod PieceLemmas
 pub mod MaskLemmas
 pub mod NeighbourLemmas
 pub mod KeptLemmas
+pub mod FewSegments
 pub mod BaseLemmas
 pub mod UnitLineLemmas
 pub mod UnitEndLemmas

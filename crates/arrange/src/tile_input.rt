@@ -5,7 +5,7 @@ ghost use Rattle.overlay_terms.specs.Column.{touches};
 ghost use Rattle.overlay_terms.specs.Layers.{layers_max, marked_segments};
 ghost use Rattle.overlay_terms.specs.TileLaws.{IsInput, IsProper};
 ghost use Rattle.plane_base.specs.BaseLayer.{rings_fault};
-ghost use Rattle.arrange.specs.Marked.{marked_of, marked_by, kept_in};
+ghost use Rattle.arrange.specs.Marked.{marked_of, marked_by, kept_in, segments_max};
 ghost use Rattle.arrange.specs.SameInput.{SameInputsAreEqual};
 
 use crate::marked_seg::MarkedSeg;
@@ -55,7 +55,7 @@ pub struct TileInput {
 }
 
 impl Model for TileInput {
-    ghost use Rattle.std.specs.Prelude.{map};
+    ghost use Rattle.std.specs.Prelude.{◌≤◌, length, map};
     ghost use Rattle.overlay_terms.specs.Tiles.{Input};
     ghost use Rattle.overlay_terms.specs.TileLaws.{IsInput};
     ghost use Rattle.overlay_terms.specs.InputCode.{input_code};
@@ -64,11 +64,11 @@ impl Model for TileInput {
 
     ghost coded = { input_code };
 
-    ghost use Rattle.arrange.specs.Marked.{marked_of};
+    ghost use Rattle.arrange.specs.Marked.{marked_of, segments_max};
 
     ghost view = { λ i. record { column = i.column; marked = map marked_of i.marked.items; steps = i.steps } };
 
-    ghost invariant = { λ i. IsInput (record { column = i.column; marked = map marked_of i.marked.items; steps = i.steps }) };
+    ghost invariant = { λ i. IsInput (record { column = i.column; marked = map marked_of i.marked.items; steps = i.steps }) × (length (map marked_of i.marked.items) ≤ segments_max) };
 }
 
 impl TileInput {
@@ -104,6 +104,7 @@ impl TileInput {
     pub fn marked(&self) -> &[MarkedSeg]
         ensures value { map marked_of result.now ≡ self.now.marked }
         ensures few { All (λ m. m.layer < layers_max) result.now }
+        ensures fits { length self.now.marked ≤ segments_max }
         ensures valid { IsInput self.now }
     {
         &self.marked

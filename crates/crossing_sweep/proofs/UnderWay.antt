@@ -27,6 +27,7 @@ use Rattle.exact_point.specs.declared.point.HPoint.{HPoint}
 use Rattle.exact_point.specs.declared.point_name.PointName.{PointName}
 use Rattle.exact_point.proofs.PlaceOrder.{one_positive, same_through, on_same, level_from}
 use Rattle.tile_laws.proofs.Statements.{segments_in}
+use Rattle.arrange.specs.Marked.{segments_max}
 use Rattle.arrange.specs.declared.unit.Unit.{Unit}
 use Rattle.arrange.proofs.NodeLemmas.{one_of_two}
 use Rattle.crossing_sweep.specs.Leaning.{IsSteep, IsSmall}
@@ -394,12 +395,11 @@ pub fewer_left : (m old new : ℕ) → new ≡ old + 1 → new ≤ m → m - new
 fewer_left m old new e h = omega (arith, e, h)
 
 -- so few nodes are counted that one more fits
-pub count_fits : (input : Input) {listed : Bool} {status : List Member} {coming : List Start} {ahead : List (HPoint × PointName)} {tests : List (Segment × Segment)} {rows : List Row} (nodes n : ℕ) → IsUnderWay input listed status coming ahead tests rows nodes
-    → length input.marked ≡ n → n * 40 < 9223372036854775808 → nodes + 1 < 2 ^ 128
-count_fits input nodes n way long few =
-    let small : n ≤ 230584300921369396 = omega (arith, few) in
-    let product : n * (n * 3 + 17) ≤ 230584300921369396 * (230584300921369396 * 3 + 17) = mul-le n (n * 3 + 17) 230584300921369396 (230584300921369396 * 3 + 17) small (omega (arith, small)) in
-    fits nodes (length input.marked * (length input.marked * 3 + 17)) (n * (n * 3 + 17)) (count_most input nodes way) (ap (λ m. m * (m * 3 + 17)) long) product
+pub count_fits : (input : Input) {listed : Bool} {status : List Member} {coming : List Start} {ahead : List (HPoint × PointName)} {tests : List (Segment × Segment)} {rows : List Row} (nodes : ℕ) → IsUnderWay input listed status coming ahead tests rows nodes
+    → length input.marked ≤ segments_max → nodes + 1 < 2 ^ 64
+count_fits input nodes way few = fits nodes (length input.marked) few (count_most input nodes way)
   where
-    fits : (k m o : ℕ) → k ≤ m → m ≡ o → o ≤ 230584300921369396 * (230584300921369396 * 3 + 17) → k + 1 < 2 ^ 128
-    fits k m o h f l = omega (arith, h, f, l)
+    fits : (k n : ℕ) → n ≤ 65536 → k ≤ n * (n * 3 + 17) → k + 1 < 2 ^ 64
+    fits k n few h =
+        let product : n * (n * 3 + 17) ≤ 65536 * (65536 * 3 + 17) = mul-le n (n * 3 + 17) 65536 (65536 * 3 + 17) few (omega (arith, few)) in
+        omega (arith, h, product)

@@ -12,7 +12,7 @@ use std::cmp::Ordering;
 #[derive(Clone, Copy)]
 pub struct Begin {
     pub name: PointName,
-    pub number: u128,
+    pub number: u64,
 }
 
 /// A unit that goes on after the sweep's place, with the last node on it, a bit for each base layer

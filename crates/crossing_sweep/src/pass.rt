@@ -23,7 +23,7 @@ pub struct Crossed {
     /// The pairs of neighbours that were tested, if they are listed.
     pub tests: Vec<(Seg, Seg)>,
     /// How many nodes were passed.
-    pub nodes: u128,
+    pub nodes: u64,
 }
 
 /// A pass over a column that has come to some place.
@@ -34,7 +34,7 @@ pub(crate) struct Pass {
     pub(crate) status: Vec<Member>,
     pub(crate) search: Search,
     pub(crate) rows: Vec<Row>,
-    pub(crate) nodes: u128,
+    pub(crate) nodes: u64,
 }
 
 /// The boundary of an input, found by one pass that stops after more than so many pieces.
@@ -111,8 +111,8 @@ impl Pass {
         let Some((at, name)) = self.search.ahead.take_first() else {
             return Ok(false);
         };
-        // An input's segments fit a list, and so a count of its nodes fits too.
-        let _ = input.marked().len();
+        // An input has few segments, and so a count of its nodes fits.
+        let _ = input.marked();
         let begin = Begin {
             name,
             number: self.nodes,

@@ -14,8 +14,8 @@ pub struct Row {
     pub support: Seg,
     pub from: PointName,
     pub to: PointName,
-    pub first: u128,
-    pub last: u128,
+    pub first: u64,
+    pub last: u64,
 }
 
 /// Closes the pieces of a bundle: those of the boundary become rows.

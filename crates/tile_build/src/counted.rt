@@ -7,5 +7,5 @@ use plane_base::Seg;
 pub struct Counted {
     pub tile: Tile,
     pub tests: Vec<(Seg, Seg)>,
-    pub nodes: u128,
+    pub nodes: u64,
 }

@@ -4,4 +4,4 @@ use Rattle.arrange.proofs.BaseLemmas.{few_layers}
 use Rattle.arrange.proofs.tile_input.TileInput.marked.Goals as goal
 
 pub returns-clause-few : goal.returns-clause-few
-returns-clause-few c = few_layers _ c.deref.result.now c.self.invariant (ap (map marked_of) c.deref.ensures.value)
+returns-clause-few c = few_layers _ c.deref.result.now c.self.invariant.0 (ap (map marked_of) c.deref.ensures.value)

@@ -1,6 +1,6 @@
 use Rattle.std.proofs.Common.{◌≡◌, ◌<◌, ◌≤◌, length, ap, arith}
 use Rattle.overlay_terms.specs.Column.{column_count}
-use Rattle.arrange.proofs.BaseLemmas.{made_more, made_whole, made_input}
+use Rattle.arrange.proofs.BaseLemmas.{made_more, made_whole, made_input, made_few}
 use Rattle.arrange.proofs.tile_input.TileInput.of.Goals as goal
 
 pub loop-layer-preserved : goal.loop-layer-preserved
@@ -14,7 +14,8 @@ invariant_of-result c =
     let full : length c.args.bases.now ≤ c.loop-layer.layer = omega arith in
     let small : c.args.column < column_count = omega arith in
     let few : c.args.steps.bases ≤ 32 = omega arith in
-    made_input c.args.column c.args.bases.now _ c.args.steps small few c.requires (made_whole c.args.column c.loop-layer.layer c.args.bases.now _ full c.loop-layer.invariant)
+    let made = made_whole c.args.column c.loop-layer.layer c.args.bases.now _ full c.loop-layer.invariant in
+    (made_input c.args.column c.args.bases.now _ c.args.steps small few c.requires made, made_few c.args.column c.args.bases.now _ c.args.steps.bases few c.requires made)
 
 pub returns : goal.returns
 returns c =

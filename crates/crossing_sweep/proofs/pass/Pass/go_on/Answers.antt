@@ -1,8 +1,7 @@
 use Rattle.std.proofs.Common.{◌≡◌, ℕ, ◌+◌, ◌-◌, ◌≤◌, List, ◌∷◌, drop, take, length, refl, ap, sym, subst, ◌∙◌, arith}
-use Rattle.std.proofs.lemmas.List.{drop-drop, take_rest, length-drop, length-map}
+use Rattle.std.proofs.lemmas.List.{drop-drop, take_rest, length-drop}
 use Rattle.exact_point.specs.declared.point.HPoint.{HPoint}
 use Rattle.exact_point.specs.declared.point_name.PointName.{PointName}
-use Rattle.arrange.specs.Marked.{marked_of}
 use Rattle.crossing_sweep.specs.Crossed.{IsUnderWay}
 use Rattle.crossing_sweep.specs.declared.start.Start.{Start}
 use Rattle.crossing_sweep.specs.declared.testing.Search.{Search}
@@ -22,9 +21,7 @@ pub returns-in_default-clause-ended : goal.returns-in_default-clause-ended
 returns-in_default-clause-ended c = λ e. c.in_default.ensures.left refl
 
 pub overflow_add-self-2 : goal.overflow_add-self-2
-overflow_add-self-2 c =
-    let long : length c.args.input.now.marked ≡ length c.marked.result.now = ap length (sym c.marked.ensures.value) ∙ length-map c.marked.result.now marked_of in
-    omega (arith, count_fits c.args.input.now c.args.self.now.nodes (length c.marked.result.now) c.requires.way long c.marked.type_inv.1)
+overflow_add-self-2 c = omega (arith, count_fits c.args.input.now c.args.self.now.nodes c.requires.way c.marked.ensures.fits)
 
 pub overflow_add-self : goal.overflow_add-self
 overflow_add-self c =
