@@ -18,10 +18,9 @@ use Rattle.layer_book.proofs.Answering.{take_there}
 use Rattle.layer_book.proofs.Names.{own_name}
 use Rattle.layer_book.proofs.Wanted.{index_at}
 use Rattle.tile_build.specs.declared.tile.Tile as code
-use Rattle.tile_build.specs.Tile.{tile_of}
+use Rattle.tile_build.specs.Tile.{finished_of, tile_of}
 use Rattle.version_core.specs.Version.{IsVersion}
 use Rattle.version_core.proofs.Restored.{found_is}
-use Rattle.record_form.specs.Image.{finished_of}
 use Rattle.flush_core.specs.Imaging.{named_tile, tiles_in, tiles_of_layer, tiles_in_order}
 
 -- ---- what is found in lists, one behind the other

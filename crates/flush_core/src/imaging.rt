@@ -1,7 +1,7 @@
 //! Images of versions.
 ghost use Rattle.std.specs.Prelude.{◌≡◌, ◌++◌, map, IfOk, OnOk};
 ghost use Rattle.overlay_terms.specs.Column.{columns};
-ghost use Rattle.record_form.specs.Image.{finished_of};
+ghost use Rattle.tile_build.specs.Tile.{finished_of};
 ghost use Rattle.flush_core.specs.Imaging.{tiles_in, tiles_in_order, version_held};
 ghost use Rattle.flush_core.specs.Stored.{IsImageOf};
 

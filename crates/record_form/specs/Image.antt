@@ -8,12 +8,8 @@ use Rattle.overlay_terms.specs.Commands.{version_max}
 use Rattle.overlay_terms.specs.Histories as terms
 use Rattle.overlay_terms.specs.StoredTiles.{AreStored}
 use Rattle.tile_build.specs.declared.tile.Tile.{Tile}
-use Rattle.tile_build.specs.Tile.{tile_of}
+use Rattle.tile_build.specs.Tile.{finished_of}
 use Rattle.store_terms.specs.Image.{Held}
-
--- a tile of the code as a finished tile
-abbrev pub finished_of : Name × ℕ × Tile → terms.Finished
-finished_of t = record { name = t.0; column = t.1; tile = tile_of t.2 }
 
 -- number, layers and tiles of the code as what a store holds
 abbrev pub held : ℕ → List Layer → List (Name × ℕ × Tile) → Held

@@ -2,7 +2,8 @@
 ghost use Rattle.std.specs.Prelude.{◌≡◌, ◌≤◌, map};
 ghost use Rattle.overlay_terms.specs.Commands.{version_max};
 ghost use Rattle.overlay_terms.specs.StoredTiles.{AreStored};
-ghost use Rattle.record_form.specs.Image.{finished_of, held, IsImage};
+ghost use Rattle.record_form.specs.Image.{held, IsImage};
+ghost use Rattle.tile_build.specs.Tile.{finished_of};
 
 use layer_book::layers::Layers;
 use layer_expr::name::Name;

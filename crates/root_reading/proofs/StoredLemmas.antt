@@ -17,8 +17,7 @@ use Rattle.layer_book.proofs.Closing.{near_index}
 use Rattle.layer_expr.specs.Name.{is_name}
 use Rattle.store_terms.specs.declared.damage.Damage.TheVariants.{LayerRefused}
 use Rattle.tile_build.specs.declared.tile.Tile as code
-use Rattle.tile_build.specs.Tile.{tile_of as code_tile}
-use Rattle.record_form.specs.Image.{finished_of}
+use Rattle.tile_build.specs.Tile.{finished_of, tile_of as code_tile}
 use Rattle.std.proofs.lemmas.List.{map-append}
 use Rattle.store_terms.specs.Image.{may_stand, is_accepted, refusal_of_keeping, with_layer}
 use Rattle.root_reading.specs.Stored.{AreStoredTo}

@@ -3,7 +3,7 @@ ghost use Rattle.std.specs.Prelude.{◌↔◌, [], List, map, IfOk, OnOk, IfErr}
 ghost use Rattle.std.proofs.Common.{inl, inr};
 ghost use Rattle.overlay_terms.specs.Histories.{Finished};
 ghost use Rattle.overlay_terms.specs.StoredTiles.{AreStored};
-ghost use Rattle.record_form.specs.Image.{finished_of};
+ghost use Rattle.tile_build.specs.Tile.{finished_of};
 ghost use Rattle.record_form.specs.Listing.{listed_of, listing_of};
 ghost use Rattle.store_terms.specs.Image.{layers_of};
 ghost use Rattle.root_reading.specs.Looking.{Gives, Looks, Causes};

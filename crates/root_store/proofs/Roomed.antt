@@ -8,7 +8,7 @@ use Rattle.extent_map.specs.FirstFit.{IsFull}
 use Rattle.extent_map.specs.Taken.{taken_of}
 use Rattle.store_terms.specs.Catalog.{catalog}
 use Rattle.store_terms.specs.Image.{Held}
-use Rattle.record_form.specs.Image.{finished_of}
+use Rattle.tile_build.specs.Tile.{finished_of}
 use Rattle.record_form.specs.Listing.{listing_of, IsListable}
 use Rattle.record_form.specs.declared.catalog.Listed as code
 use Rattle.root_store.specs.declared.room.Room.{Room}

@@ -11,7 +11,7 @@ use Rattle.overlay_terms.specs.Orderly.{is_orderly_after}
 use Rattle.extent_map.specs.declared.extent.Extent as runs
 use Rattle.extent_map.specs.FirstFit.{IsFull}
 use Rattle.layer_book.proofs.Wanted.{index_at}
-use Rattle.record_form.specs.Image.{finished_of}
+use Rattle.tile_build.specs.Tile.{finished_of}
 use Rattle.record_form.specs.Tiles.{named_by}
 use Rattle.store_terms.specs.TileRecord.{named_tile}
 use Rattle.root_store.specs.declared.draft.Draft.{Draft}

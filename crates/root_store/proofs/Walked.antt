@@ -13,7 +13,7 @@ use Rattle.std.specs.Option.{option_map}
 use Rattle.overlay_terms.specs.Plane.{WholePoint}
 use Rattle.overlay_terms.specs.Trees.{Tree}
 use Rattle.overlay_terms.specs.Column.{column_count}
-use Rattle.tile_build.specs.Tile.{tile_of}
+use Rattle.tile_build.specs.Tile.{finished_of, tile_of}
 use Rattle.store_terms.specs.declared.root.Extent.{Extent}
 use Rattle.store_terms.specs.Catalog.{Listed}
 use Rattle.store_terms.specs.BaseRecord.{base_of_record}
@@ -24,7 +24,6 @@ use Rattle.layer_book.proofs.Lookups.{as_derived}
 use Rattle.layer_book.proofs.Names.{stands_is}
 use Rattle.overlay_terms.specs.Orderly.{is_orderly_after}
 use Rattle.tile_build.specs.declared.tile.Tile.{Tile}
-use Rattle.record_form.specs.Image.{finished_of}
 use Rattle.record_form.specs.declared.catalog.Listed as code
 use Rattle.record_form.specs.Listing.{listed_of as listed_code, listing_of}
 use Rattle.root_store.specs.declared.write.Write.{Write}

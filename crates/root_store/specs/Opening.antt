@@ -4,7 +4,7 @@ use Rattle.disk_model.specs.declared.disk.Disk.{Ghosts}
 use Rattle.disk_model.specs.Disk.{Only, Failed}
 use Rattle.disk_model.specs.Moments.{Leaves, LeavesOnly}
 use Rattle.extent_map.specs.Taken.{taken_of}
-use Rattle.record_form.specs.Image.{finished_of}
+use Rattle.tile_build.specs.Tile.{finished_of}
 use Rattle.store_terms.specs.Image.{Held}
 use Rattle.store_terms.specs.Frame.{extents_of}
 use Rattle.store_terms.specs.StandsFor.{root_of, reading}

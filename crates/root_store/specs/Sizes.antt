@@ -8,7 +8,7 @@ use Rattle.tile_build.specs.declared.tile.Tile.{Tile}
 use Rattle.store_terms.specs.BaseRecord as bases
 use Rattle.store_terms.specs.TileRecord.{named_tile}
 use Rattle.store_terms.specs.Image.{Held}
-use Rattle.record_form.specs.Image.{finished_of}
+use Rattle.tile_build.specs.Tile.{finished_of}
 use Rattle.record_form.specs.Tiles.{named_by}
 
 -- a layer's own record: its rings, or its expression

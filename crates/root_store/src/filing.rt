@@ -3,7 +3,7 @@ ghost use Rattle.std.specs.Prelude.{◌≡◌, ◌⊎◌, ◌+◌, ◌<◌, ◌�
 ghost use Rattle.overlay_terms.specs.Column.{column_count};
 ghost use Rattle.extent_map.specs.declared.extent.Extent as runs;
 ghost use Rattle.extent_map.specs.FirstFit.{IsFull};
-ghost use Rattle.record_form.specs.Image.{finished_of};
+ghost use Rattle.tile_build.specs.Tile.{finished_of};
 ghost use Rattle.record_form.specs.Listing.{listed_of, listing_of, IsListable};
 ghost use Rattle.root_store.specs.Filing.{Filed};
 ghost use Rattle.root_store.specs.Drafting.{ArePlaced, IsDraft};

@@ -4,7 +4,7 @@ ghost use Rattle.disk_model.specs.Disk.{Fewer, Only};
 ghost use Rattle.disk_model.specs.Moments.{Leaves, LeavesOnly};
 ghost use Rattle.overlay_terms.specs.Commands.{version_max};
 ghost use Rattle.overlay_terms.specs.StoredTiles.{AreStored};
-ghost use Rattle.record_form.specs.Image.{finished_of};
+ghost use Rattle.tile_build.specs.Tile.{finished_of};
 ghost use Rattle.extent_map.specs.Taken.{taken_of, limit_of};
 ghost use Rattle.store_terms.specs.Frame.{extents_of};
 ghost use Rattle.store_terms.specs.Image.{held_of};

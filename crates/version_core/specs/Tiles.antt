@@ -6,17 +6,12 @@ use Rattle.overlay_terms.specs.Commands.{Command}
 use Rattle.overlay_terms.specs.Touched.{is_touched}
 use Rattle.overlay_terms.specs.Histories.{Finished, tile_at, is_formed}
 use Rattle.overlay_terms.specs.Histories as terms
-use Rattle.tile_build.specs.declared.tile.Tile.{Tile}
 use Rattle.tile_build.specs.Tile.{tile_of}
 use Rattle.version_core.specs.declared.tiles.FinishedTile.{FinishedTile}
 
 -- a finished tile of the code
 abbrev pub finished : FinishedTile → Finished
 finished f = record { name = f.name; column = f.column; tile = tile_of f.tile.value }
-
--- a tile with its name and its column, as a caller gives it
-abbrev pub finished_of : Name × ℕ × Tile → Finished
-finished_of t = record { name = t.0; column = t.1; tile = tile_of t.2 }
 
 -- whether a finished tile is that of a layer and column
 abbrev pub is_of : Name → ℕ → Finished → Bool

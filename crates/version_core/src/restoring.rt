@@ -3,7 +3,8 @@ ghost use Rattle.std.specs.Prelude.{◌≡◌, ◌<◌, ◌≤◌, All, IfOk, If
 ghost use Rattle.overlay_terms.specs.Column.{column_count};
 ghost use Rattle.overlay_terms.specs.Commands.{version_max};
 ghost use Rattle.overlay_terms.specs.StoredTiles.{AreStored};
-ghost use Rattle.version_core.specs.Tiles.{finished, finished_of};
+ghost use Rattle.version_core.specs.Tiles.{finished};
+ghost use Rattle.tile_build.specs.Tile.{finished_of};
 
 use crate::fault::VersionFault;
 use crate::tiles::FinishedTile;

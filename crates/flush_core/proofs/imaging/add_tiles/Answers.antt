@@ -1,6 +1,6 @@
 use Rattle.std.proofs.Common.{rules, ◌≡◌, ◌++◌, map, refl, ap, sym, ◌∙◌, append-nil}
 use Rattle.overlay_terms.specs.Histories.{tile_at}
-use Rattle.record_form.specs.Image.{finished_of}
+use Rattle.tile_build.specs.Tile.{finished_of}
 use Rattle.flush_core.specs.Imaging.{named_tile}
 use Rattle.flush_core.proofs.ImageLemmas.{columns_more, pushed}
 use Rattle.flush_core.proofs.imaging.add_tiles.Goals as goal

@@ -1,6 +1,6 @@
 use Rattle.std.proofs.Common.{◌≡◌, ◌++◌, map}
 use Rattle.std.specs.List.{range_with_len}
-use Rattle.record_form.specs.Image.{finished_of}
+use Rattle.tile_build.specs.Tile.{finished_of}
 use Rattle.flush_core.specs.Imaging.{tiles_in}
 use Rattle.flush_core.proofs.imaging.add_tiles.Given as goal
 

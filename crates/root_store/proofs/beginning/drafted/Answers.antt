@@ -5,7 +5,7 @@ use Rattle.overlay_terms.specs.Histories.{Finished}
 use Rattle.extent_map.specs.declared.extent.Extent as runs
 use Rattle.extent_map.specs.Taken.{taken_of, limit_of}
 use Rattle.layer_book.specs.Layer.{IsBook}
-use Rattle.record_form.specs.Image.{finished_of}
+use Rattle.tile_build.specs.Tile.{finished_of}
 use Rattle.record_form.specs.Listing.{listing_of}
 use Rattle.record_form.specs.declared.catalog.Listed as code
 use Rattle.root_store.specs.declared.next.Next.{Next}

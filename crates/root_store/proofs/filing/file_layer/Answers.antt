@@ -2,7 +2,7 @@ use Rattle.std.proofs.Common.{◌≡◌, ◌^◌, ◌<◌, ◌++◌, ◌∷◌, 
 use Rattle.overlay_terms.specs.Column.{column_count}
 use Rattle.overlay_terms.specs.Layers.{Content, base, derived, Layer}
 use Rattle.layer_book.specs.Layer.{content}
-use Rattle.record_form.specs.Image.{finished_of}
+use Rattle.tile_build.specs.Tile.{finished_of}
 use Rattle.overlay_terms.specs.Plane.{WholePoint}
 use Rattle.plane_base.specs.BaseLayer.{rings_fault}
 use Rattle.layer_expr.specs.Spelling.{expression_text, IsExpression}

@@ -1,7 +1,7 @@
 use Rattle.std.proofs.Common.{◌≡◌, ℕ, List, [], length, take, map}
 use Rattle.std.specs.List.{All, flat_map}
 use Rattle.extent_map.specs.declared.extent.Extent as runs
-use Rattle.record_form.specs.Image.{finished_of}
+use Rattle.tile_build.specs.Tile.{finished_of}
 use Rattle.record_form.specs.Listing.{listing_of, IsListable}
 use Rattle.root_store.specs.Drafting.{ArePlaced, IsDraft}
 use Rattle.root_store.specs.Sizes.{sizes_of_layer}

@@ -1,10 +1,9 @@
 use Rattle.std.proofs.Common.{◌≡◌, ◌+◌, ◌^◌, ◌<◌, ℕ, List, length, map, drop, Some, refl, sym, subst}
 use Rattle.overlay_terms.specs.Layers.{Name}
 use Rattle.tile_build.specs.declared.tile.Tile.{Tile}
-use Rattle.tile_build.specs.Tile.{tile_of}
+use Rattle.tile_build.specs.Tile.{finished_of, tile_of}
 use Rattle.store_terms.specs.TileRecord.{named_tile, tile_of_record}
 use Rattle.record_form.specs.Tiles.{named_by}
-use Rattle.record_form.specs.Image.{finished_of}
 use Rattle.store_terms.specs.declared.root.Extent.{Extent}
 use Rattle.root_store.specs.declared.fault.StoreFault.TheVariants.{Full}
 use Rattle.root_store.specs.Filing.{Filed}

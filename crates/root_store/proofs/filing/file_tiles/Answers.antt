@@ -1,6 +1,6 @@
 use Rattle.std.proofs.Common.{◌+◌, ◌++◌, ◌∷◌, [], ℕ, length, map, ap, ◌∙◌}
 use Rattle.std.proofs.lemmas.List.{length-append}
-use Rattle.record_form.specs.Image.{finished_of}
+use Rattle.tile_build.specs.Tile.{finished_of}
 use Rattle.root_store.specs.Filing.{filed_tiles}
 use Rattle.root_store.specs.declared.fault.StoreFault.TheVariants.{Full}
 use Rattle.root_store.specs.Sizes.{tile_size}

@@ -1,6 +1,6 @@
 use Rattle.std.proofs.Common.{◌≡◌, ℕ, List, length, map}
 use Rattle.extent_map.specs.declared.extent.Extent as runs
-use Rattle.record_form.specs.Image.{finished_of}
+use Rattle.tile_build.specs.Tile.{finished_of}
 use Rattle.root_store.specs.Filing.{Filed}
 use Rattle.root_store.specs.Drafting.{ArePlaced, IsDraft}
 use Rattle.root_store.specs.Placing.{AreTaken}

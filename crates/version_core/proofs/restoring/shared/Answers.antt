@@ -3,7 +3,7 @@ use Rattle.std.proofs.lemmas.List.{map-append}
 use Rattle.std.specs.Vec.Iter.{into_iter_items}
 use Rattle.overlay_terms.specs.Column.{column_count}
 use Rattle.overlay_terms.specs.Histories.{Finished}
-use Rattle.version_core.specs.Tiles.{finished_of}
+use Rattle.tile_build.specs.Tile.{finished_of}
 use Rattle.version_core.proofs.Restored.{in_middle}
 use Rattle.version_core.proofs.restoring.shared.Goals as goal
 

@@ -1,6 +1,7 @@
 use Rattle.std.proofs.Common.{◌≡◌, ◌++◌, map, length}
 use Rattle.std.specs.Vec.Iter.{into_iter_items, into_iter_len}
-use Rattle.version_core.specs.Tiles.{finished, finished_of}
+use Rattle.version_core.specs.Tiles.{finished}
+use Rattle.tile_build.specs.Tile.{finished_of}
 use Rattle.version_core.proofs.restoring.shared.Given as goal
 
 -- the tiles so far are shared, and those to come stand behind them

@@ -1,5 +1,5 @@
 use Rattle.std.proofs.Common.{map, sym, subst}
-use Rattle.version_core.specs.Tiles.{finished_of}
+use Rattle.tile_build.specs.Tile.{finished_of}
 use Rattle.version_core.specs.Version.{IsVersion}
 use Rattle.version_core.proofs.Restored.{restored_is_version}
 use Rattle.version_core.proofs.version.Version.restore.Goals as goal
