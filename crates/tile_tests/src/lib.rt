@@ -4,11 +4,15 @@
 #[cfg(test)]
 mod arrangement_tests;
 #[cfg(test)]
+mod crossing_tests;
+#[cfg(test)]
 mod layer_tests;
 #[cfg(test)]
 mod place_tests;
 #[cfg(test)]
 mod point_tests;
+#[cfg(test)]
+mod rings;
 #[cfg(test)]
 mod sweep_tests;
 #[cfg(test)]

@@ -29,6 +29,10 @@ pub const TRIANGLE: &str = "POLYGON ((0 0, 3 1, 0 2, 0 0))";
 
 pub const STRIP: &str = "POLYGON ((1 -1, 2 -1, 2 3, 1 3, 1 -1))";
 
+pub const NEXT_TO_IT: &str = "POLYGON ((10 0, 20 0, 20 10, 10 10, 10 0))";
+
+pub const DIAMOND: &str = "POLYGON ((0 -2, 2 0, 0 2, -2 0, 0 -2))";
+
 pub const NOTHING: &str = "POLYGON EMPTY";
 
 /// The command that puts a text under a name.

@@ -1,0 +1,111 @@
+//! Tiles by the pass from node to node beside tiles by all pairs, at several caps, and what the pass
+//! counts: on the worked inputs, on two combs, and on scattered rings round the border of two columns.
+use crate::rings::{combs, next, scattered};
+use crate::testing::{
+    ACROSS, BOW_TIE, CORNER, DIAMOND, LEFT_HALF, NEXT_TO_IT, NOTHING, SHIFTED, SQUARE, STRIP,
+    TRIANGLE, TWICE, input_of,
+};
+use arrange::TileInput;
+use std::alloc::Global;
+use std::test::Fail;
+use tile_build::{Tile, build, build_by_pairs, build_counted};
+
+/// How many pieces a tile holds.
+fn size_of(tile: &Tile) -> usize {
+    match tile {
+        Tile::Pieces(pieces) => pieces.len(),
+        Tile::Oversize => 0,
+    }
+}
+
+/// Whether both calls of the pass give the tile by all pairs, by its ends, at a cap.
+fn agree_at(alloc: Global, input: &TileInput, cap: usize) -> Result<bool, Fail> {
+    let plain = build_by_pairs(alloc, input, cap)?;
+    let counted = build_counted(alloc, input, cap)?;
+    let built = build(alloc, input, cap)?;
+    Ok(counted.tile.is_same(&plain) && built.is_same(&plain))
+}
+
+/// Whether they do at caps below the size of the tile, and at its size.
+fn agree(alloc: Global, input: &TileInput) -> Result<bool, Fail> {
+    let size = size_of(&build_by_pairs(alloc, input, usize::MAX)?);
+    for &cap in &[0, size.saturating_sub(1), size] {
+        if !agree_at(alloc, input, cap)? {
+            return Ok(false);
+        }
+    }
+    Ok(true)
+}
+
+#[test]
+fn the_pass_gives_the_tiles_by_all_pairs_of_the_worked_inputs(rt: HostRuntime) -> Result<(), Fail> {
+    for &(first, second, definition, column) in &[
+        (SQUARE, SHIFTED, "A & B", 8),
+        (ACROSS, NOTHING, "A", 7),
+        (ACROSS, NOTHING, "A", 8),
+        (TRIANGLE, STRIP, "A & B", 8),
+        (SQUARE, NEXT_TO_IT, "A | B", 8),
+        (BOW_TIE, NOTHING, "A", 8),
+        (TWICE, NOTHING, "A", 8),
+        (CORNER, NOTHING, "A", 15),
+        (CORNER, NOTHING, "A", 16),
+        (DIAMOND, NOTHING, "A", 7),
+        (DIAMOND, NOTHING, "A", 8),
+        (SQUARE, LEFT_HALF, "A & B", 8),
+        (SQUARE, LEFT_HALF, "A ^ B", 8),
+        (SQUARE, SHIFTED, "A & B", 9),
+    ] {
+        let input = input_of(rt.alloc(), first, second, definition, column)?;
+        assert!(rt;
+            agree(rt.alloc(), &input)?,
+            "{definition} of {first} and {second} in {column}"
+        );
+    }
+    Ok(())
+}
+
+#[test]
+fn the_pass_gives_the_tile_by_all_pairs_of_two_combs(rt: HostRuntime) -> Result<(), Fail> {
+    let input = combs(rt.alloc(), 128, 511)?;
+    assert!(rt; agree(rt.alloc(), &input)?);
+    // 255 sides cross 255, two rectangles cross at a corner of the grid, and each has four corners
+    let counted = build_counted(rt.alloc(), &input, 131076)?;
+    assert_eq!(rt; counted.nodes, 66050);
+    assert_eq!(rt; size_of(&counted.tile), 131076);
+    Ok(())
+}
+
+#[test]
+fn the_pass_gives_the_tiles_by_all_pairs_of_200_scattered_inputs(
+    rt: HostRuntime,
+) -> Result<(), Fail> {
+    let mut seed = 1;
+    for _ in 0..200 {
+        seed = next(seed);
+        // every second seed is even
+        let column = if seed % 2 == 0 { 7 } else { 8 };
+        let input = scattered(rt.alloc(), seed, -4, column)?;
+        assert!(rt; agree(rt.alloc(), &input)?, "seed {seed}");
+    }
+    Ok(())
+}
+
+#[test]
+fn nodes_pieces_and_tests_are_counted(rt: HostRuntime) -> Result<(), Fail> {
+    // the most tests are two a node
+    for &(first, second, definition, column, nodes, tests, pieces) in &[
+        (SQUARE, SHIFTED, "A & B", 8, 10, 20, 4),
+        (ACROSS, NOTHING, "A", 8, 4, 8, 3),
+        (BOW_TIE, NOTHING, "A", 8, 5, 10, 6),
+        (SQUARE, LEFT_HALF, "A & B", 8, 6, 12, 4),
+        // no segment
+        (SQUARE, SHIFTED, "A & B", 9, 0, 0, 0),
+    ] {
+        let input = input_of(rt.alloc(), first, second, definition, column)?;
+        let counted = build_counted(rt.alloc(), &input, 65536)?;
+        assert_eq!(rt; counted.nodes, nodes, "{first} and {second}");
+        assert!(rt; counted.tests.len() <= tests, "{first} and {second}");
+        assert_eq!(rt; size_of(&counted.tile), pieces, "{first} and {second}");
+    }
+    Ok(())
+}
