@@ -1,0 +1,445 @@
+"""Builds tiles by the pass from node to node and by all pairs: side by side on drawn inputs.
+
+python3 bench/tiles.py inputs [PROGRAM]
+
+Copies the crates up to tile_build and layer_book with what they have built, adds a small program over their calls and
+builds it, which proves what has no proof yet; PROGRAM is such a program that was built before.
+
+inputs: 2,000 inputs from fixed seeds, a quarter of them at full coordinates, most with edges that touch, overlap, stand
+upright or are cut by a border of the column. Of each the tiles of `build` and `build_counted` are compared by their ends
+with that of `build_by_pairs`, where the cap is 0, one below the size of the tile, and its size.
+"""
+
+import pathlib
+import shutil
+import subprocess
+import sys
+import tempfile
+
+TOP = pathlib.Path(__file__).resolve().parent.parent
+COORDINATE_MAX = 2**20
+WIDTH = 2**17
+COLUMNS = 17
+
+MAIN = r"""//! Builds tiles of given inputs by the pass and by all pairs, for bench/tiles.py.
+#![tactic(auto)]
+
+mod building;
+mod comparing;
+mod reading;
+
+use crate::building::build_often;
+use crate::comparing::compare_all;
+use crate::reading::next_input;
+use std::test::Fail;
+use std::{env, fs};
+
+/// The line of a process's status that tells the most memory that it has had.
+fn peak(status: &str) -> &str {
+    for line in status.lines() {
+        if line.starts_with("VmHWM:") {
+            return line;
+        }
+    }
+    ""
+}
+
+fn main(rt: HostRuntime) -> Result<(), Fail> {
+    let mut words = env::args(&rt)?;
+    words.next();
+    let (Some(word), Some(path), Some(cap), Some(times)) = (
+        words.next(),
+        words.next(),
+        words.next(),
+        words.next(),
+    ) else {
+        return Err(Fail::new("WORD FILE CAP TIMES"));
+    };
+    let text = fs::read_to_string(&rt, path.as_str())?;
+    let mut lines = text.lines();
+    if word.as_str() == "compare" {
+        let sums = compare_all(rt.alloc(), &mut lines)?;
+        println!(rt;
+            "{} {} {} {}",
+            sums.inputs, sums.tiles, sums.pieces, sums.differences
+        )?;
+        return Ok(());
+    }
+    let Some(input) = next_input(rt.alloc(), &mut lines)? else {
+        return Err(Fail::new("no input"));
+    };
+    let (cap, times) = (cap.parse::<usize>()?, times.parse::<u32>()?);
+    let size = build_often(rt.alloc(), &input, word.as_str() == "pairs", cap, times)?;
+    let status = fs::read_to_string(&rt, "/proc/self/status")?;
+    println!(rt; "{size} {}", peak(status.as_str()))?;
+    Ok(())
+}
+"""
+
+READING = r"""//! Inputs of tiles from lines of a text.
+use arrange::TileInput;
+use layer_book::command::Command;
+use layer_book::layers::Layers;
+use layer_expr::name::Name;
+use layer_expr::reading::read_expr;
+use std::alloc::Global;
+use std::str::Lines;
+use std::sync::Arc;
+use std::test::Fail;
+use wkt_form::reading::read_wkt;
+
+fn put(alloc: Global, name: &str, text: &str) -> Result<Command, Fail> {
+    let rings = read_wkt(alloc, text.as_bytes())?;
+    Ok(Command::Put(Name::new(alloc, name.as_bytes())?, Arc::new(alloc, rings)?))
+}
+
+fn define(alloc: Global, name: &str, text: &str) -> Result<Command, Fail> {
+    let expression = read_expr(alloc, text.as_bytes())?;
+    Ok(Command::Define(
+        Name::new(alloc, name.as_bytes())?,
+        Arc::new(alloc, expression)?,
+    ))
+}
+
+fn after(alloc: Global, layers: Layers, change: Command) -> Result<Layers, Fail> {
+    Ok(layers.apply(alloc, &change)?)
+}
+
+/// The layers A and B of these texts, and I by a definition.
+fn layers_of(alloc: Global, first: &str, second: &str, definition: &str) -> Result<Layers, Fail> {
+    let one = after(alloc, Layers::new(alloc), put(alloc, "A", first)?)?;
+    let two = after(alloc, one, put(alloc, "B", second)?)?;
+    after(alloc, two, define(alloc, "I", definition)?)
+}
+
+/// The next input: a line with its column, one with a definition, and one for each of the layers A and B.
+pub fn next_input(alloc: Global, lines: &mut Lines<'_>) -> Result<Option<TileInput>, Fail> {
+    let (Some(column), Some(definition), Some(first), Some(second)) = (
+        lines.next(),
+        lines.next(),
+        lines.next(),
+        lines.next(),
+    ) else {
+        return Ok(None);
+    };
+    let layers = layers_of(alloc, first, second, definition)?;
+    let name = Name::new(alloc, b"I")?;
+    Ok(Some(layers.input(alloc, &name, column.parse::<u8>()?)?))
+}
+"""
+
+BUILDING = r"""//! Building one tile again and again.
+use arrange::TileInput;
+use std::alloc::Global;
+use std::test::Fail;
+use tile_build::{Tile, build, build_by_pairs};
+
+/// How many pieces a tile holds.
+pub fn size_of(tile: &Tile) -> usize {
+    match tile {
+        Tile::Pieces(pieces) => pieces.len(),
+        Tile::Oversize => 0,
+    }
+}
+
+/// Builds the tile of an input so many times by one of the bodies, and gives its size.
+pub fn build_often(
+    alloc: Global,
+    input: &TileInput,
+    by_pairs: bool,
+    cap: usize,
+    times: u32,
+) -> Result<usize, Fail> {
+    let mut size = 0;
+    for _ in 0..times {
+        let tile = if by_pairs {
+            build_by_pairs(alloc, input, cap)?
+        } else {
+            build(alloc, input, cap)?
+        };
+        size = size_of(&tile);
+    }
+    Ok(size)
+}
+"""
+
+COMPARING = r"""//! Tiles by the pass beside tiles by all pairs.
+use crate::building::size_of;
+use crate::reading::next_input;
+use arrange::TileInput;
+use std::alloc::Global;
+use std::str::Lines;
+use std::test::Fail;
+use tile_build::{build, build_by_pairs, build_counted};
+
+/// What was compared: inputs, tiles that the pass built for them, pieces of the whole tiles, and tiles of the pass that
+/// differ by their ends from those by all pairs.
+#[derive(Clone, Copy)]
+pub struct Sums {
+    pub inputs: u64,
+    pub tiles: u64,
+    pub pieces: usize,
+    pub differences: u64,
+}
+
+impl Sums {
+    /// One tile more of the pass.
+    fn add(&mut self, is_same: bool) {
+        self.tiles = self.tiles.saturating_add(1);
+        if !is_same {
+            self.differences = self.differences.saturating_add(1);
+        }
+    }
+}
+
+fn compare_at(alloc: Global, input: &TileInput, cap: usize, sums: &mut Sums) -> Result<(), Fail> {
+    let plain = build_by_pairs(alloc, input, cap)?;
+    let counted = build_counted(alloc, input, cap)?;
+    let built = build(alloc, input, cap)?;
+    sums.add(counted.tile.is_same(&plain));
+    sums.add(built.is_same(&plain));
+    Ok(())
+}
+
+fn compare(alloc: Global, input: &TileInput, sums: &mut Sums) -> Result<(), Fail> {
+    let size = size_of(&build_by_pairs(alloc, input, usize::MAX)?);
+    sums.inputs = sums.inputs.saturating_add(1);
+    sums.pieces = sums.pieces.saturating_add(size);
+    for &cap in &[0, size.saturating_sub(1), size] {
+        compare_at(alloc, input, cap, sums)?;
+    }
+    Ok(())
+}
+
+/// Compares the tiles of all inputs of a text.
+pub fn compare_all(alloc: Global, lines: &mut Lines<'_>) -> Result<Sums, Fail> {
+    let mut sums = Sums {
+        inputs: 0,
+        tiles: 0,
+        pieces: 0,
+        differences: 0,
+    };
+    for _ in 0..u64::MAX {
+        let Some(input) = next_input(alloc, lines)? else {
+            break;
+        };
+        compare(alloc, &input, &mut sums)?;
+    }
+    Ok(sums)
+}
+"""
+
+CRATES = ["overlay_terms", "plane_base", "wkt_form", "exact_point", "layer_expr", "arrange", "tile_build", "layer_book"]
+
+
+# The program
+
+
+def needed(crates):
+    """The lines of crates.txt of these crates and of all below them."""
+    lines = {line.split(":")[0]: line for line in (TOP / "crates.txt").read_text().splitlines()}
+    found = set(crates)
+    for crate in reversed(lines):
+        if crate in found:
+            found.update(lines[crate].split(":")[1].split())
+    return {crate: line for crate, line in lines.items() if crate in found}
+
+
+def built(folder):
+    copy = pathlib.Path(folder) / "copy"
+    lines = needed(CRATES)
+    for crate in lines:
+        shutil.copytree(TOP / "crates" / crate, copy / "crates" / crate)
+    source = copy / "crates/tile_bench/src"
+    source.mkdir(parents=True)
+    for name, text in [("main", MAIN), ("reading", READING), ("building", BUILDING), ("comparing", COMPARING)]:
+        (source / f"{name}.rt").write_text(text)
+    (copy / "crates.txt").write_text("\n".join([*lines.values(), "tile_bench: " + " ".join(CRATES), ""]))
+    words = ["rt", "run", "--", "compare", "/dev/null", "0", "0"]
+    subprocess.run(words, cwd=source.parent, stdin=subprocess.DEVNULL, stdout=subprocess.DEVNULL, check=True)
+    return source.parent / "out/tile_bench"
+
+
+def text_of(layer):
+    rings = ["((" + ", ".join(f"{x} {y}" for x, y in ring) + "))" for ring in layer]
+    return "MULTIPOLYGON (" + ", ".join(rings) + ")" if rings else "POLYGON EMPTY"
+
+
+def lines_of(column, definition, layers):
+    return f"{column}\n{definition}\n{text_of(layers[0])}\n{text_of(layers[1])}\n"
+
+
+def closed(points):
+    return points + points[:1]
+
+
+class Draws:
+    """A plain generator: the next state is a product and a sum, the upper bits are the number."""
+
+    def __init__(self, seed):
+        self.state = seed
+
+    def below(self, count):
+        self.state = (self.state * 6364136223846793005 + 1442695040888963407) % 2**64
+        return (self.state >> 33) % count
+
+    def among(self, things):
+        return things[self.below(len(things))]
+
+
+# Drawn inputs: each kind gives the rings of two layers near (0, 0)
+
+
+def points_of_a_grid(draws, width=None):
+    width = width or draws.among([1, 2, 3, 4, 6])
+
+    def ring():
+        return closed([(draws.below(width + 1), draws.below(width + 1)) for _ in range(3 + draws.below(4))])
+
+    return [[ring() for _ in range(1 + draws.below(2))] for _ in range(2)]
+
+
+def through_one_point(draws):
+    width = draws.among([2, 3, 4])
+
+    def ring():
+        a, b = [(draws.below(2 * width + 1), draws.below(2 * width + 1)) for _ in range(2)]
+        return closed([a, (2 * width - a[0], 2 * width - a[1]), b, (2 * width - b[0], 2 * width - b[1])][: 3 + draws.below(2)])
+
+    return [[ring() for _ in range(1 + draws.below(3))] for _ in range(2)]
+
+
+def on_few_lines(draws):
+    width = draws.among([4, 6])
+    places = range(width + 1)
+    lines = [[(t, 0) for t in places], [(width // 2, t) for t in places], [(t, t) for t in places], [(t, width - t) for t in places]]
+    points = draws.among(lines) + draws.among(lines)
+
+    def ring():
+        return closed([draws.among(points) for _ in range(3 + draws.below(5))])
+
+    return [[ring() for _ in range(1 + draws.below(2))] for _ in range(2)]
+
+
+def doubled(draws):
+    first, second = points_of_a_grid(draws)
+    return [first + first[: draws.below(2)], second + first[: 1 + draws.below(2)]]
+
+
+def rectangles(draws):
+    width, height = draws.among([2, 3, 4]), draws.among([3, 6, 9])
+
+    def ring():
+        a, b, c, d = draws.below(width + 1), draws.below(width + 1), draws.below(height + 1), draws.below(height + 1)
+        return closed([(a, c), (b, c), (b, d), (a, d)])
+
+    def triangle():
+        return closed([(draws.below(width + 1), draws.below(height + 1)) for _ in range(3)])
+
+    return [[ring() for _ in range(1 + draws.below(2))] + [triangle()][: draws.below(2)] for _ in range(2)]
+
+
+def wide(draws):
+    return points_of_a_grid(draws, draws.among([10, 20, 40]))
+
+
+KINDS = [points_of_a_grid, points_of_a_grid, through_one_point, on_few_lines, doubled, rectangles, wide]
+
+
+def border(column):
+    return -COORDINATE_MAX + column * WIDTH
+
+
+def within(coordinate):
+    return max(-COORDINATE_MAX, min(COORDINATE_MAX, coordinate))
+
+
+def near_a_border(draws):
+    """Rings of one kind over the left border of a column, and that column or the one before."""
+    layers = draws.among(KINDS)(draws)
+    column = 1 + draws.below(COLUMNS - 1)
+    before = draws.below(1 + max(a for layer in layers for ring in layer for a, b in ring))
+    x, y = border(column) - before, draws.among([0, -3, COORDINATE_MAX - 4, -COORDINATE_MAX])
+    moved = [[[(within(a + x), within(b + y)) for a, b in ring] for ring in layer] for layer in layers]
+    return column - draws.below(2 if before else 1), moved
+
+
+def at_full_coordinates(draws):
+    """Rings from border to border, many of whose points lie at the greatest coordinates or beside a border."""
+    column = draws.below(COLUMNS)
+
+    def coordinate():
+        kind = draws.below(3)
+        if kind == 0:
+            return draws.among([-COORDINATE_MAX, COORDINATE_MAX, COORDINATE_MAX - 1, 1 - COORDINATE_MAX, 0, 1, -1])
+        if kind == 1:
+            return within(border(column) + draws.among([0, 1, -1, WIDTH, WIDTH - 1, WIDTH + 1, WIDTH // 2]))
+        return draws.below(2 * COORDINATE_MAX + 1) - COORDINATE_MAX
+
+    def ring():
+        return closed([(coordinate(), coordinate()) for _ in range(3 + draws.below(6))])
+
+    return column, [[ring() for _ in range(1 + draws.below(2))] for _ in range(2)]
+
+
+def drawn(number):
+    draws = Draws(number)
+    column, layers = at_full_coordinates(draws) if number % 4 == 0 else near_a_border(draws)
+    return column, draws.among(["A ^ B", "A & B", "A | B", "A - B", "B - A", "(A - B) | (B - A)"]), layers
+
+
+# What is peculiar about an input
+
+
+def edges_in(column, layers):
+    pairs = [tuple(sorted(pair)) for layer in layers for ring in layer for pair in zip(ring, ring[1:])]
+    return [(l, r) for l, r in pairs if l != r and border(column) <= r[0] and l[0] < border(column + 1)]
+
+
+def turn(a, b, p):
+    return (b[0] - a[0]) * (p[1] - a[1]) - (b[1] - a[1]) * (p[0] - a[0])
+
+
+def features(column, layers):
+    edges = edges_in(column, layers)
+    found = set()
+    for l, r in edges:
+        if l[0] == r[0]:
+            found.add("upright edges")
+        if l[0] < border(column) < r[0] or l[0] < border(column + 1) < r[0]:
+            found.add("edges cut by a border")
+        for a, b in edges:
+            on_line = [p for p in (a, b) if turn(l, r, p) == 0]
+            if len(on_line) == 1 and l < on_line[0] < r:
+                found.add("edges that end within others")
+            if len(on_line) == 2 and max(l, a) < min(r, b) and (l, r) != (a, b):
+                found.add("edges that overlap in part")
+    if len(set(edges)) < len(edges):
+        found.add("edges that stand twice")
+    return found or {"none of these" if edges else "no edge"}
+
+
+def compare(program, folder):
+    counts, text = {}, []
+    for number in range(2000):
+        column, definition, layers = drawn(number)
+        text.append(lines_of(column, definition, layers))
+        for feature in features(column, layers):
+            counts[feature] = counts.get(feature, 0) + 1
+    path = folder / "inputs"
+    path.write_text("".join(text))
+    print("2000 inputs drawn, 500 of them at full coordinates; " + ", ".join(f"{counts[f]} with {f}" for f in sorted(counts)))
+    words = [program, "compare", path, "0", "0"]
+    inputs, tiles, pieces, differences = subprocess.run(words, stdout=subprocess.PIPE, check=True, text=True).stdout.split()
+    print(f"{inputs} inputs, whose tiles have {pieces} pieces; {tiles} tiles by the pass, differences from all pairs: {differences}")
+
+
+def main():
+    word = sys.argv[1]
+    with tempfile.TemporaryDirectory() as name:
+        folder = pathlib.Path(name)
+        program = pathlib.Path(sys.argv[2]).resolve() if len(sys.argv) > 2 else built(folder)
+        {"inputs": compare}[word](program, folder)
+
+
+main()
