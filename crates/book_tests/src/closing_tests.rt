@@ -1,14 +1,47 @@
 //! What a book answers once it closes.
+ghost use Rattle.std.specs.Prelude.{◌≡◌};
+
 use crate::testing::{SQUARE, Scene, next_number, play, put};
+use layer_book::command::Command;
 use std::alloc::Global;
 use std::process::Abort;
 use std::sync::Wait;
-use std::test::Fail;
 use version_book::fault::BookFault;
 use version_book::reporter::Reporter;
 use version_book::session::Session;
 use version_book::shared::Shared;
 use version_book::trace::Naming;
+
+/// A command is accepted before the book closes, and refused then.
+fn refuse<J: Naming, R: Wait + Abort>(
+    rt: &R,
+    alloc: Global,
+    shared: &Shared<J, &R>,
+    me: &mut Session,
+    change: &Command,
+)
+    requires { me.old.book ≡ J.book }
+{
+    assert!(rt; shared.submit(rt, alloc, me, change) == Ok(1));
+    shared.begin_close(rt);
+    assert!(rt; shared.submit(rt, alloc, me, change) == Err(BookFault::Closing));
+}
+
+/// Whether no job is handed out.
+fn hands_out_nothing<J: Naming, R: Wait + Drop, W: Wait>(
+    rt: &W,
+    alloc: Global,
+    shared: &Shared<J, R>,
+) -> bool {
+    match shared.take_job(rt, alloc) {
+        Ok(Some(job)) => {
+            shared.give_back(rt, job);
+            false
+        }
+        Ok(None) => true,
+        Err(_) => false,
+    }
+}
 
 struct Closing;
 
@@ -19,23 +52,16 @@ impl Scene for Closing {
         shared: &Shared<J, &R>,
         reporter: &mut Reporter,
         me: &mut Session,
-    ) -> Result<(), Fail> {
-        let change = put(alloc, "A", SQUARE).ok_or("no command")?;
-        assert_eq!(rt; shared.submit(rt, alloc, me, &change), Ok(1));
-        shared.begin_close(rt);
-        let refused = Err(BookFault::Closing);
-        assert_eq!(rt; shared.submit(rt, alloc, me, &change), refused);
-        if let Some(job) = shared.take_job(rt, alloc)? {
-            shared.give_back(rt, job);
-            return Err(Fail::new("a job"));
-        }
-        assert_eq!(rt; next_number(rt, shared, reporter), Ok(Some(1)));
-        assert_eq!(rt; next_number(rt, shared, reporter), Ok(None));
-        Ok(())
+    ) {
+        let change = put(alloc, "A", SQUARE).expect(rt, "no command");
+        refuse(rt, alloc, shared, me, &change);
+        assert!(rt; hands_out_nothing(rt, alloc, shared));
+        assert!(rt; next_number(rt, shared, reporter) == Ok(Some(1)));
+        assert!(rt; next_number(rt, shared, reporter) == Ok(None));
     }
 }
 
 #[test]
-fn a_book_that_closes_takes_no_command_and_hands_out_nothing(rt: HostRuntime) -> Result<(), Fail> {
-    play::<Closing, _>(&rt, rt.alloc(), false)
+fn a_book_that_closes_takes_no_command_and_hands_out_nothing(rt: HostRuntime) {
+    play::<Closing, _>(&rt, rt.alloc(), false);
 }

@@ -6,11 +6,18 @@ use layer_expr::name::Name;
 use std::alloc::Global;
 use std::process::Abort;
 use std::sync::Wait;
-use std::test::Fail;
 use version_book::reporter::Reporter;
 use version_book::session::Session;
 use version_book::shared::Shared;
 use version_book::trace::Naming;
+use version_core::version::Version;
+
+/// Looks for a point inside the layer A.
+fn look<R: Abort>(rt: &R, alloc: Global, version: &Version) {
+    let name = Name::new(alloc, b"A").expect(rt, "no name");
+    let point = QueryPoint::new(2, 2, 1).expect(rt, "no point");
+    assert!(rt; version.locate(&name, &point) == Ok(Place::Inside));
+}
 
 struct PutAndLook;
 
@@ -21,17 +28,15 @@ impl Scene for PutAndLook {
         shared: &Shared<J, &R>,
         _reporter: &mut Reporter,
         me: &mut Session,
-    ) -> Result<(), Fail> {
-        assert_eq!(rt; submit_put(rt, alloc, shared, me, "A", SQUARE), Some(1));
-        let version = me.snapshot()?;
+    ) {
+        assert!(rt; submit_put(rt, alloc, shared, me, "A", SQUARE) == Some(1));
+        let version = me.snapshot().expect(rt, "no version");
         assert!(rt; version.number() >= 1);
-        let place = version.locate(&Name::new(alloc, b"A")?, &QueryPoint::new(2, 2, 1)?);
-        assert_eq!(rt; place, Ok(Place::Inside));
-        Ok(())
+        look(rt, alloc, &version);
     }
 }
 
 #[test]
-fn a_command_is_in_the_next_snapshot(rt: HostRuntime) -> Result<(), Fail> {
-    play::<PutAndLook, _>(&rt, rt.alloc(), false)
+fn a_command_is_in_the_next_snapshot(rt: HostRuntime) {
+    play::<PutAndLook, _>(&rt, rt.alloc(), false);
 }

@@ -6,14 +6,19 @@ use layer_expr::name::Name;
 use std::alloc::Global;
 use std::process::Abort;
 use std::sync::Wait;
-use std::test::Fail;
 use version_book::reporter::Reporter;
 use version_book::session::Session;
 use version_book::shared::Shared;
 use version_book::trace::Naming;
 
 /// A ring that lies in all columns.
-const WIDE: &str = "POLYGON ((-1048576 0, 1048576 0, 1048576 10, -1048576 10, -1048576 0))";
+const WIDE: &[(i64, i64)] = &[
+    (-1048576, 0),
+    (1048576, 0),
+    (1048576, 10),
+    (-1048576, 10),
+    (-1048576, 0),
+];
 
 /// Takes so many jobs, one after another, and then finishes each. It says whether all tiles were kept, and tells the
 /// columns.
@@ -57,6 +62,15 @@ fn finished_late<J: Naming, R: Wait + Drop, W: Wait>(
     }
 }
 
+/// Finishes the tiles of all columns, each of which is handed out once.
+fn finish_columns<J: Naming, R: Wait + Abort>(rt: &R, alloc: Global, shared: &Shared<J, &R>) {
+    let mut columns = Vec::new(alloc);
+    assert!(rt; finish_all(rt, alloc, shared, 17, &mut columns));
+    for column in 0..17 {
+        assert!(rt; columns.contains(&column));
+    }
+}
+
 struct FinishInTimeAndLate;
 
 impl Scene for FinishInTimeAndLate {
@@ -66,21 +80,16 @@ impl Scene for FinishInTimeAndLate {
         shared: &Shared<J, &R>,
         _reporter: &mut Reporter,
         me: &mut Session,
-    ) -> Result<(), Fail> {
-        assert_eq!(rt; submit_overlap(rt, alloc, shared, me), Some(3));
-        let mut columns = Vec::new(alloc);
-        assert!(rt; finish_all(rt, alloc, shared, 17, &mut columns));
-        for column in 0..17 {
-            assert!(rt; columns.contains(&column), "{column}");
-        }
-        assert_eq!(rt; finished_late(rt, alloc, shared, me), Some(false));
-        Ok(())
+    ) {
+        assert!(rt; submit_overlap(rt, alloc, shared, me) == Some(3));
+        finish_columns(rt, alloc, shared);
+        assert!(rt; finished_late(rt, alloc, shared, me) == Some(false));
     }
 }
 
 #[test]
-fn each_tile_is_handed_out_once_and_a_late_one_is_not_kept(rt: HostRuntime) -> Result<(), Fail> {
-    play::<FinishInTimeAndLate, _>(&rt, rt.alloc(), false)
+fn each_tile_is_handed_out_once_and_a_late_one_is_not_kept(rt: HostRuntime) {
+    play::<FinishInTimeAndLate, _>(&rt, rt.alloc(), false);
 }
 
 /// Takes a job and gives it back, as if memory had run out, and tells its column.
@@ -163,6 +172,14 @@ fn given_back_beside<J: Naming, R: Wait + Drop, W: Wait>(
     }
 }
 
+/// Whether two columns were told, and are one.
+fn is_same(told: Option<(u8, u8)>) -> bool {
+    match told {
+        Some((column, again)) => column == again,
+        None => false,
+    }
+}
+
 struct GiveBackAndWait;
 
 impl Scene for GiveBackAndWait {
@@ -172,19 +189,15 @@ impl Scene for GiveBackAndWait {
         shared: &Shared<J, &R>,
         _reporter: &mut Reporter,
         me: &mut Session,
-    ) -> Result<(), Fail> {
-        assert_eq!(rt; submit_overlap(rt, alloc, shared, me), Some(3));
-        let name = Name::new(alloc, b"I")?;
-        let Some((column, again)) = given_back_beside(rt, alloc, shared, me, &name, 16) else {
-            return Err(Fail::new("not given back"));
-        };
-        assert_eq!(rt; again, column);
-        assert_eq!(rt; shared.wait_built(rt, me, &name), Ok(3));
-        Ok(())
+    ) {
+        assert!(rt; submit_overlap(rt, alloc, shared, me) == Some(3));
+        let name = Name::new(alloc, b"I").expect(rt, "no name");
+        assert!(rt; is_same(given_back_beside(rt, alloc, shared, me, &name, 16)));
+        assert!(rt; shared.wait_built(rt, me, &name) == Ok(3));
     }
 }
 
 #[test]
-fn a_wait_tells_of_a_tile_that_was_given_back(rt: HostRuntime) -> Result<(), Fail> {
-    play::<GiveBackAndWait, _>(&rt, rt.alloc(), false)
+fn a_wait_tells_of_a_tile_that_was_given_back(rt: HostRuntime) {
+    play::<GiveBackAndWait, _>(&rt, rt.alloc(), false);
 }

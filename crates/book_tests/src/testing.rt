@@ -6,11 +6,11 @@ ghost use Rattle.version_book.specs.Rules.{head_of};
 use layer_book::command::Command;
 use layer_expr::name::Name;
 use layer_expr::reading::read_expr;
+use plane_base::{BaseLayer, Pt, Ring};
 use std::alloc::Global;
 use std::marker::Brand;
 use std::process::Abort;
 use std::sync::{Arc, Wait};
-use std::test::Fail;
 use tile_build::Built;
 use version_book::fault::BookFault;
 use version_book::job::Job;
@@ -19,11 +19,11 @@ use version_book::session::Session;
 use version_book::shared::Shared;
 use version_book::trace::{Head, Naming, Trace, open};
 use version_core::version::Version;
-use wkt_form::reading::read_wkt;
 
-pub const SQUARE: &str = "POLYGON ((0 0, 10 0, 10 10, 0 10, 0 0))";
+/// The corners of a ring, of which the last is the first.
+pub const SQUARE: &[(i64, i64)] = &[(0, 0), (10, 0), (10, 10), (0, 10), (0, 0)];
 
-pub const SHIFTED: &str = "POLYGON ((5 5, 15 5, 15 15, 5 15, 5 5))";
+pub const SHIFTED: &[(i64, i64)] = &[(5, 5), (15, 5), (15, 15), (5, 15), (5, 5)];
 
 /// What a test does with a book, its reporter and its one session.
 pub trait Scene {
@@ -33,7 +33,7 @@ pub trait Scene {
         shared: &Shared<J, &R>,
         reporter: &mut Reporter,
         me: &mut Session,
-    ) -> Result<(), Fail>
+    )
         requires reporter { reporter.old.book ≡ J.book }
         requires session { me.old.book ≡ J.book };
 }
@@ -59,16 +59,11 @@ pub fn open_history(alloc: Global) -> Opened {
 }
 
 /// Plays a scene in a book that was just opened.
-pub fn play<S: Scene, R: Wait + Abort>(rt: &R, alloc: Global, store: bool) -> Result<(), Fail> {
-    play_in::<S, Brand, R>(rt, alloc, open_history(alloc), store)
+pub fn play<S: Scene, R: Wait + Abort>(rt: &R, alloc: Global, store: bool) {
+    play_in::<S, Brand, R>(rt, alloc, open_history(alloc), store);
 }
 
-fn play_in<S: Scene, J: Naming, R: Wait + Abort>(
-    rt: &R,
-    alloc: Global,
-    opened: Opened,
-    store: bool,
-) -> Result<(), Fail>
+fn play_in<S: Scene, J: Naming, R: Wait + Abort>(rt: &R, alloc: Global, opened: Opened, store: bool)
     requires { opened.trace.book ≡ J.book }
 {
     let Opened {
@@ -79,19 +74,30 @@ fn play_in<S: Scene, J: Naming, R: Wait + Abort>(
     let Ok((shared, mut reporter, mut sessions)) = Shared::<J, &R>::start(
         rt, alloc, head, trace, version, store, 1,
     ) else {
-        return Err(Fail::new("no book"));
+        panic!(rt; "no book")
     };
-    match sessions.pop() {
-        Some(mut me) => S::play(rt, alloc, &shared, &mut reporter, &mut me),
-        None => Err(Fail::new("no session")),
-    }
+    let Some(mut me) = sessions.pop() else {
+        panic!(rt; "no session")
+    };
+    S::play(rt, alloc, &shared, &mut reporter, &mut me);
 }
 
-/// The command that puts a text under a name, where there is memory for it.
-pub fn put(alloc: Global, name: &str, text: &str) -> Option<Command> {
-    let rings = read_wkt(alloc, text.as_bytes()).ok()?;
+/// The base layer of one ring, where there is memory for it.
+fn layer_of(alloc: Global, corners: &[(i64, i64)]) -> Option<BaseLayer> {
+    let mut points = Vec::new(alloc);
+    for &(x, y) in corners {
+        points.push(Pt::new(x, y).ok()?).ok()?;
+    }
+    let mut rings = Vec::new(alloc);
+    rings.push(Ring::new(points)).ok()?;
+    BaseLayer::new(alloc, rings).ok()
+}
+
+/// The command that puts one ring under a name, where there is memory for it.
+pub fn put(alloc: Global, name: &str, corners: &[(i64, i64)]) -> Option<Command> {
+    let layer = layer_of(alloc, corners)?;
     let name = Name::new(alloc, name.as_bytes()).ok()?;
-    Some(Command::Put(name, Arc::new(alloc, rings).ok()?))
+    Some(Command::Put(name, Arc::new(alloc, layer).ok()?))
 }
 
 /// The command that defines a name by a text, where there is memory for it.
@@ -101,19 +107,19 @@ fn define(alloc: Global, name: &str, text: &str) -> Option<Command> {
     Some(Command::Define(name, Arc::new(alloc, expression).ok()?))
 }
 
-/// Puts a text under a name, and tells the number of that version.
+/// Puts one ring under a name, and tells the number of that version.
 pub fn submit_put<J: Naming, R: Wait + Drop, W: Wait>(
     rt: &W,
     alloc: Global,
     shared: &Shared<J, R>,
     me: &mut Session,
     name: &str,
-    text: &str,
+    corners: &[(i64, i64)],
 ) -> Option<u64>
     requires { me.old.book ≡ J.book }
     ensures { me.new.book ≡ me.old.book }
 {
-    let change = put(alloc, name, text)?;
+    let change = put(alloc, name, corners)?;
     shared.submit(rt, alloc, me, &change).ok()
 }
 

@@ -7,13 +7,12 @@ use std::alloc::Global;
 use std::marker::Brand;
 use std::process::Abort;
 use std::sync::Wait;
-use std::test::Fail;
 use std::thread::{Threads, join_mut};
 use version_book::session::Session;
 use version_book::shared::Shared;
 use version_book::trace::Naming;
 
-/// Submits a command fifty times, and tells the numbers of its versions.
+/// Submits a command fifty times, and tells the numbers of its versions where each is above the one before.
 fn numbers<J: Naming, R: Wait + Drop, W: Wait>(
     rt: &W,
     alloc: Global,
@@ -25,8 +24,13 @@ fn numbers<J: Naming, R: Wait + Drop, W: Wait>(
     ensures { me.new.book ≡ me.old.book }
 {
     let mut list = Vec::new(alloc);
+    let mut last = 0;
     'puts: for _ in 0..50 {
         let number = shared.submit(rt, alloc, me, change).ok()?;
+        if number <= last {
+            return None;
+        }
+        last = number;
         list.push(number).ok()?;
     }
     Some(list)
@@ -52,15 +56,32 @@ fn numbers_beside<J: Naming + Send + Sync, R: Threads + Wait + Sync>(
     )
 }
 
-/// Whether each number is less than the next.
-fn rise(numbers: &[u64]) -> bool {
-    numbers.is_sorted_by(|number, next| number < next)
+/// Whether two lists that rise have the numbers from 1 to 100 between them, each once.
+fn share_all(told: &(Option<Vec<u64>>, Option<Vec<u64>>)) -> bool {
+    match told {
+        (Some(first), Some(second)) => {
+            first.len() + second.len() == 100
+                && (1..=100).all(|number| first.contains(&number) != second.contains(&number))
+        }
+        _ => false,
+    }
 }
 
-/// Whether two lists that rise have the numbers from 1 to 100 between them, each once.
-fn share_all(first: &[u64], second: &[u64]) -> bool {
-    first.len() + second.len() == 100
-        && (1..=100).all(|number| first.contains(&number) != second.contains(&number))
+/// Submits one command fifty times in each of two threads.
+fn submit_beside<J: Naming + Send + Sync, R: Threads + Wait + Abort + Sync>(
+    rt: &R,
+    alloc: Global,
+    shared: &Shared<J, &R>,
+    one: &mut Session,
+    two: &mut Session,
+    first: &Command,
+    second: &Command,
+)
+    requires { (one.old.book ≡ J.book) × (two.old.book ≡ J.book) }
+{
+    let told = numbers_beside(rt, alloc, shared, one, two, first, second);
+    assert!(rt; share_all(&told));
+    assert!(rt; one.snapshot().is_ok_and(|version| version.number() == 100));
 }
 
 /// Puts a layer of its own fifty times in each of two threads.
@@ -70,25 +91,19 @@ fn put_beside<J: Naming + Send + Sync, R: Threads + Wait + Abort + Sync>(
     shared: &Shared<J, &R>,
     one: &mut Session,
     two: &mut Session,
-) -> Result<(), Fail>
+)
     requires { (one.old.book ≡ J.book) × (two.old.book ≡ J.book) }
 {
-    let a = put(alloc, "A", SQUARE).ok_or("no command")?;
-    let b = put(alloc, "B", SHIFTED).ok_or("no command")?;
-    let told = numbers_beside(rt, alloc, shared, one, two, &a, &b);
-    let first = told.0.ok_or("the first thread was refused")?;
-    let second = told.1.ok_or("the second thread was refused")?;
-    assert!(rt; rise(&first) && rise(&second));
-    assert!(rt; share_all(&first, &second));
-    assert_eq!(rt; one.snapshot()?.number(), 100);
-    Ok(())
+    let first = put(alloc, "A", SQUARE).expect(rt, "no command");
+    let second = put(alloc, "B", SHIFTED).expect(rt, "no command");
+    submit_beside(rt, alloc, shared, one, two, &first, &second);
 }
 
 fn play_beside<J: Naming + Send + Sync, R: Threads + Wait + Abort + Sync>(
     rt: &R,
     alloc: Global,
     opened: Opened,
-) -> Result<(), Fail>
+)
     requires { opened.trace.book ≡ J.book }
 {
     let Opened {
@@ -99,15 +114,15 @@ fn play_beside<J: Naming + Send + Sync, R: Threads + Wait + Abort + Sync>(
     let Ok((shared, _reporter, mut sessions)) = Shared::<J, &R>::start(
         rt, alloc, head, trace, version, false, 2,
     ) else {
-        return Err(Fail::new("no book"));
+        panic!(rt; "no book")
     };
-    match (sessions.pop(), sessions.pop()) {
-        (Some(mut two), Some(mut one)) => put_beside(rt, alloc, &shared, &mut one, &mut two),
-        _ => Err(Fail::new("no two sessions")),
-    }
+    let (Some(mut two), Some(mut one)) = (sessions.pop(), sessions.pop()) else {
+        panic!(rt; "no two sessions")
+    };
+    put_beside(rt, alloc, &shared, &mut one, &mut two);
 }
 
 #[test]
-fn two_threads_share_one_row_of_numbers(rt: HostRuntime) -> Result<(), Fail> {
-    play_beside::<Brand, _>(&rt, rt.alloc(), open_history(rt.alloc()))
+fn two_threads_share_one_row_of_numbers(rt: HostRuntime) {
+    play_beside::<Brand, _>(&rt, rt.alloc(), open_history(rt.alloc()));
 }
