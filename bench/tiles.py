@@ -1,6 +1,7 @@
-"""Builds tiles by the pass from node to node and by all pairs: side by side on drawn inputs.
+"""Builds tiles by the pass from node to node and by all pairs: side by side on drawn inputs, and timed in one run.
 
 python3 bench/tiles.py inputs [PROGRAM]
+python3 bench/tiles.py times [PROGRAM]
 
 Copies the crates up to tile_build and layer_book with what they have built, adds a small program over their calls and
 builds it, which proves what has no proof yet; PROGRAM is such a program that was built before.
@@ -8,9 +9,14 @@ builds it, which proves what has no proof yet; PROGRAM is such a program that wa
 inputs: 2,000 inputs from fixed seeds, a quarter of them at full coordinates, most with edges that touch, overlap, stand
 upright or are cut by a border of the column. Of each the tiles of `build` and `build_counted` are compared by their ends
 with that of `build_by_pairs`, where the cap is 0, one below the size of the tile, and its size.
+times: tiles of two layers of so many edges each, by `build` and by `build_by_pairs`, both whole; the same layers with a
+point in the middle of each edge, by `build`; and two combs to the cap of 65,536. Processor times less those without the
+building, the best of five runs that take a tenth of a second or more, or one run where it takes more than two seconds.
 """
 
+import math
 import pathlib
+import resource
 import shutil
 import subprocess
 import sys
@@ -434,12 +440,152 @@ def compare(program, folder):
     print(f"{inputs} inputs, whose tiles have {pieces} pieces; {tiles} tiles by the pass, differences from all pairs: {differences}")
 
 
+# Families for times: two layers of so many edges each in column 8, on even coordinates
+
+
+def round_about(x, y, step, radii):
+    """A ring round a centre that goes on by `step` parts of a turn from point to point."""
+    turns = [(2 * math.pi * step * i / len(radii), radius) for i, radius in enumerate(radii)]
+    return [closed([(x + round(radius * math.cos(turn)), y + round(radius * math.sin(turn))) for turn, radius in turns])]
+
+
+def stars(edges):
+    draws = Draws(edges)
+    radii = [[5000 + draws.below(25000) for _ in range(edges)] for _ in range(2)]
+    return [round_about(32000, 32000, 1, radii[0]), round_about(33500, 33000, 1, radii[1])]
+
+
+def parcels(edges):
+    count = edges // 4
+    across = 2 ** (count.bit_length() // 2)
+
+    def grid(low):
+        corners = [(low + 500 * (i % across), low + 500 * (i // across)) for i in range(count)]
+        return [closed([(x, y), (x + 500, y), (x + 500, y + 500), (x, y + 500)]) for x, y in corners]
+
+    return [grid(0), grid(250)]
+
+
+def self_crossing(edges):
+    return [round_about(31000, 31000, 9, [30000] * edges), round_about(33000, 32000, 9, [30000] * edges)]
+
+
+def combs(edges):
+    teeth = [closed([(1, low), (edges - 1, low), (edges - 1, low + 2), (1, low + 2)]) for low in range(0, edges, 4)]
+    return [teeth, [[(y, x) for x, y in ring] for ring in teeth]]
+
+
+def slivers(edges):
+    draws = Draws(edges)
+
+    def sliver(low, far):
+        return closed([(1, low), (64001, far), (64001, far + 2), (1, low + 2)])
+
+    return [[sliver(y, y + draws.below(1601) - 800) for y in range(first, 25 * edges, 100)] for first in (0, 50)]
+
+
+def circles(edges):
+    return [round_about(31000, 31000, 1, [30000] * edges), round_about(36000, 33500, 1, [25000] * edges)]
+
+
+FAMILIES = {"star": stars, "parcels": parcels, "self-crossing": self_crossing, "comb": combs, "sliver": slivers}
+
+
+def even(layers):
+    return [[[(2 * x, 2 * y) for x, y in ring] for ring in layer] for layer in layers]
+
+
+def halved(layers):
+    """The same layers with a point in the middle of each edge."""
+
+    def cut(ring):
+        return ring[:1] + [p for (a, b), (c, d) in zip(ring, ring[1:]) for p in [((a + c) // 2, (b + d) // 2), (c, d)]]
+
+    return [[cut(ring) for ring in layer] for layer in layers]
+
+
+# Times
+
+
+def processor():
+    used = resource.getrusage(resource.RUSAGE_CHILDREN)
+    return used.ru_utime + used.ru_stime
+
+
+def run(program, word, path, cap, times):
+    """Processor time, size of the tile, and the most memory in MB."""
+    start = processor()
+    words = [program, word, path, str(cap), str(times)]
+    size, _, peak, _ = subprocess.run(words, stdout=subprocess.PIPE, check=True, text=True).stdout.split()
+    return processor() - start, int(size), int(peak) / 1024
+
+
+def best(program, word, path, cap, times):
+    return min(run(program, word, path, cap, times)[0] for _ in range(5))
+
+
+def each(program, word, path):
+    """The time of one tile, whole, and its size."""
+    reading = best(program, word, path, 2**64 - 1, 0)
+    once, size, _ = run(program, word, path, 2**64 - 1, 1)
+    if once > 2:
+        return once - reading, size
+    times = math.ceil(0.1 / max(once - reading, 0.0001))
+    return (best(program, word, path, 2**64 - 1, times) - reading) / times, size
+
+
+def written(folder, layers):
+    path = folder / "input"
+    path.write_text(lines_of(8, "A ^ B", layers))
+    return path
+
+
+def by_both(program, folder):
+    for name, family in FAMILIES.items():
+        for edges in [64, 128, 256, 512, 1024, 2048]:
+            path = written(folder, even(family(edges)))
+            (swept, size), (paired, _) = each(program, "pass", path), each(program, "pairs", path)
+            print(
+                f"{name} {edges}, {size} pieces: by the pass {1000 * swept:.2f} ms, by all pairs {1000 * paired:.2f} ms,"
+                f" {paired / swept:.1f} times as long",
+                flush=True,
+            )
+
+
+def with_more_edges(program, folder):
+    for name, family in {**FAMILIES, "circle": circles}.items():
+        for edges in [64, 256, 1024]:
+            layers = even(family(edges))
+            (one, size), (two, more) = [each(program, "pass", written(folder, l)) for l in (layers, halved(layers))]
+            print(
+                f"{name} {edges}, {size} pieces: {1000 * one:.2f} ms;"
+                f" with twice as many edges, {more} pieces: {1000 * two:.2f} ms, {two / one:.2f} times as long",
+                flush=True,
+            )
+
+
+def to_the_cap(program, folder):
+    path = written(folder, combs(512))
+    for word, name in [("pass", "the pass"), ("pairs", "all pairs")]:
+        runs = [run(program, word, path, 65536, 1) for _ in range(5)]
+        print(
+            f"two combs of 512 to the cap of 65,536 by {name}, with reading the input:"
+            f" {1000 * min(r[0] for r in runs):.0f} ms, {max(r[2] for r in runs):.0f} MB"
+        )
+
+
+def measure(program, folder):
+    to_the_cap(program, folder)
+    by_both(program, folder)
+    with_more_edges(program, folder)
+
+
 def main():
     word = sys.argv[1]
     with tempfile.TemporaryDirectory() as name:
         folder = pathlib.Path(name)
         program = pathlib.Path(sys.argv[2]).resolve() if len(sys.argv) > 2 else built(folder)
-        {"inputs": compare}[word](program, folder)
+        {"inputs": compare, "times": measure}[word](program, folder)
 
 
 main()
