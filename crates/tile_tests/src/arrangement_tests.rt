@@ -1,9 +1,10 @@
 //! Inputs of tiles, units, nodes, pieces and labels, worked by hand. Bit 0 of a mask is layer A, bit 1 is B.
+use crate::rows::{Place, check, lowest};
 use crate::testing::{
     ACROSS, BOW_TIE, CORNER, LEFT_HALF, NOTHING, SHIFTED, SQUARE, STRIP, TRIANGLE, TWICE, input_of,
 };
-use arrange::{nodes_on, pieces, units};
-use exact_point::{PointName, reduced};
+use arrange::{TileInput, nodes_on, pieces, units};
+use std::alloc::Global;
 use std::process::Abort;
 use std::test::Fail;
 use sweep_line::counting::label_by_count;
@@ -16,21 +17,24 @@ const TOUCHING: &str = "POLYGON ((10 5, 20 0, 20 10, 10 5))";
 
 const LEFT: &str = "POLYGON ((-10 5, 0 5, 0 15, -10 15, -10 5))";
 
+/// How many segments have a point in the column.
+const INPUTS: &[(&str, u8, usize)] = &[
+    (SQUARE, 8, 4),
+    (SQUARE, 7, 0),
+    (LEFT, 8, 3),
+    (SQUARE, 9, 0),
+    (ACROSS, 7, 3),
+    (ACROSS, 8, 3),
+    (CORNER, 15, 3),
+    (CORNER, 16, 3),
+];
+
 #[test]
 fn an_input_has_the_segments_with_a_point_in_its_column(rt: HostRuntime) -> Result<(), Fail> {
-    for &(first, column, want) in &[
-        (SQUARE, 8, 4),
-        (SQUARE, 7, 0),
-        (LEFT, 8, 3),
-        (SQUARE, 9, 0),
-        (ACROSS, 7, 3),
-        (ACROSS, 8, 3),
-        (CORNER, 15, 3),
-        (CORNER, 16, 3),
-    ] {
+    for (row, &(first, column, want)) in INPUTS.iter().enumerate() {
         let input = input_of(rt.alloc(), first, NOTHING, "A & B", column)?;
-        assert_eq!(rt; input.marked().len(), want, "{first} in {column}");
-        assert_eq!(rt; input.steps().bases(), 2, "{first} in {column}");
+        check(&rt, row, &input.marked().len(), &want);
+        check(&rt, row, &input.steps().bases(), &2);
     }
     Ok(())
 }
@@ -39,31 +43,41 @@ fn an_input_has_the_segments_with_a_point_in_its_column(rt: HostRuntime) -> Resu
 fn a_copy_is_equal_and_another_column_is_not(rt: HostRuntime) -> Result<(), Fail> {
     let input = input_of(rt.alloc(), SQUARE, SHIFTED, "A & B", 8)?;
     let copy = input.try_copy(rt.alloc())?;
-    assert_eq!(rt; copy, input);
     let other = input_of(rt.alloc(), SQUARE, SHIFTED, "A & B", 9)?;
-    assert_eq!(rt; other == input, false);
+    assert!(rt; copy == input);
+    assert!(rt; other != input);
     Ok(())
+}
+
+/// How many units have each of four masks.
+const UNITS: &[(&str, &str, u8, [usize; 4])] = &[
+    (SQUARE, SHIFTED, 8, [0, 4, 4, 0]),
+    (SQUARE, LEFT_HALF, 8, [0, 3, 1, 3]),
+    (SQUARE, SQUARE, 8, [0, 0, 0, 4]),
+    (TWICE, NOTHING, 8, [4, 0, 0, 0]),
+    // ends of the second cut a side of the first
+    (SQUARE, BESIDE, 8, [0, 5, 3, 1]),
+    // a corner that touches a side does not cut it
+    (SQUARE, TOUCHING, 8, [0, 4, 3, 0]),
+    (SQUARE, SHIFTED, 9, [0, 0, 0, 0]),
+];
+
+/// Counts one more where there is a place for it.
+fn count(counts: &mut [usize; 4], at: usize) {
+    if at < 4 {
+        counts[at] = counts[at].saturating_add(1);
+    }
 }
 
 #[test]
 fn units_end_at_the_ends_of_collinear_segments(rt: HostRuntime) -> Result<(), Fail> {
-    for &(first, second, column, want) in &[
-        (SQUARE, SHIFTED, 8, [0, 4, 4, 0]),
-        (SQUARE, LEFT_HALF, 8, [0, 3, 1, 3]),
-        (SQUARE, SQUARE, 8, [0, 0, 0, 4]),
-        (TWICE, NOTHING, 8, [4, 0, 0, 0]),
-        // ends of the second cut a side of the first
-        (SQUARE, BESIDE, 8, [0, 5, 3, 1]),
-        // a corner that touches a side does not cut it
-        (SQUARE, TOUCHING, 8, [0, 4, 3, 0]),
-        (SQUARE, SHIFTED, 9, [0, 0, 0, 0]),
-    ] {
+    for (row, &(first, second, column, want)) in UNITS.iter().enumerate() {
         let input = input_of(rt.alloc(), first, second, "A & B", column)?;
-        let found = units(rt.alloc(), &input)?;
-        for (mask, count) in want.iter().enumerate() {
-            let with_mask = found.iter().filter(|u| u.mask as usize == mask).count();
-            assert_eq!(rt; with_mask, *count, "mask {mask} of {first} and {second}");
+        let mut counts = [0; 4];
+        for unit in &units(rt.alloc(), &input)? {
+            count(&mut counts, unit.mask as usize);
         }
+        check(&rt, row, &counts, &want);
     }
     Ok(())
 }
@@ -71,42 +85,42 @@ fn units_end_at_the_ends_of_collinear_segments(rt: HostRuntime) -> Result<(), Fa
 #[test]
 fn the_nodes_of_two_crossing_squares_are_counted_by_unit(rt: HostRuntime) -> Result<(), Fail> {
     let input = input_of(rt.alloc(), SQUARE, SHIFTED, "A & B", 8)?;
-    let mut counts = [0usize; 4];
+    let mut counts = [0; 4];
     for unit in &units(rt.alloc(), &input)? {
-        let count = nodes_on(rt.alloc(), &unit.seg, &input)?.len();
-        if count < 4 {
-            counts[count] = counts[count].saturating_add(1);
-        }
+        let nodes = nodes_on(rt.alloc(), &unit.seg, &input)?;
+        count(&mut counts, nodes.len());
     }
     // four sides are crossed once
-    assert_eq!(rt; counts, [0, 0, 4, 4]);
+    check(&rt, 0, &counts, &[0, 0, 4, 4]);
     Ok(())
 }
 
+/// How many pieces begin in the column.
+const PIECES: &[(&str, &str, u8, usize)] = &[
+    (SQUARE, SHIFTED, 8, 12),
+    (ACROSS, NOTHING, 7, 3),
+    (ACROSS, NOTHING, 8, 3),
+    (BOW_TIE, NOTHING, 8, 6),
+    (SQUARE, LEFT_HALF, 8, 7),
+    (TWICE, NOTHING, 8, 4),
+    (CORNER, NOTHING, 15, 3),
+    (CORNER, NOTHING, 16, 1),
+    (TRIANGLE, STRIP, 8, 15),
+    (SQUARE, SHIFTED, 9, 0),
+];
+
 #[test]
 fn each_piece_that_begins_in_the_column_is_found_once(rt: HostRuntime) -> Result<(), Fail> {
-    for &(first, second, column, want) in &[
-        (SQUARE, SHIFTED, 8, 12),
-        (ACROSS, NOTHING, 7, 3),
-        (ACROSS, NOTHING, 8, 3),
-        (BOW_TIE, NOTHING, 8, 6),
-        (SQUARE, LEFT_HALF, 8, 7),
-        (TWICE, NOTHING, 8, 4),
-        (CORNER, NOTHING, 15, 3),
-        (CORNER, NOTHING, 16, 1),
-        (TRIANGLE, STRIP, 8, 15),
-        (SQUARE, SHIFTED, 9, 0),
-    ] {
+    for (row, &(first, second, column, want)) in PIECES.iter().enumerate() {
         let input = input_of(rt.alloc(), first, second, "A & B", column)?;
-        let got = pieces(rt.alloc(), &input)?.len();
-        assert_eq!(rt; got, want, "{first} and {second} in {column}");
+        check(&rt, row, &pieces(rt.alloc(), &input)?.len(), &want);
     }
     Ok(())
 }
 
 /// The left end of a piece, its right end, and the masks under and over it. Of a vertical piece `under` is
 /// just right.
-type Row = ((i128, i128, i128), (i128, i128, i128), u32, u32);
+type Row = (Place, Place, u32, u32);
 
 /// The pieces of a square and one shifted by (5, 5), by left end and direction.
 const SQUARES: &[Row] = &[
@@ -143,35 +157,34 @@ const CUT_TRIANGLE: &[Row] = &[
     ((6, 4, 3), (2, 3, 1), 0, 2),
 ];
 
-/// The numbers of a place in lowest terms.
-fn numbers(name: PointName) -> Option<(i128, i128, i128)> {
-    let least = reduced(&name.point()?);
-    Some((least.x, least.y, least.w))
+/// A piece and its labels as a row.
+fn row_of(label: &Labelled) -> Option<Row> {
+    let from = lowest(label.piece.from.point())?;
+    let to = lowest(label.piece.to.point())?;
+    Some((from, to, label.under, label.over))
 }
 
-fn is_row(label: &Labelled, row: &Row) -> bool {
-    let (from, to, under, over) = *row;
-    numbers(label.piece.from) == Some(from)
-        && numbers(label.piece.to) == Some(to)
-        && label.under == under
-        && label.over == over
-}
-
-/// Checks the labels of the pieces in column 8.
+/// Checks labels against rows.
 fn check_labels(rt: &impl Abort, labels: &[Labelled], rows: &[Row]) {
-    assert_eq!(rt; labels.len(), rows.len());
-    for (got, row) in labels.iter().zip(rows) {
-        assert!(rt; is_row(got, row), "{got:?} is not {row:?}");
+    check(rt, rows.len(), &labels.len(), &rows.len());
+    for (row, (got, want)) in labels.iter().zip(rows).enumerate() {
+        check(rt, row, &row_of(got), &Some(*want));
     }
+}
+
+/// The labels of the pieces of an input, by the sweep and by counting.
+fn labels_of(alloc: Global, input: &TileInput) -> Result<(Vec<Labelled>, Vec<Labelled>), Fail> {
+    let swept = label(alloc, input, pieces(alloc, input)?)?;
+    let counted = label_by_count(alloc, input, pieces(alloc, input)?)?;
+    Ok((swept, counted))
 }
 
 #[test]
 fn pieces_stand_in_order_with_the_layers_on_both_sides(rt: HostRuntime) -> Result<(), Fail> {
     for &(first, second, rows) in &[(SQUARE, SHIFTED, SQUARES), (TRIANGLE, STRIP, CUT_TRIANGLE)] {
         let input = input_of(rt.alloc(), first, second, "A & B", 8)?;
-        let swept = label(rt.alloc(), &input, pieces(rt.alloc(), &input)?)?;
+        let (swept, counted) = labels_of(rt.alloc(), &input)?;
         check_labels(&rt, &swept, rows);
-        let counted = label_by_count(rt.alloc(), &input, pieces(rt.alloc(), &input)?)?;
         check_labels(&rt, &counted, rows);
     }
     Ok(())

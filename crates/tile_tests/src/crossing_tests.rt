@@ -1,6 +1,7 @@
 //! Tiles by the pass from node to node beside tiles by all pairs, at several caps, and what the pass
 //! counts: on the worked inputs, on two combs, and on scattered rings round the border of two columns.
 use crate::rings::{combs, next, scattered};
+use crate::rows::check;
 use crate::testing::{
     ACROSS, BOW_TIE, CORNER, DIAMOND, LEFT_HALF, NEXT_TO_IT, NOTHING, SHIFTED, SQUARE, STRIP,
     TRIANGLE, TWICE, input_of,
@@ -37,29 +38,29 @@ fn agree(alloc: Global, input: &TileInput) -> Result<bool, Fail> {
     Ok(true)
 }
 
+/// The layers A and B, a definition and a column.
+const WORKED: &[(&str, &str, &str, u8)] = &[
+    (SQUARE, SHIFTED, "A & B", 8),
+    (ACROSS, NOTHING, "A", 7),
+    (ACROSS, NOTHING, "A", 8),
+    (TRIANGLE, STRIP, "A & B", 8),
+    (SQUARE, NEXT_TO_IT, "A | B", 8),
+    (BOW_TIE, NOTHING, "A", 8),
+    (TWICE, NOTHING, "A", 8),
+    (CORNER, NOTHING, "A", 15),
+    (CORNER, NOTHING, "A", 16),
+    (DIAMOND, NOTHING, "A", 7),
+    (DIAMOND, NOTHING, "A", 8),
+    (SQUARE, LEFT_HALF, "A & B", 8),
+    (SQUARE, LEFT_HALF, "A ^ B", 8),
+    (SQUARE, SHIFTED, "A & B", 9),
+];
+
 #[test]
 fn the_pass_gives_the_tiles_by_all_pairs_of_the_worked_inputs(rt: HostRuntime) -> Result<(), Fail> {
-    for &(first, second, definition, column) in &[
-        (SQUARE, SHIFTED, "A & B", 8),
-        (ACROSS, NOTHING, "A", 7),
-        (ACROSS, NOTHING, "A", 8),
-        (TRIANGLE, STRIP, "A & B", 8),
-        (SQUARE, NEXT_TO_IT, "A | B", 8),
-        (BOW_TIE, NOTHING, "A", 8),
-        (TWICE, NOTHING, "A", 8),
-        (CORNER, NOTHING, "A", 15),
-        (CORNER, NOTHING, "A", 16),
-        (DIAMOND, NOTHING, "A", 7),
-        (DIAMOND, NOTHING, "A", 8),
-        (SQUARE, LEFT_HALF, "A & B", 8),
-        (SQUARE, LEFT_HALF, "A ^ B", 8),
-        (SQUARE, SHIFTED, "A & B", 9),
-    ] {
+    for (row, &(first, second, definition, column)) in WORKED.iter().enumerate() {
         let input = input_of(rt.alloc(), first, second, definition, column)?;
-        assert!(rt;
-            agree(rt.alloc(), &input)?,
-            "{definition} of {first} and {second} in {column}"
-        );
+        check(&rt, row, &agree(rt.alloc(), &input)?, &true);
     }
     Ok(())
 }
@@ -70,8 +71,8 @@ fn the_pass_gives_the_tile_by_all_pairs_of_two_combs(rt: HostRuntime) -> Result<
     assert!(rt; agree(rt.alloc(), &input)?);
     // 255 sides cross 255, two rectangles cross at a corner of the grid, and each has four corners
     let counted = build_counted(rt.alloc(), &input, 131076)?;
-    assert_eq!(rt; counted.nodes, 66050);
-    assert_eq!(rt; size_of(&counted.tile), 131076);
+    check(&rt, 0, &counted.nodes, &66050);
+    check(&rt, 0, &size_of(&counted.tile), &131076);
     Ok(())
 }
 
@@ -90,22 +91,27 @@ fn the_pass_gives_the_tiles_by_all_pairs_of_200_scattered_inputs(
     Ok(())
 }
 
+/// The numbers of nodes, of the most tests (two a node), and of pieces.
+const COUNTS: &[(&str, &str, &str, u8, u64, usize, usize)] = &[
+    (SQUARE, SHIFTED, "A & B", 8, 10, 20, 4),
+    (ACROSS, NOTHING, "A", 8, 4, 8, 3),
+    (BOW_TIE, NOTHING, "A", 8, 5, 10, 6),
+    (SQUARE, LEFT_HALF, "A & B", 8, 6, 12, 4),
+    // no segment
+    (SQUARE, SHIFTED, "A & B", 9, 0, 0, 0),
+];
+
 #[test]
 fn nodes_pieces_and_tests_are_counted(rt: HostRuntime) -> Result<(), Fail> {
-    // the most tests are two a node
-    for &(first, second, definition, column, nodes, tests, pieces) in &[
-        (SQUARE, SHIFTED, "A & B", 8, 10, 20, 4),
-        (ACROSS, NOTHING, "A", 8, 4, 8, 3),
-        (BOW_TIE, NOTHING, "A", 8, 5, 10, 6),
-        (SQUARE, LEFT_HALF, "A & B", 8, 6, 12, 4),
-        // no segment
-        (SQUARE, SHIFTED, "A & B", 9, 0, 0, 0),
-    ] {
+    for (row, &(first, second, definition, column, nodes, tests, pieces)) in COUNTS
+        .iter()
+        .enumerate()
+    {
         let input = input_of(rt.alloc(), first, second, definition, column)?;
         let counted = build_counted(rt.alloc(), &input, 65536)?;
-        assert_eq!(rt; counted.nodes, nodes, "{first} and {second}");
-        assert!(rt; counted.tests.len() <= tests, "{first} and {second}");
-        assert_eq!(rt; size_of(&counted.tile), pieces, "{first} and {second}");
+        check(&rt, row, &counted.nodes, &nodes);
+        check(&rt, row, &(counted.tests.len() <= tests), &true);
+        check(&rt, row, &size_of(&counted.tile), &pieces);
     }
     Ok(())
 }

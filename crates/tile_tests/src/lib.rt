@@ -14,6 +14,8 @@ mod point_tests;
 #[cfg(test)]
 mod rings;
 #[cfg(test)]
+mod rows;
+#[cfg(test)]
 mod sweep_tests;
 #[cfg(test)]
 mod testing;

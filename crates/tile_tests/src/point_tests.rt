@@ -1,4 +1,5 @@
 //! Whole points, segments, columns and base layers, worked by hand.
+use crate::rows::check;
 use plane_base::{BaseLayer, Column, PlaneFault, Pt, Ring, Seg, column_of};
 use std::process::Abort;
 use std::test::Fail;
@@ -8,73 +9,87 @@ fn at(rt: &impl Abort, x: i64, y: i64) -> Pt {
     Pt::new(x, y).expect(rt, "in range")
 }
 
+/// Whether the coordinates are within the limits.
+const COORDINATES: &[(i64, i64, bool)] = &[
+    (1048576, -1048576, true),
+    (-1048576, 1048576, true),
+    (1048577, 0, false),
+    (-1048577, 0, false),
+    (0, 1048577, false),
+    (0, -1048577, false),
+    (i64::MIN, i64::MAX, false),
+];
+
 #[test]
 fn coordinates_end_at_a_power_of_two(rt: HostRuntime) {
-    for &(x, y, good) in &[
-        (1048576, -1048576, true),
-        (-1048576, 1048576, true),
-        (1048577, 0, false),
-        (-1048577, 0, false),
-        (0, 1048577, false),
-        (0, -1048577, false),
-        (i64::MIN, i64::MAX, false),
-    ] {
-        let want = if good {
+    for (row, &(x, y, is_good)) in COORDINATES.iter().enumerate() {
+        let want = if is_good {
             Ok((x, y))
         } else {
             Err(PlaneFault::CoordRange)
         };
-        assert_eq!(rt; Pt::new(x, y).map(|p| (p.x(), p.y())), want, "at {x} {y}");
+        check(&rt, row, &Pt::new(x, y).map(|p| (p.x(), p.y())), &want);
     }
+}
+
+/// Two points, each by its two coordinates.
+type Ends = (i64, i64, i64, i64);
+
+const ENDS: &[(Ends, Option<Ends>)] = &[
+    ((3, 1, 0, 0), Some((0, 0, 3, 1))),
+    ((5, 9, 5, -9), Some((5, -9, 5, 9))),
+    ((0, 4, 4, 0), Some((0, 4, 4, 0))),
+    ((7, 7, 7, 7), None),
+];
+
+/// The coordinates of a segment's ends.
+fn ends_of(seg: Seg) -> Ends {
+    let (left, right) = (seg.left(), seg.right());
+    (left.x(), left.y(), right.x(), right.y())
 }
 
 #[test]
 fn a_segment_has_its_left_end_first(rt: HostRuntime) {
-    for &(ax, ay, bx, by, want) in &[
-        (3, 1, 0, 0, Some((0, 0, 3, 1))),
-        (5, 9, 5, -9, Some((5, -9, 5, 9))),
-        (0, 4, 4, 0, Some((0, 4, 4, 0))),
-        (7, 7, 7, 7, None),
-    ] {
+    for (row, &((ax, ay, bx, by), want)) in ENDS.iter().enumerate() {
         let seg = Seg::of(at(&rt, ax, ay), at(&rt, bx, by));
-        let got = seg.map(|s| (s.left().x(), s.left().y(), s.right().x(), s.right().y()));
-        assert_eq!(rt; got, want, "from {ax} {ay} to {bx} {by}");
+        check(&rt, row, &seg.map(ends_of), &want);
     }
 }
+
+/// The column of the places with x / w.
+const COLUMNS: &[(i128, i128, Option<u8>)] = &[
+    (1048576, 1, Some(16)),
+    (-1, 3, Some(7)),
+    (1048577, 1, None),
+    (-1048577, 1, None),
+    (-1048576, 1, Some(0)),
+    (131071, 1, Some(8)),
+    (131072, 1, Some(9)),
+    (393215, 3, Some(8)),
+    (9223372036854775808, 8796093022208, Some(16)),
+    (9223372036854775807, 8796093022208, Some(15)),
+];
 
 #[test]
 fn columns_are_counted_from_the_left(rt: HostRuntime) {
-    for &(x, w, want) in &[
-        (1048576, 1, Some(16)),
-        (-1, 3, Some(7)),
-        (1048577, 1, None),
-        (-1048577, 1, None),
-        (-1048576, 1, Some(0)),
-        (131071, 1, Some(8)),
-        (131072, 1, Some(9)),
-        (393215, 3, Some(8)),
-        (9223372036854775808, 8796093022208, Some(16)),
-        (9223372036854775807, 8796093022208, Some(15)),
-    ] {
-        assert_eq!(rt; column_of(x, w).map(|c| c.number()), want, "at {x} / {w}");
+    for (row, &(x, w, want)) in COLUMNS.iter().enumerate() {
+        check(&rt, row, &column_of(x, w).map(|c| c.number()), &want);
     }
 }
 
+const BORDERS: &[(u64, Option<i64>)] = &[
+    (0, Some(-1048576)),
+    (7, Some(-131072)),
+    (8, Some(0)),
+    (16, Some(1048576)),
+    (17, None),
+    (u64::MAX, None),
+];
+
 #[test]
 fn a_column_begins_at_its_border(rt: HostRuntime) {
-    for &(number, want) in &[
-        (0, Some(-1048576)),
-        (7, Some(-131072)),
-        (8, Some(0)),
-        (16, Some(1048576)),
-        (17, None),
-        (u64::MAX, None),
-    ] {
-        assert_eq!(rt;
-            Column::new(number).map(|c| c.border()),
-            want,
-            "of {number}"
-        );
+    for (row, &(number, want)) in BORDERS.iter().enumerate() {
+        check(&rt, row, &Column::new(number).map(|c| c.border()), &want);
     }
 }
 

@@ -1,6 +1,7 @@
 //! Labels by the sweep beside labels by counting: on the worked inputs, on two combs that cross everywhere, and on
 //! rings through points of a small square, of which many touch, stand upright or overlap.
 use crate::rings::{combs, next, scattered};
+use crate::rows::check;
 use crate::testing::{
     ACROSS, BOW_TIE, CORNER, DIAMOND, LEFT_HALF, NEXT_TO_IT, NOTHING, SHIFTED, SQUARE, STRIP,
     TRIANGLE, TWICE, input_of,
@@ -28,27 +29,27 @@ fn both_agree(alloc: Global, input: &TileInput) -> Result<bool, Fail> {
     Ok(are_alike(&swept, &counted))
 }
 
+/// The layers A and B, and a column.
+const WORKED: &[(&str, &str, u8)] = &[
+    (SQUARE, SHIFTED, 8),
+    (ACROSS, NOTHING, 7),
+    (ACROSS, NOTHING, 8),
+    (TRIANGLE, STRIP, 8),
+    (SQUARE, NEXT_TO_IT, 8),
+    (BOW_TIE, NOTHING, 8),
+    (TWICE, NOTHING, 8),
+    (CORNER, NOTHING, 15),
+    (CORNER, NOTHING, 16),
+    (DIAMOND, NOTHING, 7),
+    (DIAMOND, NOTHING, 8),
+    (SQUARE, LEFT_HALF, 8),
+];
+
 #[test]
 fn the_sweep_agrees_with_counting_on_the_worked_inputs(rt: HostRuntime) -> Result<(), Fail> {
-    for &(first, second, column) in &[
-        (SQUARE, SHIFTED, 8),
-        (ACROSS, NOTHING, 7),
-        (ACROSS, NOTHING, 8),
-        (TRIANGLE, STRIP, 8),
-        (SQUARE, NEXT_TO_IT, 8),
-        (BOW_TIE, NOTHING, 8),
-        (TWICE, NOTHING, 8),
-        (CORNER, NOTHING, 15),
-        (CORNER, NOTHING, 16),
-        (DIAMOND, NOTHING, 7),
-        (DIAMOND, NOTHING, 8),
-        (SQUARE, LEFT_HALF, 8),
-    ] {
+    for (row, &(first, second, column)) in WORKED.iter().enumerate() {
         let input = input_of(rt.alloc(), first, second, "A ^ B", column)?;
-        assert!(rt;
-            both_agree(rt.alloc(), &input)?,
-            "{first} and {second} in {column}"
-        );
+        check(&rt, row, &both_agree(rt.alloc(), &input)?, &true);
     }
     Ok(())
 }

@@ -1,4 +1,5 @@
 //! Tiles by their calls: the cap, answers, copies, and which tiles are alike.
+use crate::rows::check;
 use crate::testing::{BOW_TIE, NOTHING, SHIFTED, SQUARE, TWICE, input_of};
 use exact_point::QueryPoint;
 use std::alloc::Global;
@@ -24,48 +25,50 @@ fn four_pieces_fit_a_cap_of_four_and_not_of_three(rt: HostRuntime) -> Result<(),
             Tile::Oversize => None,
             Tile::Pieces(pieces) => Some(pieces.len()),
         };
-        assert_eq!(rt; got, want, "at {cap}");
+        check(&rt, cap, &got, &want);
     }
     Ok(())
 }
+
+/// A layer, a query and the answer to it.
+const ANSWERS: &[(&str, (i64, i64, i64), bool)] = &[
+    (SQUARE, (7, 7, 1), true),
+    (SQUARE, (12, 2, 1), false),
+    (SQUARE, (7, 12, 1), false),
+    (BOW_TIE, (1, 4, 2), true),
+    (BOW_TIE, (2, 3, 1), false),
+];
 
 #[test]
 fn a_tile_and_its_copy_answer_by_parity(rt: HostRuntime) -> Result<(), Fail> {
-    for &(text, x, y, w, want) in &[
-        (SQUARE, 7, 7, 1, true),
-        (SQUARE, 12, 2, 1, false),
-        (SQUARE, 7, 12, 1, false),
-        (BOW_TIE, 1, 4, 2, true),
-        (BOW_TIE, 2, 3, 1, false),
-    ] {
+    for (row, &(text, (x, y, w), want)) in ANSWERS.iter().enumerate() {
         let tile = tile_of(rt.alloc(), text, 65536)?;
         let copy = tile.try_copy(rt.alloc())?;
         let query = QueryPoint::new(x, y, w)?;
-        assert_eq!(rt; tile.answer(&query), Some(want), "at {x} {y} {w}");
-        assert_eq!(rt;
-            copy.answer(&query),
-            Some(want),
-            "of the copy, at {x} {y} {w}"
-        );
+        check(&rt, row, &tile.answer(&query), &Some(want));
+        check(&rt, row, &copy.answer(&query), &Some(want));
     }
     Ok(())
 }
 
+/// Whether a tile that is held is like one that is built.
+const PAIRS: &[(&str, &str, bool)] = &[
+    (TRIANGLES, BOW_TIE, true),
+    (BOW_TIE, TRIANGLES, true),
+    (SQUARE, SQUARE, true),
+    (SQUARE, NARROW, false),
+    (SQUARE, BOW_TIE, false),
+    (SQUARE, TWICE, false),
+    (TWICE, SQUARE, false),
+    (NOTHING, TWICE, true),
+];
+
 #[test]
 fn tiles_are_alike_by_places_and_not_by_names(rt: HostRuntime) -> Result<(), Fail> {
-    for &(held, built, want) in &[
-        (TRIANGLES, BOW_TIE, true),
-        (BOW_TIE, TRIANGLES, true),
-        (SQUARE, SQUARE, true),
-        (SQUARE, NARROW, false),
-        (SQUARE, BOW_TIE, false),
-        (SQUARE, TWICE, false),
-        (TWICE, SQUARE, false),
-        (NOTHING, TWICE, true),
-    ] {
+    for (row, &(held, built, want)) in PAIRS.iter().enumerate() {
         let held_tile = tile_of(rt.alloc(), held, 65536)?;
         let built_tile = tile_of(rt.alloc(), built, 65536)?;
-        assert_eq!(rt; held_tile.is_same(&built_tile), want, "{held} and {built}");
+        check(&rt, row, &held_tile.is_same(&built_tile), &want);
     }
     Ok(())
 }
@@ -78,6 +81,6 @@ fn an_oversize_tile_is_like_another_alone_and_has_no_answer(rt: HostRuntime) -> 
     assert!(rt; !few.is_same(&many));
     assert!(rt; !many.is_same(&few));
     assert!(rt; many.is_same(&copy));
-    assert_eq!(rt; copy.answer(&QueryPoint::new(2, 2, 1)?), None);
+    assert!(rt; copy.answer(&QueryPoint::new(2, 2, 1)?).is_none());
     Ok(())
 }
