@@ -1,4 +1,3 @@
-pub mod FindingLemmas
 pub mod Rooms
 mod LoadingLemmas
 pub mod Looked

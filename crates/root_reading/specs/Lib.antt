@@ -1,5 +1,4 @@
 pub mod Looking
-pub mod Finding
 pub mod Loading
 pub mod Contents
 pub mod Taking

@@ -1,8 +1,7 @@
-//! What a disk holds of a store: the root of its file, the records that the root names, and the blocks that they take.
+//! What the root of a store's file names: records, as the disk has them, and the blocks that they take.
 #![tactic(auto)]
 
 pub mod fetching;
-pub mod finding;
 mod keeping;
 pub mod load_fault;
 pub mod loading;

@@ -5,6 +5,7 @@ pub mod Plan
 pub mod Healed
 pub mod Filed
 pub mod Blank
+mod FindingLemmas
 mod TakenLemmas
 mod HealingLemmas
 pub mod Drafts

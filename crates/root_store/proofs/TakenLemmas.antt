@@ -13,8 +13,8 @@ use Rattle.store_terms.specs.StandsFor.{gate, body, open_gate, fits_slot, is_for
 use Rattle.overlay_terms.specs.Commands.{version_max}
 use Rattle.root_store.specs.Kept.{other, Harmless}
 use Rattle.root_store.specs.Healing.{IsTaken, Found}
-use Rattle.root_reading.specs.Finding.{has_shut_gate}
-use Rattle.root_reading.proofs.FindingLemmas.{short_root, foreign_root, slots_root}
+use Rattle.root_store.specs.Finding.{has_shut_gate}
+use Rattle.root_store.proofs.FindingLemmas.{short_root, foreign_root, slots_root}
 
 -- a value that comes of two steps
 ok_bound : {A B : Type 0} (o : Result A Damage) (f : A → Result B Damage) (y : B) → (o >>= f) ≡ Ok y

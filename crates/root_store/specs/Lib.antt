@@ -1,4 +1,5 @@
 pub mod Fault
+pub mod Finding
 pub mod Kept
 pub mod Planning
 pub mod Running

@@ -17,7 +17,7 @@ use Rattle.root_store.specs.declared.opening.Loaded.{Loaded}
 use Rattle.root_store.specs.Kept.{Kept, Rest, Shut, Calm}
 use Rattle.root_reading.specs.Taking.{IsMapOf}
 use Rattle.root_reading.specs.Looking.{Gives}
-use Rattle.root_reading.specs.Finding.{has_shut_gate}
+use Rattle.root_store.specs.Finding.{has_shut_gate}
 
 -- the completing write and its sync: a crash at any moment leaves what stands for x behind its one open gate, and in
 -- the end whatever the other gate holds

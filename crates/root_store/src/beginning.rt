@@ -14,12 +14,12 @@ use crate::completing::completed;
 use crate::draft::Draft;
 use crate::fault::StoreFault;
 use crate::filing::file_layers;
+use crate::finding::NUMBER_MAX;
 use crate::next::Next;
 use crate::phase::Phase;
 use crate::room::Room;
 use disk_model::disk::Disk;
 use record_form::image::Image;
-use root_reading::finding::NUMBER_MAX;
 use std::alloc::Global;
 use store_terms::root::Root;
 

@@ -5,12 +5,12 @@ ghost use Rattle.root_store.specs.Kept.{Kept};
 ghost use Rattle.root_store.specs.Running.{Runs, KeepsTo, Stepped, Counts, calls_left, is_busy, fault_in};
 
 use crate::fault::StoreFault;
+use crate::finding::GATE_OPEN;
 use crate::phase::{Phase, Progress};
 use crate::room::Room;
 use crate::slots::other_gate;
 use crate::write::Write;
 use disk_model::disk::Disk;
-use root_reading::finding::GATE_OPEN;
 use std::mem;
 use store_terms::root::Root;
 

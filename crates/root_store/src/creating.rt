@@ -10,6 +10,7 @@ ghost use Rattle.root_store.specs.Creating.{nothing_kept, IsBlank, refusal_of_ne
 
 use crate::commit::Commit;
 use crate::fault::StoreFault;
+use crate::finding::GATE_OPEN;
 use crate::open_fault::OpenFault;
 use crate::phase::Phase;
 use crate::room::Room;
@@ -17,7 +18,6 @@ use disk_model::disk::Disk;
 use disk_model::fault::DiskFault;
 use extent_map::extent::Extent as Run;
 use record_form::root_body::write_body;
-use root_reading::finding::GATE_OPEN;
 use std::alloc::{AllocError, Global};
 use store_terms::root::{Extent, Root};
 

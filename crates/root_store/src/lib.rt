@@ -8,6 +8,7 @@ pub mod creating;
 mod draft;
 pub mod fault;
 mod filing;
+pub mod finding;
 mod healing;
 pub mod laws;
 mod next;

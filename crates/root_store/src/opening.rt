@@ -17,6 +17,7 @@ ghost use Rattle.root_store.specs.Opening.{held_in, IsRead, Loads, Opened, Tells
 
 use crate::commit::Commit;
 use crate::fault::StoreFault;
+use crate::finding::{NUMBER_MAX, find_root};
 use crate::healing::heal;
 use crate::open_fault::OpenFault;
 use crate::phase::Phase;
@@ -24,7 +25,6 @@ use crate::room::Room;
 use crate::taking::room_of;
 use disk_model::disk::Disk;
 use record_form::image::Image;
-use root_reading::finding::{NUMBER_MAX, find_root};
 use root_reading::load_fault::LoadFault;
 use root_reading::loading::{Content, content_of};
 use root_reading::records::listing_at;

@@ -3,7 +3,7 @@ use Rattle.store_terms.specs.StandsFor.{root_of, reading}
 use Rattle.store_terms.specs.Image.{held_of}
 use Rattle.store_terms.specs.Frame.{extents_of}
 use Rattle.extent_map.specs.Taken.{taken_of}
-use Rattle.root_reading.specs.Finding.{has_shut_gate}
+use Rattle.root_store.specs.Finding.{has_shut_gate}
 use Rattle.root_reading.specs.Looking.{Refuses}
 use Rattle.root_reading.specs.Taking.{IsMapOf}
 use Rattle.root_reading.proofs.Looked.{gives_err, refuses_bound, refuses_device, looks_on}

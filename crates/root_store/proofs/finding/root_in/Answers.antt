@@ -2,9 +2,9 @@ use Rattle.std.proofs.Common.{sym, ◌∙◌}
 use Rattle.std.proofs.lemmas.Bool.{or_left, or_right, or_from}
 use Rattle.std.proofs.lemmas.Result.{err_from_is_err_and}
 use Rattle.store_terms.specs.StandsFor.{is_foreign}
-use Rattle.root_reading.proofs.FindingLemmas.{foreign_root, first_err, second_err, both_ok}
-use Rattle.root_reading.proofs.finding.root_in.Goals as goal
-use Rattle.root_reading.proofs.finding.root_in.Goals.{then-is_foreign-via-then-is_foreign, then-is_foreign-via-else-is_foreign+then-is_foreign-2}
+use Rattle.root_store.proofs.FindingLemmas.{foreign_root, first_err, second_err, both_ok}
+use Rattle.root_store.proofs.finding.root_in.Goals as goal
+use Rattle.root_store.proofs.finding.root_in.Goals.{then-is_foreign-via-then-is_foreign, then-is_foreign-via-else-is_foreign+then-is_foreign-2}
 
 pub returns-then-is_foreign-clause-gives : goal.returns-then-is_foreign-clause-gives
 returns-then-is_foreign-clause-gives c file long first second =

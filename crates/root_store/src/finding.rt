@@ -4,12 +4,12 @@ ghost use Rattle.overlay_terms.specs.Commands.{version_max};
 ghost use Rattle.store_terms.specs.Places.{block_size};
 ghost use Rattle.store_terms.specs.StandsFor.{gate, slot, newest, root_of, is_foreign, open_gate};
 ghost use Rattle.root_reading.specs.Looking.{Gives, Looks, Causes};
-ghost use Rattle.root_reading.specs.Finding.{IsSlot, has_shut_gate};
+ghost use Rattle.root_store.specs.Finding.{IsSlot, has_shut_gate};
 
-use crate::fetching::BLOCK;
-use crate::load_fault::LoadFault;
 use disk_model::disk::Disk;
 use record_form::root_body::{FORMAT, read_body};
+use root_reading::fetching::BLOCK;
+use root_reading::load_fault::LoadFault;
 use store_terms::damage::Damage;
 use store_terms::root::{Body, Root};
 

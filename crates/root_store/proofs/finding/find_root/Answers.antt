@@ -1,6 +1,6 @@
 use Rattle.std.proofs.Common.{arith}
-use Rattle.root_reading.proofs.FindingLemmas.{short_root}
-use Rattle.root_reading.proofs.finding.find_root.Goals as goal
+use Rattle.root_store.proofs.FindingLemmas.{short_root}
+use Rattle.root_store.proofs.finding.find_root.Goals as goal
 
 pub returns-then-branch-clause-gives : goal.returns-then-branch-clause-gives
 returns-then-branch-clause-gives g c honest =

@@ -1,6 +1,6 @@
 use Rattle.std.proofs.Common.{◌∙◌}
-use Rattle.root_reading.proofs.FindingLemmas.{slot_gate, slot_body}
-use Rattle.root_reading.proofs.finding.read_slot.Goals as goal
+use Rattle.root_store.proofs.FindingLemmas.{slot_gate, slot_body}
+use Rattle.root_store.proofs.finding.read_slot.Goals as goal
 
 pub returns-clause-read : goal.returns-clause-read
 returns-clause-read g c honest =
