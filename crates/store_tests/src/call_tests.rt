@@ -1,9 +1,8 @@
 //! The device calls of making, opening and committing.
-use crate::testing::{CREATED, committed, disk_of, only_reads, opened_disk, put, stored};
+use crate::testing::{CREATED, committed, disk_of, only_reads, opened, put, stored};
 use disk_model::image::Choice;
 use disk_model::mem_disk::Call;
 use root_store::creating::create;
-use std::test::Fail;
 
 /// A call: its letter, the offset, the number of bytes, and the first byte that is written.
 type Shape = (char, usize, usize, u8);
@@ -62,41 +61,43 @@ fn are(calls: &[Call], wanted: &[Shape]) -> bool {
 }
 
 #[test]
-fn a_new_store_and_a_commit_make_just_their_calls(rt: HostRuntime) -> Result<(), Fail> {
-    let disk = committed(rt.alloc())?;
+fn a_new_store_and_a_commit_make_just_their_calls(rt: HostRuntime) {
+    let disk = committed(&rt, rt.alloc());
     assert!(rt; are(disk.calls(), CALLS));
-    let new = disk.image(CREATED, Choice::Old)?;
+    let new = disk.image(CREATED, Choice::Old).expect(&rt, "memory");
     assert!(rt; new.bytes().get(16..64) == Some(FIRST));
     assert!(rt; new.bytes().get(4112..4160) == Some(TWIN));
     assert!(rt; new.bytes().get(8192..8194) == Some([0, 0].as_slice()));
     assert!(rt; disk.bytes().get(4112..4160) == Some(ROOT));
-    Ok(())
 }
 
+/// A file and the most blocks with which no store is made.
+const NOT_MADE: &[(&[u8], u32)] = &[(&[], 2), (&[7], 100)];
+
 #[test]
-fn a_store_that_is_not_made_asks_for_the_length_alone(rt: HostRuntime) -> Result<(), Fail> {
-    for &(bytes, limit) in &[([].as_slice(), 2), (&[7], 100)] {
-        match create(rt.alloc(), disk_of(rt.alloc(), bytes)?, limit) {
-            Ok(_) => return Err(Fail::new("made")),
+fn a_store_that_is_not_made_asks_for_the_length_alone(rt: HostRuntime) {
+    for &(bytes, limit) in NOT_MADE {
+        match create(rt.alloc(), disk_of(&rt, rt.alloc(), bytes), limit) {
+            Ok(_) => panic!(rt; "made"),
             Err(refused) => assert!(rt; are(refused.disk.calls(), &[('L', 0, 0, 0)])),
         }
     }
-    Ok(())
 }
 
 #[test]
-fn opening_completes_the_slot_behind_a_shut_gate(rt: HostRuntime) -> Result<(), Fail> {
-    let mut file = committed(rt.alloc())?.bytes().to_vec(rt.alloc())?;
+fn opening_completes_the_slot_behind_a_shut_gate(rt: HostRuntime) {
+    let alloc = rt.alloc();
+    let bytes = committed(&rt, alloc).bytes().to_vec(alloc);
+    let mut file = bytes.expect(&rt, "memory");
     put(&mut file, 0, &[0x55]);
-    let (store, _) = opened_disk(rt.alloc(), disk_of(rt.alloc(), &file)?)?;
-    let disk = store.into_disk();
+    let (disk, found) = opened(&rt, alloc, &file);
+    assert!(rt; found.is_ok());
     let calls = disk.calls();
     let (before, completing) = calls.split_at(calls.len().saturating_sub(2));
     assert!(rt; only_reads(before));
     assert!(rt; are(completing, &[('W', 16, 48, b'O'), ('S', 0, 0, 0)]));
     assert!(rt; disk.bytes().get(16..64) == Some(NEXT));
     assert!(rt; disk.bytes().get(4112..4160) == Some(ROOT));
-    Ok(())
 }
 
 /// How many calls read a byte.
@@ -107,23 +108,21 @@ fn readers(calls: &[Call], byte: usize) -> usize {
         .count()
 }
 
+/// The ends of the catalog, of the three records and of the tile.
+const ENDS: &[usize] = &[
+    24576, 24651, 12288, 12331, 16384, 16427, 20480, 20484, 28672, 28711,
+];
+
 #[test]
-fn opening_with_open_gates_reads_each_byte_once_and_writes_none(
-    rt: HostRuntime,
-) -> Result<(), Fail> {
-    let file = stored(rt.alloc())?;
-    let (store, image) = opened_disk(rt.alloc(), disk_of(rt.alloc(), &file)?)?;
-    assert_eq!(rt; image.tiles().len(), 1);
-    let disk = store.into_disk();
+fn opening_with_open_gates_reads_each_byte_once_and_writes_none(rt: HostRuntime) {
+    let file = stored(&rt, rt.alloc());
+    let (disk, found) = opened(&rt, rt.alloc(), &file);
+    assert!(rt; found == Ok((3, 3, 1)));
     assert!(rt; only_reads(disk.calls()));
     for byte in 0..file.len() {
         assert!(rt; readers(disk.calls(), byte) <= 1, "byte {byte}");
     }
-    // The ends of the catalog, of the three records and of the tile.
-    for &byte in &[
-        24576, 24651, 12288, 12331, 16384, 16427, 20480, 20484, 28672, 28711,
-    ] {
+    for &byte in ENDS {
         assert!(rt; readers(disk.calls(), byte) == 1, "byte {byte}");
     }
-    Ok(())
 }

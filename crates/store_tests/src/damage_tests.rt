@@ -1,9 +1,8 @@
 //! Files with one thing wrong, and with several: the first of them is told, and nothing is written.
-use crate::testing::{disk_of, only_reads, put, stored};
+use crate::testing::{only_reads, opened, put, stored};
 use root_store::fault::StoreFault;
-use root_store::opening::open;
 use std::alloc::Global;
-use std::test::Fail;
+use std::process::Abort;
 
 /// Bytes in the place of others, and what the file is told to be then: the fault, and its code or 0.
 type Case = (usize, &'static [u8], u8, u8);
@@ -101,37 +100,33 @@ fn numbers(fault: StoreFault) -> (u8, u8) {
 }
 
 /// Why a file of these bytes is refused, once it is seen that nothing was written.
-fn refusal(alloc: Global, bytes: &[u8]) -> Result<(u8, u8), Fail> {
-    match open(alloc, disk_of(alloc, bytes)?, 100) {
-        Ok(_) => Ok((0, 0)),
-        Err(refused) => {
-            if only_reads(refused.disk.calls()) {
-                Ok(numbers(refused.fault))
-            } else {
-                Err(Fail::new("written"))
-            }
-        }
+fn refusal(rt: &impl Abort, alloc: Global, bytes: &[u8]) -> (u8, u8) {
+    let (disk, found) = opened(rt, alloc, bytes);
+    assert!(rt; only_reads(disk.calls()));
+    match found {
+        Ok(_) => (0, 0),
+        Err(fault) => numbers(fault),
     }
 }
 
 #[test]
-fn each_damage_has_its_number(rt: HostRuntime) -> Result<(), Fail> {
-    let whole = stored(rt.alloc())?;
-    assert_eq!(rt; refusal(rt.alloc(), &whole)?, (0, 0));
+fn each_damage_has_its_number(rt: HostRuntime) {
+    let alloc = rt.alloc();
+    let whole = stored(&rt, alloc);
+    assert_eq!(rt; refusal(&rt, alloc, &whole), (0, 0));
     for &(at, bytes, fault, code) in CASES {
-        let mut file = whole.to_vec(rt.alloc())?;
+        let mut file = whole.to_vec(alloc).expect(&rt, "memory");
         put(&mut file, at, bytes);
-        assert_eq!(rt; refusal(rt.alloc(), &file)?, (fault, code), "at {at}");
+        assert_eq!(rt; refusal(&rt, alloc, &file), (fault, code), "at {at}");
     }
-    Ok(())
 }
 
 #[test]
-fn of_several_damages_the_first_is_told(rt: HostRuntime) -> Result<(), Fail> {
-    let mut file = stored(rt.alloc())?;
+fn of_several_damages_the_first_is_told(rt: HostRuntime) {
+    let alloc = rt.alloc();
+    let mut file = stored(&rt, alloc);
     for &(at, bytes, fault, code) in GROWING {
         put(&mut file, at, bytes);
-        assert_eq!(rt; refusal(rt.alloc(), &file)?, (fault, code), "at {at}");
+        assert_eq!(rt; refusal(&rt, alloc, &file), (fault, code), "at {at}");
     }
-    Ok(())
 }

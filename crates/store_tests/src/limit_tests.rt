@@ -1,7 +1,6 @@
 //! Limits of blocks, and damaged files.
-use crate::testing::{created, image_of_a, opened, steps_to_done};
+use crate::testing::{committed, created, image_of_a, opened};
 use root_store::fault::StoreFault;
-use std::test::Fail;
 use store_terms::damage::Damage;
 
 /// The base record of the square A, at its block.
@@ -22,59 +21,45 @@ fn front_of(bytes: &[u8], size: usize) -> &[u8] {
     }
 }
 
+/// A file, the most blocks, and the number of the fault.
+const NEW: &[(&[u8], u32, Option<u8>)] = &[(&[], 2, Some(31)), (&[0], 3, Some(34)), (&[], 3, None)];
+
 #[test]
-fn a_new_store_asks_for_an_empty_file_and_three_blocks(rt: HostRuntime) -> Result<(), Fail> {
-    for &(bytes, limit, code) in &[
-        ([].as_slice(), 2, Some(31)),
-        (&[0], 3, Some(34)),
-        (&[], 3, None),
-    ] {
-        let fault = created(rt.alloc(), bytes, limit)?.err();
+fn a_new_store_asks_for_an_empty_file_and_three_blocks(rt: HostRuntime) {
+    for &(bytes, limit, code) in NEW {
+        let fault = created(&rt, rt.alloc(), bytes, limit).err();
         assert!(rt; fault == code);
     }
-    Ok(())
 }
 
 #[test]
-fn four_blocks_are_too_few_for_a_layer(rt: HostRuntime) -> Result<(), Fail> {
-    let Ok(mut store) = created(rt.alloc(), &[], 4)? else {
-        return Err(Fail::new("no store"));
-    };
+fn four_blocks_are_too_few_for_a_layer(rt: HostRuntime) {
+    let alloc = rt.alloc();
+    let mut store = created(&rt, alloc, &[], 4).expect(&rt, "a store");
     assert!(rt; !store.busy());
-    let refused = store.begin(rt.alloc(), image_of_a(rt.alloc())?);
+    let refused = store.begin(alloc, image_of_a(&rt, alloc));
     assert!(rt; matches!(refused, Err(StoreFault::Full)));
     assert!(rt; !store.busy());
     assert_eq!(rt; store.into_disk().bytes().len(), 12288);
-    Ok(())
 }
 
 #[test]
-fn a_layer_and_its_catalog_take_two_blocks(rt: HostRuntime) -> Result<(), Fail> {
-    let Ok(mut store) = created(rt.alloc(), &[], 5)? else {
-        return Err(Fail::new("no store"));
-    };
-    assert!(rt; !store.busy());
-    assert!(rt; store.begin(rt.alloc(), image_of_a(rt.alloc())?).is_ok());
-    assert!(rt; steps_to_done(&mut store, 20) == Some(8));
-    let disk = store.into_disk();
+fn a_layer_and_its_catalog_take_two_blocks(rt: HostRuntime) {
+    let alloc = rt.alloc();
+    let disk = committed(&rt, alloc);
     assert_eq!(rt; disk.calls().len(), 13);
     let bytes = disk.bytes();
     assert_eq!(rt; bytes.len(), 20480);
     assert!(rt; bytes.get(12288..12332) == Some(RECORD.as_slice()));
     assert!(rt; bytes.get(16384..16401) == Some(CATALOG.as_slice()));
-    let cut = opened(rt.alloc(), front_of(bytes, 16384))?.err();
-    assert!(rt; cut == Some(StoreFault::Damaged(Damage::CatalogPlace)));
-    let Ok((_, image)) = opened(rt.alloc(), bytes)? else {
-        return Err(Fail::new("not opened"));
-    };
-    assert_eq!(rt; image.number(), 1);
-    assert_eq!(rt; image.layers().len(), 1);
-    Ok(())
+    let (_, cut) = opened(&rt, alloc, front_of(bytes, 16384));
+    assert!(rt; cut == Err(StoreFault::Damaged(Damage::CatalogPlace)));
+    let (_, whole) = opened(&rt, alloc, bytes);
+    assert!(rt; whole == Ok((1, 1, 0)));
 }
 
 #[test]
-fn an_empty_file_is_no_store(rt: HostRuntime) -> Result<(), Fail> {
-    let fault = opened(rt.alloc(), &[])?.err();
-    assert!(rt; fault == Some(StoreFault::Damaged(Damage::NotAStore)));
-    Ok(())
+fn an_empty_file_is_no_store(rt: HostRuntime) {
+    let (_, empty) = opened(&rt, rt.alloc(), &[]);
+    assert!(rt; empty == Err(StoreFault::Damaged(Damage::NotAStore)));
 }

@@ -1,9 +1,10 @@
-//! Stores in memory, and commits of one layer, for the tests.
+//! Stores in memory, and commits of one layer, for the tests. What cannot be made ends the test.
 use disk_model::mem_disk::{Call, MemDisk};
 use layer_book::command::Command;
 use layer_book::layers::Layers;
 use layer_expr::name::Name;
 use layer_expr::reading::read_expr;
+use plane_base::{BaseLayer, Pt, Ring};
 use record_form::image::Image;
 use root_store::commit::Commit;
 use root_store::creating::create;
@@ -11,11 +12,11 @@ use root_store::fault::StoreFault;
 use root_store::opening::open;
 use root_store::phase::Progress;
 use std::alloc::Global;
+use std::process::Abort;
 use std::sync::Arc;
-use std::test::Fail;
-use wkt_form::reading::read_wkt;
 
-const SQUARE: &str = "POLYGON ((0 0, 10 0, 10 10, 0 10, 0 0))";
+/// The corners of a square, of which the last is the first.
+const SQUARE: &[(i64, i64)] = &[(0, 0), (10, 0), (10, 10), (0, 10), (0, 0)];
 
 /// How many device calls make a new store.
 pub const CREATED: usize = 5;
@@ -33,75 +34,114 @@ const TILE: [u8; 40] = [
 ];
 
 /// A disk with these bytes.
-pub fn disk_of(alloc: Global, bytes: &[u8]) -> Result<MemDisk, Fail> {
-    Ok(MemDisk::new(alloc, Vec::from_slice(alloc, bytes)?)?)
+pub fn disk_of(rt: &impl Abort, alloc: Global, bytes: &[u8]) -> MemDisk {
+    let copy = Vec::from_slice(alloc, bytes).expect(rt, "memory");
+    MemDisk::new(alloc, copy).expect(rt, "memory")
 }
 
 /// A new store in a file of these bytes, or the number of the fault.
 pub fn created(
+    rt: &impl Abort,
     alloc: Global,
     bytes: &[u8],
     max_blocks: u32,
-) -> Result<Result<Commit<MemDisk>, u8>, Fail> {
-    let disk = disk_of(alloc, bytes)?;
-    match create(alloc, disk, max_blocks) {
-        Ok(store) => Ok(Ok(store)),
-        Err(refused) => Ok(Err(refused.fault.code())),
-    }
-}
-
-/// What a disk is opened as, or the fault.
-pub fn opened_disk(alloc: Global, disk: MemDisk) -> Result<(Commit<MemDisk>, Image), StoreFault> {
-    match open(alloc, disk, 100) {
+) -> Result<Commit<MemDisk>, u8> {
+    match create(alloc, disk_of(rt, alloc, bytes), max_blocks) {
         Ok(store) => Ok(store),
-        Err(refused) => Err(refused.fault),
+        Err(refused) => Err(refused.fault.code()),
     }
 }
 
-/// What a file of these bytes is opened as, or the fault.
+/// The number of an image, and how many layers and tiles it has.
+pub type Counts = (u64, usize, usize);
+
+/// A disk that was opened, and what it is opened as, or the fault.
+pub fn opened_disk(alloc: Global, disk: MemDisk) -> (MemDisk, Result<Counts, StoreFault>) {
+    match open(alloc, disk, 100) {
+        Ok((store, image)) => {
+            let counts = (image.number(), image.layers().len(), image.tiles().len());
+            (store.into_disk(), Ok(counts))
+        }
+        Err(refused) => (refused.disk, Err(refused.fault)),
+    }
+}
+
+/// The same of a file of these bytes.
 pub fn opened(
+    rt: &impl Abort,
     alloc: Global,
     bytes: &[u8],
-) -> Result<Result<(Commit<MemDisk>, Image), StoreFault>, Fail> {
-    Ok(opened_disk(alloc, disk_of(alloc, bytes)?))
+) -> (MemDisk, Result<Counts, StoreFault>) {
+    opened_disk(alloc, disk_of(rt, alloc, bytes))
+}
+
+/// The ring through the corners of the square.
+fn ring(rt: &impl Abort, alloc: Global) -> Ring {
+    let mut points = Vec::new(alloc);
+    for &(x, y) in SQUARE {
+        let point = Pt::new(x, y).expect(rt, "in range");
+        points.push(point).expect(rt, "memory");
+    }
+    Ring::new(points)
+}
+
+/// The base layer of the square alone.
+fn square(rt: &impl Abort, alloc: Global) -> BaseLayer {
+    let mut rings = Vec::new(alloc);
+    rings.push(ring(rt, alloc)).expect(rt, "memory");
+    BaseLayer::new(alloc, rings).expect(rt, "a layer")
 }
 
 /// The layers with the square under a name.
-fn with_square(alloc: Global, layers: Layers, name: &[u8]) -> Result<Layers, Fail> {
-    let rings = read_wkt(alloc, SQUARE.as_bytes())?;
-    let change = Command::Put(Name::new(alloc, name)?, Arc::new(alloc, rings)?);
-    Ok(layers.apply(alloc, &change)?)
+fn with_square(rt: &impl Abort, alloc: Global, layers: &Layers, name: &[u8]) -> Layers {
+    let name = Name::new(alloc, name).expect(rt, "a name");
+    let base = Arc::new(alloc, square(rt, alloc)).expect(rt, "memory");
+    layers
+        .apply(alloc, &Command::Put(name, base))
+        .expect(rt, "accepted")
+}
+
+/// The layers with I = A & B.
+fn with_overlap(rt: &impl Abort, alloc: Global, layers: &Layers) -> Layers {
+    let name = Name::new(alloc, b"I").expect(rt, "a name");
+    let expression = read_expr(alloc, b"A & B").expect(rt, "an expression");
+    let shared = Arc::new(alloc, expression).expect(rt, "memory");
+    layers
+        .apply(alloc, &Command::Define(name, shared))
+        .expect(rt, "accepted")
 }
 
 /// The image of version 1: the square A alone.
-pub fn image_of_a(alloc: Global) -> Result<Image, Fail> {
-    let layers = with_square(alloc, Layers::new(alloc), b"A")?;
-    Ok(Image::new(1, layers, Vec::new(alloc)))
+pub fn image_of_a(rt: &impl Abort, alloc: Global) -> Image {
+    let layers = with_square(rt, alloc, &Layers::new(alloc), b"A");
+    Image::new(1, layers, Vec::new(alloc))
 }
 
 /// The image of version 3: the squares A and B, and I = A & B with no tile.
-fn image_of_three(alloc: Global) -> Result<Image, Fail> {
-    let one = with_square(alloc, Layers::new(alloc), b"A")?;
-    let two = with_square(alloc, one, b"B")?;
-    let expression = Arc::new(alloc, read_expr(alloc, b"A & B")?)?;
-    let change = Command::Define(Name::new(alloc, b"I")?, expression);
-    let three = two.apply(alloc, &change)?;
-    Ok(Image::new(3, three, Vec::new(alloc)))
+fn image_of_three(rt: &impl Abort, alloc: Global) -> Image {
+    let one = with_square(rt, alloc, &Layers::new(alloc), b"A");
+    let two = with_square(rt, alloc, &one, b"B");
+    Image::new(3, with_overlap(rt, alloc, &two), Vec::new(alloc))
+}
+
+/// A disk on which a store was made and an image committed in so many steps.
+fn disk_with(
+    rt: &impl Abort,
+    alloc: Global,
+    max_blocks: u32,
+    image: Image,
+    steps: usize,
+) -> MemDisk {
+    let mut store = created(rt, alloc, &[], max_blocks).expect(rt, "a store");
+    assert!(rt; !store.busy());
+    assert!(rt; store.begin(alloc, image).is_ok());
+    assert!(rt; steps_to_done(&mut store, steps) == Some(steps));
+    store.into_disk()
 }
 
 /// A disk on which a store was made and the square A committed.
-pub fn committed(alloc: Global) -> Result<MemDisk, Fail> {
-    let Ok(mut store) = created(alloc, &[], 5)? else {
-        return Err(Fail::new("no store"));
-    };
-    if store.busy() {
-        return Err(Fail::new("busy"));
-    }
-    store.begin(alloc, image_of_a(alloc)?)?;
-    if steps_to_done(&mut store, COMMITTED) != Some(COMMITTED) {
-        return Err(Fail::new("not done"));
-    }
-    Ok(store.into_disk())
+pub fn committed(rt: &impl Abort, alloc: Global) -> MemDisk {
+    disk_with(rt, alloc, 5, image_of_a(rt, alloc), COMMITTED)
 }
 
 /// Puts bytes in the place of others; those that would lie behind the end are left out.
@@ -116,23 +156,14 @@ pub fn put(file: &mut Vec<u8>, at: usize, bytes: &[u8]) {
 
 /// A file of eight blocks: the records of A and B in blocks 3 and 4, that of I in block 5, their catalog in
 /// block 6 with a tile of I more, and that tile in block 7.
-pub fn stored(alloc: Global) -> Result<Vec<u8>, Fail> {
-    let Ok(mut store) = created(alloc, &[], 100)? else {
-        return Err(Fail::new("no store"));
-    };
-    if store.busy() {
-        return Err(Fail::new("busy"));
-    }
-    store.begin(alloc, image_of_three(alloc)?)?;
-    if steps_to_done(&mut store, 20) != Some(10) {
-        return Err(Fail::new("not done"));
-    }
-    let mut file = store.into_disk().bytes().to_vec(alloc)?;
-    file.resize(32768, 0)?;
+pub fn stored(rt: &impl Abort, alloc: Global) -> Vec<u8> {
+    let disk = disk_with(rt, alloc, 100, image_of_three(rt, alloc), 10);
+    let mut file = disk.bytes().to_vec(alloc).expect(rt, "memory");
+    file.resize(32768, 0).expect(rt, "memory");
     put(&mut file, 24639, &ENTRY);
     put(&mut file, 4151, &[76]);
     put(&mut file, 28672, &TILE);
-    Ok(file)
+    file
 }
 
 /// Steps until a commit is done, at most this often, and counts them.
