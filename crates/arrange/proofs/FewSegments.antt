@@ -1,5 +1,5 @@
 -- A base layer has no more segments than steps, and so few that a column keeps of it.
-use Rattle.std.specs.Prelude.{◌≡◌, ℕ, ◌-◌, ◌≤◌, nat_le, Bool, true, false, List, [], ◌∷◌, length, map, filter_map, count_by, drop, Option, Some, None, if◌then◌else◌}
+use Rattle.std.specs.Prelude.{◌≡◌, ℕ, ◌-◌, ◌≤◌, nat_le, Bool, true, false, List, [], ◌∷◌, length, filter_map, drop, Option, Some, None, if◌then◌else◌}
 use Rattle.std.specs.List.{cons_option}
 use Rattle.std.proofs.Common.{suc, refl, arith}
 use Rattle.std.proofs.lemmas.Bool.{leb-true}
@@ -7,7 +7,7 @@ use Rattle.std.proofs.lemmas.List.{length-map, length-drop}
 use Rattle.std.proofs.lemmas.List.Concat.{length-flat_map}
 use Rattle.std.proofs.lemmas.List.Sums.{length-filter, count_by-le-length, sum_by-le-sum_by}
 use Rattle.std.proofs.lemmas.Slice.Zip.{length-zip}
-use Rattle.overlay_terms.specs.Plane.{WholePoint, Segment, segment_between, ring_steps, ring_segments, segments_of, ring_step_count, steps_max}
+use Rattle.overlay_terms.specs.Plane.{WholePoint, segment_between, ring_steps, ring_segments, segments_of, ring_step_count, steps_max}
 use Rattle.overlay_terms.specs.Column.{touches}
 use Rattle.overlay_terms.specs.Layers.{Marked}
 use Rattle.overlay_terms.proofs.Options.{both_absent}

@@ -11,9 +11,6 @@ pub mod FewSegments
 pub mod BaseLemmas
 pub mod UnitLineLemmas
 pub mod UnitEndLemmas
-pub mod UnitNeighbours
-pub mod NeighbourSteps
-pub mod UnitListLemmas
 pub mod AlongPieces
 pub mod MadePieces
 pub mod PlacedLemmas
@@ -25,3 +22,7 @@ pub mod UnitNodes
 pub mod UnitPieces
 pub mod UnitParts
 pub mod LineLemmas
+pub mod EndCounts
+pub mod EndStretches
+pub mod UnitsAlong
+pub mod RunLemmas

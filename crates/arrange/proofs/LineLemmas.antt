@@ -1,6 +1,6 @@
 -- Runs of segments on one line, among segments in the order of their lines.
 use Rattle.std.proofs.Common.{◌≡◌, ℕ, pos, zero, suc, ◌+◌, ◌-◌, ◌<◌, ◌≤◌, ◌⊎◌, zero-add, take_all, inl, inr, true, false, Bool, not, List, [], ◌∷◌, ◌++◌, length, map, take, drop, get_or, refl, ap, sym, ◌∙◌, subst, arith}
-use Rattle.std.specs.Prelude.{Contains, All, slice_range}
+use Rattle.std.specs.Prelude.{Contains, slice_range}
 use Rattle.std.specs.List.Sorted.{IsSorted}
 use Rattle.std.specs.Ordering.{int_eq, int_cmp, is_lt, is_eq, is_ne, ordering_then, ordering_reverse}
 use Rattle.std.specs.declared.cmp.Ordering.{Ordering}
@@ -8,7 +8,7 @@ use Rattle.std.specs.declared.cmp.Ordering.TheVariants.{Less, Equal, Greater}
 use Rattle.std.proofs.lemmas.Bool.{and_parts, both_ways, cases_lt, cases_eq}
 use Rattle.std.proofs.lemmas.Cmp.{tied_itself}
 use Rattle.std.proofs.lemmas.List.{map-append, get_or_default, get_or-take, length-take-le, length-drop, get_or-drop, get_or-map, length-map, get_or_read}
-use Rattle.std.proofs.lemmas.List.Elements.{All-nil, All-map, Contains-append_cases}
+use Rattle.std.proofs.lemmas.List.Elements.{All-nil, Contains-append_cases}
 use Rattle.std.proofs.lemmas.List.Sorted.{sorted_far, ranks_by}
 use Rattle.overlay_terms.specs.Plane.{Segment, whole, whole_cmp, height_over}
 use Rattle.overlay_terms.specs.Layers.{Marked}
@@ -138,18 +138,6 @@ module _ (lines : List LineSeg) where
             run.next d (omega (arith, le, j_in))
             (squeezed start end j d (omega (arith, run.after)) le j_in
             (line_total.congr (get_or lines start d) (get_or lines i d) (get_or lines j d) (run.same i d high l) ∙ on_one_line (get_or lines i d) (get_or lines j d) line))
-
--- all segments of lines are proper and of one of 32 layers
-pub proper_lines : (xs : List LineSeg) → AllProper (map line_marked xs)
-proper_lines xs = All-map (λ (m : Marked). IsProper m.segment) line_marked xs (λ j d l. (get_or xs j d).proper)
-
--- and so are their segments
-pub few_lines : (xs : List LineSeg) → All (λ m. m.layer < 32) (map (λ (a : LineSeg). a.marked) xs)
-few_lines xs = All-map (λ (m : MarkedSeg). m.layer < 32) (λ (a : LineSeg). a.marked) xs (λ j d l. (get_or xs j d).few)
-
-pub marked_lines : (xs : List LineSeg) → map marked_of (map (λ (a : LineSeg). a.marked) xs) ≡ map line_marked xs
-marked_lines [] = refl
-marked_lines (x ∷ xs) = ap (λ ms. line_marked x ∷ ms) (marked_lines xs)
 
 -- one of some proper segments is proper
 pub proper_at : (items : List MarkedSeg) (i : ℕ) (x : MarkedSeg) → i < length items → x ≡ get_or items i x → AllProper (map marked_of items) → IsProper x.seg

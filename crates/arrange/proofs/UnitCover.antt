@@ -13,10 +13,9 @@ use Rattle.overlay_terms.proofs.PointOrder.{same_points}
 use Rattle.exact_point.proofs.OnLine.{parallel_line, between_on, within_on, after_left, before_right, on_line, left_on_line, right_on_line}
 use Rattle.exact_point.proofs.PlaceOrder.{one_positive, level_from, level_test, same_self, on_same, not_before_self, less_through, not_after_less, not_before_test, not_before_says, Way, before, at, after, way_of}
 use Rattle.arrange.specs.Units.{covers, is_collinear, is_end_along, IsUnit}
-use Rattle.arrange.specs.UnitLists.{IsEndOn}
 use Rattle.arrange.proofs.NodeSound.{covering_turn}
 use Rattle.arrange.proofs.UnitLineLemmas.{whole_order, is_end_of, end_level, along_cover, along_stretch}
-use Rattle.arrange.proofs.UnitEndLemmas.{all_ends, found_is_end, end_is_found}
+use Rattle.arrange.proofs.UnitEndLemmas.{IsEndOn, all_ends, found_is_end, end_is_found}
 use Rattle.arrange.proofs.Utmost.{IsUtmost, utmost_of}
 
 -- ---- whole points in their order

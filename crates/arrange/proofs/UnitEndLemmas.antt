@@ -1,49 +1,23 @@
--- The ends on a segment, from left to right and each once.
-use Rattle.std.proofs.Common.{◌≡◌, ◌+◌, ◌<◌, ◌&&◌, ◌⊎◌, inl, inr, true, Bool, List, [], ◌∷◌, ◌++◌, length, get_or, take, map, refl, ap, sym, ◌∙◌, subst, cond, arith, ℕ, false, append_assoc, append-nil}
-use Rattle.std.specs.Prelude.{All, Contains, flat_map, filter}
-use Rattle.std.specs.List.{AllPairs, dedup}
-use Rattle.std.specs.List.Sorted.{IsSorted, IsPermutation}
-use Rattle.std.specs.Cmp.{IsEquivalence}
-use Rattle.std.specs.Ordering.{eq_by_cmp, int_cmp, ordering_reverse}
-use Rattle.std.proofs.lemmas.Grind.{flat_map-append}
-use Rattle.std.proofs.lemmas.Bool.{and_parts, and_from, cases_order}
-use Rattle.std.proofs.lemmas.Cmp.{tied_itself}
-use Rattle.std.proofs.lemmas.List.{map_more}
-use Rattle.std.proofs.lemmas.List.Elements.{All-contains, filter_passes, Contains-get_or}
-use Rattle.std.proofs.lemmas.List.Sorted.{Contains-permutation, All-permutation}
-use Rattle.std.proofs.lemmas.List.Kept.{Contains-dedup, IsStrictlySortedBy-dedup}
-use Rattle.std.specs.declared.cmp.Ordering.TheVariants.{Less, Equal}
-use Rattle.overlay_terms.specs.Plane.{WholePoint, Segment, whole, whole_cmp, same_whole, is_on}
+-- The ends on a segment, of the segments on its line.
+use Rattle.std.proofs.Common.{◌≡◌, ◌&&◌, ◌⊎◌, inl, inr, true, List, [], ◌∷◌, sym, arith}
+use Rattle.std.specs.Prelude.{IsTrue, Contains, flat_map, filter}
+use Rattle.std.proofs.lemmas.Bool.{and_parts, and_from}
+use Rattle.std.proofs.lemmas.List.Elements.{All-contains, filter_passes}
+use Rattle.overlay_terms.specs.Plane.{WholePoint, Segment, whole, is_on}
 use Rattle.overlay_terms.specs.Layers.{Marked}
 use Rattle.overlay_terms.proofs.InputLists.{Contains-filter, Contains-from_filter}
 use Rattle.overlay_terms.proofs.Lists.{Contains-cons_cases, in_flat_map, from_flat_map}
-use Rattle.overlay_terms.proofs.PointOrder.{same_points, whole_cmp_total, is_eq_then}
-use Rattle.arrange.specs.Units.{is_collinear}
-use Rattle.arrange.specs.UnitLists.{ends_from, IsEndOn, AreEndsOn}
-use Rattle.arrange.specs.declared.marked_seg.MarkedSeg.{MarkedSeg}
-use Rattle.arrange.specs.Marked.{marked_of}
-use Rattle.arrange.proofs.SortedPlaces.{strict_pairs, all_deduped}
-use Rattle.arrange.proofs.UnitLineLemmas.{end_of, is_end_of, same_whole_self}
+use Rattle.arrange.specs.Units.{is_collinear, is_end_along}
+use Rattle.arrange.proofs.UnitLineLemmas.{end_of, is_end_of}
 
--- whole points are one where the order tells them not apart
-ties : (a b : WholePoint) → same_whole a b ≡ eq_by_cmp whole_cmp a b
-ties a b = sym (is_eq_then (int_cmp a.x b.x) (int_cmp a.y b.y))
+-- the ends of a segment on the line of s that lie on s
+abbrev ends_from : Segment → Segment → List WholePoint
+ends_from s t = filter (λ v. is_collinear s t && is_on s (whole v)) (t.left ∷ t.right ∷ [])
 
-same_turned : (a b : WholePoint) (x y : Bool) → same_whole a b ≡ x → same_whole b a ≡ y → (x ≡ true → y ≡ true) → (y ≡ true → x ≡ true) → x ≡ y
-same_turned a b true true e f g h = refl
-same_turned a b true y e f g h = sym (g refl)
-same_turned a b x true e f g h = h refl
-same_turned a b x y e f g h = cc
-
--- being one is an equivalence
-same_whole_equiv : IsEquivalence same_whole
-same_whole_equiv = record {
-  refl = same_whole_self;
-  symm = λ a b. same_turned a b (same_whole a b) (same_whole b a) refl refl
-      (λ e. subst (λ (v : WholePoint). same_whole v a ≡ true) (same_points a b e) (same_whole_self a))
-      (λ e. subst (λ (v : WholePoint). same_whole v b ≡ true) (same_points b a e) (same_whole_self b));
-  congr = λ a b v e. ap (λ w. same_whole w v) (same_points a b e);
-}
+-- an end of a segment on the line of s that lies on s
+pub record IsEndOn (marked : List Marked) (s : Segment) (v : WholePoint) : Type 0 where
+  pub along : IsTrue (is_end_along marked s v)
+  pub on_segment : IsTrue (is_on s (whole v))
 
 -- the ends that all segments have on a segment
 abbrev pub all_ends : Segment → List Marked → List WholePoint
@@ -89,54 +63,3 @@ end_is_found s marked v end =
     in_flat_map (λ (m : Marked). ends_from s m.segment) marked by.of v by.among
     (Contains-filter (λ w. is_collinear s t && is_on s (whole w)) (t.left ∷ t.right ∷ []) v (is_one_of t v by.is)
     (and_from (is_collinear s t) (is_on s (whole v)) by.collinear end.on_segment))
-
--- sorted and without repeats, they are the ends on the segment
-pub ends_sorted : (s : Segment) (marked : List Marked) (found sorted list : List WholePoint) → found ≡ all_ends s marked → IsPermutation found sorted → IsSorted whole_cmp sorted
-    → list ≡ dedup same_whole sorted → AreEndsOn marked s list
-ends_sorted s marked found sorted list is moved up kept =
-    subst (AreEndsOn marked s) (sym kept) (record {
-      sound = all_deduped (IsEndOn marked s) same_whole sorted (All-permutation (IsEndOn marked s) found sorted moved all_found);
-      ordered = strict_pairs whole_cmp (dedup same_whole sorted) (IsStrictlySortedBy-dedup whole_cmp_total ties sorted up);
-      complete = λ v end. Contains-dedup same_whole_equiv same_points sorted v
-          (Contains-permutation found sorted v moved (subst (λ (l : List WholePoint). Contains l v) (sym is) (end_is_found s marked v end)));
-    })
-  where
-    all_found : All (IsEndOn marked s) found
-    all_found = subst (All (IsEndOn marked s)) (sym is) (λ k d l. found_is_end s marked (get_or (all_ends s marked) k d) (Contains-get_or (all_ends s marked) k d l))
-
--- one more segment has its ends found
-pub ends_more : (s : Segment) (items : List MarkedSeg) (i : ℕ) (x : MarkedSeg) (before new : List WholePoint) → i < length items → x ≡ get_or items i x
-    → before ≡ all_ends s (map marked_of (take i items)) → new ≡ before ++ ends_from s x.seg → new ≡ all_ends s (map marked_of (take (i + 1) items))
-ends_more s items i x before new h e was added =
-    added
-    ∙ ap (λ xs. xs ++ ends_from s x.seg) was
-    ∙ ap (λ (m : MarkedSeg). all_ends s (map marked_of (take i items)) ++ ends_from s m.seg) e
-    ∙ ap (λ ys. all_ends s (map marked_of (take i items)) ++ ys) (sym (append-nil (ends_from s (get_or items i x).seg)))
-    ∙ sym (flat_map-append (λ (m : Marked). ends_from s m.segment) (map marked_of (take i items)) (marked_of (get_or items i x) ∷ []))
-    ∙ ap (all_ends s) (sym (map_more marked_of items i x h))
-
--- the ends of a segment on the line, one after the other
-pub both_offered : (s t : Segment) (xs : List WholePoint) → is_collinear s t ≡ true
-    → (xs ++ filter (λ v. is_on s (whole v)) (t.left ∷ [])) ++ filter (λ v. is_on s (whole v)) (t.right ∷ []) ≡ xs ++ ends_from s t
-both_offered s t xs e = by (is_collinear s t) (is_on s (whole t.left)) (is_on s (whole t.right)) e where
-  by : (c a b : Bool) → c ≡ true → (xs ++ cond a (t.left ∷ []) []) ++ cond b (t.right ∷ []) [] ≡ xs ++ cond (c && a) (t.left ∷ cond (c && b) (t.right ∷ []) []) (cond (c && b) (t.right ∷ []) [])
-  by true true b e = append_assoc xs (t.left ∷ []) (cond b (t.right ∷ []) [])
-  by true false b e = ap (λ ys. ys ++ cond b (t.right ∷ []) []) (append-nil xs)
-  by false a b e = absurd (cc)
-
--- ---- places in the list
--- of two ends in their order the first stands first
-pub in_order : (list : List WholePoint) → AllPairs (λ a b. whole_cmp a b ≡ Less) list → (i j : ℕ) (d : WholePoint) → i < length list → j < length list → whole_cmp (get_or list i d) (get_or list j d) ≡ Less → i < j
-in_order list up i j d h k less = by (cases_order i j) where
-  level : Equal ≡ Less → ⊥
-  level e = cc
-
-  above : ordering_reverse Less ≡ Less → ⊥
-  above e = cc
-
-  by : (i ≡ j) ⊎ ((i < j) ⊎ (j < i)) → i < j
-  by (inl e) =
-      absurd (level (sym (tied_itself whole_cmp_total (get_or list j d)) ∙ subst (λ (n : ℕ). whole_cmp (get_or list n d) (get_or list j d) ≡ Less) e less))
-  by (inr (inl l)) = l
-  by (inr (inr g)) =
-      absurd (above (sym (whole_cmp_total.antisymm (get_or list i d) (get_or list j d) ∙ ap ordering_reverse (up j i d g h)) ∙ less))

@@ -93,7 +93,7 @@ pairs_append R (x ∷ xs) ys h k across =
     (All-append (R x) xs ys (λ j d l. h 0 (suc j) d (omega arith) (omega (arith, l))) (λ j d l. across x (get_or ys j d) (contains_first x xs) (j, l, get_or_default ys j (get_or ys j d) d l)))
     (pairs_append R xs ys (λ i j d l m. h (suc i) (suc j) d (omega (arith, l)) (omega (arith, m))) k (λ y z c e. across y z (contains_rest x xs y c) e))
 
-none_counted : (p : Marked → Bool) (xs : List Marked) → ((m : Marked) → Contains xs m → p m ≡ false) → count_by p xs ≡ 0
+pub none_counted : (p : Marked → Bool) (xs : List Marked) → ((m : Marked) → Contains xs m → p m ≡ false) → count_by p xs ≡ 0
 none_counted p [] h = refl
 none_counted p (x ∷ xs) h =
     sum_by-cons (λ m. cond (p m) 1 0) x xs

@@ -1,6 +1,5 @@
 pub mod Marked
 pub mod Units
-pub mod UnitLists
 pub mod Arrangement
 pub mod NamedPlaces
 pub mod Masks
@@ -8,3 +7,4 @@ pub mod SameInput
 pub mod Directions
 pub mod PlacedPieces
 pub mod Lines
+pub mod LineEnds

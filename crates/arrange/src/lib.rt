@@ -5,16 +5,17 @@ pub mod closed_column;
 pub mod finding_nodes;
 pub mod finding_pieces;
 pub mod finding_units;
+mod line_end;
 mod line_seg;
 pub mod marked_seg;
 mod masking;
 mod named_place;
 mod node_test;
+mod passed_ends;
 pub mod piece;
 mod placed_piece;
 pub mod tile_input;
 pub mod unit;
-mod unit_ends;
 
 pub use closed_column::is_within;
 pub use finding_nodes::nodes_on;

@@ -1,15 +1,25 @@
-use Rattle.std.proofs.Common.{◌≤◌, List, length, map, sym, subst, arith}
+use Rattle.std.proofs.Common.{◌≤◌, List, length, map, sym, ◌∙◌, subst, arith}
 use Rattle.std.specs.Prelude.{slice_range}
 use Rattle.std.specs.List.Sorted.{IsPermutation}
 use Rattle.std.proofs.lemmas.List.Sorted.{IsPermutation-sym}
 use Rattle.overlay_terms.specs.Layers.{Marked}
+use Rattle.arrange.specs.LineEnds.{AreOnOneLine}
 use Rattle.arrange.specs.Lines.{line_marked}
 use Rattle.arrange.specs.Units.{AreUnits}
 use Rattle.arrange.specs.declared.line_seg.LineSeg.{LineSeg}
 use Rattle.arrange.specs.declared.unit.Unit.{Unit}
 use Rattle.arrange.proofs.LineLemmas.{HaveLines, IsRun, have_next_line, have_all_lines}
+use Rattle.arrange.proofs.RunLemmas.{run_on_one_line}
 use Rattle.arrange.proofs.UnitParts.{units_permuted}
 use Rattle.arrange.proofs.finding_units.units.Goals as goal
+
+pub units_on_line-requires : goal.units_on_line-requires
+units_on_line-requires c =
+    let start = c.loop-start.start in
+    let end = c.line_end-end.result in
+    let found : IsRun c.deref.result.now start end =
+    record { after = c.line_end-end.ensures.after; within = c.line_end-end.ensures.within; same = c.line_end-end.ensures.same; next = c.line_end-end.ensures.next } in
+    subst (λ (xs : List LineSeg). AreOnOneLine (slice_range xs start end)) (c.deref.ensures.value ∙ sym c.deref-in-loop-start.ensures.value) (run_on_one_line c.deref.result.now start end found)
 
 pub loop-start-preserved : goal.loop-start-preserved
 loop-start-preserved c =
