@@ -159,8 +159,28 @@ making a = Some (record { support = a.0.0; from = a.0.1.0; to = a.0.1.1 }, a.1)
 abbrev sieving : NamedPiece × List ℕ → Option (NamedPiece × List ℕ)
 sieving a = cond (is_piece a.0) (Some a) None
 
-abbrev front : NamedPiece → List ℕ → NamedPiece × List ℕ
-front p rest = (p, rest)
+abbrev front : {A : Type 0} → A → List ℕ → A × List ℕ
+front x rest = (x, rest)
+
+-- a segment from its ends
+abbrev with_right : WholePoint → WholePoint × List ℕ → Option ((WholePoint × WholePoint) × List ℕ)
+with_right l b = Some ((l, b.0), b.1)
+
+abbrev behind_left : WholePoint × List ℕ → Option ((WholePoint × WholePoint) × List ℕ)
+behind_left a = whole_point.read a.1 >>= with_right a.0
+
+abbrev joining : (WholePoint × WholePoint) × List ℕ → Option (Segment × List ℕ)
+joining a = Some (record { left = a.0.0; right = a.0.1 }, a.1)
+
+abbrev ordering : Segment × List ℕ → Option (Segment × List ℕ)
+ordering a = cond (is_lt (whole_cmp a.0.left a.0.right)) (Some a) None
+
+read_ends : (bytes behind rest : List ℕ) (l r : WholePoint) → whole_point.read bytes ≡ Some (l, behind)
+    → whole_point.read behind ≡ Some (r, rest)
+    → segment.read bytes ≡ cond (is_lt (whole_cmp l r)) (Some (front (record { left = l; right = r }) rest)) None
+read_ends bytes behind rest l r left right =
+    ap (λ (o : Option (WholePoint × List ℕ)). ((o >>= behind_left) >>= joining) >>= ordering) left
+    ∙ ap (λ (o : Option (WholePoint × List ℕ)). ((o >>= with_right l) >>= joining) >>= ordering) right
 
 -- a piece from its segment and the names of its ends
 pub read_parts : (bytes behind after rest : List ℕ) (s : Segment) (f t : PointName)
@@ -172,12 +192,28 @@ read_parts bytes behind after rest s f t support from to =
     ∙ ap (λ (o : Option (PointName × List ℕ)). (((o >>= behind_first) >>= with_names s) >>= making) >>= sieving) from
     ∙ ap (λ (o : Option (PointName × List ℕ)). (((o >>= with_second f) >>= with_names s) >>= making) >>= sieving) to
 
-pub keeps : (b : Bool) (p q : NamedPiece) (rest : List ℕ) → cond b (Some p) None ≡ Some q
+pub keeps : {A : Type 0} (b : Bool) (p q : A) (rest : List ℕ) → cond b (Some p) None ≡ Some q
     → cond b (Some (front p rest)) None ≡ Some (front q rest)
-keeps true p q rest e = ap (λ (x : NamedPiece). Some (front x rest)) (same_Some p q e)
+keeps {A} true p q rest e = ap (λ (x : A). Some (front x rest)) (same_Some p q e)
 keeps false p q rest e = absurd cc
 
-pub keeps_none : (b : Bool) (p : NamedPiece) (rest : List ℕ) → cond b (Some p) None ≡ None
+pub keeps_none : {A : Type 0} (b : Bool) (p : A) (rest : List ℕ) → cond b (Some p) None ≡ None
     → cond b (Some (front p rest)) None ≡ None
 keeps_none true p rest e = absurd cc
 keeps_none false p rest e = refl
+
+-- the segment between two points, if the first is the left one
+abbrev pub if_segment : WholePoint → WholePoint → Option Segment
+if_segment l r = cond (is_lt (whole_cmp l r)) (Some (record { left = l; right = r })) None
+
+module _ (bytes behind rest : List ℕ) (l r : WholePoint) (left : whole_point.read bytes ≡ Some (l, behind))
+    (right : whole_point.read behind ≡ Some (r, rest)) where
+  pub ends_read : (s : Segment) → if_segment l r ≡ Some s → segment.read bytes ≡ Some (s, rest)
+  ends_read s made =
+      read_ends bytes behind rest l r left right
+      ∙ keeps (is_lt (whole_cmp l r)) (record { left = l; right = r }) s rest made
+
+  pub ends_wrong : if_segment l r ≡ None → segment.read bytes ≡ None
+  ends_wrong none =
+      read_ends bytes behind rest l r left right
+      ∙ keeps_none (is_lt (whole_cmp l r)) (record { left = l; right = r }) rest none

@@ -78,6 +78,20 @@ module _ {A : Type 0} (f : Field A) where
       ap (λ (l : List ℕ). f.text y ++ l) (texts_behind xs x)
       ∙ sym (append_assoc (f.text y) (flat_map f.text xs) (f.text x))
 
+  -- the text of the next of some values
+  pub text_more : (xs : List A) (i : ℕ) (x : A) (front mid new : List ℕ) → i < length xs → x ≡ get_or xs i x
+      → mid ≡ front ++ flat_map f.text (take i xs) → new ≡ mid ++ f.text x
+      → new ≡ front ++ flat_map f.text (take (i + 1) xs)
+  text_more xs i x front mid new lt is before behind =
+      let so_far : take (i + 1) xs ≡ take i xs ++ x ∷ [] =
+      take_more xs i x lt ∙ ap (λ (y : A). take i xs ++ y ∷ []) (sym is) in
+      behind ∙ ap (λ (l : List ℕ). l ++ f.text x) before ∙ append_assoc front (flat_map f.text (take i xs)) (f.text x)
+      ∙ ap (λ (l : List ℕ). front ++ l) (sym (ap (flat_map f.text) so_far ∙ texts_behind (take i xs) x))
+
+  pub text_all : (xs : List A) (i : ℕ) (front new : List ℕ) → length xs ≤ i
+      → new ≡ front ++ flat_map f.text (take i xs) → new ≡ front ++ flat_map f.text xs
+  text_all xs i front new le is = is ∙ ap (λ (l : List A). front ++ flat_map f.text l) (take_all i xs le)
+
   one_behind : (xs : List A) (x : A) (old mid new : List ℕ) → ArePut f xs old mid → IsPut f x mid new
       → ArePut f (xs ++ x ∷ []) old new
   one_behind xs x old mid new before put = record {

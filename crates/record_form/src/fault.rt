@@ -43,7 +43,7 @@ impl RecordFault {
 }
 
 /// The text of a fault, as a reply says it behind the number.
-#[derive(Clone, Copy, Debug)]
+#[derive(Clone, Copy)]
 pub struct Text(pub RecordFault);
 
 impl fmt::Display for Text {
@@ -52,10 +52,10 @@ impl fmt::Display for Text {
     fn fmt<W: fmt::Write>(&self, f: &mut fmt::Formatter<W>) -> fmt::Result {
         match self.0 {
             RecordFault::Damaged(damage) => match damage.code() {
-                None => write!(f, "not a store"),
+                None => f.write_str("not a store"),
                 Some(code) => write!(f, "damaged {code}"),
             },
-            RecordFault::OutOfMemory => write!(f, "out of memory"),
+            RecordFault::OutOfMemory => f.write_str("out of memory"),
         }
     }
 }

@@ -12,7 +12,7 @@ use tile_build::tile::Tile;
 
 /// The number of a version, its layers, and its finished tiles, each with the name of its layer and
 /// the number of its column: in the order of the layers, then of the columns.
-#[derive(Debug, Drop)]
+#[derive(Drop)]
 pub struct Image {
     number: u64,
     layers: Layers,

@@ -37,10 +37,10 @@ fn piece_at(bytes: &[u8]) -> Result<(Piece, &[u8]), ReadFault>
     ensures { Gives (λ x. (x.0, x.1.now)) result (spelled.read bytes.now) }
 {
     match segment_at(bytes) {
-        Ok((support, rest)) => match point_name_at(rest) {
-            Ok((from, rest)) => match point_name_at(rest) {
-                Ok((to, rest)) => match piece_of(support, from, to) {
-                    Some(piece) => Ok((piece, rest)),
+        Ok(support) => match point_name_at(support.1) {
+            Ok(from) => match point_name_at(from.1) {
+                Ok(to) => match piece_of(support.0, from.0, to.0) {
+                    Some(piece) => Ok((piece, to.1)),
                     None => Err(ReadFault::Form),
                 },
                 Err(fault) => Err(fault),

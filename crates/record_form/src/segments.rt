@@ -13,14 +13,15 @@ use plane_base::{Pt, Seg};
 use std::alloc::AllocError;
 
 /// The segment that 16 bytes spell, its left end first, and what follows them. In this file and in
-/// that of pieces a `match` stands for `?`, which the prover does not take with such pairs.
+/// that of pieces a `match` stands for `?`, which the prover does not take with such pairs, and an arm
+/// names the pair: its parts by name would cost the prover several times as much.
 pub(crate) fn segment_at(bytes: &[u8]) -> Result<(Seg, &[u8]), ReadFault>
     ensures { Gives (λ x. (x.0, x.1.now)) result (segment.read bytes.now) }
 {
     match point_at(bytes) {
-        Ok((left, rest)) => match point_at(rest) {
-            Ok((right, rest)) => match segment_of(left, right) {
-                Some(seg) => Ok((seg, rest)),
+        Ok(left) => match point_at(left.1) {
+            Ok(right) => match segment_of(left.0, right.0) {
+                Some(seg) => Ok((seg, right.1)),
                 None => Err(ReadFault::Form),
             },
             Err(fault) => Err(fault),
@@ -46,19 +47,19 @@ pub(crate) fn point_name_at(bytes: &[u8]) -> Result<(PointName, &[u8]), ReadFaul
     let (kind, rest) = byte_at(bytes)?;
     match kind {
         0 => match point_at(rest) {
-            Ok((vertex, rest)) => Ok((PointName::Vertex(vertex), rest)),
+            Ok(vertex) => Ok((PointName::Vertex(vertex.0), vertex.1)),
             Err(fault) => Err(fault),
         },
         1 => match segment_at(rest) {
-            Ok((first, rest)) => match segment_at(rest) {
-                Ok((second, rest)) => Ok((PointName::Cross(first, second), rest)),
+            Ok(first) => match segment_at(first.1) {
+                Ok(second) => Ok((PointName::Cross(first.0, second.0), second.1)),
                 Err(fault) => Err(fault),
             },
             Err(fault) => Err(fault),
         },
         2 => match segment_at(rest) {
-            Ok((cut, rest)) => match byte_at(rest) {
-                Ok((border, rest)) => Ok((PointName::Border(cut, border), rest)),
+            Ok(cut) => match byte_at(cut.1) {
+                Ok(border) => Ok((PointName::Border(cut.0, border.0), border.1)),
                 Err(fault) => Err(fault),
             },
             Err(fault) => Err(fault),

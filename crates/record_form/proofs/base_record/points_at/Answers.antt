@@ -1,8 +1,8 @@
 use Rattle.std.proofs.lemmas.Result.{err_from_is_err_and}
 use Rattle.store_terms.specs.Fields.{read_many}
 use Rattle.store_terms.specs.BaseRecord.{whole_point}
-use Rattle.store_terms.proofs.Loops.{goes_on}
-use Rattle.record_form.proofs.Failing.{fails}
+use Rattle.store_terms.proofs.Loops.{goes_on, is_done}
+use Rattle.record_form.proofs.Failing.{fails, starts}
 use Rattle.record_form.proofs.base_record.points_at.Goals as goal
 
 pub returns-in_err-rest : goal.returns-in_err-rest
@@ -17,3 +17,11 @@ loop-preserved c =
     let read = c.in_ok-rest.ensures.ok in
     rw read.2
     (goes_on whole_point.read c.loop.points.items c.args.count c.loop.counter c.loop.rest.now read.0 c.in_ok-rest.rest.now (read_many whole_point.read c.args.count c.args.bytes.now) c.loop-test.true read.1 c.loop.invariant)
+
+pub loop-init : goal.loop-init
+loop-init c = starts whole_point.read c.new-points.result.items c.args.count c.args.bytes.now c.new-points.ensures.items
+
+pub returns : goal.returns
+returns c =
+    is_done whole_point.read c.loop.points.items c.args.count c.loop.counter c.loop.rest.now
+    (read_many whole_point.read c.args.count c.args.bytes.now) c.loop-test.false c.loop.invariant

@@ -6,5 +6,5 @@ use Rattle.record_form.proofs.base_record.put_ring.Given as goal
 
 abbrev pub invariant-loop-point : goal.invariant-loop-point
 invariant-loop-point l =
-    l.out.items ≡ l.fn.out.items
-    ++ (big_bytes 2 (length l.points) ++ flat_map whole_point.text (take l.point-index l.points))
+    l.out.items ≡ (l.fn.out.items ++ big_bytes 2 (length l.points))
+    ++ flat_map whole_point.text (take l.point-index l.points)
