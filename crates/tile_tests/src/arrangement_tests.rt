@@ -1,24 +1,24 @@
 //! Inputs of tiles, units, nodes, pieces and labels, worked by hand. Bit 0 of a mask is layer A, bit 1 is B.
 use crate::rows::{Place, check, lowest};
 use crate::testing::{
-    ACROSS, BOW_TIE, CORNER, LEFT_HALF, NOTHING, SHIFTED, SQUARE, STRIP, TRIANGLE, TWICE, input_of,
+    ACROSS, BOW_TIE, CORNER, Corners, LEFT_HALF, NOTHING, SHIFTED, SQUARE, STRIP, TRIANGLE, TWICE,
+    input_of,
 };
 use arrange::{TileInput, nodes_on, pieces, units};
 use std::alloc::Global;
 use std::process::Abort;
-use std::test::Fail;
 use sweep_line::counting::label_by_count;
 use sweep_line::label;
 use sweep_line::labelled::Labelled;
 
-const BESIDE: &str = "POLYGON ((10 2, 20 2, 20 8, 10 8, 10 2))";
+const BESIDE: Corners = &[&[(10, 2), (20, 2), (20, 8), (10, 8), (10, 2)]];
 
-const TOUCHING: &str = "POLYGON ((10 5, 20 0, 20 10, 10 5))";
+const TOUCHING: Corners = &[&[(10, 5), (20, 0), (20, 10), (10, 5)]];
 
-const LEFT: &str = "POLYGON ((-10 5, 0 5, 0 15, -10 15, -10 5))";
+const LEFT: Corners = &[&[(-10, 5), (0, 5), (0, 15), (-10, 15), (-10, 5)]];
 
 /// How many segments have a point in the column.
-const INPUTS: &[(&str, u8, usize)] = &[
+const INPUTS: &[(Corners, u8, usize)] = &[
     (SQUARE, 8, 4),
     (SQUARE, 7, 0),
     (LEFT, 8, 3),
@@ -30,27 +30,25 @@ const INPUTS: &[(&str, u8, usize)] = &[
 ];
 
 #[test]
-fn an_input_has_the_segments_with_a_point_in_its_column(rt: HostRuntime) -> Result<(), Fail> {
+fn an_input_has_the_segments_with_a_point_in_its_column(rt: HostRuntime) {
     for (row, &(first, column, want)) in INPUTS.iter().enumerate() {
-        let input = input_of(rt.alloc(), first, NOTHING, "A & B", column)?;
+        let input = input_of(&rt, rt.alloc(), first, NOTHING, "A & B", column);
         check(&rt, row, &input.marked().len(), &want);
         check(&rt, row, &input.steps().bases(), &2);
     }
-    Ok(())
 }
 
 #[test]
-fn a_copy_is_equal_and_another_column_is_not(rt: HostRuntime) -> Result<(), Fail> {
-    let input = input_of(rt.alloc(), SQUARE, SHIFTED, "A & B", 8)?;
-    let copy = input.try_copy(rt.alloc())?;
-    let other = input_of(rt.alloc(), SQUARE, SHIFTED, "A & B", 9)?;
+fn a_copy_is_equal_and_another_column_is_not(rt: HostRuntime) {
+    let input = input_of(&rt, rt.alloc(), SQUARE, SHIFTED, "A & B", 8);
+    let copy = input.try_copy(rt.alloc()).expect(&rt, "memory");
+    let other = input_of(&rt, rt.alloc(), SQUARE, SHIFTED, "A & B", 9);
     assert!(rt; copy == input);
     assert!(rt; other != input);
-    Ok(())
 }
 
 /// How many units have each of four masks.
-const UNITS: &[(&str, &str, u8, [usize; 4])] = &[
+const UNITS: &[(Corners, Corners, u8, [usize; 4])] = &[
     (SQUARE, SHIFTED, 8, [0, 4, 4, 0]),
     (SQUARE, LEFT_HALF, 8, [0, 3, 1, 3]),
     (SQUARE, SQUARE, 8, [0, 0, 0, 4]),
@@ -70,33 +68,31 @@ fn count(counts: &mut [usize; 4], at: usize) {
 }
 
 #[test]
-fn units_end_at_the_ends_of_collinear_segments(rt: HostRuntime) -> Result<(), Fail> {
+fn units_end_at_the_ends_of_collinear_segments(rt: HostRuntime) {
     for (row, &(first, second, column, want)) in UNITS.iter().enumerate() {
-        let input = input_of(rt.alloc(), first, second, "A & B", column)?;
+        let input = input_of(&rt, rt.alloc(), first, second, "A & B", column);
         let mut counts = [0; 4];
-        for unit in &units(rt.alloc(), &input)? {
+        for unit in &units(rt.alloc(), &input).expect(&rt, "memory") {
             count(&mut counts, unit.mask as usize);
         }
         check(&rt, row, &counts, &want);
     }
-    Ok(())
 }
 
 #[test]
-fn the_nodes_of_two_crossing_squares_are_counted_by_unit(rt: HostRuntime) -> Result<(), Fail> {
-    let input = input_of(rt.alloc(), SQUARE, SHIFTED, "A & B", 8)?;
+fn the_nodes_of_two_crossing_squares_are_counted_by_unit(rt: HostRuntime) {
+    let input = input_of(&rt, rt.alloc(), SQUARE, SHIFTED, "A & B", 8);
     let mut counts = [0; 4];
-    for unit in &units(rt.alloc(), &input)? {
-        let nodes = nodes_on(rt.alloc(), &unit.seg, &input)?;
+    for unit in &units(rt.alloc(), &input).expect(&rt, "memory") {
+        let nodes = nodes_on(rt.alloc(), &unit.seg, &input).expect(&rt, "memory");
         count(&mut counts, nodes.len());
     }
     // four sides are crossed once
     check(&rt, 0, &counts, &[0, 0, 4, 4]);
-    Ok(())
 }
 
 /// How many pieces begin in the column.
-const PIECES: &[(&str, &str, u8, usize)] = &[
+const PIECES: &[(Corners, Corners, u8, usize)] = &[
     (SQUARE, SHIFTED, 8, 12),
     (ACROSS, NOTHING, 7, 3),
     (ACROSS, NOTHING, 8, 3),
@@ -110,12 +106,12 @@ const PIECES: &[(&str, &str, u8, usize)] = &[
 ];
 
 #[test]
-fn each_piece_that_begins_in_the_column_is_found_once(rt: HostRuntime) -> Result<(), Fail> {
+fn each_piece_that_begins_in_the_column_is_found_once(rt: HostRuntime) {
     for (row, &(first, second, column, want)) in PIECES.iter().enumerate() {
-        let input = input_of(rt.alloc(), first, second, "A & B", column)?;
-        check(&rt, row, &pieces(rt.alloc(), &input)?.len(), &want);
+        let input = input_of(&rt, rt.alloc(), first, second, "A & B", column);
+        let found = pieces(rt.alloc(), &input).expect(&rt, "memory");
+        check(&rt, row, &found.len(), &want);
     }
-    Ok(())
 }
 
 /// The left end of a piece, its right end, and the masks under and over it. Of a vertical piece `under` is
@@ -172,20 +168,19 @@ fn check_labels(rt: &impl Abort, labels: &[Labelled], rows: &[Row]) {
     }
 }
 
-/// The labels of the pieces of an input, by the sweep and by counting.
-fn labels_of(alloc: Global, input: &TileInput) -> Result<(Vec<Labelled>, Vec<Labelled>), Fail> {
-    let swept = label(alloc, input, pieces(alloc, input)?)?;
-    let counted = label_by_count(alloc, input, pieces(alloc, input)?)?;
-    Ok((swept, counted))
+/// Checks the labels of the pieces of an input, by the sweep and by counting.
+fn check_both(rt: &impl Abort, alloc: Global, input: &TileInput, rows: &[Row]) {
+    let found = pieces(alloc, input).expect(rt, "memory");
+    check_labels(rt, &label(alloc, input, found).expect(rt, "memory"), rows);
+    let again = pieces(alloc, input).expect(rt, "memory");
+    let counted = label_by_count(alloc, input, again).expect(rt, "memory");
+    check_labels(rt, &counted, rows);
 }
 
 #[test]
-fn pieces_stand_in_order_with_the_layers_on_both_sides(rt: HostRuntime) -> Result<(), Fail> {
-    for &(first, second, rows) in &[(SQUARE, SHIFTED, SQUARES), (TRIANGLE, STRIP, CUT_TRIANGLE)] {
-        let input = input_of(rt.alloc(), first, second, "A & B", 8)?;
-        let (swept, counted) = labels_of(rt.alloc(), &input)?;
-        check_labels(&rt, &swept, rows);
-        check_labels(&rt, &counted, rows);
-    }
-    Ok(())
+fn pieces_stand_in_order_with_the_layers_on_both_sides(rt: HostRuntime) {
+    let squares = input_of(&rt, rt.alloc(), SQUARE, SHIFTED, "A & B", 8);
+    check_both(&rt, rt.alloc(), &squares, SQUARES);
+    let triangle = input_of(&rt, rt.alloc(), TRIANGLE, STRIP, "A & B", 8);
+    check_both(&rt, rt.alloc(), &triangle, CUT_TRIANGLE);
 }

@@ -3,12 +3,12 @@
 use crate::rings::{combs, next, scattered};
 use crate::rows::check;
 use crate::testing::{
-    ACROSS, BOW_TIE, CORNER, DIAMOND, LEFT_HALF, NEXT_TO_IT, NOTHING, SHIFTED, SQUARE, STRIP,
-    TRIANGLE, TWICE, input_of,
+    ACROSS, BOW_TIE, CORNER, Corners, DIAMOND, LEFT_HALF, NEXT_TO_IT, NOTHING, SHIFTED, SQUARE,
+    STRIP, TRIANGLE, TWICE, input_of,
 };
 use arrange::TileInput;
 use std::alloc::Global;
-use std::test::Fail;
+use std::process::Abort;
 use tile_build::{Tile, build, build_by_pairs, build_counted};
 
 /// How many pieces a tile holds.
@@ -20,26 +20,23 @@ fn size_of(tile: &Tile) -> usize {
 }
 
 /// Whether both calls of the pass give the tile by all pairs, by its ends, at a cap.
-fn agree_at(alloc: Global, input: &TileInput, cap: usize) -> Result<bool, Fail> {
-    let plain = build_by_pairs(alloc, input, cap)?;
-    let counted = build_counted(alloc, input, cap)?;
-    let built = build(alloc, input, cap)?;
-    Ok(counted.tile.is_same(&plain) && built.is_same(&plain))
+fn agree_at(rt: &impl Abort, alloc: Global, input: &TileInput, cap: usize) -> bool {
+    let plain = build_by_pairs(alloc, input, cap).expect(rt, "memory");
+    let counted = build_counted(alloc, input, cap).expect(rt, "memory");
+    let built = build(alloc, input, cap).expect(rt, "memory");
+    counted.tile.is_same(&plain) && built.is_same(&plain)
 }
 
 /// Whether they do at caps below the size of the tile, and at its size.
-fn agree(alloc: Global, input: &TileInput) -> Result<bool, Fail> {
-    let size = size_of(&build_by_pairs(alloc, input, usize::MAX)?);
-    for &cap in &[0, size.saturating_sub(1), size] {
-        if !agree_at(alloc, input, cap)? {
-            return Ok(false);
-        }
-    }
-    Ok(true)
+fn agree(rt: &impl Abort, alloc: Global, input: &TileInput) -> bool {
+    let size = size_of(&build_by_pairs(alloc, input, usize::MAX).expect(rt, "memory"));
+    agree_at(rt, alloc, input, 0)
+        && agree_at(rt, alloc, input, size.saturating_sub(1))
+        && agree_at(rt, alloc, input, size)
 }
 
 /// The layers A and B, a definition and a column.
-const WORKED: &[(&str, &str, &str, u8)] = &[
+const WORKED: &[(Corners, Corners, &str, u8)] = &[
     (SQUARE, SHIFTED, "A & B", 8),
     (ACROSS, NOTHING, "A", 7),
     (ACROSS, NOTHING, "A", 8),
@@ -57,42 +54,37 @@ const WORKED: &[(&str, &str, &str, u8)] = &[
 ];
 
 #[test]
-fn the_pass_gives_the_tiles_by_all_pairs_of_the_worked_inputs(rt: HostRuntime) -> Result<(), Fail> {
+fn the_pass_gives_the_tiles_by_all_pairs_of_the_worked_inputs(rt: HostRuntime) {
     for (row, &(first, second, definition, column)) in WORKED.iter().enumerate() {
-        let input = input_of(rt.alloc(), first, second, definition, column)?;
-        check(&rt, row, &agree(rt.alloc(), &input)?, &true);
+        let input = input_of(&rt, rt.alloc(), first, second, definition, column);
+        check(&rt, row, &agree(&rt, rt.alloc(), &input), &true);
     }
-    Ok(())
 }
 
 #[test]
-fn the_pass_gives_the_tile_by_all_pairs_of_two_combs(rt: HostRuntime) -> Result<(), Fail> {
-    let input = combs(rt.alloc(), 128, 511)?;
-    assert!(rt; agree(rt.alloc(), &input)?);
+fn the_pass_gives_the_tile_by_all_pairs_of_two_combs(rt: HostRuntime) {
+    let input = combs(&rt, rt.alloc(), 128, 511);
+    assert!(rt; agree(&rt, rt.alloc(), &input));
     // 255 sides cross 255, two rectangles cross at a corner of the grid, and each has four corners
-    let counted = build_counted(rt.alloc(), &input, 131076)?;
+    let counted = build_counted(rt.alloc(), &input, 131076).expect(&rt, "memory");
     check(&rt, 0, &counted.nodes, &66050);
     check(&rt, 0, &size_of(&counted.tile), &131076);
-    Ok(())
 }
 
 #[test]
-fn the_pass_gives_the_tiles_by_all_pairs_of_200_scattered_inputs(
-    rt: HostRuntime,
-) -> Result<(), Fail> {
+fn the_pass_gives_the_tiles_by_all_pairs_of_200_scattered_inputs(rt: HostRuntime) {
     let mut seed = 1;
     for _ in 0..200 {
         seed = next(seed);
         // every second seed is even
         let column = if seed % 2 == 0 { 7 } else { 8 };
-        let input = scattered(rt.alloc(), seed, -4, column)?;
-        assert!(rt; agree(rt.alloc(), &input)?, "seed {seed}");
+        let input = scattered(&rt, rt.alloc(), seed, -4, column);
+        assert!(rt; agree(&rt, rt.alloc(), &input), "seed {seed}");
     }
-    Ok(())
 }
 
 /// The numbers of nodes, of the most tests (two a node), and of pieces.
-const COUNTS: &[(&str, &str, &str, u8, u64, usize, usize)] = &[
+const COUNTS: &[(Corners, Corners, &str, u8, u64, usize, usize)] = &[
     (SQUARE, SHIFTED, "A & B", 8, 10, 20, 4),
     (ACROSS, NOTHING, "A", 8, 4, 8, 3),
     (BOW_TIE, NOTHING, "A", 8, 5, 10, 6),
@@ -102,16 +94,15 @@ const COUNTS: &[(&str, &str, &str, u8, u64, usize, usize)] = &[
 ];
 
 #[test]
-fn nodes_pieces_and_tests_are_counted(rt: HostRuntime) -> Result<(), Fail> {
+fn nodes_pieces_and_tests_are_counted(rt: HostRuntime) {
     for (row, &(first, second, definition, column, nodes, tests, pieces)) in COUNTS
         .iter()
         .enumerate()
     {
-        let input = input_of(rt.alloc(), first, second, definition, column)?;
-        let counted = build_counted(rt.alloc(), &input, 65536)?;
+        let input = input_of(&rt, rt.alloc(), first, second, definition, column);
+        let counted = build_counted(rt.alloc(), &input, 65536).expect(&rt, "memory");
         check(&rt, row, &counted.nodes, &nodes);
         check(&rt, row, &(counted.tests.len() <= tests), &true);
         check(&rt, row, &size_of(&counted.tile), &pieces);
     }
-    Ok(())
 }

@@ -2,7 +2,6 @@
 use crate::rows::check;
 use plane_base::{BaseLayer, Column, PlaneFault, Pt, Ring, Seg, column_of};
 use std::process::Abort;
-use std::test::Fail;
 
 /// The point with these coordinates.
 fn at(rt: &impl Abort, x: i64, y: i64) -> Pt {
@@ -94,22 +93,18 @@ fn a_column_begins_at_its_border(rt: HostRuntime) {
 }
 
 #[test]
-fn equal_points_give_no_segment_and_rings_give_their_points_back(
-    rt: HostRuntime,
-) -> Result<(), Fail> {
+fn equal_points_give_no_segment_and_rings_give_their_points_back(rt: HostRuntime) {
     let mut points = Vec::new(rt.alloc());
     for &(x, y) in &[(0, 0), (3, 0), (3, 0), (0, 3), (0, 0)] {
-        points.push(at(&rt, x, y))?;
+        points.push(at(&rt, x, y)).expect(&rt, "memory");
     }
     let mut rings = Vec::new(rt.alloc());
-    rings.push(Ring::new(points))?;
-    let layer = BaseLayer::new(rt.alloc(), rings)?;
-    assert_eq!(rt; layer.rings().len(), 1);
-    assert_eq!(rt; layer.rings()[0].points().len(), 5);
-    assert_eq!(rt; layer.segs().len(), 3);
-    assert_eq!(rt;
-        layer.segs().first().copied(),
-        Seg::of(at(&rt, 0, 0), at(&rt, 3, 0))
-    );
-    Ok(())
+    rings.push(Ring::new(points)).expect(&rt, "memory");
+    let layer = BaseLayer::new(rt.alloc(), rings).expect(&rt, "a layer");
+    check(&rt, 0, &layer.rings().len(), &1);
+    check(&rt, 0, &layer.segs().len(), &3);
+    let first = Seg::of(at(&rt, 0, 0), at(&rt, 3, 0));
+    check(&rt, 0, &layer.segs().first().copied(), &first);
+    let given_back = layer.rings().first().map(|ring| ring.points().len());
+    check(&rt, 0, &given_back, &Some(5));
 }

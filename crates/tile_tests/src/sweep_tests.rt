@@ -3,12 +3,12 @@
 use crate::rings::{combs, next, scattered};
 use crate::rows::check;
 use crate::testing::{
-    ACROSS, BOW_TIE, CORNER, DIAMOND, LEFT_HALF, NEXT_TO_IT, NOTHING, SHIFTED, SQUARE, STRIP,
-    TRIANGLE, TWICE, input_of,
+    ACROSS, BOW_TIE, CORNER, Corners, DIAMOND, LEFT_HALF, NEXT_TO_IT, NOTHING, SHIFTED, SQUARE,
+    STRIP, TRIANGLE, TWICE, input_of,
 };
 use arrange::{TileInput, pieces};
 use std::alloc::Global;
-use std::test::Fail;
+use std::process::Abort;
 use sweep_line::counting::label_by_count;
 use sweep_line::label;
 use sweep_line::labelled::Labelled;
@@ -23,14 +23,16 @@ fn are_alike(swept: &[Labelled], counted: &[Labelled]) -> bool {
 }
 
 /// Whether both ways label the pieces of an input alike.
-fn both_agree(alloc: Global, input: &TileInput) -> Result<bool, Fail> {
-    let swept = label(alloc, input, pieces(alloc, input)?)?;
-    let counted = label_by_count(alloc, input, pieces(alloc, input)?)?;
-    Ok(are_alike(&swept, &counted))
+fn both_agree(rt: &impl Abort, alloc: Global, input: &TileInput) -> bool {
+    let found = pieces(alloc, input).expect(rt, "memory");
+    let swept = label(alloc, input, found).expect(rt, "memory");
+    let again = pieces(alloc, input).expect(rt, "memory");
+    let counted = label_by_count(alloc, input, again).expect(rt, "memory");
+    are_alike(&swept, &counted)
 }
 
 /// The layers A and B, and a column.
-const WORKED: &[(&str, &str, u8)] = &[
+const WORKED: &[(Corners, Corners, u8)] = &[
     (SQUARE, SHIFTED, 8),
     (ACROSS, NOTHING, 7),
     (ACROSS, NOTHING, 8),
@@ -46,28 +48,25 @@ const WORKED: &[(&str, &str, u8)] = &[
 ];
 
 #[test]
-fn the_sweep_agrees_with_counting_on_the_worked_inputs(rt: HostRuntime) -> Result<(), Fail> {
+fn the_sweep_agrees_with_counting_on_the_worked_inputs(rt: HostRuntime) {
     for (row, &(first, second, column)) in WORKED.iter().enumerate() {
-        let input = input_of(rt.alloc(), first, second, "A ^ B", column)?;
-        check(&rt, row, &both_agree(rt.alloc(), &input)?, &true);
+        let input = input_of(&rt, rt.alloc(), first, second, "A ^ B", column);
+        check(&rt, row, &both_agree(&rt, rt.alloc(), &input), &true);
     }
-    Ok(())
 }
 
 #[test]
-fn the_sweep_agrees_with_counting_on_two_combs(rt: HostRuntime) -> Result<(), Fail> {
-    let input = combs(rt.alloc(), 32, 127)?;
-    assert!(rt; both_agree(rt.alloc(), &input)?);
-    Ok(())
+fn the_sweep_agrees_with_counting_on_two_combs(rt: HostRuntime) {
+    let input = combs(&rt, rt.alloc(), 32, 127);
+    assert!(rt; both_agree(&rt, rt.alloc(), &input));
 }
 
 #[test]
-fn the_sweep_agrees_with_counting_on_500_scattered_inputs(rt: HostRuntime) -> Result<(), Fail> {
+fn the_sweep_agrees_with_counting_on_500_scattered_inputs(rt: HostRuntime) {
     let mut seed = 1;
     for _ in 0..500 {
         seed = next(seed);
-        let input = scattered(rt.alloc(), seed, 0, 8)?;
-        assert!(rt; both_agree(rt.alloc(), &input)?, "seed {seed}");
+        let input = scattered(&rt, rt.alloc(), seed, 0, 8);
+        assert!(rt; both_agree(&rt, rt.alloc(), &input), "seed {seed}");
     }
-    Ok(())
 }

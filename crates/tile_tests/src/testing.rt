@@ -1,91 +1,168 @@
-//! Layers and inputs of tiles for the tests, by their texts.
+//! Layers and inputs of tiles for the tests, by the corners of their rings. What cannot be made ends the test.
 use arrange::TileInput;
 use layer_book::command::Command;
 use layer_book::layers::Layers;
 use layer_expr::name::Name;
 use layer_expr::reading::read_expr;
+use plane_base::{BaseLayer, Pt, Ring};
 use std::alloc::Global;
+use std::process::Abort;
 use std::sync::Arc;
-use std::test::Fail;
-use wkt_form::reading::read_wkt;
 
-pub const SQUARE: &str = "POLYGON ((0 0, 10 0, 10 10, 0 10, 0 0))";
+/// The corners of rings, of each of which the last is the first.
+pub type Corners = &'static [&'static [(i64, i64)]];
 
-pub const SHIFTED: &str = "POLYGON ((5 5, 15 5, 15 15, 5 15, 5 5))";
+pub const SQUARE: Corners = &[&[(0, 0), (10, 0), (10, 10), (0, 10), (0, 0)]];
 
-pub const BOW_TIE: &str = "POLYGON ((0 0, 4 4, 4 0, 0 4, 0 0))";
+pub const SHIFTED: Corners = &[&[(5, 5), (15, 5), (15, 15), (5, 15), (5, 5)]];
 
-pub const LEFT_HALF: &str = "POLYGON ((0 0, 5 0, 5 10, 0 10, 0 0))";
+pub const BOW_TIE: Corners = &[&[(0, 0), (4, 4), (4, 0), (0, 4), (0, 0)]];
 
-pub const TWICE: &str =
-    "MULTIPOLYGON (((0 0, 10 0, 10 10, 0 10, 0 0)), ((0 0, 10 0, 10 10, 0 10, 0 0)))";
+pub const LEFT_HALF: Corners = &[&[(0, 0), (5, 0), (5, 10), (0, 10), (0, 0)]];
 
-pub const ACROSS: &str = "POLYGON ((-10 -10, 10 -10, 10 10, -10 10, -10 -10))";
+pub const TWICE: Corners = &[
+    &[(0, 0), (10, 0), (10, 10), (0, 10), (0, 0)],
+    &[(0, 0), (10, 0), (10, 10), (0, 10), (0, 0)],
+];
 
-pub const CORNER: &str =
-    "POLYGON ((1048575 1048575, 1048576 1048575, 1048576 1048576, 1048575 1048576, 1048575 1048575))";
+pub const ACROSS: Corners = &[&[(-10, -10), (10, -10), (10, 10), (-10, 10), (-10, -10)]];
 
-pub const TRIANGLE: &str = "POLYGON ((0 0, 3 1, 0 2, 0 0))";
+pub const CORNER: Corners = &[&[
+    (1048575, 1048575),
+    (1048576, 1048575),
+    (1048576, 1048576),
+    (1048575, 1048576),
+    (1048575, 1048575),
+]];
 
-pub const STRIP: &str = "POLYGON ((1 -1, 2 -1, 2 3, 1 3, 1 -1))";
+pub const TRIANGLE: Corners = &[&[(0, 0), (3, 1), (0, 2), (0, 0)]];
 
-pub const NEXT_TO_IT: &str = "POLYGON ((10 0, 20 0, 20 10, 10 10, 10 0))";
+pub const STRIP: Corners = &[&[(1, -1), (2, -1), (2, 3), (1, 3), (1, -1)]];
 
-pub const DIAMOND: &str = "POLYGON ((0 -2, 2 0, 0 2, -2 0, 0 -2))";
+pub const NEXT_TO_IT: Corners = &[&[(10, 0), (20, 0), (20, 10), (10, 10), (10, 0)]];
 
-pub const NOTHING: &str = "POLYGON EMPTY";
+pub const DIAMOND: Corners = &[&[(0, -2), (2, 0), (0, 2), (-2, 0), (0, -2)]];
 
-/// The command that puts a text under a name.
-pub fn put(alloc: Global, name: &str, text: &str) -> Result<Command, Fail> {
-    let rings = read_wkt(alloc, text.as_bytes())?;
-    Ok(Command::Put(Name::new(alloc, name.as_bytes())?, Arc::new(alloc, rings)?))
+pub const NOTHING: Corners = &[];
+
+/// The ring through these corners.
+fn ring(rt: &impl Abort, alloc: Global, corners: &[(i64, i64)]) -> Ring {
+    let mut points = Vec::new(alloc);
+    for &(x, y) in corners {
+        let point = Pt::new(x, y).expect(rt, "in range");
+        points.push(point).expect(rt, "memory");
+    }
+    Ring::new(points)
+}
+
+/// The rings through these corners.
+fn rings_of(rt: &impl Abort, alloc: Global, corners: Corners) -> Vec<Ring> {
+    let mut rings = Vec::new(alloc);
+    for &one in corners {
+        rings.push(ring(rt, alloc, one)).expect(rt, "memory");
+    }
+    rings
+}
+
+/// A name.
+pub fn name_of(rt: &impl Abort, alloc: Global, text: &str) -> Name {
+    Name::new(alloc, text.as_bytes()).expect(rt, "a name")
+}
+
+/// The command that puts rings under a name.
+pub fn put_rings(rt: &impl Abort, alloc: Global, name: &str, rings: Vec<Ring>) -> Command {
+    let base = BaseLayer::new(alloc, rings).expect(rt, "a layer");
+    let name = name_of(rt, alloc, name);
+    Command::Put(name, Arc::new(alloc, base).expect(rt, "memory"))
+}
+
+/// The command that puts the rings through these corners under a name.
+pub fn put(rt: &impl Abort, alloc: Global, name: &str, corners: Corners) -> Command {
+    put_rings(rt, alloc, name, rings_of(rt, alloc, corners))
 }
 
 /// The command that defines a name by a text.
-pub fn define(alloc: Global, name: &str, text: &str) -> Result<Command, Fail> {
-    let expression = read_expr(alloc, text.as_bytes())?;
-    Ok(Command::Define(
-        Name::new(alloc, name.as_bytes())?,
-        Arc::new(alloc, expression)?,
-    ))
+pub fn define(rt: &impl Abort, alloc: Global, name: &str, text: &str) -> Command {
+    let expression = read_expr(alloc, text.as_bytes()).expect(rt, "an expression");
+    let name = name_of(rt, alloc, name);
+    Command::Define(name, Arc::new(alloc, expression).expect(rt, "memory"))
 }
 
-/// The layers after a command.
-pub fn after(alloc: Global, layers: Layers, change: Command) -> Result<Layers, Fail> {
-    Ok(layers.apply(alloc, &change)?)
-}
-
-/// The layers A and B of these texts.
-fn bases_of(alloc: Global, first: &str, second: &str) -> Result<Layers, Fail> {
-    let one = after(alloc, Layers::new(alloc), put(alloc, "A", first)?)?;
-    after(alloc, one, put(alloc, "B", second)?)
-}
-
-/// The layers A and B of these texts, and I by this definition.
-pub fn layers_of(
+/// The layers with these rings under a name.
+pub fn with_rings(
+    rt: &impl Abort,
     alloc: Global,
-    first: &str,
-    second: &str,
+    layers: Layers,
+    name: &str,
+    rings: Vec<Ring>,
+) -> Layers {
+    let change = put_rings(rt, alloc, name, rings);
+    layers.apply(alloc, &change).expect(rt, "accepted")
+}
+
+/// The layers with the rings through these corners under a name.
+pub fn with_base(
+    rt: &impl Abort,
+    alloc: Global,
+    layers: Layers,
+    name: &str,
+    corners: Corners,
+) -> Layers {
+    let rings = rings_of(rt, alloc, corners);
+    with_rings(rt, alloc, layers, name, rings)
+}
+
+/// The layers with a layer that a text defines.
+pub fn with_definition(
+    rt: &impl Abort,
+    alloc: Global,
+    layers: Layers,
+    name: &str,
+    text: &str,
+) -> Layers {
+    let change = define(rt, alloc, name, text);
+    layers.apply(alloc, &change).expect(rt, "accepted")
+}
+
+/// The layers A and B of these corners.
+fn bases_of(rt: &impl Abort, alloc: Global, first: Corners, second: Corners) -> Layers {
+    let one = with_base(rt, alloc, Layers::new(alloc), "A", first);
+    with_base(rt, alloc, one, "B", second)
+}
+
+/// The layers A and B of these corners, and I by this definition.
+pub fn layers_of(
+    rt: &impl Abort,
+    alloc: Global,
+    first: Corners,
+    second: Corners,
     definition: &str,
-) -> Result<Layers, Fail> {
-    let bases = bases_of(alloc, first, second)?;
-    after(alloc, bases, define(alloc, "I", definition)?)
+) -> Layers {
+    let bases = bases_of(rt, alloc, first, second);
+    with_definition(rt, alloc, bases, "I", definition)
 }
 
 /// The input of the tile of a layer in a column.
-pub fn input_in(alloc: Global, layers: &Layers, name: &str, column: u8) -> Result<TileInput, Fail> {
-    let name = Name::new(alloc, name.as_bytes())?;
-    Ok(layers.input(alloc, &name, column)?)
+pub fn input_in(
+    rt: &impl Abort,
+    alloc: Global,
+    layers: &Layers,
+    name: &str,
+    column: u8,
+) -> TileInput {
+    let name = name_of(rt, alloc, name);
+    layers.input(alloc, &name, column).expect(rt, "an input")
 }
 
 /// The input of the tile of I in a column, over these layers.
 pub fn input_of(
+    rt: &impl Abort,
     alloc: Global,
-    first: &str,
-    second: &str,
+    first: Corners,
+    second: Corners,
     definition: &str,
     column: u8,
-) -> Result<TileInput, Fail> {
-    let layers = layers_of(alloc, first, second, definition)?;
-    input_in(alloc, &layers, "I", column)
+) -> TileInput {
+    let layers = layers_of(rt, alloc, first, second, definition);
+    input_in(rt, alloc, &layers, "I", column)
 }

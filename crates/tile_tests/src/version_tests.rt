@@ -1,161 +1,242 @@
 //! Versions by their calls: pending tiles and late results.
-use crate::testing::{SHIFTED, SQUARE, define, input_in, layers_of, put};
-use layer_book::command::Command;
+use crate::rows::check;
+use crate::testing::{Corners, SHIFTED, SQUARE, define, input_in, layers_of, name_of, put};
 use layer_expr::name::Name;
 use std::alloc::Global;
-use std::test::Fail;
+use std::process::Abort;
 use tile_build::Built;
 use version_core::finishing::Finish;
 use version_core::version::Version;
 
-const TWO_SQUARES: &str =
-    "MULTIPOLYGON (((0 0, 10 0, 10 10, 0 10, 0 0)), ((-20 0, -10 0, -10 10, -20 10, -20 0)))";
+const SMALLER: Corners = &[&[(0, 0), (9, 0), (9, 9), (0, 9), (0, 0)]];
 
-const LEFT_ONE_MOVED: &str =
-    "MULTIPOLYGON (((0 0, 10 0, 10 10, 0 10, 0 0)), ((-21 0, -10 0, -10 10, -21 10, -21 0)))";
+const TWO_SQUARES: Corners = &[
+    &[(0, 0), (10, 0), (10, 10), (0, 10), (0, 0)],
+    &[(-20, 0), (-10, 0), (-10, 10), (-20, 10), (-20, 0)],
+];
 
-/// The version after a command.
-fn after(alloc: Global, version: Version, change: Command) -> Result<Version, Fail> {
-    Ok(version.submit(alloc, &change)?)
+const LEFT_ONE_MOVED: Corners = &[
+    &[(0, 0), (10, 0), (10, 10), (0, 10), (0, 0)],
+    &[(-21, 0), (-10, 0), (-10, 10), (-21, 10), (-21, 0)],
+];
+
+/// What the next version changes.
+enum Change {
+    /// The corners of a base layer.
+    Put(&'static str, Corners),
+    /// The text of a derived layer.
+    Define(&'static str, &'static str),
+}
+
+/// The version with the rings through these corners under a name.
+fn with_base(
+    rt: &impl Abort,
+    alloc: Global,
+    version: Version,
+    name: &str,
+    corners: Corners,
+) -> Version {
+    let change = put(rt, alloc, name, corners);
+    version.submit(alloc, &change).expect(rt, "accepted")
+}
+
+/// The version with a layer that a text defines.
+fn with_definition(
+    rt: &impl Abort,
+    alloc: Global,
+    version: Version,
+    name: &str,
+    text: &str,
+) -> Version {
+    let change = define(rt, alloc, name, text);
+    version.submit(alloc, &change).expect(rt, "accepted")
+}
+
+/// The version after a change.
+fn after(rt: &impl Abort, alloc: Global, version: Version, change: &Change) -> Version {
+    match change {
+        Change::Put(name, corners) => with_base(rt, alloc, version, name, corners),
+        Change::Define(name, text) => with_definition(rt, alloc, version, name, text),
+    }
 }
 
 /// The squares A from 0 to 10 and B from 5 to 15.
-fn squares(alloc: Global) -> Result<Version, Fail> {
-    let one = after(alloc, Version::empty(alloc), put(alloc, "A", SQUARE)?)?;
-    after(alloc, one, put(alloc, "B", SHIFTED)?)
+fn squares(rt: &impl Abort, alloc: Global) -> Version {
+    let one = with_base(rt, alloc, Version::empty(alloc), "A", SQUARE);
+    with_base(rt, alloc, one, "B", SHIFTED)
 }
 
 /// The same, and I where both are.
-fn overlap(alloc: Global) -> Result<Version, Fail> {
-    let bases = squares(alloc)?;
-    after(alloc, bases, define(alloc, "I", "A & B")?)
+fn overlap(rt: &impl Abort, alloc: Global) -> Version {
+    let bases = squares(rt, alloc);
+    with_definition(rt, alloc, bases, "I", "A & B")
 }
 
-/// The tile of I in column 8, from the present layers.
-fn built(alloc: Global, version: &Version) -> Result<Built, Fail> {
-    let input = input_in(alloc, version.layers(), "I", 8)?;
-    Ok(Built::new(alloc, input)?)
+/// The tile of a layer in a column, from the present layers.
+fn built(rt: &impl Abort, alloc: Global, version: &Version, name: &str, column: u8) -> Built {
+    let input = input_in(rt, alloc, version.layers(), name, column);
+    Built::new(alloc, input).expect(rt, "memory")
 }
 
-/// The version that keeps a tile of I, if the tile is not stale.
-fn with_tile(alloc: Global, version: &Version, tile: Built) -> Result<Option<Version>, Fail> {
-    let name = Name::new(alloc, b"I")?;
-    match version.finish(alloc, &name, tile)? {
-        Finish::Kept(next) => Ok(Some(next)),
-        Finish::Stale => Ok(None),
+/// The version that keeps a tile of a layer, if the tile is not stale.
+fn with_tile(
+    rt: &impl Abort,
+    alloc: Global,
+    version: &Version,
+    name: &str,
+    tile: Built,
+) -> Option<Version> {
+    let name = name_of(rt, alloc, name);
+    match version.finish(alloc, &name, tile).expect(rt, "memory") {
+        Finish::Kept(next) => Some(next),
+        Finish::Stale => None,
+    }
+}
+
+/// Checks that each entry of a list is of I, and in the columns from 0 on.
+fn check_columns(rt: &impl Abort, list: &[(Name, u8)]) {
+    for (row, (name, column)) in list.iter().enumerate() {
+        assert!(rt; name.bytes() == b"I".as_slice(), "row {row}");
+        check(rt, row, &usize::from(*column), &row);
     }
 }
 
 #[test]
-fn a_new_layer_has_all_tiles_pending(rt: HostRuntime) -> Result<(), Fail> {
-    let list = overlap(rt.alloc())?.pending(rt.alloc())?;
-    assert_eq!(rt; list.len(), 17);
-    for (index, (name, column)) in list.iter().enumerate() {
-        assert!(rt; name.bytes() == b"I".as_slice());
-        assert_eq!(rt; usize::from(*column), index);
-    }
-    Ok(())
+fn a_new_layer_has_all_tiles_pending(rt: HostRuntime) {
+    let version = overlap(&rt, rt.alloc());
+    let list = version.pending(rt.alloc()).expect(&rt, "memory");
+    assert!(rt; list.len() == 17);
+    check_columns(&rt, &list);
+}
+
+/// Whether the tile of I in column 8 from the present layers is kept.
+fn is_fresh_kept(rt: &impl Abort, alloc: Global, version: &Version) -> bool {
+    let fresh = built(rt, alloc, version, "I", 8);
+    with_tile(rt, alloc, version, "I", fresh).is_some()
+}
+
+/// The tile of I in column 8, and a version in which A has changed since.
+fn late_tile(rt: &impl Abort, alloc: Global) -> (Built, Version) {
+    let version = overlap(rt, alloc);
+    let late = built(rt, alloc, &version, "I", 8);
+    (late, with_base(rt, alloc, version, "A", SMALLER))
 }
 
 #[test]
-fn a_late_result_is_stale_and_a_fresh_one_is_kept(rt: HostRuntime) -> Result<(), Fail> {
-    let version = overlap(rt.alloc())?;
-    let late = built(rt.alloc(), &version)?;
-    let smaller = put(rt.alloc(), "A", "POLYGON ((0 0, 9 0, 9 9, 0 9, 0 0))")?;
-    let changed = after(rt.alloc(), version, smaller)?;
-    assert!(rt; with_tile(rt.alloc(), &changed, late)?.is_none());
-    let fresh = built(rt.alloc(), &changed)?;
-    assert!(rt; with_tile(rt.alloc(), &changed, fresh)?.is_some());
-    Ok(())
+fn a_late_result_is_stale_and_a_fresh_one_is_kept(rt: HostRuntime) {
+    let (late, changed) = late_tile(&rt, rt.alloc());
+    assert!(rt; with_tile(&rt, rt.alloc(), &changed, "I", late).is_none());
+    assert!(rt; is_fresh_kept(&rt, rt.alloc(), &changed));
 }
 
+/// A number that is reported of version 3, and the durable number then.
+const REPORTS: &[(u64, u64)] = &[(0, 0), (2, 2), (3, 3), (4, 0)];
+
 #[test]
-fn a_report_raises_the_durable_number_up_to_the_version(rt: HostRuntime) -> Result<(), Fail> {
-    let version = overlap(rt.alloc())?;
-    for &(number, want) in &[(0, 0), (2, 2), (3, 3), (4, 0)] {
-        let reported = version.durable_to(rt.alloc(), number)?;
-        assert_eq!(rt; reported.durable(), want, "after {number}");
+fn a_report_raises_the_durable_number_up_to_the_version(rt: HostRuntime) {
+    let version = overlap(&rt, rt.alloc());
+    for (row, &(number, want)) in REPORTS.iter().enumerate() {
+        let reported = version.durable_to(rt.alloc(), number).expect(&rt, "memory");
+        check(&rt, row, &reported.durable(), &want);
     }
-    Ok(())
 }
 
 /// The version that keeps the tile of N in a column.
-fn with_column(alloc: Global, version: Version, column: u8) -> Result<Version, Fail> {
-    let input = input_in(alloc, version.layers(), "N", column)?;
-    let tile = Built::new(alloc, input)?;
-    match version.finish(alloc, &Name::new(alloc, b"N")?, tile)? {
-        Finish::Kept(next) => Ok(next),
-        Finish::Stale => Ok(version),
-    }
+fn with_column(rt: &impl Abort, alloc: Global, version: &Version, column: u8) -> Version {
+    let tile = built(rt, alloc, version, "N", column);
+    with_tile(rt, alloc, version, "N", tile).expect(rt, "kept")
 }
 
-/// Two squares as M, and N = M with all its tiles.
-fn two_squares_built(alloc: Global) -> Result<Version, Fail> {
-    let one = after(alloc, Version::empty(alloc), put(alloc, "M", TWO_SQUARES)?)?;
-    let mut version = after(alloc, one, define(alloc, "N", "M")?)?;
+/// Two squares as M, and N = M.
+fn two_squares(rt: &impl Abort, alloc: Global) -> Version {
+    let one = with_base(rt, alloc, Version::empty(alloc), "M", TWO_SQUARES);
+    with_definition(rt, alloc, one, "N", "M")
+}
+
+/// The same with all tiles of N.
+fn two_squares_built(rt: &impl Abort, alloc: Global) -> Version {
+    let mut version = two_squares(rt, alloc);
     for column in 0..17 {
-        version = with_column(alloc, version, column)?;
+        version = with_column(rt, alloc, &version, column);
     }
-    Ok(version)
+    version
 }
 
 /// How many tiles are pending, and the column of the first.
-fn pending(alloc: Global, version: &Version) -> Result<(usize, Option<u8>), Fail> {
-    let list = version.pending(alloc)?;
-    Ok((list.len(), list.first().map(|tile| tile.1)))
+type Pending = (usize, Option<u8>);
+
+/// The column of the first entry of a list.
+fn first_column(list: &[(Name, u8)]) -> Option<u8> {
+    let (_, column) = list.first()?;
+    Some(*column)
+}
+
+/// Compares what is pending after a row with what the row wants.
+fn check_pending(rt: &impl Abort, alloc: Global, version: &Version, row: usize, want: &Pending) {
+    let list = version.pending(alloc).expect(rt, "memory");
+    check(rt, row, &(list.len(), first_column(&list)), want);
+}
+
+/// Changes after which all tiles of N, or that of column 7, are pending, one after another.
+const CHANGES: &[(Change, Pending)] = &[
+    (Change::Put("M", LEFT_ONE_MOVED), (1, Some(7))),
+    (Change::Define("N", "M"), (1, Some(7))),
+    (Change::Define("N", "M & M"), (17, Some(0))),
+];
+
+#[test]
+fn a_put_that_changes_one_column_leaves_the_others_built(rt: HostRuntime) {
+    let mut version = two_squares_built(&rt, rt.alloc());
+    check_pending(&rt, rt.alloc(), &version, 0, &(0, None));
+    for (row, (change, want)) in CHANGES.iter().enumerate() {
+        version = after(&rt, rt.alloc(), version, change);
+        check_pending(&rt, rt.alloc(), &version, row, want);
+    }
+}
+
+/// Whether all tiles of N are finished.
+fn is_built(rt: &impl Abort, alloc: Global, version: &Version) -> bool {
+    version.is_built(&name_of(rt, alloc, "N"))
 }
 
 #[test]
-fn a_put_that_changes_one_column_leaves_the_others_built(rt: HostRuntime) -> Result<(), Fail> {
-    let alloc = rt.alloc();
-    let built = two_squares_built(alloc)?;
-    assert_eq!(rt; pending(alloc, &built)?, (0, None));
-    let moved = after(alloc, built, put(alloc, "M", LEFT_ONE_MOVED)?)?;
-    assert_eq!(rt; pending(alloc, &moved)?, (1, Some(7)));
-    let again = after(alloc, moved, define(alloc, "N", "M")?)?;
-    assert_eq!(rt; pending(alloc, &again)?, (1, Some(7)));
-    let other = after(alloc, again, define(alloc, "N", "M & M")?)?;
-    assert_eq!(rt; pending(alloc, &other)?, (17, Some(0)));
-    Ok(())
+fn a_layer_is_built_where_all_its_tiles_are_finished(rt: HostRuntime) {
+    let built = two_squares_built(&rt, rt.alloc());
+    assert!(rt; is_built(&rt, rt.alloc(), &built));
+    let moved = with_base(&rt, rt.alloc(), built, "M", LEFT_ONE_MOVED);
+    assert!(rt; !is_built(&rt, rt.alloc(), &moved));
+}
+
+/// The version that keeps a tile of I which the caller has, if the tile is not stale.
+fn kept_with(rt: &impl Abort, alloc: Global, version: &Version, tile: &Built) -> Option<Version> {
+    let name = name_of(rt, alloc, "I");
+    match version.finish_with(alloc, &name, tile).expect(rt, "memory") {
+        Finish::Kept(next) => Some(next),
+        Finish::Stale => None,
+    }
+}
+
+/// Checks that a version has the tile of I in column 8, and does not keep it once more.
+fn check_kept(rt: &impl Abort, alloc: Global, version: &Version, tile: &Built) {
+    assert!(rt; version.tile(&name_of(rt, alloc, "I"), 8).is_some());
+    assert!(rt; kept_with(rt, alloc, version, tile).is_none());
 }
 
 #[test]
-fn a_layer_is_built_where_all_its_tiles_are_finished(rt: HostRuntime) -> Result<(), Fail> {
-    let alloc = rt.alloc();
-    let name = Name::new(alloc, b"N")?;
-    let built = two_squares_built(alloc)?;
-    assert!(rt; built.is_built(&name));
-    let moved = after(alloc, built, put(alloc, "M", LEFT_ONE_MOVED)?)?;
-    assert!(rt; !moved.is_built(&name));
-    Ok(())
+fn a_tile_is_kept_once_while_the_caller_has_it(rt: HostRuntime) {
+    let version = overlap(&rt, rt.alloc());
+    let tile = built(&rt, rt.alloc(), &version, "I", 8);
+    let kept = kept_with(&rt, rt.alloc(), &version, &tile).expect(&rt, "kept");
+    check_kept(&rt, rt.alloc(), &kept, &tile);
 }
 
 #[test]
-fn a_tile_is_kept_once_while_the_caller_has_it(rt: HostRuntime) -> Result<(), Fail> {
-    let alloc = rt.alloc();
-    let version = overlap(alloc)?;
-    let name = Name::new(alloc, b"I")?;
-    let tile = built(alloc, &version)?;
-    let kept = match version.finish_with(alloc, &name, &tile)? {
-        Finish::Kept(next) => next,
-        Finish::Stale => version,
-    };
-    assert!(rt; kept.tile(&name, 8).is_some());
-    let again = kept.finish_with(alloc, &name, &tile)?;
-    assert!(rt; matches!(&again, Finish::Stale));
-    Ok(())
-}
-
-#[test]
-fn a_restored_version_has_its_number_and_layers_and_is_durable(
-    rt: HostRuntime,
-) -> Result<(), Fail> {
-    let alloc = rt.alloc();
-    let layers = layers_of(alloc, SQUARE, SHIFTED, "A & B")?;
-    let listed = layers.list(alloc)?;
-    let version = Version::restore(alloc, 5, layers, Vec::new(alloc))?;
-    assert_eq!(rt; (version.number(), version.durable()), (5, 5));
-    assert!(rt; version.layers().list(alloc)? == listed);
-    assert_eq!(rt; pending(alloc, &version)?, (17, Some(0)));
-    Ok(())
+fn a_restored_version_has_its_number_and_layers_and_is_durable(rt: HostRuntime) {
+    let layers = layers_of(&rt, rt.alloc(), SQUARE, SHIFTED, "A & B");
+    let listed = layers.list(rt.alloc()).expect(&rt, "memory");
+    let version = Version::restore(rt.alloc(), 5, layers, Vec::new(rt.alloc()));
+    let restored = version.expect(&rt, "restored");
+    assert!(rt; restored.number() == 5 && restored.durable() == 5);
+    assert!(rt; restored.layers().list(rt.alloc()).expect(&rt, "memory") == listed);
+    check_pending(&rt, rt.alloc(), &restored, 0, &(17, Some(0)));
 }
