@@ -3,7 +3,8 @@ use Rattle.std.proofs.Common.{◌≡◌, ◌⊎◌, ⊎_elim, ℕ, List, Result,
 use Rattle.std.specs.Prelude.{IsErrAnd, IfErr}
 use Rattle.std.proofs.lemmas.Result.{err_from_is_err_and}
 use Rattle.disk_model.specs.declared.disk.Disk.{Ghosts}
-use Rattle.disk_model.proofs.Runs.{started, joined}
+use Rattle.disk_model.specs.Disk.{Fewer, Elapses}
+use Rattle.disk_model.proofs.Runs.{started, goes_on, joined}
 use Rattle.root_reading.specs.declared.load_fault.LoadFault.{LoadFault}
 use Rattle.root_reading.specs.declared.load_fault.LoadFault.TheVariants.{Device, Damaged, OutOfMemory}
 use Rattle.root_reading.specs.Looking.{Looks, Refuses, Gives, Causes}
@@ -16,6 +17,18 @@ module _ {D : Type 0} (g : Ghosts D) where
       → ((f : List ℕ) → g.left_since disk (g.moment disk) f → g.may_leave disk f) → Looks g disk disk
   looks_none disk honest now =
       record { honest = honest; seen = refl; fewer = λ c left. left; run = started g disk (g.may_leave disk) now }
+
+  -- one call
+  pub looked : (old new : D) → g.is_honest old
+      → ((f : List ℕ) → g.left_since old (g.moment old) f → g.may_leave old f) → g.is_honest new
+      → g.seen new ≡ g.seen old → Fewer (g.may_leave old) (g.may_leave new)
+      → Elapses (g.moment old) (g.moment new) (g.left_since old) (g.left_since new) (g.may_leave new) → Looks g old new
+  looked old new was now honest seen fewer time = record {
+    honest = honest;
+    seen = seen;
+    fewer = fewer;
+    run = goes_on g old old new (g.may_leave old) (started g old (g.may_leave old) now) time fewer;
+  }
 
   pub looks_on : (old mid new : D) → Looks g old mid → Looks g mid new → Looks g old new
   looks_on old mid new first second = record {

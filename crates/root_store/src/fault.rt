@@ -84,7 +84,7 @@ impl<T: Drop> From<AllocFailed<T>> for StoreFault {
 }
 
 /// The text of a fault, as a reply says it behind the number.
-#[derive(Clone, Copy, Debug)]
+#[derive(Clone, Copy)]
 pub struct Text(pub StoreFault);
 
 impl fmt::Display for Text {

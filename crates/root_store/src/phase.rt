@@ -1,7 +1,7 @@
 //! Where a commit stands, and what a step of it answers.
 
 /// The device call that a commit makes next. Each step makes one and goes on to the next.
-#[derive(Clone, Copy, Debug, PartialEq, Eq)]
+#[derive(Clone, Copy)]
 pub enum Phase {
     /// None: no commit is under way.
     Idle,
@@ -20,7 +20,7 @@ pub enum Phase {
 }
 
 /// What a step has done.
-#[derive(Clone, Copy, Debug, PartialEq, Eq)]
+#[derive(Clone, Copy)]
 pub enum Progress {
     /// No commit is under way, and no device call was made.
     Idle,

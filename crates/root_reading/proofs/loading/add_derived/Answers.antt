@@ -2,6 +2,7 @@ use Rattle.std.proofs.Common.{map, subst, sym}
 use Rattle.overlay_terms.specs.Layers.{Name}
 use Rattle.tile_build.specs.Tile.{finished_of}
 use Rattle.root_reading.specs.Stored.{AreStoredTo}
+use Rattle.root_reading.proofs.Looked.{looks_on}
 use Rattle.root_reading.proofs.loading.add_derived.Goals as goal
 
 pub returns-clause-stored : goal.returns-clause-stored
@@ -10,3 +11,13 @@ returns-clause-stored g c stored =
     (subst (λ (n : Name). AreStoredTo c.in_ok-layers.layers (map finished_of c.args.content.now.tiles.items) n 0)
     (sym c.in_ok-own.ensures.ok)
     (c.in_ok-layers.ensures.stored (map finished_of c.args.content.now.tiles.items) stored))
+
+pub returns-in_err-add_tiles-clause-looks : goal.returns-in_err-add_tiles-clause-looks
+returns-in_err-add_tiles-clause-looks g c honest =
+    let looks1 = c.with_derived.ensures.looks honest in
+    looks_on g.D.Disk c.args.disk.now c.with_derived.new.disk c.add_tiles.new.disk looks1 (c.add_tiles.ensures.looks looks1.honest)
+
+pub returns-clause-looks : goal.returns-clause-looks
+returns-clause-looks g c honest =
+    let looks1 = c.with_derived.ensures.looks honest in
+    looks_on g.D.Disk c.args.disk.now c.with_derived.new.disk c.add_tiles.new.disk looks1 (c.add_tiles.ensures.looks looks1.honest)

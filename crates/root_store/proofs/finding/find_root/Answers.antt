@@ -1,8 +1,57 @@
 use Rattle.std.proofs.Common.{arith}
 use Rattle.root_store.proofs.FindingLemmas.{short_root}
+use Rattle.root_reading.proofs.Looked.{looked, looks_on}
 use Rattle.root_store.proofs.finding.find_root.Goals as goal
 
 pub returns-then-branch-clause-gives : goal.returns-then-branch-clause-gives
 returns-then-branch-clause-gives g c honest =
     let size = c.in_ok-length.ensures.length honest in
     short_root (g.D.Disk.seen c.args.disk.now) (omega (arith, size))
+
+pub returns-then-branch-clause-looks : goal.returns-then-branch-clause-looks
+returns-then-branch-clause-looks g c honest =
+    let k = g.D.Disk in
+    let old = c.args.disk.now in
+    let looks1 = looked k old c.length.new.self honest (λ f left. g.met.D.Disk.only_now old f honest left)
+    (c.length.ensures.honest.1 honest) (c.length.ensures.seen honest) (c.length.ensures.crash honest)
+    (c.length.ensures.time honest) in
+    looks1
+
+pub returns-in_err-first-clause-looks : goal.returns-in_err-first-clause-looks
+returns-in_err-first-clause-looks g c honest =
+    let k = g.D.Disk in
+    let old = c.args.disk.now in
+    let looks1 = looked k old c.length.new.self honest (λ f left. g.met.D.Disk.only_now old f honest left)
+    (c.length.ensures.honest.1 honest) (c.length.ensures.seen honest) (c.length.ensures.crash honest)
+    (c.length.ensures.time honest) in
+    looks_on k old c.length.new.self c.read_slot.new.disk looks1 (c.read_slot.ensures.looks looks1.honest)
+
+pub returns-in_err-second-clause-looks : goal.returns-in_err-second-clause-looks
+returns-in_err-second-clause-looks g c honest =
+    let k = g.D.Disk in
+    let old = c.args.disk.now in
+    let looks1 = looked k old c.length.new.self honest (λ f left. g.met.D.Disk.only_now old f honest left)
+    (c.length.ensures.honest.1 honest) (c.length.ensures.seen honest) (c.length.ensures.crash honest)
+    (c.length.ensures.time honest) in
+    let looks2 = looks_on k old c.length.new.self c.read_slot.new.disk looks1 (c.read_slot.ensures.looks looks1.honest) in
+    looks_on k old c.read_slot.new.disk c.read_slot-2.new.disk looks2 (c.read_slot-2.ensures.looks looks2.honest)
+
+pub returns-in_err-root-clause-looks : goal.returns-in_err-root-clause-looks
+returns-in_err-root-clause-looks g c honest =
+    let k = g.D.Disk in
+    let old = c.args.disk.now in
+    let looks1 = looked k old c.length.new.self honest (λ f left. g.met.D.Disk.only_now old f honest left)
+    (c.length.ensures.honest.1 honest) (c.length.ensures.seen honest) (c.length.ensures.crash honest)
+    (c.length.ensures.time honest) in
+    let looks2 = looks_on k old c.length.new.self c.read_slot.new.disk looks1 (c.read_slot.ensures.looks looks1.honest) in
+    looks_on k old c.read_slot.new.disk c.read_slot-2.new.disk looks2 (c.read_slot-2.ensures.looks looks2.honest)
+
+pub returns-clause-looks : goal.returns-clause-looks
+returns-clause-looks g c honest =
+    let k = g.D.Disk in
+    let old = c.args.disk.now in
+    let looks1 = looked k old c.length.new.self honest (λ f left. g.met.D.Disk.only_now old f honest left)
+    (c.length.ensures.honest.1 honest) (c.length.ensures.seen honest) (c.length.ensures.crash honest)
+    (c.length.ensures.time honest) in
+    let looks2 = looks_on k old c.length.new.self c.read_slot.new.disk looks1 (c.read_slot.ensures.looks looks1.honest) in
+    looks_on k old c.read_slot.new.disk c.read_slot-2.new.disk looks2 (c.read_slot-2.ensures.looks looks2.honest)

@@ -13,7 +13,7 @@ use Rattle.root_reading.specs.Looking.{Refuses}
 use Rattle.root_store.specs.Opening.{held_in}
 use Rattle.root_reading.specs.Taking.{IsMapOf}
 use Rattle.root_reading.specs.Taking.{AllNear}
-use Rattle.root_reading.proofs.Looked.{gives_err, causes_still}
+use Rattle.root_reading.proofs.Looked.{gives_err, causes_still, looks_on}
 use Rattle.root_reading.proofs.NearLemmas.{near_catalog, near_layers}
 use Rattle.root_store.proofs.OpeningLemmas.{held_steps}
 use Rattle.root_store.proofs.opening.read_root.Goals as goal
@@ -83,3 +83,27 @@ returns-clause-room g c honest short =
     (near_catalog file short root ls listing, near_layers file short [] ls x layers) in
     subst (λ (l : Result (List Listed) Damage). IsMapOf (root.catalog ∷ listed_extents l)
     (taken_of c.in_ok-room.room.map)) (sym listing) (c.in_ok-room.ensures.taken near)
+
+pub returns-in_err-content-clause-looks : goal.returns-in_err-content-clause-looks
+returns-in_err-content-clause-looks g c honest =
+    let k = g.D.Disk in
+    let looks1 = c.listing_at.ensures.looks honest in
+    looks_on k c.args.disk.now c.listing_at.new.disk c.content_of.new.disk looks1 (c.content_of.ensures.looks looks1.honest)
+
+pub returns-in_err-room-clause-looks : goal.returns-in_err-room-clause-looks
+returns-in_err-room-clause-looks g c honest =
+    let k = g.D.Disk in
+    let looks1 = c.listing_at.ensures.looks honest in
+    looks_on k c.args.disk.now c.listing_at.new.disk c.content_of.new.disk looks1 (c.content_of.ensures.looks looks1.honest)
+
+pub returns-in_err-next_room-clause-looks : goal.returns-in_err-next_room-clause-looks
+returns-in_err-next_room-clause-looks g c honest =
+    let k = g.D.Disk in
+    let looks1 = c.listing_at.ensures.looks honest in
+    looks_on k c.args.disk.now c.listing_at.new.disk c.content_of.new.disk looks1 (c.content_of.ensures.looks looks1.honest)
+
+pub returns-clause-looks : goal.returns-clause-looks
+returns-clause-looks g c honest =
+    let k = g.D.Disk in
+    let looks1 = c.listing_at.ensures.looks honest in
+    looks_on k c.args.disk.now c.listing_at.new.disk c.content_of.new.disk looks1 (c.content_of.ensures.looks looks1.honest)
