@@ -11,7 +11,8 @@ upright or are cut by a border of the column. Of each the tiles of `build` and `
 with that of `build_by_pairs`, where the cap is 0, one below the size of the tile, and its size.
 times: tiles of two layers of so many edges each, by `build` and by `build_by_pairs`, both whole; the same layers with a
 point in the middle of each edge, by `build`; and two combs to the cap of 65,536. Processor times less those without the
-building, the best of five runs that take a tenth of a second or more, or one run where it takes more than two seconds.
+building, the best of five runs that take a tenth of a second or more, two sides in turns, or one run where it takes more
+than two seconds.
 """
 
 import math
@@ -520,22 +521,23 @@ def run(program, word, path, cap, times):
     return processor() - start, int(size), int(peak) / 1024
 
 
-def best(program, word, path, cap, times):
-    return min(run(program, word, path, cap, times)[0] for _ in range(5))
+def in_turns(program, pairs):
+    """The time of one whole tile for each word and path, and its size: of five runs each, which take turns."""
+    whole = 2**64 - 1
+    first = [run(program, word, path, whole, 1) for word, path in pairs]
+    reading = [min(run(program, word, path, whole, 0)[0] for _ in range(5)) for word, path in pairs]
+    times = [math.ceil(0.1 / max(once - read, 0.0001)) for (once, _, _), read in zip(first, reading)]
+    best = [once - read for (once, _, _), read in zip(first, reading)]
+    for _ in range(5):
+        for i, (word, path) in enumerate(pairs):
+            if first[i][0] <= 2:
+                spent = run(program, word, path, whole, times[i])[0] - reading[i]
+                best[i] = min(best[i], spent / times[i])
+    return [(time, size) for time, (_, size, _) in zip(best, first)]
 
 
-def each(program, word, path):
-    """The time of one tile, whole, and its size."""
-    reading = best(program, word, path, 2**64 - 1, 0)
-    once, size, _ = run(program, word, path, 2**64 - 1, 1)
-    if once > 2:
-        return once - reading, size
-    times = math.ceil(0.1 / max(once - reading, 0.0001))
-    return (best(program, word, path, 2**64 - 1, times) - reading) / times, size
-
-
-def written(folder, layers):
-    path = folder / "input"
+def written(folder, name, layers):
+    path = folder / name
     path.write_text(lines_of(8, "A ^ B", layers))
     return path
 
@@ -543,8 +545,8 @@ def written(folder, layers):
 def by_both(program, folder):
     for name, family in FAMILIES.items():
         for edges in [64, 128, 256, 512, 1024, 2048]:
-            path = written(folder, even(family(edges)))
-            (swept, size), (paired, _) = each(program, "pass", path), each(program, "pairs", path)
+            path = written(folder, "input", even(family(edges)))
+            (swept, size), (paired, _) = in_turns(program, [("pass", path), ("pairs", path)])
             print(
                 f"{name} {edges}, {size} pieces: by the pass {1000 * swept:.2f} ms, by all pairs {1000 * paired:.2f} ms,"
                 f" {paired / swept:.1f} times as long",
@@ -556,7 +558,8 @@ def with_more_edges(program, folder):
     for name, family in {**FAMILIES, "circle": circles}.items():
         for edges in [64, 256, 1024]:
             layers = even(family(edges))
-            (one, size), (two, more) = [each(program, "pass", written(folder, l)) for l in (layers, halved(layers))]
+            paths = [written(folder, "input", layers), written(folder, "halved", halved(layers))]
+            (one, size), (two, more) = in_turns(program, [("pass", path) for path in paths])
             print(
                 f"{name} {edges}, {size} pieces: {1000 * one:.2f} ms;"
                 f" with twice as many edges, {more} pieces: {1000 * two:.2f} ms, {two / one:.2f} times as long",
@@ -565,7 +568,7 @@ def with_more_edges(program, folder):
 
 
 def to_the_cap(program, folder):
-    path = written(folder, combs(512))
+    path = written(folder, "input", combs(512))
     for word, name in [("pass", "the pass"), ("pairs", "all pairs")]:
         runs = [run(program, word, path, 65536, 1) for _ in range(5)]
         print(
