@@ -162,7 +162,7 @@ fn main(rt: HostRuntime) -> Result<(), Fail> {
 """
 
 CRATES = (
-    "store_bench: overlay_terms plane_base layer_expr disk_model extent_map store_terms tile_build layer_book record_form root_reading root_store\n"
+    "store_bench: overlay_terms plane_base layer_expr disk_model extent_map store_terms tile_build layer_book record_form root_reading commit_plan root_store\n"
 )
 
 

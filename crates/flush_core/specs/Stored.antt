@@ -3,10 +3,10 @@ use Rattle.std.specs.Prelude.{◌≡◌, ℕ, ◌+◌, length, Result, Ok, Err}
 use Rattle.overlay_terms.specs.Layers.{Name}
 use Rattle.overlay_terms.specs.Histories.{Version, tile_at}
 use Rattle.store_terms.specs.Image.{Held}
-use Rattle.root_store.specs.declared.fault.StoreFault.{StoreFault}
+use Rattle.commit_plan.specs.declared.fault.StoreFault.{StoreFault}
 use Rattle.root_store.specs.declared.commit.Commit.{Commit}
-use Rattle.root_store.specs.Beginning.{HasRoom, HasNoRoom}
-use Rattle.root_store.specs.Kept.{Kept}
+use Rattle.commit_plan.specs.Fitting.{HasRoom, HasNoRoom}
+use Rattle.commit_plan.specs.Kept.{Kept}
 use Rattle.root_store.specs.declared.phase.Progress.{Progress}
 use Rattle.root_store.specs.declared.phase.Progress.TheVariants.{Idle, Going, Done}
 use Rattle.flush_core.specs.Imaging.{tiles_in_order, version_held}

@@ -3,14 +3,14 @@ ghost use Rattle.std.specs.Prelude.{◌≡◌, ◌↔◌, ◌≤◌, ℕ, false,
 ghost use Rattle.disk_model.specs.Disk.{Failed};
 ghost use Rattle.store_terms.specs.Roots.{sequence_max};
 ghost use Rattle.root_store.specs.Beginning.{IsReason};
-ghost use Rattle.root_store.specs.Kept.{Kept};
+ghost use Rattle.commit_plan.specs.Kept.{Kept};
 ghost use Rattle.root_store.specs.Running.{Stands, Runs, KeepsTo, Stepped, Counts, calls_left, is_busy, fault_in};
 ghost use Rattle.flush_core.specs.Stored.{stored_after, IsCommitOf, HasRoomFor, HasNoRoomFor, calls_of};
 
 use crate::imaging::image_of;
+use commit_plan::fault::StoreFault;
 use disk_model::disk::Disk;
 use root_store::commit::Commit;
-use root_store::fault::StoreFault;
 use root_store::phase::{Phase, Progress};
 use std::alloc::Global;
 use version_core::version::Version;

@@ -5,14 +5,14 @@ use Rattle.disk_model.specs.declared.disk.Disk.{Ghosts}
 use Rattle.disk_model.specs.Moments.{Leaves}
 use Rattle.overlay_terms.specs.Commands.{Command}
 use Rattle.overlay_terms.specs.Histories.{Version}
-use Rattle.root_store.specs.declared.fault.StoreFault.{StoreFault}
+use Rattle.commit_plan.specs.declared.fault.StoreFault.{StoreFault}
 use Rattle.root_store.specs.declared.phase.Phase.{Phase}
 use Rattle.root_store.specs.declared.phase.Phase.TheVariants.{Idle}
 use Rattle.root_store.specs.declared.phase.Progress.{Progress}
 use Rattle.root_store.specs.declared.phase.Progress.TheVariants as progress
-use Rattle.root_store.specs.Kept.{Kept}
+use Rattle.commit_plan.specs.Kept.{Kept}
 use Rattle.root_store.specs.Running.{Before, Runs, Stepped, Stands, is_busy}
-use Rattle.root_store.proofs.Reading.{calm_stands}
+use Rattle.commit_plan.proofs.Reading.{calm_stands}
 use Rattle.flush_core.specs.declared.flusher.Flusher.{Flusher}
 use Rattle.flush_core.specs.Stored.{IsCommitOf}
 use Rattle.overlay_engine.specs.declared.engine.Engine.{Engine}

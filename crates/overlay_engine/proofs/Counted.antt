@@ -7,9 +7,9 @@ use Rattle.disk_model.specs.Disk as disks
 use Rattle.layer_book.specs.declared.fault.LayerFault.{LayerFault}
 use Rattle.layer_book.specs.declared.fault.LayerFault.TheVariants as layer
 use Rattle.layer_book.specs.Fault as layer_faults
-use Rattle.root_store.specs.declared.fault.StoreFault.{StoreFault}
-use Rattle.root_store.specs.declared.fault.StoreFault.TheVariants as store
-use Rattle.root_store.specs.Fault as store_faults
+use Rattle.commit_plan.specs.declared.fault.StoreFault.{StoreFault}
+use Rattle.commit_plan.specs.declared.fault.StoreFault.TheVariants as store
+use Rattle.commit_plan.specs.Fault as store_faults
 use Rattle.root_store.specs.declared.phase.Phase.{Phase}
 use Rattle.root_store.specs.declared.phase.Phase.TheVariants as phase
 use Rattle.root_store.specs.declared.phase.Progress.TheVariants as progress

@@ -12,9 +12,9 @@ use Rattle.store_terms.specs.Image.{Held}
 use Rattle.root_store.specs.declared.phase.Phase.{Phase}
 use Rattle.root_store.specs.declared.phase.Phase.TheVariants.{Idle, Close, Settle, Put, Open, Finish, Failed}
 use Rattle.root_store.specs.declared.commit.Commit.{Commit}
-use Rattle.root_store.specs.Kept.{Kept, Either}
+use Rattle.commit_plan.specs.Kept.{Kept, Either}
 use Rattle.root_store.specs.Running.{Before}
-use Rattle.root_store.proofs.Reading.{calm_stands}
+use Rattle.commit_plan.proofs.Reading.{calm_stands}
 use Rattle.root_store.proofs.Steps.{rest_either, shut_either, both_either}
 use Rattle.flush_core.specs.declared.flusher.Flusher.{Flusher}
 use Rattle.overlay_engine.specs.Start.{Start, layers_from}

@@ -6,14 +6,14 @@ use Rattle.disk_model.specs.Moments.{Leaves}
 use Rattle.disk_model.proofs.Runs.{widened}
 use Rattle.overlay_terms.specs.Commands.{Command}
 use Rattle.overlay_terms.specs.Histories.{Version}
-use Rattle.root_store.specs.declared.fault.StoreFault.{StoreFault}
+use Rattle.commit_plan.specs.declared.fault.StoreFault.{StoreFault}
 use Rattle.root_store.specs.declared.phase.Phase.{Phase}
 use Rattle.root_store.specs.declared.phase.Phase.TheVariants.{Idle, Close, Settle, Put, Open, Finish, Failed}
 use Rattle.root_store.specs.declared.phase.Progress.{Progress}
 use Rattle.root_store.specs.declared.phase.Progress.TheVariants as progress
-use Rattle.root_store.specs.Kept.{Kept, Either}
+use Rattle.commit_plan.specs.Kept.{Kept, Either}
 use Rattle.root_store.specs.Running.{Before, Runs, Stepped, is_busy}
-use Rattle.root_store.proofs.Reading.{calm_stands}
+use Rattle.commit_plan.proofs.Reading.{calm_stands}
 use Rattle.flush_core.specs.declared.flusher.Flusher.{Flusher}
 use Rattle.flush_core.specs.Stored.{stored_after}
 use Rattle.overlay_engine.specs.Start.{Start}

@@ -9,14 +9,14 @@ use Rattle.overlay_terms.specs.Histories.{Version}
 use Rattle.store_terms.specs.declared.damage.Damage.{Damage}
 use Rattle.store_terms.specs.Image.{Held}
 use Rattle.store_terms.specs.StandsFor.{reading}
-use Rattle.root_store.specs.declared.fault.StoreFault.{StoreFault}
-use Rattle.root_store.specs.declared.fault.StoreFault.TheVariants.{Device, Full, Damaged, NotEmpty, Failed, SequenceLimit, OutOfMemory}
+use Rattle.commit_plan.specs.declared.fault.StoreFault.{StoreFault}
+use Rattle.commit_plan.specs.declared.fault.StoreFault.TheVariants.{Device, Full, Damaged, NotEmpty, Failed, SequenceLimit, OutOfMemory}
 use Rattle.root_store.specs.declared.open_fault.OpenFault.{OpenFault}
 use Rattle.root_store.specs.declared.commit.Commit.{Commit}
-use Rattle.root_store.specs.Kept.{Kept}
+use Rattle.commit_plan.specs.Kept.{Kept}
 use Rattle.root_store.specs.Running.{Stands}
 use Rattle.root_store.specs.Opening.{Opened, Tells}
-use Rattle.root_store.proofs.Reading.{calm_stands}
+use Rattle.commit_plan.proofs.Reading.{calm_stands}
 use Rattle.flush_core.specs.declared.flusher.Flusher.{Flusher}
 use Rattle.overlay_engine.specs.declared.engine.Engine.{Engine}
 use Rattle.overlay_engine.specs.Start.{Start, up_to}

@@ -5,7 +5,7 @@ use Rattle.disk_model.specs.Moments.{Leaves}
 use Rattle.overlay_terms.specs.Histories.{Version}
 use Rattle.store_terms.specs.Image.{Held}
 use Rattle.store_terms.specs.StandsFor.{StandsFor}
-use Rattle.root_store.specs.Kept.{Kept}
+use Rattle.commit_plan.specs.Kept.{Kept}
 use Rattle.root_store.specs.Running.{Runs, is_busy}
 use Rattle.flush_core.specs.declared.flusher.Flusher.{Flusher}
 use Rattle.flush_core.specs.Stored.{IsImageOf, IsCommitOf}

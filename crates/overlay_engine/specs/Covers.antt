@@ -9,7 +9,7 @@ use Rattle.store_terms.specs.Image.{Held}
 use Rattle.store_terms.specs.StandsFor.{StandsFor}
 use Rattle.root_store.specs.declared.phase.Phase.{Phase}
 use Rattle.root_store.specs.declared.phase.Phase.TheVariants.{Idle, Close, Settle, Put, Open, Finish, Failed}
-use Rattle.root_store.specs.Kept.{Kept}
+use Rattle.commit_plan.specs.Kept.{Kept}
 use Rattle.root_store.specs.Running.{Stands, Runs}
 use Rattle.flush_core.specs.declared.flusher.Flusher.{Flusher}
 use Rattle.overlay_engine.specs.Start.{Start, layers_from, up_to}

@@ -3,13 +3,13 @@ use Rattle.std.specs.Prelude.{◌≡◌, ◌⊎◌, ◌≤◌, true, false}
 use Rattle.disk_model.specs.declared.disk.Disk.{Ghosts}
 use Rattle.disk_model.specs.Disk as disks
 use Rattle.store_terms.specs.Roots.{sequence_max}
-use Rattle.root_store.specs.declared.fault.StoreFault.{StoreFault}
-use Rattle.root_store.specs.declared.fault.StoreFault.TheVariants as fault
+use Rattle.commit_plan.specs.declared.fault.StoreFault.{StoreFault}
+use Rattle.commit_plan.specs.declared.fault.StoreFault.TheVariants as fault
 use Rattle.root_store.specs.declared.phase.Phase.TheVariants.{Idle, Close, Failed}
 use Rattle.root_store.specs.declared.phase.Progress.TheVariants as progress
 use Rattle.root_store.specs.Beginning.{IsReason}
 use Rattle.flush_core.specs.Stored.{HasRoomFor, HasNoRoomFor, calls_of}
-use Rattle.root_store.specs.Fault.{code_of}
+use Rattle.commit_plan.specs.Fault.{code_of}
 use Rattle.root_store.specs.Running.{Counts, calls_left, is_busy}
 use Rattle.overlay_engine.specs.declared.engine.Engine.{Engine}
 use Rattle.overlay_engine.specs.declared.step.Reply.{Reply}

@@ -6,7 +6,7 @@ use Rattle.overlay_terms.specs.Commands.{Command}
 use Rattle.overlay_terms.specs.Histories.{Version, Event, Follows}
 use Rattle.store_terms.specs.StandsFor.{reading}
 use Rattle.root_store.specs.declared.phase.Phase.TheVariants.{Idle, Close}
-use Rattle.root_store.specs.Kept.{Kept}
+use Rattle.commit_plan.specs.Kept.{Kept}
 use Rattle.root_store.specs.Running.{Stands, Runs}
 use Rattle.flush_core.specs.declared.flusher.Flusher.{Flusher}
 use Rattle.flush_core.specs.Stored.{IsCommitOf}

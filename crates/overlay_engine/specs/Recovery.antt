@@ -8,7 +8,7 @@ use Rattle.overlay_terms.specs.Commands.{Command}
 use Rattle.overlay_terms.specs.KeptLaws.{TilesAreExact}
 use Rattle.layer_book.specs.declared.direct_answer.Place.{Place}
 use Rattle.layer_book.specs.Place.{location}
-use Rattle.root_store.specs.declared.fault.StoreFault.TheVariants.{Device, OutOfMemory}
+use Rattle.commit_plan.specs.declared.fault.StoreFault.TheVariants.{Device, OutOfMemory}
 use Rattle.root_store.specs.declared.open_fault.OpenFault.{OpenFault}
 use Rattle.overlay_engine.specs.declared.engine.Engine.{Engine}
 use Rattle.overlay_engine.specs.Start.{Start, layers_from, up_to}

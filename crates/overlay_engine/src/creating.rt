@@ -8,10 +8,10 @@ ghost use Rattle.overlay_engine.specs.Start.{from_nothing};
 ghost use Rattle.overlay_engine.specs.Covers.{Covers};
 
 use crate::engine::Engine;
+use commit_plan::fault::StoreFault;
 use disk_model::disk::Disk;
 use flush_core::flusher::Flusher;
 use root_store::creating::create;
-use root_store::fault::StoreFault;
 use root_store::open_fault::OpenFault;
 use std::alloc::Global;
 use version_core::version::Version;

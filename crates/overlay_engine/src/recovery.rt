@@ -12,11 +12,11 @@ ghost use Rattle.overlay_engine.specs.Recovery.{Recovered, Refused};
 ghost use Rattle.overlay_engine.specs.Runs.{Made, EachSurvives, CrashesIn, accepted_in};
 
 use crate::engine::Engine;
+use commit_plan::fault::StoreFault;
 use disk_model::disk::Disk;
 use flush_core::flusher::Flusher;
 use record_form::image::Image;
 use root_store::commit::Commit;
-use root_store::fault::StoreFault;
 use root_store::open_fault::OpenFault;
 use root_store::opening::open;
 use std::alloc::Global;

@@ -9,7 +9,7 @@ use std::alloc::{AllocError, AllocFailed};
 use store_terms::damage::Damage;
 
 /// Why the content of a file is not read.
-#[derive(Clone, Copy)]
+#[derive(Clone, Copy, Debug)]
 pub enum LoadFault {
     /// The device failed in the call.
     Device,

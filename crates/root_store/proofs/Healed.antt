@@ -5,10 +5,10 @@ use Rattle.disk_model.proofs.Ranges.{part_written_front}
 use Rattle.store_terms.specs.Roots.{body_text, body_in}
 use Rattle.store_terms.proofs.RecordLemmas.{held_is_placed}
 use Rattle.store_terms.specs.StandsFor.{body_at}
-use Rattle.root_store.specs.Kept.{other}
+use Rattle.commit_plan.specs.Kept.{other}
 use Rattle.root_store.specs.Healing.{TakenIsLive, twin, TwinHeals}
 use Rattle.store_terms.proofs.BodyLemmas.{body_again}
-use Rattle.root_store.proofs.Plan.{body_spares}
+use Rattle.commit_plan.proofs.Plan.{body_spares}
 
 pub taken_is_live : TakenIsLive
 taken_is_live file r held taken holds = record {

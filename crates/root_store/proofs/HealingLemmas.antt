@@ -7,11 +7,11 @@ use Rattle.disk_model.specs.Moments.{Leaves, LeavesOnly}
 use Rattle.store_terms.specs.Roots.{body_text, sequence_max}
 use Rattle.store_terms.specs.StandsFor.{body_at}
 use Rattle.root_reading.specs.declared.load_fault.LoadFault.{LoadFault}
-use Rattle.root_store.specs.Kept.{Kept, other, Rest, Shut}
+use Rattle.commit_plan.specs.Kept.{Kept, other, Rest, Shut}
 use Rattle.root_store.specs.Healing.{twin}
 use Rattle.root_store.specs.Opening.{Heals}
 use Rattle.root_store.proofs.Healed.{twin_heals}
-use Rattle.root_store.proofs.Plan.{body_spares}
+use Rattle.commit_plan.proofs.Plan.{body_spares}
 use Rattle.root_store.proofs.Steps.{leaves_torn}
 
 module _ {D : Type 0} (g : Ghosts D) (old mid : D) (x : Kept) (at : ℕ) (bytes : List ℕ)

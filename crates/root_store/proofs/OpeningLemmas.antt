@@ -1,42 +1,28 @@
 -- What opening knows once all is read, and what it leaves.
-use Rattle.std.proofs.Common.{◌≡◌, inl, inr, ℕ, ◌≤◌, Bool, true, false, List, [], ◌∷◌, Result, Ok, Err, refl, sym, ◌∙◌, ap, subst}
+use Rattle.std.proofs.Common.{◌≡◌, inl, inr, ℕ, ◌≤◌, Bool, true, false, List, Result, Ok, Err, refl, sym, ◌∙◌, ap, subst}
 use Rattle.std.specs.Prelude.{IsErrAnd}
 use Rattle.std.proofs.lemmas.Result.{err_from_is_err_and}
 use Rattle.disk_model.specs.declared.disk.Disk.{Ghosts}
 use Rattle.disk_model.specs.Moments.{Leaves, LeavesOnly}
 use Rattle.disk_model.proofs.Runs.{joined, widened}
-use Rattle.overlay_terms.specs.Layers.{Layer}
-use Rattle.overlay_terms.specs.Histories.{Finished}
 use Rattle.store_terms.specs.declared.damage.Damage.{Damage}
 use Rattle.store_terms.specs.declared.root.Root.{Root}
-use Rattle.store_terms.specs.Catalog.{Listed}
-use Rattle.store_terms.specs.Places.{extents_listed}
 use Rattle.store_terms.specs.Roots.{sequence_max}
-use Rattle.store_terms.specs.Image.{◌>>=◌, Held, layers_of, listing_of, held_by, held_of}
+use Rattle.store_terms.specs.Image.{◌>>=◌, Held, held_of}
 use Rattle.store_terms.specs.StandsFor.{root_of, reading}
 use Rattle.root_reading.specs.declared.load_fault.LoadFault.{LoadFault}
-use Rattle.root_store.specs.declared.opening.Loaded.{Loaded}
-use Rattle.root_store.specs.Kept.{Kept, Live, Rest, Shut, Calm}
+use Rattle.commit_plan.specs.declared.loading.Loaded.{Loaded}
+use Rattle.commit_plan.specs.Kept.{Kept, Live, Rest, Shut, Calm}
+use Rattle.commit_plan.specs.Loading.{held_in}
 use Rattle.root_store.specs.Healing.{kept_of}
-use Rattle.root_reading.specs.Taking.{if_apart}
 use Rattle.root_reading.specs.Looking.{Refuses, Causes}
-use Rattle.root_store.specs.Opening.{Heals, held_in, IsRead, Opened, Loads, fault_of, Tells, FailedBy}
-use Rattle.root_store.specs.declared.fault.StoreFault.{StoreFault}
+use Rattle.root_store.specs.Opening.{Heals, IsRead, Opened, Loads, fault_of, Tells, FailedBy}
+use Rattle.commit_plan.specs.declared.fault.StoreFault.{StoreFault}
 use Rattle.root_reading.specs.declared.load_fault.LoadFault.TheVariants.{Device, Damaged, OutOfMemory}
-use Rattle.root_store.proofs.Reading.{shut_stands}
+use Rattle.commit_plan.proofs.Reading.{shut_stands}
 use Rattle.root_store.proofs.Healed.{taken_is_live}
 use Rattle.root_store.proofs.Steps.{leaves_synced}
 use Rattle.root_store.proofs.TakenLemmas.{root_found, other_shut, other_harmless}
-
--- what a root holds, once its catalog, layers and tiles are read
-pub held_steps : (file : List ℕ) (r : Root) (ls : List Listed) (x : List Layer × List Finished)
-    → listing_of file r ≡ Ok ls → layers_of file [] ls ≡ Ok x
-    → held_of file r
-    ≡ if_apart (r.catalog ∷ extents_listed ls) (record { number = r.version; layers = x.0; tiles = x.1 })
-held_steps file r ls x listing layers =
-    ap (λ (l : Result (List Listed) Damage). l >>= held_by file r) listing
-    ∙ ap (λ (h : Result (List Layer × List Finished) Damage). h >>= λ held. if_apart (r.catalog ∷ extents_listed ls)
-    (record { number = r.version; layers = held.0; tiles = held.1 })) layers
 
 -- what opening gives of a file with a root
 pub reading_root : (file : List ℕ) (r : Root) → root_of file ≡ Ok r → reading file ≡ held_of file r

@@ -1,11 +1,11 @@
 -- Why a commit is not begun.
 use Rattle.std.proofs.Common.{◌≡◌, ◌⊎◌, inl, inr, Result, Ok, Err, IfErr, IsErrAnd, sym, ap, subst}
 use Rattle.store_terms.specs.declared.root.Root.{Root}
-use Rattle.root_store.specs.declared.fault.StoreFault.{StoreFault}
-use Rattle.root_store.specs.declared.fault.StoreFault.TheVariants.{Device, Full, Damaged, NotEmpty, Failed, SequenceLimit, OutOfMemory}
+use Rattle.commit_plan.specs.declared.fault.StoreFault.{StoreFault}
+use Rattle.commit_plan.specs.declared.fault.StoreFault.TheVariants.{Device, Full, Damaged, NotEmpty, Failed, SequenceLimit, OutOfMemory}
 use Rattle.root_store.specs.declared.phase.Phase.{Phase}
 use Rattle.root_store.specs.Beginning.{IsRefusal, IsReason}
-use Rattle.root_store.proofs.Drafts.{error_in}
+use Rattle.commit_plan.proofs.Drafts.{error_in}
 
 -- where no commit begins at all, that is the reason
 pub refused_so : (phase : Phase) (root : Root) (no_room : Type 0) (fault : StoreFault) → IsRefusal phase root fault

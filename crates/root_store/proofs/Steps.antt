@@ -5,19 +5,19 @@ use Rattle.disk_model.specs.declared.disk.Disk.{Ghosts}
 use Rattle.disk_model.specs.Disk.{Holds, Torn, Follows, Fewer, Only, Elapses}
 use Rattle.disk_model.specs.Moments.{Leaves, LeavesOnly}
 use Rattle.disk_model.proofs.Runs.{started, goes_on}
-use Rattle.root_store.specs.declared.write.Write.{Write}
+use Rattle.commit_plan.specs.declared.write.Write.{Write}
 use Rattle.store_terms.specs.Roots.{sequence_max}
 use Rattle.store_terms.specs.StandsFor.{gate, gate_at}
 use Rattle.std.specs.Prelude.{IsErr, OnOk}
-use Rattle.root_store.specs.declared.fault.StoreFault.{StoreFault}
+use Rattle.commit_plan.specs.declared.fault.StoreFault.{StoreFault}
 use Rattle.root_store.specs.declared.phase.Progress.{Progress}
 use Rattle.root_store.specs.declared.phase.Phase.TheVariants.{Failed}
 use Rattle.root_store.specs.declared.commit.Commit.{Commit}
-use Rattle.root_store.specs.Kept.{Kept, other, Rest, Shut, Calm, Ready, Either}
+use Rattle.commit_plan.specs.Kept.{Kept, other, Rest, Shut, Calm, Ready, Either}
 use Rattle.root_store.specs.Running.{Stepped}
-use Rattle.root_store.specs.Planning.{Leads, Spare}
-use Rattle.root_store.proofs.Reading.{rest_stands, shut_stands, ready_either}
-use Rattle.root_store.proofs.Kept.{rest_kept, ready_kept}
+use Rattle.commit_plan.specs.Planning.{Leads, Spare}
+use Rattle.commit_plan.proofs.Reading.{rest_stands, shut_stands, ready_either}
+use Rattle.commit_plan.proofs.Kept.{rest_kept, ready_kept}
 
 -- below the last sequence a store that is calm is at rest
 pub calm_rest : (x : Kept) (file : List ℕ) → x.root.sequence < sequence_max → Calm x file → Rest x file

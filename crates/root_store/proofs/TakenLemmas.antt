@@ -11,7 +11,7 @@ use Rattle.store_terms.specs.Places.{block_size}
 use Rattle.store_terms.specs.Roots.{ours, sequence_max}
 use Rattle.store_terms.specs.StandsFor.{gate, body, open_gate, fits_slot, is_foreign, slot, newest, root_of}
 use Rattle.overlay_terms.specs.Commands.{version_max}
-use Rattle.root_store.specs.Kept.{other, Harmless}
+use Rattle.commit_plan.specs.Kept.{other, Harmless}
 use Rattle.root_store.specs.Healing.{IsTaken, Found}
 use Rattle.root_store.specs.Finding.{has_shut_gate}
 use Rattle.root_store.proofs.FindingLemmas.{short_root, foreign_root, slots_root}

@@ -4,9 +4,9 @@ use Rattle.disk_model.specs.Disk.{part}
 use Rattle.store_terms.specs.declared.root.Root.{Root}
 use Rattle.store_terms.specs.Roots.{body_text}
 use Rattle.store_terms.specs.StandsFor.{gate, open_gate, body_at}
-use Rattle.root_store.specs.declared.fault.StoreFault.{StoreFault}
-use Rattle.root_store.specs.declared.fault.StoreFault.TheVariants.{Device, Full, Damaged, NotEmpty, Failed, SequenceLimit, OutOfMemory}
-use Rattle.root_store.specs.Kept.{Kept, Rest}
+use Rattle.commit_plan.specs.declared.fault.StoreFault.{StoreFault}
+use Rattle.commit_plan.specs.declared.fault.StoreFault.TheVariants.{Device, Full, Damaged, NotEmpty, Failed, SequenceLimit, OutOfMemory}
+use Rattle.commit_plan.specs.Kept.{Kept, Rest}
 
 -- the root of a store that holds nothing, and the body that stands beside it
 abbrev pub first_root : Root

@@ -8,7 +8,7 @@ use Rattle.store_terms.specs.Roots.{body_text, ours, sequence_max}
 use Rattle.store_terms.specs.Image.{Held, held_of}
 use Rattle.store_terms.specs.Frame.{extents_of}
 use Rattle.store_terms.specs.StandsFor.{gate, open_gate, body, body_at}
-use Rattle.root_store.specs.Kept.{Kept, own, other, Harmless, Live, Shut, Rest}
+use Rattle.commit_plan.specs.Kept.{Kept, own, other, Harmless, Live, Shut, Rest}
 
 -- a root with what it names in a file
 abbrev pub kept_of : List ℕ → Root → Held → Kept

@@ -1,14 +1,6 @@
-pub mod Fault
 pub mod Finding
-pub mod Kept
-pub mod Planning
 pub mod Running
-pub mod Filing
 pub mod Healing
 pub mod Creating
 pub mod Opening
-pub mod Drafting
-pub mod Sizes
-pub mod Walking
-pub mod Placing
 pub mod Beginning

@@ -1,20 +1,20 @@
 -- What opening makes of a disk.
-use Rattle.std.specs.Prelude.{◌≡◌, ◌⊎◌, Bool, List, ℕ, map, ◌≤◌, Result, Ok, Err, IfOk, OnOk, OnErr}
+use Rattle.std.specs.Prelude.{◌≡◌, ◌⊎◌, Bool, List, ℕ, ◌≤◌, Result, Ok, Err, IfOk, OnOk, OnErr}
 use Rattle.disk_model.specs.declared.disk.Disk.{Ghosts}
 use Rattle.disk_model.specs.Disk.{Only, Failed}
 use Rattle.disk_model.specs.Moments.{Leaves, LeavesOnly}
 use Rattle.extent_map.specs.Taken.{taken_of}
-use Rattle.tile_build.specs.Tile.{finished_of}
 use Rattle.store_terms.specs.Image.{Held}
 use Rattle.store_terms.specs.Frame.{extents_of}
 use Rattle.store_terms.specs.StandsFor.{root_of, reading}
 use Rattle.store_terms.specs.declared.damage.Damage.{Damage}
-use Rattle.root_store.specs.declared.fault.StoreFault.{StoreFault}
-use Rattle.root_store.specs.declared.fault.StoreFault.TheVariants as stores
+use Rattle.commit_plan.specs.declared.fault.StoreFault.{StoreFault}
+use Rattle.commit_plan.specs.declared.fault.StoreFault.TheVariants as stores
 use Rattle.root_reading.specs.declared.load_fault.LoadFault.{LoadFault}
 use Rattle.root_reading.specs.declared.load_fault.LoadFault.TheVariants.{Device, Damaged, OutOfMemory}
-use Rattle.root_store.specs.declared.opening.Loaded.{Loaded}
-use Rattle.root_store.specs.Kept.{Kept, Rest, Shut, Calm}
+use Rattle.commit_plan.specs.declared.loading.Loaded.{Loaded}
+use Rattle.commit_plan.specs.Kept.{Kept, Rest, Shut, Calm}
+use Rattle.commit_plan.specs.Loading.{held_in}
 use Rattle.root_reading.specs.Taking.{IsMapOf}
 use Rattle.root_reading.specs.Looking.{Gives}
 use Rattle.root_store.specs.Finding.{has_shut_gate}
@@ -27,10 +27,6 @@ pub record Heals {D : Type 0} (g : Ghosts D) (old new : D) (result : Result (Uni
   pub run : LeavesOnly g old new (Shut x)
   pub ok : OnOk result (Leaves g new (Rest x))
   pub err : OnErr result (Leaves g new (Shut x))
-
--- what is read, as what a file holds
-abbrev pub held_in : Loaded → Held
-held_in x = record { number = x.root.version; layers = x.content.layers; tiles = map finished_of x.content.tiles.items }
 
 -- after the first sync, all is read: a crash leaves the bytes that were seen, and nothing else
 pub record IsRead {D : Type 0} (g : Ghosts D) (old new : D) (x : Loaded) (is_alone : Bool) : Type 0 where

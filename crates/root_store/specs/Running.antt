@@ -4,16 +4,16 @@ use Rattle.disk_model.specs.declared.disk.Disk.{Ghosts}
 use Rattle.disk_model.specs.Moments.{Leaves, LeavesOnly}
 use Rattle.extent_map.specs.Taken.{taken_of, limit_of}
 use Rattle.store_terms.specs.StandsFor.{gate, open_gate}
-use Rattle.root_store.specs.declared.fault.StoreFault.{StoreFault}
-use Rattle.root_store.specs.declared.fault.StoreFault.TheVariants as faults
+use Rattle.commit_plan.specs.declared.fault.StoreFault.{StoreFault}
+use Rattle.commit_plan.specs.declared.fault.StoreFault.TheVariants as faults
 use Rattle.root_store.specs.declared.phase.Phase.{Phase}
 use Rattle.root_store.specs.declared.phase.Phase.TheVariants.{Idle, Close, Settle, Put, Open, Finish, Failed}
 use Rattle.root_store.specs.declared.phase.Progress.{Progress}
 use Rattle.root_store.specs.declared.phase.Progress.TheVariants as progress
 use Rattle.root_store.specs.declared.commit.Commit.{Commit}
 use Rattle.root_reading.specs.Taking.{IsMapOf}
-use Rattle.root_store.specs.Kept.{Kept, other, Rest, Shut, Calm, Ready, Either}
-use Rattle.root_store.specs.Planning.{Leads, Spare}
+use Rattle.commit_plan.specs.Kept.{Kept, other, Rest, Shut, Calm, Ready, Either}
+use Rattle.commit_plan.specs.Planning.{Leads, Spare}
 
 module _ {D : Type 0} (g : Ghosts D) where
   -- the store stands for x

@@ -1,27 +1,24 @@
 //! Beginning a commit.
-ghost use Rattle.std.specs.Prelude.{◌≡◌, ◌⊎◌, ◌+◌, ◌<◌, ◌≤◌, ℕ, true, false, length, Some, IfOk, IfErr, IfSome, IfNone, OnOk, OnErr, IsErrOf};
-ghost use Rattle.extent_map.specs.Taken.{taken_of, limit_of};
+ghost use Rattle.std.specs.Prelude.{◌≡◌, ◌+◌, ◌<◌, ◌≤◌, ℕ, true, false, length, Some, IfErr, IfSome, IfNone, OnOk, OnErr};
+ghost use Rattle.extent_map.specs.Taken.{limit_of};
 ghost use Rattle.store_terms.specs.Image.{Held};
 ghost use Rattle.store_terms.specs.Roots.{sequence_max};
-ghost use Rattle.root_store.specs.Kept.{Kept};
+ghost use Rattle.commit_plan.specs.Kept.{Kept};
 ghost use Rattle.root_store.specs.Running.{Stands, Runs, KeepsTo, calls_left, is_busy};
-ghost use Rattle.root_reading.specs.Taking.{IsMapOf};
-ghost use Rattle.root_store.specs.Drafting.{IsNext};
-ghost use Rattle.root_store.specs.Beginning.{HasRoom, HasNoRoom, IsRefusal, IsReason};
+ghost use Rattle.commit_plan.specs.Drafting.{IsNext};
+ghost use Rattle.commit_plan.specs.Fitting.{HasRoom, HasNoRoom};
+ghost use Rattle.root_store.specs.Beginning.{IsRefusal, IsReason};
 
 use crate::commit::Commit;
-use crate::completing::completed;
-use crate::draft::Draft;
-use crate::fault::StoreFault;
-use crate::filing::file_layers;
 use crate::finding::NUMBER_MAX;
-use crate::next::Next;
 use crate::phase::Phase;
-use crate::room::Room;
+use crate::slots::other_body;
+use commit_plan::drafting::drafted;
+use commit_plan::fault::StoreFault;
+use commit_plan::next::Next;
 use disk_model::disk::Disk;
 use record_form::image::Image;
 use std::alloc::Global;
-use store_terms::root::Root;
 
 impl<D: Disk> Commit<D> {
     /// Begins the commit that leads to what comes next. It makes no device call.
@@ -90,28 +87,9 @@ impl<D: Disk> Commit<D> {
         if let Some(fault) = self.refusal() {
             return Err(fault);
         }
-        let next = drafted(alloc, &image, &self.room, self.root)?;
+        let body = other_body(self.root);
+        let next = drafted(alloc, &image, &self.room, self.root, body)?;
         self.start(next);
         Ok(())
     }
-}
-
-/// What the commit of an image goes on to from a root and the blocks that it takes.
-fn drafted(alloc: Global, image: &Image, room: &Room, root: Root) -> Result<Next, StoreFault>
-    requires { root.sequence < sequence_max }
-    ensures ok { (x : Kept) → x.root ≡ root → IsMapOf x.extents (taken_of room.now.map)
-        → IfOk result (λ next. IsNext x image.now next) }
-    ensures calls { IfOk result
-        (λ next. length next.plan.items ≡ length image.now.layers + length image.now.tiles + 2) }
-    ensures number { IfOk result (λ next. next.root.version ≡ image.now.number) }
-    ensures room { IfOk result (λ _. HasRoom room.now image.now) }
-    ensures blocks { IfOk result (λ next. limit_of next.room.map ≡ limit_of room.now.map) }
-    ensures full { IsErrOf result StoreFault.Full → HasNoRoom room.now image.now }
-    ensures err { IfErr result (λ fault. (fault ≡ StoreFault.Full) ⊎ (fault ≡ StoreFault.OutOfMemory)) }
-{
-    let number = image.number();
-    image.layers().len();
-    let mut draft = Draft::new(alloc, room.try_copy(alloc)?);
-    let listing = file_layers(alloc, &mut draft, image.layers(), image.tiles())?;
-    completed(alloc, draft, &listing, root, number)
 }

@@ -1,15 +1,15 @@
 //! A store, and a commit of it, one device call a step.
 ghost use Rattle.std.specs.Prelude.{◌≡◌, ◌↔◌, ℕ, IfOk, OnErr, IsErrOf, IfErr};
 ghost use Rattle.disk_model.specs.Disk.{Failed};
-ghost use Rattle.root_store.specs.Kept.{Kept};
+ghost use Rattle.commit_plan.specs.Kept.{Kept};
 ghost use Rattle.root_store.specs.Running.{Runs, KeepsTo, Stepped, Counts, calls_left, is_busy, fault_in};
 
-use crate::fault::StoreFault;
 use crate::finding::GATE_OPEN;
 use crate::phase::{Phase, Progress};
-use crate::room::Room;
 use crate::slots::other_gate;
-use crate::write::Write;
+use commit_plan::fault::StoreFault;
+use commit_plan::room::Room;
+use commit_plan::write::Write;
 use disk_model::disk::Disk;
 use std::mem;
 use store_terms::root::Root;

@@ -1,19 +1,19 @@
 //! Making a store of an empty file.
-ghost use Rattle.std.specs.Prelude.{◌≡◌, ◌≢◌, ◌↔◌, ◌+◌, ◌≤◌, ◌∷◌, [], length, None, OnOk, IfOk, IfErr, IsErrOf, MatchResult};
+ghost use Rattle.std.specs.Prelude.{◌≡◌, ◌≢◌, ◌↔◌, ◌+◌, ◌≤◌, length, None, OnOk, IfOk, IfErr, IsErrOf, MatchResult};
 ghost use Rattle.disk_model.specs.Disk.{Holds, Torn, Fewer, Failed, CountsFailure};
 ghost use Rattle.disk_model.specs.Moments.{Leaves};
 ghost use Rattle.extent_map.specs.Taken.{taken_of, limit_of};
-ghost use Rattle.root_store.specs.Kept.{Rest};
+ghost use Rattle.commit_plan.specs.Kept.{Rest};
 ghost use Rattle.root_store.specs.Running.{Stands, KeepsTo};
 ghost use Rattle.root_reading.specs.Taking.{IsMapOf};
 ghost use Rattle.root_store.specs.Creating.{nothing_kept, IsBlank, refusal_of_new, Tells};
 
 use crate::commit::Commit;
-use crate::fault::StoreFault;
 use crate::finding::GATE_OPEN;
 use crate::open_fault::OpenFault;
 use crate::phase::Phase;
-use crate::room::Room;
+use commit_plan::fault::StoreFault;
+use commit_plan::room::Room;
 use disk_model::disk::Disk;
 use disk_model::fault::DiskFault;
 use extent_map::extent::Extent as Run;

@@ -1,7 +1,7 @@
 //! The completing write of opening a store.
 ghost use Rattle.std.specs.Prelude.{◌≡◌, ◌↔◌, ◌<◌, ◌^◌, IfErr};
 ghost use Rattle.disk_model.specs.Moments.{Leaves};
-ghost use Rattle.root_store.specs.Kept.{Kept, Shut};
+ghost use Rattle.commit_plan.specs.Kept.{Kept, Shut};
 ghost use Rattle.root_reading.specs.Looking.{Causes};
 ghost use Rattle.root_store.specs.Opening.{Heals};
 

@@ -1,13 +1,6 @@
 //! Laws over the definitions: each function does nothing, and its contract is the law.
-ghost use Rattle.root_store.specs.Planning.{PlansLead};
 ghost use Rattle.root_store.specs.Healing.{TakenIsLive, TwinHeals};
 ghost use Rattle.root_store.specs.Creating.{BlankIsAtRest};
-ghost use Rattle.root_store.specs.Filing.{FilingMakes};
-
-/// New extents off the live root and off one another, and then the body, lead from one content to the next.
-pub fn plans_lead()
-    ensures { PlansLead }
-{}
 
 /// A root that opening takes, and what it holds, is live.
 pub fn taken_is_live()
@@ -17,11 +10,6 @@ pub fn taken_is_live()
 /// The body of a root's twin behind the shut gate leaves the store at rest.
 pub fn twin_heals()
     ensures { TwinHeals }
-{}
-
-/// Where the records of all layers and their catalog are put, the file holds what the root names.
-pub fn filing_makes()
-    ensures { FilingMakes }
 {}
 
 /// A new file with its first gate open is a store that holds nothing.

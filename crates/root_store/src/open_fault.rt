@@ -1,6 +1,6 @@
 //! What a disk is handed back with.
 
-use crate::fault::StoreFault;
+use commit_plan::fault::StoreFault;
 
 /// Why no store is made or opened, and the disk as the calls have left it.
 #[derive(Drop)]

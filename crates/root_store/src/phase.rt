@@ -20,7 +20,7 @@ pub enum Phase {
 }
 
 /// What a step has done.
-#[derive(Clone, Copy)]
+#[derive(Clone, Copy, Debug, PartialEq, Eq)]
 pub enum Progress {
     /// No commit is under way, and no device call was made.
     Idle,

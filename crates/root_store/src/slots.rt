@@ -1,7 +1,7 @@
 //! Where the gate and the body stand of the slot that a root is not in.
 ghost use Rattle.std.specs.Prelude.{◌≡◌, ◌+◌, ◌*◌, ◌%◌};
 ghost use Rattle.store_terms.specs.StandsFor.{body_at};
-ghost use Rattle.root_store.specs.Kept.{other};
+ghost use Rattle.commit_plan.specs.Kept.{other};
 
 use root_reading::fetching::BLOCK;
 use store_terms::root::Root;

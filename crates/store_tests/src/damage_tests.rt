@@ -1,6 +1,6 @@
 //! Files with one thing wrong, and with several: the first of them is told, and nothing is written.
 use crate::testing::{only_reads, opened, put, stored};
-use root_store::fault::StoreFault;
+use commit_plan::fault::StoreFault;
 use std::alloc::Global;
 use std::process::Abort;
 

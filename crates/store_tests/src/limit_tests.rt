@@ -1,6 +1,6 @@
 //! Limits of blocks, and damaged files.
 use crate::testing::{committed, created, image_of_a, opened};
-use root_store::fault::StoreFault;
+use commit_plan::fault::StoreFault;
 use store_terms::damage::Damage;
 
 /// The base record of the square A, at its block.

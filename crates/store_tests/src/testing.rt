@@ -1,4 +1,5 @@
 //! Stores in memory, and commits of one layer, for the tests. What cannot be made ends the test.
+use commit_plan::fault::StoreFault;
 use disk_model::mem_disk::{Call, MemDisk};
 use layer_book::command::Command;
 use layer_book::layers::Layers;
@@ -8,7 +9,6 @@ use plane_base::{BaseLayer, Pt, Ring};
 use record_form::image::Image;
 use root_store::commit::Commit;
 use root_store::creating::create;
-use root_store::fault::StoreFault;
 use root_store::opening::open;
 use root_store::phase::Progress;
 use std::alloc::Global;

@@ -1,8 +1,8 @@
 use Rattle.std.proofs.Common.{sym, subst}
-use Rattle.root_store.specs.Kept.{Rest}
+use Rattle.commit_plan.specs.Kept.{Rest}
 use Rattle.root_store.specs.Creating.{nothing_kept, IsBlank}
 use Rattle.root_store.proofs.Blank.{blank_put, blank_kept, blank_is_at_rest}
-use Rattle.root_store.proofs.Kept.{gate_written}
+use Rattle.commit_plan.proofs.Kept.{gate_written}
 use Rattle.root_store.proofs.Steps.{synced}
 use Rattle.root_store.proofs.creating.format.Goals as goal
 

@@ -3,7 +3,7 @@ use Rattle.disk_model.proofs.Runs.{goes_on}
 use Rattle.store_terms.specs.declared.root.Root.{Root}
 use Rattle.store_terms.specs.Roots.{body_text, sequence_max}
 use Rattle.store_terms.specs.StandsFor.{body_at}
-use Rattle.root_store.specs.Kept.{other, Shut, Rest}
+use Rattle.commit_plan.specs.Kept.{other, Shut, Rest}
 use Rattle.root_store.specs.Healing.{twin}
 use Rattle.root_store.proofs.Steps.{one_call, leaves_fewer, leaves_synced}
 use Rattle.root_store.proofs.HealingLemmas.{still_shut, at_rest, healing_failed}

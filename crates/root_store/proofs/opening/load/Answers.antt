@@ -1,7 +1,7 @@
 use Rattle.std.proofs.Common.{◌≡◌, true, refl, rules, arith}
 use Rattle.store_terms.specs.StandsFor.{reading}
 use Rattle.root_store.specs.Healing.{kept_of}
-use Rattle.root_store.specs.Opening.{held_in}
+use Rattle.commit_plan.specs.Loading.{held_in}
 use Rattle.root_reading.proofs.Looked.{refuses_device}
 use Rattle.root_store.proofs.OpeningLemmas.{shuts, both_loads, last_loads, healed_loads, failed_loads, unread_loads}
 use Rattle.root_store.proofs.opening.load.Goals as goal

@@ -7,7 +7,7 @@ use Rattle.root_store.specs.Finding.{has_shut_gate}
 use Rattle.root_reading.specs.Looking.{Refuses}
 use Rattle.root_reading.specs.Taking.{IsMapOf}
 use Rattle.root_reading.proofs.Looked.{gives_err, refuses_bound, refuses_device, looks_on}
-use Rattle.root_store.specs.Opening.{held_in}
+use Rattle.commit_plan.specs.Loading.{held_in}
 use Rattle.root_store.proofs.OpeningLemmas.{reading_root}
 use Rattle.root_store.proofs.opening.read_store.Goals as goal
 

@@ -1,6 +1,7 @@
 use Rattle.std.proofs.Common.{◌≡◌, ◌+◌, length, OnOk, IfErr, subst}
 use Rattle.store_terms.specs.Image.{Held}
-use Rattle.root_store.specs.Beginning.{HasRoom, HasNoRoom, IsReason}
+use Rattle.commit_plan.specs.Fitting.{HasRoom, HasNoRoom}
+use Rattle.root_store.specs.Beginning.{IsReason}
 use Rattle.root_store.specs.Running.{calls_left}
 use Rattle.root_store.proofs.Reasons.{refused_so}
 use Rattle.flush_core.specs.Stored.{HasNoRoomFor}

@@ -1,5 +1,5 @@
 use Rattle.std.proofs.Common.{◌++◌, sym, subst}
-use Rattle.root_store.specs.declared.fault.StoreFault.TheVariants.{OutOfMemory}
+use Rattle.commit_plan.specs.declared.fault.StoreFault.TheVariants.{OutOfMemory}
 use Rattle.overlay_engine.specs.Recovery.{Refused}
 use Rattle.overlay_engine.specs.Runs.{accepted_in}
 use Rattle.overlay_engine.proofs.Running.{crash_covered}

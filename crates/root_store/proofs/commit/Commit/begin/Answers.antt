@@ -1,6 +1,7 @@
 use Rattle.std.proofs.Common.{◌∙◌}
-use Rattle.root_store.specs.Beginning.{HasNoRoom, IsReason}
-use Rattle.root_store.specs.declared.next.Next.{Next}
+use Rattle.commit_plan.specs.Fitting.{HasNoRoom}
+use Rattle.root_store.specs.Beginning.{IsReason}
+use Rattle.commit_plan.specs.declared.next.Next.{Next}
 use Rattle.root_store.proofs.Reasons.{refused_so, passed_on, no_room_or_memory}
 use Rattle.root_store.proofs.commit.Commit.begin.Goals as goal
 

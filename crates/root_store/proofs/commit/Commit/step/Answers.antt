@@ -2,15 +2,15 @@ use Rattle.std.proofs.Common.{◌≡◌, length, drop, List, [], ◌∷◌, ℕ,
 use Rattle.disk_model.specs.Disk.{Torn, Holds, Follows}
 use Rattle.root_store.specs.declared.phase.Phase.{Phase}
 use Rattle.store_terms.specs.StandsFor.{gate_at}
-use Rattle.root_store.specs.Kept.{other, Either, Rest, Shut, Ready}
+use Rattle.commit_plan.specs.Kept.{other, Either, Rest, Shut, Ready}
 use Rattle.root_store.specs.Running.{Before}
 use Rattle.root_reading.specs.Taking.{IsMapOf}
-use Rattle.root_store.specs.declared.room.Room.{Room}
+use Rattle.commit_plan.specs.declared.room.Room.{Room}
 use Rattle.extent_map.specs.Taken.{taken_of, limit_of}
-use Rattle.root_store.specs.Planning.{Leads}
+use Rattle.commit_plan.specs.Planning.{Leads}
 use Rattle.store_terms.specs.declared.root.Root.{Root}
-use Rattle.root_store.proofs.Kept.{gate_written}
-use Rattle.root_store.proofs.Reading.{opened_rest}
+use Rattle.commit_plan.proofs.Kept.{gate_written}
+use Rattle.commit_plan.proofs.Reading.{opened_rest}
 use Rattle.root_store.proofs.Steps.{one_call, leaves_torn, leaves_fewer, leaves_synced, rest_either, shut_either, both_either, closing, opening, settles, next_leads, next_spares, led, failed}
 use Rattle.root_store.proofs.commit.Commit.step.Goals as goal
 

@@ -1,0 +1,178 @@
+use Rattle.std.proofs.Common.{◌≡◌, ◌+◌, [], ◌∷◌, ◌++◌, List, length, ap, map, sym, ◌∙◌, subst, arith}
+use Rattle.std.specs.List.{flat_map}
+use Rattle.overlay_terms.specs.Layers.{Layer}
+use Rattle.overlay_terms.specs.Histories.{Finished}
+use Rattle.extent_map.specs.declared.extent.Extent as runs
+use Rattle.extent_map.specs.Taken.{taken_of, limit_of}
+use Rattle.layer_book.specs.Layer.{IsBook}
+use Rattle.tile_build.specs.Tile.{finished_of}
+use Rattle.record_form.specs.Listing.{listing_of}
+use Rattle.record_form.specs.declared.catalog.Listed as code
+use Rattle.commit_plan.specs.declared.next.Next.{Next}
+use Rattle.commit_plan.specs.Filing.{filed_of}
+use Rattle.root_reading.specs.Taking.{IsMapOf}
+use Rattle.overlay_terms.specs.Column.{column_count}
+use Rattle.extent_map.specs.FirstFit.{IsFull}
+use Rattle.store_terms.specs.Catalog.{catalog}
+use Rattle.commit_plan.specs.declared.fault.StoreFault.TheVariants.{Full}
+use Rattle.commit_plan.specs.Sizes.{sizes_of_layer, catalog_size}
+use Rattle.commit_plan.specs.Fitting.{HasRoom}
+use Rattle.commit_plan.specs.Drafting.{ArePlanned, ArePlaced, Spell}
+use Rattle.commit_plan.proofs.Drafts.{passed_error}
+use Rattle.commit_plan.proofs.Sized.{full_more}
+use Rattle.commit_plan.proofs.Roomed.{has_room, has_no_room, catalog_sized}
+use Rattle.commit_plan.specs.Walking.{AreLeft, AreLayersFiled}
+use Rattle.commit_plan.proofs.Walked.{writes_count, records_count}
+use Rattle.commit_plan.proofs.Imaged.{all_left, spell_of, if_ok}
+use Rattle.commit_plan.proofs.drafting.drafted.Goals as goal
+
+pub file_layers-requires : goal.file_layers-requires
+file_layers-requires c =
+    let image = c.args.image.now in
+    let all = all_left image.layers image.tiles c.number-number.ensures.valid.stored in
+    subst (λ (l : List Layer). AreLeft l 0 0 (map finished_of c.tiles.result.now)) (sym c.layers-2.ensures)
+    (subst (λ (t : List Finished). AreLeft image.layers 0 0 t) (sym c.tiles.ensures) all)
+
+pub returns-clause-ok : goal.returns-clause-ok
+returns-clause-ok c x root there room =
+    let image = c.args.image.now in
+    let copy = c.in_ok-try_copy.field-0 in
+    let d = c.file_layers.new.draft in
+    let given = taken_of copy.map in
+    let ls = listing_of c.in_ok-listing.listing.items in
+    let as_read = c.in_ok-listing.ensures.ok given copy.max_blocks c.new-draft.ensures in
+    let in_layers =
+    subst (λ (l : List Layer). AreLayersFiled given copy.max_blocks l
+    (map finished_of c.tiles.result.now) [] ls d) c.layers-2.ensures as_read in
+    let filed = subst
+    (λ (t : List Finished). AreLayersFiled given copy.max_blocks image.layers t [] ls d) c.tiles.ensures in_layers in
+    let book : IsBook image.layers = subst IsBook c.layers.ensures c.len.ensures.valid in
+    let spell = spell_of image given copy.max_blocks ls d c.number-number.ensures.valid book filed in
+    let listed : Spell filed.filed (listing_of c.deref.result.now) image =
+    subst (λ (l : List code.Listed). Spell filed.filed (listing_of l) image) (sym c.deref.ensures.value) spell in
+    let mapped : IsMapOf x.extents given =
+    subst (λ (l : List runs.Extent). IsMapOf x.extents l) (sym c.in_ok-try_copy.ensures.taken) room in
+    c.completed.ensures.ok x given copy.max_blocks filed.filed image root there mapped filed.draft listed
+    (sym c.number-number.ensures.value)
+
+pub returns-clause-calls : goal.returns-clause-calls
+returns-clause-calls c =
+    let image = c.args.image.now in
+    let copy = c.in_ok-try_copy.field-0 in
+    let d = c.file_layers.new.draft in
+    let given = taken_of copy.map in
+    let ls = listing_of c.in_ok-listing.listing.items in
+    let as_read = c.in_ok-listing.ensures.ok given copy.max_blocks c.new-draft.ensures in
+    let in_layers =
+    subst (λ (l : List Layer). AreLayersFiled given copy.max_blocks l
+    (map finished_of c.tiles.result.now) [] ls d) c.layers-2.ensures as_read in
+    let filed = subst
+    (λ (t : List Finished). AreLayersFiled given copy.max_blocks image.layers t [] ls d) c.tiles.ensures in_layers in
+    let book : IsBook image.layers = subst IsBook c.layers.ensures c.len.ensures.valid in
+    let spell = spell_of image given copy.max_blocks ls d c.number-number.ensures.valid book filed in
+    let count = writes_count (flat_map filed_of filed.filed) d.writes.items filed.draft.writes
+    ∙ records_count filed.filed image.layers image.tiles spell.spelled in
+    if_ok c.completed.result (λ (next : Next). length next.plan.items ≡ length d.writes.items + 2)
+    (λ (next : Next). length next.plan.items ≡ length image.layers + length image.tiles + 2)
+    (λ next is. omega (arith, is, count)) c.completed.ensures.calls
+
+pub returns-clause-err : goal.returns-clause-err
+returns-clause-err c =
+    let image = c.args.image.now in
+    let copy = c.in_ok-try_copy.field-0 in
+    let d = c.file_layers.new.draft in
+    let given = taken_of copy.map in
+    let ls = listing_of c.in_ok-listing.listing.items in
+    let as_read = c.in_ok-listing.ensures.ok given copy.max_blocks c.new-draft.ensures in
+    let in_layers =
+    subst (λ (l : List Layer). AreLayersFiled given copy.max_blocks l
+    (map finished_of c.tiles.result.now) [] ls d) c.layers-2.ensures as_read in
+    let filed = subst
+    (λ (t : List Finished). AreLayersFiled given copy.max_blocks image.layers t [] ls d) c.tiles.ensures in_layers in
+    c.completed.ensures.err given copy.max_blocks (flat_map filed_of filed.filed) filed.draft
+
+pub returns-in_err-listing-clause-full : goal.returns-in_err-listing-clause-full
+returns-in_err-listing-clause-full c u =
+    let image = c.args.image.now in
+    let copy = c.in_ok-try_copy.field-0 in
+    let tiles = c.tiles.result.now in
+    let given = taken_of copy.map in
+    let limit = copy.max_blocks in
+    let full = c.in_err-listing.ensures.full given limit c.new-draft.ensures.placed
+    (passed_error _ c.from_residual-in_err-listing.result c.in_err-listing.field-0.0 Full c.from_residual-in_err-listing.ensures.1 u) in
+    let in_layers =
+    subst (λ (l : List Layer). IsFull given limit (flat_map (sizes_of_layer tiles) l)) c.layers-2.ensures full in
+    has_no_room c.args.room.now copy image tiles c.tiles.ensures c.in_ok-try_copy.ensures.taken c.in_ok-try_copy.ensures.limit
+    (full_more given limit (flat_map (sizes_of_layer tiles) image.layers)
+    (catalog_size image.layers (length tiles) ∷ []) in_layers)
+
+pub returns-clause-room : goal.returns-clause-room
+returns-clause-room c =
+    let image = c.args.image.now in
+    let copy = c.in_ok-try_copy.field-0 in
+    let tiles = c.tiles.result.now in
+    let given = taken_of copy.map in
+    let limit = copy.max_blocks in
+    let d = c.file_layers.new.draft in
+    let listing = c.in_ok-listing.listing.items in
+    let ls = listing_of listing in
+    let as_read = c.in_ok-listing.ensures.ok given limit c.new-draft.ensures in
+    let in_layers =
+    subst (λ (l : List Layer). AreLayersFiled given limit l
+    (map finished_of tiles) [] ls d) c.layers-2.ensures as_read in
+    let filed = subst
+    (λ (t : List Finished). AreLayersFiled given limit image.layers t [] ls d) c.tiles.ensures in_layers in
+    let sizes = flat_map (sizes_of_layer tiles) image.layers in
+    let placed = subst
+    (λ (l : List Layer). ArePlaced given limit (flat_map (sizes_of_layer tiles) l) d) c.layers-2.ensures
+    (c.in_ok-listing.ensures.taken given limit c.new-draft.ensures.placed) in
+    let listable = c.in_ok-listing.ensures.listable in
+    let whole = catalog_sized image tiles given limit listing d c.tiles.ensures filed listable in
+    let read = ap
+    (λ (l : List code.Listed). sizes
+    ++ length ((catalog column_count).text (listing_of l)) ∷ []) c.deref.ensures.value in
+    if_ok c.completed.result
+    (λ _. ArePlanned given limit
+    (sizes ++ length ((catalog column_count).text (listing_of c.deref.result.now)) ∷ []))
+    (λ _. HasRoom c.args.room.now image)
+    (λ next planned. has_room c.args.room.now copy image tiles c.tiles.ensures c.in_ok-try_copy.ensures.taken c.in_ok-try_copy.ensures.limit (subst (ArePlanned given limit) (read ∙ whole) planned))
+    (c.completed.ensures.placed given limit sizes placed)
+
+pub returns-clause-full : goal.returns-clause-full
+returns-clause-full c u =
+    let image = c.args.image.now in
+    let copy = c.in_ok-try_copy.field-0 in
+    let tiles = c.tiles.result.now in
+    let given = taken_of copy.map in
+    let limit = copy.max_blocks in
+    let d = c.file_layers.new.draft in
+    let listing = c.in_ok-listing.listing.items in
+    let ls = listing_of listing in
+    let as_read = c.in_ok-listing.ensures.ok given limit c.new-draft.ensures in
+    let in_layers =
+    subst (λ (l : List Layer). AreLayersFiled given limit l
+    (map finished_of tiles) [] ls d) c.layers-2.ensures as_read in
+    let filed = subst
+    (λ (t : List Finished). AreLayersFiled given limit image.layers t [] ls d) c.tiles.ensures in_layers in
+    let sizes = flat_map (sizes_of_layer tiles) image.layers in
+    let placed = subst
+    (λ (l : List Layer). ArePlaced given limit (flat_map (sizes_of_layer tiles) l) d) c.layers-2.ensures
+    (c.in_ok-listing.ensures.taken given limit c.new-draft.ensures.placed) in
+    let listable = c.in_ok-listing.ensures.listable in
+    let whole = catalog_sized image tiles given limit listing d c.tiles.ensures filed listable in
+    let read = ap
+    (λ (l : List code.Listed). sizes
+    ++ length ((catalog column_count).text (listing_of l)) ∷ []) c.deref.ensures.value in
+    has_no_room c.args.room.now copy image tiles c.tiles.ensures c.in_ok-try_copy.ensures.taken c.in_ok-try_copy.ensures.limit
+    (subst (IsFull given limit) (read ∙ whole) (c.completed.ensures.full given limit sizes placed u))
+
+pub returns-clause-blocks : goal.returns-clause-blocks
+returns-clause-blocks c =
+    let room = c.args.room.now in
+    let copy = c.in_ok-try_copy.field-0 in
+    let placed = c.in_ok-listing.ensures.taken (taken_of copy.map) copy.max_blocks c.new-draft.ensures.placed in
+    if_ok c.completed.result (λ (next : Next). limit_of next.room.map ≡ copy.max_blocks)
+    (λ (next : Next). limit_of next.room.map ≡ limit_of room.map)
+    (λ next is. is ∙ c.in_ok-try_copy.ensures.limit ∙ sym room.limit)
+    (c.completed.ensures.blocks (taken_of copy.map) copy.max_blocks
+    (flat_map (sizes_of_layer c.tiles.result.now) c.layers-2.result.now) placed)

@@ -1,0 +1,26 @@
+use Rattle.std.proofs.Common.{◌∷◌, refl, sym, subst}
+use Rattle.extent_map.specs.Taken.{taken_of}
+use Rattle.record_form.specs.Listing.{listing_of}
+use Rattle.store_terms.specs.Places.{extents_listed}
+use Rattle.root_reading.specs.Taking.{AreRunsFor}
+use Rattle.root_reading.proofs.TakingLemmas.{room_taken, room_apart, room_overlap}
+use Rattle.commit_plan.proofs.taking.room_of.Goals as goal
+
+pub returns-in-Ok-clause-taken : goal.returns-in-Ok-clause-taken
+returns-in-Ok-clause-taken c near =
+    let es = c.args.catalog ∷ extents_listed (listing_of c.args.listing.now) in
+    room_taken es c.deref.result.now (taken_of c.in-Ok.room.map) near
+    (subst (AreRunsFor es) (sym c.deref.ensures.value) c.in_ok-runs.ensures) c.in-Ok.ensures.taken
+
+pub returns-in-Ok-clause-reads : goal.returns-in-Ok-clause-reads
+returns-in-Ok-clause-reads c near held =
+    let es = c.args.catalog ∷ extents_listed (listing_of c.args.listing.now) in
+    room_apart es c.deref.result.now held near (subst (AreRunsFor es) (sym c.deref.ensures.value) c.in_ok-runs.ensures)
+    (c.in-Ok.ensures.apart refl)
+
+pub returns-in-Err-Overlap-clause-reads : goal.returns-in-Err-Overlap-clause-reads
+returns-in-Err-Overlap-clause-reads c near held =
+    let es = c.args.catalog ∷ extents_listed (listing_of c.args.listing.now) in
+    let overlap = rw c.in-Err-Overlap.field-0-is at c.in-Err-Overlap.ensures.overlap in
+    room_overlap es c.deref.result.now held near
+    (subst (AreRunsFor es) (sym c.deref.ensures.value) c.in_ok-runs.ensures) (overlap refl)

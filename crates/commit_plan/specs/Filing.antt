@@ -1,0 +1,99 @@
+-- Records with their places, as a commit writes them: the catalog, the extents and the writes come from one list.
+use Rattle.std.specs.Prelude.{◌≡◌, ℕ, ◌+◌, ◌*◌, ◌≤◌, true, List, [], ◌∷◌, ◌++◌, length, take, map, flat_map, Option, Some, None}
+use Rattle.std.proofs.Common.{inl, inr}
+use Rattle.std.specs.Option.{option_map}
+use Rattle.std.specs.List.{AllByRecursion}
+use Rattle.overlay_terms.specs.Plane.{WholePoint}
+use Rattle.overlay_terms.specs.Trees.{Tree}
+use Rattle.overlay_terms.specs.Layers.{Name, base, derived, Layer}
+use Rattle.overlay_terms.specs.Histories.{Tile, Finished}
+use Rattle.store_terms.specs.BaseRecord.{base_of_record}
+use Rattle.store_terms.specs.DefinitionRecord.{definition_of_record}
+use Rattle.store_terms.specs.TileRecord.{tile_of_record}
+use Rattle.store_terms.specs.declared.root.Extent.{Extent}
+use Rattle.store_terms.specs.Catalog.{Listed, catalog_of_record}
+use Rattle.store_terms.specs.Places.{blocks, all_apart, extents_listed}
+use Rattle.store_terms.specs.Spelled.{MayBeStored}
+use Rattle.commit_plan.specs.declared.write.Write.{Write}
+use Rattle.commit_plan.specs.Kept.{Kept}
+use Rattle.commit_plan.specs.Planning.{IsPut, Makes}
+
+-- the bytes of a record, and where they go
+pub record Filed : Type 0 where
+  pub extent : Extent
+  pub bytes : List ℕ
+
+-- a base layer's record; or that of a definition, and of each of its finished tiles
+pub data FiledLayer : Type 0 where
+  a_base : Name → Filed → FiledLayer
+  a_definition : Name → Filed → List (Option Filed) → FiledLayer
+
+abbrev pub listed_of : FiledLayer → Listed
+listed_of (a_base name f) = record { name = name; records = inl f.extent }
+listed_of (a_definition name f tiles) =
+    record { name = name; records = inr (f.extent, map (option_map (λ (t : Filed). t.extent)) tiles) }
+
+abbrev pub filed_tiles : List (Option Filed) → List Filed
+filed_tiles [] = []
+filed_tiles (None ∷ ts) = filed_tiles ts
+filed_tiles (Some f ∷ ts) = f ∷ filed_tiles ts
+
+-- the records of a layer
+abbrev pub filed_of : FiledLayer → List Filed
+filed_of (a_base name f) = f ∷ []
+filed_of (a_definition name f tiles) = f ∷ filed_tiles tiles
+
+-- the tiles that some records spell, from a column on
+abbrev pub SpellTiles : Name → ℕ → List (Option Filed) → List Finished → Type 0
+SpellTiles name k [] tiles = tiles ≡ []
+SpellTiles name k (None ∷ ts) tiles = SpellTiles name (k + 1) ts tiles
+SpellTiles name k (Some f ∷ ts) tiles =
+    (tile : Tile) × (rest : List Finished) × (tiles ≡ record { name = name; column = k; tile = tile } ∷ rest)
+    × (tile_of_record k f.bytes ≡ Some tile) × SpellTiles name (k + 1) ts rest
+
+-- the layer that its records spell, and its tiles
+abbrev pub SpellLayer : FiledLayer → Layer → List Finished → Type 0
+SpellLayer (a_base name f) layer tiles =
+    (rings : List (List WholePoint)) × (layer ≡ record { name = name; content = base rings }) × (tiles ≡ [])
+    × (base_of_record f.bytes ≡ Some rings)
+SpellLayer (a_definition name f ts) layer tiles =
+    (tree : Tree Name) × (layer ≡ record { name = name; content = derived tree })
+    × (definition_of_record f.bytes ≡ Some tree) × SpellTiles name 0 ts tiles
+
+abbrev pub SpellLayers : List FiledLayer → List Layer → List Finished → Type 0
+SpellLayers [] layers tiles = (layers ≡ []) × (tiles ≡ [])
+SpellLayers (l ∷ ls) layers tiles =
+    (layer : Layer) × (rest : List Layer) × (own : List Finished) × (more : List Finished) × (layers ≡ layer ∷ rest)
+    × (tiles ≡ own ++ more) × SpellLayer l layer own × SpellLayers ls rest more
+
+-- the write of a record: whole blocks, the record in front
+pub record IsWriteOf (f : Filed) (w : Write) : Type 0 where
+  pub behind : 2 ≤ f.extent.block
+  pub there : w.at ≡ 4096 * f.extent.block
+  pub size : f.extent.size ≡ length f.bytes
+  pub front : take f.extent.size w.bytes.items ≡ f.bytes
+  pub blocks : length w.bytes.items ≡ 4096 * blocks f.extent.size
+
+-- the writes are those of the records, in order
+abbrev pub AreWritesOf : List Filed → List Write → Type 0
+AreWritesOf [] [] = Unit {0}
+AreWritesOf [] (w ∷ ws) = ⊥
+AreWritesOf (f ∷ fs) [] = ⊥
+AreWritesOf (f ∷ fs) (w ∷ ws) = IsWriteOf f w × AreWritesOf fs ws
+
+-- what a commit files: the records of all layers, and a catalog that lists them
+pub record Files (y : Kept) (layers : List FiledLayer) (listing : Filed) : Type 0 where
+  pub spelled : SpellLayers layers y.held.layers y.held.tiles
+  pub stored : MayBeStored y.held.layers
+  pub catalog : catalog_of_record listing.bytes ≡ Some (map listed_of layers)
+  pub there : y.root.catalog ≡ listing.extent
+  pub number : y.root.version ≡ y.held.number
+  pub extents : y.extents ≡ y.root.catalog ∷ extents_listed (map listed_of layers)
+  pub apart : all_apart (y.root.catalog ∷ extents_listed (map listed_of layers)) ≡ true
+
+-- where all of them are put, the file holds what the root names
+abbrev pub FilingMakes : Type 0
+FilingMakes =
+    (y : Kept) (layers : List FiledLayer) (listing : Filed) (ws : List Write) (file : List ℕ) → Files y layers listing
+    → AreWritesOf (flat_map filed_of layers ++ listing ∷ []) ws
+    → AllByRecursion (IsPut file) ws → Makes y file

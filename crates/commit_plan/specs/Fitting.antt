@@ -1,0 +1,20 @@
+-- Whether there is room for a commit.
+use Rattle.std.specs.Prelude.{ℕ, List}
+use Rattle.extent_map.specs.FirstFit.{IsFull}
+use Rattle.extent_map.specs.Taken.{taken_of}
+use Rattle.store_terms.specs.Image.{Held}
+use Rattle.commit_plan.specs.declared.room.Room.{Room}
+use Rattle.commit_plan.specs.Drafting.{ArePlanned}
+use Rattle.commit_plan.specs.Sizes.{AreSizesOf}
+
+-- each record of what is held finds, in order, the lowest run that is free of what is taken and of the runs before it
+pub record HasRoom (room : Room) (x : Held) : Type 0 where
+  pub sizes : List ℕ
+  pub are : AreSizesOf x sizes
+  pub planned : ArePlanned (taken_of room.map) room.max_blocks sizes
+
+-- some record finds no run, where each before it has found its own
+pub record HasNoRoom (room : Room) (x : Held) : Type 0 where
+  pub sizes : List ℕ
+  pub are : AreSizesOf x sizes
+  pub full : IsFull (taken_of room.map) room.max_blocks sizes

@@ -1,0 +1,10 @@
+pub mod Fault
+pub mod Kept
+pub mod Planning
+pub mod Filing
+pub mod Drafting
+pub mod Sizes
+pub mod Walking
+pub mod Placing
+pub mod Fitting
+pub mod Loading

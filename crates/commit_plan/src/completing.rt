@@ -1,0 +1,84 @@
+//! The writes of a commit behind its records: the catalog and the body.
+ghost use Rattle.std.specs.Prelude.{◌≡◌, ◌⊎◌, ◌+◌, ◌^◌, ◌<◌, ◌++◌, ◌∷◌, [], ℕ, List, length, flat_map, All, IfOk, IfErr, IsErrOf};
+ghost use Rattle.overlay_terms.specs.Column.{column_count};
+ghost use Rattle.extent_map.specs.declared.extent.Extent as runs;
+ghost use Rattle.extent_map.specs.FirstFit.{IsFull};
+ghost use Rattle.extent_map.specs.Taken.{limit_of};
+ghost use Rattle.record_form.specs.Listing.{listing_of, IsListable};
+ghost use Rattle.store_terms.specs.Catalog.{catalog};
+ghost use Rattle.store_terms.specs.Image.{Held};
+ghost use Rattle.store_terms.specs.Roots.{sequence_max};
+ghost use Rattle.store_terms.specs.StandsFor.{body_at};
+ghost use Rattle.commit_plan.specs.Kept.{Kept, other};
+ghost use Rattle.commit_plan.specs.Filing.{Filed, FiledLayer, filed_of};
+ghost use Rattle.root_reading.specs.Taking.{IsMapOf};
+ghost use Rattle.commit_plan.specs.Drafting.{ArePlanned, ArePlaced, IsDraft, Spell, IsNext};
+
+use crate::draft::Draft;
+use crate::fault::StoreFault;
+use crate::next::Next;
+use crate::room::Room;
+use crate::write::Write;
+use record_form::catalog::Listed;
+use record_form::catalog_writing::write_catalog;
+use record_form::root_body::write_body;
+use std::alloc::Global;
+use store_terms::root::Root;
+
+/// Adds the catalog that lists the records of a draft, and the body of the root that comes after one, where it is to be
+/// put.
+pub(crate) fn completed(
+    alloc: Global,
+    mut draft: Draft,
+    listing: &[Listed],
+    root: Root,
+    number: u64,
+    body: usize,
+) -> Result<Next, StoreFault>
+    requires few { length listing.now < 2 ^ 16 }
+    requires listable { All IsListable listing.now }
+    requires below { root.sequence < sequence_max }
+    ensures ok { (x : Kept) (given : List runs.Extent) (limit : ℕ) (layers : List FiledLayer) (held : Held)
+        → x.root ≡ root → body ≡ body_at (other root) → IsMapOf x.extents given
+        → IsDraft given limit (flat_map filed_of layers) draft → Spell layers (listing_of listing.now) held
+        → held.number ≡ number → IfOk result (λ next. IsNext x held next) }
+    ensures calls { IfOk result (λ next. length next.plan.items ≡ length draft.writes.items + 2) }
+    ensures number { IfOk result (λ next. next.root.version ≡ number) }
+    ensures placed { (given : List runs.Extent) (limit : ℕ) (sizes : List ℕ) → ArePlaced given limit sizes draft
+        → IfOk result
+        (λ _. ArePlanned given limit
+        (sizes ++ length ((catalog column_count).text (listing_of listing.now)) ∷ [])) }
+    ensures blocks { (given : List runs.Extent) (limit : ℕ) (sizes : List ℕ) → ArePlaced given limit sizes draft
+        → IfOk result (λ next. limit_of next.room.map ≡ limit) }
+    ensures full { (given : List runs.Extent) (limit : ℕ) (sizes : List ℕ) → ArePlaced given limit sizes draft
+        → IsErrOf result StoreFault.Full
+        → IsFull given limit (sizes ++ length ((catalog column_count).text (listing_of listing.now)) ∷ []) }
+    ensures err { (given : List runs.Extent) (limit : ℕ) (fs : List Filed) → IsDraft given limit fs draft
+        → IfErr result (λ fault. (fault ≡ StoreFault.Full) ⊎ (fault ≡ StoreFault.OutOfMemory)) }
+{
+    let bytes = write_catalog(alloc, listing)?;
+    let catalog = draft.file(bytes)?;
+    let next = Root {
+        sequence: root.sequence + 1,
+        version: number,
+        catalog,
+    };
+    let Draft {
+        room,
+        runs,
+        mut writes,
+    } = draft;
+    let room = match Room::of(alloc, &runs, room.max_blocks) {
+        Ok(room) => room,
+        Err(fault) => return Err(StoreFault::from(fault)),
+    };
+    writes.push(Write {
+        at: body,
+        bytes: Vec::from_slice(alloc, &write_body(next))?,
+    })?;
+    Ok(Next {
+        root: next,
+        room,
+        plan: writes,
+    })
+}

@@ -1,0 +1,182 @@
+//! The records of an image, each put in its place.
+ghost use Rattle.std.specs.Prelude.{◌≡◌, ◌⊎◌, ◌+◌, ◌<◌, ◌≤◌, ◌++◌, ℕ, List, [], length, map, flat_map, All, IfOk, IfErr, IsErrOf, IsTrue, IsFalse};
+ghost use Rattle.overlay_terms.specs.Column.{column_count};
+ghost use Rattle.extent_map.specs.declared.extent.Extent as runs;
+ghost use Rattle.extent_map.specs.FirstFit.{IsFull};
+ghost use Rattle.tile_build.specs.Tile.{finished_of};
+ghost use Rattle.record_form.specs.Listing.{listed_of, listing_of, IsListable};
+ghost use Rattle.commit_plan.specs.Filing.{Filed};
+ghost use Rattle.commit_plan.specs.Drafting.{ArePlaced, IsDraft};
+ghost use Rattle.commit_plan.specs.Sizes.{sizes_of_layer};
+ghost use Rattle.commit_plan.specs.Walking.{IsHere, IsElsewhere, AreLeft, IsTileFiled, AreTilesFiled, IsLayerFiled, AreLayersFiled};
+ghost use Rattle.commit_plan.specs.Placing.{AreTaken, FindNone, IsTaken, FindsNone};
+
+use crate::draft::Draft;
+use crate::fault::StoreFault;
+use layer_book::layer::Layer;
+use layer_book::layers::Layers;
+use layer_expr::name::Name;
+use plane_base::COLUMN_COUNT;
+use record_form::base_record::write_base;
+use record_form::catalog::{Listed, Records};
+use record_form::definition_record::write_definition;
+use record_form::tile_record::write_tile;
+use std::alloc::Global;
+use store_terms::root::Extent;
+use tile_build::Tile;
+
+/// Whether the first of some tiles is that of a layer and column.
+fn is_here(layers: &Layers, place: usize, column: u8, tiles: &[(Name, u8, Tile)]) -> bool
+    requires { place < length layers.now }
+    ensures here { IsTrue result → IsHere layers.now place column (map finished_of tiles.now) }
+    ensures elsewhere { IsFalse result → IsElsewhere layers.now place column (map finished_of tiles.now) }
+{
+    if tiles.is_empty() {
+        return false;
+    }
+    let tile = &tiles[0];
+    if tile.1 != column {
+        return false;
+    }
+    match layers.find(&tile.0) {
+        Some(found) => found == place,
+        None => false,
+    }
+}
+
+/// Puts the record of the first tile in its place, if it is that of a layer and column, and gives the tiles behind it.
+fn file_tile<'a>(
+    alloc: Global,
+    draft: &mut Draft,
+    layers: &Layers,
+    place: usize,
+    column: u8,
+    tiles: &'a [(Name, u8, Tile)],
+) -> Result<(Option<Extent>, &'a [(Name, u8, Tile)]), StoreFault>
+    requires place { place < length layers.now }
+    requires left { AreLeft layers.now place column (map finished_of tiles.now) }
+    ensures ok { (given : List runs.Extent) (limit : ℕ) (fs : List Filed) → IsDraft given limit fs draft.old
+        → IfOk result
+        (λ r. IsTileFiled given limit fs layers.now place column (map finished_of tiles.now)
+        (map finished_of r.1.now) r.0 draft.new) }
+    ensures left { IfOk result (λ r. AreLeft layers.now place (column + 1) (map finished_of r.1.now)) }
+    ensures taken { (given : List runs.Extent) (limit : ℕ) (sizes : List ℕ) → ArePlaced given limit sizes draft.old
+        → IfOk result (λ r. AreTaken given limit sizes layers.now place tiles.now r.1.now draft.new) }
+    ensures full { (given : List runs.Extent) (limit : ℕ) (sizes : List ℕ) → ArePlaced given limit sizes draft.old
+        → IsErrOf result StoreFault.Full → FindNone given limit sizes layers.now place tiles.now }
+    ensures err { IfErr result (λ fault. (fault ≡ StoreFault.Full) ⊎ (fault ≡ StoreFault.OutOfMemory)) }
+{
+    if !is_here(layers, place, column, tiles) {
+        return Ok((None, tiles));
+    }
+    let bytes = write_tile(alloc, column, &tiles[0].2)?;
+    let extent = draft.file(bytes)?;
+    Ok((Some(extent), &tiles[1..]))
+}
+
+/// Puts the records of a layer's tiles in their places, and gives the tiles behind them.
+fn file_tiles<'a>(
+    alloc: Global,
+    draft: &mut Draft,
+    layers: &Layers,
+    place: usize,
+    tiles: &'a [(Name, u8, Tile)],
+) -> Result<(Vec<Option<Extent>>, &'a [(Name, u8, Tile)]), StoreFault>
+    requires place { place < length layers.now }
+    requires left { AreLeft layers.now place 0 (map finished_of tiles.now) }
+    ensures ok { (given : List runs.Extent) (limit : ℕ) (fs : List Filed) → IsDraft given limit fs draft.old
+        → IfOk result
+        (λ r. AreTilesFiled given limit fs layers.now place column_count (map finished_of tiles.now)
+        (map finished_of r.1.now) r.0.items draft.new) }
+    ensures left { IfOk result (λ r. AreLeft layers.now place column_count (map finished_of r.1.now)) }
+    ensures count { IfOk result (λ r. length r.0.items ≡ column_count) }
+    ensures taken { (given : List runs.Extent) (limit : ℕ) (sizes : List ℕ) → ArePlaced given limit sizes draft.old
+        → IfOk result (λ r. AreTaken given limit sizes layers.now place tiles.now r.1.now draft.new) }
+    ensures full { (given : List runs.Extent) (limit : ℕ) (sizes : List ℕ) → ArePlaced given limit sizes draft.old
+        → IsErrOf result StoreFault.Full → FindNone given limit sizes layers.now place tiles.now }
+    ensures err { IfErr result (λ fault. (fault ≡ StoreFault.Full) ⊎ (fault ≡ StoreFault.OutOfMemory)) }
+{
+    let mut entries = Vec::new(alloc);
+    let mut rest = tiles;
+    for column in 0..COLUMN_COUNT {
+        let (entry, after) = file_tile(alloc, draft, layers, place, column, rest)?;
+        entries.push(entry)?;
+        rest = after;
+    }
+    Ok((entries, rest))
+}
+
+/// Puts the records of a layer in their places, and gives its entry in the catalog and the tiles behind its own.
+fn file_layer<'a>(
+    alloc: Global,
+    draft: &mut Draft,
+    layers: &Layers,
+    place: usize,
+    tiles: &'a [(Name, u8, Tile)],
+) -> Result<(Listed, &'a [(Name, u8, Tile)]), StoreFault>
+    requires place { place < length layers.now }
+    requires left { AreLeft layers.now place 0 (map finished_of tiles.now) }
+    ensures ok { (given : List runs.Extent) (limit : ℕ) (fs : List Filed) → IsDraft given limit fs draft.old
+        → IfOk result
+        (λ r. IsLayerFiled given limit fs layers.now place (map finished_of tiles.now) (map finished_of r.1.now)
+        (listed_of r.0) draft.new) }
+    ensures left { IfOk result (λ r. AreLeft layers.now (place + 1) 0 (map finished_of r.1.now)) }
+    ensures listable { IfOk result (λ r. IsListable r.0) }
+    ensures taken { (given : List runs.Extent) (limit : ℕ) (sizes : List ℕ) → ArePlaced given limit sizes draft.old
+        → IfOk result (λ r. IsTaken given limit sizes layers.now place tiles.now r.1.now draft.new) }
+    ensures full { (given : List runs.Extent) (limit : ℕ) (sizes : List ℕ) → ArePlaced given limit sizes draft.old
+        → IsErrOf result StoreFault.Full → FindsNone given limit sizes layers.now place tiles.now }
+    ensures err { IfErr result (λ fault. (fault ≡ StoreFault.Full) ⊎ (fault ≡ StoreFault.OutOfMemory)) }
+{
+    layers.len();
+    let Some((named, layer)) = layers.at(place) else {
+        unreachable!()
+    };
+    let name = Vec::from_slice(alloc, named.bytes())?;
+    match layer {
+        Layer::Base(rings) => {
+            rings.rings();
+            let bytes = write_base(alloc, rings)?;
+            let extent = draft.file(bytes)?;
+            let records = Records::Base(extent);
+            Ok((Listed { name, records }, tiles))
+        }
+        Layer::Derived(expression) => {
+            expression.root();
+            let bytes = write_definition(alloc, expression)?;
+            let extent = draft.file(bytes)?;
+            let (entries, rest) = file_tiles(alloc, draft, layers, place, tiles)?;
+            let records = Records::Derived(extent, entries);
+            Ok((Listed { name, records }, rest))
+        }
+    }
+}
+
+/// Puts the records of all layers and tiles in their places, and gives what the catalog lists.
+pub(crate) fn file_layers(
+    alloc: Global,
+    draft: &mut Draft,
+    layers: &Layers,
+    tiles: &[(Name, u8, Tile)],
+) -> Result<Vec<Listed>, StoreFault>
+    requires { AreLeft layers.now 0 0 (map finished_of tiles.now) }
+    ensures ok { (given : List runs.Extent) (limit : ℕ) → IsDraft given limit [] draft.old
+        → IfOk result
+        (λ v. AreLayersFiled given limit layers.now (map finished_of tiles.now) [] (listing_of v.items) draft.new) }
+    ensures listable { IfOk result (λ v. All IsListable v.items) }
+    ensures count { IfOk result (λ v. length v.items ≡ length layers.now) }
+    ensures taken { (given : List runs.Extent) (limit : ℕ) → ArePlaced given limit [] draft.old
+        → IfOk result (λ _. ArePlaced given limit (flat_map (sizes_of_layer tiles.now) layers.now) draft.new) }
+    ensures full { (given : List runs.Extent) (limit : ℕ) → ArePlaced given limit [] draft.old
+        → IsErrOf result StoreFault.Full → IsFull given limit (flat_map (sizes_of_layer tiles.now) layers.now) }
+    ensures err { IfErr result (λ fault. (fault ≡ StoreFault.Full) ⊎ (fault ≡ StoreFault.OutOfMemory)) }
+{
+    let mut listing = Vec::new(alloc);
+    let mut rest = tiles;
+    for place in 0..layers.len() {
+        let (listed, after) = file_layer(alloc, draft, layers, place, rest)?;
+        listing.push(listed)?;
+        rest = after;
+    }
+    Ok(listing)
+}

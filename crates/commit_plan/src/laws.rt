@@ -1,0 +1,13 @@
+//! Laws over the definitions: each function does nothing, and its contract is the law.
+ghost use Rattle.commit_plan.specs.Planning.{PlansLead};
+ghost use Rattle.commit_plan.specs.Filing.{FilingMakes};
+
+/// New extents off the live root and off one another, and then the body, lead from one content to the next.
+pub fn plans_lead()
+    ensures { PlansLead }
+{}
+
+/// Where the records of all layers and their catalog are put, the file holds what the root names.
+pub fn filing_makes()
+    ensures { FilingMakes }
+{}

@@ -1,0 +1,40 @@
+//! The room that the records of a root take.
+ghost use Rattle.std.specs.Prelude.{◌≡◌, ◌∷◌, ◌⊎◌, IfOk, IfErr};
+ghost use Rattle.extent_map.specs.Taken.{taken_of, limit_of};
+ghost use Rattle.record_form.specs.Listing.{listing_of};
+ghost use Rattle.store_terms.specs.Image.{Held};
+ghost use Rattle.store_terms.specs.Places.{extents_listed};
+ghost use Rattle.store_terms.specs.declared.damage.Damage.TheVariants.{Overlap};
+ghost use Rattle.root_reading.specs.Looking.{Gives};
+ghost use Rattle.root_reading.specs.Taking.{IsMapOf, AllNear, if_apart};
+
+use crate::room::Room;
+use extent_map::fault::ExtentFault;
+use record_form::catalog::Listed;
+use root_reading::load_fault::LoadFault;
+use root_reading::taking::runs_of;
+use std::alloc::Global;
+use store_terms::damage::Damage;
+use store_terms::root::Extent;
+
+/// The room that a catalog and the records that it lists take, if no two have a block in common.
+pub fn room_of(
+    alloc: Global,
+    catalog: Extent,
+    listing: &[Listed],
+    max_blocks: u32,
+) -> Result<Room, LoadFault>
+    ensures taken { AllNear (catalog ∷ extents_listed (listing_of listing.now))
+        → IfOk result (λ room. IsMapOf (catalog ∷ extents_listed (listing_of listing.now)) (taken_of room.map)) }
+    ensures reads { AllNear (catalog ∷ extents_listed (listing_of listing.now)) → (held : Held)
+        → Gives (λ room. held) result (if_apart (catalog ∷ extents_listed (listing_of listing.now)) held) }
+    ensures errors { IfErr result (λ e. (e ≡ LoadFault.OutOfMemory) ⊎ (e ≡ LoadFault.Damaged Overlap)) }
+    ensures limit { IfOk result (λ room. limit_of room.map ≡ max_blocks) }
+{
+    let runs = runs_of(alloc, catalog, listing)?;
+    match Room::of(alloc, &runs, max_blocks) {
+        Ok(room) => Ok(room),
+        Err(ExtentFault::Overlap) => Err(LoadFault::Damaged(Damage::Overlap)),
+        Err(_) => Err(LoadFault::OutOfMemory),
+    }
+}
