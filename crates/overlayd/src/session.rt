@@ -6,14 +6,16 @@ ghost use Rattle.overlayd.specs.Loop.{AnswersLine, TakesBytes, Finishes, EndsBy}
 
 use crate::answering::answer;
 use crate::book::Book;
-use script_form::{
-    CommandFault, LineBuffer, SCRIPT_MAX, SessionEnd, read_chunk, write_reply, write_text,
-};
+use script_form::{LineBuffer, SCRIPT_MAX, SessionEnd, read_chunk, write_reply, write_text};
 use std::alloc::{AllocError, Global};
 use std::io::{Read, Write};
 
 /// How many bytes are asked for at once.
 const CHUNK: usize = 4096;
+
+/// A write of a reply failed.
+#[derive(Drop)]
+struct WriteFailed;
 
 /// Runs a script: reads its lines, and writes the reply to each before it asks for more bytes.
 pub fn run_plain<R: Read, W: Write>(alloc: Global, reader: &mut R, writer: &mut W) -> SessionEnd
@@ -71,7 +73,7 @@ fn take_bytes<W: Write>(
     line: &mut LineBuffer,
     bytes: &[u8],
     writer: &mut W,
-) -> Result<(), CommandFault>
+) -> Result<(), WriteFailed>
     ensures { TakesBytes result book.old line.old bytes.now book.new line.new (W.contents writer.old) (W.contents writer.new) }
 {
     for byte in bytes {
@@ -86,7 +88,7 @@ fn take_byte<W: Write>(
     line: &mut LineBuffer,
     byte: u8,
     writer: &mut W,
-) -> Result<(), CommandFault>
+) -> Result<(), WriteFailed>
     ensures { TakesBytes result book.old line.old (byte ∷ []) book.new line.new (W.contents writer.old) (W.contents writer.new) }
 {
     if byte != b'\n' {
@@ -103,11 +105,14 @@ fn answer_line<W: Write>(
     book: &mut Book,
     line: &[u8],
     writer: &mut W,
-) -> Result<(), CommandFault>
+) -> Result<(), WriteFailed>
     ensures { AnswersLine result book.old line.now book.new (W.contents writer.old) (W.contents writer.new) }
 {
     let reply = answer(alloc, book, line);
-    write_reply(writer, &reply)
+    match write_reply(writer, &reply) {
+        Ok(()) => Ok(()),
+        Err(_) => Err(WriteFailed),
+    }
 }
 
 /// At the end of the script: answers a last line that lacks its line feed.
