@@ -1,4 +1,4 @@
-use Rattle.std.proofs.Common.{arith}
+use Rattle.std.proofs.Common.{arith, rules}
 use Rattle.root_store.proofs.FindingLemmas.{short_root}
 use Rattle.root_reading.proofs.Looked.{looked, looks_on}
 use Rattle.root_store.proofs.finding.find_root.Goals as goal
@@ -55,3 +55,7 @@ returns-clause-looks g c honest =
     (c.length.ensures.time honest) in
     let looks2 = looks_on k old c.length.new.self c.read_slot.new.disk looks1 (c.read_slot.ensures.looks looks1.honest) in
     looks_on k old c.read_slot.new.disk c.read_slot-2.new.disk looks2 (c.read_slot-2.ensures.looks looks2.honest)
+
+-- found by search alone: it stands here so that a wrong body is refused without working out what to write
+pub returns-clause-alone : goal.returns-clause-alone
+returns-clause-alone g c = search rules

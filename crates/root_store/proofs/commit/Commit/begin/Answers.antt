@@ -1,4 +1,4 @@
-use Rattle.std.proofs.Common.{◌∙◌}
+use Rattle.std.proofs.Common.{rules, ◌∙◌}
 use Rattle.commit_plan.specs.Fitting.{HasNoRoom}
 use Rattle.root_store.specs.Beginning.{IsReason}
 use Rattle.commit_plan.specs.declared.next.Next.{Next}
@@ -20,3 +20,7 @@ returns-in_err-next-clause-errors g c =
 
 pub returns-clause-blocks : goal.returns-clause-blocks
 returns-clause-blocks g c limit keeps = c.start.ensures.blocks limit keeps.0 (c.in_ok-next.ensures.blocks ∙ keeps.0)
+
+-- found by search alone: it stands here so that a wrong body is refused without working out what to write
+pub returns-clause-begun : goal.returns-clause-begun
+returns-clause-begun g c = search rules
