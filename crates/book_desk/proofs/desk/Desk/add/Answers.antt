@@ -1,4 +1,4 @@
-use Rattle.std.proofs.Common.{◌≡◌, ◌++◌, ◌∷◌, [], length, ap, sym, ◌∙◌, arith}
+use Rattle.std.proofs.Common.{◌≡◌, ◌++◌, ◌∷◌, [], length, ap, sym, ◌∙◌, arith, rules}
 use Rattle.book_history.specs.Causes.{event_of}
 use Rattle.book_history.specs.Logs.{entry, newest_in}
 use Rattle.book_history.specs.Trails.{Trail}
@@ -31,3 +31,7 @@ invariant_of-result-2 g c =
       (λ k low. counts_more k was.log c.put_out.result.desk.shown.value.trace.log e _ _
           (ap (λ (t : Trail). t.log) (shown ∙ added) ∙ ap (λ (t : Trail). t.log ++ e ∷ []) same) (i.3 k low) (c.counted.ensures k low)),
     )
+
+-- found by search alone: it stands here so that a wrong body is refused without working out what to write
+pub returns-clause-ok : goal.returns-clause-ok
+returns-clause-ok g c = search rules
