@@ -1,12 +1,15 @@
 -- From what the lock's methods say of the log to what a call says of histories.
-use Rattle.std.proofs.Common.{◌≡◌, ℕ, ◌<◌, ◌≤◌, Bool, true, List, [], ◌∷◌, ◌++◌, length, refl, ap, sym, ◌∙◌, subst, arith, append_assoc, Result, Ok, Err, IfOk, IfErr}
+use Rattle.std.proofs.Common.{◌≡◌, ℕ, ◌<◌, ◌≤◌, Bool, true, List, [], ◌∷◌, ◌++◌, length, refl, ap, sym, ◌∙◌, subst, arith, append_assoc, Option, Some, None, IfSome, IfNone, Result, Ok, Err, IfOk, IfErr}
 use mathlib.Core.List.{IsPrefix}
 use Rattle.overlay_terms.specs.Commands.{Command}
+use Rattle.overlay_terms.specs.Layers.{Name}
 use Rattle.overlay_terms.specs.Histories.{Version, Entry, History, accepted, commands_of, newest, BeginsWith}
 use Rattle.book_history.specs.Logs.{entry, newest_in, history_of, IsAccepted, IsLog}
 use Rattle.book_history.specs.Fault.{IfGone, IsRefused}
 use Rattle.book_history.specs.Known.{Known, Heard, seen, IsOwn}
 use Rattle.book_desk.specs.Steps.{HasLooked, IsReportedIn, Looks}
+use Rattle.book_desk.specs.Waits.{IsSyncRefused, IsSyncRefusedAt, IsWaitRefused}
+use Rattle.book_desk.specs.declared.standing.Standing.{Standing}
 use Rattle.book_history.specs.declared.fault.BookFault.{BookFault}
 use Rattle.book_history.specs.declared.fault.BookFault.TheVariants as fault
 use Rattle.book_history.proofs.Chains.{begins_with, commands_in_log}
@@ -118,6 +121,11 @@ module _ (was now : Known) (old new : List Entry) where
   submit_refused (Ok n) A B closing c d q = tt
   submit_refused (Err f) A B closing c d q = at_fault f was now old (λ v g. IsRefused true v c g) (λ v. tt) (refused_more f closing (newest_in old) c q) d.2
 
+  pub submit_made : (r : Result ℕ BookFault) (made : List Command) (A B : Type 0)
+      → IfOk r (λ _. (now.made ≡ made) × A × B) → IfOk r (λ _. now.made ≡ made)
+  submit_made (Ok n) made A B m = m.0
+  submit_made (Err f) made A B m = tt
+
 -- ---- of a report
 module _ (was now : Heard) (log after : List Entry) (n : ℕ) where
   pub report_goes : (r : Result ℕ BookFault) (A : ℕ → Type 0) (B : BookFault → Type 0) → 0 < length was.log
@@ -134,3 +142,82 @@ module _ (was now : Heard) (log after : List Entry) (n : ℕ) where
       → IfOk r (λ _. IsPrefix was.log log × K × IsLog after) → IfOk r (λ m. n ≤ (newest_in was.log).number → n ≤ m)
   report_reached (Ok m) K long a b = report_reaches was.log log after n m long b.2 b.0 a.0 a.1
   report_reached (Err f) K long a b = tt
+
+  pub report_ok : (r : Result ℕ BookFault) (A B C : Type 0) → IfOk r (λ m. A × ((newest_in after).durable ≡ m))
+      → IfOk r (λ _. B × (now ≡ record { book = was.book; log = after; given = was.given }) × C)
+      → IfOk r (λ m. (newest_in now.log).durable ≡ m)
+  report_ok (Ok m) A B C a b = ap (λ (t : Heard). (newest_in t.log).durable) b.1 ∙ a.1
+  report_ok (Err f) A B C a b = tt
+
+  pub report_err : (r : Result ℕ BookFault) (A : Type 0) (B : BookFault → Type 0) → IfErr r (λ f. A × (now ≡ was) × B f)
+      → IfErr r (λ f. (now ≡ was) × B f)
+  report_err (Ok m) A B d = tt
+  report_err (Err f) A B d = (d.1, d.2)
+
+  pub report_same : (r : Result ℕ BookFault) (A B C : Type 0) (D : BookFault → Type 0)
+      → IfOk r (λ _. B × (now ≡ record { book = was.book; log = after; given = was.given }) × C)
+      → IfErr r (λ f. A × (now ≡ was) × D f) → (now.book ≡ was.book) × (now.given ≡ was.given)
+  report_same (Ok m) A B C D b d = (ap (λ (t : Heard). t.book) b.1, ap (λ (t : Heard). t.given) b.1)
+  report_same (Err f) A B C D b d = (ap (λ (t : Heard). t.book) d.1, ap (λ (t : Heard). t.given) d.1)
+
+-- ---- of the waits
+-- a book that may close refuses no less
+wait_more : (f : BookFault) (closing : Bool) (v : Version) (name : Name) → IsWaitRefused closing v name f → IsWaitRefused true v name f
+wait_more (fault.Version r) closing v name q = q
+wait_more fault.Closing closing v name q = (refl, q.1, q.2)
+wait_more fault.Gone closing v name q = q
+wait_more fault.NoStore closing v name q = q
+wait_more (fault.Store r) closing v name q = q
+
+pub wait_refused : (r : Result ℕ BookFault) (closing : Bool) (v : Version) (name : Name) → IfErr r (λ f. IsWaitRefused closing v name f) → IfErr r (λ f. IsWaitRefused true v name f)
+wait_refused (Ok n) closing v name q = tt
+wait_refused (Err f) closing v name q = wait_more f closing v name q
+
+sync_at : (f : BookFault) (s : Standing) (v : Version) (n : ℕ) → IsSyncRefusedAt s v n f → IsSyncRefused f
+sync_at (fault.Version r) s v n q = q
+sync_at fault.Closing s v n q = tt
+sync_at fault.Gone s v n q = tt
+sync_at fault.NoStore s v n q = tt
+sync_at (fault.Store r) s v n q = tt
+
+pub sync_refused : (r : Result ℕ BookFault) (s : Standing) (v : Version) (n : ℕ) → IfErr r (λ f. IsSyncRefusedAt s v n f) → IfErr r IsSyncRefused
+sync_refused (Ok m) s v n q = tt
+sync_refused (Err f) s v n q = sync_at f s v n q
+
+-- ---- of news
+module _ {V : Type 0} (was now : Heard) (log : List Entry) (news : ℕ) where
+  pub news_goes : (r : Result (Option V) BookFault) (A : V → Type 0) (N P Q : Type 0) (E : BookFault → Type 0) → 0 < length was.log
+      → IfOk r (λ o. IfSome o (λ v. A v × IsPrefix was.log log × IsLog log))
+      → IfOk r (λ o. IfSome o (λ _. N × (now ≡ record { book = was.book; log = log; given = news })))
+      → IfOk r (λ o. IfNone o (P × Q × (now ≡ was))) → IfErr r (λ f. (now ≡ was) × E f) → BeginsWith (history_of now.log) (history_of was.log)
+  news_goes (Ok (Some v)) A N P Q E long a b n d =
+      begins_with was.log now.log long (subst (λ (t : Heard). IsPrefix was.log t.log) (sym b.1) a.1)
+  news_goes (Ok None) A N P Q E long a b n d = begins_with was.log now.log long (subst (λ (t : Heard). IsPrefix was.log t.log) (sym n.2) (prefix_self was.log))
+  news_goes (Err f) A N P Q E long a b n d = begins_with was.log now.log long (subst (λ (t : Heard). IsPrefix was.log t.log) (sym d.0) (prefix_self was.log))
+
+  pub news_newest : (r : Result (Option V) BookFault) (of : V → Version) (B C N : Type 0)
+      → IfOk r (λ o. IfSome o (λ v. (of v ≡ newest_in log) × B × C))
+      → IfOk r (λ o. IfSome o (λ _. N × (now ≡ record { book = was.book; log = log; given = news })))
+      → IfOk r (λ o. IfSome o (λ v. of v ≡ newest_in now.log))
+  news_newest (Ok (Some v)) of B C N a b = a.0 ∙ ap (λ (t : Heard). newest_in t.log) (sym b.1)
+  news_newest (Ok None) of B C N a b = tt
+  news_newest (Err f) of B C N a b = tt
+
+  pub news_given : (r : Result (Option V) BookFault)
+      → IfOk r (λ o. IfSome o (λ _. ¬ (news ≡ was.given) × (now ≡ record { book = was.book; log = log; given = news })))
+      → IfOk r (λ o. IfSome o (λ _. ¬ (now.given ≡ was.given)))
+  news_given (Ok (Some v)) b = λ e. b.0 (sym (ap (λ (t : Heard). t.given) b.1) ∙ e)
+  news_given (Ok None) b = tt
+  news_given (Err f) b = tt
+
+  pub news_none : (r : Result (Option V) BookFault) (P Q : Type 0) → IfOk r (λ o. IfNone o (P × Q × (now ≡ was))) → IfOk r (λ o. IfNone o (now ≡ was))
+  news_none (Ok (Some v)) P Q n = tt
+  news_none (Ok None) P Q n = n.2
+  news_none (Err f) P Q n = tt
+
+  pub news_book : (r : Result (Option V) BookFault) (N P Q : Type 0) (E : BookFault → Type 0)
+      → IfOk r (λ o. IfSome o (λ _. N × (now ≡ record { book = was.book; log = log; given = news })))
+      → IfOk r (λ o. IfNone o (P × Q × (now ≡ was))) → IfErr r (λ f. (now ≡ was) × E f) → now.book ≡ was.book
+  news_book (Ok (Some v)) N P Q E b n d = ap (λ (t : Heard). t.book) b.1
+  news_book (Ok None) N P Q E b n d = ap (λ (t : Heard). t.book) n.2
+  news_book (Err f) N P Q E b n d = ap (λ (t : Heard). t.book) d.0

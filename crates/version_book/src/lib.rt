@@ -4,5 +4,32 @@
 pub mod crossing;
 pub mod shared;
 
-pub use book_desk::{closing, job};
-pub use book_history::{fault, reporter, session, trace};
+/// What is left of a book that closes.
+pub mod closing {
+    pub use book_desk::closing::Closed;
+}
+
+/// A tile that is handed out.
+pub mod job {
+    pub use book_desk::job::Job;
+}
+
+/// Why a call on the book is refused.
+pub mod fault {
+    pub use book_history::fault::{BookFault, StoreFault, StoreText, Text};
+}
+
+/// The one token that may report durable numbers.
+pub mod reporter {
+    pub use book_history::reporter::Reporter;
+}
+
+/// A session: what it has seen and made.
+pub mod session {
+    pub use book_history::session::Session;
+}
+
+/// A beginning of the history that was seen.
+pub mod trace {
+    pub use book_history::trace::{Add, Begin, Head, Law, Naming, Nothing, Trace, open};
+}

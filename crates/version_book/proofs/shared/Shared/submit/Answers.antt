@@ -2,7 +2,7 @@ use Rattle.overlay_terms.specs.Histories.{accepted, FollowsCommand}
 use Rattle.std.proofs.Common.{◌≡◌, ◌++◌, ◌∷◌, []}
 use Rattle.layer_book.specs.Command.{command}
 use Rattle.book_history.specs.Logs.{entry, newest_in}
-use Rattle.version_book.proofs.Results.{accepts, submit_goes, submit_own, submit_err, submit_refused}
+use Rattle.version_book.proofs.Results.{accepts, submit_goes, submit_made, submit_own, submit_err, submit_refused}
 use Rattle.version_book.proofs.shared.Shared.submit.Goals as goal
 
 pub returns-clause-goes_on : goal.returns-clause-goes_on
@@ -29,3 +29,11 @@ pub returns-clause-refused : goal.returns-clause-refused
 returns-clause-refused g c =
     let s = c.submit-shelf in
     submit_refused c.args.me.now s.new.me c.in-Some.shelf.desk s.result.0.desk s.result.1 _ _ c.in-Some.shelf.standing.closing (command c.args.change.now) s.ensures.err s.ensures.refused
+
+pub returns-clause-made : goal.returns-clause-made
+returns-clause-made g c =
+    let s = c.submit-shelf in
+    submit_made c.args.me.now s.new.me c.in-Some.shelf.desk s.result.0.desk s.result.1 _ _ _ s.ensures.made
+
+pub returns-clause-same : goal.returns-clause-same
+returns-clause-same g c = c.submit-shelf.ensures.same
