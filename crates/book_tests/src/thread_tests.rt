@@ -57,14 +57,13 @@ fn numbers_beside<J: Naming + Send + Sync, R: Threads + Wait + Sync>(
 }
 
 /// Whether two lists that rise have the numbers from 1 to 100 between them, each once.
-fn share_all(told: &(Option<Vec<u64>>, Option<Vec<u64>>)) -> bool {
-    match told {
-        (Some(first), Some(second)) => {
-            first.len() + second.len() == 100
-                && (1..=100).all(|number| first.contains(&number) != second.contains(&number))
+fn share_all(first: &[u64], second: &[u64]) -> bool {
+    for number in 1..101 {
+        if first.contains(&number) == second.contains(&number) {
+            return false;
         }
-        _ => false,
     }
+    first.len() + second.len() == 100
 }
 
 /// Submits one command fifty times in each of two threads.
@@ -79,8 +78,10 @@ fn submit_beside<J: Naming + Send + Sync, R: Threads + Wait + Abort + Sync>(
 )
     requires { (one.old.book ≡ J.book) × (two.old.book ≡ J.book) }
 {
-    let told = numbers_beside(rt, alloc, shared, one, two, first, second);
-    assert!(rt; share_all(&told));
+    let (ours, theirs) = numbers_beside(rt, alloc, shared, one, two, first, second);
+    let ours = ours.expect(rt, "no numbers of the first");
+    let theirs = theirs.expect(rt, "no numbers of the second");
+    assert!(rt; share_all(&ours, &theirs));
     assert!(rt; one.snapshot().is_ok_and(|version| version.number() == 100));
 }
 
