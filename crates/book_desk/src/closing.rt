@@ -3,7 +3,7 @@ ghost use Rattle.std.specs.Prelude.{◌≡◌, ◌≤◌, All, IsTrue};
 ghost use Rattle.std.specs.Arc.{arc_value};
 ghost use mathlib.Core.List.{IsPrefix};
 ghost use Rattle.book_history.specs.Logs.{newest_in, IsLog};
-ghost use Rattle.book_desk.specs.Steps.{HasAllOf};
+ghost use Rattle.book_desk.specs.Steps.{HasAllOf, IsLevel};
 
 use crate::desk::Desk;
 use crate::shelf::Shelf;
@@ -29,6 +29,8 @@ impl<J: Naming, R: Wait + Drop> Shelf<J, R> {
         requires sessions { All (λ session. session.book ≡ J.book) sessions.now }
         ensures reporter { IsTrue result → IsPrefix reporter.now.log self.now.desk }
         ensures sessions { IsTrue result → All (λ session. HasAllOf self.now.desk session) sessions.now }
+        ensures level { IsPrefix reporter.now.log self.now.desk
+            → All (λ session. IsLevel self.now.desk session) sessions.now → IsTrue result }
     {
         reporter.is_level(&self.desk.last().trace) && self.desk.has_all_of(sessions)
     }
@@ -50,7 +52,8 @@ impl<J: Naming, R: Wait + Drop> Shelf<J, R> {
 impl<J: Naming, R: Wait + Drop> Desk<J, R> {
     fn has_all_of(&self, sessions: &[Session]) -> bool
         requires { All (λ session. session.book ≡ J.book) sessions.now }
-        ensures { IsTrue result → All (λ session. HasAllOf self.now session) sessions.now }
+        ensures all { IsTrue result → All (λ session. HasAllOf self.now session) sessions.now }
+        ensures level { All (λ session. IsLevel self.now session) sessions.now → IsTrue result }
     {
         for session in sessions {
             if !self.is_level(session) {

@@ -10,7 +10,7 @@ loop-session-preserved g c =
     let e = c.if-not-is_level.ensures in
     one_at (HasAllOf c.args.self.now) c.args.sessions.now c.loop-session.session-index c.session-item.result c.loop-session-test.true c.session-item.is c.loop-session.invariant (record { longer = e.longer refl; own = e.own refl })
 
-pub returns : goal.returns
-returns g c is =
+pub returns-clause-all : goal.returns-clause-all
+returns-clause-all g c is =
     let whole : length c.args.sessions.now ≤ c.loop-session.session-index = omega (arith, c.loop-session-test.false) in
     subst (All (HasAllOf c.args.self.now)) (take_all c.loop-session.session-index c.args.sessions.now whole) c.loop-session.invariant
