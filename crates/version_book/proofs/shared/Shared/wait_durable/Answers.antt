@@ -1,5 +1,5 @@
 use Rattle.std.proofs.Common.{◌≡◌, ◌≤◌, IfOk, subst}
-use Rattle.overlay_terms.specs.Histories.{Version, newest}
+use Rattle.overlay_terms.specs.Histories.{newest}
 use Rattle.book_history.specs.Known.{seen}
 use Rattle.book_history.specs.Logs.{newest_in}
 use Rattle.version_book.proofs.Results.{looks_err, looks_goes, looks_ok, looks_own, looks_same, sync_refused}
