@@ -21,3 +21,7 @@ loop-column-preserved c =
       | in-None w ↦
           ap (λ v. map finished_of v.items) w.list-is ∙ sym (append-nil (map finished_of list)) ∙ ap (λ o. map finished_of list ++ named_tile name k o) w.in-None.ensures
     ])
+
+-- found by search alone: it stands here so that a wrong body is refused without working out what to write
+pub loop-column-init : goal.loop-column-init
+loop-column-init c = search rules

@@ -1,4 +1,4 @@
-use Rattle.std.proofs.Common.{◌≡◌, ◌+◌, length, OnOk, IfErr, subst}
+use Rattle.std.proofs.Common.{rules, ◌≡◌, ◌+◌, length, OnOk, IfErr, subst}
 use Rattle.store_terms.specs.Image.{Held}
 use Rattle.commit_plan.specs.Fitting.{HasRoom, HasNoRoom}
 use Rattle.root_store.specs.Beginning.{IsReason}
@@ -25,3 +25,7 @@ returns-clause-errors g c =
 pub returns-clause-calls : goal.returns-clause-calls
 returns-clause-calls g c =
     subst (λ (x : Held). OnOk c.begin.result (calls_left c.begin.new.self ≡ length x.layers + length x.tiles + 7)) c.in_ok-image.ensures.value c.begin.ensures.calls
+
+-- found by search alone: it stands here so that a wrong body is refused without working out what to write
+pub returns-in_err-image-clause-stored : goal.returns-in_err-image-clause-stored
+returns-in_err-image-clause-stored g c = search rules
