@@ -1,4 +1,4 @@
-use Rattle.std.proofs.Common.{◌≡◌, true, List, map, sym, ◌∙◌, subst}
+use Rattle.std.proofs.Common.{◌≡◌, true, List, map, sym, ◌∙◌, subst, rules}
 use Rattle.std.specs.Prelude.{IsTrue, Contains}
 use Rattle.std.specs.List.{list_any}
 use Rattle.std.proofs.lemmas.List.Folds.{Any-from_list_any}
@@ -23,3 +23,7 @@ returns-then-is_among c =
 
 pub returns : goal.returns
 returns c = c.in_ok-add_along.ensures (map (λ (m : MarkedSeg). m.seg) c.args.earlier.now)
+
+-- found by search alone: it stands here so that a wrong body is refused without working out what to write
+pub add_along-requires-clause-along : goal.add_along-requires-clause-along
+add_along-requires-clause-along c = search rules

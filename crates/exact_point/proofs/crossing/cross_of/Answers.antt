@@ -33,3 +33,13 @@ returns-in-Equal-clause-none c =
     let value : to_z w128 (of_z w128 c.turn-left.result) ≡ turn_of c.args.a.now c.args.b.now = search (rules, c.turn-left.ensures.value) in
     let level = int_ranked (to_z w128 (of_z w128 c.turn-left.result)) (pos 0) Equal (sym c.in-Equal.is ∙ c.cmp.ensures) in
     λ _. no_turn _ _ (omega (arith, ints, value, level))
+
+-- found by search alone: it stands here so that a wrong body is refused without working out what to write
+pub returns-in-Equal-clause-meets : goal.returns-in-Equal-clause-meets
+returns-in-Equal-clause-meets c = search rules
+
+pub returns-in-Equal-clause-only : goal.returns-in-Equal-clause-only
+returns-in-Equal-clause-only c = search rules
+
+pub returns-in-Equal-clause-value : goal.returns-in-Equal-clause-value
+returns-in-Equal-clause-value c = search rules

@@ -32,3 +32,13 @@ returns-clause-only c =
     let t : to_z w128 (of_z w128 c.lead-along_first.result) ≡ lead_of c.args.a.now c.args.b.now c.args.b.now = search (rules, c.lead-along_first.ensures.value) in
     let w : to_z w128 (of_z w128 c.args.left) ≡ turn_of c.args.a.now c.args.b.now = search (rules, c.requires.value) in
     only_crossing _ _ _ _ (place c.part_way.result) t w c.part_way.ensures
+
+-- found by search alone: it stands here so that a wrong body is refused without working out what to write
+pub part_way-requires-clause-t_low : goal.part_way-requires-clause-t_low
+part_way-requires-clause-t_low c = search rules
+
+pub part_way-requires-clause-t_high : goal.part_way-requires-clause-t_high
+part_way-requires-clause-t_high c = search rules
+
+pub returns-clause-value : goal.returns-clause-value
+returns-clause-value c = search rules
