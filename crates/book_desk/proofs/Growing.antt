@@ -3,7 +3,7 @@ use Rattle.std.proofs.Common.{◌≡◌, ◌⊎◌, ℕ, ◌<◌, ◌≤◌, Lis
 use Rattle.std.specs.List.{All}
 use Rattle.std.proofs.lemmas.List.Elements.{All-cons, All-nil}
 use mathlib.Core.List.{IsPrefix}
-use Rattle.overlay_terms.specs.Histories.{Version, Event, accepted, kept, durable_to, Entry, AllFollow, Follows, last_version, FollowsReport, StaysAtReport, IsReported}
+use Rattle.overlay_terms.specs.Histories.{Version, Event, accepted, kept, durable_to, Entry, AllFollow, Follows, last_version, FollowsReport, IsReported}
 use Rattle.book_history.specs.Logs.{entry, newest_in, IsLog}
 use Rattle.book_desk.specs.Steps.{IsReportedIn}
 use Rattle.book_history.proofs.Chains.{newest_more}

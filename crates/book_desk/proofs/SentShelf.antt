@@ -1,4 +1,4 @@
--- What lies under the lock may go from thread to thread.
+-- A session, and what lies under the lock, may go from thread to thread.
 use denote.RattleType.{RattleType}
 use denote.Param.Send.{IsSend, SendAt, recorded_send, recorded_send_of, recorded_send_at, struct_send, struct_send_at, view_send, sendable}
 use denote.Array.{Array}
@@ -16,7 +16,10 @@ use Rattle.book_desk.specs.contracts.desk.Desk as desk
 use Rattle.book_desk.specs.contracts.desk.Desk.TheInside as inside
 use Rattle.book_desk.specs.contracts.shelf.Shelf as shelf
 use Rattle.book_history.specs.declared.trace.Naming as naming
-use Rattle.book_desk.proofs.standing.Standing.TheSendSync as standing
+use Rattle.book_history.proofs.standing.Standing.TheSendSync as standing
+use Rattle.book_desk.specs.contracts.session.Session as session
+use Rattle.book_history.proofs.trace.Trace.TheSendSync as traces
+use Rattle.std.proofs.Crossing.{crosses}
 use Rattle.std.specs.contracts.alloc.Global as global
 use Rattle.std.specs.contracts.impls.GlobalAllocator.TheImpl as heap
 use Rattle.book_history.specs.contracts.published.PublishedAbsorb.TheImpl as absorb
@@ -25,7 +28,10 @@ use Rattle.book_history.specs.contracts.published.Tale as tale
 use Rattle.book_history.specs.contracts.published.TaleProtocolPublishedTrace.TheImpl as rule
 use Rattle.book_history.specs.contracts.trace.Trace as trace
 use Rattle.left_right.specs.contracts.writer.Writer as writer
-use Rattle.book_history.proofs.Sent.{press_send}
+use Rattle.book_history.proofs.Sent.{place_send, press_send}
+
+pub session_send : IsSend session.the_row
+session_send = search (sendable, crosses, traces.the_send, place_send) depth 20
 
 at : (R : RattleType) → IsSend R → (x : R.Denot) → SendAt R x
 at R s x = (s.owned x, λ k. s.leaving k x)

@@ -1,6 +1,4 @@
 pub mod Jobs
-pub mod Slots
-pub mod Standing
 pub mod Steps
 pub mod Waits
 pub use Rattle.book_history.specs.Fault
@@ -9,3 +7,4 @@ pub use Rattle.book_history.specs.Logs
 pub use Rattle.book_history.specs.Rules
 pub use Rattle.book_history.specs.Trails
 pub use Rattle.book_history.specs.Causes
+pub use Rattle.book_history.specs.Standing

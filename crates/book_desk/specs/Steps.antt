@@ -7,10 +7,10 @@ use Rattle.overlay_terms.specs.Layers.{Name}
 use Rattle.overlay_terms.specs.Tiles.{Input, input_of}
 use Rattle.version_core.specs.Building.{wait_refusal}
 use Rattle.version_core.specs.Finish.{IsAwaited, IsPending}
-use Rattle.book_desk.specs.Slots.{has_mark, has_slot, unmarked_of}
-use Rattle.book_desk.specs.Standing.{HasSlots}
-use Rattle.book_desk.specs.declared.slots.Slot.{Slot}
-use Rattle.book_desk.specs.declared.standing.Standing.{Standing}
+use Rattle.book_history.specs.Slots.{has_mark, has_slot, unmarked_of}
+use Rattle.book_history.specs.Standing.{HasSlots}
+use Rattle.book_history.specs.declared.slots.Slot.{Slot}
+use Rattle.book_history.specs.declared.standing.Standing.{Standing}
 use Rattle.book_history.specs.Known.{Known}
 use Rattle.book_history.specs.Logs.{entry, newest_in, IsLog}
 use Rattle.book_history.specs.Fault.{IfGone}

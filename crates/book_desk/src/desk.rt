@@ -13,12 +13,12 @@ ghost use Rattle.book_history.specs.Logs.{entry, no_event, newest_in, IsLog};
 ghost use Rattle.book_history.specs.Rules.{head_of};
 ghost use Rattle.book_desk.specs.Steps.{HasLooked, HasSeat, IsAcceptedIn, IsLevel, beginners};
 
-use crate::closing::Closed;
+use crate::closed::Closed;
+use crate::session::Session;
 use book_history::entry::Cause;
 use book_history::fault::BookFault;
 use book_history::press::{first_press, new_place, put_out};
 use book_history::published::{Press, Published};
-use book_history::session::Session;
 use book_history::trace::{Head, Naming, Trace};
 use layer_book::command::Command;
 use layer_book::fault::LayerFault;
@@ -31,9 +31,7 @@ use version_core::version::Version;
 const MOST: u64 = 1 << 60;
 
 /// The fault where memory runs out.
-pub(crate) const NO_MEMORY: BookFault = BookFault::Version(VersionFault::Layer(
-    LayerFault::OutOfMemory,
-));
+pub const NO_MEMORY: BookFault = BookFault::Version(VersionFault::Layer(LayerFault::OutOfMemory));
 
 /// What lies under the lock: the log that is published, and how many commands of each session it has.
 pub struct Desk<J: Naming, R: Wait + Drop> {
@@ -65,7 +63,7 @@ impl<J: Naming, R: Wait + Drop> Model for Desk<J, R> {
 
 impl<J: Naming, R: Wait + Drop> Desk<J, R> {
     /// A desk over a log of one version, and sessions that have seen just that.
-    pub(crate) fn open(
+    pub fn open(
         rt: R,
         alloc: Global,
         head: Head,
@@ -111,7 +109,7 @@ impl<J: Naming, R: Wait + Drop> Desk<J, R> {
     }
 
     /// Whether it has all that a session has seen, and just the commands that it made.
-    pub(crate) fn is_level(&self, me: &Session) -> bool
+    pub fn is_level(&self, me: &Session) -> bool
         requires { me.now.book ≡ J.book }
         ensures longer { IsTrue result → IsPrefix me.now.log self.now }
         ensures own { IsTrue result → commands_of me.now.session self.now ≡ me.now.made }
@@ -130,7 +128,7 @@ impl<J: Naming, R: Wait + Drop> Desk<J, R> {
     }
 
     /// A session sees all of it. It does not where that would be less than it has seen, or its commands are others.
-    pub(crate) fn show(&self, me: &mut Session) -> Result<u64, BookFault>
+    pub fn show(&self, me: &mut Session) -> Result<u64, BookFault>
         requires { me.old.book ≡ J.book }
         ensures ok { IfOk result (λ n. HasLooked me.old self.now me.new × ((newest_in self.now).number ≡ n)) }
         ensures err { IfErr result (λ fault. (fault ≡ BookFault.Gone) × (me.new ≡ me.old)) }
@@ -184,7 +182,7 @@ impl<J: Naming, R: Wait + Drop> Desk<J, R> {
     }
 
     /// The newest version and the log. It waits for the readers.
-    pub(crate) fn into_closed(self) -> Closed
+    pub fn into_closed(self) -> Closed
         ensures version { arc_value result.version ≡ newest_in result.trace.log }
         ensures log { (result.trace ≡ record { book = J.book; log = self }) × IsLog result.trace.log }
         ensures durable { All (λ entry. entry.version.durable ≤ (newest_in result.trace.log).durable) result.trace.log }

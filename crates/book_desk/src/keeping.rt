@@ -43,7 +43,7 @@ impl<J: Naming, R: Wait + Drop> Desk<J, R> {
     }
 
     /// Reports a number durable: the one entry that this adds, or nothing. It answers the durable number then.
-    pub(crate) fn report(self, alloc: Global, number: u64) -> (Desk<J, R>, Result<u64, BookFault>)
+    pub fn report(self, alloc: Global, number: u64) -> (Desk<J, R>, Result<u64, BookFault>)
         ensures ok { IfOk result.1 (λ durable. IsReportedIn self number result.0
             × ((newest_in result.0).durable ≡ durable)) }
         ensures err { IfErr result.1 (λ fault. (result.0 ≡ self) × ((fault ≡ no_memory) ⊎ (fault ≡ BookFault.Gone))) }

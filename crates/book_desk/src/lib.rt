@@ -1,12 +1,10 @@
-//! The book under its lock: its log, and where it stands beside it.
+//! A book under its lock: what each call that changes the log does to it, and what its sessions have seen.
 #![tactic(auto)]
 
-pub mod closing;
+pub mod closed;
 pub mod desk;
 mod handing;
 pub mod job;
 mod keeping;
+pub mod session;
 pub mod shelf;
-pub mod slots;
-pub mod standing;
-mod telling;

@@ -6,16 +6,16 @@ ghost use Rattle.layer_book.specs.Command.{command};
 ghost use Rattle.book_history.specs.Fault.{IfGone, IsRefused, no_memory};
 ghost use Rattle.book_history.specs.Logs.{entry, newest_in, no_event, IsLog};
 ghost use Rattle.book_history.specs.Rules.{head_of};
-ghost use Rattle.book_desk.specs.Slots.{given_back};
-ghost use Rattle.book_desk.specs.Standing.{HasSlots, IsAfterClosing, IsAfterCommand, IsAfterFailure, IsAfterFinish};
-ghost use Rattle.book_desk.specs.Standing.{IsFresh};
+ghost use Rattle.book_history.specs.Slots.{given_back};
+ghost use Rattle.book_history.specs.Standing.{HasSlots, IsAfterClosing, IsAfterCommand, IsAfterFailure, IsAfterFinish};
+ghost use Rattle.book_history.specs.Standing.{IsFresh};
 ghost use Rattle.book_desk.specs.Steps.{beginners, HasLooked, IsAcceptedIn, IsFinishedIn};
 
 use crate::desk::Desk;
 use crate::job::Job;
-use crate::standing::Standing;
+use crate::session::Session;
 use book_history::fault::{BookFault, StoreFault};
-use book_history::session::Session;
+use book_history::standing::Standing;
 use book_history::trace::{Head, Naming, Trace};
 use layer_book::command::Command;
 use std::alloc::Global;
@@ -31,29 +31,6 @@ pub struct Shelf<J: Naming, R: Wait + Drop> {
 }
 
 impl<J: Naming, R: Wait + Drop> Shelf<J, R> {
-    /// A book over a log of one version, and sessions that have seen just that.
-    pub fn open(
-        rt: R,
-        alloc: Global,
-        head: Head,
-        trace: Trace,
-        version: Version,
-        store: bool,
-        sessions: usize,
-    ) -> Result<(Shelf<J, R>, Vec<Session>), BookFault>
-        requires head { head ≡ head_of J.book }
-        requires trace { (trace.book ≡ J.book) × (trace.log ≡ entry no_event version ∷ []) }
-        requires sessions { (0 < sessions) × (sessions ≤ 4) }
-        ensures log { IfOk result (λ r. r.0.desk ≡ trace.log) }
-        ensures standing { IfOk result (λ r. IsFresh store r.0.standing) }
-        ensures sessions { IfOk result (λ r. r.1.items ≡ beginners trace sessions) }
-        ensures err { IfErr result (λ fault. (fault ≡ no_memory) ⊎ (fault ≡ BookFault.Gone)) }
-    {
-        let (desk, list) = Desk::open(rt, alloc, head, trace, version, sessions)?;
-        let standing = Standing::new(alloc, store);
-        Ok((Shelf { desk, standing }, list))
-    }
-
     /// Accepts a command of a session: one entry, or none.
     pub fn submit(
         self,
@@ -119,32 +96,5 @@ impl<J: Naming, R: Wait + Drop> Shelf<J, R> {
         standing.job_finished(job.name(), job.input().column().number(), kept);
         job.end();
         (Shelf { desk, standing }, Ok(kept))
-    }
-
-    /// Spends a job whose tile could not be built for want of memory: the tile is marked.
-    pub fn give_back(&mut self, job: Job)
-        requires { job.book ≡ J.book }
-        ensures log { self.new.desk ≡ self.old.desk }
-        ensures standing { HasSlots self.old.standing (given_back job.name job.input.column self.old.standing.slots.list.items) self.new.standing }
-    {
-        self.standing
-            .give_back(job.name(), job.input().column().number());
-        job.end();
-    }
-
-    /// The store told a fault.
-    pub fn store_failed(&mut self, fault: StoreFault)
-        ensures log { self.new.desk ≡ self.old.desk }
-        ensures standing { IsAfterFailure self.old.standing fault self.new.standing }
-    {
-        self.standing.store_failed(fault);
-    }
-
-    /// The book closes from now on.
-    pub fn begin_close(&mut self)
-        ensures log { self.new.desk ≡ self.old.desk }
-        ensures standing { IsAfterClosing self.old.standing self.new.standing }
-    {
-        self.standing.begin_close();
     }
 }

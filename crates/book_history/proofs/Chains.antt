@@ -1,10 +1,9 @@
 -- Logs that gain an entry, and the commands in them.
-use Rattle.std.proofs.Common.{◌≡◌, ℕ, ◌+◌, ◌<◌, ◌≤◌, List, [], ◌∷◌, ◌++◌, length, refl, ap, sym, ◌∙◌, arith, Option, Some, None}
+use Rattle.std.proofs.Common.{◌≡◌, ℕ, ◌<◌, List, [], ◌∷◌, ◌++◌, length, refl, ap, sym, arith}
 use Rattle.std.proofs.lemmas.List.Elements.{filter_map-append}
 use mathlib.Core.List.{IsPrefix}
-use Rattle.overlay_terms.specs.Commands.{Command}
-use Rattle.overlay_terms.specs.Histories.{Version, Event, accepted, kept, durable_to, Entry, History, IsHistory, BeginsWith, GoesOnBy, Follows, AllFollow, last_version, newest, own_command, commands_of}
-use Rattle.book_history.specs.Logs.{entry, no_event, log_of, history_of, IsLog, newest_in}
+use Rattle.overlay_terms.specs.Histories.{Version, Event, Entry, IsHistory, BeginsWith, Follows, AllFollow, last_version, own_command, commands_of}
+use Rattle.book_history.specs.Logs.{entry, log_of, history_of, IsLog, newest_in}
 
 pub last_more : (v : Version) (xs : List Entry) (e : Entry) → last_version v (xs ++ e ∷ []) ≡ e.version
 last_more v [] e = refl

@@ -2,6 +2,8 @@ pub mod Adding
 pub mod Chains
 pub mod Fronts
 pub mod Gone
+pub mod Holding
+pub mod Marking
 pub mod Owned
 pub mod Sent
 pub mod Trails

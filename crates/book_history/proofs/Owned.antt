@@ -1,13 +1,12 @@
 -- What a session made, in a longer log.
-use Rattle.std.proofs.Common.{Bool, eq-eqb, ◌≡◌, ℕ, ◌+◌, ◌≤◌, List, [], ◌∷◌, ◌++◌, length, take, refl, ap, sym, ◌∙◌, subst, arith, append_assoc, length-append, Option, Some, None, if◌then◌else◌}
+use Rattle.std.proofs.Common.{Bool, eq-eqb, ◌≡◌, ℕ, ◌+◌, ◌≤◌, List, [], ◌∷◌, ◌++◌, length, take, refl, ap, sym, ◌∙◌, arith, length-append, Option, Some, None, if◌then◌else◌}
 use Rattle.std.specs.List.{cons_option}
 use Rattle.std.proofs.lemmas.List.{take-append-le, take_all, append-nil}
 use mathlib.Core.List.{IsPrefix}
 use Rattle.overlay_terms.specs.Commands.{Command}
 use Rattle.overlay_terms.specs.Histories.{Entry}
 use Rattle.overlay_terms.specs.Histories.{Version}
-use Rattle.overlay_terms.specs.Histories.{Event}
-use Rattle.overlay_terms.specs.Histories.{accepted, kept, durable_to, own_command, commands_of}
+use Rattle.overlay_terms.specs.Histories.{accepted, own_command, commands_of}
 use Rattle.book_history.specs.Logs.{entry}
 use Rattle.book_history.proofs.Chains.{own-append}
 

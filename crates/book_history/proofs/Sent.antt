@@ -20,7 +20,6 @@ use Rattle.layer_book.specs.contracts.layer.Layer as layer
 use Rattle.layer_expr.specs.contracts.expr.Expr as expr
 use Rattle.version_core.specs.contracts.version.Version as version
 use Rattle.version_core.proofs.tiles.FinishedTile.TheSendSync as finished
-use Rattle.book_history.specs.contracts.session.Session as session
 use Rattle.book_history.specs.contracts.published.PublishedAbsorb.TheImpl as absorb
 use Rattle.book_history.specs.contracts.published.Published as published
 use Rattle.book_history.specs.contracts.published.Tale as tale
@@ -73,6 +72,3 @@ place_send = readers.the_send published.the_row trace.the_row tale.the_row globa
 
 pub press_send : IsSend (writer.the_row published.the_row published.the_row trace.the_row tale.the_row global.the_row trace.the_row absorb.ghosts rule.ghosts heap.ghosts)
 press_send = writers.the_send published.the_row published.the_row trace.the_row tale.the_row global.the_row trace.the_row absorb.ghosts rule.ghosts heap.ghosts published_send published_send send published_sync sync frees
-
-pub session_send : IsSend session.the_row
-session_send = search (sendable, crosses, traces.the_send, place_send) depth 20

@@ -1,12 +1,9 @@
 -- A step that only adds to the published log keeps the rule.
-use Rattle.std.proofs.Common.{◌≡◌, ℕ, ◌<◌, ◌≤◌, ◌≢◌, List, [], ◌∷◌, ◌++◌, length, set, refl, sym, ◌∙◌, subst, ⊎_elim, arith}
+use Rattle.std.proofs.Common.{◌≡◌, ℕ, ◌<◌, ◌≢◌, List, length, set, refl, sym, ◌∙◌, subst, ⊎_elim, arith}
 use mathlib.Core.Option.{some}
-use mathlib.Core.List.{IsPrefix}
 use lib.ListN.{get_elem?}
 use Rattle.crossbeam_utils.specs.Register.{Admits, TurnsAt, Forks, Merges}
 use Rattle.atomic_table.proofs.Lists.{at_set, at_snoc, set_again}
-use Rattle.logbook.specs.Pages.{Book}
-use Rattle.overlay_terms.specs.Histories.{Entry}
 use Rattle.book_history.specs.Trails.{Trail, newcomer, Within, AllWithin, Begins, IsOf}
 use Rattle.book_history.proofs.Fronts.{prefix_self, prefix_trans, prefix_length}
 

@@ -1,10 +1,12 @@
-//! One history that threads share, and what each token has seen of it.
+//! One history that threads share, what the reporter has seen of it, and where a book stands beside its log.
 #![tactic(auto)]
 
 pub mod entry;
 pub mod fault;
+pub mod pending;
 pub mod press;
 pub mod published;
 pub mod reporter;
-pub mod session;
+pub mod slots;
+pub mod standing;
 pub mod trace;

@@ -3,13 +3,13 @@ use Rattle.std.proofs.Common.{◌≡◌, ℕ, ◌<◌, ◌≤◌, Bool, true, Li
 use mathlib.Core.List.{IsPrefix}
 use Rattle.overlay_terms.specs.Commands.{Command}
 use Rattle.overlay_terms.specs.Layers.{Name}
-use Rattle.overlay_terms.specs.Histories.{Version, Entry, History, accepted, commands_of, newest, BeginsWith}
+use Rattle.overlay_terms.specs.Histories.{Version, Entry, accepted, commands_of, newest, BeginsWith}
 use Rattle.book_history.specs.Logs.{entry, newest_in, history_of, IsAccepted, IsLog}
 use Rattle.book_history.specs.Fault.{IfGone, IsRefused}
 use Rattle.book_history.specs.Known.{Known, Heard, seen, IsOwn}
 use Rattle.book_desk.specs.Steps.{HasLooked, IsReportedIn, Looks}
 use Rattle.book_desk.specs.Waits.{IsSyncRefused, IsSyncRefusedAt, IsWaitRefused}
-use Rattle.book_desk.specs.declared.standing.Standing.{Standing}
+use Rattle.book_history.specs.declared.standing.Standing.{Standing}
 use Rattle.book_history.specs.declared.fault.BookFault.{BookFault}
 use Rattle.book_history.specs.declared.fault.BookFault.TheVariants as fault
 use Rattle.book_history.proofs.Chains.{begins_with, commands_in_log}

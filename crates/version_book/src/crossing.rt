@@ -1,6 +1,6 @@
 //! Sessions, and the book under its lock, go to threads.
 use crate::shared::Shared;
-use book_history::session::Session;
+use book_desk::session::Session;
 use book_history::trace::Naming;
 use std::sync::Wait;
 

@@ -1,13 +1,11 @@
 //! Published versions: the book that threads share, its sessions, its reporter and its jobs.
 #![tactic(auto)]
 
+pub mod closing;
 pub mod crossing;
+mod opening;
 pub mod shared;
-
-/// What is left of a book that closes.
-pub mod closing {
-    pub use book_desk::closing::Closed;
-}
+mod telling;
 
 /// A tile that is handed out.
 pub mod job {
@@ -26,7 +24,7 @@ pub mod reporter {
 
 /// A session: what it has seen and made.
 pub mod session {
-    pub use book_history::session::Session;
+    pub use book_desk::session::Session;
 }
 
 /// A beginning of the history that was seen.

@@ -14,12 +14,17 @@ ghost use Rattle.book_desk.specs.Steps.{beginners, HasAllOf};
 ghost use Rattle.book_desk.specs.Waits.{IsBuilding, IsBuiltAt, IsIdle, IsQuiet, IsSyncRefused, IsWaitRefused};
 ghost use Rattle.book_desk.specs.Waits.{IsWriting};
 
-use book_desk::closing::Closed;
+use crate::closing::{Closed, begin_close, has_all_of, into_closed};
+use crate::opening::open;
+use crate::telling::{
+    is_building, is_idle, is_quiet, is_writing, report, store_failed, tell_built, tell_durable,
+    tell_news,
+};
 use book_desk::job::Job;
+use book_desk::session::Session;
 use book_desk::shelf::Shelf;
 use book_history::fault::{BookFault, StoreFault};
 use book_history::reporter::Reporter;
-use book_history::session::Session;
 use book_history::trace::{Head, Naming, Trace};
 use layer_book::command::Command;
 use layer_expr::name::Name;
@@ -57,7 +62,7 @@ impl<J: Naming, R: Wait + Drop> Shared<J, R> {
         ensures err { IfErr result (λ fault. (fault ≡ no_memory) ⊎ (fault ≡ BookFault.Gone)) }
     {
         let reporter = Reporter::new(trace.again());
-        let (shelf, list) = Shelf::open(rt, alloc, head, trace, version, store, sessions)?;
+        let (shelf, list) = open(rt, alloc, head, trace, version, store, sessions)?;
         let shared = Shared {
             shelf: Mutex::new(Some(shelf)),
             changed: Condvar::new(),
@@ -169,7 +174,7 @@ impl<J: Naming, R: Wait + Drop> Shared<J, R> {
             .changed
             .wait_while(rt, self.shelf.lock(rt), |shelf| is_building(shelf, name));
         match &mut *guard {
-            Some(shelf) => shelf.tell_built(me, name),
+            Some(shelf) => tell_built(shelf, me, name),
             None => Err(BookFault::Gone),
         }
     }
@@ -190,7 +195,7 @@ impl<J: Naming, R: Wait + Drop> Shared<J, R> {
             .changed
             .wait_while(rt, self.shelf.lock(rt), |shelf| is_writing(shelf, number));
         match &*guard {
-            Some(shelf) => shelf.tell_durable(me, number),
+            Some(shelf) => tell_durable(shelf, me, number),
             None => Err(BookFault::Gone),
         }
     }
@@ -216,7 +221,7 @@ impl<J: Naming, R: Wait + Drop> Shared<J, R> {
             .changed
             .wait_while(rt, self.shelf.lock(rt), |shelf| is_quiet(shelf, given));
         match &*guard {
-            Some(shelf) => shelf.tell_news(me),
+            Some(shelf) => tell_news(shelf, me),
             None => Err(BookFault::Gone),
         }
     }
@@ -241,7 +246,7 @@ impl<J: Naming, R: Wait + Drop> Shared<J, R> {
         let Some(shelf) = guard.take() else {
             return Err(BookFault::Gone);
         };
-        let (shelf, done) = shelf.report(alloc, me, number);
+        let (shelf, done) = report(shelf, alloc, me, number);
         *guard = Some(shelf);
         self.changed.notify_all();
         done
@@ -255,17 +260,17 @@ impl<J: Naming, R: Wait + Drop> Shared<J, R> {
         let _given = me.given();
         let mut guard = self.shelf.lock(rt);
         if let Some(shelf) = &mut *guard {
-            shelf.store_failed(fault);
+            store_failed(shelf, fault);
         }
         self.changed.notify_all();
     }
 
     /// From now on commands are refused, no job is handed out, and no call waits for long.
-    // It has no clause: it gives nothing, and that the book closes is said under the lock, by `Shelf::begin_close`.
+    // It has no clause: it gives nothing, and that the book closes is said under the lock, by `begin_close` there.
     pub fn begin_close<W: Wait>(&self, rt: &W) {
         let mut guard = self.shelf.lock(rt);
         if let Some(shelf) = &mut *guard {
-            shelf.begin_close();
+            begin_close(shelf);
         }
         self.changed.notify_all();
     }
@@ -288,10 +293,10 @@ impl<J: Naming, R: Wait + Drop> Shared<J, R> {
         let Some(shelf) = shelf.into_inner() else {
             never(rt)
         };
-        if !shelf.has_all_of(reporter, sessions) {
+        if !has_all_of(&shelf, reporter, sessions) {
             never(rt)
         }
-        shelf.into_closed()
+        into_closed(shelf)
     }
 }
 
@@ -299,40 +304,4 @@ impl<J: Naming, R: Wait + Drop> Shared<J, R> {
 fn never<W: Wait>(rt: &W) -> ! {
     for _ in rt.forever() {}
     unreachable!()
-}
-
-fn is_idle<J: Naming, R: Wait + Drop>(shelf: &Option<Shelf<J, R>>) -> bool
-    ensures { IfSome shelf.now (λ shelf. IsTrue result ↔ IsIdle (newest_in shelf.desk) shelf.standing) }
-{
-    match shelf {
-        Some(shelf) => shelf.is_idle(),
-        None => false,
-    }
-}
-
-fn is_building<J: Naming, R: Wait + Drop>(shelf: &Option<Shelf<J, R>>, name: &Name) -> bool
-    ensures { IfSome shelf.now (λ shelf. IsTrue result ↔ IsBuilding (newest_in shelf.desk) shelf.standing name.now) }
-{
-    match shelf {
-        Some(shelf) => shelf.is_building(name),
-        None => false,
-    }
-}
-
-fn is_writing<J: Naming, R: Wait + Drop>(shelf: &Option<Shelf<J, R>>, number: u64) -> bool
-    ensures { IfSome shelf.now (λ shelf. IsTrue result ↔ IsWriting (newest_in shelf.desk) shelf.standing number) }
-{
-    match shelf {
-        Some(shelf) => shelf.is_writing(number),
-        None => false,
-    }
-}
-
-fn is_quiet<J: Naming, R: Wait + Drop>(shelf: &Option<Shelf<J, R>>, given: u64) -> bool
-    ensures { IfSome shelf.now (λ shelf. IsTrue result ↔ IsQuiet shelf.standing given) }
-{
-    match shelf {
-        Some(shelf) => shelf.is_quiet(given),
-        None => false,
-    }
 }

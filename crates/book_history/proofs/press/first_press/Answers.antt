@@ -1,4 +1,4 @@
-use Rattle.std.proofs.Common.{◌≡◌, ◌<◌, length, ap, sym, ◌∙◌, subst}
+use Rattle.std.proofs.Common.{◌<◌, length, ap, sym, ◌∙◌, subst}
 use Rattle.book_history.specs.Trails.{Trail}
 use Rattle.book_history.proofs.Trails.{begins_same}
 use Rattle.book_history.proofs.press.first_press.Goals as goal

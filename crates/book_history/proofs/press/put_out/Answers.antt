@@ -1,4 +1,4 @@
-use Rattle.std.proofs.Common.{◌≡◌, drop, [], ◌∷◌, refl, sym, ap, ◌∙◌, subst}
+use Rattle.std.proofs.Common.{◌≡◌, sym, ap, subst}
 use Rattle.book_history.specs.Trails.{Trail, Begins}
 use Rattle.book_history.proofs.Trails.{grows}
 use Rattle.book_history.proofs.press.put_out.Goals as goal

@@ -1,5 +1,4 @@
-use Rattle.std.proofs.Common.{◌≡◌, ap, sym, ◌∙◌, subst}
-use Rattle.std.specs.Arc.{arc_value}
+use Rattle.std.proofs.Common.{ap, sym, ◌∙◌, subst}
 use Rattle.overlay_terms.specs.Histories.{kept, FollowsTile}
 use Rattle.version_core.specs.Finish.{IfKept}
 use Rattle.book_history.specs.Logs.{newest_in}

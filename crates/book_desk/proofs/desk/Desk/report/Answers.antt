@@ -1,4 +1,4 @@
-use Rattle.std.proofs.Common.{◌≡◌, ◌⊎◌, ◌<◌, ◌≤◌, ap, sym, ◌∙◌, subst, refl, arith, inl, inr}
+use Rattle.std.proofs.Common.{◌⊎◌, ◌<◌, ◌≤◌, ap, sym, ◌∙◌, subst, refl, arith, inl, inr}
 use Rattle.overlay_terms.specs.Histories.{FollowsReport, IsReported}
 use Rattle.book_history.specs.Logs.{newest_in}
 use Rattle.book_desk.proofs.Growing.{newest_of, told_by, reports}

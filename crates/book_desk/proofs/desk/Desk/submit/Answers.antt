@@ -1,9 +1,9 @@
-use Rattle.std.proofs.Common.{◌≡◌, ◌++◌, ◌∷◌, [], length, ap, sym, ◌∙◌, subst, refl, arith}
+use Rattle.std.proofs.Common.{length, ap, sym, ◌∙◌, subst, refl, arith}
 use mathlib.Core.List.{IsPrefix}
 use Rattle.std.specs.Arc.{arc_value}
 use Rattle.overlay_terms.specs.Histories.{accepted, commands_of, FollowsCommand}
 use Rattle.layer_book.specs.Command.{command}
-use Rattle.book_history.specs.Logs.{entry, newest_in}
+use Rattle.book_history.specs.Logs.{newest_in}
 use Rattle.book_history.proofs.Fronts.{prefix_trans}
 use Rattle.book_desk.proofs.Growing.{newest_of, told_by}
 use Rattle.book_history.proofs.Owned.{own_le, own_then}

@@ -1,5 +1,5 @@
-use Rattle.std.proofs.Common.{sym, ◌∙◌, ap, ◌≡◌, subst, List}
-use Rattle.book_history.specs.Logs.{IsLog, entry}
+use Rattle.std.proofs.Common.{sym, ◌∙◌, ap}
+use Rattle.book_history.specs.Logs.{entry}
 use Rattle.book_history.specs.Causes.{event_of}
 use Rattle.book_history.proofs.Adding.{adds_moves}
 use Rattle.book_history.proofs.Chains.{log_more}

@@ -1,4 +1,4 @@
-use Rattle.std.proofs.Common.{◌≤◌, ap, subst, arith, length, List}
+use Rattle.std.proofs.Common.{◌≤◌, ap, subst, length, List}
 use mathlib.Core.List.{IsPrefix}
 use Rattle.overlay_terms.specs.Histories.{Entry}
 use Rattle.book_history.proofs.Fronts.{prefix_shorter}

@@ -1,7 +1,4 @@
-use Rattle.overlay_terms.specs.Histories.{accepted, FollowsCommand}
-use Rattle.std.proofs.Common.{◌≡◌, ◌++◌, ◌∷◌, []}
 use Rattle.layer_book.specs.Command.{command}
-use Rattle.book_history.specs.Logs.{entry, newest_in}
 use Rattle.version_book.proofs.Results.{accepts, submit_goes, submit_made, submit_own, submit_err, submit_refused}
 use Rattle.version_book.proofs.shared.Shared.submit.Goals as goal
 

@@ -1,8 +1,0 @@
-use Rattle.std.proofs.Common.{take}
-use Rattle.std.specs.List.{All}
-use Rattle.book_desk.specs.Steps.{HasAllOf}
-use Rattle.book_desk.proofs.desk.Desk.has_all_of.Given as goal
-
--- the log has all of the sessions before this one
-abbrev pub invariant-loop-session : goal.invariant-loop-session
-invariant-loop-session g l = All (λ session. HasAllOf l.self session) (take l.session-index l.sessions)

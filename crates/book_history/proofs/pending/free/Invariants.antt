@@ -1,0 +1,12 @@
+use Rattle.std.proofs.Common.{take}
+use Rattle.std.specs.Prelude.{IsTrue}
+use Rattle.std.specs.List.{All}
+use Rattle.overlay_terms.specs.Layers.{Layer}
+use Rattle.overlay_terms.specs.Commands.{stands_as_derived}
+use Rattle.book_history.specs.Free.{AreHeld}
+use Rattle.book_history.proofs.pending.free.Given as goal
+
+-- the tiles of the layers before this one are finished or held
+abbrev pub invariant-loop-place : goal.invariant-loop-place
+invariant-loop-place l =
+    All (λ (layer : Layer). IsTrue (stands_as_derived l.layers layer.name) → AreHeld l.version l.slots.list.items layer.name) (take l.place l.layers)

@@ -1,0 +1,63 @@
+//! Tiles that are pending, and neither handed out nor marked.
+ghost use Rattle.std.specs.Prelude.{◌≡◌, ◌<◌, None, false, IfOk, IfSome, IfNone};
+ghost use Rattle.overlay_terms.specs.Column.{column_count};
+ghost use Rattle.overlay_terms.specs.Histories.{tile_at};
+ghost use Rattle.overlay_terms.specs.Tiles.{input_of};
+ghost use Rattle.book_history.specs.Free.{AllAreHeld, AreHeld, IsFree};
+ghost use Rattle.book_history.specs.Slots.{has_slot};
+
+use crate::slots::Slots;
+use arrange::tile_input::TileInput;
+use layer_expr::name::Name;
+use plane_base::COLUMN_COUNT;
+use std::alloc::{AllocError, Global};
+use version_core::version::Version;
+
+/// A pending tile of a version that is neither handed out nor marked.
+pub fn free<'a>(version: &'a Version, slots: &Slots) -> Option<(&'a Name, u8)>
+    ensures some { IfSome result (λ r. IsFree version.now slots.now.list.items r.0.now r.1) }
+    ensures none { IfNone result (AllAreHeld version.now slots.now.list.items) }
+{
+    let layers = version.layers();
+    for place in 0..layers.len() {
+        if let Some((name, _layer)) = layers.at(place) {
+            if layers.stands_as_derived(name) {
+                if let Some(column) = free_column(version, slots, name) {
+                    return Some((name, column));
+                }
+            }
+        }
+    }
+    None
+}
+
+// The same among the columns of a layer.
+fn free_column(version: &Version, slots: &Slots, name: &Name) -> Option<u8>
+    ensures pending { IfSome result (λ column. tile_at version.now.tiles name.now column ≡ None) }
+    ensures column { IfSome result (λ column. column < column_count) }
+    ensures free { IfSome result (λ column. has_slot name.now column slots.now.list.items ≡ false) }
+    ensures none { IfNone result (AreHeld version.now slots.now.list.items name.now) }
+{
+    for column in 0..COLUMN_COUNT {
+        if version.tile(name, column).is_none() && !slots.has(name, column) {
+            return Some(column);
+        }
+    }
+    None
+}
+
+/// A copy of a tile's name, and the tile's input.
+pub fn parts(
+    version: &Version,
+    alloc: Global,
+    name: &Name,
+    column: u8,
+) -> Result<(Name, TileInput), AllocError>
+    ensures { IfOk result (λ r. (r.0 ≡ name.now) × (r.1 ≡ input_of version.now.layers name.now column)) }
+{
+    let copy = name.clone()?;
+    match version.layers().input(alloc, name, column) {
+        Ok(input) => Ok((copy, input)),
+        Err(_) => Err(AllocError),
+    }
+}

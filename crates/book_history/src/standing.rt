@@ -1,0 +1,108 @@
+//! Where the book stands beside its log.
+ghost use Rattle.std.specs.Prelude.{◌≡◌};
+ghost use Rattle.book_history.specs.Slots.{given_back, unmarked_of};
+ghost use Rattle.book_history.specs.Standing.{HasSlots, IsAfterClosing, IsAfterCommand, IsAfterFailure, IsAfterFinish};
+ghost use Rattle.book_history.specs.Standing.{IsFresh, left_over, told};
+
+use crate::fault::StoreFault;
+use crate::slots::Slots;
+use layer_expr::name::Name;
+use std::alloc::Global;
+
+/// What lies under the lock beside the log.
+#[derive(Drop)]
+pub struct Standing {
+    pub slots: Slots,
+    /// Whether there is a store.
+    pub store: bool,
+    /// What the store told, while it stands.
+    pub fault: Option<StoreFault>,
+    /// Whether the reporter waits for an accepted command.
+    pub resting: bool,
+    pub closing: bool,
+    /// Counts accepted commands and kept tiles, which are news to the reporter.
+    pub news: u64,
+}
+
+impl Standing {
+    /// No tile is handed out or marked, and the store told of nothing.
+    pub fn new(alloc: Global, store: bool) -> Standing
+        ensures { IsFresh store result }
+    {
+        Standing {
+            slots: Slots::new(alloc),
+            store,
+            fault: None,
+            resting: false,
+            closing: false,
+            news: 0,
+        }
+    }
+
+    /// A command was accepted.
+    pub fn command_accepted(&mut self)
+        ensures { IsAfterCommand self.old self.new }
+    {
+        self.slots.unmark();
+        self.fault = left_over(self.fault);
+        self.resting = false;
+        self.news = self.news.wrapping_add(1);
+    }
+
+    /// The job of a tile was spent, and the tile was kept or not.
+    pub fn job_finished(&mut self, name: &Name, column: u8, kept: bool)
+        ensures { IsAfterFinish self.old name.now column kept self.new }
+    {
+        self.slots.take_in(name, column);
+        if kept {
+            self.news = self.news.wrapping_add(1);
+        }
+    }
+
+    /// The store told a fault.
+    pub fn store_failed(&mut self, fault: StoreFault)
+        ensures { IsAfterFailure self.old fault self.new }
+    {
+        self.fault = told(self.fault, fault);
+        self.resting = true;
+    }
+
+    /// A tile that was handed out was given back: it is marked.
+    pub fn give_back(&mut self, name: &Name, column: u8)
+        ensures { HasSlots self.old (given_back name.now column self.old.slots.list.items) self.new }
+    {
+        self.slots.give_back(name, column);
+    }
+
+    /// A wait for the tiles of a layer was told of its marks, which go.
+    pub fn unmark_of(&mut self, name: &Name)
+        ensures { HasSlots self.old (unmarked_of name.now self.old.slots.list.items) self.new }
+    {
+        self.slots.unmark_of(name);
+    }
+
+    /// The book closes from now on.
+    pub fn begin_close(&mut self)
+        ensures { IsAfterClosing self.old self.new }
+    {
+        self.closing = true;
+    }
+}
+
+fn left_over(old: Option<StoreFault>) -> Option<StoreFault>
+    ensures { result ≡ left_over old }
+{
+    match old {
+        Some(fault) => if fault.passes() { None } else { old },
+        None => None,
+    }
+}
+
+fn told(old: Option<StoreFault>, fault: StoreFault) -> Option<StoreFault>
+    ensures { result ≡ told old fault }
+{
+    match old {
+        Some(first) => if first.passes() { Some(fault) } else { old },
+        None => Some(fault),
+    }
+}
