@@ -1,4 +1,4 @@
-use Rattle.std.proofs.Common.{◌≡◌, ◌%◌, ◌==◌, List, map, count_by, Some, Bool, ap, sym, ◌∙◌}
+use Rattle.std.proofs.Common.{◌≡◌, ◌%◌, ◌==◌, List, map, count_by, Some, Bool, ap, sym, ◌∙◌, rules}
 use Rattle.overlay_terms.specs.Plane.{Point}
 use Rattle.overlay_terms.specs.TileLaws.{is_pair_below}
 use Rattle.exact_point.specs.NamedPiece.{NamedPiece, ends_of}
@@ -14,3 +14,7 @@ returns-in-Pieces c =
     ∙ ap (λ (p : Point). count_by (is_pair_below p) (map ends_of c.deref.result.now) % 2 == 1) c.point.ensures
     ∙ ap (λ (ps : List NamedPiece). count_by (is_pair_below q) (map ends_of ps) % 2 == 1) c.deref.ensures.value in
     ap (λ (b : Bool). Some b) odd ∙ ap (λ (t : Tile). answer_of (tile_of t) q) (sym c.in-Pieces.is)
+
+-- found by search alone: it stands here so that a wrong body is refused without working out what to write
+pub returns-in-Oversize : goal.returns-in-Oversize
+returns-in-Oversize c = search rules
