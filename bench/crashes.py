@@ -525,7 +525,7 @@ pub fn run(alloc: Global, seed: u64, counts: &mut Counts) -> Result<(), Fail> {
 
 CRATES = (
     "crash_bench: overlay_terms plane_base wkt_form exact_point tile_laws layer_expr arrange tile_build layer_book version_core"
-    " disk_model extent_map store_terms record_form root_reading commit_plan root_store flush_core overlay_engine\n"
+    " disk_model extent_map store_terms record_bytes record_form root_reading commit_plan root_store flush_core overlay_engine\n"
 )
 
 

@@ -110,7 +110,7 @@ fn write_often(alloc: Global, tile: &Tile, times: u32) -> Result<usize, Fail>
 }
 
 /// Reads a tile, and writes it so many times.
-#[tactic(auto, using(record_form::proofs::StoredLemmas::read_has_form))]
+#[tactic(auto, using(record_bytes::proofs::StoredLemmas::read_has_form))]
 fn write_tiles(alloc: Global, record: &[u8], times: u32) -> Result<usize, Fail> {
     let tile = read_tile(alloc, COLUMN, record)?;
     write_often(alloc, &tile, times)
@@ -162,7 +162,7 @@ fn main(rt: HostRuntime) -> Result<(), Fail> {
 """
 
 CRATES = (
-    "store_bench: overlay_terms plane_base layer_expr disk_model extent_map store_terms tile_build layer_book record_form root_reading commit_plan root_store\n"
+    "store_bench: overlay_terms plane_base layer_expr disk_model extent_map store_terms tile_build layer_book record_bytes record_form root_reading commit_plan root_store\n"
 )
 
 

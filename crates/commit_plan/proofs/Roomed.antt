@@ -9,8 +9,8 @@ use Rattle.extent_map.specs.Taken.{taken_of}
 use Rattle.store_terms.specs.Catalog.{catalog}
 use Rattle.store_terms.specs.Image.{Held}
 use Rattle.tile_build.specs.Tile.{finished_of}
-use Rattle.record_form.specs.Listing.{listing_of, IsListable}
-use Rattle.record_form.specs.declared.catalog.Listed as code
+use Rattle.record_bytes.specs.Listing.{listing_of, IsListable}
+use Rattle.record_bytes.specs.declared.catalog.Listed as code
 use Rattle.commit_plan.specs.declared.room.Room.{Room}
 use Rattle.commit_plan.specs.declared.draft.Draft.{Draft}
 use Rattle.commit_plan.specs.Drafting.{ArePlanned}

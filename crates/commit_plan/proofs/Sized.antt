@@ -12,7 +12,7 @@ use Rattle.extent_map.specs.declared.extent.Extent as runs
 use Rattle.extent_map.specs.FirstFit.{IsFull}
 use Rattle.layer_book.proofs.Wanted.{index_at}
 use Rattle.tile_build.specs.Tile.{finished_of}
-use Rattle.record_form.specs.Tiles.{named_by}
+use Rattle.record_bytes.specs.Tiles.{named_by}
 use Rattle.store_terms.specs.TileRecord.{named_tile}
 use Rattle.commit_plan.specs.declared.draft.Draft.{Draft}
 use Rattle.commit_plan.specs.Drafting.{ArePlaced}

@@ -9,7 +9,7 @@ use Rattle.store_terms.specs.BaseRecord as bases
 use Rattle.store_terms.specs.TileRecord.{named_tile}
 use Rattle.store_terms.specs.Image.{Held}
 use Rattle.tile_build.specs.Tile.{finished_of}
-use Rattle.record_form.specs.Tiles.{named_by}
+use Rattle.record_bytes.specs.Tiles.{named_by}
 
 -- a layer's own record: its rings, or its expression
 abbrev pub own_record : Content → List ℕ

@@ -14,7 +14,7 @@ use crate::fault::StoreFault;
 use crate::filing::file_layers;
 use crate::next::Next;
 use crate::room::Room;
-use record_form::image::Image;
+use record_bytes::image::Image;
 use std::alloc::Global;
 use store_terms::root::Root;
 

@@ -1,10 +1,10 @@
 //! The records of an image, each put in its place.
-ghost use Rattle.std.specs.Prelude.{◌≡◌, ◌⊎◌, ◌+◌, ◌<◌, ◌≤◌, ◌++◌, ℕ, List, [], length, map, flat_map, All, IfOk, IfErr, IsErrOf, IsTrue, IsFalse};
+ghost use Rattle.std.specs.Prelude.{◌≡◌, ◌⊎◌, ◌+◌, ◌<◌, ℕ, List, [], length, map, flat_map, All, IfOk, IfErr, IsErrOf, IsTrue, IsFalse};
 ghost use Rattle.overlay_terms.specs.Column.{column_count};
 ghost use Rattle.extent_map.specs.declared.extent.Extent as runs;
 ghost use Rattle.extent_map.specs.FirstFit.{IsFull};
 ghost use Rattle.tile_build.specs.Tile.{finished_of};
-ghost use Rattle.record_form.specs.Listing.{listed_of, listing_of, IsListable};
+ghost use Rattle.record_bytes.specs.Listing.{listed_of, listing_of, IsListable};
 ghost use Rattle.commit_plan.specs.Filing.{Filed};
 ghost use Rattle.commit_plan.specs.Drafting.{ArePlaced, IsDraft};
 ghost use Rattle.commit_plan.specs.Sizes.{sizes_of_layer};
@@ -17,10 +17,10 @@ use layer_book::layer::Layer;
 use layer_book::layers::Layers;
 use layer_expr::name::Name;
 use plane_base::COLUMN_COUNT;
-use record_form::base_record::write_base;
-use record_form::catalog::{Listed, Records};
-use record_form::definition_record::write_definition;
-use record_form::tile_record::write_tile;
+use record_bytes::base_writing::write_base;
+use record_bytes::catalog::{Listed, Records};
+use record_bytes::definition_writing::write_definition;
+use record_bytes::tile_writing::write_tile;
 use std::alloc::Global;
 use store_terms::root::Extent;
 use tile_build::Tile;

@@ -1,5 +1,5 @@
 //! The blocks that a root takes.
-ghost use Rattle.std.specs.Prelude.{◌≡◌, ◌⊎◌, ◌+◌, ◌^◌, ◌<◌, ◌≤◌, ◌∷◌, List, IsOk, IfOk, IfErr, IsErrOf};
+ghost use Rattle.std.specs.Prelude.{◌≡◌, ◌⊎◌, ◌^◌, ◌<◌, ◌∷◌, List, IsOk, IfOk, IfErr, IsErrOf};
 ghost use Rattle.extent_map.specs.declared.extent.Extent as runs;
 ghost use Rattle.extent_map.specs.Extents.{AreApart, AreAlike};
 ghost use Rattle.extent_map.specs.FirstFit.{IsFirstFit, NoFit, blocks_for};

@@ -7,7 +7,7 @@ ghost use Rattle.flush_core.specs.Stored.{IsImageOf};
 
 use layer_expr::name::Name;
 use plane_base::COLUMN_COUNT;
-use record_form::image::Image;
+use record_bytes::image::Image;
 use std::alloc::{AllocError, Global};
 use tile_build::tile::Tile;
 use version_core::version::Version;

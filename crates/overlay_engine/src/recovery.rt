@@ -15,7 +15,7 @@ use crate::engine::Engine;
 use commit_plan::fault::StoreFault;
 use disk_model::disk::Disk;
 use flush_core::flusher::Flusher;
-use record_form::image::Image;
+use record_bytes::image::Image;
 use root_store::commit::Commit;
 use root_store::open_fault::OpenFault;
 use root_store::opening::open;

@@ -8,12 +8,12 @@ use Rattle.overlay_terms.specs.Layers.{Name}
 use Rattle.overlay_terms.proofs.NameLemmas.{same_name}
 use Rattle.layer_expr.specs.declared.fault.ExprFault.{ExprFault}
 use Rattle.layer_expr.specs.Grammar.{ReadsAs, IsRefusedBy}
-use Rattle.layer_expr.specs.Spelling.{expression_text, IsExpression}
+use Rattle.layer_expr.specs.Spelling.{expression_text}
 use Rattle.layer_expr.proofs.SpellingLemmas.{reads_back, read_is_expression}
 use Rattle.layer_expr.proofs.LawLemmas.{one_tree, never_both}
 use Rattle.layer_expr.specs.declared.fault.ExprFault.TheVariants.{ExprSyntax, ExprTooLong, BadName, OutOfMemory}
 use Rattle.store_terms.specs.DefinitionRecord.{definition_of_record}
-use Rattle.record_form.specs.Answers.{Fails, failed_as}
+use Rattle.record_bytes.specs.Answers.{Fails, failed_as}
 use Rattle.store_terms.proofs.RecordLemmas.{definition_is_its_text}
 
 none_unless : {A : Type 0} (o : Option A) → ((x : A) → o ≡ Some x → ⊥) → o ≡ None
@@ -53,9 +53,6 @@ another_none bytes tree reads differ =
 text_read : (bytes : List ℕ) (tree : Tree Name) → ReadsAs bytes tree → expression_text tree ≡ bytes
     → definition_of_record bytes ≡ Some tree
 text_read bytes tree reads is = (definition_is_its_text bytes tree).1 (read_is_expression bytes tree reads, sym is)
-
-pub text_reads_back : (tree : Tree Name) → IsExpression tree → definition_of_record (expression_text tree) ≡ Some tree
-text_reads_back tree is = (definition_is_its_text (expression_text tree) tree).1 (is, refl)
 
 -- the bytes are the text that is written again for what they read as, or they are another
 pub same_text : (text bytes : List ℕ) (tree : Tree Name) → ReadsAs bytes tree → text ≡ expression_text tree

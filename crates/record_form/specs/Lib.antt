@@ -1,8 +1,1 @@
-pub mod Answers
-pub mod Fault
-pub mod Image
-pub mod Listing
 pub mod Points
-pub mod Putting
-pub mod Stored
-pub mod Tiles

@@ -1,18 +1,20 @@
 //! The records of base layers: how many rings, and for each how many points, and its points.
-ghost use Rattle.std.specs.Prelude.{◌≡◌, ◌<◌, ◌^◌, ◌++◌, ◌∷◌, [], length, Some, IfOk, IfErr, OnOk};
-ghost use Rattle.record_form.specs.Answers.{Fails, Gives, Reads};
+ghost use Rattle.std.specs.Prelude.{IfOk, IfErr};
+ghost use Rattle.record_bytes.specs.Answers.{Fails, Gives, Reads};
 ghost use Rattle.record_form.specs.Points.{IsAdded};
 ghost use Rattle.store_terms.specs.Fields.{read_many};
-ghost use Rattle.store_terms.specs.BaseRecord.{whole_point, ring as spelled, rings as spelled_rings, base_of_record};
+ghost use Rattle.store_terms.specs.BaseRecord.{whole_point, ring as spelled, base_of_record};
 ghost use Rattle.store_terms.specs.Image.{or_fault};
 ghost use Rattle.store_terms.specs.declared.damage.Damage.TheVariants.{LayerForm};
 
-use crate::bytes::{point_at, put_point, put_two_bytes, two_bytes_at};
-use crate::fault::{ReadFault, RecordFault};
+use crate::points::point_at;
 use plane_base::base_layer::{BaseLayer, Ring};
 use plane_base::fault::PlaneFault;
 use plane_base::point::Pt;
-use std::alloc::{AllocError, Global};
+pub use record_bytes::base_writing::write_base;
+use record_bytes::bytes::two_bytes_at;
+use record_bytes::fault::{ReadFault, RecordFault};
+use std::alloc::Global;
 use store_terms::damage::Damage;
 
 /// The base layer that a base record spells.
@@ -87,31 +89,4 @@ fn push_point<'a>(points: &mut Vec<Pt>, bytes: &'a [u8]) -> Result<&'a [u8], Rea
         }
         Err(fault) => Err(fault),
     }
-}
-
-/// The record of a base layer.
-pub fn write_base(alloc: Global, layer: &BaseLayer) -> Result<Vec<u8>, AllocError>
-    ensures spelled { IfOk result (λ v. v.items ≡ spelled_rings.text layer.now) }
-    ensures reads_back { IfOk result (λ v. base_of_record v.items ≡ Some layer.now) }
-{
-    let rings = layer.rings();
-    let mut out = Vec::new(alloc);
-    put_two_bytes(&mut out, rings.len() as u16)?;
-    for ring in rings {
-        put_ring(&mut out, ring)?;
-    }
-    Ok(out)
-}
-
-/// Writes a ring behind some bytes.
-fn put_ring(out: &mut Vec<u8>, ring: &Ring) -> Result<(), AllocError>
-    requires { length ring.now < 2 ^ 16 }
-    ensures { OnOk result (out.new.items ≡ out.old.items ++ spelled.text ring.now) }
-{
-    let points = ring.points();
-    put_two_bytes(out, points.len() as u16)?;
-    for point in points {
-        put_point(out, *point)?;
-    }
-    Ok(())
 }

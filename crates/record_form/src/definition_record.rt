@@ -1,16 +1,15 @@
 //! The records of derived layers: the text of the expression.
-ghost use Rattle.std.specs.Prelude.{◌≡◌, Some, IfOk};
-ghost use Rattle.layer_expr.specs.Spelling.{expression_text};
-ghost use Rattle.record_form.specs.Answers.{Gives, Reads};
+ghost use Rattle.record_bytes.specs.Answers.{Gives, Reads};
 ghost use Rattle.store_terms.specs.DefinitionRecord.{definition_of_record};
 ghost use Rattle.store_terms.specs.Image.{or_fault};
 ghost use Rattle.store_terms.specs.declared.damage.Damage.TheVariants.{LayerForm};
 
-use crate::fault::{ReadFault, RecordFault};
 use layer_expr::expr::Expr;
 use layer_expr::reading::read_expr;
 use layer_expr::writing::write_expr;
-use std::alloc::{AllocError, Global};
+pub use record_bytes::definition_writing::write_definition;
+use record_bytes::fault::{ReadFault, RecordFault};
+use std::alloc::Global;
 use store_terms::damage::Damage;
 
 /// The expression whose text a definition record is. Another spelling of it has not the form.
@@ -32,13 +31,4 @@ fn definition_in(alloc: Global, bytes: &[u8]) -> Result<Expr, ReadFault>
         return Err(ReadFault::Form);
     }
     Ok(expression)
-}
-
-/// The record of a derived layer.
-pub fn write_definition(alloc: Global, expression: &Expr) -> Result<Vec<u8>, AllocError>
-    ensures spelled { IfOk result (λ v. v.items ≡ expression_text expression.now) }
-    ensures reads_back { IfOk result (λ v. definition_of_record v.items ≡ Some expression.now) }
-{
-    expression.root();
-    write_expr(alloc, expression)
 }

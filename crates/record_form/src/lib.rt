@@ -2,15 +2,10 @@
 #![tactic(auto)]
 
 pub mod base_record;
-mod bytes;
-pub mod catalog;
-pub mod catalog_writing;
 pub mod definition_record;
-pub mod fault;
-pub mod image;
-pub mod laws;
 mod pieces;
-pub mod root_body;
+mod points;
 mod segments;
-mod tile_form;
 pub mod tile_record;
+
+pub use record_bytes::{catalog, catalog_writing, fault, image, laws, root_body};

@@ -1,16 +1,15 @@
-//! Segments, and the names of places, at the front of some bytes and behind them.
-ghost use Rattle.std.specs.Prelude.{◌≡◌, Some, None, OnOk, if◌then◌else◌};
+//! Segments, and the names of places, at the front of some bytes.
+ghost use Rattle.std.specs.Prelude.{◌≡◌, Some, None, if◌then◌else◌};
 ghost use Rattle.std.specs.Ordering.{is_lt};
 ghost use Rattle.overlay_terms.specs.Plane.{whole_cmp};
-ghost use Rattle.record_form.specs.Answers.{Gives};
-ghost use Rattle.record_form.specs.Putting.{IsPut};
+ghost use Rattle.record_bytes.specs.Answers.{Gives};
 ghost use Rattle.store_terms.specs.TileRecord.{segment, point_name};
 
-use crate::bytes::{byte_at, point_at, put_point};
-use crate::fault::ReadFault;
+use crate::points::point_at;
 use exact_point::PointName;
 use plane_base::{Pt, Seg};
-use std::alloc::AllocError;
+use record_bytes::bytes::byte_at;
+use record_bytes::fault::ReadFault;
 
 /// The segment that 16 bytes spell, its left end first, and what follows them. In this file and in
 /// that of pieces a `match` stands for `?`, which the prover does not take with such pairs, and an arm
@@ -65,39 +64,5 @@ pub(crate) fn point_name_at(bytes: &[u8]) -> Result<(PointName, &[u8]), ReadFaul
             Err(fault) => Err(fault),
         },
         _ => Err(ReadFault::Form),
-    }
-}
-
-/// Writes a segment behind some bytes.
-pub(crate) fn put_segment(out: &mut Vec<u8>, seg: Seg) -> Result<(), AllocError>
-    ensures { OnOk result (IsPut segment seg out.old.items out.new.items) }
-{
-    put_point(out, seg.left())?;
-    put_point(out, seg.right())?;
-    Ok(())
-}
-
-/// Writes the name of a place behind some bytes.
-pub(crate) fn put_point_name(out: &mut Vec<u8>, name: PointName) -> Result<(), AllocError>
-    ensures { OnOk result (IsPut point_name name out.old.items out.new.items) }
-{
-    match name {
-        PointName::Vertex(vertex) => {
-            out.push(0)?;
-            put_point(out, vertex)?;
-            Ok(())
-        }
-        PointName::Cross(first, second) => {
-            out.push(1)?;
-            put_segment(out, first)?;
-            put_segment(out, second)?;
-            Ok(())
-        }
-        PointName::Border(cut, border) => {
-            out.push(2)?;
-            put_segment(out, cut)?;
-            out.push(border)?;
-            Ok(())
-        }
     }
 }

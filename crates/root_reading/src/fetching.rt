@@ -1,5 +1,5 @@
 //! Records as the disk has them.
-ghost use Rattle.std.specs.Prelude.{◌≡◌, ◌↔◌, ◌+◌, ◌*◌, ◌/◌, ◌≤◌, ◌&&◌, nat_le, length, IfOk};
+ghost use Rattle.std.specs.Prelude.{◌≡◌, ◌↔◌, ◌+◌, ◌*◌, ◌/◌, ◌&&◌, nat_le, length};
 ghost use Rattle.store_terms.specs.Places.{blocks};
 ghost use Rattle.store_terms.specs.Image.{placed_bytes};
 ghost use Rattle.root_reading.specs.Looking.{Gives, Looks, Causes};

@@ -1,18 +1,18 @@
 //! Layers of a file, one behind another.
-ghost use Rattle.std.specs.Prelude.{◌≡◌, List, ℕ, IsTrue, true, false, IfOk, IfErr};
+ghost use Rattle.std.specs.Prelude.{◌≡◌, List, ℕ, true, IfOk, IfErr};
 ghost use Rattle.overlay_terms.specs.Layers.{Content, Layer};
 ghost use Rattle.layer_expr.specs.Name.{is_name};
 ghost use Rattle.layer_book.specs.Command.{command};
 ghost use Rattle.layer_book.specs.Layer.{keeping};
 ghost use Rattle.store_terms.specs.Image.{with_layer};
-ghost use Rattle.record_form.specs.Answers.{Reads, Tells};
+ghost use Rattle.record_bytes.specs.Answers.{Reads, Tells};
 
 use layer_book::command::Command;
 use layer_book::fault::LayerFault;
 use layer_book::layers::Layers;
 use layer_expr::fault::ExprFault;
 use layer_expr::name::Name;
-use record_form::fault::RecordFault;
+use record_bytes::fault::RecordFault;
 use std::alloc::Global;
 use store_terms::damage::Damage;
 

@@ -1,6 +1,6 @@
 //! The records that a root names, as the disk has them.
-ghost use Rattle.std.specs.Prelude.{◌≡◌, ◌↔◌, IfOk};
-ghost use Rattle.record_form.specs.Listing as listings;
+ghost use Rattle.std.specs.Prelude.{◌↔◌};
+ghost use Rattle.record_bytes.specs.Listing as listings;
 ghost use Rattle.store_terms.specs.Image.{listing_of};
 ghost use Rattle.root_reading.specs.Looking.{Gives, Looks, Causes};
 ghost use Rattle.root_reading.specs.Loading.{rings_at, expression_at};
@@ -10,8 +10,8 @@ use crate::load_fault::LoadFault;
 use disk_model::disk::Disk;
 use layer_expr::expr::Expr;
 use plane_base::base_layer::BaseLayer;
+use record_bytes::catalog::{Listed, read_catalog};
 use record_form::base_record::read_base;
-use record_form::catalog::{Listed, read_catalog};
 use record_form::definition_record::read_definition;
 use std::alloc::Global;
 use store_terms::damage::Damage;

@@ -23,7 +23,7 @@ use store_terms::root::Extent;
 use tile_build::tile::Tile;
 
 /// The tile of a column whose record lies in an extent.
-#[tactic(auto, using(record_form::proofs::StoredLemmas::read_has_form))]
+#[tactic(auto, using(record_bytes::proofs::StoredLemmas::read_has_form))]
 fn tile_at<D: Disk>(
     alloc: Global,
     disk: &mut D,

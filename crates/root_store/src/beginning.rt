@@ -17,7 +17,7 @@ use commit_plan::drafting::drafted;
 use commit_plan::fault::StoreFault;
 use commit_plan::next::Next;
 use disk_model::disk::Disk;
-use record_form::image::Image;
+use record_bytes::image::Image;
 use std::alloc::Global;
 
 impl<D: Disk> Commit<D> {

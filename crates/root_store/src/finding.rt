@@ -7,7 +7,7 @@ ghost use Rattle.root_reading.specs.Looking.{Gives, Looks, Causes};
 ghost use Rattle.root_store.specs.Finding.{IsSlot, has_shut_gate};
 
 use disk_model::disk::Disk;
-use record_form::root_body::{FORMAT, read_body};
+use record_bytes::root_body::{FORMAT, read_body};
 use root_reading::fetching::BLOCK;
 use root_reading::load_fault::LoadFault;
 use store_terms::damage::Damage;

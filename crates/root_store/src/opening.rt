@@ -21,7 +21,7 @@ use crate::phase::Phase;
 use commit_plan::fault::StoreFault;
 use commit_plan::loading::{Loaded, read_root};
 use disk_model::disk::Disk;
-use record_form::image::Image;
+use record_bytes::image::Image;
 use root_reading::load_fault::LoadFault;
 use std::alloc::Global;
 

@@ -4,7 +4,7 @@ use Rattle.extent_map.specs.declared.extent.Extent as runs
 use Rattle.extent_map.specs.Extents as maps
 use Rattle.extent_map.specs.Extents.{AreAlike}
 use Rattle.extent_map.specs.Taken.{taken_of}
-use Rattle.record_form.specs.Listing.{listing_of}
+use Rattle.record_bytes.specs.Listing.{listing_of}
 use Rattle.store_terms.specs.declared.root.Root.{Root}
 use Rattle.store_terms.specs.Roots.{sequence_max}
 use Rattle.store_terms.specs.StandsFor.{body_at}

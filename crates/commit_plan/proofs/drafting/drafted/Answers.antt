@@ -6,8 +6,8 @@ use Rattle.extent_map.specs.declared.extent.Extent as runs
 use Rattle.extent_map.specs.Taken.{taken_of, limit_of}
 use Rattle.layer_book.specs.Layer.{IsBook}
 use Rattle.tile_build.specs.Tile.{finished_of}
-use Rattle.record_form.specs.Listing.{listing_of}
-use Rattle.record_form.specs.declared.catalog.Listed as code
+use Rattle.record_bytes.specs.Listing.{listing_of}
+use Rattle.record_bytes.specs.declared.catalog.Listed as code
 use Rattle.commit_plan.specs.declared.next.Next.{Next}
 use Rattle.commit_plan.specs.Filing.{filed_of}
 use Rattle.root_reading.specs.Taking.{IsMapOf}

@@ -3,7 +3,7 @@ use Rattle.overlay_terms.specs.Layers.{Name}
 use Rattle.tile_build.specs.declared.tile.Tile.{Tile}
 use Rattle.tile_build.specs.Tile.{finished_of, tile_of}
 use Rattle.store_terms.specs.TileRecord.{named_tile, tile_of_record}
-use Rattle.record_form.specs.Tiles.{named_by}
+use Rattle.record_bytes.specs.Tiles.{named_by}
 use Rattle.store_terms.specs.declared.root.Extent.{Extent}
 use Rattle.commit_plan.specs.declared.fault.StoreFault.TheVariants.{Full}
 use Rattle.commit_plan.specs.Filing.{Filed}

@@ -2,7 +2,7 @@ use Rattle.std.proofs.Common.{◌≡◌, List, map, ap, sym, subst, ◌∙◌}
 use Rattle.overlay_terms.specs.Layers.{Layer}
 use Rattle.overlay_terms.specs.Histories.{Finished, tile_at}
 use Rattle.overlay_terms.specs.StoredTiles.{AreStored}
-use Rattle.record_form.specs.Image.{held}
+use Rattle.record_bytes.specs.Image.{held}
 use Rattle.tile_build.specs.Tile.{finished_of}
 use Rattle.flush_core.specs.Imaging.{version_held}
 use Rattle.flush_core.specs.Stored.{IsImageOf}

@@ -2,7 +2,7 @@ use Rattle.std.proofs.lemmas.Result.{err_from_is_err_and}
 use Rattle.store_terms.specs.Fields.{read_many}
 use Rattle.store_terms.specs.TileRecord.{piece}
 use Rattle.store_terms.proofs.Loops.{goes_on, is_done}
-use Rattle.record_form.proofs.Failing.{fails, starts}
+use Rattle.record_bytes.proofs.Failing.{fails, starts}
 use Rattle.record_form.proofs.pieces.pieces_at.Goals as goal
 
 pub returns-in_err-piece : goal.returns-in_err-piece

@@ -1,0 +1,7 @@
+pub mod Answers
+pub mod Fault
+pub mod Image
+pub mod Listing
+pub mod Putting
+pub mod Stored
+pub mod Tiles

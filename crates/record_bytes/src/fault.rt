@@ -1,0 +1,102 @@
+//! Why a record is not read.
+ghost use Rattle.std.specs.Prelude.{◌≡◌, Some};
+ghost use Rattle.record_bytes.specs.Answers.{failed_as, told_as};
+ghost use Rattle.record_bytes.specs.Fault.{code_of, text_of};
+ghost use Rattle.record_bytes.specs.declared.fault.ReadFault.TheVariants.{Memory};
+
+use layer_expr::fault::ExprFault;
+use std::alloc::{AllocError, AllocFailed};
+use std::fmt;
+use store_terms::damage::Damage;
+use thiserror::Error;
+
+/// Why some bytes of a record are not read.
+#[derive(Clone, Copy)]
+pub enum ReadFault {
+    Memory,
+    /// The bytes have not the form.
+    Form,
+}
+
+/// Why a record is not read.
+#[derive(Clone, Copy, Debug, PartialEq, Eq, Error)]
+#[error("{}", Text(*self))]
+pub enum RecordFault {
+    /// What is wrong with the bytes.
+    Damaged(Damage),
+    OutOfMemory,
+}
+
+impl RecordFault {
+    /// The number under which the fault is printed.
+    pub fn code(&self) -> u8
+        ensures { result ≡ code_of self.now }
+    {
+        match self {
+            RecordFault::Damaged(damage) => match damage.code() {
+                None => 32,
+                Some(_) => 33,
+            },
+            RecordFault::OutOfMemory => 40,
+        }
+    }
+}
+
+/// The text of a fault, as a reply says it behind the number.
+#[derive(Clone, Copy)]
+pub struct Text(pub RecordFault);
+
+impl fmt::Display for Text {
+    ghost output = { λ text. Some (text_of text.0) };
+
+    fn fmt<W: fmt::Write>(&self, f: &mut fmt::Formatter<W>) -> fmt::Result {
+        match self.0 {
+            RecordFault::Damaged(damage) => match damage.code() {
+                None => f.write_str("not a store"),
+                Some(code) => write!(f, "damaged {code}"),
+            },
+            RecordFault::OutOfMemory => f.write_str("out of memory"),
+        }
+    }
+}
+
+impl ReadFault {
+    /// The fault as the damage that it is.
+    pub fn told(self, damage: Damage) -> RecordFault
+        ensures { result ≡ told_as damage self }
+    {
+        match self {
+            ReadFault::Memory => RecordFault::OutOfMemory,
+            ReadFault::Form => RecordFault::Damaged(damage),
+        }
+    }
+}
+
+impl From<ExprFault> for ReadFault {
+    ghost from_gives = { λ fault e. e ≡ failed_as fault };
+
+    fn from(fault: ExprFault) -> ReadFault {
+        match fault {
+            ExprFault::ExprSyntax(_) => ReadFault::Form,
+            ExprFault::ExprTooLong => ReadFault::Form,
+            ExprFault::BadName => ReadFault::Form,
+            ExprFault::OutOfMemory => ReadFault::Memory,
+        }
+    }
+}
+
+impl From<AllocError> for ReadFault {
+    ghost from_gives = { λ _ e. e ≡ Memory };
+
+    fn from(_e: AllocError) -> ReadFault {
+        ReadFault::Memory
+    }
+}
+
+impl<T: Drop> From<AllocFailed<T>> for ReadFault {
+    ghost from_gives = { λ _ e. e ≡ Memory };
+
+    fn from(_e: AllocFailed<T>) -> ReadFault {
+        ReadFault::Memory
+    }
+}
