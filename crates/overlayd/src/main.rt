@@ -1,13 +1,10 @@
 //! The polygon overlay server: a session on standard input and output.
 #![tactic(auto)]
 
-mod answering;
-mod book;
-mod session;
 #[cfg(test)]
 mod session_tests;
 
-use crate::session::run_plain;
+use overlay_session::run_plain;
 use script_form::SessionEnd;
 use std::process::ExitCode;
 

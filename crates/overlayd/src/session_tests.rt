@@ -1,5 +1,5 @@
 //! What no script shows: reads and writes that fail, and the limits of lines and of scripts.
-use crate::session::run_plain;
+use overlay_session::run_plain;
 use script_form::SessionEnd;
 use std::alloc::{AllocError, Global};
 use std::cell::Cell;

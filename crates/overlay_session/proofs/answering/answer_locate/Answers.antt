@@ -1,0 +1,38 @@
+use Rattle.std.proofs.Common.{refl, sym, w64}
+use Rattle.std.proofs.lemmas.Bool.{false≢true}
+use Rattle.std.proofs.lemmas.Int.{to_z-of_z}
+use Rattle.std.proofs.lemmas.Result.{err_from_is_err_and}
+use Rattle.layer_book.specs.Place.{location}
+use Rattle.overlay_session.proofs.AnswerLemmas.{query_read, point_read, locate_out_of_range, locate_refused, locate_told, unknown_stands}
+use Rattle.overlay_session.proofs.answering.answer_locate.Goals as goal
+
+pub returns-in_err-query : goal.returns-in_err-query
+returns-in_err-query c =
+    let p = err_from_is_err_and c.from_residual-in_err-query.result c.from_residual-in_err-query.ensures.1 in
+    let x = to_z-of_z w64 c.args.x c.ranges.x in
+    let y = to_z-of_z w64 c.args.y c.ranges.y in
+    let w = to_z-of_z w64 c.args.w c.ranges.w in
+    let wrong = c.in_err-query.ensures in
+    rw (p.1, p.2, wrong.err) (locate_out_of_range c.args.book.now c.args.name.now c.args.x c.args.y c.args.w c.in_ok-name.ensures.ok.1 (λ query. false≢true (wrong.in_range.1 (query_read _ _ _ _ _ _ (sym x) (sym y) (sym w) query))))
+
+pub returns-in_err-place : goal.returns-in_err-place
+returns-in_err-place c =
+    let p = err_from_is_err_and c.from_residual-in_err-place.result c.from_residual-in_err-place.ensures.1 in
+    let x = to_z-of_z w64 c.args.x c.ranges.x in
+    let y = to_z-of_z w64 c.args.y c.ranges.y in
+    let w = to_z-of_z w64 c.args.w c.ranges.w in
+    let named = c.in_ok-name.ensures.ok in
+    let query = query_read c.args.x c.args.y c.args.w _ _ _ x y w (c.in_ok-query.ensures.in_range.0 refl) in
+    rw (p.1, p.2) (locate_refused c.args.book.now c.args.name.now _ c.args.x c.args.y c.args.w _ named.0 named.1 query (c.in_err-place.ensures.err, unknown_stands _ c.in_err-place.ensures.known.1))
+
+pub returns : goal.returns
+returns c =
+    let x = to_z-of_z w64 c.args.x c.ranges.x in
+    let y = to_z-of_z w64 c.args.y c.ranges.y in
+    let w = to_z-of_z w64 c.args.w c.ranges.w in
+    let named = c.in_ok-name.ensures.ok in
+    let asked = c.in_ok-query.ensures in
+    let found = c.in_ok-place.ensures in
+    let query = query_read c.args.x c.args.y c.args.w _ _ _ x y w (asked.in_range.0 refl) in
+    let point = point_read c.args.x c.args.y c.args.w _ _ _ _ x y w asked.ok in
+    locate_told c.args.book.now c.args.name.now _ c.args.x c.args.y c.args.w _ (location c.in_ok-place.place) named.0 point named.1 query (found.known.0 refl) found.ok
