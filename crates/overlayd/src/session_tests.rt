@@ -85,10 +85,12 @@ fn expect(
     };
     let mut writer = Vec::new(rt.alloc());
     let end = run_plain(rt.alloc(), &mut reader, &mut writer);
-    let faults = u64::from(fault.is_some());
-    assert_eq!(rt; end == SessionEnd::Failed(48), fault.is_some());
-    assert_eq!(rt; end == SessionEnd::End, fault.is_none());
-    assert_eq!(rt; reader.failed, faults, "by {step}");
+    let wanted = match fault {
+        Some(_) => SessionEnd::Failed(48),
+        None => SessionEnd::End,
+    };
+    assert_eq!(rt; end, wanted);
+    assert_eq!(rt; reader.failed, u64::from(fault.is_some()));
     assert_eq!(rt; writer.as_slice(), text.as_bytes(), "by {step}");
 }
 
@@ -148,29 +150,34 @@ fn a_read_fault_is_told_behind_a_read_that_failed(rt: HostRuntime) {
     }
 }
 
+/// Runs two lines and a read fault, by so many writes, and compares what they take and refuse.
+fn expect_writes(rt: &(impl Abort + AllocGlobal), writes: usize, fault: Option<ErrorKind>) {
+    let text = b"error 41 command syntax\nerror 41 command syntax\nerror 48 read\n";
+    let mut reader = Feed {
+        rest: b"HELLO\nHELLO\n",
+        step: 5,
+        fault: Some(ErrorKind::Other),
+        failed: 0,
+    };
+    let mut writer = Sink {
+        text: Vec::new(rt.alloc()),
+        writes,
+        fault,
+        refused: 0,
+    };
+    let end = run_plain(rt.alloc(), &mut reader, &mut writer);
+    let is_cut = writes < 11;
+    assert_eq!(rt; end, SessionEnd::Failed(if is_cut { 49 } else { 48 }));
+    assert_eq!(rt; writer.refused, u64::from(is_cut));
+    let told = text.len().min(writes.saturating_mul(6));
+    assert_eq!(rt; writer.text.as_slice(), &text[..told], "at write {writes}");
+}
+
 #[test]
 fn a_write_fault_is_told_behind_a_write_that_was_refused(rt: HostRuntime) {
-    let text = b"error 41 command syntax\nerror 41 command syntax\nerror 48 read\n";
     for &fault in &[Some(ErrorKind::Other), Some(ErrorKind::Interrupted), None] {
         for &writes in &[0, 1, 2, 3, 7, 8, 9, 10, 11] {
-            let mut reader = Feed {
-                rest: b"HELLO\nHELLO\n",
-                step: 5,
-                fault: Some(ErrorKind::Other),
-                failed: 0,
-            };
-            let mut writer = Sink {
-                text: Vec::new(rt.alloc()),
-                writes,
-                fault,
-                refused: 0,
-            };
-            let end = run_plain(rt.alloc(), &mut reader, &mut writer);
-            let is_cut = writes < 11;
-            assert_eq!(rt; end, SessionEnd::Failed(if is_cut { 49 } else { 48 }));
-            assert_eq!(rt; writer.refused, u64::from(is_cut), "at write {writes}");
-            let told = text.len().min(writes.saturating_mul(6));
-            assert_eq!(rt; writer.text.as_slice(), &text[..told], "at write {writes}");
+            expect_writes(&rt, writes, fault);
         }
     }
 }
