@@ -97,7 +97,7 @@ impl<D: Disk> Commit<D> {
                 self.phase = Phase::Failed;
                 self.disk.write_at(other_gate(self.root), &[GATE_OPEN])?;
                 self.phase = Phase::Finish;
-                Ok(Progress::Going)
+                Ok(Progress::Going) // not Done: until the next sync a crash may leave the gate as it was
             }
             Phase::Finish => {
                 self.phase = Phase::Failed;
