@@ -17,8 +17,6 @@ use Rattle.book_history.specs.Fault.{IfGone}
 use Rattle.book_history.specs.declared.fault.BookFault.{BookFault}
 use Rattle.book_history.specs.declared.fault.BookFault.TheVariants as fault
 use Rattle.book_history.specs.Trails.{Trail}
-use Rattle.book_history.specs.declared.entry.Cause.{Cause}
-use Rattle.book_history.specs.declared.entry.Cause.TheVariants.{Accepted, Kept, Durable}
 
 -- a session has looked: it has seen this log, which goes on from what it saw, and its commands there are those that
 -- it made
@@ -47,12 +45,6 @@ IsReportedIn log number after =
     (FollowsReport (newest_in log) number (newest_in after)
     × (after ≡ log ++ entry (durable_to number) (newest_in after) ∷ []))
     ⊎ (StaysAtReport (newest_in log) number (newest_in after) × (after ≡ log))
-
--- a command is one of a session that the book counts
-abbrev pub HasSeat : Cause → Type 0
-HasSeat (Accepted session change) = session < 4
-HasSeat (Kept name column tile) = Unit {0}
-HasSeat (Durable number) = Unit {0}
 
 -- the sessions that a book begins with: each has another number, has seen this log, and made nothing
 abbrev pub beginners : Trail → ℕ → List Known

@@ -7,16 +7,17 @@ ghost use mathlib.Core.List.{IsPrefix};
 ghost use Rattle.left_right.specs.Sides.{view};
 ghost use Rattle.overlay_terms.specs.Histories.{accepted, commands_of, own_command, FollowsCommand, Follows};
 ghost use Rattle.layer_book.specs.Command.{command};
-ghost use Rattle.book_history.specs.Causes.{event_of};
+ghost use Rattle.book_history.specs.Causes.{event_of, HasSeat};
 ghost use Rattle.book_history.specs.Fault.{IsRefused, IfGone, no_memory};
 ghost use Rattle.book_history.specs.Logs.{entry, no_event, newest_in, IsLog};
 ghost use Rattle.book_history.specs.Rules.{head_of};
-ghost use Rattle.book_desk.specs.Steps.{HasLooked, HasSeat, IsAcceptedIn, IsLevel, beginners};
+ghost use Rattle.book_desk.specs.Steps.{HasLooked, IsAcceptedIn, IsLevel, beginners};
 
 use crate::closed::Closed;
 use crate::session::Session;
-use book_history::entry::Cause;
+use book_history::entry::{Cause, counted};
 use book_history::fault::BookFault;
+use book_history::making::{NO_MEMORY, next_version, shared};
 use book_history::press::{first_press, new_place, put_out};
 use book_history::published::{Press, Published};
 use book_history::trace::{Head, Naming, Trace};
@@ -29,9 +30,6 @@ use version_core::fault::VersionFault;
 use version_core::version::Version;
 
 const MOST: u64 = 1 << 60;
-
-/// The fault where memory runs out.
-pub const NO_MEMORY: BookFault = BookFault::Version(VersionFault::Layer(LayerFault::OutOfMemory));
 
 /// What lies under the lock: the log that is published, and how many commands of each session it has.
 pub struct Desk<J: Naming, R: Wait + Drop> {
@@ -281,46 +279,4 @@ fn beginners(
         }
     }
     Ok(list)
-}
-
-// How many commands of each session there are with one more entry.
-fn counted(counts: [u64; 4], cause: Cause<'_>) -> [u64; 4]
-    requires seat { HasSeat cause }
-    requires room { (k : ℕ) → k < 4 → slice_index counts k < 2 ^ 62 }
-    ensures { (k : ℕ) → k < 4
-        → slice_index result k ≡ slice_index counts k + length (cons_option (own_command k (event_of cause.entry)) []) }
-{
-    let mut counts = counts;
-    if let Cause::Accepted(by, _) = cause {
-        counts[by as usize] += 1;
-    }
-    counts
-}
-
-// A version for as many as ask for it.
-pub(crate) fn shared(alloc: Global, version: Version) -> Result<Arc<Version, Global>, BookFault>
-    ensures ok { IfOk result (λ v. arc_value v ≡ version) }
-    ensures err { IfErr result (λ fault. fault ≡ no_memory) }
-{
-    match Arc::new(alloc, version) {
-        Ok(version) => Ok(version),
-        Err(_) => Err(NO_MEMORY),
-    }
-}
-
-// The version after a command.
-#[tactic(auto, using(book_history::proofs::Gone::no_reason))]
-fn next_version(
-    alloc: Global,
-    now: &Version,
-    change: &Command,
-) -> Result<Arc<Version, Global>, BookFault>
-    ensures ok { IfOk result (λ v. FollowsCommand now.now (command change.now) (arc_value v)) }
-    ensures err { IfErr result (λ fault. IsRefused false now.now (command change.now) fault) }
-    ensures there { IfErr result (λ fault. IfGone fault ⊥ (Unit {0})) }
-{
-    match now.submit(alloc, change) {
-        Ok(next) => shared(alloc, next),
-        Err(fault) => Err(BookFault::Version(fault)),
-    }
 }

@@ -8,10 +8,10 @@ ghost use Rattle.book_history.specs.Standing.{HasSlots};
 ghost use Rattle.book_desk.specs.Steps.{IsHandedOut};
 ghost use Rattle.book_desk.specs.Waits.{IsIdle};
 
-use crate::desk::NO_MEMORY;
 use crate::job::Job;
 use crate::shelf::Shelf;
 use book_history::fault::BookFault;
+use book_history::making::NO_MEMORY;
 use book_history::pending::{free, parts};
 use book_history::trace::Naming;
 use std::alloc::Global;

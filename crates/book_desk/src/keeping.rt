@@ -4,9 +4,10 @@ ghost use Rattle.book_history.specs.Fault.{no_memory};
 ghost use Rattle.book_history.specs.Logs.{newest_in};
 ghost use Rattle.book_desk.specs.Steps.{IsFinishedIn, IsReportedIn};
 
-use crate::desk::{Desk, shared};
+use crate::desk::Desk;
 use book_history::entry::Cause;
 use book_history::fault::BookFault;
+use book_history::making::shared;
 use book_history::trace::Naming;
 use layer_expr::name::Name;
 use std::alloc::Global;

@@ -7,9 +7,9 @@ ghost use Rattle.overlay_terms.specs.Commands.{Command};
 ghost use Rattle.overlay_terms.specs.Histories.{commands_of, newest, BeginsWith, IsHistory};
 ghost use Rattle.book_history.specs.Logs.{newest_in};
 ghost use Rattle.book_history.specs.Known.{seen};
-ghost use Rattle.book_history.specs.Trails.{Begins, IsOf};
 
 use book_history::fault::BookFault;
+use book_history::place::moved;
 use book_history::published::{Place, Sees};
 use book_history::trace::Trace;
 use std::alloc::{AllocError, Global};
@@ -168,17 +168,4 @@ impl Session {
             }
         }
     }
-}
-
-// The place, once it has seen no less than this. It is lost where it hasn't, which does not come.
-fn moved(place: Option<Place>, to: &Trace) -> Option<Place>
-    requires { IfSome place (λ r. IsOf to.now.book (place_view r.place)) }
-    ensures { IfSome result (λ r. Begins to.now (place_view r.place)) }
-{
-    let reading = place?.enter_as::<Sees>().ok()?;
-    let there = &reading.get().trace;
-    let level = there.at() >= to.at();
-    to.compare(there);
-    let place = reading.leave();
-    if level { Some(place) } else { None }
 }

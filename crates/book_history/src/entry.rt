@@ -1,4 +1,9 @@
 //! What is written down in the history.
+ghost use Rattle.std.specs.Prelude.{ℕ, ◌≡◌, ◌+◌, ◌<◌, ◌^◌, [], length, slice_index};
+ghost use Rattle.std.specs.List.{cons_option};
+ghost use Rattle.overlay_terms.specs.Histories.{own_command};
+ghost use Rattle.book_history.specs.Causes.{event_of, HasSeat};
+
 use layer_book::command::Command;
 use layer_expr::name::Name;
 use std::marker::Model;
@@ -47,4 +52,18 @@ pub enum Cause<'a> {
 pub struct Ask<'a> {
     pub cause: Cause<'a>,
     pub version: &'a Version,
+}
+
+/// How many commands of each session there are with one more entry.
+pub fn counted(counts: [u64; 4], cause: Cause<'_>) -> [u64; 4]
+    requires seat { HasSeat cause }
+    requires room { (k : ℕ) → k < 4 → slice_index counts k < 2 ^ 62 }
+    ensures { (k : ℕ) → k < 4
+        → slice_index result k ≡ slice_index counts k + length (cons_option (own_command k (event_of cause.entry)) []) }
+{
+    let mut counts = counts;
+    if let Cause::Accepted(by, _) = cause {
+        counts[by as usize] += 1;
+    }
+    counts
 }

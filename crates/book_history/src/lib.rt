@@ -3,7 +3,9 @@
 
 pub mod entry;
 pub mod fault;
+pub mod making;
 pub mod pending;
+pub mod place;
 pub mod press;
 pub mod published;
 pub mod reporter;

@@ -9,10 +9,10 @@ ghost use Rattle.book_desk.specs.Steps.{IsAfterTold, IsLevel, IsReportedIn, Look
 ghost use Rattle.book_desk.specs.Waits.{IsBuilding, IsBuiltAt, IsIdle, IsQuiet, IsSyncRefusedAt, IsWaitRefused};
 ghost use Rattle.book_desk.specs.Waits.{IsWriting};
 
-use book_desk::desk::NO_MEMORY;
 use book_desk::session::Session;
 use book_desk::shelf::Shelf;
 use book_history::fault::{BookFault, StoreFault};
+use book_history::making::NO_MEMORY;
 use book_history::pending::free;
 use book_history::reporter::Reporter;
 use book_history::trace::Naming;
