@@ -1,6 +1,8 @@
 //! Handing out tiles, and taking them back without, under the lock.
 ghost use Rattle.std.specs.Prelude.{◌≡◌, IsTrue, None, Ok, IfOk, IfErr, IfSome, IfNone};
+ghost use Rattle.overlay_terms.specs.Tiles.{input_of};
 ghost use Rattle.book_history.specs.Fault.{no_memory};
+ghost use Rattle.book_history.specs.Free.{AllAreHeld, IsFree};
 ghost use Rattle.book_history.specs.Logs.{newest_in};
 ghost use Rattle.book_desk.specs.Jobs.{IsJob};
 ghost use Rattle.book_history.specs.Slots.{given_back, handed_out};
@@ -10,11 +12,13 @@ ghost use Rattle.book_desk.specs.Waits.{IsIdle};
 
 use crate::job::Job;
 use crate::shelf::Shelf;
+use arrange::tile_input::TileInput;
 use book_history::fault::BookFault;
 use book_history::making::NO_MEMORY;
 use book_history::pending::{free, parts};
 use book_history::trace::Naming;
-use std::alloc::Global;
+use layer_expr::name::Name;
+use std::alloc::{AllocError, Global};
 use std::sync::Wait;
 
 impl<J: Naming, R: Wait + Drop> Shelf<J, R> {
@@ -36,10 +40,10 @@ impl<J: Naming, R: Wait + Drop> Shelf<J, R> {
         if self.standing.closing {
             return Ok(None);
         }
-        let Some((name, column)) = free(&self.desk.last().version, &self.standing.slots) else {
+        let Some((name, column)) = self.free() else {
             return Ok(None);
         };
-        let Ok((name, input)) = parts(&self.desk.last().version, alloc, name, column) else {
+        let Ok((name, input)) = self.parts(alloc, name, column) else {
             return Err(NO_MEMORY);
         };
         let trace = self.desk.last().trace.again();
@@ -58,5 +62,22 @@ impl<J: Naming, R: Wait + Drop> Shelf<J, R> {
         self.standing
             .give_back(job.name(), job.input().column().number());
         job.end();
+    }
+
+    /// A pending tile that is neither handed out nor marked.
+    pub fn free(&self) -> Option<(&Name, u8)>
+        ensures some { IfSome result
+            (λ r. IsFree (newest_in self.now.desk) self.now.standing.slots.list.items r.0.now r.1) }
+        ensures none { IfNone result (AllAreHeld (newest_in self.now.desk) self.now.standing.slots.list.items) }
+    {
+        free(&self.desk.last().version, &self.standing.slots)
+    }
+
+    // A copy of a tile's name, and the tile's input.
+    fn parts(&self, alloc: Global, name: &Name, column: u8) -> Result<(Name, TileInput), AllocError>
+        ensures { IfOk result (λ r. (r.0 ≡ name.now)
+            × (r.1 ≡ input_of (newest_in self.now.desk).layers name.now column)) }
+    {
+        parts(&self.desk.last().version, alloc, name, column)
     }
 }

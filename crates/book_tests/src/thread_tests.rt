@@ -56,14 +56,13 @@ fn numbers_beside<J: Naming + Send + Sync, R: Threads + Wait + Sync>(
     )
 }
 
-/// Whether two lists that rise have the numbers from 1 to 100 between them, each once.
-fn share_all(first: &[u64], second: &[u64]) -> bool {
+/// Asserts that two lists of fifty numbers have those from 1 to 100 between them, and so each once.
+fn share_all<R: Abort>(rt: &R, first: &[u64], second: &[u64]) {
+    assert!(rt; first.len() == 50);
+    assert!(rt; second.len() == 50);
     for number in 1..101 {
-        if first.contains(&number) == second.contains(&number) {
-            return false;
-        }
+        assert!(rt; first.contains(&number) || second.contains(&number));
     }
-    first.len() + second.len() == 100
 }
 
 /// Submits one command fifty times in each of two threads.
@@ -81,7 +80,7 @@ fn submit_beside<J: Naming + Send + Sync, R: Threads + Wait + Abort + Sync>(
     let (ours, theirs) = numbers_beside(rt, alloc, shared, one, two, first, second);
     let ours = ours.expect(rt, "no numbers of the first");
     let theirs = theirs.expect(rt, "no numbers of the second");
-    assert!(rt; share_all(&ours, &theirs));
+    share_all(rt, &ours, &theirs);
     assert!(rt; one.snapshot().is_ok_and(|version| version.number() == 100));
 }
 

@@ -13,7 +13,6 @@ use book_desk::session::Session;
 use book_desk::shelf::Shelf;
 use book_history::fault::{BookFault, StoreFault};
 use book_history::making::NO_MEMORY;
-use book_history::pending::free;
 use book_history::reporter::Reporter;
 use book_history::trace::Naming;
 use layer_expr::name::Name;
@@ -26,8 +25,7 @@ pub(crate) fn is_idle<J: Naming, R: Wait + Drop>(shelf: &Option<Shelf<J, R>>) ->
     ensures { IfSome shelf.now (λ shelf. IsTrue result ↔ IsIdle (newest_in shelf.desk) shelf.standing) }
 {
     match shelf {
-        Some(shelf) => !shelf.standing.closing
-            && free(&shelf.desk.last().version, &shelf.standing.slots).is_none(),
+        Some(shelf) => !shelf.standing.closing && shelf.free().is_none(),
         None => false,
     }
 }
