@@ -17,3 +17,15 @@ loop-i-preserved c =
 
 pub returns : goal.returns
 returns c = rows_whole (touched_columns c.args.self.now (command c.args.change.now)) c.args.self.now c.loop-i.i c.loop-i.rows.items (omega (arith, c.len-i-end.ensures.value)) c.loop-i.invariant
+
+pub loop-i-init : goal.loop-i-init
+loop-i-init c = c.new-rows.ensures.items
+
+pub touched_columns-requires-clause-book : goal.touched_columns-requires-clause-book
+touched_columns-requires-clause-book c = c.len-i-end.ensures.valid
+
+pub touched_columns-requires-clause-accepted : goal.touched_columns-requires-clause-accepted
+touched_columns-requires-clause-accepted c = c.requires.accepted
+
+pub touched_columns-requires-clause-made : goal.touched_columns-requires-clause-made
+touched_columns-requires-clause-made c = c.requires.made
