@@ -1,5 +1,5 @@
 //! The device calls of making, opening and committing.
-use crate::testing::{CREATED, committed, disk_of, only_reads, opened, put, stored};
+use crate::testing::{CREATED, committed, disk_of, only_reads, opened, put, stand_at, stored};
 use disk_model::image::Choice;
 use disk_model::mem_disk::Call;
 use root_store::creating::create;
@@ -65,10 +65,10 @@ fn a_new_store_and_a_commit_make_just_their_calls(rt: HostRuntime) {
     let disk = committed(&rt, rt.alloc());
     assert!(rt; are(disk.calls(), CALLS));
     let new = disk.image(CREATED, Choice::Old).expect(&rt, "memory");
-    assert!(rt; new.bytes().get(16..64) == Some(FIRST));
-    assert!(rt; new.bytes().get(4112..4160) == Some(TWIN));
-    assert!(rt; new.bytes().get(8192..8194) == Some([0, 0].as_slice()));
-    assert!(rt; disk.bytes().get(4112..4160) == Some(ROOT));
+    assert!(rt; stand_at(new.bytes(), 16, FIRST));
+    assert!(rt; stand_at(new.bytes(), 4112, TWIN));
+    assert!(rt; stand_at(new.bytes(), 8192, &[0, 0]));
+    assert!(rt; stand_at(disk.bytes(), 4112, ROOT));
 }
 
 /// A file and the most blocks with which no store is made.
@@ -96,8 +96,8 @@ fn opening_completes_the_slot_behind_a_shut_gate(rt: HostRuntime) {
     let (before, completing) = calls.split_at(calls.len().saturating_sub(2));
     assert!(rt; only_reads(before));
     assert!(rt; are(completing, &[('W', 16, 48, b'O'), ('S', 0, 0, 0)]));
-    assert!(rt; disk.bytes().get(16..64) == Some(NEXT));
-    assert!(rt; disk.bytes().get(4112..4160) == Some(ROOT));
+    assert!(rt; stand_at(disk.bytes(), 16, NEXT));
+    assert!(rt; stand_at(disk.bytes(), 4112, ROOT));
 }
 
 /// How many calls read a byte.

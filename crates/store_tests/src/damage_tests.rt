@@ -109,15 +109,26 @@ fn refusal(rt: &impl Abort, alloc: Global, bytes: &[u8]) -> (u8, u8) {
     }
 }
 
+/// Checks that a file is told to be what a case says.
+fn check(rt: &impl Abort, alloc: Global, file: &[u8], case: Case) {
+    let (at, _, fault, code) = case;
+    assert_eq!(rt; refusal(rt, alloc, file), (fault, code), "at {at}");
+}
+
+/// A file with the bytes of a case put in their place.
+fn changed(rt: &impl Abort, alloc: Global, whole: &[u8], case: Case) -> Vec<u8> {
+    let mut file = whole.to_vec(alloc).expect(rt, "memory");
+    put(&mut file, case.0, case.1);
+    file
+}
+
 #[test]
 fn each_damage_has_its_number(rt: HostRuntime) {
     let alloc = rt.alloc();
     let whole = stored(&rt, alloc);
-    assert_eq!(rt; refusal(&rt, alloc, &whole), (0, 0));
-    for &(at, bytes, fault, code) in CASES {
-        let mut file = whole.to_vec(alloc).expect(&rt, "memory");
-        put(&mut file, at, bytes);
-        assert_eq!(rt; refusal(&rt, alloc, &file), (fault, code), "at {at}");
+    check(&rt, alloc, &whole, (0, &[], 0, 0));
+    for &case in CASES {
+        check(&rt, alloc, &changed(&rt, alloc, &whole, case), case);
     }
 }
 
@@ -125,8 +136,8 @@ fn each_damage_has_its_number(rt: HostRuntime) {
 fn of_several_damages_the_first_is_told(rt: HostRuntime) {
     let alloc = rt.alloc();
     let mut file = stored(&rt, alloc);
-    for &(at, bytes, fault, code) in GROWING {
-        put(&mut file, at, bytes);
-        assert_eq!(rt; refusal(&rt, alloc, &file), (fault, code), "at {at}");
+    for &case in GROWING {
+        put(&mut file, case.0, case.1);
+        check(&rt, alloc, &file, case);
     }
 }

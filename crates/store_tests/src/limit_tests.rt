@@ -1,16 +1,16 @@
 //! Limits of blocks, and damaged files.
-use crate::testing::{committed, created, image_of_a, opened};
+use crate::testing::{committed, created, image_of_a, opened, stand_at};
 use commit_plan::fault::StoreFault;
 use store_terms::damage::Damage;
 
 /// The base record of the square A, at its block.
-const RECORD: [u8; 44] = [
+const RECORD: &[u8] = &[
     0, 1, 0, 5, 0, 0, 0, 0, 0, 0, 0, 0, 0, 0, 0, 10, 0, 0, 0, 0, 0, 0, 0, 10, 0, 0, 0, 10, 0, 0, 0,
     0, 0, 0, 0, 10, 0, 0, 0, 0, 0, 0, 0, 0,
 ];
 
 /// The catalog that lists A alone, its record in block 3.
-const CATALOG: [u8; 17] = [0, 1, 1, 65, 0, 0, 0, 0, 0, 0, 0, 0, 3, 0, 0, 0, 44];
+const CATALOG: &[u8] = &[0, 1, 1, 65, 0, 0, 0, 0, 0, 0, 0, 0, 3, 0, 0, 0, 44];
 
 /// The first bytes of a file, or all of it where it is no longer.
 fn front_of(bytes: &[u8], size: usize) -> &[u8] {
@@ -50,8 +50,8 @@ fn a_layer_and_its_catalog_take_two_blocks(rt: HostRuntime) {
     assert_eq!(rt; disk.calls().len(), 13);
     let bytes = disk.bytes();
     assert_eq!(rt; bytes.len(), 20480);
-    assert!(rt; bytes.get(12288..12332) == Some(RECORD.as_slice()));
-    assert!(rt; bytes.get(16384..16401) == Some(CATALOG.as_slice()));
+    assert!(rt; stand_at(bytes, 12288, RECORD));
+    assert!(rt; stand_at(bytes, 16384, CATALOG));
     let (_, cut) = opened(&rt, alloc, front_of(bytes, 16384));
     assert!(rt; cut == Err(StoreFault::Damaged(Damage::CatalogPlace)));
     let (_, whole) = opened(&rt, alloc, bytes);

@@ -154,6 +154,11 @@ pub fn put(file: &mut Vec<u8>, at: usize, bytes: &[u8]) {
     }
 }
 
+/// Whether these bytes stand at a place of a file.
+pub fn stand_at(file: &[u8], at: usize, bytes: &[u8]) -> bool {
+    file.get(at..at.saturating_add(bytes.len())) == Some(bytes)
+}
+
 /// A file of eight blocks: the records of A and B in blocks 3 and 4, that of I in block 5, their catalog in
 /// block 6 with a tile of I more, and that tile in block 7.
 pub fn stored(rt: &impl Abort, alloc: Global) -> Vec<u8> {
