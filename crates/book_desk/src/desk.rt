@@ -1,11 +1,10 @@
 //! The log under the lock, which is what is published.
 ghost use Rattle.std.specs.Prelude.{ℕ, ◌≡◌, ◌+◌, ◌^◌, ◌<◌, ◌≤◌, [], ◌∷◌, ◌++◌, ◌⊎◌, length, slice_index, IfOk, IfErr};
-ghost use Rattle.std.specs.Prelude.{IfSome, IsTrue, All, false};
+ghost use Rattle.std.specs.Prelude.{IsTrue, All, false};
 ghost use Rattle.std.specs.Arc.{arc_value};
-ghost use Rattle.std.specs.List.{cons_option};
 ghost use mathlib.Core.List.{IsPrefix};
 ghost use Rattle.left_right.specs.Sides.{view};
-ghost use Rattle.overlay_terms.specs.Histories.{accepted, commands_of, own_command, FollowsCommand, Follows};
+ghost use Rattle.overlay_terms.specs.Histories.{accepted, commands_of, Follows};
 ghost use Rattle.layer_book.specs.Command.{command};
 ghost use Rattle.book_history.specs.Causes.{event_of, HasSeat};
 ghost use Rattle.book_history.specs.Fault.{IsRefused, IfGone, no_memory};
@@ -22,11 +21,9 @@ use book_history::press::{first_press, new_place, put_out};
 use book_history::published::{Press, Published};
 use book_history::trace::{Head, Naming, Trace};
 use layer_book::command::Command;
-use layer_book::fault::LayerFault;
 use std::alloc::Global;
 use std::marker::{Model, PhantomData};
 use std::sync::{Arc, Wait};
-use version_core::fault::VersionFault;
 use version_core::version::Version;
 
 const MOST: u64 = 1 << 60;

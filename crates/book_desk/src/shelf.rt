@@ -1,27 +1,23 @@
 //! The book under its lock: the log, and where the book stands beside it.
-ghost use Rattle.std.specs.Prelude.{◌≡◌, ◌⊎◌, [], ◌∷◌, ◌++◌, ◌<◌, ◌≤◌, IsTrue, Err, IfOk, IfErr};
+ghost use Rattle.std.specs.Prelude.{◌≡◌, ◌⊎◌, [], ◌∷◌, ◌++◌, ◌<◌, IsTrue, Err, IfOk, IfErr};
 ghost use mathlib.Core.List.{IsPrefix};
-ghost use Rattle.overlay_terms.specs.Histories.{accepted, commands_of, FollowsCommand};
+ghost use Rattle.overlay_terms.specs.Histories.{accepted, commands_of};
 ghost use Rattle.layer_book.specs.Command.{command};
 ghost use Rattle.book_history.specs.Fault.{IfGone, IsRefused, no_memory};
-ghost use Rattle.book_history.specs.Logs.{entry, newest_in, no_event, IsLog};
-ghost use Rattle.book_history.specs.Rules.{head_of};
-ghost use Rattle.book_history.specs.Slots.{given_back};
-ghost use Rattle.book_history.specs.Standing.{HasSlots, IsAfterClosing, IsAfterCommand, IsAfterFailure, IsAfterFinish};
-ghost use Rattle.book_history.specs.Standing.{IsFresh};
-ghost use Rattle.book_desk.specs.Steps.{beginners, HasLooked, IsAcceptedIn, IsFinishedIn};
+ghost use Rattle.book_history.specs.Logs.{newest_in, IsLog};
+ghost use Rattle.book_history.specs.Standing.{IsAfterCommand, IsAfterFinish};
+ghost use Rattle.book_desk.specs.Steps.{HasLooked, IsAcceptedIn, IsFinishedIn};
 
 use crate::desk::Desk;
 use crate::job::Job;
 use crate::session::Session;
-use book_history::fault::{BookFault, StoreFault};
+use book_history::fault::BookFault;
 use book_history::standing::Standing;
-use book_history::trace::{Head, Naming, Trace};
+use book_history::trace::Naming;
 use layer_book::command::Command;
 use std::alloc::Global;
 use std::sync::Wait;
 use tile_build::built::Built;
-use version_core::version::Version;
 
 /// What lies under the lock.
 #[derive(Drop)]

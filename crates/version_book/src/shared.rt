@@ -1,9 +1,9 @@
 //! What threads share: the book under its lock, and the calls on it.
-ghost use Rattle.std.specs.Prelude.{◌≡◌, ◌⊎◌, ◌<◌, ◌≤◌, [], ◌∷◌, ◌++◌, ◌↔◌, IsTrue, IfOk, IfErr, IfSome, IfNone, All};
+ghost use Rattle.std.specs.Prelude.{◌≡◌, ◌⊎◌, ◌<◌, ◌≤◌, [], ◌∷◌, ◌++◌, IfOk, IfErr, IfSome, IfNone, All};
 ghost use Rattle.std.specs.Prelude.{length, true};
 ghost use Rattle.std.specs.Arc.{arc_value};
 ghost use mathlib.Core.List.{IsPrefix};
-ghost use Rattle.overlay_terms.specs.Histories.{commands_of, BeginsWith, newest};
+ghost use Rattle.overlay_terms.specs.Histories.{BeginsWith, newest};
 ghost use Rattle.layer_book.specs.Command.{command};
 ghost use Rattle.book_history.specs.Fault.{IfGone, IsRefused, no_memory};
 ghost use Rattle.book_history.specs.Known.{seen, IsOwn};
@@ -11,8 +11,7 @@ ghost use Rattle.book_history.specs.Logs.{entry, history_of, newest_in, no_event
 ghost use Rattle.book_history.specs.Rules.{head_of};
 ghost use Rattle.book_desk.specs.Jobs.{IsJob};
 ghost use Rattle.book_desk.specs.Steps.{beginners, HasAllOf};
-ghost use Rattle.book_desk.specs.Waits.{IsBuilding, IsBuiltAt, IsIdle, IsQuiet, IsSyncRefused, IsWaitRefused};
-ghost use Rattle.book_desk.specs.Waits.{IsWriting};
+ghost use Rattle.book_desk.specs.Waits.{IsBuiltAt, IsSyncRefused, IsWaitRefused};
 
 use crate::closing::{Closed, begin_close, has_all_of, into_closed};
 use crate::opening::open;
