@@ -11,6 +11,7 @@ use tile_build::tile::Tile;
 use version_core::version::Version;
 
 /// What made a version, as it stands in the logbook. No value of it is made.
+#[derive(Drop)]
 pub enum Event {
     Accepted(u64, Command),
     Kept(Name, u8, Tile),
@@ -34,6 +35,15 @@ impl Model for Entry {
     ghost use Rattle.book_history.specs.Events.{written};
 
     ghost view = { λ e. record { event = written e.event; version = e.version } };
+}
+
+// Written out: of a derived drop, each crate above proves again what becomes of every part.
+impl Drop for Entry {
+    fn drop(self) {
+        let Entry { event, version } = self;
+        drop(event);
+        drop(version);
+    }
 }
 
 /// What happened.

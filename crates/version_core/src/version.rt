@@ -17,7 +17,7 @@ use tile_build::Tile;
 pub const VERSION_MAX: u64 = 4611686018427387904;
 
 /// Layers with a number and their finished tiles, and the number of the version that is reported durable.
-#[derive(Debug, Drop)]
+#[derive(Debug)]
 pub struct Version {
     pub(crate) number: u64,
     pub(crate) durable: u64,
@@ -40,6 +40,20 @@ impl Model for Version {
     ghost view = { λ v. record { number = v.number; layers = v.layers; tiles = map finished v.tiles.items; durable = v.durable } };
 
     ghost invariant = { λ v. IsVersion (record { number = v.number; layers = v.layers; tiles = map finished v.tiles.items; durable = v.durable }) };
+}
+
+// Written out: of a derived drop, each crate above proves again what becomes of every part.
+impl Drop for Version {
+    fn drop(self) {
+        let Version {
+            number: _,
+            durable: _,
+            layers,
+            tiles,
+        } = self;
+        drop(layers);
+        drop(tiles);
+    }
 }
 
 impl Version {
