@@ -1,5 +1,5 @@
 //! A place that goes on with what is published.
-ghost use Rattle.std.specs.Prelude.{◌≡◌, IfSome};
+ghost use Rattle.std.specs.Prelude.{IfSome};
 ghost use Rattle.left_right.specs.Sides.{view as place_view};
 ghost use Rattle.book_history.specs.Trails.{Begins, IsOf};
 

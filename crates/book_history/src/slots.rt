@@ -1,5 +1,5 @@
 //! Tiles that are handed out, and tiles that wait for memory.
-ghost use Rattle.std.specs.Prelude.{◌≡◌, [], IfOk, OnErr, OnOk};
+ghost use Rattle.std.specs.Prelude.{◌≡◌, [], OnErr, OnOk};
 ghost use Rattle.book_history.specs.Slots.{given_back, handed_out, has_mark, has_slot, is_of, marked_if, taken_in};
 ghost use Rattle.book_history.specs.Slots.{unmarked, unmarked_of};
 

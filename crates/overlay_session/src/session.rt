@@ -1,6 +1,5 @@
 //! A session on its own, from the bytes of a script to the bytes of its replies.
 ghost use Rattle.std.specs.Prelude.{◌≡◌, ◌<◌, ◌∷◌, [], length, IfOk};
-ghost use Rattle.script_form.specs.Replies.{error_line};
 ghost use Rattle.overlay_session.specs.Session.{IsPlainSession};
 ghost use Rattle.overlay_session.specs.Loop.{AnswersLine, TakesBytes, Finishes, EndsBy};
 
