@@ -1,7 +1,8 @@
 //! Commands of two sessions in threads of their own.
 ghost use Rattle.std.specs.Prelude.{◌≡◌};
 
-use crate::testing::{Opened, SHIFTED, SQUARE, open_history, put};
+use crate::books::{Opened, open_history};
+use crate::testing::{SHIFTED, SQUARE, put};
 use layer_book::command::Command;
 use std::alloc::Global;
 use std::marker::Brand;
@@ -94,8 +95,8 @@ fn put_beside<J: Naming + Send + Sync, R: Threads + Wait + Abort + Sync>(
 )
     requires { (one.old.book ≡ J.book) × (two.old.book ≡ J.book) }
 {
-    let first = put(alloc, "A", SQUARE).expect(rt, "no command");
-    let second = put(alloc, "B", SHIFTED).expect(rt, "no command");
+    let first = put(rt, alloc, "A", SQUARE);
+    let second = put(rt, alloc, "B", SHIFTED);
     submit_beside(rt, alloc, shared, one, two, &first, &second);
 }
 

@@ -1,7 +1,8 @@
 //! Tiles that are handed out, finished, and given back.
 ghost use Rattle.std.specs.Prelude.{◌≡◌};
 
-use crate::testing::{Scene, finish, play, submit_overlap, submit_put};
+use crate::books::{Scene, finish, play, submit_overlap, submit_put};
+use crate::testing::{Corners, name_of};
 use layer_expr::name::Name;
 use std::alloc::Global;
 use std::process::Abort;
@@ -12,13 +13,13 @@ use version_book::shared::Shared;
 use version_book::trace::Naming;
 
 /// A ring that lies in all columns.
-const WIDE: &[(i64, i64)] = &[
+const WIDE: Corners = &[&[
     (-1048576, 0),
     (1048576, 0),
     (1048576, 10),
     (-1048576, 10),
     (-1048576, 0),
-];
+]];
 
 /// Takes so many jobs, one after another, and then finishes each. It says whether all tiles were kept, and tells the
 /// columns.
@@ -43,7 +44,7 @@ fn finish_all<J: Naming, R: Wait + Drop, W: Wait>(
 }
 
 /// Takes a job and finishes it after its input has changed. It says whether the tile was kept.
-fn finished_late<J: Naming, R: Wait + Drop, W: Wait>(
+fn finished_late<J: Naming, R: Wait + Drop, W: Wait + Abort>(
     rt: &W,
     alloc: Global,
     shared: &Shared<J, R>,
@@ -191,7 +192,7 @@ impl Scene for GiveBackAndWait {
         me: &mut Session,
     ) {
         assert!(rt; submit_overlap(rt, alloc, shared, me) == Some(3));
-        let name = Name::new(alloc, b"I").expect(rt, "no name");
+        let name = name_of(rt, alloc, "I");
         assert!(rt; is_same(given_back_beside(rt, alloc, shared, me, &name, 16)));
         assert!(rt; shared.wait_built(rt, me, &name) == Ok(3));
     }

@@ -1,8 +1,8 @@
 //! A command of a session, and what the session sees of it.
-use crate::testing::{SQUARE, Scene, play, submit_put};
+use crate::books::{Scene, play, submit_put};
+use crate::testing::{SQUARE, name_of};
 use exact_point::QueryPoint;
 use layer_book::direct_answer::Place;
-use layer_expr::name::Name;
 use std::alloc::Global;
 use std::process::Abort;
 use std::sync::Wait;
@@ -14,7 +14,7 @@ use version_core::version::Version;
 
 /// Looks for a point inside the layer A.
 fn look<R: Abort>(rt: &R, alloc: Global, version: &Version) {
-    let name = Name::new(alloc, b"A").expect(rt, "no name");
+    let name = name_of(rt, alloc, "A");
     let point = QueryPoint::new(2, 2, 1).expect(rt, "no point");
     assert!(rt; version.locate(&name, &point) == Ok(Place::Inside));
 }

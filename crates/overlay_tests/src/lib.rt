@@ -1,10 +1,21 @@
-//! Tests of the crates from points to versions, by calls that no script reaches.
+//! Tests of the crates from points to versions, by calls that no script reaches, and of a book of versions and threads
+//! that call it.
 #![tactic(auto)]
 
 #[cfg(test)]
 mod arrangement_tests;
 #[cfg(test)]
+mod books;
+#[cfg(test)]
+mod closing_tests;
+#[cfg(test)]
+mod command_tests;
+#[cfg(test)]
 mod crossing_tests;
+#[cfg(test)]
+mod durable_tests;
+#[cfg(test)]
+mod job_tests;
 #[cfg(test)]
 mod layer_tests;
 #[cfg(test)]
@@ -19,6 +30,8 @@ mod rows;
 mod sweep_tests;
 #[cfg(test)]
 mod testing;
+#[cfg(test)]
+mod thread_tests;
 #[cfg(test)]
 mod tile_tests;
 #[cfg(test)]

@@ -1,7 +1,8 @@
 //! What a book answers once it closes.
 ghost use Rattle.std.specs.Prelude.{◌≡◌};
 
-use crate::testing::{SQUARE, Scene, next_number, play, put};
+use crate::books::{Scene, next_number, play};
+use crate::testing::{SQUARE, put};
 use layer_book::command::Command;
 use std::alloc::Global;
 use std::process::Abort;
@@ -53,7 +54,7 @@ impl Scene for Closing {
         reporter: &mut Reporter,
         me: &mut Session,
     ) {
-        let change = put(alloc, "A", SQUARE).expect(rt, "no command");
+        let change = put(rt, alloc, "A", SQUARE);
         refuse(rt, alloc, shared, me, &change);
         assert!(rt; hands_out_nothing(rt, alloc, shared));
         assert!(rt; next_number(rt, shared, reporter) == Ok(Some(1)));

@@ -1,7 +1,8 @@
 //! Durable numbers, and a store that failed.
 ghost use Rattle.std.specs.Prelude.{◌≡◌};
 
-use crate::testing::{SQUARE, Scene, next_number, play, submit_put};
+use crate::books::{Scene, next_number, play, submit_put};
+use crate::testing::SQUARE;
 use std::alloc::Global;
 use std::process::Abort;
 use std::sync::Wait;

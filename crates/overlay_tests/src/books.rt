@@ -3,14 +3,11 @@ ghost use Rattle.std.specs.Prelude.{◌≡◌, ◌∷◌, []};
 ghost use Rattle.version_book.specs.Logs.{entry, no_event};
 ghost use Rattle.version_book.specs.Rules.{head_of};
 
-use layer_book::command::Command;
-use layer_expr::name::Name;
-use layer_expr::reading::read_expr;
-use plane_base::{BaseLayer, Pt, Ring};
+use crate::testing::{Corners, SHIFTED, SQUARE, define, put};
 use std::alloc::Global;
 use std::marker::Brand;
 use std::process::Abort;
-use std::sync::{Arc, Wait};
+use std::sync::Wait;
 use tile_build::Built;
 use version_book::fault::BookFault;
 use version_book::job::Job;
@@ -19,11 +16,6 @@ use version_book::session::Session;
 use version_book::shared::Shared;
 use version_book::trace::{Head, Naming, Trace, open};
 use version_core::version::Version;
-
-/// The corners of a ring, of which the last is the first.
-pub const SQUARE: &[(i64, i64)] = &[(0, 0), (10, 0), (10, 10), (0, 10), (0, 0)];
-
-pub const SHIFTED: &[(i64, i64)] = &[(5, 5), (15, 5), (15, 15), (5, 15), (5, 5)];
 
 /// What a test does with a book, its reporter and its one session.
 pub trait Scene {
@@ -82,49 +74,24 @@ fn play_in<S: Scene, J: Naming, R: Wait + Abort>(rt: &R, alloc: Global, opened: 
     S::play(rt, alloc, &shared, &mut reporter, &mut me);
 }
 
-/// The base layer of one ring, where there is memory for it.
-fn layer_of(alloc: Global, corners: &[(i64, i64)]) -> Option<BaseLayer> {
-    let mut points = Vec::new(alloc);
-    for &(x, y) in corners {
-        points.push(Pt::new(x, y).ok()?).ok()?;
-    }
-    let mut rings = Vec::new(alloc);
-    rings.push(Ring::new(points)).ok()?;
-    BaseLayer::new(alloc, rings).ok()
-}
-
-/// The command that puts one ring under a name, where there is memory for it.
-pub fn put(alloc: Global, name: &str, corners: &[(i64, i64)]) -> Option<Command> {
-    let layer = layer_of(alloc, corners)?;
-    let name = Name::new(alloc, name.as_bytes()).ok()?;
-    Some(Command::Put(name, Arc::new(alloc, layer).ok()?))
-}
-
-/// The command that defines a name by a text, where there is memory for it.
-fn define(alloc: Global, name: &str, text: &str) -> Option<Command> {
-    let expression = read_expr(alloc, text.as_bytes()).ok()?;
-    let name = Name::new(alloc, name.as_bytes()).ok()?;
-    Some(Command::Define(name, Arc::new(alloc, expression).ok()?))
-}
-
-/// Puts one ring under a name, and tells the number of that version.
-pub fn submit_put<J: Naming, R: Wait + Drop, W: Wait>(
+/// Puts the rings through these corners under a name, and tells the number of that version.
+pub fn submit_put<J: Naming, R: Wait + Drop, W: Wait + Abort>(
     rt: &W,
     alloc: Global,
     shared: &Shared<J, R>,
     me: &mut Session,
     name: &str,
-    corners: &[(i64, i64)],
+    corners: Corners,
 ) -> Option<u64>
     requires { me.old.book ≡ J.book }
     ensures { me.new.book ≡ me.old.book }
 {
-    let change = put(alloc, name, corners)?;
+    let change = put(rt, alloc, name, corners);
     shared.submit(rt, alloc, me, &change).ok()
 }
 
 /// Submits the squares A and B, and I where both are, and tells the number of the last version.
-pub fn submit_overlap<J: Naming, R: Wait + Drop, W: Wait>(
+pub fn submit_overlap<J: Naming, R: Wait + Drop, W: Wait + Abort>(
     rt: &W,
     alloc: Global,
     shared: &Shared<J, R>,
@@ -135,7 +102,7 @@ pub fn submit_overlap<J: Naming, R: Wait + Drop, W: Wait>(
 {
     submit_put(rt, alloc, shared, me, "A", SQUARE)?;
     submit_put(rt, alloc, shared, me, "B", SHIFTED)?;
-    let change = define(alloc, "I", "A & B")?;
+    let change = define(rt, alloc, "I", "A & B");
     shared.submit(rt, alloc, me, &change).ok()
 }
 
