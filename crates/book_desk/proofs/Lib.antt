@@ -1,3 +1,3 @@
 pub mod Beginning
 pub mod Growing
-pub mod SentShelf
+pub mod SentDesk

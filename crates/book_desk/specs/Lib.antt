@@ -1,6 +1,4 @@
-pub mod Jobs
 pub mod Steps
-pub mod Waits
 pub use Rattle.book_history.specs.Fault
 pub use Rattle.book_history.specs.Known
 pub use Rattle.book_history.specs.Logs

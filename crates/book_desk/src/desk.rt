@@ -196,7 +196,7 @@ impl<J: Naming, R: Wait + Drop> Desk<J, R> {
     }
 
     /// Accepts a command of a session: the one entry that this adds, or nothing.
-    pub(crate) fn submit(
+    pub fn submit(
         self,
         alloc: Global,
         me: &mut Session,

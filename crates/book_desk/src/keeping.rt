@@ -17,7 +17,7 @@ use version_core::finishing::Finish;
 
 impl<J: Naming, R: Wait + Drop> Desk<J, R> {
     /// Keeps a built tile where it is awaited: the one entry that this adds, or nothing.
-    pub(crate) fn keep(
+    pub fn keep(
         self,
         alloc: Global,
         name: &Name,

@@ -7,8 +7,8 @@ use Rattle.overlay_terms.specs.Histories.{Version, Entry, accepted, commands_of,
 use Rattle.book_history.specs.Logs.{entry, newest_in, history_of, IsAccepted, IsLog}
 use Rattle.book_history.specs.Fault.{IfGone, IsRefused}
 use Rattle.book_history.specs.Known.{Known, Heard, seen, IsOwn}
-use Rattle.book_desk.specs.Steps.{HasLooked, IsReportedIn, Looks}
-use Rattle.book_desk.specs.Waits.{IsSyncRefused, IsSyncRefusedAt, IsWaitRefused}
+use Rattle.book_desk.specs.Steps.{HasLooked, IsReportedIn}
+use Rattle.version_book.specs.Waits.{IsSyncRefused, IsSyncRefusedAt, IsWaitRefused, Looks}
 use Rattle.book_history.specs.declared.standing.Standing.{Standing}
 use Rattle.book_history.specs.declared.fault.BookFault.{BookFault}
 use Rattle.book_history.specs.declared.fault.BookFault.TheVariants as fault

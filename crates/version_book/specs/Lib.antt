@@ -1,6 +1,6 @@
-pub use Rattle.book_desk.specs.Jobs
+pub mod Jobs
+pub mod Waits
 pub use Rattle.book_desk.specs.Steps
-pub use Rattle.book_desk.specs.Waits
 pub use Rattle.book_history.specs.Fault
 pub use Rattle.book_history.specs.Known
 pub use Rattle.book_history.specs.Logs

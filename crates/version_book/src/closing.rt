@@ -6,10 +6,10 @@ ghost use Rattle.book_history.specs.Logs.{newest_in, IsLog};
 ghost use Rattle.book_history.specs.Standing.{IsAfterClosing};
 ghost use Rattle.book_desk.specs.Steps.{HasAllOf, IsLevel};
 
+use crate::shelf::Shelf;
 pub use book_desk::closed::Closed;
 use book_desk::desk::Desk;
 use book_desk::session::Session;
-use book_desk::shelf::Shelf;
 use book_history::reporter::Reporter;
 use book_history::trace::Naming;
 use std::sync::Wait;

@@ -6,9 +6,9 @@ ghost use Rattle.book_history.specs.Rules.{head_of};
 ghost use Rattle.book_history.specs.Standing.{IsFresh};
 ghost use Rattle.book_desk.specs.Steps.{beginners};
 
+use crate::shelf::Shelf;
 use book_desk::desk::Desk;
 use book_desk::session::Session;
-use book_desk::shelf::Shelf;
 use book_history::fault::BookFault;
 use book_history::standing::Standing;
 use book_history::trace::{Head, Naming, Trace};

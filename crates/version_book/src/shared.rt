@@ -9,19 +9,19 @@ ghost use Rattle.book_history.specs.Fault.{IfGone, IsRefused, no_memory};
 ghost use Rattle.book_history.specs.Known.{seen, IsOwn};
 ghost use Rattle.book_history.specs.Logs.{entry, history_of, newest_in, no_event, IsAccepted, IsLog};
 ghost use Rattle.book_history.specs.Rules.{head_of};
-ghost use Rattle.book_desk.specs.Jobs.{IsJob};
 ghost use Rattle.book_desk.specs.Steps.{beginners, HasAllOf};
-ghost use Rattle.book_desk.specs.Waits.{IsBuiltAt, IsSyncRefused, IsWaitRefused};
+ghost use Rattle.version_book.specs.Jobs.{IsJob};
+ghost use Rattle.version_book.specs.Waits.{IsBuiltAt, IsSyncRefused, IsWaitRefused};
 
 use crate::closing::{Closed, begin_close, has_all_of, into_closed};
+use crate::job::Job;
 use crate::opening::open;
+use crate::shelf::Shelf;
 use crate::telling::{
     is_building, is_idle, is_quiet, is_writing, report, store_failed, tell_built, tell_durable,
     tell_news,
 };
-use book_desk::job::Job;
 use book_desk::session::Session;
-use book_desk::shelf::Shelf;
 use book_history::fault::{BookFault, StoreFault};
 use book_history::reporter::Reporter;
 use book_history::trace::{Head, Naming, Trace};

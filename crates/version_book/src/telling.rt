@@ -5,12 +5,12 @@ ghost use mathlib.Core.List.{IsPrefix};
 ghost use Rattle.book_history.specs.Fault.{IfGone, no_memory};
 ghost use Rattle.book_history.specs.Logs.{newest_in, IsLog};
 ghost use Rattle.book_history.specs.Standing.{IsAfterFailure};
-ghost use Rattle.book_desk.specs.Steps.{IsAfterTold, IsLevel, IsReportedIn, Looks};
-ghost use Rattle.book_desk.specs.Waits.{IsBuilding, IsBuiltAt, IsIdle, IsQuiet, IsSyncRefusedAt, IsWaitRefused};
-ghost use Rattle.book_desk.specs.Waits.{IsWriting};
+ghost use Rattle.book_desk.specs.Steps.{IsLevel, IsReportedIn};
+ghost use Rattle.version_book.specs.Waits.{IsAfterTold, IsBuilding, IsBuiltAt, IsIdle, IsQuiet, IsSyncRefusedAt};
+ghost use Rattle.version_book.specs.Waits.{IsWaitRefused, IsWriting, Looks};
 
+use crate::shelf::Shelf;
 use book_desk::session::Session;
-use book_desk::shelf::Shelf;
 use book_history::fault::{BookFault, StoreFault};
 use book_history::making::NO_MEMORY;
 use book_history::reporter::Reporter;

@@ -1,6 +1,6 @@
 use Rattle.book_history.specs.Logs.{newest_in}
 use Rattle.std.proofs.Common.{true}
-use Rattle.book_desk.specs.Waits.{IsBuiltAt, IsWaitRefused}
+use Rattle.version_book.specs.Waits.{IsBuiltAt, IsWaitRefused}
 use Rattle.version_book.proofs.Results.{looks_err, looks_goes, looks_ok, looks_own, looks_refused, looks_same, wait_refused}
 use Rattle.version_book.proofs.shared.Shared.wait_built.Goals as goal
 

@@ -1,15 +1,19 @@
 -- What the waits decide by, and how they end.
-use Rattle.std.specs.Prelude.{◌≡◌, ◌⊎◌, ◌<◌, ℕ, Bool, IsTrue, true, false, Some, None}
+use Rattle.std.specs.Prelude.{◌≡◌, ◌⊎◌, ◌<◌, ℕ, List, Bool, IsTrue, true, false, Some, None, Result, Ok, Err, IfSome, IfNone}
 use Rattle.overlay_terms.specs.Layers.{Name}
-use Rattle.overlay_terms.specs.Histories.{Version}
+use Rattle.overlay_terms.specs.Histories.{Entry, Version}
 use Rattle.layer_book.specs.declared.fault.LayerFault.TheVariants.{OutOfMemory as NoMemory}
 use Rattle.version_core.specs.Building.{IsBuilt, wait_refusal}
 use Rattle.version_core.specs.declared.fault.VersionFault.TheVariants.{Layer}
 use Rattle.book_history.specs.declared.fault.BookFault.{BookFault}
 use Rattle.book_history.specs.declared.fault.BookFault.TheVariants as fault
+use Rattle.book_history.specs.Fault.{IfGone}
 use Rattle.book_history.specs.Free.{AllAreHeld}
-use Rattle.book_history.specs.Slots.{has_mark}
+use Rattle.book_history.specs.Known.{Known}
+use Rattle.book_history.specs.Slots.{has_mark, unmarked_of}
+use Rattle.book_history.specs.Standing.{HasSlots}
 use Rattle.book_history.specs.declared.standing.Standing.{Standing}
+use Rattle.book_desk.specs.Steps.{HasLooked}
 
 -- a worker waits on: the book is open, and no tile can be handed out
 pub record IsIdle (version : Version) (standing : Standing) : Type 0 where
@@ -72,3 +76,24 @@ IsSyncRefusedAt standing version number fault.Gone = Unit {0}
 IsSyncRefusedAt standing version number fault.NoStore = standing.store ≡ false
 IsSyncRefusedAt standing version number (fault.Store refused) =
     (standing.store ≡ true) × (version.durable < number) × (standing.fault ≡ Some refused)
+
+-- a session has looked at this log; or the book was behind it, and nothing changed
+abbrev pub Looks : Result ℕ BookFault → Known → List Entry → Known → Type 0
+Looks (Ok number) was log now = HasLooked was log now
+Looks (Err fault) was log now = IfGone fault (now ≡ was) (HasLooked was log now)
+
+-- the marks of a layer, of which there are some, go
+abbrev pub LosesMarks : Standing → Name → Standing → Type 0
+LosesMarks old name new =
+    (has_mark name old.slots.list.items ≡ true) × HasSlots old (unmarked_of name old.slots.list.items) new
+
+-- a wait for the tiles of a layer was told how it ends: its marks go where memory ran out, and else nothing changes;
+-- there are no marks where it ends by closing
+abbrev pub IsAfterTold : Version → Standing → Name → Result ℕ BookFault → Standing → Type 0
+IsAfterTold version old name (Ok number) new = new ≡ old
+IsAfterTold version old name (Err (fault.Version refused)) new =
+    IfSome (wait_refusal version name) (λ _. new ≡ old) × IfNone (wait_refusal version name) (LosesMarks old name new)
+IsAfterTold version old name (Err fault.Closing) new = (new ≡ old) × (has_mark name old.slots.list.items ≡ false)
+IsAfterTold version old name (Err fault.Gone) new = new ≡ old
+IsAfterTold version old name (Err fault.NoStore) new = new ≡ old
+IsAfterTold version old name (Err (fault.Store refused)) new = new ≡ old

@@ -1,6 +1,6 @@
--- A session, and what lies under the lock, may go from thread to thread.
+-- A session, and the log under the lock, may go from thread to thread.
 use denote.RattleType.{RattleType}
-use denote.Param.Send.{IsSend, SendAt, recorded_send, recorded_send_of, recorded_send_at, struct_send, struct_send_at, view_send, sendable}
+use denote.Param.Send.{IsSend, SendAt, recorded_send_of, recorded_send_at, struct_send_at, view_send, sendable}
 use denote.Array.{Array}
 use denote.Plain.{UInt}
 use denote.Builtin.{u64}
@@ -14,9 +14,7 @@ use Rattle.std.specs.contracts.marker.PhantomData as phantom
 use Rattle.logbook.proofs.word.Word.TheSendSync as words
 use Rattle.book_desk.specs.contracts.desk.Desk as desk
 use Rattle.book_desk.specs.contracts.desk.Desk.TheInside as inside
-use Rattle.book_desk.specs.contracts.shelf.Shelf as shelf
 use Rattle.book_history.specs.declared.trace.Naming as naming
-use Rattle.book_history.proofs.standing.Standing.TheSendSync as standing
 use Rattle.book_desk.specs.contracts.session.Session as session
 use Rattle.book_history.proofs.trace.Trace.TheSendSync as traces
 use Rattle.std.proofs.Crossing.{crosses}
@@ -45,8 +43,3 @@ module _ (J R : RattleType) (g : naming.Ghosts J.Denot) where
 
   pub desk_send : IsSend J → IsSend R → IsSend (desk.the_row J R g)
   desk_send j s = view_send _ _ _ _ _ (inner_send j s)
-
-  pub shelf_send : IsSend J → IsSend R → IsSend (shelf.the_row J R g)
-  shelf_send j s =
-      let O = shelf.the_type J R g in
-      recorded_send _ _ _ O.to_one (struct_send (shape O) (desk_send j s, (standing.the_field_send, tt)))

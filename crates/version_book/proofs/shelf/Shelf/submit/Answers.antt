@@ -1,5 +1,5 @@
 use Rattle.std.proofs.Common.{rules}
-use Rattle.book_desk.proofs.shelf.Shelf.submit.Goals as goal
+use Rattle.version_book.proofs.shelf.Shelf.submit.Goals as goal
 
 -- found by search alone: they stand here so that a wrong body is refused without working out what to write
 pub returns-clause-ok : goal.returns-clause-ok

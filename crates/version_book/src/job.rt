@@ -1,6 +1,6 @@
 //! A tile that is handed out.
 ghost use Rattle.std.specs.Prelude.{◌≡◌};
-ghost use Rattle.book_desk.specs.Jobs.{IsJob};
+ghost use Rattle.version_book.specs.Jobs.{IsJob};
 
 use arrange::tile_input::TileInput;
 use book_history::trace::Trace;
@@ -16,7 +16,7 @@ pub struct Job {
 }
 
 impl Model for Job {
-    ghost use Rattle.book_desk.specs.Jobs.{Handed, IsJob, handed_code};
+    ghost use Rattle.version_book.specs.Jobs.{Handed, IsJob, handed_code};
 
     ghost Value = { Handed };
 

@@ -4,11 +4,10 @@ ghost use Rattle.overlay_terms.specs.Tiles.{input_of};
 ghost use Rattle.book_history.specs.Fault.{no_memory};
 ghost use Rattle.book_history.specs.Free.{AllAreHeld, IsFree};
 ghost use Rattle.book_history.specs.Logs.{newest_in};
-ghost use Rattle.book_desk.specs.Jobs.{IsJob};
 ghost use Rattle.book_history.specs.Slots.{given_back, handed_out};
 ghost use Rattle.book_history.specs.Standing.{HasSlots};
-ghost use Rattle.book_desk.specs.Steps.{IsHandedOut};
-ghost use Rattle.book_desk.specs.Waits.{IsIdle};
+ghost use Rattle.version_book.specs.Jobs.{IsHandedOut, IsJob};
+ghost use Rattle.version_book.specs.Waits.{IsIdle};
 
 use crate::job::Job;
 use crate::shelf::Shelf;
@@ -46,11 +45,12 @@ impl<J: Naming, R: Wait + Drop> Shelf<J, R> {
         let Ok((name, input)) = self.parts(alloc, name, column) else {
             return Err(NO_MEMORY);
         };
-        let trace = self.desk.last().trace.again();
-        if self.standing.slots.hand_out(&name, column).is_err() {
+        let job = Job::new(name, input, self.desk.last().trace.again());
+        if self.standing.slots.hand_out(job.name(), column).is_err() {
+            job.end();
             return Err(NO_MEMORY);
         }
-        Ok(Some(Job::new(name, input, trace)))
+        Ok(Some(job))
     }
 
     /// Spends a job whose tile could not be built for want of memory: the tile is marked.

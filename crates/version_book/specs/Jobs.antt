@@ -1,14 +1,16 @@
--- A tile that is handed out, and what it is to be built from.
-use Rattle.std.specs.Prelude.{◌≡◌, List, refl}
+-- A tile that can be handed out, and one that is: what it is to be built from.
+use Rattle.std.specs.Prelude.{◌≡◌, List, false, refl}
 use Rattle.std.specs.Coded.{Coded, code_by, coded_list, coded×}
 use Rattle.logbook.specs.Pages.{Book, book_coded}
-use Rattle.overlay_terms.specs.Histories.{Entry}
+use Rattle.overlay_terms.specs.Histories.{Entry, Version}
 use Rattle.overlay_terms.specs.InputCode.{input_code}
 use Rattle.overlay_terms.specs.Layers.{Name}
 use Rattle.overlay_terms.specs.Tiles.{Input, input_of}
 use Rattle.version_core.specs.Finish.{IsPending}
 use Rattle.book_history.specs.Codes.{entry_code, name_code}
 use Rattle.book_history.specs.Logs.{newest_in, IsLog}
+use Rattle.book_history.specs.Slots.{has_slot}
+use Rattle.book_history.specs.declared.slots.Slot.{Slot}
 
 -- which book a job is of, the log at which it was handed out, the name of its layer, and what its tile is built from
 pub record Handed : Type 0 where
@@ -27,3 +29,9 @@ pub record IsJob (job : Handed) : Type 0 where
 abbrev pub handed_code : Coded Handed
 handed_code =
     code_by (Book × (List Entry × (Name × Input))) (coded× book_coded (coded× (coded_list entry_code) (coded× name_code input_code))) (λ j. (j.book, (j.log, (j.name, j.input)))) (λ p. record { book = p.0; log = p.1.0; name = p.1.1.0; input = p.1.1.1 }) (λ _. refl)
+
+-- a tile can be handed out: it is pending, it is neither handed out nor marked, and this is its present input
+pub record IsHandedOut (version : Version) (slots : List Slot) (name : Name) (input : Input) : Type 0 where
+  pub pending : IsPending version name input.column
+  pub free : has_slot name input.column slots ≡ false
+  pub present : input ≡ input_of version.layers name input.column

@@ -1,5 +1,5 @@
 use Rattle.std.proofs.Common.{rules}
-use Rattle.book_desk.proofs.shelf.Shelf.finish.Goals as goal
+use Rattle.version_book.proofs.shelf.Shelf.finish.Goals as goal
 
 -- found by search alone: it stands here so that a wrong body is refused without working out what to write
 pub returns-clause-standing : goal.returns-clause-standing

@@ -8,9 +8,9 @@ ghost use Rattle.book_history.specs.Logs.{newest_in, IsLog};
 ghost use Rattle.book_history.specs.Standing.{IsAfterCommand, IsAfterFinish};
 ghost use Rattle.book_desk.specs.Steps.{HasLooked, IsAcceptedIn, IsFinishedIn};
 
-use crate::desk::Desk;
 use crate::job::Job;
-use crate::session::Session;
+use book_desk::desk::Desk;
+use book_desk::session::Session;
 use book_history::fault::BookFault;
 use book_history::standing::Standing;
 use book_history::trace::Naming;
