@@ -33,7 +33,6 @@ use tile_build::built::Built;
 use version_core::version::Version;
 
 /// The book under its lock.
-#[derive(Drop)]
 pub struct Shared<J: Naming, R: Wait + Drop> {
     shelf: Mutex<Option<Shelf<J, R>>>,
     changed: Condvar,
@@ -303,4 +302,13 @@ impl<J: Naming, R: Wait + Drop> Shared<J, R> {
 fn never<W: Wait>(rt: &W) -> ! {
     for _ in rt.forever() {}
     unreachable!()
+}
+
+/// It waits for the readers.
+impl<J: Naming, R: Wait + Drop> Drop for Shared<J, R> {
+    fn drop(self) {
+        let Self { shelf, changed } = self;
+        drop(shelf);
+        drop(changed);
+    }
 }
