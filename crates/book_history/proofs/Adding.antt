@@ -1,5 +1,5 @@
 -- The exchange that adds an entry keeps the rule.
-use Rattle.std.proofs.Common.{◌≡◌, ℕ, ◌+◌, ◌<◌, ◌==◌, suc, Bool, true, false, List, [], ◌∷◌, ◌++◌, length, refl, ap, sym, subst, arith, inl, length-append, None}
+use Rattle.std.proofs.Common.{◌≡◌, ℕ, ◌+◌, ◌<◌, ◌==◌, suc, Bool, true, false, List, [], ◌∷◌, ◌++◌, length, refl, ap, sym, subst, arith, inl, length-append, None, MatchBool, eq-eqb, ◌∙◌}
 use Rattle.std.proofs.lemmas.List.{append-nil}
 use Rattle.std.proofs.lemmas.Bool.Decides.{nat_tests}
 use mathlib.Core.List.{IsPrefix}
@@ -53,3 +53,14 @@ pub adds_moves : (v : List Entry) (e : Entry) (old : ℕ) → suc old ≡ length
 adds_moves v e old len may cs log kept pre away =
     let P : List Cell → Type 0 = λ c. (0 < length c) × ((cell c 0).1 ≡ true) × Goes IsKept shown moved 0 (v, (no_nib, None)) (λ n. either (n == old) (old + 1) n) (Adds (step 0 old (old + 1) e) (v, (no_nib, None))) c log in
     subst P (sym kept.words) (omega arith, refl, adds_goes kept.more log v e old kept.long len may kept.legal pre (kept.more == old) refl)
+
+-- where the exchange found the number that it was to find, the entry was added
+pub was_added : (v w : List Entry) (asked e : Entry) (found old : ℕ) → found ≡ old → asked ≡ e → MatchBool (found == old) ((w ≡ v ++ asked ∷ []) × IsLog w) (IsLog w)
+    → (w ≡ v ++ e ∷ []) × IsLog w
+was_added v w asked e found old same is told =
+    let h : (w ≡ v ++ asked ∷ []) × IsLog w = subst (λ b. MatchBool b ((w ≡ v ++ asked ∷ []) × IsLog w) (IsLog w)) (eq-eqb found old same) told in
+    (h.0 ∙ ap (λ x. v ++ x ∷ []) is, h.1)
+
+-- a log that gained an entry is longer by one
+pub longer_by_one : (v w : List Entry) (e : Entry) (n : ℕ) → suc n ≡ length v → w ≡ v ++ e ∷ [] → suc (n + 1) ≡ length w
+longer_by_one v w e n long is = omega (arith, ap length is, length-append v (e ∷ []))

@@ -5,5 +5,6 @@ pub mod Gone
 pub mod Holding
 pub mod Marking
 pub mod Owned
+pub mod Publishing
 pub mod Sent
 pub mod Trails

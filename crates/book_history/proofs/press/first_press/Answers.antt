@@ -3,8 +3,16 @@ use Rattle.book_history.specs.Trails.{Trail}
 use Rattle.book_history.proofs.Trails.{begins_same}
 use Rattle.book_history.proofs.press.first_press.Goals as goal
 
-pub put_out-requires-clause-longer : goal.put_out-requires-clause-longer
-put_out-requires-clause-longer g c =
+pub put_out-requires : goal.put_out-requires
+put_out-requires g c =
     let first = c.in-Ok.ensures.0 in
+    let next = c.in-Ok-Ok.ensures'.0 in record {
+      pending = c.in-Ok.ensures.1;
+      longer = begins_same _ _ (ap (λ p. p.trace) first ∙ sym next) (subst (λ (t : Trail). 0 < length t.log) (sym (ap (λ p. p.trace) first)) c.requires.begun);
+    }
+
+pub returns : goal.returns
+returns g c =
+    let put = c.put_out.ensures in
     let next = c.in-Ok-Ok.ensures'.0 in
-    begins_same _ _ (ap (λ p. p.trace) first ∙ sym next) (subst (λ (t : Trail). 0 < length t.log) (sym (ap (λ p. p.trace) first)) c.requires.begun)
+    (put.shown ∙ next, put.pending, put.known ∙ next)
