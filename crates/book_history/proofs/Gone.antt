@@ -1,13 +1,20 @@
 -- What a fault says, told from its cases.
-use Rattle.std.proofs.Common.{◌≡◌, ap, Option, None}
+use Rattle.std.proofs.Common.{◌≡◌, Bool, refl, ap, inl, Option, None}
 use Rattle.std.specs.Option.{option_map}
-use Rattle.book_history.specs.Fault.{IfGone}
+use Rattle.overlay_terms.specs.Commands.{Command, refusal_at}
+use Rattle.overlay_terms.specs.Histories.{Version}
+use Rattle.version_core.specs.Fault.{fault_of}
+use Rattle.book_history.specs.Fault.{IsRefused, IfGone, no_memory}
 use Rattle.book_history.specs.declared.fault.BookFault.{BookFault}
 use Rattle.book_history.specs.declared.fault.BookFault.TheVariants as fault
 
 -- where there is no refusal there is no fault that reports it
 pub no_reason : {A B : Type 0} (f : A → B) (o : Option A) → o ≡ None → option_map f o ≡ None
 no_reason f o none = ap (option_map f) none
+
+-- a command that could be accepted is refused for want of memory
+pub for_want : (closing : Bool) (version : Version) (change : Command) → refusal_at version.number version.layers change ≡ None → IsRefused closing version change no_memory
+for_want closing version change none = inl (refl, no_reason fault_of _ none)
 
 -- one of two facts, whatever the fault is
 pub gone_or : (f : BookFault) {A B C : Type 0} → (A → C) → (B → C) → IfGone f A B → C

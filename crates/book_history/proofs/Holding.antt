@@ -1,7 +1,8 @@
 -- What holds of one after another.
-use Rattle.std.proofs.Common.{◌≡◌, ℕ, ◌+◌, Bool, true, false, ◌&&◌, ◌||◌, List, [], ◌∷◌, ◌++◌, ◌<◌, length, take, get_or, slice_get, Some, refl, ap, sym, ◌∙◌, subst, add-one}
+use Rattle.std.proofs.Common.{◌≡◌, ℕ, ◌+◌, Bool, true, false, ◌&&◌, ◌||◌, List, [], ◌∷◌, ◌++◌, ◌<◌, length, take, get_or, slice_get, Option, Some, None, refl, ap, sym, ◌∙◌, subst, add-one}
 use Rattle.std.specs.Str.{bytes_eq}
 use Rattle.std.specs.List.{All}
+use Rattle.std.specs.Option.{option_map, is_some}
 use Rattle.std.proofs.lemmas.List.{take_more}
 use Rattle.std.proofs.lemmas.List.Elements.{All-append, All-cons, All-nil, All-head, All-tail}
 use Rattle.overlay_terms.specs.Layers.{Name, Layer}
@@ -29,3 +30,12 @@ of_named P (layer ∷ layers) name all stands =
     split : (b : Bool) → bytes_eq layer.name name ≡ b → (d : Bool) → (stands_as_derived layers name ≡ true → P name) → ((b && d) || stands_as_derived layers name) ≡ true → P name
     split true same d rest h = subst P (same_name layer.name name same) (All-head (λ (l : Layer). P l.name) layer layers all)
     split false same d rest h = rest h
+
+-- a value that is told by a function of another is none where that is none, and only there
+pub none_kept : {A B : Type 0} (f : A → B) (o : Option A) (t : Option B) → option_map f o ≡ t → is_some o ≡ false → t ≡ None
+none_kept f None t is none = sym is
+none_kept f (Some x) t is none = absurd (cc (none))
+
+pub some_kept : {A B : Type 0} (f : A → B) (o : Option A) (t : Option B) → option_map f o ≡ t → is_some o ≡ true → t ≡ None → ⊥
+some_kept f None t is some none = cc (some)
+some_kept f (Some x) t is some none = cc (is, none)

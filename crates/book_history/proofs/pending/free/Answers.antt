@@ -1,4 +1,5 @@
-use Rattle.std.proofs.Common.{◌≡◌, ◌≤◌, true, length, sym, subst, arith}
+use Rattle.std.proofs.Common.{◌≡◌, ◌<◌, ◌≤◌, true, length, sym, ◌∙◌, subst}
+use Rattle.std.proofs.lemmas.Bool.{false≢true}
 use Rattle.std.specs.Prelude.{IsTrue}
 use Rattle.std.specs.List.{All}
 use Rattle.std.proofs.lemmas.List.{take_all}
@@ -17,8 +18,8 @@ loop-place-preserved c =
     let held : Layer → Type 0 = λ layer. IsTrue (stands_as_derived layers layer.name) → AreHeld c.args.version.now c.args.slots.now.list.items layer.name in
     elim c.match-at.branch [
       | in-Some+then-stands_as_derived+in_default-free_column w ↦ one_more held layers i _ (sym w.in-Some.ensures) c.loop-place.invariant (λ _. w.in_default-free_column.ensures.none)
-      | in-Some+else-stands_as_derived w ↦ one_more held layers i _ (sym w.in-Some.ensures) c.loop-place.invariant (λ stands. absurd (cc (stands, w.stands_as_derived.ensures, w.if-stands_as_derived.false)))
-      | in_default w ↦ absurd (none_there layers i (omega (arith, c.len-place-end.ensures.value)) w.in_default.ensures)
+      | in-Some+else-stands_as_derived w ↦ one_more held layers i _ (sym w.in-Some.ensures) c.loop-place.invariant (λ stands. absurd (false≢true (sym w.if-stands_as_derived.false ∙ w.stands_as_derived.ensures ∙ stands)))
+      | in_default w ↦ absurd (none_there layers i (subst (λ n. i < n) c.len-place-end.ensures.value c.loop-place-test.true) w.in_default.ensures)
     ]
 
 pub returns-clause-none : goal.returns-clause-none
@@ -29,5 +30,19 @@ returns-clause-none c name stands =
     let held : Name → Type 0 = λ n. IsTrue (stands_as_derived layers n) → AreHeld version c.args.slots.now.list.items n in
     let same : layers ≡ version.layers = c.layers-layers.ensures.value in
     let there : stands_as_derived layers name ≡ true = subst (λ ls. stands_as_derived ls name ≡ true) (sym same) stands in
-    let whole : length layers ≤ i = omega (arith, c.loop-place-test.false, c.len-place-end.ensures.value) in
+    let whole : length layers ≤ i = subst (λ n. n ≤ i) c.len-place-end.ensures.value c.loop-place-test.false in
     of_named held layers name (subst (All (λ (layer : Layer). held layer.name)) (take_all i layers whole) c.loop-place.invariant) there there
+
+pub returns-in-Some-free_column : goal.returns-in-Some-free_column
+returns-in-Some-free_column c =
+    let found = c.in-Some-free_column.ensures in
+    let same = c.layers-layers.ensures.value in
+    let stands = sym c.stands_as_derived.ensures ∙ c.if-stands_as_derived.true in
+    record {
+      some = record {
+        pending = (subst (λ ls. stands_as_derived ls c.in-Some.name.now ≡ true) same stands, found.pending);
+        there = found.column;
+        free = found.free;
+      };
+      none = tt;
+    }
