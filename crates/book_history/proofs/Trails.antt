@@ -1,5 +1,5 @@
 -- A step that only adds to the published log keeps the rule.
-use Rattle.std.proofs.Common.{◌≡◌, ℕ, ◌<◌, ◌≢◌, List, length, set, refl, sym, ◌∙◌, subst, ⊎_elim, arith}
+use Rattle.std.proofs.Common.{◌≡◌, ℕ, ◌<◌, ◌≢◌, List, [], ◌∷◌, length, set, fold, refl, ap, sym, ◌∙◌, subst, ⊎_elim, arith}
 use mathlib.Core.Option.{some}
 use lib.ListN.{get_elem?}
 use Rattle.crossbeam_utils.specs.Register.{Admits, TurnsAt, Forks, Merges}
@@ -51,6 +51,16 @@ module _ {T : Type 0} (trail : T → Trail) where
         (at_set views seat j (trail y) u e)),
     (h seat v at, refl),
   )
+
+  -- what waits may be shown after x: a step to the state that it gives keeps the rule
+  abbrev pub MayShow : (seat : ℕ) (v : Trail) (x : T) (waiting : List T) → Type 0
+  MayShow seat v x waiting = (y : T) → trail y ≡ fold (λ t p. trail p) (trail x) waiting
+      → TurnsAt (λ (p : T). AllWithin (trail p)) seat v x y (λ v x y w. Within v (trail x) × (w ≡ trail y))
+
+  pub may_show : (seat : ℕ) (v : Trail) (first x next : T) (waiting : List T) → Begins (trail first) (trail next) → x ≡ first → waiting ≡ next ∷ [] → MayShow seat v x waiting
+  may_show seat v first x next waiting up same one y told =
+      let is : trail next ≡ trail y = sym (told ∙ ap (λ l. fold (λ t p. trail p) (trail x) l) one) in
+      grows seat v x y (subst (λ (z : T). Begins (trail z) (trail y)) (sym same) (subst (λ (t : Trail). Begins (trail first) t) is up))
 
   pub forks : (seat : ℕ) (v : Trail) → Forks (λ (p : T). AllWithin (trail p)) seat v v v
   forks seat v x views h at j u e = ⊎_elim (λ was. h j u (subst (λ l. get_elem? l j ≡ some u) (set_again views seat v at) was))
