@@ -1,4 +1,5 @@
 use Rattle.std.proofs.Common.{ap, refl, ◌∙◌, ◌++◌, ◌∷◌, []}
+use Rattle.std.proofs.lemmas.Bool.{false≢true}
 use Rattle.book_history.proofs.press.write_down.Goals as goal
 
 pub write-init : goal.write-init
@@ -15,3 +16,9 @@ write-preserved g c =
     let was = c.write.invariant in
     let now = c.in-Err.ensures in
     (now.desk ∙ was.0, now.pending.1 ∙ was.1, now.pending.0 ∙ was.2)
+
+pub unreachable-requires : goal.unreachable-requires
+unreachable-requires g c = false≢true c.in-None.ensures.steps
+
+pub unreachable-unreachable : goal.unreachable-unreachable
+unreachable-unreachable g c = false≢true c.in-None.ensures.steps
