@@ -1,5 +1,6 @@
 -- A list whose elements are changed one after another.
-use Rattle.std.proofs.Common.{◌≡◌, ℕ, ◌+◌, zero, suc, List, [], ◌∷◌, ◌++◌, map, take, drop, set, get_or, refl, ap, ◌∙◌, subst, arith}
+use Rattle.std.proofs.Common.{◌≡◌, ℕ, ◌+◌, zero, suc, ◌≤◌, List, [], ◌∷◌, ◌++◌, length, map, take, drop, set, get_or, refl, ap, sym, ◌∙◌, subst, arith}
+use Rattle.std.proofs.lemmas.List.{take_all, drop_all, append-nil, length-map}
 
 -- one more element is changed
 change_next : {A : Type 0} (f : A → A) (xs : List A) (i : ℕ) (y : A) → y ≡ get_or (map f (take i xs) ++ drop i xs) i y
@@ -16,3 +17,12 @@ change_at f xs ys i y z is at changed =
     let next : suc i ≡ i + 1 = omega arith in
     ap (λ l. set l i z) is ∙ ap (λ w. set (map f (take i xs) ++ drop i xs) i w) changed
     ∙ change_next f xs i y (subst (λ l. y ≡ get_or l i y) is at) ∙ ap (λ n. map f (take n xs) ++ drop n xs) next
+
+-- where all were changed, they are the changed elements
+pub changed_all : {A : Type 0} (f : A → A) (xs ys : List A) (i n : ℕ) → length xs ≤ i → n ≡ length xs → ys ≡ map f (take i xs) ++ drop i xs
+    → take n (ys ++ drop (length ys) xs) ≡ map f xs
+changed_all f xs ys i n past whole is =
+    let all : ys ≡ map f xs = is ∙ ap (λ l. map f l ++ drop i xs) (take_all i xs past) ∙ ap (λ l. map f xs ++ l) (drop_all i xs past) ∙ append-nil (map f xs) in
+    let len : length ys ≡ length xs = ap length all ∙ length-map xs f in
+    let none : drop (length ys) xs ≡ [] = drop_all (length ys) xs (omega arith) in
+    ap (λ l. take n (ys ++ l)) none ∙ ap (take n) (append-nil ys) ∙ take_all n ys (omega arith) ∙ all

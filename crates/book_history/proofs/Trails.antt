@@ -1,5 +1,5 @@
 -- A step that only adds to the published log keeps the rule.
-use Rattle.std.proofs.Common.{◌≡◌, ℕ, zero, suc, ◌<◌, ◌≢◌, List, [], ◌∷◌, length, set, fold, refl, ap, sym, ◌∙◌, subst, ⊎_elim, arith}
+use Rattle.std.proofs.Common.{◌≡◌, ℕ, ◌<◌, ◌≢◌, List, [], ◌∷◌, length, set, fold, refl, ap, sym, ◌∙◌, subst, ⊎_elim, arith}
 use mathlib.Core.Option.{some}
 use lib.ListN.{get_elem?}
 use Rattle.crossbeam_utils.specs.Register.{Admits, TurnsAt, Forks, Merges}
@@ -26,14 +26,6 @@ begins_same v t same some_there = subst (λ (u : Trail). Begins v u) same (begin
 
 pub is_of_begins : (v t : Trail) → Begins v t → IsOf v.book t
 is_of_begins v t p = let le = prefix_length v.log t.log p.2 in let some_there = p.0 in (omega arith, sym p.1)
-
--- a place that is new has seen nothing
-pub within_new : (t : Trail) → Within newcomer t
-within_new t = ((λ none. absurd (omega arith)), (t.log, refl))
-
-pub within_alone : (t : Trail) → AllWithin t (newcomer ∷ [])
-within_alone t zero v at = let same : newcomer ≡ v = cc (at) in subst (λ (z : Trail). Within z t) same (within_new t)
-within_alone t (suc seat) v at = absurd (cc (at))
 
 module _ {T : Type 0} (trail : T → Trail) where
   pub admits : Admits (λ (p : T). AllWithin (trail p)) newcomer

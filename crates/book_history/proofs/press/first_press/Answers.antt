@@ -1,13 +1,10 @@
 use Rattle.std.proofs.Common.{◌<◌, length, ap, sym, ◌∙◌, subst}
 use Rattle.book_history.specs.Trails.{Trail}
-use Rattle.book_history.proofs.Trails.{begins_same, within_alone}
+use Rattle.book_history.proofs.Trails.{begins_same}
 use Rattle.book_history.proofs.press.first_press.Goals as goal
 
 pub returns-in_default : goal.returns-in_default
 returns-in_default g c = tt
-
-pub new-requires : goal.new-requires
-new-requires g c = record { readers = c.requires.readers; alike = sym c.in-Ok-Ok.ensures.0; rule = within_alone _ }
 
 pub returns-in_default-new : goal.returns-in_default-new
 returns-in_default-new g c = tt

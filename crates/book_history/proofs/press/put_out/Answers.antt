@@ -1,7 +1,11 @@
 use Rattle.std.proofs.Common.{◌≡◌, ◌∙◌, sym, ap, fold}
+use Rattle.std.proofs.lemmas.Bool.{false≢true}
 use Rattle.book_history.proofs.Publishing.{at_good, at_bad}
 use Rattle.book_history.proofs.Trails.{may_show}
 use Rattle.book_history.proofs.press.put_out.Goals as goal
+
+pub write_down-press-requires : goal.write_down-press-requires
+write_down-press-requires g c = c.requires.pending
 
 pub show-init : goal.show-init
 show-init g c =
@@ -24,3 +28,6 @@ show-preserved g c =
     let shown = values.0 ∙ c.show.invariant.0 in
     let waits = values.1 ∙ c.show.invariant.1 in
     (shown, waits, may_show (λ p. p.trace) _ _ _ _ _ _ c.requires.longer shown waits)
+
+pub unreachable-requires : goal.unreachable-requires
+unreachable-requires g c = false≢true c.in-None.ensures.steps

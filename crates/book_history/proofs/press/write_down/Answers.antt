@@ -19,6 +19,3 @@ write-preserved g c =
 
 pub unreachable-requires : goal.unreachable-requires
 unreachable-requires g c = false≢true c.in-None.ensures.steps
-
-pub unreachable-unreachable : goal.unreachable-unreachable
-unreachable-unreachable g c = false≢true c.in-None.ensures.steps

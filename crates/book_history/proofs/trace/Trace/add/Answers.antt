@@ -1,4 +1,4 @@
-use Rattle.std.proofs.Common.{◌≡◌, ◌++◌, ◌∷◌, [], refl, sym, ◌∙◌, ap}
+use Rattle.std.proofs.Common.{◌≡◌, ◌++◌, ◌∷◌, [], length, refl, sym, ◌∙◌, ap}
 use Rattle.book_history.specs.Logs.{entry}
 use Rattle.book_history.specs.Causes.{event_of}
 use Rattle.book_history.proofs.Adding.{adds_moves, was_added, longer_by_one}
@@ -22,24 +22,22 @@ compare_exchange-found-requires c =
       rw (ap (λ w. w.key) h, pen.1, offer.1, offer.3, ap (λ s. s.log) copy) (adds_moves c.self.inside.seen.log e c.self.inside.at i.0 may),
     )
 
-pub same-self : goal.same-self
-same-self c = refl
-
 pub returns-then-found-at : goal.returns-then-found-at
 returns-then-found-at c = refl
 
 pub invariant_of-self : goal.invariant_of-self
 invariant_of-self c =
     let e = entry (event_of c.args.cause) c.args.version.now in
-    let added = was_added _ _ _ e _ _ c.if-found-at.false c.plain-offer.ensures.1 c.compare_exchange-found.ensures.7 in
-    (longer_by_one _ _ _ _ c.self.invariant.0 (added.0 ∙ ap (λ s. s.log ++ e ∷ []) c.again-seen.ensures), added.1)
+    let x = c.compare_exchange-found in
+    let added = was_added c.again-seen.result.log x.new.seen.log c.plain-offer.result.ask e x.result c.self.inside.at c.if-found-at.false c.plain-offer.ensures.1 x.ensures.7 in
+    (longer_by_one c.again-seen.result.log x.new.seen.log e c.self.inside.at (c.self.invariant.0 ∙ ap (λ s. length s.log) (sym c.again-seen.ensures)) added.0, added.1)
 
 pub returns : goal.returns
 returns c =
     let e = entry (event_of c.args.cause) c.args.version.now in
-    let x = c.compare_exchange-found.ensures in
+    let x = c.compare_exchange-found in
     let was = c.again-seen.ensures in
-    let added = was_added _ _ _ e _ _ c.if-found-at.false c.plain-offer.ensures.1 x.7 in
-    let book = x.0 ∙ ap (λ s. s.book) was ∙ ap (λ t. t.book) c.self.view_is in
+    let added = was_added c.again-seen.result.log x.new.seen.log c.plain-offer.result.ask e x.result c.self.inside.at c.if-found-at.false c.plain-offer.ensures.1 x.ensures.7 in
+    let book = x.ensures.0 ∙ ap (λ s. s.book) was ∙ ap (λ t. t.book) c.self.view_is in
     let log = added.0 ∙ ap (λ s. s.log ++ e ∷ []) was ∙ ap (λ t. t.log ++ e ∷ []) c.self.view_is in
     λ i. record { book = book i; log = log i }
