@@ -1,5 +1,5 @@
 -- What results tell of steps that publish, and what numbers tell of logs that were compared.
-use Rattle.std.proofs.Common.{◌≡◌, ℕ, ◌+◌, ◌<◌, ◌≤◌, Bool, true, false, List, length, Option, Some, None, Result, Ok, Err, refl, ap, sym, ◌∙◌, subst, arith}
+use Rattle.std.proofs.Common.{◌≡◌, ℕ, ◌+◌, ◌≤◌, true, false, List, length, Option, Some, Result, Ok, Err, ap, sym, ◌∙◌, subst, arith}
 use Rattle.std.specs.Result.{MatchResult, is_ok, result_ok}
 use lib.Dec.{leb}
 use mathlib.Core.List.{IsPrefix}

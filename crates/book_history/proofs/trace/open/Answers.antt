@@ -1,7 +1,6 @@
-use Rattle.std.proofs.Common.{◌≡◌, List, length, refl, sym, ◌∙◌, ap, subst}
+use Rattle.std.proofs.Common.{◌≡◌, List, length, refl, sym, subst}
 use Rattle.overlay_terms.specs.Histories.{Entry}
 use Rattle.book_history.specs.Logs.{IsLog}
-use Rattle.book_history.specs.Rules.{head_of}
 use Rattle.book_history.proofs.trace.open.Goals as goal
 
 pub open_row-seen-requires : goal.open_row-seen-requires

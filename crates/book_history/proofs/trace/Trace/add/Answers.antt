@@ -1,4 +1,4 @@
-use Rattle.std.proofs.Common.{◌≡◌, ◌++◌, ◌∷◌, [], length, refl, sym, ◌∙◌, ap}
+use Rattle.std.proofs.Common.{◌++◌, ◌∷◌, [], length, refl, sym, ◌∙◌, ap}
 use Rattle.book_history.specs.Logs.{entry}
 use Rattle.book_history.specs.Causes.{event_of}
 use Rattle.book_history.proofs.Adding.{adds_moves, was_added, longer_by_one}
