@@ -1,5 +1,5 @@
 -- The exchange that adds an entry keeps the rule.
-use Rattle.std.proofs.Common.{◌≡◌, ℕ, ◌+◌, ◌<◌, ◌==◌, suc, Bool, true, false, List, [], ◌∷◌, ◌++◌, length, refl, ap, sym, subst, arith, inl, length-append, None, MatchBool, eq-eqb, ◌∙◌}
+use Rattle.std.proofs.Common.{◌≡◌, ℕ, ◌+◌, ◌<◌, ◌^◌, ◌==◌, suc, Bool, true, false, List, [], ◌∷◌, ◌++◌, length, refl, ap, sym, subst, arith, inl, length-append, None, MatchBool, eq-eqb, ◌∙◌}
 use Rattle.std.proofs.lemmas.List.{append-nil}
 use Rattle.std.proofs.lemmas.Bool.Decides.{nat_tests}
 use mathlib.Core.List.{IsPrefix}
@@ -64,3 +64,7 @@ was_added v w asked e found old same is told =
 -- a log that gained an entry is longer by one
 pub longer_by_one : (v w : List Entry) (e : Entry) (n : ℕ) → suc n ≡ length v → w ≡ v ++ e ∷ [] → suc (n + 1) ≡ length w
 longer_by_one v w e n long is = omega (arith, ap length is, length-append v (e ∷ []))
+
+-- the number of a log's last entry and the next one are numbers of the code
+pub fits_next : (n : ℕ) (v w : List Entry) → suc n ≡ length v → v ≡ w → length w < 2 ^ 62 → n + 1 < 2 ^ 64
+fits_next n v w long same room = let is : length v ≡ length w = ap length same in omega arith

@@ -1,7 +1,7 @@
 use Rattle.std.proofs.Common.{◌++◌, ◌∷◌, [], length, refl, sym, ◌∙◌, ap}
 use Rattle.book_history.specs.Logs.{entry}
 use Rattle.book_history.specs.Causes.{event_of}
-use Rattle.book_history.proofs.Adding.{adds_moves, was_added, longer_by_one}
+use Rattle.book_history.proofs.Adding.{adds_moves, was_added, longer_by_one, fits_next}
 use Rattle.book_history.proofs.Chains.{log_more}
 use Rattle.book_history.proofs.trace.Trace.add.Goals as goal
 
@@ -21,6 +21,12 @@ compare_exchange-found-requires c =
       offer.0,
       rw (ap (λ w. w.key) h, pen.1, offer.1, offer.3, ap (λ s. s.log) copy) (adds_moves c.self.inside.seen.log e c.self.inside.at i.0 may),
     )
+
+pub overflow_add-at : goal.overflow_add-at
+overflow_add-at c = record { fits = fits_next _ _ _ c.self.invariant.0 (ap (λ t. t.log) c.self.view_is) c.requires.room }
+
+pub overflow_add-self : goal.overflow_add-self
+overflow_add-self c = record { fits = fits_next _ _ _ c.self.invariant.0 (ap (λ t. t.log) c.self.view_is) c.requires.room }
 
 pub returns-then-found-at : goal.returns-then-found-at
 returns-then-found-at c = refl
