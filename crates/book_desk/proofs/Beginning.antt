@@ -1,5 +1,5 @@
 -- The sessions that a book begins with.
-use Rattle.std.proofs.Common.{◌≡◌, ℕ, zero, suc, [], ◌∷◌, length, refl, arith, length-append}
+use Rattle.std.proofs.Common.{◌≡◌, ℕ, zero, suc, [], ◌∷◌, length, slice_index, refl, sym, subst, arith, length-append, Result, Ok, Err, IsErrAnd, IfErr}
 use Rattle.std.specs.List.{All}
 use Rattle.std.proofs.lemmas.List.Elements.{All-append, All-cons, All-nil}
 use Rattle.logbook.specs.Pages.{Book}
@@ -21,3 +21,16 @@ all_begin trail book (suc n) is =
 pub count_of : (trail : Trail) (n : ℕ) → length (beginners trail n) ≡ n
 count_of trail zero = refl
 count_of trail (suc n) = omega (arith, count_of trail n, length-append (beginners trail n) (record { book = trail.book; session = n; log = trail.log; made = [] } ∷ []))
+
+-- no session has a command yet
+pub none_yet : (by : ℕ) → slice_index (0 ∷ 0 ∷ 0 ∷ 0 ∷ []) by ≡ 0
+none_yet zero = refl
+none_yet (suc zero) = refl
+none_yet (suc (suc zero)) = refl
+none_yet (suc (suc (suc zero))) = refl
+none_yet (suc (suc (suc (suc n)))) = refl
+
+-- what holds of a fault holds of the result that passes it up
+pub passed : {A E : Type 0} (P : E → Type 0) (r : Result A E) (x : E) → IsErrAnd r (λ y. y ≡ x) → P x → IfErr r P
+passed P (Ok v) x and p = absurd and
+passed P (Err y) x and p = subst P (sym and) p
