@@ -3,7 +3,11 @@ use Rattle.std.proofs.Common.{◌≡◌, ◌⊎◌, ℕ, ◌<◌, ◌≤◌, Lis
 use Rattle.std.specs.List.{All}
 use Rattle.std.proofs.lemmas.List.Elements.{All-cons, All-nil}
 use mathlib.Core.List.{IsPrefix}
-use Rattle.overlay_terms.specs.Histories.{Version, Event, accepted, kept, durable_to, Entry, AllFollow, Follows, last_version, FollowsReport, IsReported}
+use Rattle.overlay_terms.specs.Histories.{Version, Event, accepted, kept, durable_to, Entry, AllFollow, Follows, last_version, Tile, FollowsReport, FollowsTile, IsReported}
+use Rattle.overlay_terms.specs.Layers.{Name}
+use Rattle.version_core.specs.Finish.{IfKept}
+use Rattle.version_core.specs.declared.finishing.Finish.{Finish}
+use Rattle.version_core.specs.declared.finishing.Finish.TheVariants.{Kept}
 use Rattle.book_history.specs.Logs.{entry, newest_in, IsLog}
 use Rattle.book_desk.specs.Steps.{IsReportedIn}
 use Rattle.book_history.proofs.Chains.{newest_more}
@@ -21,13 +25,24 @@ told_by log after f g v same is =
     is ∙ (λ i. log ++ entry (same i) (sym n i) ∷ [])
 
 -- a report of a number that is news raises the durable number
-pub reports : (old : Version) (n : ℕ) (new : Version) → old.durable < n → n ≤ old.number → IsReported old n new → FollowsReport old n new
-reports old n new risen low (inl f) = f
-reports old n new risen low (inr s) = absurd (never s.no_news)
+pub reports : (old last new : Version) (n durable number : ℕ) → old ≡ last → IsReported old n new → durable ≡ last.durable
+    → number ≡ last.number → durable < n → n ≤ number → FollowsReport last n new
+reports old last new n durable number same told is most news low = risen (subst (λ o. IsReported o n new) same told)
   where
-    never : (n ≤ old.durable) ⊎ (old.number < n) → ⊥
+    never : (n ≤ last.durable) ⊎ (last.number < n) → ⊥
     never (inl a) = omega arith
     never (inr b) = omega arith
+
+    risen : IsReported last n new → FollowsReport last n new
+    risen (inl f) = f
+    risen (inr s) = absurd (never s.no_news)
+
+-- the version that keeps a tile follows the newest one
+pub keeps : (old last next new : Version) (name : Name) (column : ℕ) (tile : Tile) (finish : Finish) → old ≡ last → new ≡ next → finish ≡ Kept next
+    → IfKept finish (λ v. FollowsTile old name column tile v) → FollowsTile last name column tile new
+keeps old last next new name column tile finish same made is told =
+    let found = subst (λ f. IfKept f (λ v. FollowsTile old name column tile v)) is told in
+    subst (λ v. FollowsTile last name column tile v) (sym made) (subst (λ o. FollowsTile o name column tile next) same found)
 
 -- numbers do not fall from an entry to the next
 step_rises : (v : Version) (x : Event) (w : Version) → Follows v x w → v.number ≤ w.number

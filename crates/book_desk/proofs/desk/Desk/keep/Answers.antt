@@ -1,20 +1,49 @@
-use Rattle.std.proofs.Common.{ap, sym, ◌∙◌, subst}
-use Rattle.overlay_terms.specs.Histories.{kept, FollowsTile}
-use Rattle.version_core.specs.Finish.{IfKept}
+use Rattle.std.proofs.Common.{ap, sym, ◌∙◌, ◌↔◌, subst, refl, inl, inr}
+use Rattle.overlay_terms.specs.Histories.{kept, Follows}
+use Rattle.std.specs.Arc.{arc_value}
+use Rattle.version_core.specs.Finish.{IsKept, IsAwaited}
+use Rattle.version_core.specs.declared.fault.VersionFault.{VersionFault}
 use Rattle.book_history.specs.Logs.{newest_in}
-use Rattle.book_desk.proofs.Growing.{newest_of, told_by}
+use Rattle.book_history.specs.declared.fault.BookFault.TheVariants as fault
+use Rattle.book_desk.proofs.Growing.{newest_of, told_by, keeps}
 use Rattle.book_desk.proofs.desk.Desk.keep.Goals as goal
 
-pub returns-clause-kept : goal.returns-clause-kept
-returns-clause-kept g c =
+pub returns-in-Ok-Stale : goal.returns-in-Ok-Stale
+returns-in-Ok-Stale g c =
     let name = c.args.name.now in
     let input = c.args.built.now.0 in
-    let tile = c.args.built.now.1 in
+    let old = c.deref.ensures ∙ c.last.ensures.version in
+    let stale = subst (λ f. IsKept f ↔ IsAwaited c.deref.result.now name input) c.in-Ok-Stale.field-0-is c.in-Ok-Stale.ensures.exactly in
+    record { kept = ((λ awaited. stale.1 (subst (λ v. IsAwaited v name input) (sym old) awaited)), refl); err = tt }
+
+pub returns-in-Err : goal.returns-in-Err
+returns-in-Err g c = record { kept = tt; err = (refl, inl (ap (λ (f : VersionFault). fault.Version f) c.in-Err.ensures.err)) }
+
+pub returns-in-Err-shared : goal.returns-in-Err-shared
+returns-in-Err-shared g c = record { kept = tt; err = (refl, inl c.in-Err-shared.ensures.err) }
+
+pub add-requires : goal.add-requires
+add-requires g c =
+    let last = newest_in c.args.self in
+    let name = c.args.name.now in
+    let input = c.args.built.now.0 in
+    let column = c.number-column.ensures.value ∙ c.column.ensures.value ∙ ap (λ i. i.column) c.input.ensures.value in
+    let old = c.deref.ensures ∙ c.last.ensures.version in
+    let told = keeps _ last _ _ name input.column c.args.built.now.1 _ old c.in-Ok.ensures.ok c.in-Ok-Kept.field-0-is c.in-Ok-Kept.ensures.kept in
+    record { follows = subst (λ e. Follows last e (arc_value c.in-Ok.version)) (λ i. kept name (sym column i) (sym c.tile.ensures.value i)) told; seat = tt }
+
+pub returns-in-Err-add : goal.returns-in-Err-add
+returns-in-Err-add g c = record { kept = tt; err = (c.in-Err-add.ensures.err, inr refl) }
+
+pub returns : goal.returns
+returns g c =
+    let last = newest_in c.args.self in
+    let name = c.args.name.now in
+    let input = c.args.built.now.0 in
+    let column = c.number-column.ensures.value ∙ c.column.ensures.value ∙ ap (λ i. i.column) c.input.ensures.value in
+    let old = c.deref.ensures ∙ c.last.ensures.version in
     let is = c.in-Ok-add.ensures.ok in
     let new = newest_of c.args.self c.in-Ok-add.desk _ is ∙ c.in-Ok.ensures.ok in
-    let found : FollowsTile c.deref.result.now name input.column tile c.in-Ok-Kept.next = subst (λ f. IfKept f (λ next. FollowsTile c.deref.result.now name input.column tile next)) c.in-Ok-Kept.field-0-is c.in-Ok-Kept.ensures.kept in
-    let old = c.deref.ensures ∙ c.last.ensures.version in
-    let column = c.number-column.ensures.value ∙ (c.column.ensures.value ∙ ap (λ i. i.column) c.input.ensures.value) in (
-      subst (λ v. FollowsTile (newest_in c.args.self) name input.column tile v) (sym new) (subst (λ o. FollowsTile o name input.column tile c.in-Ok-Kept.next) old found),
-      told_by c.args.self c.in-Ok-add.desk _ _ _ (λ i. kept name (column i) (c.tile.ensures.value i)) is,
-    )
+    let then = keeps _ last _ _ name input.column c.args.built.now.1 _ old new c.in-Ok-Kept.field-0-is c.in-Ok-Kept.ensures.kept in
+    let told = told_by c.args.self c.in-Ok-add.desk _ _ _ (λ i. kept name (column i) (c.tile.ensures.value i)) is in
+    record { kept = (then, told); err = tt }
