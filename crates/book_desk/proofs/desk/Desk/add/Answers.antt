@@ -1,21 +1,60 @@
-use Rattle.std.proofs.Common.{◌≡◌, ◌++◌, ◌∷◌, [], length, ap, sym, ◌∙◌, arith, rules}
+use Rattle.std.proofs.Common.{◌≡◌, ◌++◌, ◌∷◌, [], length, ap, sym, ◌∙◌, subst, arith}
+use Rattle.std.specs.Arc.{arc_value}
+use Rattle.overlay_terms.specs.Histories.{Follows}
 use Rattle.book_history.specs.Causes.{event_of}
 use Rattle.book_history.specs.Logs.{entry, newest_in}
+use Rattle.book_history.specs.Rules.{head_of}
 use Rattle.book_history.specs.Trails.{Trail}
 use Rattle.book_history.proofs.Chains.{newest_more}
 use Rattle.book_history.proofs.Owned.{own_le, counts_more}
 use Rattle.book_desk.proofs.desk.Desk.add.Goals as goal
+
+pub add-requires : goal.add-requires
+add-requires g c =
+    let same = c.again-trace.ensures ∙ ap (λ p. p.trace) c.published.ensures in
+    let log = ap (λ (t : Trail). t.log) same ∙ c.self.view_is in
+    let event = event_of c.args.cause in
+    record {
+      head = c.self.invariant.0 ∙ ap head_of (sym (ap (λ (t : Trail). t.book) same ∙ c.self.invariant.1));
+      room = omega (arith, c.at.ensures.length, c.if-at-ge-MOST.false);
+      follows = subst (λ w. Follows (newest_in c.again-trace.result.log) event w) (sym c.deref.ensures) (subst (λ l. Follows (newest_in l) event (arc_value c.args.version)) (sym log) c.requires.follows);
+    }
+
+pub invariant_of-result : goal.invariant_of-result
+invariant_of-result g c = c.self.invariant
+
+pub returns-then-at-ge-MOST : goal.returns-then-at-ge-MOST
+returns-then-at-ge-MOST g c = record { ok = tt; room = tt; err = c.self.view_is }
 
 pub invariant_of-put_out : goal.invariant_of-put_out
 invariant_of-put_out g c =
     let e = entry (event_of c.args.cause) c.deref.result.now in
     record { last = sym (ap (λ (t : Trail). newest_in t.log) c.if-not-add.ensures ∙ newest_more c.again-trace.result.log e ∙ c.deref.ensures) }
 
-pub counted-requires-clause-room : goal.counted-requires-clause-room
-counted-requires-clause-room g c k low =
+pub put_out-requires : goal.put_out-requires
+put_out-requires g c =
+    let was = c.self.inside.press.desk.shown.value.trace in
+    let e = entry (event_of c.args.cause) c.deref.result.now in
+    let same : c.again-trace.result ≡ was = c.again-trace.ensures ∙ ap (λ p. p.trace) c.published.ensures in
+    let added = c.if-not-add.ensures in
+    record {
+      pending = c.self.invariant.2;
+      longer = (
+        omega (arith, c.at.ensures.length, ap (λ (t : Trail). length t.log) same),
+        sym (ap (λ (t : Trail). t.book) added ∙ ap (λ (t : Trail). t.book) same),
+        (e ∷ [], sym (ap (λ (t : Trail). t.log) added ∙ ap (λ (t : Trail). t.log ++ e ∷ []) same)),
+      );
+    }
+
+pub counted-requires : goal.counted-requires
+counted-requires g c =
     let was = c.self.inside.press.desk.shown.value.trace in
     let same : c.again-trace.result ≡ was = c.again-trace.ensures ∙ ap (λ p. p.trace) c.published.ensures in
-    omega (arith, own_le k was.log, ap (λ (t : Trail). length t.log) same, c.self.invariant.3 k low, c.at.ensures.length, c.if-at-ge-MOST.false)
+    let long = ap (λ (t : Trail). length t.log) same in
+    record {
+      seat = c.requires.seat;
+      room = λ k low. omega (arith, own_le k was.log, long, c.self.invariant.3 k low, c.at.ensures.length, c.if-at-ge-MOST.false);
+    }
 
 pub invariant_of-result-2 : goal.invariant_of-result-2
 invariant_of-result-2 g c =
@@ -32,6 +71,14 @@ invariant_of-result-2 g c =
           (ap (λ (t : Trail). t.log) (shown ∙ added) ∙ ap (λ (t : Trail). t.log ++ e ∷ []) same) (i.3 k low) (c.counted.ensures k low)),
     )
 
--- found by search alone: it stands here so that a wrong body is refused without working out what to write
-pub returns-clause-ok : goal.returns-clause-ok
-returns-clause-ok g c = search rules
+pub returns : goal.returns
+returns g c =
+    let same = c.again-trace.ensures ∙ ap (λ p. p.trace) c.published.ensures in
+    let log = ap (λ (t : Trail). t.log) same ∙ c.self.view_is in
+    let shown : c.put_out.result.desk.shown.value.trace ≡ c.add.new.self = c.put_out.ensures.shown in
+    let added = ap (λ (t : Trail). t.log) (shown ∙ c.if-not-add.ensures) in
+    record {
+      ok = added ∙ (λ i. log i ++ entry (event_of c.args.cause) (c.deref.ensures i) ∷ []);
+      room = omega (arith, ap length log, c.at.ensures.length, c.if-at-ge-MOST.false);
+      err = tt;
+    }
