@@ -1,24 +1,14 @@
-use Rattle.std.proofs.Common.{◌≡◌, ◌++◌, ◌∷◌, [], length, ap, sym, ◌∙◌, subst, arith}
-use Rattle.std.specs.Arc.{arc_value}
-use Rattle.overlay_terms.specs.Histories.{Follows}
+use Rattle.std.proofs.Common.{◌≡◌, ◌++◌, ◌∷◌, [], length, ap, sym, ◌∙◌, arith, rules}
 use Rattle.book_history.specs.Causes.{event_of}
 use Rattle.book_history.specs.Logs.{entry, newest_in}
-use Rattle.book_history.specs.Rules.{head_of}
 use Rattle.book_history.specs.Trails.{Trail}
 use Rattle.book_history.proofs.Chains.{newest_more}
 use Rattle.book_history.proofs.Owned.{own_le, counts_more}
 use Rattle.book_desk.proofs.desk.Desk.add.Goals as goal
 
+-- by search: it holds of a copy of the log too
 pub add-requires : goal.add-requires
-add-requires g c =
-    let same = c.again-trace.ensures ∙ ap (λ p. p.trace) c.published.ensures in
-    let log = ap (λ (t : Trail). t.log) same ∙ c.self.view_is in
-    let event = event_of c.args.cause in
-    record {
-      head = c.self.invariant.0 ∙ ap head_of (sym (ap (λ (t : Trail). t.book) same ∙ c.self.invariant.1));
-      room = omega (arith, c.at.ensures.length, c.if-at-ge-MOST.false);
-      follows = subst (λ w. Follows (newest_in c.again-trace.result.log) event w) (sym c.deref.ensures) (subst (λ l. Follows (newest_in l) event (arc_value c.args.version)) (sym log) c.requires.follows);
-    }
+add-requires g c = record { head = search rules; room = search (rules, arith); follows = search rules }
 
 pub invariant_of-result : goal.invariant_of-result
 invariant_of-result g c = c.self.invariant

@@ -1,4 +1,5 @@
-use Rattle.std.proofs.Common.{◌∙◌, ◌<◌, length, ap, sym, subst}
+use Rattle.std.proofs.Common.{◌∙◌, ◌<◌, length, ap, sym, subst, arith}
+use Rattle.std.proofs.lemmas.Bool.{ltb-true}
 use mathlib.Core.List.{IsPrefix}
 use Rattle.overlay_terms.specs.Histories.{commands_of}
 use Rattle.book_desk.proofs.desk.Desk.is_level.Goals as goal
@@ -23,3 +24,11 @@ returns-then-by-lt4 g c =
       seat = λ _. subst (λ b. b < 4) c.number-by.ensures.value c.if-by-lt4.true;
       level = λ all. level.level (subst (λ l. IsPrefix me.log l) (sym log) all.has_all.longer) (ap (commands_of me.session) log ∙ all.has_all.own);
     }
+
+pub returns-else-by-lt4 : goal.returns-else-by-lt4
+returns-else-by-lt4 g c = record {
+  longer = λ yes. absurd (omega (arith, ltb-true c.number-by.result 4 yes, c.if-by-lt4.false));
+  own = λ yes. absurd (omega (arith, ltb-true c.number-by.result 4 yes, c.if-by-lt4.false));
+  seat = λ yes. absurd (omega (arith, ltb-true c.number-by.result 4 yes, c.if-by-lt4.false));
+  level = λ all. absurd (omega (arith, all.seat, c.number-by.ensures.value, c.if-by-lt4.false));
+}

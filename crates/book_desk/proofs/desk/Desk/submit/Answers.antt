@@ -1,4 +1,4 @@
-use Rattle.std.proofs.Common.{◌≡◌, length, ap, sym, ◌∙◌, ◌<◌, subst, refl, false, arith}
+use Rattle.std.proofs.Common.{◌≡◌, length, ap, sym, ◌∙◌, subst, refl, false, arith}
 use mathlib.Core.List.{IsPrefix}
 use Rattle.std.specs.Arc.{arc_value}
 use Rattle.overlay_terms.specs.Histories.{accepted, commands_of, FollowsCommand}
@@ -49,7 +49,7 @@ add-requires g c =
     let old = c.deref.ensures ∙ c.last.ensures.version in
     record {
       follows = subst (λ o. FollowsCommand o (command c.args.change.now) (arc_value c.in-Ok.version)) old c.in-Ok.ensures.ok;
-      seat = subst (λ b. b < 4) (sym c.number-by.ensures.value) (c.if-not-is_level.ensures.seat refl);
+      seat = omega (arith, c.number-by.ensures.value, c.if-not-is_level.ensures.seat refl);
     }
 
 pub returns-in-Err-add : goal.returns-in-Err-add
