@@ -62,15 +62,18 @@ made_one-requires g c =
     let last = c.last-last in
     let change = command c.args.change.now in
     let now = ap (λ t. t.log) last.ensures.trace ∙ c.in-Ok-add.ensures.ok in
+    let number = c.number-accepted.ensures.value ∙ ap (λ v. v.number) (c.deref-2.ensures ∙ last.ensures.version) in
+    let level = c.if-not-is_level.ensures in
+    let own = level.own refl in
     record {
-      newest = sym (c.number-accepted.ensures.value ∙ ap (λ v. v.number) (c.deref-2.ensures ∙ last.ensures.version) ∙ ap (λ (t : Trail). (newest_in t.log).number) (sym last.ensures.trace));
+      newest = ap (λ (t : Trail). (newest_in t.log).number) last.ensures.trace ∙ sym number;
       book = ap (λ t. t.book) last.ensures.trace ∙ sym c.requires.book;
-      longer = subst (λ l. IsPrefix me.log l) (sym now) (prefix_trans me.log c.args.self _ (c.if-not-is_level.ensures.longer refl) (_, refl));
+      longer = subst (λ l. IsPrefix me.log l) (sym now) (prefix_trans me.log c.args.self _ (level.longer refl) (_, refl));
       own = (
         change,
-        own_then me.session _ c.args.self last.result.now.trace.log me.made change _ c.number-by.ensures.value now (c.if-not-is_level.ensures.own refl),
+        own_then me.session _ c.args.self last.result.now.trace.log me.made change _ c.number-by.ensures.value now own,
       );
-      room = omega (arith, own_le me.session c.args.self, ap length (c.if-not-is_level.ensures.own refl), c.in-Ok-add.ensures.room);
+      room = omega (arith, own_le me.session c.args.self, ap length own, c.in-Ok-add.ensures.room);
     }
 
 pub returns : goal.returns
@@ -82,15 +85,17 @@ returns g c =
     let old = c.deref.ensures ∙ c.last.ensures.version in
     let log = ap (λ t. t.log) c.last-last.ensures.trace in
     let made = ap (λ k. k.made) c.made_one.ensures in
+    let level = c.if-not-is_level.ensures in
+    let then = subst (λ o. FollowsCommand o change (arc_value c.in-Ok.version)) old c.in-Ok.ensures.ok in
     record {
       ok = (
-        subst (λ v. FollowsCommand (newest_in c.args.self) change v) (sym new) (subst (λ o. FollowsCommand o change (arc_value c.in-Ok.version)) old c.in-Ok.ensures.ok),
+        subst (λ v. FollowsCommand (newest_in c.args.self) change v) (sym new) then,
         told_by c.args.self c.in-Ok-add.desk _ _ _ (ap (λ b. accepted b change) c.number-by.ensures.value) is,
         sym (c.number-accepted.ensures.value ∙ ap (λ v. v.number) (c.deref-2.ensures ∙ c.last-last.ensures.version)),
       );
-      seen = (c.if-not-is_level.ensures.longer refl, ap (λ k. k.log) c.made_one.ensures ∙ log);
+      seen = (level.longer refl, ap (λ k. k.log) c.made_one.ensures ∙ log);
       made = (
-        made ∙ own_then by c.number-by.result c.args.self c.last-last.result.now.trace.log c.args.me.now.made change (arc_value c.in-Ok.version) c.number-by.ensures.value (log ∙ is) (c.if-not-is_level.ensures.own refl),
+        made ∙ own_then by _ c.args.self c.last-last.result.now.trace.log c.args.me.now.made change _ c.number-by.ensures.value (log ∙ is) (level.own refl),
         ap (commands_of by) (sym log) ∙ sym made,
         c.last-last.ensures.log,
       );

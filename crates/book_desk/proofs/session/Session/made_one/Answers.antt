@@ -21,10 +21,11 @@ invariant_of-self c =
     let by = ap (λ k. k.session) c.self.view_is in
     let logs = ap (λ k. length k.log) c.self.view_is in
     let same = c.again.ensures in
+    let longer = prefix_length c.args.self.now.log c.args.to.now.log c.requires.longer in
     let own = (λ i. length (commands_of (by i) (same i).log)) ∙ ap length c.requires.own.1 in
     let made = ap (λ k. length k.made) (sym c.self.view_is) ∙ length-take-le c.self.inside.count _ c.self.invariant.0 in (
       omega (arith, own, made, length-append c.args.self.now.made (c.requires.own.0 ∷ [])),
-      omega (arith, c.self.invariant.1, logs, prefix_length c.args.self.now.log c.args.to.now.log c.requires.longer, ap (λ (t : Trail). length t.log) same),
+      omega (arith, c.self.invariant.1, logs, longer, ap (λ (t : Trail). length t.log) same),
       subst (λ (t : Trail). IfSome c.moved.result (λ r. Begins t (view r.place))) (sym same) c.moved.ensures,
       ap (λ (t : Trail). (newest_in t.log).number) same ∙ c.requires.newest,
     )

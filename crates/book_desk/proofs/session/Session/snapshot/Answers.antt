@@ -62,7 +62,13 @@ invariant_of-self c =
 pub returns-in_default : goal.returns-in_default
 returns-in_default c =
     let is = c.self.view_is in
-    record { goes_on = still c.self.inside.trace c.args.self.now c.self.invariant.1 (ap seen is); newest = tt; history = tt; same = (ap (λ k. k.book) is, ap (λ k. k.session) is, ap (λ k. k.made) is); err = (refl, is) }
+    record {
+      goes_on = still c.self.inside.trace c.args.self.now c.self.invariant.1 (ap seen is);
+      newest = tt;
+      history = tt;
+      same = (ap (λ k. k.book) is, ap (λ k. k.session) is, ap (λ k. k.made) is);
+      err = (refl, is);
+    }
 
 pub invariant_of-self-in-Err-copy : goal.invariant_of-self-in-Err-copy
 invariant_of-self-in-Err-copy c =
@@ -75,7 +81,13 @@ invariant_of-self-in-Err-copy c =
 pub returns-in-Err-copy : goal.returns-in-Err-copy
 returns-in-Err-copy c =
     let is = c.self.view_is in
-    record { goes_on = still c.self.inside.trace c.args.self.now c.self.invariant.1 (ap seen is); newest = tt; history = tt; same = (ap (λ k. k.book) is, ap (λ k. k.session) is, ap (λ k. k.made) is); err = (refl, is) }
+    record {
+      goes_on = still c.self.inside.trace c.args.self.now c.self.invariant.1 (ap seen is);
+      newest = tt;
+      history = tt;
+      same = (ap (λ k. k.book) is, ap (λ k. k.session) is, ap (λ k. k.made) is);
+      err = (refl, is);
+    }
 
 pub invariant_of-self-in-Err : goal.invariant_of-self-in-Err
 invariant_of-self-in-Err c =
@@ -87,4 +99,10 @@ invariant_of-self-in-Err c =
 pub returns-in-Err : goal.returns-in-Err
 returns-in-Err c =
     let is = c.self.view_is in
-    record { goes_on = still c.self.inside.trace c.args.self.now c.self.invariant.1 (ap seen is); newest = tt; history = tt; same = (ap (λ k. k.book) is, ap (λ k. k.session) is, ap (λ k. k.made) is); err = (refl, is) }
+    record {
+      goes_on = still c.self.inside.trace c.args.self.now c.self.invariant.1 (ap seen is);
+      newest = tt;
+      history = tt;
+      same = (ap (λ k. k.book) is, ap (λ k. k.session) is, ap (λ k. k.made) is);
+      err = (refl, is);
+    }
