@@ -1,4 +1,5 @@
-use Rattle.std.proofs.Common.{◌≡◌, ◌++◌, ◌∷◌, [], length, ap, sym, ◌∙◌, arith, rules}
+use Rattle.std.proofs.Common.{◌≡◌, ◌++◌, ◌∷◌, [], length, ap, sym, ◌∙◌, subst, arith, rules}
+use Rattle.overlay_terms.specs.Histories.{Follows}
 use Rattle.book_history.specs.Causes.{event_of}
 use Rattle.book_history.specs.Logs.{entry, newest_in}
 use Rattle.book_history.specs.Trails.{Trail}
@@ -6,9 +7,16 @@ use Rattle.book_history.proofs.Chains.{newest_more}
 use Rattle.book_history.proofs.Owned.{own_le, counts_more}
 use Rattle.book_desk.proofs.desk.Desk.add.Goals as goal
 
--- by search: it holds of a copy of the log too
+-- what is said of the log's copy is found by search, as it holds of a copy of that too
 pub add-requires : goal.add-requires
-add-requires g c = record { head = search rules; room = search (rules, arith); follows = search rules }
+add-requires g c =
+    let event = event_of c.args.cause in
+    let follows = subst (λ v. Follows (newest_in c.args.self) event v) (sym c.deref.ensures) c.requires.follows in
+    record {
+      head = search rules;
+      room = search (rules, arith);
+      follows = subst (λ l. Follows l event c.deref.result.now) (search rules) follows;
+    }
 
 pub invariant_of-result : goal.invariant_of-result
 invariant_of-result g c = c.self.invariant
