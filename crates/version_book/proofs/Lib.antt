@@ -1,3 +1,4 @@
 pub mod Results
 pub mod Sent
 pub mod SentBook
+pub mod Told

@@ -1,6 +1,23 @@
-use Rattle.std.proofs.Common.{rules}
+use Rattle.std.proofs.Common.{rules, refl, subst}
+use Rattle.std.proofs.lemmas.Result.{IfErr-at_err, IfOk-at_ok}
+use Rattle.book_desk.specs.Steps.{IsFinishedIn}
 use Rattle.version_book.proofs.shelf.Shelf.finish.Goals as goal
 
--- found by search alone: it stands here so that a wrong body is refused without working out what to write
-pub returns-clause-standing : goal.returns-clause-standing
-returns-clause-standing g c = search rules
+pub returns-in-Err : goal.returns-in-Err
+returns-in-Err g c =
+    let e = IfErr-at_err _ c.in-Err.is c.keep-desk.ensures.err in
+    record { log = tt; standing = tt; err = (refl, e.0, refl); refused = e.1 }
+
+pub returns : goal.returns
+returns g c =
+    let old = c.args.self.desk in
+    let new = c.keep-desk.result.0 in
+    let tile = c.args.built.now.1 in
+    let kept = IfOk-at_ok _ c.in-Ok.is c.keep-desk.ensures.kept in
+    record {
+      log = subst (λ i. IsFinishedIn old c.args.job.name i tile c.in-Ok.kept new) c.requires.input
+        (subst (λ n. IsFinishedIn old n c.args.built.now.0 tile c.in-Ok.kept new) c.name.ensures kept);
+      standing = search rules;
+      err = tt;
+      refused = tt;
+    }

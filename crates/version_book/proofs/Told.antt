@@ -1,0 +1,142 @@
+-- How the calls that wait end, and what a tile that is handed out is, told from what each finds under the lock.
+use Rattle.std.proofs.Common.{◌≡◌, ◌⊎◌, inl, inr, ◌↔◌, ℕ, Bool, true, false, IsTrue, List, Option, Some, None, IfSome, IfNone, Result, Ok, Err, IfOk, IfErr, refl, ap, sym, ◌∙◌, subst}
+use Rattle.std.specs.Prelude.{IsErrAnd, is_ok}
+use mathlib.Core.Bool.{true≢false}
+use Rattle.logbook.specs.Pages.{Book}
+use Rattle.overlay_terms.specs.Commands.{Command}
+use Rattle.overlay_terms.specs.Histories.{Version, Entry}
+use Rattle.overlay_terms.specs.Layers.{Name}
+use Rattle.overlay_terms.specs.Tiles.{Input, input_of}
+use Rattle.book_history.specs.Fault.{IfGone, IsRefused}
+use Rattle.book_history.specs.Free.{IsFree}
+use Rattle.book_history.specs.Known.{Heard, Known}
+use Rattle.book_history.specs.Logs.{newest_in, IsLog}
+use Rattle.book_history.specs.Trails.{Trail}
+use Rattle.book_history.specs.declared.slots.Slot.{Slot}
+use Rattle.book_history.specs.declared.standing.Standing.{Standing}
+use Rattle.book_history.specs.declared.fault.BookFault.{BookFault}
+use Rattle.book_history.specs.declared.fault.BookFault.TheVariants as fault
+use Rattle.book_desk.specs.Steps.{HasLooked}
+use Rattle.version_book.specs.Jobs.{IsHandedOut, IsJob}
+use Rattle.version_book.specs.Waits.{IsAfterTold, Looks}
+
+-- what is not false is true
+pub not_false : (b : Bool) → (b ≡ false → ⊥) → IsTrue b
+not_false true n = refl
+not_false false n = absurd (n refl)
+
+-- what a test of one version says of the newest, which it is
+pub test_holds : (P : Version → Type 0) (b : Bool) (at newest : Version) → at ≡ newest → (IsTrue b ↔ P at) → b ≡ true → P newest
+test_holds P b at newest is e t = subst P is (e.0 t)
+
+pub test_fails : (P : Version → Type 0) (b : Bool) (at newest : Version) → at ≡ newest → (IsTrue b ↔ P at) → b ≡ false → P newest → ⊥
+test_fails P b at newest is e f p = true≢false (sym (e.1 (subst P (sym is) p)) ∙ f)
+
+-- ---- of a call that the book refuses as it is behind
+pub gone_ok : {T : Type 0} (r : Result T BookFault) (x : BookFault) (P : T → Type 0) → IsErrAnd r (λ y. y ≡ x) → IfOk r P
+gone_ok (Ok n) x P is = absurd is
+gone_ok (Err f) x P is = tt
+
+pub gone_err : {T : Type 0} (r : Result T BookFault) (x : BookFault) (Q : BookFault → Type 0)
+    → IsErrAnd r (λ y. y ≡ x) → x ≡ fault.Gone → Q fault.Gone → IfErr r Q
+gone_err (Ok n) x Q is gone q = tt
+gone_err (Err f) x Q is gone q = subst Q (sym (is ∙ gone)) q
+
+pub gone_looks : (r : Result ℕ BookFault) (x : BookFault) (was now : Known) (log : List Entry)
+    → IsErrAnd r (λ y. y ≡ x) → x ≡ fault.Gone → now ≡ was → Looks r was log now
+gone_looks (Ok n) x was now log is gone same = absurd is
+gone_looks (Err f) x was now log is gone same = subst (λ y. IfGone y (now ≡ was) (HasLooked was log now)) (sym (is ∙ gone)) same
+
+pub gone_told : (r : Result ℕ BookFault) (x : BookFault) (v : Version) (old : Standing) (name : Name)
+    → IsErrAnd r (λ y. y ≡ x) → x ≡ fault.Gone → IsAfterTold v old name r old
+gone_told (Ok n) x v old name is gone = refl
+gone_told (Err f) x v old name is gone = subst (λ y. IsAfterTold v old name (Err y) old) (sym (is ∙ gone)) refl
+
+-- ---- of a command
+-- what refuses it in a book that is open refuses it in one that may close
+open_refused : (f : BookFault) (closing : Bool) (v : Version) (c : Command) → IsRefused false v c f → IsRefused closing v c f
+open_refused (fault.Version x) closing v c q = q
+open_refused fault.Closing closing v c q = absurd (true≢false (sym q))
+open_refused fault.Gone closing v c q = q
+open_refused fault.NoStore closing v c q = q
+open_refused (fault.Store x) closing v c q = q
+
+pub refused_open : (r : Result ℕ BookFault) (closing : Bool) (v : Version) (c : Command)
+    → IfErr r (λ f. IsRefused false v c f) → IfErr r (λ f. IsRefused closing v c f)
+refused_open (Ok n) closing v c q = tt
+refused_open (Err f) closing v c q = open_refused f closing v c q
+
+-- a session that asked a book that closes: it has looked, or the book is behind it
+abbrev pub IsTurnedAway : Known → Known → List Entry → BookFault → Type 0
+IsTurnedAway was now log f = ((f ≡ fault.Closing) × HasLooked was log now) ⊎ ((f ≡ fault.Gone) × (now ≡ was))
+
+pub away_same : (was now : Known) (log : List Entry) (f : BookFault) → IsTurnedAway was now log f → (now.book ≡ was.book) × (now.session ≡ was.session)
+away_same was now log f (inl h) = (ap (λ k. k.book) h.1.knows, ap (λ k. k.session) h.1.knows)
+away_same was now log f (inr h) = (ap (λ k. k.book) h.1, ap (λ k. k.session) h.1)
+
+pub away_looks : (was now : Known) (log : List Entry) (f : BookFault) → IsTurnedAway was now log f → IfGone f (now ≡ was) (HasLooked was log now)
+away_looks was now log f (inl h) = subst (λ f. IfGone f (now ≡ was) (HasLooked was log now)) (sym h.0) h.1
+away_looks was now log f (inr h) = subst (λ f. IfGone f (now ≡ was) (HasLooked was log now)) (sym h.0) h.1
+
+pub away_refused : (was now : Known) (log : List Entry) (f : BookFault) (closing : Bool) (v : Version) (c : Command)
+    → IsTurnedAway was now log f → IsTrue closing → IsRefused closing v c f
+away_refused was now log f closing v c (inl h) is = subst (λ f. IsRefused closing v c f) (sym h.0) is
+away_refused was now log f closing v c (inr h) is = subst (λ f. IsRefused closing v c f) (sym h.0) tt
+
+abbrev refused_by : BookFault → Result ℕ BookFault
+refused_by f = Err f
+
+pub away_closing : (was now : Known) (log : List Entry) (f : BookFault) → IsTurnedAway was now log f
+    → (refused_by f ≡ refused_by fault.Closing) ⊎ (refused_by f ≡ refused_by fault.Gone)
+away_closing was now log f (inl h) = inl (ap refused_by h.0)
+away_closing was now log f (inr h) = inr (ap refused_by h.0)
+
+-- ---- of the marks after a wait
+pub keeps_marks : {A : Type 0} (o : Option A) (x : A) (P Q : Type 0) → o ≡ Some x → P → IfSome o (λ _. P) × IfNone o Q
+keeps_marks o x P Q is p = subst (λ o. IfSome o (λ _. P) × IfNone o Q) (sym is) (p, tt)
+
+pub loses_marks : {A : Type 0} (o : Option A) (P Q : Type 0) → o ≡ None → Q → IfSome o (λ _. P) × IfNone o Q
+loses_marks o P Q is q = subst (λ o. IfSome o (λ _. P) × IfNone o Q) (sym is) (tt, q)
+
+-- ---- of a reporter
+-- it has moved on to a log of its book
+pub moved : (was now : Heard) (to : Trail) (given n : ℕ) (book : Book) (log : List Entry)
+    → now ≡ record { book = to.book; log = to.log; given = given } → to ≡ record { book = book; log = log }
+    → was.book ≡ book → given ≡ n → now ≡ record { book = was.book; log = log; given = n }
+moved was now to given n book log is at same news =
+    is ∙ ap (λ (t : Trail). record { book = t.book; log = t.log; given = given }) at
+    ∙ ap (λ b. record { book = b; log = log; given = given }) (sym same) ∙ ap (λ k. record { book = was.book; log = log; given = k }) news
+
+pub all_ok : {T E : Type 0} (r : Result T E) (P : Type 0) → P → IfOk r (λ _. P)
+all_ok (Ok n) P p = p
+all_ok (Err f) P p = tt
+
+pub none_ok : {T E : Type 0} (r : Result T E) (b : Bool) (P : T → Type 0) → b ≡ is_ok r → b ≡ false → IfOk r P
+none_ok (Ok n) b P is so = absurd (true≢false (sym is ∙ so))
+none_ok (Err f) b P is so = tt
+
+pub none_err : {T E : Type 0} (r : Result T E) (b : Bool) (Q : E → Type 0) → b ≡ is_ok r → b ≡ true → IfErr r Q
+none_err (Ok n) b Q is so = tt
+none_err (Err f) b Q is so = absurd (true≢false (sym so ∙ is))
+
+pub same_err : {T E : Type 0} (r : Result T E) (A S : Type 0) (B : E → Type 0) → IfErr r (λ f. A × B f) → S → IfErr r (λ f. A × S × B f)
+same_err (Ok n) A S B e s = tt
+same_err (Err f) A S B e s = (e.0, s, e.1)
+
+-- ---- of a tile that is handed out
+-- what is made of a tile that is free in the newest version of a log is a job
+pub job_of : (book : Book) (log now : List Entry) (name tile : Name) (column : ℕ) (input : Input) (slots : List Slot)
+    → now ≡ log → IsLog log → name ≡ tile → input ≡ input_of (newest_in log).layers tile column → IsFree (newest_in log) slots tile column
+    → IsJob (record { book = book; log = now; name = name; input = input })
+job_of book log now name tile column input slots is valid named present free =
+    let there : IsJob (record { book = book; log = log; name = tile; input = input_of (newest_in log).layers tile column }) =
+        record { valid = valid; pending = free.pending; present = refl } in
+    subst (λ l. IsJob (record { book = book; log = l; name = name; input = input })) (sym is)
+    (subst (λ n. IsJob (record { book = book; log = log; name = n; input = input })) (sym named)
+    (subst (λ i. IsJob (record { book = book; log = log; name = tile; input = i })) (sym present) there))
+
+pub handed_of : (v : Version) (slots : List Slot) (name tile : Name) (column : ℕ) (input : Input)
+    → name ≡ tile → input ≡ input_of v.layers tile column → IsFree v slots tile column → IsHandedOut v slots name input
+handed_of v slots name tile column input named present free =
+    let there : IsHandedOut v slots tile (input_of v.layers tile column) = record { pending = free.pending; free = free.free; present = refl } in
+    subst (λ n. IsHandedOut v slots n input) (sym named) (subst (λ i. IsHandedOut v slots tile i) (sym present) there)

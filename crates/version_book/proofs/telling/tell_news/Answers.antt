@@ -1,0 +1,38 @@
+use Rattle.std.proofs.Common.{inl, inr, rules, refl, ap, sym, ◌∙◌, subst}
+use mathlib.Core.Bool.{true≢false}
+use mathlib.Core.List.{IsPrefix}
+use Rattle.version_book.proofs.Told.{moved}
+use Rattle.version_book.proofs.telling.tell_news.Goals as goal
+
+pub is_level-requires : goal.is_level-requires
+is_level-requires g c = ap (λ t. t.book) c.last-last.ensures.trace ∙ sym c.requires.book
+
+pub returns-then-not-is_level : goal.returns-then-not-is_level
+returns-then-not-is_level g c =
+    let log = ap (λ t. t.log) c.last-last.ensures.trace in
+    record {
+      some = tt;
+      news = tt;
+      none = tt;
+      err = (refl, inr refl);
+      gone = λ p. true≢false
+        (sym (c.is_level.ensures.level (subst (λ l. IsPrefix c.args.me.now.log l) (sym log) p)) ∙ c.if-not-is_level.true);
+    }
+
+pub returns-in_default : goal.returns-in_default
+returns-in_default g c = record { some = tt; news = tt; none = tt; err = (refl, inl refl); gone = tt }
+
+pub returns : goal.returns
+returns g c =
+    let log = ap (λ t. t.log) c.last-last.ensures.trace in
+    record {
+      some = (
+        c.in-Ok.ensures ∙ c.last-last.ensures.version,
+        subst (λ l. IsPrefix c.args.me.now.log l) log (c.if-not-is_level.ensures.longer refl),
+        c.last-last.ensures.log,
+      );
+      news = (search rules, moved c.args.me.now _ _ _ _ _ _ c.move_on.ensures c.last-last.ensures.trace c.requires.book refl);
+      none = tt;
+      err = tt;
+      gone = tt;
+    }
