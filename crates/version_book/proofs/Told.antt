@@ -32,7 +32,7 @@ test_holds P b at newest is e t = subst P is (e.0 t)
 pub test_fails : (P : Version → Type 0) (b : Bool) (at newest : Version) → at ≡ newest → (IsTrue b ↔ P at) → b ≡ false → P newest → ⊥
 test_fails P b at newest is e f p = true≢false (sym (e.1 (subst P (sym is) p)) ∙ f)
 
--- ---- of a call that the book refuses as it is behind
+-- ---- of a call that `?` ends, or that the book refuses as it is behind
 pub gone_ok : {T : Type 0} (r : Result T BookFault) (x : BookFault) (P : T → Type 0) → IsErrAnd r (λ y. y ≡ x) → IfOk r P
 gone_ok (Ok n) x P is = absurd is
 gone_ok (Err f) x P is = tt
@@ -41,6 +41,10 @@ pub gone_err : {T : Type 0} (r : Result T BookFault) (x : BookFault) (Q : BookFa
     → IsErrAnd r (λ y. y ≡ x) → x ≡ fault.Gone → Q fault.Gone → IfErr r Q
 gone_err (Ok n) x Q is gone q = tt
 gone_err (Err f) x Q is gone q = subst Q (sym (is ∙ gone)) q
+
+pub passed_err : {T : Type 0} (r : Result T BookFault) (x : BookFault) (Q : BookFault → Type 0) → IsErrAnd r (λ y. y ≡ x) → Q x → IfErr r Q
+passed_err (Ok n) x Q is q = tt
+passed_err (Err f) x Q is q = subst Q (sym is) q
 
 pub gone_looks : (r : Result ℕ BookFault) (x : BookFault) (was now : Known) (log : List Entry)
     → IsErrAnd r (λ y. y ≡ x) → x ≡ fault.Gone → now ≡ was → Looks r was log now

@@ -1,9 +1,18 @@
-use Rattle.std.proofs.Common.{refl, sym, subst}
+use Rattle.std.proofs.Common.{ap, refl, sym, subst}
 use Rattle.std.specs.List.{All}
+use mathlib.Core.List.{IsPrefix}
 use Rattle.book_history.specs.Trails.{Trail}
 use Rattle.book_desk.specs.Steps.{HasAllOf}
 use Rattle.version_book.proofs.shared.Shared.into_closed.Goals as goal
 
-pub returns-clause-sessions : goal.returns-clause-sessions
-returns-clause-sessions g c =
-    subst (λ (t : Trail). All (HasAllOf t.log) c.args.sessions.now) (sym c.into_closed.ensures.log.0) (c.if-not-has_all_of.ensures.sessions refl)
+pub returns : goal.returns
+returns g c =
+    let e = c.into_closed.ensures in
+    let all = c.if-not-has_all_of.ensures in
+    record {
+      version = e.version;
+      log = (ap (λ t. t.book) e.log.0, e.log.1);
+      reporter = subst (λ (t : Trail). IsPrefix c.args.reporter.now.log t.log) (sym e.log.0) (all.reporter refl);
+      sessions = subst (λ (t : Trail). All (HasAllOf t.log) c.args.sessions.now) (sym e.log.0) (all.sessions refl);
+      durable = e.durable;
+    }

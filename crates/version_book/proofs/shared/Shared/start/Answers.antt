@@ -2,11 +2,32 @@ use Rattle.std.proofs.Common.{◌≡◌, length, ap, sym, ◌∙◌, subst}
 use Rattle.std.specs.List.{All}
 use Rattle.book_history.specs.Known.{Known}
 use Rattle.book_desk.proofs.Beginning.{all_begin, count_of}
+use Rattle.version_book.proofs.Told.{gone_ok, passed_err}
 use Rattle.version_book.proofs.shared.Shared.start.Goals as goal
 
-pub returns-clause-of_book : goal.returns-clause-of_book
-returns-clause-of_book g c =
-    subst (All (λ (session : Known). session.book ≡ g.J.Naming.book)) (sym c.in_ok-shelf.ensures.sessions) (all_begin c.args.trace g.J.Naming.book c.args.sessions c.requires.trace.0)
+pub returns-in_err-shelf : goal.returns-in_err-shelf
+returns-in_err-shelf g c =
+    let r = c.from_residual.result in
+    let is = c.from_residual.ensures.1 in
+    record {
+      reporter = gone_ok r _ _ is;
+      sessions = gone_ok r _ _ is;
+      of_book = gone_ok r _ _ is;
+      reporter_of_book = gone_ok r _ _ is;
+      count = gone_ok r _ _ is;
+      err = passed_err r _ _ is c.in_err-shelf.ensures.err;
+    }
 
-pub returns-clause-count : goal.returns-clause-count
-returns-clause-count g c = ap length c.in_ok-shelf.ensures.sessions ∙ count_of c.args.trace c.args.sessions
+pub returns : goal.returns
+returns g c =
+    let all = c.in_ok-shelf.ensures.sessions in
+    let begun = c.new-reporter.ensures ∙ ap (λ t. record { book = t.book; log = t.log; given = 0 }) c.again.ensures in
+    record {
+      reporter = begun;
+      sessions = all;
+      of_book = subst (All (λ (session : Known). session.book ≡ g.J.Naming.book)) (sym all)
+        (all_begin c.args.trace g.J.Naming.book c.args.sessions c.requires.trace.0);
+      reporter_of_book = ap (λ h. h.book) begun ∙ c.requires.trace.0;
+      count = ap length all ∙ count_of c.args.trace c.args.sessions;
+      err = tt;
+    }
