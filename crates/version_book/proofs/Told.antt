@@ -1,6 +1,6 @@
 -- How the calls that wait end, and what a tile that is handed out is, told from what each finds under the lock.
 use Rattle.std.proofs.Common.{◌≡◌, ◌⊎◌, inl, inr, ◌↔◌, ℕ, Bool, true, false, IsTrue, List, Option, Some, None, IfSome, IfNone, Result, Ok, Err, IfOk, IfErr, refl, ap, sym, ◌∙◌, subst}
-use Rattle.std.specs.Prelude.{IsErrAnd, is_ok}
+use Rattle.std.specs.Prelude.{IsErrAnd, OnErr, OnOk, is_err, is_ok}
 use mathlib.Core.Bool.{true≢false}
 use Rattle.logbook.specs.Pages.{Book}
 use Rattle.overlay_terms.specs.Commands.{Command}
@@ -102,8 +102,8 @@ keeps_marks o x P Q is p = subst (λ o. IfSome o (λ _. P) × IfNone o Q) (sym i
 pub loses_marks : {A : Type 0} (o : Option A) (P Q : Type 0) → o ≡ None → Q → IfSome o (λ _. P) × IfNone o Q
 loses_marks o P Q is q = subst (λ o. IfSome o (λ _. P) × IfNone o Q) (sym is) (tt, q)
 
--- ---- of a reporter
--- it has moved on to a log of its book
+-- ---- of a reporter, and of a result that was looked at
+-- a reporter has moved on to a log of its book
 pub moved : (was now : Heard) (to : Trail) (given n : ℕ) (book : Book) (log : List Entry)
     → now ≡ record { book = to.book; log = to.log; given = given } → to ≡ record { book = book; log = log }
     → was.book ≡ book → given ≡ n → now ≡ record { book = was.book; log = log; given = n }
@@ -122,6 +122,14 @@ none_ok (Err f) b P is so = tt
 pub none_err : {T E : Type 0} (r : Result T E) (b : Bool) (Q : E → Type 0) → b ≡ is_ok r → b ≡ true → IfErr r Q
 none_err (Ok n) b Q is so = tt
 none_err (Err f) b Q is so = absurd (true≢false (sym so ∙ is))
+
+pub on_ok : {T E : Type 0} (r : Result T E) (b : Bool) (P : Type 0) → b ≡ is_err r → b ≡ false → OnOk r P → P
+on_ok (Ok n) b P is so p = p
+on_ok (Err f) b P is so p = absurd (true≢false (sym is ∙ so))
+
+pub on_err : {T E : Type 0} (r : Result T E) (b : Bool) (P : Type 0) → b ≡ is_err r → b ≡ true → OnErr r P → P
+on_err (Ok n) b P is so p = absurd (true≢false (sym so ∙ is))
+on_err (Err f) b P is so p = p
 
 pub same_err : {T E : Type 0} (r : Result T E) (A S : Type 0) (B : E → Type 0) → IfErr r (λ f. A × B f) → S → IfErr r (λ f. A × S × B f)
 same_err (Ok n) A S B e s = tt

@@ -1,4 +1,5 @@
-use Rattle.std.proofs.Common.{inl, inr, rules, refl, sym, ◌∙◌, subst}
+use Rattle.std.proofs.Common.{◌≡◌, false, inl, inr, rules, refl, sym, ◌∙◌, subst}
+use mathlib.Core.Bool.{true≢false}
 use Rattle.std.proofs.lemmas.Result.{IfErr-at_err, IfOk-at_ok}
 use Rattle.layer_book.specs.Command.{command}
 use Rattle.book_history.specs.Logs.{newest_in}
@@ -33,6 +34,7 @@ returns g c =
     let r = c.submit-desk.result.1 in
     let s = c.submit-desk.ensures in
     let old = c.args.self.standing in
+    let is_open : old.closing ≡ false = search rules in
     record {
       ok = s.ok;
       accepted = elim c.if-is_ok.branch [
@@ -47,5 +49,5 @@ returns g c =
         | else-is_ok w ↦ same_err r _ _ _ s.err w.standing-is
       ];
       refused = refused_open r old.closing (newest_in c.args.self.desk) (command c.args.change.now) s.refused;
-      closing = search rules;
+      closing = λ is. absurd (true≢false (sym is ∙ is_open));
     }
