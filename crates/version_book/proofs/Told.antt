@@ -142,7 +142,7 @@ pub job_of : (book : Book) (log now : List Entry) (name tile : Name) (column : �
     → IsJob (record { book = book; log = now; name = name; input = input })
 job_of book log now name tile column input slots is valid named present free =
     let there : IsJob (record { book = book; log = log; name = tile; input = input_of (newest_in log).layers tile column }) =
-        record { valid = valid; pending = free.pending; present = refl } in
+    record { valid = valid; pending = free.pending; present = refl } in
     subst (λ l. IsJob (record { book = book; log = l; name = name; input = input })) (sym is)
     (subst (λ n. IsJob (record { book = book; log = log; name = n; input = input })) (sym named)
     (subst (λ i. IsJob (record { book = book; log = log; name = tile; input = i })) (sym present) there))

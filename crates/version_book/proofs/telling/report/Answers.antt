@@ -20,10 +20,10 @@ returns g c =
       ok = c.report-desk.ensures.ok;
       seen = elim c.if-is_ok.branch [
         | then-is_ok w ↦ all_ok r _ (
-            longer,
-            w.me-is ∙ moved c.args.me.now _ _ _ _ _ _ w.move_on.ensures w.last-then-is_ok.ensures.trace c.requires.book c.given-given.ensures.value,
-            w.last-then-is_ok.ensures.log,
-          )
+          longer,
+          w.me-is ∙ moved c.args.me.now _ _ _ _ _ _ w.move_on.ensures w.last-then-is_ok.ensures.trace c.requires.book c.given-given.ensures.value,
+          w.last-then-is_ok.ensures.log,
+        )
         | else-is_ok w ↦ none_ok r _ _ c.is_ok.ensures.value w.if-is_ok.false
       ];
       begun = c.given-given.ensures.begun;

@@ -16,7 +16,7 @@ returns-then-not-is_level g c =
       none = tt;
       err = (refl, inr refl);
       gone = λ p. true≢false
-        (sym (c.is_level.ensures.level (subst (λ l. IsPrefix c.args.me.now.log l) (sym log) p)) ∙ c.if-not-is_level.true);
+          (sym (c.is_level.ensures.level (subst (λ l. IsPrefix c.args.me.now.log l) (sym log) p)) ∙ c.if-not-is_level.true);
     }
 
 pub returns-in_default : goal.returns-in_default

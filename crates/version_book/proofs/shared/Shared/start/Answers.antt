@@ -26,7 +26,7 @@ returns g c =
       reporter = begun;
       sessions = all;
       of_book = subst (All (λ (session : Known). session.book ≡ g.J.Naming.book)) (sym all)
-        (all_begin c.args.trace g.J.Naming.book c.args.sessions c.requires.trace.0);
+          (all_begin c.args.trace g.J.Naming.book c.args.sessions c.requires.trace.0);
       reporter_of_book = ap (λ h. h.book) begun ∙ c.requires.trace.0;
       count = ap length all ∙ count_of c.args.trace c.args.sessions;
       err = tt;

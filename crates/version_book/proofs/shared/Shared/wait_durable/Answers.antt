@@ -16,7 +16,7 @@ returns-in-Some g c =
     record {
       goes_on = looks_goes me now log s.result c.number-number.ensures.begun looks;
       ok = looks_ok me now log s.result (λ v n. (v.durable ≡ n) × ((newest (seen me)).number ≤ n)) looks
-        (subst (λ m. IfOk s.result (λ n. ((newest_in log).durable ≡ n) × (m ≤ n))) c.newest-number.ensures s.ensures.ok);
+          (subst (λ m. IfOk s.result (λ n. ((newest_in log).durable ≡ n) × (m ≤ n))) c.newest-number.ensures s.ensures.ok);
       own = looks_own me now log s.result looks;
       err = looks_err me now log s.result looks;
       refused = sync_refused s.result shelf.standing (newest_in log) _ s.ensures.refused;

@@ -16,7 +16,7 @@ returns g c =
     let kept = IfOk-at_ok _ c.in-Ok.is c.keep-desk.ensures.kept in
     record {
       log = subst (λ i. IsFinishedIn old c.args.job.name i tile c.in-Ok.kept new) c.requires.input
-        (subst (λ n. IsFinishedIn old n c.args.built.now.0 tile c.in-Ok.kept new) c.name.ensures kept);
+          (subst (λ n. IsFinishedIn old n c.args.built.now.0 tile c.in-Ok.kept new) c.name.ensures kept);
       standing = search rules;
       err = tt;
       refused = tt;
