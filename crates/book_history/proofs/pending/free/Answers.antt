@@ -18,7 +18,8 @@ loop-place-preserved c =
     let held : Layer → Type 0 = λ layer. IsTrue (stands_as_derived layers layer.name) → AreHeld c.args.version.now c.args.slots.now.list.items layer.name in
     elim c.match-at.branch [
       | in-Some+then-stands_as_derived+in_default-free_column w ↦ one_more held layers i _ (sym w.in-Some.ensures) c.loop-place.invariant (λ _. w.in_default-free_column.ensures.none)
-      | in-Some+else-stands_as_derived w ↦ one_more held layers i _ (sym w.in-Some.ensures) c.loop-place.invariant (λ stands. absurd (false≢true (sym w.if-stands_as_derived.false ∙ w.stands_as_derived.ensures ∙ stands)))
+      | in-Some+else-stands_as_derived w ↦ one_more held layers i _ (sym w.in-Some.ensures) c.loop-place.invariant
+          (λ stands. absurd (false≢true (sym w.if-stands_as_derived.false ∙ w.stands_as_derived.ensures ∙ stands)))
       | in_default w ↦ absurd (none_there layers i (subst (λ n. i < n) c.len-place-end.ensures.value c.loop-place-test.true) w.in_default.ensures)
     ]
 

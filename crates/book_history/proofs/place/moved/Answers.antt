@@ -24,4 +24,5 @@ returns-then-level c =
     let seen = at_taken _ _ _ _ _ c.ok.ensures.value c.in_ok-reading.was c.enter_as.ensures in
     let of = MatchOption-at_some _ _ _ c.in_ok-place.was c.requires in
     let there = ap (λ p. p.trace) c.get.ensures in
-    begins_level _ _ _ _ _ c.at-2.ensures.length c.at.ensures.length c.if-level.true (ap (λ t. t.book) there ∙ same_book _ _ _ of seen.1.0) c.compare.ensures.there (c.leave-place.ensures.1 ∙ seen.1.1 ∙ sym there)
+    let same = ap (λ t. t.book) there ∙ same_book _ _ _ of seen.1.0 in
+    begins_level _ _ _ _ _ c.at-2.ensures.length c.at.ensures.length c.if-level.true same c.compare.ensures.there (c.leave-place.ensures.1 ∙ seen.1.1 ∙ sym there)

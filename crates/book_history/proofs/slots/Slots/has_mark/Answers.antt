@@ -7,4 +7,5 @@ use Rattle.book_history.proofs.slots.Slots.has_mark.Goals as goal
 pub returns : goal.returns
 returns c =
     let items = c.args.self.now.list.items in
-    any_from_yields_List (λ slot. slot.marked && bytes_eq slot.name c.args.name.now) _ _ _ c.any.ensures.ran (YieldsList-from_slice items (c.iter.ensures.rest ∙ c.deref.ensures.value)) (λ x b q k. search (rules, tests))
+    let chain = YieldsList-from_slice items (c.iter.ensures.rest ∙ c.deref.ensures.value) in
+    any_from_yields_List (λ slot. slot.marked && bytes_eq slot.name c.args.name.now) _ _ _ c.any.ensures.ran chain (λ x b q k. search (rules, tests))
