@@ -14,7 +14,7 @@ returns-in-Ok c =
     let r = c.shared.result in
     let follows = c.in-Ok.ensures.ok in
     let want : (f : BookFault) → f ≡ no_memory → IsRefused false now change f × IfGone f ⊥ (Unit {0}) =
-        λ f is. subst (λ (e : BookFault). IsRefused false now change e × IfGone e ⊥ (Unit {0})) (sym is) (for_want false now change follows.accepted_there, tt) in
+    λ f is. subst (λ (e : BookFault). IsRefused false now change e × IfGone e ⊥ (Unit {0})) (sym is) (for_want false now change follows.accepted_there, tt) in
     record {
       ok = IfOk-weaker r _ _ (λ v is. subst (FollowsCommand now change) (sym is) follows) c.shared.ensures.ok;
       err = IfErr-weaker r (λ f. f ≡ no_memory) (IsRefused false now change) (λ f is. (want f is).0) c.shared.ensures.err;
