@@ -3,12 +3,15 @@
 
 pub mod closing;
 pub mod crossing;
-mod handing;
-pub mod job;
 mod opening;
 pub mod shared;
 mod shelf;
 mod telling;
+
+/// A tile that is handed out.
+pub mod job {
+    pub use crate::shelf::job::Job;
+}
 
 /// Why a call on the book is refused.
 pub mod fault {

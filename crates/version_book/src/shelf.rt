@@ -8,7 +8,7 @@ ghost use Rattle.book_history.specs.Logs.{newest_in, IsLog};
 ghost use Rattle.book_history.specs.Standing.{IsAfterCommand, IsAfterFinish};
 ghost use Rattle.book_desk.specs.Steps.{HasLooked, IsAcceptedIn, IsFinishedIn};
 
-use crate::job::Job;
+use crate::shelf::job::Job;
 use book_desk::desk::Desk;
 use book_desk::session::Session;
 use book_history::fault::BookFault;
@@ -18,6 +18,9 @@ use layer_book::command::Command;
 use std::alloc::Global;
 use std::sync::Wait;
 use tile_build::built::Built;
+
+mod handing;
+pub mod job;
 
 /// What lies under the lock.
 #[derive(Drop)]

@@ -9,8 +9,8 @@ ghost use Rattle.book_history.specs.Standing.{HasSlots};
 ghost use Rattle.version_book.specs.Jobs.{IsHandedOut, IsJob};
 ghost use Rattle.version_book.specs.Waits.{IsIdle};
 
-use crate::job::Job;
 use crate::shelf::Shelf;
+use crate::shelf::job::Job;
 use arrange::tile_input::TileInput;
 use book_history::fault::BookFault;
 use book_history::making::NO_MEMORY;

@@ -29,7 +29,7 @@ impl Model for Job {
 
 impl Job {
     // A job for a tile that is pending in the newest version of a log.
-    pub(crate) fn new(name: Name, input: TileInput, trace: Trace) -> Job
+    pub(super) fn new(name: Name, input: TileInput, trace: Trace) -> Job
         requires { IsJob (record { book = trace.book; log = trace.log; name = name; input = input }) }
         ensures { result ≡ record { book = trace.book; log = trace.log; name = name; input = input } }
     {
@@ -59,7 +59,7 @@ impl Job {
     }
 
     // Ends a job, whose tile is not handed out any more.
-    pub(crate) fn end(self) {
+    pub(super) fn end(self) {
         let Job {
             name: _name,
             input: _input,
