@@ -42,10 +42,6 @@ pub gone_err : {T : Type 0} (r : Result T BookFault) (x : BookFault) (Q : BookFa
 gone_err (Ok n) x Q is gone q = tt
 gone_err (Err f) x Q is gone q = subst Q (sym (is ∙ gone)) q
 
-pub passed_err : {T : Type 0} (r : Result T BookFault) (x : BookFault) (Q : BookFault → Type 0) → IsErrAnd r (λ y. y ≡ x) → Q x → IfErr r Q
-passed_err (Ok n) x Q is q = tt
-passed_err (Err f) x Q is q = subst Q (sym is) q
-
 pub gone_looks : (r : Result ℕ BookFault) (x : BookFault) (was now : Known) (log : List Entry)
     → IsErrAnd r (λ y. y ≡ x) → x ≡ fault.Gone → now ≡ was → Looks r was log now
 gone_looks (Ok n) x was now log is gone same = absurd is

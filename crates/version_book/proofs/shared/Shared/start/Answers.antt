@@ -1,8 +1,8 @@
 use Rattle.std.proofs.Common.{◌≡◌, length, ap, sym, ◌∙◌, subst}
 use Rattle.std.specs.List.{All}
 use Rattle.book_history.specs.Known.{Known}
-use Rattle.book_desk.proofs.Beginning.{all_begin, count_of}
-use Rattle.version_book.proofs.Told.{gone_ok, passed_err}
+use Rattle.book_desk.proofs.Beginning.{all_begin, count_of, passed}
+use Rattle.version_book.proofs.Told.{gone_ok}
 use Rattle.version_book.proofs.shared.Shared.start.Goals as goal
 
 pub returns-in_err-shelf : goal.returns-in_err-shelf
@@ -15,7 +15,7 @@ returns-in_err-shelf g c =
       of_book = gone_ok r _ _ is;
       reporter_of_book = gone_ok r _ _ is;
       count = gone_ok r _ _ is;
-      err = passed_err r _ _ is c.in_err-shelf.ensures.err;
+      err = passed _ r _ is c.in_err-shelf.ensures.err;
     }
 
 pub returns : goal.returns
