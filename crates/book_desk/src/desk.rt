@@ -138,42 +138,25 @@ impl<J: Naming, R: Wait + Drop> Desk<J, R> {
         Ok(number)
     }
 
-    /// Adds an entry that follows the newest version. The desk comes back as it was where that cannot be.
+    /// Adds an entry that follows the newest version, or nothing.
     pub(crate) fn add(
-        self,
+        &mut self,
         cause: Cause<'_>,
         version: Arc<Version, Global>,
-    ) -> Result<Desk<J, R>, Desk<J, R>>
-        requires follows { Follows (newest_in self) (event_of cause) (arc_value version) }
+    ) -> Result<(), BookFault>
+        requires follows { Follows (newest_in self.old) (event_of cause) (arc_value version) }
         requires seat { HasSeat cause }
-        ensures ok { IfOk result (λ desk. desk ≡ self ++ entry (event_of cause.entry) (arc_value version) ∷ []) }
-        ensures room { IfOk result (λ _. length self < 2 ^ 62) }
-        ensures err { IfErr result (λ desk. desk ≡ self) }
+        ensures ok { IfOk result (λ _. self.new ≡ self.old ++ entry (event_of cause.entry) (arc_value version) ∷ []) }
+        ensures room { IfOk result (λ _. length self.old < 2 ^ 62) }
+        ensures err { IfErr result (λ fault. (fault ≡ BookFault.Gone) × (self.new ≡ self.old)) }
     {
-        let Desk {
-            head,
-            press,
-            counts,
-            rt,
-            of,
-        } = self;
-        let mut trace = press.published().trace.again();
-        if trace.at() >= MOST || !trace.add(&head, cause, &version) {
-            return Err(Desk {
-                head,
-                press,
-                counts,
-                rt,
-                of,
-            });
+        let mut trace = self.press.published().trace.again();
+        if trace.at() >= MOST || !trace.add(&self.head, cause, &version) {
+            return Err(BookFault::Gone);
         }
-        Ok(Desk {
-            head,
-            press: put_out(&rt, press, Published { version, trace }),
-            counts: counted(counts, cause),
-            rt,
-            of,
-        })
+        put_out(&self.rt, &mut self.press, Published { version, trace });
+        self.counts = counted(self.counts, cause);
+        Ok(())
     }
 
     /// The newest version and the log. It waits for the readers.
@@ -197,42 +180,37 @@ impl<J: Naming, R: Wait + Drop> Desk<J, R> {
 
     /// Accepts a command of a session: the one entry that this adds, or nothing.
     pub fn submit(
-        self,
+        &mut self,
         alloc: Global,
         me: &mut Session,
         change: &Command,
-    ) -> (Desk<J, R>, Result<u64, BookFault>)
+    ) -> Result<u64, BookFault>
         requires book { me.old.book ≡ J.book }
-        ensures ok { IfOk result.1 (λ n. IsAcceptedIn self me.old.session (command change.now) result.0 n) }
-        ensures seen { IfOk result.1 (λ _. IsPrefix me.old.log self × (me.new.log ≡ result.0)) }
-        ensures made { IfOk result.1 (λ _. (me.new.made ≡ me.old.made ++ command change.now ∷ [])
-            × (commands_of me.old.session result.0 ≡ me.new.made) × IsLog result.0) }
+        ensures ok { IfOk result (λ n. IsAcceptedIn self.old me.old.session (command change.now) self.new n) }
+        ensures seen { IfOk result (λ _. IsPrefix me.old.log self.old × (me.new.log ≡ self.new)) }
+        ensures made { IfOk result (λ _. (me.new.made ≡ me.old.made ++ command change.now ∷ [])
+            × (commands_of me.old.session self.new ≡ me.new.made) × IsLog self.new) }
         ensures same { (me.new.book ≡ me.old.book) × (me.new.session ≡ me.old.session) }
-        ensures err { IfErr result.1 (λ fault. (result.0 ≡ self)
-            × IfGone fault (me.new ≡ me.old) (HasLooked me.old self me.new)) }
-        ensures refused { IfErr result.1 (λ fault. IsRefused false (newest_in self) (command change.now) fault) }
+        ensures err { IfErr result (λ fault. (self.new ≡ self.old)
+            × IfGone fault (me.new ≡ me.old) (HasLooked me.old self.old me.new)) }
+        ensures refused { IfErr result (λ fault. IsRefused false (newest_in self.old) (command change.now) fault) }
     {
         if !self.is_level(me) {
-            return (self, Err(BookFault::Gone));
+            return Err(BookFault::Gone);
         }
         let version = match next_version(alloc, &self.last().version, change) {
             Ok(version) => version,
             Err(fault) => {
-                return match self.show(me) {
-                    Ok(_) => (self, Err(fault)),
-                    Err(gone) => (self, Err(gone)),
-                };
+                self.show(me)?;
+                return Err(fault);
             }
         };
         let by = me.number();
-        let desk = match self.add(Cause::Accepted(by, change), version) {
-            Ok(desk) => desk,
-            Err(desk) => return (desk, Err(BookFault::Gone)),
-        };
-        let last = desk.last();
+        self.add(Cause::Accepted(by, change), version)?;
+        let last = self.last();
         let accepted = last.version.number();
         me.made_one(&last.trace, accepted);
-        (desk, Ok(accepted))
+        Ok(accepted)
     }
 }
 

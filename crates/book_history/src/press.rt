@@ -4,6 +4,7 @@ ghost use Rattle.left_right.specs.Sides.{view};
 ghost use Rattle.book_history.specs.Trails.{Begins};
 
 use crate::published::{Notes, Place, Press, Published, Sees};
+use core::mem::replace_with;
 use std::alloc::Global;
 use std::sync::Wait;
 
@@ -24,7 +25,7 @@ pub fn first_press<R: Wait>(
     let Ok(press) = Press::new(alloc, first, second, readers) else {
         return None;
     };
-    Some(put_out(rt, press, next))
+    Some(shown_by(rt, press, next))
 }
 
 /// A place that has seen what the press knows.
@@ -54,8 +55,8 @@ fn write_down<R: Wait>(rt: &R, press: Press, next: Published) -> Press
     unreachable!()
 }
 
-/// Publishes what follows.
-pub fn put_out<R: Wait>(rt: &R, press: Press, next: Published) -> Press
+// A press that has published what follows.
+fn shown_by<R: Wait>(rt: &R, press: Press, next: Published) -> Press
     requires pending { drop press.behind press.log.items ≡ [] }
     requires longer { Begins press.desk.shown.value.trace next.trace }
     ensures shown { result.desk.shown.value.trace ≡ next.trace }
@@ -71,4 +72,15 @@ pub fn put_out<R: Wait>(rt: &R, press: Press, next: Published) -> Press
         }
     }
     unreachable!()
+}
+
+/// Publishes what follows.
+pub fn put_out<R: Wait>(rt: &R, press: &mut Press, next: Published)
+    requires pending { drop press.old.behind press.old.log.items ≡ [] }
+    requires longer { Begins press.old.desk.shown.value.trace next.trace }
+    ensures shown { press.new.desk.shown.value.trace ≡ next.trace }
+    ensures known { view press.new.desk.place ≡ next.trace }
+    ensures pending { drop press.new.behind press.new.log.items ≡ [] }
+{
+    replace_with(press, next, |press, next| (shown_by(rt, press, next), ()))
 }

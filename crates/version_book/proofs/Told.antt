@@ -1,6 +1,6 @@
 -- How the calls that wait end, and what a tile that is handed out is, told from what each finds under the lock.
 use Rattle.std.proofs.Common.{◌≡◌, ◌⊎◌, inl, inr, ◌↔◌, ℕ, Bool, true, false, IsTrue, List, Option, Some, None, IfSome, IfNone, Result, Ok, Err, IfOk, IfErr, refl, ap, sym, ◌∙◌, subst}
-use Rattle.std.specs.Prelude.{IsErrAnd, OnErr, OnOk, is_err, is_ok}
+use Rattle.std.specs.Prelude.{IsErrAnd, OnErr, OnOk, is_err}
 use mathlib.Core.Bool.{true≢false}
 use Rattle.logbook.specs.Pages.{Book}
 use Rattle.overlay_terms.specs.Commands.{Command}
@@ -54,17 +54,12 @@ gone_told (Err f) x v old name is gone = subst (λ y. IsAfterTold v old name (Er
 
 -- ---- of a command
 -- what refuses it in a book that is open refuses it in one that may close
-open_refused : (f : BookFault) (closing : Bool) (v : Version) (c : Command) → IsRefused false v c f → IsRefused closing v c f
+pub open_refused : (f : BookFault) (closing : Bool) (v : Version) (c : Command) → IsRefused false v c f → IsRefused closing v c f
 open_refused (fault.Version x) closing v c q = q
 open_refused fault.Closing closing v c q = absurd (true≢false (sym q))
 open_refused fault.Gone closing v c q = q
 open_refused fault.NoStore closing v c q = q
 open_refused (fault.Store x) closing v c q = q
-
-pub refused_open : (r : Result ℕ BookFault) (closing : Bool) (v : Version) (c : Command)
-    → IfErr r (λ f. IsRefused false v c f) → IfErr r (λ f. IsRefused closing v c f)
-refused_open (Ok n) closing v c q = tt
-refused_open (Err f) closing v c q = open_refused f closing v c q
 
 -- a session that asked a book that closes: it has looked, or the book is behind it
 abbrev pub IsTurnedAway : Known → Known → List Entry → BookFault → Type 0
@@ -86,10 +81,10 @@ away_refused was now log f closing v c (inr h) is = subst (λ f. IsRefused closi
 abbrev refused_by : BookFault → Result ℕ BookFault
 refused_by f = Err f
 
-pub away_closing : (was now : Known) (log : List Entry) (f : BookFault) → IsTurnedAway was now log f
-    → (refused_by f ≡ refused_by fault.Closing) ⊎ (refused_by f ≡ refused_by fault.Gone)
-away_closing was now log f (inl h) = inl (ap refused_by h.0)
-away_closing was now log f (inr h) = inr (ap refused_by h.0)
+-- what is passed up is the fault that came
+pub passed_as : (r : Result ℕ BookFault) (x y : BookFault) → IsErrAnd r (λ z. z ≡ x) → x ≡ y → r ≡ refused_by y
+passed_as (Ok n) x y and is = absurd and
+passed_as (Err z) x y and is = ap refused_by (and ∙ is)
 
 -- ---- of the marks after a wait
 pub keeps_marks : {A : Type 0} (o : Option A) (x : A) (P Q : Type 0) → o ≡ Some x → P → IfSome o (λ _. P) × IfNone o Q
@@ -107,18 +102,6 @@ moved was now to given n book log is at same news =
     is ∙ ap (λ (t : Trail). record { book = t.book; log = t.log; given = given }) at
     ∙ ap (λ b. record { book = b; log = log; given = given }) (sym same) ∙ ap (λ k. record { book = was.book; log = log; given = k }) news
 
-pub all_ok : {T E : Type 0} (r : Result T E) (P : Type 0) → P → IfOk r (λ _. P)
-all_ok (Ok n) P p = p
-all_ok (Err f) P p = tt
-
-pub none_ok : {T E : Type 0} (r : Result T E) (b : Bool) (P : T → Type 0) → b ≡ is_ok r → b ≡ false → IfOk r P
-none_ok (Ok n) b P is so = absurd (true≢false (sym is ∙ so))
-none_ok (Err f) b P is so = tt
-
-pub none_err : {T E : Type 0} (r : Result T E) (b : Bool) (Q : E → Type 0) → b ≡ is_ok r → b ≡ true → IfErr r Q
-none_err (Ok n) b Q is so = tt
-none_err (Err f) b Q is so = absurd (true≢false (sym so ∙ is))
-
 pub on_ok : {T E : Type 0} (r : Result T E) (b : Bool) (P : Type 0) → b ≡ is_err r → b ≡ false → OnOk r P → P
 on_ok (Ok n) b P is so p = p
 on_ok (Err f) b P is so p = absurd (true≢false (sym is ∙ so))
@@ -126,10 +109,6 @@ on_ok (Err f) b P is so p = absurd (true≢false (sym is ∙ so))
 pub on_err : {T E : Type 0} (r : Result T E) (b : Bool) (P : Type 0) → b ≡ is_err r → b ≡ true → OnErr r P → P
 on_err (Ok n) b P is so p = absurd (true≢false (sym so ∙ is))
 on_err (Err f) b P is so p = p
-
-pub same_err : {T E : Type 0} (r : Result T E) (A S : Type 0) (B : E → Type 0) → IfErr r (λ f. A × B f) → S → IfErr r (λ f. A × S × B f)
-same_err (Ok n) A S B e s = tt
-same_err (Err f) A S B e s = (e.0, s, e.1)
 
 -- ---- of a tile that is handed out
 -- what is made of a tile that is free in the newest version of a log is a job

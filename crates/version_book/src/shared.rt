@@ -34,7 +34,7 @@ use version_core::version::Version;
 
 /// The book under its lock.
 pub struct Shared<J: Naming, R: Wait + Drop> {
-    shelf: Mutex<Option<Shelf<J, R>>>,
+    shelf: Mutex<Shelf<J, R>>,
     changed: Condvar,
 }
 
@@ -62,7 +62,7 @@ impl<J: Naming, R: Wait + Drop> Shared<J, R> {
         let reporter = Reporter::new(trace.again());
         let (shelf, list) = open(rt, alloc, head, trace, version, store, sessions)?;
         let shared = Shared {
-            shelf: Mutex::new(Some(shelf)),
+            shelf: Mutex::new(shelf),
             changed: Condvar::new(),
         };
         Ok((shared, reporter, list))
@@ -87,12 +87,8 @@ impl<J: Naming, R: Wait + Drop> Shared<J, R> {
         ensures same { (me.new.book ≡ me.old.book) × (me.new.session ≡ me.old.session) }
     {
         let _number = me.number();
-        let mut guard = self.shelf.lock(rt);
-        let Some(shelf) = guard.take() else {
-            return Err(BookFault::Gone);
-        };
-        let (shelf, done) = shelf.submit(alloc, me, change);
-        *guard = Some(shelf);
+        let mut shelf = self.shelf.lock(rt);
+        let done = shelf.submit(alloc, me, change);
         self.changed.notify_all();
         done
     }
@@ -103,13 +99,10 @@ impl<J: Naming, R: Wait + Drop> Shared<J, R> {
         ensures job { IfOk result (λ o. IfSome o (λ job. IsJob job)) }
         ensures err { IfErr result (λ fault. fault ≡ no_memory) }
     {
-        let mut guard = self
+        let mut shelf = self
             .changed
             .wait_while(rt, self.shelf.lock(rt), |shelf| is_idle(shelf));
-        match &mut *guard {
-            Some(shelf) => shelf.take(alloc),
-            None => Ok(None),
-        }
+        shelf.take(alloc)
     }
 
     /// Spends a job with the tile that was built of its input, and says whether it was kept. Where that cannot be
@@ -126,12 +119,8 @@ impl<J: Naming, R: Wait + Drop> Shared<J, R> {
         ensures err { IfErr result (λ e. (e.0 ≡ job) × (e.1 ≡ built)) }
         ensures refused { IfErr result (λ e. (e.2 ≡ no_memory) ⊎ (e.2 ≡ BookFault.Gone)) }
     {
-        let mut guard = self.shelf.lock(rt);
-        let Some(shelf) = guard.take() else {
-            return Err((job, built, BookFault::Gone));
-        };
-        let (shelf, done) = shelf.finish(alloc, job, &built);
-        *guard = Some(shelf);
+        let mut shelf = self.shelf.lock(rt);
+        let done = shelf.finish(alloc, job, &built);
         self.changed.notify_all();
         match done {
             Ok(kept) => Ok(kept),
@@ -139,15 +128,13 @@ impl<J: Naming, R: Wait + Drop> Shared<J, R> {
         }
     }
 
-    /// Spends a job whose tile could not be built for want of memory: the tile is marked. Were there no book under the
-    /// lock, which cannot come, it would wait for ever.
+    /// Spends a job whose tile could not be built for want of memory: the tile is marked.
     // It has no clause, as nothing of what lies under the lock can be said once that is given up. But a job can be let
     // go by the lock's methods alone, and `Shelf::give_back` says what it does to the tile.
     pub fn give_back<W: Wait>(&self, rt: &W, job: Job)
         requires { job.book ≡ J.book }
     {
-        let mut guard = self.shelf.lock(rt);
-        let Some(shelf) = &mut *guard else { never(rt) };
+        let mut shelf = self.shelf.lock(rt);
         shelf.give_back(job);
         self.changed.notify_all();
     }
@@ -168,13 +155,10 @@ impl<J: Naming, R: Wait + Drop> Shared<J, R> {
         ensures same { (me.new.book ≡ me.old.book) × (me.new.session ≡ me.old.session) × (me.new.made ≡ me.old.made) }
     {
         let _number = me.number();
-        let mut guard = self
+        let mut shelf = self
             .changed
             .wait_while(rt, self.shelf.lock(rt), |shelf| is_building(shelf, name));
-        match &mut *guard {
-            Some(shelf) => tell_built(shelf, me, name),
-            None => Err(BookFault::Gone),
-        }
+        tell_built(&mut shelf, me, name)
     }
 
     /// Waits until the newest version that a session has seen is durable, and answers the durable number.
@@ -189,13 +173,10 @@ impl<J: Naming, R: Wait + Drop> Shared<J, R> {
     {
         let _number = me.number();
         let number = me.newest();
-        let guard = self
+        let shelf = self
             .changed
             .wait_while(rt, self.shelf.lock(rt), |shelf| is_writing(shelf, number));
-        match &*guard {
-            Some(shelf) => tell_durable(shelf, me, number),
-            None => Err(BookFault::Gone),
-        }
+        tell_durable(&shelf, me, number)
     }
 
     /// Gives the reporter the newest version once there are commands or kept tiles that it was not
@@ -215,13 +196,10 @@ impl<J: Naming, R: Wait + Drop> Shared<J, R> {
         ensures same { me.new.book ≡ me.old.book }
     {
         let given = me.given();
-        let guard = self
+        let shelf = self
             .changed
             .wait_while(rt, self.shelf.lock(rt), |shelf| is_quiet(shelf, given));
-        match &*guard {
-            Some(shelf) => tell_news(shelf, me),
-            None => Err(BookFault::Gone),
-        }
+        tell_news(&shelf, me)
     }
 
     /// Reports a number durable, and answers the durable number then.
@@ -240,12 +218,8 @@ impl<J: Naming, R: Wait + Drop> Shared<J, R> {
         ensures same { (me.new.book ≡ me.old.book) × (me.new.given ≡ me.old.given) }
     {
         let _given = me.given();
-        let mut guard = self.shelf.lock(rt);
-        let Some(shelf) = guard.take() else {
-            return Err(BookFault::Gone);
-        };
-        let (shelf, done) = report(shelf, alloc, me, number);
-        *guard = Some(shelf);
+        let mut shelf = self.shelf.lock(rt);
+        let done = report(&mut shelf, alloc, me, number);
         self.changed.notify_all();
         done
     }
@@ -256,20 +230,16 @@ impl<J: Naming, R: Wait + Drop> Shared<J, R> {
         ensures { me.new ≡ me.old }
     {
         let _given = me.given();
-        let mut guard = self.shelf.lock(rt);
-        if let Some(shelf) = &mut *guard {
-            store_failed(shelf, fault);
-        }
+        let mut shelf = self.shelf.lock(rt);
+        store_failed(&mut shelf, fault);
         self.changed.notify_all();
     }
 
     /// From now on commands are refused, no job is handed out, and no call waits for long.
     // It has no clause: it gives nothing, and that the book closes is said under the lock, by `begin_close` there.
     pub fn begin_close<W: Wait>(&self, rt: &W) {
-        let mut guard = self.shelf.lock(rt);
-        if let Some(shelf) = &mut *guard {
-            begin_close(shelf);
-        }
+        let mut shelf = self.shelf.lock(rt);
+        begin_close(&mut shelf);
         self.changed.notify_all();
     }
 
@@ -288,9 +258,7 @@ impl<J: Naming, R: Wait + Drop> Shared<J, R> {
             shelf,
             changed: _changed,
         } = self;
-        let Some(shelf) = shelf.into_inner() else {
-            never(rt)
-        };
+        let shelf = shelf.into_inner();
         if !has_all_of(&shelf, reporter, sessions) {
             never(rt)
         }

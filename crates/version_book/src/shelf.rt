@@ -32,68 +32,59 @@ pub struct Shelf<J: Naming, R: Wait + Drop> {
 impl<J: Naming, R: Wait + Drop> Shelf<J, R> {
     /// Accepts a command of a session: one entry, or none.
     pub fn submit(
-        self,
+        &mut self,
         alloc: Global,
         me: &mut Session,
         change: &Command,
-    ) -> (Shelf<J, R>, Result<u64, BookFault>)
+    ) -> Result<u64, BookFault>
         requires book { me.old.book ≡ J.book }
-        ensures ok { IfOk result.1 (λ n. IsAcceptedIn self.desk me.old.session (command change.now) result.0.desk n) }
-        ensures accepted { IfOk result.1 (λ _. IsAfterCommand self.standing result.0.standing) }
-        ensures seen { IfOk result.1 (λ _. IsPrefix me.old.log self.desk × (me.new.log ≡ result.0.desk)) }
-        ensures made { IfOk result.1 (λ _. (me.new.made ≡ me.old.made ++ command change.now ∷ [])
-            × (commands_of me.old.session result.0.desk ≡ me.new.made) × IsLog result.0.desk) }
+        ensures ok { IfOk result (λ n. IsAcceptedIn self.old.desk me.old.session (command change.now) self.new.desk n) }
+        ensures accepted { IfOk result (λ _. IsAfterCommand self.old.standing self.new.standing) }
+        ensures seen { IfOk result (λ _. IsPrefix me.old.log self.old.desk × (me.new.log ≡ self.new.desk)) }
+        ensures made { IfOk result (λ _. (me.new.made ≡ me.old.made ++ command change.now ∷ [])
+            × (commands_of me.old.session self.new.desk ≡ me.new.made) × IsLog self.new.desk) }
         ensures same { (me.new.book ≡ me.old.book) × (me.new.session ≡ me.old.session) }
-        ensures err { IfErr result.1 (λ fault. (result.0.desk ≡ self.desk) × (result.0.standing ≡ self.standing)
-            × IfGone fault (me.new ≡ me.old) (HasLooked me.old self.desk me.new)) }
-        ensures refused { IfErr result.1
-            (λ fault. IsRefused self.standing.closing (newest_in self.desk) (command change.now) fault) }
-        ensures closing { IsTrue self.standing.closing
-            → (result.1 ≡ Err BookFault.Closing) ⊎ (result.1 ≡ Err BookFault.Gone) }
+        ensures err { IfErr result (λ fault. (self.new.desk ≡ self.old.desk) × (self.new.standing ≡ self.old.standing)
+            × IfGone fault (me.new ≡ me.old) (HasLooked me.old self.old.desk me.new)) }
+        ensures refused { IfErr result
+            (λ fault. IsRefused self.old.standing.closing (newest_in self.old.desk) (command change.now) fault) }
+        ensures closing { IsTrue self.old.standing.closing
+            → (result ≡ Err BookFault.Closing) ⊎ (result ≡ Err BookFault.Gone) }
     {
-        let Shelf { desk, standing } = self;
-        if standing.closing {
-            let refused = match desk.show(me) {
-                Ok(_) => BookFault::Closing,
-                Err(gone) => gone,
-            };
-            return (Shelf { desk, standing }, Err(refused));
+        if self.standing.closing {
+            self.desk.show(me)?;
+            return Err(BookFault::Closing);
         }
-        let mut standing = standing;
-        let (desk, done) = desk.submit(alloc, me, change);
-        if done.is_ok() {
-            standing.command_accepted();
-        }
-        (Shelf { desk, standing }, done)
+        let number = self.desk.submit(alloc, me, change)?;
+        self.standing.command_accepted();
+        Ok(number)
     }
 
     /// Spends a job: keeps the tile that was built of its input where it is awaited, and says whether it was, by one
     /// entry or none. The tile is not handed out any more. Where that cannot be written down, the job comes back.
     pub fn finish(
-        self,
+        &mut self,
         alloc: Global,
         job: Job,
         built: &Built,
-    ) -> (Shelf<J, R>, Result<bool, (Job, BookFault)>)
+    ) -> Result<bool, (Job, BookFault)>
         requires book { job.book ≡ J.book }
         requires input { built.now.0 ≡ job.input }
-        ensures log { IfOk result.1
-            (λ is_kept. IsFinishedIn self.desk job.name job.input built.now.1 is_kept result.0.desk) }
-        ensures standing { IfOk result.1
-            (λ is_kept. IsAfterFinish self.standing job.name job.input.column is_kept result.0.standing) }
-        ensures err { IfErr result.1
-            (λ e. (e.0 ≡ job) × (result.0.desk ≡ self.desk) × (result.0.standing ≡ self.standing)) }
-        ensures refused { IfErr result.1 (λ e. (e.1 ≡ no_memory) ⊎ (e.1 ≡ BookFault.Gone)) }
+        ensures log { IfOk result
+            (λ is_kept. IsFinishedIn self.old.desk job.name job.input built.now.1 is_kept self.new.desk) }
+        ensures standing { IfOk result
+            (λ is_kept. IsAfterFinish self.old.standing job.name job.input.column is_kept self.new.standing) }
+        ensures err { IfErr result
+            (λ e. (e.0 ≡ job) × (self.new.desk ≡ self.old.desk) × (self.new.standing ≡ self.old.standing)) }
+        ensures refused { IfErr result (λ e. (e.1 ≡ no_memory) ⊎ (e.1 ≡ BookFault.Gone)) }
     {
-        let Shelf { desk, standing } = self;
-        let (desk, done) = desk.keep(alloc, job.name(), built);
-        let kept = match done {
+        let kept = match self.desk.keep(alloc, job.name(), built) {
             Ok(kept) => kept,
-            Err(fault) => return (Shelf { desk, standing }, Err((job, fault))),
+            Err(fault) => return Err((job, fault)),
         };
-        let mut standing = standing;
-        standing.job_finished(job.name(), job.input().column().number(), kept);
+        self.standing
+            .job_finished(job.name(), job.input().column().number(), kept);
         job.end();
-        (Shelf { desk, standing }, Ok(kept))
+        Ok(kept)
     }
 }

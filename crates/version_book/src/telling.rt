@@ -21,61 +21,38 @@ use std::sync::{Arc, Wait};
 use version_core::version::Version;
 
 /// Whether nothing can be handed out, and the book does not close.
-pub(crate) fn is_idle<J: Naming, R: Wait + Drop>(shelf: &Option<Shelf<J, R>>) -> bool
-    ensures { IfSome shelf.now (λ shelf. IsTrue result ↔ IsIdle (newest_in shelf.desk) shelf.standing) }
+pub(crate) fn is_idle<J: Naming, R: Wait + Drop>(shelf: &Shelf<J, R>) -> bool
+    ensures { IsTrue result ↔ IsIdle (newest_in shelf.now.desk) shelf.now.standing }
 {
-    match shelf {
-        Some(shelf) => !shelf.standing.closing && shelf.free().is_none(),
-        None => false,
-    }
+    !shelf.standing.closing && shelf.free().is_none()
 }
 
 /// Whether a layer's tiles can be waited for, and none of the ends of the wait is there.
-pub(crate) fn is_building<J: Naming, R: Wait + Drop>(
-    shelf: &Option<Shelf<J, R>>,
-    name: &Name,
-) -> bool
-    ensures { IfSome shelf.now (λ shelf. IsTrue result ↔ IsBuilding (newest_in shelf.desk) shelf.standing name.now) }
+pub(crate) fn is_building<J: Naming, R: Wait + Drop>(shelf: &Shelf<J, R>, name: &Name) -> bool
+    ensures { IsTrue result ↔ IsBuilding (newest_in shelf.now.desk) shelf.now.standing name.now }
 {
-    match shelf {
-        Some(shelf) => {
-            let version = &shelf.desk.last().version;
-            version.wait_refusal(name).is_none()
-                && !version.is_built(name)
-                && !shelf.standing.slots.has_mark(name)
-                && !shelf.standing.closing
-        }
-        None => false,
-    }
+    let version = &shelf.desk.last().version;
+    version.wait_refusal(name).is_none()
+        && !version.is_built(name)
+        && !shelf.standing.slots.has_mark(name)
+        && !shelf.standing.closing
 }
 
 /// Whether a version of this number is not yet durable, and none of the other ends of the wait is there.
-pub(crate) fn is_writing<J: Naming, R: Wait + Drop>(
-    shelf: &Option<Shelf<J, R>>,
-    number: u64,
-) -> bool
-    ensures { IfSome shelf.now (λ shelf. IsTrue result ↔ IsWriting (newest_in shelf.desk) shelf.standing number) }
+pub(crate) fn is_writing<J: Naming, R: Wait + Drop>(shelf: &Shelf<J, R>, number: u64) -> bool
+    ensures { IsTrue result ↔ IsWriting (newest_in shelf.now.desk) shelf.now.standing number }
 {
-    match shelf {
-        Some(shelf) => {
-            shelf.standing.store
-                && shelf.desk.last().version.durable() < number
-                && shelf.standing.fault.is_none()
-                && !shelf.standing.closing
-        }
-        None => false,
-    }
+    shelf.standing.store
+        && shelf.desk.last().version.durable() < number
+        && shelf.standing.fault.is_none()
+        && !shelf.standing.closing
 }
 
 /// Whether there are no news for the reporter, or it rests.
-pub(crate) fn is_quiet<J: Naming, R: Wait + Drop>(shelf: &Option<Shelf<J, R>>, given: u64) -> bool
-    ensures { IfSome shelf.now (λ shelf. IsTrue result ↔ IsQuiet shelf.standing given) }
+pub(crate) fn is_quiet<J: Naming, R: Wait + Drop>(shelf: &Shelf<J, R>, given: u64) -> bool
+    ensures { IsTrue result ↔ IsQuiet shelf.now.standing given }
 {
-    match shelf {
-        Some(shelf) => !shelf.standing.closing
-            && (shelf.standing.news == given || shelf.standing.resting),
-        None => false,
-    }
+    !shelf.standing.closing && (shelf.standing.news == given || shelf.standing.resting)
 }
 
 /// Tells a session how a wait for the tiles of a layer ends. The marks of the layer go where it ends by them.
@@ -169,32 +146,29 @@ pub(crate) fn tell_news<J: Naming, R: Wait + Drop>(
 
 /// Reports a number durable: one entry, or none. It answers the durable number then.
 pub(crate) fn report<J: Naming, R: Wait + Drop>(
-    shelf: Shelf<J, R>,
+    shelf: &mut Shelf<J, R>,
     alloc: Global,
     me: &mut Reporter,
     number: u64,
-) -> (Shelf<J, R>, Result<u64, BookFault>)
+) -> Result<u64, BookFault>
     requires book { me.old.book ≡ J.book }
-    ensures ok { IfOk result.1 (λ m. IsReportedIn shelf.desk number result.0.desk
-        × ((newest_in result.0.desk).durable ≡ m)) }
-    ensures seen { IfOk result.1 (λ _. IsPrefix me.old.log shelf.desk
-        × (me.new ≡ record { book = me.old.book; log = result.0.desk; given = me.old.given })
-        × IsLog result.0.desk) }
+    ensures ok { IfOk result (λ m. IsReportedIn shelf.old.desk number shelf.new.desk
+        × ((newest_in shelf.new.desk).durable ≡ m)) }
+    ensures seen { IfOk result (λ _. IsPrefix me.old.log shelf.old.desk
+        × (me.new ≡ record { book = me.old.book; log = shelf.new.desk; given = me.old.given })
+        × IsLog shelf.new.desk) }
     ensures begun { 0 < length me.old.log }
-    ensures standing { result.0.standing ≡ shelf.standing }
-    ensures err { IfErr result.1 (λ fault. (result.0.desk ≡ shelf.desk) × (me.new ≡ me.old)
+    ensures standing { shelf.new.standing ≡ shelf.old.standing }
+    ensures err { IfErr result (λ fault. (shelf.new.desk ≡ shelf.old.desk) × (me.new ≡ me.old)
         × ((fault ≡ no_memory) ⊎ (fault ≡ BookFault.Gone))) }
 {
-    let Shelf { desk, standing } = shelf;
     let given = me.given();
-    if !me.is_level(&desk.last().trace) {
-        return (Shelf { desk, standing }, Err(BookFault::Gone));
+    if !me.is_level(&shelf.desk.last().trace) {
+        return Err(BookFault::Gone);
     }
-    let (desk, done) = desk.report(alloc, number);
-    if done.is_ok() {
-        me.move_on(&desk.last().trace, given);
-    }
-    (Shelf { desk, standing }, done)
+    let durable = shelf.desk.report(alloc, number)?;
+    me.move_on(&shelf.desk.last().trace, given);
+    Ok(durable)
 }
 
 /// The store told a fault.

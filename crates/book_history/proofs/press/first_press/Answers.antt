@@ -9,8 +9,8 @@ returns-in_default g c = tt
 pub returns-in_default-new : goal.returns-in_default-new
 returns-in_default-new g c = tt
 
-pub put_out-requires : goal.put_out-requires
-put_out-requires g c =
+pub shown_by-requires : goal.shown_by-requires
+shown_by-requires g c =
     let first = c.in-Ok.ensures.0 in
     let next = c.in-Ok-Ok.ensures'.0 in record {
       pending = c.in-Ok.ensures.1;
@@ -19,6 +19,6 @@ put_out-requires g c =
 
 pub returns : goal.returns
 returns g c =
-    let put = c.put_out.ensures in
+    let put = c.shown_by.ensures in
     let next = c.in-Ok-Ok.ensures'.0 in
     (put.shown ∙ next, put.pending, put.known ∙ next)

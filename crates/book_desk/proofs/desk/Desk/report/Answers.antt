@@ -3,6 +3,8 @@ use Rattle.overlay_terms.specs.Histories.{FollowsReport}
 use Rattle.version_core.specs.declared.fault.VersionFault.{VersionFault}
 use Rattle.book_history.specs.Logs.{newest_in}
 use Rattle.book_history.specs.declared.fault.BookFault.TheVariants as fault
+use Rattle.std.proofs.lemmas.Result.{IfOk-from_err}
+use Rattle.book_desk.proofs.Beginning.{passed}
 use Rattle.book_desk.proofs.Growing.{newest_of, told_by, reports}
 use Rattle.book_desk.proofs.desk.Desk.report.Goals as goal
 use Rattle.book_desk.proofs.desk.Desk.report.Goals.{then-number-durable-via-then-number-durable, then-number-durable-via-else-number-durable+then-number}
@@ -11,7 +13,7 @@ use Rattle.book_desk.proofs.desk.Desk.report.Goals.{then-number-durable-via-then
 pub returns-then-number-durable : goal.returns-then-number-durable
 returns-then-number-durable g c =
     let durable = c.durable-durable.ensures.value ∙ ap (λ v. v.durable) (c.deref.ensures ∙ c.last.ensures.version) in
-    let last = newest_in c.args.self in
+    let last = newest_in c.args.self.now in
     let no_news : (c.args.number ≤ last.durable) ⊎ (last.number < c.args.number) = elim c.then-number-durable.branch [
       | then-number-durable-via-then-number-durable w ↦ inl (omega (arith, durable, w.if-number-durable.true))
       | then-number-durable-via-else-number-durable+then-number w ↦ inr (omega (arith, w.number.ensures, w.if-number.true))
@@ -21,27 +23,32 @@ returns-then-number-durable g c =
 pub returns-in-Err : goal.returns-in-Err
 returns-in-Err g c = record { ok = tt; err = (refl, inl (ap (λ (f : VersionFault). fault.Version f) c.in-Err.ensures.err)) }
 
-pub returns-in-Err-shared : goal.returns-in-Err-shared
-returns-in-Err-shared g c = record { ok = tt; err = (refl, inl c.in-Err-shared.ensures.err) }
+pub returns-in_err-version : goal.returns-in_err-version
+returns-in_err-version g c =
+    let failed = c.from_residual.ensures in
+    record { ok = IfOk-from_err _ _ failed.0; err = passed _ _ _ failed.1 (refl, inl c.in_err-version.ensures.err) }
 
 pub add-requires : goal.add-requires
 add-requires g c =
-    let last = newest_in c.args.self in
+    let last = newest_in c.args.self.now in
     let durable = c.durable-durable.ensures.value ∙ ap (λ v. v.durable) (c.deref.ensures ∙ c.last.ensures.version) in
     let old = c.deref-2.ensures ∙ c.last-2.ensures.version in
     let told = reports _ last _ c.args.number _ _ old c.in-Ok.ensures.ok durable c.number.ensures c.if-number-durable.false c.if-number.false in
-    record { follows = subst (FollowsReport last c.args.number) (sym c.in-Ok-shared.ensures.ok) told; seat = tt }
+    record { follows = subst (FollowsReport last c.args.number) (sym c.in_ok-version.ensures.ok) told; seat = tt }
 
-pub returns-in-Err-add : goal.returns-in-Err-add
-returns-in-Err-add g c = record { ok = tt; err = (c.in-Err-add.ensures.err, inr refl) }
+pub returns-in_err-add : goal.returns-in_err-add
+returns-in_err-add g c =
+    let failed = c.from_residual-in_err-add.ensures in
+    let e = c.in_err-add.ensures.err in
+    record { ok = IfOk-from_err _ _ failed.0; err = passed _ _ _ failed.1 (e.1, inr e.0) }
 
 pub returns : goal.returns
 returns g c =
-    let last = newest_in c.args.self in
-    let is = c.in-Ok-add.ensures.ok in
-    let new = newest_of c.args.self c.in-Ok-add.desk _ is ∙ c.in-Ok-shared.ensures.ok in
+    let last = newest_in c.args.self.now in
+    let is = c.in_ok-add.ensures.ok in
+    let new = newest_of c.args.self.now c.add.new.self _ is ∙ c.in_ok-version.ensures.ok in
     let durable = c.durable-durable.ensures.value ∙ ap (λ v. v.durable) (c.deref.ensures ∙ c.last.ensures.version) in
     let old = c.deref-2.ensures ∙ c.last-2.ensures.version in
     let told = reports _ last _ c.args.number _ _ old c.in-Ok.ensures.ok durable c.number.ensures c.if-number-durable.false c.if-number.false in
-    let then : FollowsReport last c.args.number (newest_in c.in-Ok-add.desk) = subst (FollowsReport last c.args.number) (sym new) told in
-    record { ok = (inl (then, told_by c.args.self c.in-Ok-add.desk _ _ _ refl is), then.durable); err = tt }
+    let then : FollowsReport last c.args.number (newest_in c.add.new.self) = subst (FollowsReport last c.args.number) (sym new) told in
+    record { ok = (inl (then, told_by c.args.self.now c.add.new.self _ _ _ refl is), then.durable); err = tt }

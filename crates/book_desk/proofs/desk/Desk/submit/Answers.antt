@@ -6,6 +6,8 @@ use Rattle.layer_book.specs.Command.{command}
 use Rattle.book_history.specs.Fault.{IfGone, IsRefused}
 use Rattle.book_history.specs.Logs.{newest_in}
 use Rattle.book_history.proofs.Fronts.{prefix_trans}
+use Rattle.std.proofs.lemmas.Result.{IfOk-from_err}
+use Rattle.book_desk.proofs.Beginning.{passed}
 use Rattle.book_desk.proofs.Growing.{newest_of, told_by}
 use Rattle.book_history.specs.Trails.{Trail}
 use Rattle.book_history.proofs.Owned.{own_le, own_then}
@@ -17,9 +19,27 @@ pub returns-then-not-is_level : goal.returns-then-not-is_level
 returns-then-not-is_level g c =
     record { ok = tt; seen = tt; made = tt; same = (refl, refl); err = (refl, refl); refused = tt }
 
-pub returns-in-Ok-show : goal.returns-in-Ok-show
-returns-in-Ok-show g c =
-    let looked = c.in-Ok-show.ensures.ok.0 in
+pub returns-in_err-show-in-Err : goal.returns-in_err-show-in-Err
+returns-in_err-show-in-Err g c =
+    let failed = c.from_residual.ensures in
+    let gone = c.in_err-show-in-Err.ensures.err in
+    let was = c.args.me.now in
+    let me = c.show.new.me in
+    let change = command c.args.change.now in
+    record {
+      ok = IfOk-from_err _ _ failed.0;
+      seen = IfOk-from_err _ _ failed.0;
+      made = IfOk-from_err _ _ failed.0;
+      same = (ap (λ k. k.book) gone.1, ap (λ k. k.session) gone.1);
+      err = passed _ _ _ failed.1
+          (refl, subst (λ f. IfGone f (me ≡ was) (HasLooked was c.args.self.now me)) (sym gone.0) gone.1);
+      refused = passed _ _ _ failed.1
+          (subst (λ f. IsRefused false (newest_in c.args.self.now) change f) (sym gone.0) tt);
+    }
+
+pub returns-in-Err : goal.returns-in-Err
+returns-in-Err g c =
+    let looked = c.in_ok-show-in-Err.ensures.ok.0 in
     let old = c.deref.ensures ∙ c.last.ensures.version in
     record {
       ok = tt;
@@ -30,20 +50,6 @@ returns-in-Ok-show g c =
       refused = subst (λ v. IsRefused false v (command c.args.change.now) c.in-Err.fault) old c.in-Err.ensures.err;
     }
 
-pub returns-in-Err-show : goal.returns-in-Err-show
-returns-in-Err-show g c =
-    let err = c.in-Err-show.ensures.err in
-    let was = c.args.me.now in
-    let me = c.show.new.me in
-    record {
-      ok = tt;
-      seen = tt;
-      made = tt;
-      same = (ap (λ k. k.book) err.1, ap (λ k. k.session) err.1);
-      err = (refl, subst (λ f. IfGone f (me ≡ was) (HasLooked was c.args.self me)) (sym err.0) err.1);
-      refused = subst (λ f. IsRefused false (newest_in c.args.self) (command c.args.change.now) f) (sym err.0) tt;
-    }
-
 pub add-requires : goal.add-requires
 add-requires g c =
     let old = c.deref.ensures ∙ c.last.ensures.version in
@@ -52,36 +58,49 @@ add-requires g c =
       seat = omega (arith, c.number-by.ensures.value, c.if-not-is_level.ensures.seat refl);
     }
 
-pub returns-in-Err-add : goal.returns-in-Err-add
-returns-in-Err-add g c =
-    record { ok = tt; seen = tt; made = tt; same = (refl, refl); err = (c.in-Err-add.ensures.err, refl); refused = tt }
+pub returns-in_err-add : goal.returns-in_err-add
+returns-in_err-add g c =
+    let failed = c.from_residual-in_err-add.ensures in
+    let e = c.in_err-add.ensures.err in
+    let me = c.args.me.now in
+    let change = command c.args.change.now in
+    record {
+      ok = IfOk-from_err _ _ failed.0;
+      seen = IfOk-from_err _ _ failed.0;
+      made = IfOk-from_err _ _ failed.0;
+      same = (refl, refl);
+      err = passed _ _ _ failed.1
+          (e.1, subst (λ f. IfGone f (me ≡ me) (HasLooked me c.args.self.now me)) (sym e.0) refl);
+      refused = passed _ _ _ failed.1
+          (subst (λ f. IsRefused false (newest_in c.args.self.now) change f) (sym e.0) tt);
+    }
 
 pub made_one-requires : goal.made_one-requires
 made_one-requires g c =
     let me = c.args.me.now in
     let last = c.last-last in
     let change = command c.args.change.now in
-    let now = ap (λ t. t.log) last.ensures.trace ∙ c.in-Ok-add.ensures.ok in
+    let now = ap (λ t. t.log) last.ensures.trace ∙ c.in_ok-add.ensures.ok in
     let number = c.number-accepted.ensures.value ∙ ap (λ v. v.number) (c.deref-2.ensures ∙ last.ensures.version) in
     let level = c.if-not-is_level.ensures in
     let own = level.own refl in
     record {
       newest = ap (λ (t : Trail). (newest_in t.log).number) last.ensures.trace ∙ sym number;
       book = ap (λ t. t.book) last.ensures.trace ∙ sym c.requires.book;
-      longer = subst (λ l. IsPrefix me.log l) (sym now) (prefix_trans me.log c.args.self _ (level.longer refl) (_, refl));
+      longer = subst (λ l. IsPrefix me.log l) (sym now) (prefix_trans me.log c.args.self.now _ (level.longer refl) (_, refl));
       own = (
         change,
-        own_then me.session _ c.args.self last.result.now.trace.log me.made change _ c.number-by.ensures.value now own,
+        own_then me.session _ c.args.self.now last.result.now.trace.log me.made change _ c.number-by.ensures.value now own,
       );
-      room = omega (arith, own_le me.session c.args.self, ap length own, c.in-Ok-add.ensures.room);
+      room = omega (arith, own_le me.session c.args.self.now, ap length own, c.in_ok-add.ensures.room);
     }
 
 pub returns : goal.returns
 returns g c =
     let change = command c.args.change.now in
     let by = c.args.me.now.session in
-    let is = c.in-Ok-add.ensures.ok in
-    let new = newest_of c.args.self c.in-Ok-add.desk _ is in
+    let is = c.in_ok-add.ensures.ok in
+    let new = newest_of c.args.self.now c.add.new.self _ is in
     let old = c.deref.ensures ∙ c.last.ensures.version in
     let log = ap (λ t. t.log) c.last-last.ensures.trace in
     let made = ap (λ k. k.made) c.made_one.ensures in
@@ -89,13 +108,13 @@ returns g c =
     let then = subst (λ o. FollowsCommand o change (arc_value c.in-Ok.version)) old c.in-Ok.ensures.ok in
     record {
       ok = (
-        subst (λ v. FollowsCommand (newest_in c.args.self) change v) (sym new) then,
-        told_by c.args.self c.in-Ok-add.desk _ _ _ (ap (λ b. accepted b change) c.number-by.ensures.value) is,
+        subst (λ v. FollowsCommand (newest_in c.args.self.now) change v) (sym new) then,
+        told_by c.args.self.now c.add.new.self _ _ _ (ap (λ b. accepted b change) c.number-by.ensures.value) is,
         sym (c.number-accepted.ensures.value ∙ ap (λ v. v.number) (c.deref-2.ensures ∙ c.last-last.ensures.version)),
       );
       seen = (level.longer refl, ap (λ k. k.log) c.made_one.ensures ∙ log);
       made = (
-        made ∙ own_then by _ c.args.self c.last-last.result.now.trace.log c.args.me.now.made change _ c.number-by.ensures.value (log ∙ is) (level.own refl),
+        made ∙ own_then by _ c.args.self.now c.last-last.result.now.trace.log c.args.me.now.made change _ c.number-by.ensures.value (log ∙ is) (level.own refl),
         ap (commands_of by) (sym log) ∙ sym made,
         c.last-last.ensures.log,
       );

@@ -2,13 +2,13 @@ use Rattle.version_book.proofs.Results.{news_book, news_given, news_goes, news_n
 use Rattle.std.specs.Arc.{arc_value}
 use Rattle.version_book.proofs.shared.Shared.next_version.Goals as goal
 
-pub returns-in-Some : goal.returns-in-Some
-returns-in-Some g c =
+pub returns : goal.returns
+returns g c =
     let s = c.tell_news in
     let me = c.args.me.now in
     let new = s.new.me in
-    let log = c.in-Some.shelf.desk in
-    let n = c.in-Some.shelf.standing.news in
+    let log = c.deref.result.now.desk in
+    let n = c.deref.result.now.standing.news in
     let e = s.ensures in
     record {
       goes_on = news_goes me new log n s.result _ _ _ _ _ c.given-given.ensures.begun e.some e.news e.none e.err;

@@ -3,13 +3,13 @@ use Rattle.version_book.proofs.shared.Shared.report.Goals as goal
 
 pub returns : goal.returns
 returns g c =
-    let s = c.report-shelf in
+    let s = c.report-done in
     let me = c.args.me.now in
     let new = s.new.me in
-    let log = c.in-Some.shelf.desk in
-    let after = s.result.0.desk in
+    let log = c.deref_mut.result.now.desk in
+    let after = s.new.shelf.desk in
     let n = c.args.number in
-    let r = s.result.1 in
+    let r = s.result in
     let e = s.ensures in
     record {
       goes_on = report_goes me new log after n r _ _ c.given-given.ensures.begun e.ok e.seen e.err;

@@ -4,14 +4,14 @@ use Rattle.version_book.proofs.shared.Shared.submit.Goals as goal
 
 pub returns : goal.returns
 returns g c =
-    let s = c.submit-shelf in
+    let s = c.submit-done in
     let me = c.args.me.now in
     let new = s.new.me in
     let change = command c.args.change.now in
-    let shelf = c.in-Some.shelf in
+    let shelf = c.deref_mut.result.now in
     let log = shelf.desk in
-    let after = s.result.0.desk in
-    let r = s.result.1 in
+    let after = s.new.self.desk in
+    let r = s.result in
     let e = s.ensures in
     record {
       goes_on = submit_goes me new log after r _ _ _ _ _ c.number-number.ensures.begun e.ok e.seen e.err;

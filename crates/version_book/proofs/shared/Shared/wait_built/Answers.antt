@@ -4,12 +4,12 @@ use Rattle.version_book.specs.Waits.{IsBuiltAt, IsWaitRefused}
 use Rattle.version_book.proofs.Results.{looks_err, looks_goes, looks_ok, looks_own, looks_refused, looks_same, wait_refused}
 use Rattle.version_book.proofs.shared.Shared.wait_built.Goals as goal
 
-pub returns-in-Some : goal.returns-in-Some
-returns-in-Some g c =
+pub returns : goal.returns
+returns g c =
     let s = c.tell_built in
     let me = c.args.me.now in
     let now = s.new.me in
-    let shelf = c.in-Some.shelf in
+    let shelf = c.deref_mut.result.now in
     let name = c.args.name.now in
     let log = shelf.desk in
     let seen = s.ensures.seen in

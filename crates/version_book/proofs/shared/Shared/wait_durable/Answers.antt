@@ -5,12 +5,12 @@ use Rattle.book_history.specs.Logs.{newest_in}
 use Rattle.version_book.proofs.Results.{looks_err, looks_goes, looks_ok, looks_own, looks_same, sync_refused}
 use Rattle.version_book.proofs.shared.Shared.wait_durable.Goals as goal
 
-pub returns-in-Some : goal.returns-in-Some
-returns-in-Some g c =
+pub returns : goal.returns
+returns g c =
     let s = c.tell_durable in
     let me = c.args.me.now in
     let now = s.new.me in
-    let shelf = c.in-Some.shelf in
+    let shelf = c.deref.result.now in
     let log = shelf.desk in
     let looks = s.ensures.seen in
     record {

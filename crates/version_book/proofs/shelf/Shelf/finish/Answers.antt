@@ -1,19 +1,18 @@
-use Rattle.std.proofs.Common.{rules, refl, subst}
-use Rattle.std.proofs.lemmas.Result.{IfErr-at_err, IfOk-at_ok}
+use Rattle.std.proofs.Common.{refl, rules, subst}
 use Rattle.book_desk.specs.Steps.{IsFinishedIn}
 use Rattle.version_book.proofs.shelf.Shelf.finish.Goals as goal
 
 pub returns-in-Err : goal.returns-in-Err
 returns-in-Err g c =
-    let e = IfErr-at_err _ c.in-Err.is c.keep-desk.ensures.err in
+    let e = c.in-Err.ensures.err in
     record { log = tt; standing = tt; err = (refl, e.0, refl); refused = e.1 }
 
 pub returns : goal.returns
 returns g c =
-    let old = c.args.self.desk in
-    let new = c.keep-desk.result.0 in
+    let old = c.args.self.now.desk in
+    let new = c.keep.new.self in
     let tile = c.args.built.now.1 in
-    let kept = IfOk-at_ok _ c.in-Ok.is c.keep-desk.ensures.kept in
+    let kept = c.in-Ok.ensures.kept in
     record {
       log = subst (λ i. IsFinishedIn old c.args.job.name i tile c.in-Ok.kept new) c.requires.input
           (subst (λ n. IsFinishedIn old n c.args.built.now.0 tile c.in-Ok.kept new) c.name.ensures kept);

@@ -1,53 +1,78 @@
-use Rattle.std.proofs.Common.{◌≡◌, false, inl, inr, rules, refl, sym, ◌∙◌, subst}
+use Rattle.std.proofs.Common.{inl, inr, refl, sym, ◌∙◌}
+use Rattle.std.proofs.lemmas.Result.{IfOk-from_err}
 use mathlib.Core.Bool.{true≢false}
-use Rattle.std.proofs.lemmas.Result.{IfErr-at_err, IfOk-at_ok}
 use Rattle.layer_book.specs.Command.{command}
 use Rattle.book_history.specs.Logs.{newest_in}
-use Rattle.book_history.specs.Standing.{IsAfterCommand}
-use Rattle.version_book.proofs.Told.{all_ok, away_closing, away_looks, away_refused, away_same, none_err, none_ok, refused_open, same_err, IsTurnedAway}
+use Rattle.book_desk.proofs.Beginning.{passed}
+use Rattle.version_book.proofs.Told.{away_looks, away_refused, away_same, open_refused, passed_as, IsTurnedAway}
 use Rattle.version_book.proofs.shelf.Shelf.submit.Goals as goal
-use Rattle.version_book.proofs.shelf.Shelf.submit.Goals.{in-Ok, in-Err, then-is_ok, else-is_ok}
 
-pub returns-then-standing : goal.returns-then-standing
-returns-then-standing g c =
+pub returns-in_err-show : goal.returns-in_err-show
+returns-in_err-show g c =
+    let failed = c.from_residual.ensures in
+    let gone = c.in_err-show.ensures.err in
     let me = c.args.me.now in
     let now = c.show.new.me in
-    let log = c.args.self.desk in
-    let f = c.match-show.refused in
-    let away : IsTurnedAway me now log f = elim c.match-show.branch [
-      | in-Ok w ↦ inl (w.refused-is, (IfOk-at_ok _ w.in-Ok.is c.show.ensures.ok).0)
-      | in-Err w ↦ let e = IfErr-at_err _ w.in-Err.is c.show.ensures.err in inr (w.refused-is ∙ e.0, e.1)
-    ] in
+    let shelf = c.args.self.now in
+    let log = shelf.desk in
+    let away : IsTurnedAway me now log _ = inr gone in
+    record {
+      ok = IfOk-from_err _ _ failed.0;
+      accepted = IfOk-from_err _ _ failed.0;
+      seen = IfOk-from_err _ _ failed.0;
+      made = IfOk-from_err _ _ failed.0;
+      same = away_same me now log _ away;
+      err = passed _ _ _ failed.1 (refl, refl, away_looks me now log _ away);
+      refused = passed _ _ _ failed.1
+          (away_refused me now log _ shelf.standing.closing (newest_in log) (command c.args.change.now) away c.if-self.true);
+      closing = λ _. inr (passed_as _ _ _ failed.1 gone.0);
+    }
+
+pub returns-then-self : goal.returns-then-self
+returns-then-self g c =
+    let me = c.args.me.now in
+    let now = c.show.new.me in
+    let shelf = c.args.self.now in
+    let log = shelf.desk in
+    let away : IsTurnedAway me now log _ = inl (refl, c.in_ok-show.ensures.ok.0) in
     record {
       ok = tt;
       accepted = tt;
       seen = tt;
       made = tt;
-      same = away_same me now log f away;
-      err = (refl, refl, away_looks me now log f away);
-      refused = away_refused me now log f _ (newest_in log) (command c.args.change.now) away c.if-standing.true;
-      closing = λ _. away_closing me now log f away;
+      same = away_same me now log _ away;
+      err = (refl, refl, away_looks me now log _ away);
+      refused = c.if-self.true;
+      closing = λ _. inl refl;
+    }
+
+pub returns-in_err-number : goal.returns-in_err-number
+returns-in_err-number g c =
+    let failed = c.from_residual-in_err-number.ensures in
+    let s = c.in_err-number.ensures in
+    let old = c.args.self.now.standing in
+    record {
+      ok = IfOk-from_err _ _ failed.0;
+      accepted = IfOk-from_err _ _ failed.0;
+      seen = IfOk-from_err _ _ failed.0;
+      made = IfOk-from_err _ _ failed.0;
+      same = s.same;
+      err = passed _ _ _ failed.1 (s.err.0, refl, s.err.1);
+      refused = passed _ _ _ failed.1
+          (open_refused _ old.closing (newest_in c.args.self.now.desk) (command c.args.change.now) s.refused);
+      closing = λ is. absurd (true≢false (sym is ∙ c.if-self.false));
     }
 
 pub returns : goal.returns
 returns g c =
-    let r = c.submit-desk.result.1 in
-    let s = c.submit-desk.ensures in
-    let old = c.args.self.standing in
-    let is_open : old.closing ≡ false = search rules in
+    let s = c.in_ok-number.ensures in
     record {
       ok = s.ok;
-      accepted = elim c.if-is_ok.branch [
-        | then-is_ok w ↦ all_ok r _ (subst (λ new. IsAfterCommand old new) (sym w.standing-is) w.command_accepted.ensures)
-        | else-is_ok w ↦ none_ok r _ _ c.is_ok.ensures.value w.if-is_ok.false
-      ];
+      accepted = c.command_accepted.ensures;
       seen = s.seen;
       made = s.made;
       same = s.same;
-      err = elim c.if-is_ok.branch [
-        | then-is_ok w ↦ none_err r _ _ c.is_ok.ensures.value w.if-is_ok.true
-        | else-is_ok w ↦ same_err r _ _ _ s.err w.standing-is
-      ];
-      refused = refused_open r old.closing (newest_in c.args.self.desk) (command c.args.change.now) s.refused;
-      closing = λ is. absurd (true≢false (sym is ∙ is_open));
+      err = tt;
+      refused = tt;
+      closing = λ is. absurd (true≢false (sym is ∙ c.if-self.false));
     }

@@ -1,7 +1,7 @@
 use Rattle.std.proofs.Common.{◌≡◌, drop, [], ◌∷◌}
 use Rattle.left_right.specs.Sides.{view}
 use Rattle.book_history.proofs.Trails.{MayShow}
-use Rattle.book_history.proofs.press.put_out.Given as goal
+use Rattle.book_history.proofs.press.shown_by.Given as goal
 
 abbrev pub invariant-show : goal.invariant-show
 invariant-show g l =

@@ -2,7 +2,7 @@ use Rattle.std.proofs.Common.{◌≡◌, ◌∙◌, sym, ap, fold}
 use Rattle.std.proofs.lemmas.Bool.{false≢true}
 use Rattle.book_history.proofs.Publishing.{at_good, at_bad}
 use Rattle.book_history.proofs.Trails.{may_show}
-use Rattle.book_history.proofs.press.put_out.Goals as goal
+use Rattle.book_history.proofs.press.shown_by.Goals as goal
 
 pub write_down-press-requires : goal.write_down-press-requires
 write_down-press-requires g c = c.requires.pending
