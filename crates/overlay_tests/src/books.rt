@@ -1,15 +1,20 @@
-//! Books over the empty version, and what is asked of them, for the tests.
-ghost use Rattle.std.specs.Prelude.{◌≡◌, ◌∷◌, []};
+//! Books over the empty version, and rows of calls on them, for the tests.
+ghost use Rattle.std.specs.Prelude.{◌≡◌, ◌∷◌, [], IfSome};
 ghost use Rattle.version_book.specs.Logs.{entry, no_event};
 ghost use Rattle.version_book.specs.Rules.{head_of};
 
-use crate::testing::{Corners, SHIFTED, SQUARE, define, put};
+use crate::rows::check;
+use crate::testing::{Change, command, name_of};
+use crate::threads::submit_beside;
+use exact_point::QueryPoint;
+use layer_book::direct_answer::Place;
 use std::alloc::Global;
 use std::marker::Brand;
 use std::process::Abort;
 use std::sync::Wait;
+use std::thread::Threads;
 use tile_build::Built;
-use version_book::fault::BookFault;
+use version_book::fault::{BookFault, StoreFault};
 use version_book::job::Job;
 use version_book::reporter::Reporter;
 use version_book::session::Session;
@@ -17,30 +22,45 @@ use version_book::shared::Shared;
 use version_book::trace::{Head, Naming, Trace, open};
 use version_core::version::Version;
 
-/// What a test does with a book, its reporter and its one session.
-pub trait Scene {
-    fn play<J: Naming, R: Wait + Abort>(
-        rt: &R,
-        alloc: Global,
-        shared: &Shared<J, &R>,
-        reporter: &mut Reporter,
-        me: &mut Session,
-    )
-        requires reporter { reporter.old.book ≡ J.book }
-        requires session { me.old.book ≡ J.book };
+/// A call on a book by its first session or its reporter.
+pub enum Call {
+    Submit(Change),
+    /// The number of the snapshot, where a point is inside a layer of it.
+    Snapshot(&'static str, i64, i64),
+    WaitBuilt(&'static str),
+    WaitDurable,
+    NextVersion,
+    Report(u64),
+    StoreFailed(StoreFault),
+    BeginClose,
+}
+
+/// The number that a call answers, where it answers one, or its fault.
+pub type Answer = Result<Option<u64>, BookFault>;
+
+/// What is done with a book.
+pub enum Row {
+    /// A call, and its answer.
+    Calls(Call, Answer),
+    /// A tile is taken, and finished behind the last row: whether it is kept then.
+    Builds(bool),
+    /// A tile is asked for and given back: whether there is one.
+    GivesBack(bool),
+    /// Two sessions submit a command each, fifty times in a thread of its own.
+    SubmitBeside(Change, Change),
 }
 
 /// A history of the empty version alone, which is no book's yet.
-pub struct Opened {
-    pub head: Head,
-    pub trace: Trace,
-    pub version: Version,
-    pub ghost head_is: { head ≡ head_of trace.book },
-    pub ghost begun: { trace.log ≡ entry no_event version ∷ [] },
+struct Opened {
+    head: Head,
+    trace: Trace,
+    version: Version,
+    ghost head_is: { head ≡ head_of trace.book },
+    ghost begun: { trace.log ≡ entry no_event version ∷ [] },
 }
 
 /// Opens a history.
-pub fn open_history(alloc: Global) -> Opened {
+fn open_history(alloc: Global) -> Opened {
     let version = Version::empty(alloc);
     let (head, trace) = open(&version);
     Opened {
@@ -50,12 +70,23 @@ pub fn open_history(alloc: Global) -> Opened {
     }
 }
 
-/// Plays a scene in a book that was just opened.
-pub fn play<S: Scene, R: Wait + Abort>(rt: &R, alloc: Global, store: bool) {
-    play_in::<S, Brand, R>(rt, alloc, open_history(alloc), store);
+/// Plays lists of rows in a book that was just opened. The tiles that are taken in a list are finished behind it.
+pub fn play<R: Threads + Wait + Abort + Sync>(
+    rt: &R,
+    alloc: Global,
+    store: bool,
+    lists: &[&[Row]],
+) {
+    play_in::<Brand, R>(rt, alloc, open_history(alloc), store, lists);
 }
 
-fn play_in<S: Scene, J: Naming, R: Wait + Abort>(rt: &R, alloc: Global, opened: Opened, store: bool)
+fn play_in<J: Naming + Send + Sync, R: Threads + Wait + Abort + Sync>(
+    rt: &R,
+    alloc: Global,
+    opened: Opened,
+    store: bool,
+    lists: &[&[Row]],
+)
     requires { opened.trace.book ≡ J.book }
 {
     let Opened {
@@ -63,86 +94,206 @@ fn play_in<S: Scene, J: Naming, R: Wait + Abort>(rt: &R, alloc: Global, opened: 
         trace,
         version,
     } = opened;
-    let Ok((shared, mut reporter, mut sessions)) = Shared::<J, &R>::start(
-        rt, alloc, head, trace, version, store, 1,
-    ) else {
-        panic!(rt; "no book")
-    };
-    let Some(mut me) = sessions.pop() else {
-        panic!(rt; "no session")
-    };
-    S::play(rt, alloc, &shared, &mut reporter, &mut me);
+    let started = Shared::<J, &R>::start(rt, alloc, head, trace, version, store, 2);
+    let (shared, mut reporter, mut sessions) = started.expect(rt, "no book");
+    let mut other = sessions.pop().expect(rt, "no session");
+    let mut me = sessions.pop().expect(rt, "no second session");
+    play_lists(
+        rt,
+        alloc,
+        &shared,
+        &mut reporter,
+        &mut me,
+        &mut other,
+        lists,
+    );
 }
 
-/// Puts the rings through these corners under a name, and tells the number of that version.
-pub fn submit_put<J: Naming, R: Wait + Drop, W: Wait + Abort>(
-    rt: &W,
+fn play_lists<J: Naming + Send + Sync, R: Threads + Wait + Abort + Sync>(
+    rt: &R,
     alloc: Global,
-    shared: &Shared<J, R>,
-    me: &mut Session,
-    name: &str,
-    corners: Corners,
-) -> Option<u64>
-    requires { me.old.book ≡ J.book }
-    ensures { me.new.book ≡ me.old.book }
-{
-    let change = put(rt, alloc, name, corners);
-    shared.submit(rt, alloc, me, &change).ok()
-}
-
-/// Submits the squares A and B, and I where both are, and tells the number of the last version.
-pub fn submit_overlap<J: Naming, R: Wait + Drop, W: Wait + Abort>(
-    rt: &W,
-    alloc: Global,
-    shared: &Shared<J, R>,
-    me: &mut Session,
-) -> Option<u64>
-    requires { me.old.book ≡ J.book }
-    ensures { me.new.book ≡ me.old.book }
-{
-    submit_put(rt, alloc, shared, me, "A", SQUARE)?;
-    submit_put(rt, alloc, shared, me, "B", SHIFTED)?;
-    let change = define(rt, alloc, "I", "A & B");
-    shared.submit(rt, alloc, me, &change).ok()
-}
-
-/// The number of the version that the reporter is given next, where there are news.
-pub fn next_number<J: Naming, R: Wait + Drop, W: Wait>(
-    rt: &W,
-    shared: &Shared<J, R>,
+    shared: &Shared<J, &R>,
     reporter: &mut Reporter,
-) -> Result<Option<u64>, BookFault>
-    requires { reporter.old.book ≡ J.book }
-    ensures { reporter.new.book ≡ reporter.old.book }
+    me: &mut Session,
+    other: &mut Session,
+    lists: &[&[Row]],
+)
+    requires { (reporter.old.book ≡ J.book) × (me.old.book ≡ J.book) × (other.old.book ≡ J.book) }
 {
-    match shared.next_version(rt, reporter)? {
-        Some(version) => Ok(Some(version.number())),
-        None => Ok(None),
+    'lists: for rows in lists {
+        play_rows(rt, alloc, shared, reporter, me, other, rows, 0);
     }
 }
 
-/// Builds the tile of a job, and says whether it was kept. The job is given back where memory runs out.
-pub fn finish<J: Naming, R: Wait + Drop, W: Wait>(
+/// Plays the rows from a place on.
+fn play_rows<J: Naming + Send + Sync, R: Threads + Wait + Abort + Sync>(
+    rt: &R,
+    alloc: Global,
+    shared: &Shared<J, &R>,
+    reporter: &mut Reporter,
+    me: &mut Session,
+    other: &mut Session,
+    rows: &[Row],
+    at: usize,
+)
+    requires { (reporter.old.book ≡ J.book) × (me.old.book ≡ J.book) × (other.old.book ≡ J.book) }
+    ensures { (reporter.new.book ≡ reporter.old.book) × (me.new.book ≡ me.old.book)
+        × (other.new.book ≡ other.old.book) }
+{
+    let Some(row) = rows.get(at) else {
+        return;
+    };
+    let taken = play_row(rt, alloc, shared, reporter, me, other, row, at);
+    play_rows(rt, alloc, shared, reporter, me, other, rows, at + 1);
+    if let Some((job, is_kept)) = taken {
+        check(rt, at, &finish(rt, alloc, shared, job), &is_kept);
+    }
+}
+
+/// Plays a row. It tells of a tile that is to be finished, and whether that is kept.
+fn play_row<J: Naming + Send + Sync, R: Threads + Wait + Abort + Sync>(
+    rt: &R,
+    alloc: Global,
+    shared: &Shared<J, &R>,
+    reporter: &mut Reporter,
+    me: &mut Session,
+    other: &mut Session,
+    row: &Row,
+    at: usize,
+) -> Option<(Job, bool)>
+    requires { (reporter.old.book ≡ J.book) × (me.old.book ≡ J.book) × (other.old.book ≡ J.book) }
+    ensures same { (reporter.new.book ≡ reporter.old.book) × (me.new.book ≡ me.old.book)
+        × (other.new.book ≡ other.old.book) }
+    ensures job { IfSome result (λ taken. taken.0.book ≡ J.book) }
+{
+    match row {
+        Row::Calls(asked, want) => {
+            check(
+                rt,
+                at,
+                &answer(rt, alloc, shared, reporter, me, asked),
+                want,
+            );
+            None
+        }
+        Row::Builds(is_kept) => Some((take(rt, alloc, shared).expect(rt, "no tile"), *is_kept)),
+        Row::GivesBack(is_there) => {
+            check(rt, at, &give_back(rt, alloc, shared), is_there);
+            None
+        }
+        Row::SubmitBeside(first, second) => {
+            let (first, second) = (command(rt, alloc, first), command(rt, alloc, second));
+            submit_beside(rt, alloc, shared, me, other, &first, &second);
+            None
+        }
+    }
+}
+
+/// The number of a version, where a point is inside a layer of it.
+fn number_where_inside<R: Abort>(
+    rt: &R,
+    alloc: Global,
+    version: &Version,
+    name: &str,
+    x: i64,
+    y: i64,
+) -> Option<u64> {
+    let point = QueryPoint::new(x, y, 1).expect(rt, "no point");
+    match version.locate(&name_of(rt, alloc, name), &point) {
+        Ok(Place::Inside) => Some(version.number()),
+        Ok(_) | Err(_) => None,
+    }
+}
+
+/// What a call answers.
+fn answer<J: Naming, R: Wait + Abort>(
+    rt: &R,
+    alloc: Global,
+    shared: &Shared<J, &R>,
+    reporter: &mut Reporter,
+    me: &mut Session,
+    asked: &Call,
+) -> Answer
+    requires { (reporter.old.book ≡ J.book) × (me.old.book ≡ J.book) }
+    ensures { (reporter.new.book ≡ reporter.old.book) × (me.new.book ≡ me.old.book) }
+{
+    match asked {
+        Call::Submit(change) => {
+            let change = command(rt, alloc, change);
+            told(shared.submit(rt, alloc, me, &change))
+        }
+        Call::Snapshot(name, x, y) => {
+            let version = me.snapshot()?;
+            Ok(number_where_inside(rt, alloc, &version, name, *x, *y))
+        }
+        Call::WaitBuilt(name) => {
+            let name = name_of(rt, alloc, name);
+            told(shared.wait_built(rt, me, &name))
+        }
+        Call::WaitDurable => told(shared.wait_durable(rt, me)),
+        Call::NextVersion => match shared.next_version(rt, reporter)? {
+            Some(version) => Ok(Some(version.number())),
+            None => Ok(None),
+        },
+        Call::Report(number) => told(shared.report(rt, alloc, reporter, *number)),
+        Call::StoreFailed(fault) => {
+            shared.store_failed(rt, reporter, *fault);
+            Ok(None)
+        }
+        Call::BeginClose => {
+            shared.begin_close(rt);
+            Ok(None)
+        }
+    }
+}
+
+/// The answer of a call that tells a number.
+fn told(done: Result<u64, BookFault>) -> Answer {
+    Ok(Some(done?))
+}
+
+/// A tile that is handed out, where there is one.
+fn take<J: Naming, R: Wait + Drop, W: Wait + Abort>(
+    rt: &W,
+    alloc: Global,
+    shared: &Shared<J, R>,
+) -> Option<Job>
+    ensures { IfSome result (λ job. job.book ≡ J.book) }
+{
+    shared.take_job(rt, alloc).expect(rt, "memory")
+}
+
+/// Takes a tile and gives it back, as if memory had run out. It says whether there was one.
+fn give_back<J: Naming, R: Wait + Drop, W: Wait + Abort>(
+    rt: &W,
+    alloc: Global,
+    shared: &Shared<J, R>,
+) -> bool {
+    match take(rt, alloc, shared) {
+        Some(job) => {
+            shared.give_back(rt, job);
+            true
+        }
+        None => false,
+    }
+}
+
+/// Builds the tile of a job, and says whether it was kept.
+fn finish<J: Naming, R: Wait + Drop, W: Wait + Abort>(
     rt: &W,
     alloc: Global,
     shared: &Shared<J, R>,
     job: Job,
-) -> Option<bool>
+) -> bool
     requires { job.book ≡ J.book }
 {
-    let Ok(input) = job.input().try_copy(alloc) else {
-        shared.give_back(rt, job);
-        return None;
-    };
-    let Ok(built) = Built::new(alloc, input) else {
-        shared.give_back(rt, job);
-        return None;
-    };
+    let input = job.input().try_copy(alloc).expect(rt, "memory");
+    let built = Built::new(alloc, input).expect(rt, "memory");
     match shared.finish(rt, alloc, job, built) {
-        Ok(kept) => Some(kept),
+        Ok(kept) => kept,
         Err((job, _built, _fault)) => {
             shared.give_back(rt, job);
-            None
+            false
         }
     }
 }

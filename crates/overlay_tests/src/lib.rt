@@ -5,17 +5,11 @@
 #[cfg(test)]
 mod arrangement_tests;
 #[cfg(test)]
+mod book_tests;
+#[cfg(test)]
 mod books;
 #[cfg(test)]
-mod closing_tests;
-#[cfg(test)]
-mod command_tests;
-#[cfg(test)]
 mod crossing_tests;
-#[cfg(test)]
-mod durable_tests;
-#[cfg(test)]
-mod job_tests;
 #[cfg(test)]
 mod layer_tests;
 #[cfg(test)]
@@ -31,7 +25,7 @@ mod sweep_tests;
 #[cfg(test)]
 mod testing;
 #[cfg(test)]
-mod thread_tests;
+mod threads;
 #[cfg(test)]
 mod tile_tests;
 #[cfg(test)]

@@ -88,6 +88,23 @@ pub fn define(rt: &impl Abort, alloc: Global, name: &str, text: &str) -> Command
     Command::Define(name, Arc::new(alloc, expression).expect(rt, "memory"))
 }
 
+/// What a command changes.
+#[derive(Drop)]
+pub enum Change {
+    /// The corners of a base layer.
+    Put(&'static str, Corners),
+    /// The text of a derived layer.
+    Define(&'static str, &'static str),
+}
+
+/// The command that makes a change.
+pub fn command(rt: &impl Abort, alloc: Global, change: &Change) -> Command {
+    match change {
+        Change::Put(name, corners) => put(rt, alloc, name, corners),
+        Change::Define(name, text) => define(rt, alloc, name, text),
+    }
+}
+
 /// The layers with these rings under a name.
 pub fn with_rings(
     rt: &impl Abort,

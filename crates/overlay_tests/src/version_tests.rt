@@ -1,6 +1,6 @@
 //! Versions by their calls: pending tiles and late results.
 use crate::rows::check;
-use crate::testing::{Corners, SHIFTED, SQUARE, define, input_in, layers_of, name_of, put};
+use crate::testing::{Change, Corners, SHIFTED, SQUARE, command, input_in, layers_of, name_of};
 use layer_expr::name::Name;
 use std::alloc::Global;
 use std::process::Abort;
@@ -20,12 +20,10 @@ const LEFT_ONE_MOVED: Corners = &[
     &[(-21, 0), (-10, 0), (-10, 10), (-21, 10), (-21, 0)],
 ];
 
-/// What the next version changes.
-enum Change {
-    /// The corners of a base layer.
-    Put(&'static str, Corners),
-    /// The text of a derived layer.
-    Define(&'static str, &'static str),
+/// The version after a change.
+fn after(rt: &impl Abort, alloc: Global, version: Version, change: &Change) -> Version {
+    let change = command(rt, alloc, change);
+    version.submit(alloc, &change).expect(rt, "accepted")
 }
 
 /// The version with the rings through these corners under a name.
@@ -33,11 +31,10 @@ fn with_base(
     rt: &impl Abort,
     alloc: Global,
     version: Version,
-    name: &str,
+    name: &'static str,
     corners: Corners,
 ) -> Version {
-    let change = put(rt, alloc, name, corners);
-    version.submit(alloc, &change).expect(rt, "accepted")
+    after(rt, alloc, version, &Change::Put(name, corners))
 }
 
 /// The version with a layer that a text defines.
@@ -45,19 +42,10 @@ fn with_definition(
     rt: &impl Abort,
     alloc: Global,
     version: Version,
-    name: &str,
-    text: &str,
+    name: &'static str,
+    text: &'static str,
 ) -> Version {
-    let change = define(rt, alloc, name, text);
-    version.submit(alloc, &change).expect(rt, "accepted")
-}
-
-/// The version after a change.
-fn after(rt: &impl Abort, alloc: Global, version: Version, change: &Change) -> Version {
-    match change {
-        Change::Put(name, corners) => with_base(rt, alloc, version, name, corners),
-        Change::Define(name, text) => with_definition(rt, alloc, version, name, text),
-    }
+    after(rt, alloc, version, &Change::Define(name, text))
 }
 
 /// The squares A from 0 to 10 and B from 5 to 15.

@@ -2,7 +2,7 @@ use denote.Exit.{no}
 use denote.Param.{param}
 use denote.Param.Send.{arg_send, param_send}
 use Rattle.overlay_tests.proofs.Crossings.{captures_send}
-use Rattle.overlay_tests.proofs.thread_tests.numbers_beside.Goals as goal
+use Rattle.overlay_tests.proofs.threads.numbers_beside.Goals as goal
 
 pub join_mut-requires-send-F : goal.join_mut-requires-send-F
 join_mut-requires-send-F g c κs within =

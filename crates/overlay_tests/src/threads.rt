@@ -1,11 +1,8 @@
-//! Commands of two sessions in threads of their own.
+//! Commands of two sessions in threads of their own, for the tests.
 ghost use Rattle.std.specs.Prelude.{◌≡◌};
 
-use crate::books::{Opened, open_history};
-use crate::testing::{SHIFTED, SQUARE, put};
 use layer_book::command::Command;
 use std::alloc::Global;
-use std::marker::Brand;
 use std::process::Abort;
 use std::sync::Wait;
 use std::thread::{Threads, join_mut};
@@ -67,7 +64,7 @@ fn share_all<R: Abort>(rt: &R, first: &[u64], second: &[u64]) {
 }
 
 /// Submits one command fifty times in each of two threads.
-fn submit_beside<J: Naming + Send + Sync, R: Threads + Wait + Abort + Sync>(
+pub fn submit_beside<J: Naming + Send + Sync, R: Threads + Wait + Abort + Sync>(
     rt: &R,
     alloc: Global,
     shared: &Shared<J, &R>,
@@ -77,53 +74,11 @@ fn submit_beside<J: Naming + Send + Sync, R: Threads + Wait + Abort + Sync>(
     second: &Command,
 )
     requires { (one.old.book ≡ J.book) × (two.old.book ≡ J.book) }
+    ensures { (one.new.book ≡ one.old.book) × (two.new.book ≡ two.old.book) }
 {
     let (ours, theirs) = numbers_beside(rt, alloc, shared, one, two, first, second);
     let ours = ours.expect(rt, "no numbers of the first");
     let theirs = theirs.expect(rt, "no numbers of the second");
     share_all(rt, &ours, &theirs);
     assert!(rt; one.snapshot().is_ok_and(|version| version.number() == 100));
-}
-
-/// Puts a layer of its own fifty times in each of two threads.
-fn put_beside<J: Naming + Send + Sync, R: Threads + Wait + Abort + Sync>(
-    rt: &R,
-    alloc: Global,
-    shared: &Shared<J, &R>,
-    one: &mut Session,
-    two: &mut Session,
-)
-    requires { (one.old.book ≡ J.book) × (two.old.book ≡ J.book) }
-{
-    let first = put(rt, alloc, "A", SQUARE);
-    let second = put(rt, alloc, "B", SHIFTED);
-    submit_beside(rt, alloc, shared, one, two, &first, &second);
-}
-
-fn play_beside<J: Naming + Send + Sync, R: Threads + Wait + Abort + Sync>(
-    rt: &R,
-    alloc: Global,
-    opened: Opened,
-)
-    requires { opened.trace.book ≡ J.book }
-{
-    let Opened {
-        head,
-        trace,
-        version,
-    } = opened;
-    let Ok((shared, _reporter, mut sessions)) = Shared::<J, &R>::start(
-        rt, alloc, head, trace, version, false, 2,
-    ) else {
-        panic!(rt; "no book")
-    };
-    let (Some(mut two), Some(mut one)) = (sessions.pop(), sessions.pop()) else {
-        panic!(rt; "no two sessions")
-    };
-    put_beside(rt, alloc, &shared, &mut one, &mut two);
-}
-
-#[test]
-fn two_threads_share_one_row_of_numbers(rt: HostRuntime) {
-    play_beside::<Brand, _>(&rt, rt.alloc(), open_history(rt.alloc()));
 }

@@ -1,0 +1,134 @@
+//! What a book answers: a snapshot, commands of two threads, tiles that are taken, finished and given back, durable
+//! numbers, and how it closes.
+use crate::books::{Call, Row, play};
+use crate::testing::{Change, Corners, SHIFTED, SQUARE};
+use layer_book::fault::LayerFault;
+use version_book::fault::{BookFault, StoreFault};
+use version_core::fault::VersionFault;
+
+const PUT_A: Call = Call::Submit(Change::Put("A", SQUARE));
+
+const BUILDS: Row = Row::Builds(true);
+
+const SNAPSHOT: &[&[Row]] = &[&[
+    Row::Calls(PUT_A, Ok(Some(1))),
+    Row::Calls(Call::Snapshot("A", 2, 2), Ok(Some(1))),
+]];
+
+#[test]
+fn a_command_is_in_the_next_snapshot(rt: HostRuntime) {
+    play(&rt, rt.alloc(), false, SNAPSHOT);
+}
+
+const BESIDE: &[&[Row]] = &[&[
+    Row::SubmitBeside(Change::Put("A", SQUARE), Change::Put("B", SHIFTED)),
+    Row::Calls(Call::NextVersion, Ok(Some(100))),
+]];
+
+#[test]
+fn two_threads_share_one_row_of_numbers(rt: HostRuntime) {
+    play(&rt, rt.alloc(), false, BESIDE);
+}
+
+/// The squares A and B, and I where both are.
+const OVERLAP: &[Row] = &[
+    Row::Calls(PUT_A, Ok(Some(1))),
+    Row::Calls(Call::Submit(Change::Put("B", SHIFTED)), Ok(Some(2))),
+    Row::Calls(Call::Submit(Change::Define("I", "A & B")), Ok(Some(3))),
+];
+
+/// A ring that lies in all columns.
+const WIDE: Corners = &[&[
+    (-1048576, 0),
+    (1048576, 0),
+    (1048576, 10),
+    (-1048576, 10),
+    (-1048576, 0),
+]];
+
+const IN_TIME_AND_LATE: &[&[Row]] = &[
+    OVERLAP,
+    // a tile that was kept is not kept once more, so that each of these is another
+    &[BUILDS; 17],
+    &[
+        Row::Calls(Call::WaitBuilt("I"), Ok(Some(3))),
+        Row::Calls(Call::Submit(Change::Put("A", WIDE)), Ok(Some(4))),
+        Row::Builds(false),
+        Row::Calls(Call::Submit(Change::Put("B", WIDE)), Ok(Some(5))),
+    ],
+];
+
+#[test]
+fn each_tile_is_handed_out_once_and_a_late_one_is_not_kept(rt: HostRuntime) {
+    play(&rt, rt.alloc(), false, IN_TIME_AND_LATE);
+}
+
+const GIVEN_BACK: &[&[Row]] = &[
+    OVERLAP,
+    &[
+        BUILDS,
+        BUILDS,
+        BUILDS,
+        BUILDS,
+        BUILDS,
+        BUILDS,
+        BUILDS,
+        BUILDS,
+        BUILDS,
+        BUILDS,
+        BUILDS,
+        BUILDS,
+        BUILDS,
+        BUILDS,
+        BUILDS,
+        BUILDS,
+        Row::GivesBack(true),
+        Row::Calls(Call::WaitBuilt("I"), Err(NO_MEMORY)),
+        BUILDS,
+    ],
+    &[Row::Calls(Call::WaitBuilt("I"), Ok(Some(3)))],
+];
+
+const NO_MEMORY: BookFault = BookFault::Version(VersionFault::Layer(LayerFault::OutOfMemory));
+
+#[test]
+fn a_wait_tells_of_a_tile_that_was_given_back(rt: HostRuntime) {
+    play(&rt, rt.alloc(), false, GIVEN_BACK);
+}
+
+const DURABLE: &[&[Row]] = &[&[
+    Row::Calls(PUT_A, Ok(Some(1))),
+    Row::Calls(Call::NextVersion, Ok(Some(1))),
+    Row::Calls(Call::Report(1), Ok(Some(1))),
+    Row::Calls(Call::Report(9), Ok(Some(1))),
+    Row::Calls(Call::WaitDurable, Ok(Some(1))),
+    Row::Calls(Call::StoreFailed(StoreFault::Device), Ok(None)),
+    Row::Calls(PUT_A, Ok(Some(2))),
+    Row::Calls(Call::WaitDurable, Err(BookFault::Store(StoreFault::Device))),
+]];
+
+#[test]
+fn a_version_that_is_reported_is_durable(rt: HostRuntime) {
+    play(&rt, rt.alloc(), true, DURABLE);
+}
+
+const WITHOUT_STORE: &[&[Row]] = &[&[Row::Calls(Call::WaitDurable, Err(BookFault::NoStore))]];
+
+#[test]
+fn nothing_is_durable_without_a_store(rt: HostRuntime) {
+    play(&rt, rt.alloc(), false, WITHOUT_STORE);
+}
+
+const CLOSING: &[&[Row]] = &[&[
+    Row::Calls(PUT_A, Ok(Some(1))),
+    Row::Calls(Call::BeginClose, Ok(None)),
+    Row::Calls(PUT_A, Err(BookFault::Closing)),
+    Row::GivesBack(false),
+    Row::Calls(Call::NextVersion, Ok(Some(1))),
+    Row::Calls(Call::NextVersion, Ok(None)),
+]];
+
+#[test]
+fn a_book_that_closes_takes_no_command_and_hands_out_nothing(rt: HostRuntime) {
+    play(&rt, rt.alloc(), false, CLOSING);
+}
