@@ -25,7 +25,7 @@ abbrev pub listing_of : List Listed → List terms.Listed
 listing_of ls = map listed_of ls
 
 abbrev pub HasColumns : Records → Type 0
-HasColumns (Base extent) = Unit {0}
+HasColumns (Base _) = Unit {0}
 HasColumns (Derived extent tiles) = length tiles.items ≡ column_count
 
 -- a layer that a catalog can list: its name has fewer than 256 bytes, and a definition has an entry for each column
