@@ -75,7 +75,7 @@ impl BookFault {
 }
 
 /// The text of a fault, as a reply says it behind the number.
-#[derive(Clone, Copy, Debug)]
+#[derive(Clone, Copy)]
 pub struct Text(pub BookFault);
 
 impl fmt::Display for Text {
@@ -83,17 +83,17 @@ impl fmt::Display for Text {
 
     fn fmt<W: fmt::Write>(&self, f: &mut fmt::Formatter<W>) -> fmt::Result {
         match self.0 {
-            BookFault::Version(fault) => write!(f, "{}", version_core::fault::Text(fault)),
-            BookFault::Closing => write!(f, "closing"),
-            BookFault::Gone => write!(f, "gone"),
-            BookFault::NoStore => write!(f, "no store"),
-            BookFault::Store(fault) => write!(f, "{}", StoreText(fault)),
+            BookFault::Version(fault) => version_core::fault::Text(fault).fmt(f),
+            BookFault::Store(fault) => StoreText(fault).fmt(f),
+            BookFault::Closing => f.write_str("closing"),
+            BookFault::Gone => f.write_str("gone"),
+            BookFault::NoStore => f.write_str("no store"),
         }
     }
 }
 
 /// The text of a store's fault.
-#[derive(Clone, Copy, Debug)]
+#[derive(Clone, Copy)]
 pub struct StoreText(pub StoreFault);
 
 impl fmt::Display for StoreText {
