@@ -27,7 +27,7 @@ IsAcceptedIn log session command after number =
 -- a built tile that is awaited is kept, by its entry; or it is not awaited, and nothing changes
 abbrev pub IsFinishedIn : List Entry → Name → Input → Tile → Bool → List Entry → Type 0
 IsFinishedIn log name input tile true after =
-    FollowsTile (newest_in log) name input.column tile (newest_in after)
+    IsAwaited (newest_in log) name input × FollowsTile (newest_in log) name input.column tile (newest_in after)
     × (after ≡ log ++ entry (kept name input.column tile) (newest_in after) ∷ [])
 IsFinishedIn log name input tile false after = ¬ (IsAwaited (newest_in log) name input) × (after ≡ log)
 

@@ -53,4 +53,5 @@ returns g c =
     let new = newest_of c.args.self.now c.add.new.self _ is ∙ c.in_ok-version.ensures.ok in
     let then = keeps _ last _ _ name input.column c.args.built.now.1 _ old new c.in-Ok-Kept.field-0-is c.in-Ok-Kept.ensures.kept in
     let told = told_by c.args.self.now c.add.new.self _ _ _ (λ i. kept name (column i) (c.tile.ensures.value i)) is in
-    record { kept = (then, told); err = tt }
+    let fits = subst (λ f. IsKept f ↔ IsAwaited c.deref.result.now name input) c.in-Ok-Kept.field-0-is c.in-Ok-Kept.ensures.exactly in
+    record { kept = (subst (λ v. IsAwaited v name input) old (fits.0 tt), then, told); err = tt }
