@@ -29,3 +29,10 @@ module _ (J R : RattleType) (g : naming.Ghosts J.Denot) (j : IsSend J) (s : IsSy
       let O = type_at ν (ShrRef a a' R ∷ ShrRef b b' global.the_row ∷ ShrRef c c' (shared.the_row J (ShrRef d d' R) g) ∷ MutRef e e' session.the_row ∷ ShrRef f f' command.the_row ∷ []) in
       let book = shared_sync J (ShrRef d d' R) g j (shr_send d d' R s) in
       recorded_send _ _ _ O.to_one (struct_send (shape O) (shr_send a a' R s, (shr_send b b' global.the_row sync, (shr_send c c' _ book, (mut_send e e' session.the_row session_send, (shr_send f f' command.the_row command_sync, tt))))))
+
+  -- what a closure captures that asks for a tile: the runtime, the allocator and the book
+  pub asks_send : (ν : Sym) (a b c d : Lifetime) (a' b' c' d' : Lft)
+      → IsSend (TupleAt ν (ShrRef a a' R ∷ ShrRef b b' global.the_row ∷ ShrRef c c' (shared.the_row J (ShrRef d d' R) g) ∷ []))
+  asks_send ν a b c d a' b' c' d' =
+      let O = type_at ν (ShrRef a a' R ∷ ShrRef b b' global.the_row ∷ ShrRef c c' (shared.the_row J (ShrRef d d' R) g) ∷ []) in
+      recorded_send _ _ _ O.to_one (struct_send (shape O) (shr_send a a' R s, (shr_send b b' global.the_row sync, (shr_send c c' _ (shared_sync J (ShrRef d d' R) g j (shr_send d d' R s)), tt))))

@@ -17,7 +17,7 @@ const SNAPSHOT: &[&[Row]] = &[&[
 
 #[test]
 fn a_command_is_in_the_next_snapshot(rt: HostRuntime) {
-    play(&rt, rt.alloc(), false, SNAPSHOT);
+    play(&rt, rt.alloc(), false, SNAPSHOT, 1);
 }
 
 const BESIDE: &[&[Row]] = &[&[
@@ -27,7 +27,7 @@ const BESIDE: &[&[Row]] = &[&[
 
 #[test]
 fn two_threads_share_one_row_of_numbers(rt: HostRuntime) {
-    play(&rt, rt.alloc(), false, BESIDE);
+    play(&rt, rt.alloc(), false, BESIDE, 100);
 }
 
 /// The squares A and B, and I where both are.
@@ -60,7 +60,7 @@ const IN_TIME_AND_LATE: &[&[Row]] = &[
 
 #[test]
 fn each_tile_is_handed_out_once_and_a_late_one_is_not_kept(rt: HostRuntime) {
-    play(&rt, rt.alloc(), false, IN_TIME_AND_LATE);
+    play(&rt, rt.alloc(), false, IN_TIME_AND_LATE, 5);
 }
 
 const GIVEN_BACK: &[&[Row]] = &[
@@ -83,8 +83,7 @@ const GIVEN_BACK: &[&[Row]] = &[
         BUILDS,
         BUILDS,
         Row::GivesBack(true),
-        Row::Calls(Call::WaitBuilt("I"), Err(NO_MEMORY)),
-        BUILDS,
+        Row::BuildsBeside("I", Err(NO_MEMORY)),
     ],
     &[Row::Calls(Call::WaitBuilt("I"), Ok(Some(3)))],
 ];
@@ -93,7 +92,7 @@ const NO_MEMORY: BookFault = BookFault::Version(VersionFault::Layer(LayerFault::
 
 #[test]
 fn a_wait_tells_of_a_tile_that_was_given_back(rt: HostRuntime) {
-    play(&rt, rt.alloc(), false, GIVEN_BACK);
+    play(&rt, rt.alloc(), false, GIVEN_BACK, 3);
 }
 
 const DURABLE: &[&[Row]] = &[&[
@@ -109,14 +108,14 @@ const DURABLE: &[&[Row]] = &[&[
 
 #[test]
 fn a_version_that_is_reported_is_durable(rt: HostRuntime) {
-    play(&rt, rt.alloc(), true, DURABLE);
+    play(&rt, rt.alloc(), true, DURABLE, 2);
 }
 
 const WITHOUT_STORE: &[&[Row]] = &[&[Row::Calls(Call::WaitDurable, Err(BookFault::NoStore))]];
 
 #[test]
 fn nothing_is_durable_without_a_store(rt: HostRuntime) {
-    play(&rt, rt.alloc(), false, WITHOUT_STORE);
+    play(&rt, rt.alloc(), false, WITHOUT_STORE, 0);
 }
 
 const CLOSING: &[&[Row]] = &[&[
@@ -130,5 +129,5 @@ const CLOSING: &[&[Row]] = &[&[
 
 #[test]
 fn a_book_that_closes_takes_no_command_and_hands_out_nothing(rt: HostRuntime) {
-    play(&rt, rt.alloc(), false, CLOSING);
+    play(&rt, rt.alloc(), false, CLOSING, 1);
 }

@@ -5,7 +5,7 @@ ghost use Rattle.version_book.specs.Rules.{head_of};
 
 use crate::rows::check;
 use crate::testing::{Change, command, name_of};
-use crate::threads::submit_beside;
+use crate::threads::{build_beside, submit_beside};
 use exact_point::QueryPoint;
 use layer_book::direct_answer::Place;
 use std::alloc::Global;
@@ -46,6 +46,8 @@ pub enum Row {
     Builds(bool),
     /// A tile is asked for and given back: whether there is one.
     GivesBack(bool),
+    /// A thread of its own asks for a tile and builds it, beside a wait for a layer's tiles: what the wait answers.
+    BuildsBeside(&'static str, Answer),
     /// Two sessions submit a command each, fifty times in a thread of its own.
     SubmitBeside(Change, Change),
 }
@@ -71,13 +73,15 @@ fn open_history(alloc: Global) -> Opened {
 }
 
 /// Plays lists of rows in a book that was just opened. The tiles that are taken in a list are finished behind it.
+/// The book ends with the version of this number.
 pub fn play<R: Threads + Wait + Abort + Sync>(
     rt: &R,
     alloc: Global,
     store: bool,
     lists: &[&[Row]],
+    last: u64,
 ) {
-    play_in::<Brand, R>(rt, alloc, open_history(alloc), store, lists);
+    play_in::<Brand, R>(rt, alloc, open_history(alloc), store, lists, last);
 }
 
 fn play_in<J: Naming + Send + Sync, R: Threads + Wait + Abort + Sync>(
@@ -86,6 +90,7 @@ fn play_in<J: Naming + Send + Sync, R: Threads + Wait + Abort + Sync>(
     opened: Opened,
     store: bool,
     lists: &[&[Row]],
+    last: u64,
 )
     requires { opened.trace.book ≡ J.book }
 {
@@ -107,6 +112,8 @@ fn play_in<J: Naming + Send + Sync, R: Threads + Wait + Abort + Sync>(
         &mut other,
         lists,
     );
+    let closed = shared.into_closed(rt, &reporter, &[me, other]);
+    assert!(rt; closed.version.number() == last);
 }
 
 fn play_lists<J: Naming + Send + Sync, R: Threads + Wait + Abort + Sync>(
@@ -119,6 +126,8 @@ fn play_lists<J: Naming + Send + Sync, R: Threads + Wait + Abort + Sync>(
     lists: &[&[Row]],
 )
     requires { (reporter.old.book ≡ J.book) × (me.old.book ≡ J.book) × (other.old.book ≡ J.book) }
+    ensures { (reporter.new.book ≡ reporter.old.book) × (me.new.book ≡ me.old.book)
+        × (other.new.book ≡ other.old.book) }
 {
     'lists: for rows in lists {
         play_rows(rt, alloc, shared, reporter, me, other, rows, 0);
@@ -179,6 +188,13 @@ fn play_row<J: Naming + Send + Sync, R: Threads + Wait + Abort + Sync>(
         Row::Builds(is_kept) => Some((take(rt, alloc, shared).expect(rt, "no tile"), *is_kept)),
         Row::GivesBack(is_there) => {
             check(rt, at, &give_back(rt, alloc, shared), is_there);
+            None
+        }
+        Row::BuildsBeside(name, want) => {
+            let name = name_of(rt, alloc, name);
+            let (is_kept, done) = build_beside(rt, alloc, shared, me, &name);
+            assert!(rt; is_kept);
+            check(rt, at, &told(done), want);
             None
         }
         Row::SubmitBeside(first, second) => {
@@ -253,7 +269,7 @@ fn told(done: Result<u64, BookFault>) -> Answer {
 }
 
 /// A tile that is handed out, where there is one.
-fn take<J: Naming, R: Wait + Drop, W: Wait + Abort>(
+pub fn take<J: Naming, R: Wait + Drop, W: Wait + Abort>(
     rt: &W,
     alloc: Global,
     shared: &Shared<J, R>,
@@ -279,7 +295,7 @@ fn give_back<J: Naming, R: Wait + Drop, W: Wait + Abort>(
 }
 
 /// Builds the tile of a job, and says whether it was kept.
-fn finish<J: Naming, R: Wait + Drop, W: Wait + Abort>(
+pub fn finish<J: Naming, R: Wait + Drop, W: Wait + Abort>(
     rt: &W,
     alloc: Global,
     shared: &Shared<J, R>,

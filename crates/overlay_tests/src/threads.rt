@@ -1,11 +1,14 @@
 //! Commands of two sessions in threads of their own, for the tests.
 ghost use Rattle.std.specs.Prelude.{◌≡◌};
 
+use crate::books::{finish, take};
 use layer_book::command::Command;
+use layer_expr::name::Name;
 use std::alloc::Global;
 use std::process::Abort;
 use std::sync::Wait;
 use std::thread::{Threads, join_mut};
+use version_book::fault::BookFault;
 use version_book::session::Session;
 use version_book::shared::Shared;
 use version_book::trace::Naming;
@@ -81,4 +84,33 @@ pub fn submit_beside<J: Naming + Send + Sync, R: Threads + Wait + Abort + Sync>(
     let theirs = theirs.expect(rt, "no numbers of the second");
     share_all(rt, &ours, &theirs);
     assert!(rt; one.snapshot().is_ok_and(|version| version.number() == 100));
+}
+
+/// Asks for a tile and builds it, in a thread of its own, beside a wait for a layer's tiles. It tells whether the tile
+/// was kept, and how the wait ends.
+pub fn build_beside<J: Naming + Send + Sync, R: Threads + Wait + Abort + Sync>(
+    rt: &R,
+    alloc: Global,
+    shared: &Shared<J, &R>,
+    me: &mut Session,
+    name: &Name,
+) -> (bool, Result<u64, BookFault>)
+    requires { me.old.book ≡ J.book }
+    ensures { me.new.book ≡ me.old.book }
+{
+    join_mut(
+        rt,
+        &mut || build(rt, alloc, shared),
+        &mut || shared.wait_built(rt, me, name),
+    )
+}
+
+/// Asks for a tile and builds it, and says whether it was kept.
+fn build<J: Naming, R: Wait + Drop, W: Wait + Abort>(
+    rt: &W,
+    alloc: Global,
+    shared: &Shared<J, R>,
+) -> bool {
+    let job = take(rt, alloc, shared).expect(rt, "no tile");
+    finish(rt, alloc, shared, job)
 }

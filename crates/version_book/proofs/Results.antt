@@ -173,14 +173,14 @@ pub wait_refused : (r : Result ℕ BookFault) (closing : Bool) (v : Version) (na
 wait_refused (Ok n) closing v name q = tt
 wait_refused (Err f) closing v name q = wait_more f closing v name q
 
-sync_at : (f : BookFault) (s : Standing) (v : Version) (n : ℕ) → IsSyncRefusedAt s v n f → IsSyncRefused f
+sync_at : (f : BookFault) (s : Standing) (v : Version) (n : ℕ) → IsSyncRefusedAt s v n f → IsSyncRefused n v f
 sync_at (fault.Version r) s v n q = q
-sync_at fault.Closing s v n q = tt
+sync_at fault.Closing s v n q = q.1
 sync_at fault.Gone s v n q = tt
 sync_at fault.NoStore s v n q = tt
-sync_at (fault.Store r) s v n q = tt
+sync_at (fault.Store r) s v n q = q.1
 
-pub sync_refused : (r : Result ℕ BookFault) (s : Standing) (v : Version) (n : ℕ) → IfErr r (λ f. IsSyncRefusedAt s v n f) → IfErr r IsSyncRefused
+pub sync_refused : (r : Result ℕ BookFault) (s : Standing) (v : Version) (n : ℕ) → IfErr r (λ f. IsSyncRefusedAt s v n f) → IfErr r (λ f. IsSyncRefused n v f)
 sync_refused (Ok m) s v n q = tt
 sync_refused (Err f) s v n q = sync_at f s v n q
 

@@ -57,14 +57,14 @@ IsWaitRefused closing version name fault.Gone = Unit {0}
 IsWaitRefused closing version name fault.NoStore = ⊥
 IsWaitRefused closing version name (fault.Store refused) = ⊥
 
--- why a wait for a durable number is refused: there is no store, the store told a fault, or the book closes or is
--- behind
-abbrev pub IsSyncRefused : BookFault → Type 0
-IsSyncRefused (fault.Version refused) = ⊥
-IsSyncRefused fault.Closing = Unit {0}
-IsSyncRefused fault.Gone = Unit {0}
-IsSyncRefused fault.NoStore = Unit {0}
-IsSyncRefused (fault.Store refused) = Unit {0}
+-- why a wait for a durable number is refused: there is no store; or the number is not durable, and the store told a
+-- fault or the book closes; or the book is behind
+abbrev pub IsSyncRefused : ℕ → Version → BookFault → Type 0
+IsSyncRefused number version (fault.Version refused) = ⊥
+IsSyncRefused number version fault.Closing = version.durable < number
+IsSyncRefused number version fault.Gone = Unit {0}
+IsSyncRefused number version fault.NoStore = Unit {0}
+IsSyncRefused number version (fault.Store refused) = version.durable < number
 
 -- the same under the lock: there is no store; or the number is not durable, and the store told this fault, or it told
 -- none and the book closes

@@ -158,7 +158,9 @@ impl<J: Naming, R: Wait + Drop> Shared<J, R> {
         let mut shelf = self
             .changed
             .wait_while(rt, self.shelf.lock(rt), |shelf| is_building(shelf, name));
-        tell_built(&mut shelf, me, name)
+        let told = tell_built(&mut shelf, me, name);
+        self.changed.notify_all();
+        told
     }
 
     /// Waits until the newest version that a session has seen is durable, and answers the durable number.
@@ -168,7 +170,8 @@ impl<J: Naming, R: Wait + Drop> Shared<J, R> {
         ensures ok { IfOk result (λ n. ((newest (seen me.new)).durable ≡ n) × ((newest (seen me.old)).number ≤ n)) }
         ensures own { IfOk result (λ _. IsOwn me.new) }
         ensures err { IfErr result (λ fault. IfGone fault (me.new ≡ me.old) (IsOwn me.new)) }
-        ensures refused { IfErr result IsSyncRefused }
+        ensures refused { IfErr result
+            (λ fault. IsSyncRefused (newest (seen me.old)).number (newest (seen me.new)) fault) }
         ensures same { (me.new.book ≡ me.old.book) × (me.new.session ≡ me.old.session) × (me.new.made ≡ me.old.made) }
     {
         let _number = me.number();

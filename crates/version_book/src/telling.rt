@@ -95,6 +95,7 @@ pub(crate) fn tell_durable<J: Naming, R: Wait + Drop>(
     requires book { me.old.book ≡ J.book }
     requires ready { ¬ (IsWriting (newest_in shelf.now.desk) shelf.now.standing number) }
     ensures ok { IfOk result (λ n. ((newest_in shelf.now.desk).durable ≡ n) × (number ≤ n)) }
+    ensures store { IfOk result (λ _. IsTrue shelf.now.standing.store) }
     ensures refused { IfErr result
         (λ fault. IsSyncRefusedAt shelf.now.standing (newest_in shelf.now.desk) number fault) }
     ensures seen { Looks result me.old shelf.now.desk me.new }

@@ -1,8 +1,9 @@
-use Rattle.std.proofs.Common.{◌≡◌, ◌≤◌, IfOk, subst}
+use Rattle.std.proofs.Common.{◌≡◌, ◌≤◌, IfOk, IfErr, subst}
 use Rattle.overlay_terms.specs.Histories.{newest}
 use Rattle.book_history.specs.Known.{seen}
 use Rattle.book_history.specs.Logs.{newest_in}
-use Rattle.version_book.proofs.Results.{looks_err, looks_goes, looks_ok, looks_own, looks_same, sync_refused}
+use Rattle.version_book.specs.Waits.{IsSyncRefused}
+use Rattle.version_book.proofs.Results.{looks_err, looks_goes, looks_ok, looks_own, looks_refused, looks_same, sync_refused}
 use Rattle.version_book.proofs.shared.Shared.wait_durable.Goals as goal
 
 pub returns : goal.returns
@@ -19,6 +20,8 @@ returns g c =
           (subst (λ m. IfOk s.result (λ n. ((newest_in log).durable ≡ n) × (m ≤ n))) c.newest-number.ensures s.ensures.ok);
       own = looks_own me now log s.result looks;
       err = looks_err me now log s.result looks;
-      refused = sync_refused s.result shelf.standing (newest_in log) _ s.ensures.refused;
+      refused = subst (λ m. IfErr s.result (λ f. IsSyncRefused m (newest (seen now)) f)) c.newest-number.ensures
+          (looks_refused me now log s.result (λ v f. IsSyncRefused c.newest-number.result v f) (λ v. tt) looks
+          (sync_refused s.result shelf.standing (newest_in log) _ s.ensures.refused));
       same = looks_same me now log s.result looks;
     }
