@@ -38,8 +38,8 @@ pub fn rows_end()
     ensures { RowsEnd }
 {}
 
-/// The places passed are few: at most three for each two segments of the input, and one for each
-/// segment and border.
+/// The places passed are few: at most three for each segment of the input by each, and one for
+/// each segment and border.
 pub fn nodes_are_few()
     ensures { NodesAreFew }
 {}

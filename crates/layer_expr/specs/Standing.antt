@@ -1,5 +1,5 @@
--- Where a reader of tokens stands after some of them. Only the private functions of the reader cite this: what an
--- expression is, the grammar says alone.
+-- Where a reader of tokens stands after some of them. The reader cites this, and what a record of a definition spells:
+-- what an expression is, the grammar says alone.
 use Rattle.std.specs.Prelude.{ℕ, List, [], ◌∷◌, Option, Some, None, option_and_then}
 use Rattle.overlay_terms.specs.Trees.{Operation, intersection, union, difference, sym_difference, Tree, leaf, combine}
 use Rattle.layer_expr.specs.Token.{Kind, name, operator, open_bracket, close_bracket, stray}
