@@ -33,8 +33,10 @@ def comb(edges, upright):
 kind, edges = sys.argv[1], int(sys.argv[2])
 if kind == "circles":
     first, second = circle(edges, 65536, 65536, 60000), circle(edges, 75536, 70536, 50000)
-else:
+elif kind == "combs":
     first, second = comb(edges, False), comb(edges, True)
+else:
+    sys.exit(f"{kind}: neither circles nor combs")
 print("PUT A " + first)
 print("PUT B " + second)
 print("DEFINE I = A ^ B")
