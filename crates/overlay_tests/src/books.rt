@@ -46,7 +46,7 @@ pub enum Row {
     Builds(bool),
     /// A tile is asked for and given back: whether there is one.
     GivesBack(bool),
-    /// A thread of its own asks for a tile and builds it, beside a wait for a layer's tiles: what the wait answers.
+    /// A tile is asked for and built beside a thread that waits for a layer's tiles: what the wait answers.
     BuildsBeside(&'static str, Answer),
     /// Two sessions submit a command each, fifty times in a thread of its own.
     SubmitBeside(Change, Change),
@@ -192,9 +192,9 @@ fn play_row<J: Naming + Send + Sync, R: Threads + Wait + Abort + Sync>(
         }
         Row::BuildsBeside(name, want) => {
             let name = name_of(rt, alloc, name);
-            let (is_kept, done) = build_beside(rt, alloc, shared, me, &name);
-            assert!(rt; is_kept);
+            let (done, is_kept) = build_beside(rt, alloc, shared, me, &name);
             check(rt, at, &told(done), want);
+            assert!(rt; is_kept);
             None
         }
         Row::SubmitBeside(first, second) => {

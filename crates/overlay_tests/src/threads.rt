@@ -86,22 +86,24 @@ pub fn submit_beside<J: Naming + Send + Sync, R: Threads + Wait + Abort + Sync>(
     assert!(rt; one.snapshot().is_ok_and(|version| version.number() == 100));
 }
 
-/// Asks for a tile and builds it, in a thread of its own, beside a wait for a layer's tiles. It tells whether the tile
-/// was kept, and how the wait ends.
+/// Waits for a layer's tiles in a thread of its own, and meanwhile asks for a tile and builds it. It tells how the wait
+/// ends, and whether the tile was kept.
+// As a thread takes its time to begin, the tile is asked for first: where there is none but one that is marked, who asks
+// sleeps until the wait takes the mark away.
 pub fn build_beside<J: Naming + Send + Sync, R: Threads + Wait + Abort + Sync>(
     rt: &R,
     alloc: Global,
     shared: &Shared<J, &R>,
     me: &mut Session,
     name: &Name,
-) -> (bool, Result<u64, BookFault>)
+) -> (Result<u64, BookFault>, bool)
     requires { me.old.book ≡ J.book }
     ensures { me.new.book ≡ me.old.book }
 {
     join_mut(
         rt,
-        &mut || build(rt, alloc, shared),
         &mut || shared.wait_built(rt, me, name),
+        &mut || build(rt, alloc, shared),
     )
 }
 
