@@ -1,13 +1,9 @@
--- What results tell of steps that publish, and what numbers tell of logs that were compared.
-use Rattle.std.proofs.Common.{◌≡◌, ℕ, ◌+◌, ◌≤◌, true, false, List, length, Option, Some, Result, Ok, Err, ap, sym, ◌∙◌, subst, arith}
+-- What results tell of steps that publish, and of places that were compared with what is published.
+use Rattle.std.proofs.Common.{◌≡◌, ℕ, ◌+◌, ◌≤◌, true, false, length, Option, Some, Result, Ok, Err, sym, ◌∙◌, subst, arith}
 use Rattle.std.specs.Result.{MatchResult, is_ok, result_ok}
-use lib.Dec.{leb}
 use mathlib.Core.List.{IsPrefix}
-use borrow.Author.Tests.{leb-true, le-leb}
 use Rattle.logbook.specs.Pages.{Book}
-use Rattle.overlay_terms.specs.Histories.{Entry}
 use Rattle.book_history.specs.Trails.{Trail, Within, Begins, IsOf}
-use Rattle.book_history.proofs.Fronts.{prefix_length}
 
 -- what a result tells where it is good, and where it is not
 pub at_good : {T E : Type 0} (P : Type 0) (Q : E → Type 0) (r : Result T E) → is_ok r ≡ true → MatchResult r (λ _. P) Q → P
@@ -32,13 +28,3 @@ pub begins_level : (v t u : Trail) (m n : ℕ) → n + 1 ≡ length v.log → m 
     → (length v.log ≤ length t.log → IsPrefix v.log t.log) → u ≡ t → Begins v u
 begins_level v t u m n v_long t_long le same pre is =
     subst (λ (w : Trail). Begins v w) (sym is) (omega arith, sym same, pre (omega arith))
-
--- a log begins one of a history whose number is no less, and only such a one
-pub level_longer : (v w t : List Entry) (m n : ℕ) → m + 1 ≡ length v → n + 1 ≡ length t → v ≡ w → (length v ≤ length t → IsPrefix v t) → leb m n ≡ true → IsPrefix w t
-level_longer v w t m n v_long t_long same pre le =
-    let low : m ≤ n = leb-true m n le in subst (λ (l : List Entry). IsPrefix l t) same (pre (omega arith))
-
-pub longer_level : (v w t : List Entry) (m n : ℕ) → m + 1 ≡ length v → n + 1 ≡ length t → v ≡ w → IsPrefix w t → leb m n ≡ true
-longer_level v w t m n v_long t_long same pre =
-    let low = prefix_length w t pre in
-    let len : length v ≡ length w = ap length same in le-leb m n (omega arith)

@@ -1,35 +1,46 @@
 //! The one token that may report durable numbers.
-ghost use Rattle.std.specs.Prelude.{◌≡◌, ◌<◌, length, IsTrue};
-ghost use mathlib.Core.List.{IsPrefix};
-ghost use Rattle.book_history.specs.Logs.{IsLog};
+ghost use Rattle.std.specs.Prelude.{◌≡◌, ◌<◌, ◌↔◌, length, IsTrue};
+ghost use Rattle.book_history.specs.Known.{HasHeard};
+ghost use Rattle.book_history.specs.Logs.{newest_in, IsLog};
 
 use crate::trace::Trace;
 use std::marker::Model;
 
-/// The one token that may report durable numbers: what it has seen, and which news it gave last.
+/// The one token that may report durable numbers: what it has seen, the durable number there, and which news it gave
+/// last.
 #[derive(Drop)]
 pub struct Reporter {
     trace: Trace,
+    durable: u64,
     given: u64,
 }
 
 impl Model for Reporter {
+    ghost use Rattle.std.specs.Prelude.{◌≡◌};
     ghost use Rattle.book_history.specs.Known.{Heard};
     ghost use Rattle.book_history.specs.KnownCodes.{heard_code};
+    ghost use Rattle.book_history.specs.Logs.{newest_in};
 
     ghost Value = { Heard };
 
     ghost coded = { heard_code };
 
     ghost view = { λ r. record { book = r.trace.book; log = r.trace.log; given = r.given } };
+
+    ghost invariant = { λ r. (newest_in r.trace.log).durable ≡ r.durable };
 }
 
 impl Reporter {
-    /// A reporter that has seen this, and gave nothing.
-    pub fn new(trace: Trace) -> Reporter
+    /// A reporter that has seen this, where so much is durable, and gave nothing.
+    pub fn new(trace: Trace, durable: u64) -> Reporter
+        requires { (newest_in trace.log).durable ≡ durable }
         ensures { result ≡ record { book = trace.book; log = trace.log; given = 0 } }
     {
-        Reporter { trace, given: 0 }
+        Reporter {
+            trace,
+            durable,
+            given: 0,
+        }
     }
 
     /// The count of the news that it gave last.
@@ -42,21 +53,23 @@ impl Reporter {
         self.given
     }
 
-    /// Whether a log has all that it has seen.
-    pub fn is_level(&self, now: &Trace) -> bool
-        requires { now.now.book ≡ self.now.book }
-        ensures longer { IsTrue result → IsPrefix self.now.log now.now.log }
-        ensures level { IsPrefix self.now.log now.now.log → IsTrue result }
+    /// Whether a log, where so much is durable, has all that it has seen, and no durable number that it did not report.
+    pub fn is_level(&self, now: &Trace, durable: u64) -> bool
+        requires book { now.now.book ≡ self.now.book }
+        requires durable { (newest_in now.now.log).durable ≡ durable }
+        ensures { IsTrue result ↔ HasHeard now.now.log self.now }
     {
         now.compare(&self.trace);
-        self.trace.at() <= now.at()
+        self.trace.at() <= now.at() && self.durable == durable
     }
 
-    /// Sees a log, with the count of news that it gives with it.
-    pub fn move_on(&mut self, to: &Trace, given: u64)
+    /// Sees a log, where so much is durable, with the count of news that it gives with it.
+    pub fn move_on(&mut self, to: &Trace, durable: u64, given: u64)
+        requires { (newest_in to.now.log).durable ≡ durable }
         ensures { self.new ≡ record { book = to.now.book; log = to.now.log; given = given } }
     {
         self.trace = to.again();
+        self.durable = durable;
         self.given = given;
     }
 }

@@ -1,12 +1,12 @@
 -- From what the lock's methods say of the log to what a call says of histories.
-use Rattle.std.proofs.Common.{◌≡◌, ℕ, ◌<◌, ◌≤◌, Bool, true, List, [], ◌∷◌, ◌++◌, length, refl, ap, sym, ◌∙◌, subst, arith, append_assoc, Option, Some, None, IfSome, IfNone, Result, Ok, Err, IfOk, IfErr}
+use Rattle.std.proofs.Common.{◌≡◌, ◌⊎◌, inl, inr, ℕ, ◌<◌, ◌≤◌, Bool, true, List, [], ◌∷◌, ◌++◌, length, refl, ap, sym, ◌∙◌, subst, arith, append_assoc, Option, Some, None, IfSome, IfNone, Result, Ok, Err, IfOk, IfErr}
 use mathlib.Core.List.{IsPrefix}
 use Rattle.overlay_terms.specs.Commands.{Command}
 use Rattle.overlay_terms.specs.Layers.{Name}
 use Rattle.overlay_terms.specs.Histories.{Version, Entry, accepted, commands_of, newest, BeginsWith}
 use Rattle.book_history.specs.Logs.{entry, newest_in, history_of, IsAccepted, IsLog}
 use Rattle.book_history.specs.Fault.{IfGone, IsRefused}
-use Rattle.book_history.specs.Known.{Known, Heard, seen, IsOwn}
+use Rattle.book_history.specs.Known.{Known, Heard, HasHeard, IsDurableAfter, seen, IsOwn}
 use Rattle.book_desk.specs.Steps.{HasLooked, IsReportedIn}
 use Rattle.version_book.specs.Waits.{IsSyncRefused, IsSyncRefusedAt, IsWaitRefused, Looks}
 use Rattle.book_history.specs.declared.standing.Standing.{Standing}
@@ -127,20 +127,33 @@ module _ (was now : Known) (old new : List Entry) where
   submit_made (Err f) made A B m = tt
 
 -- ---- of a report
+-- a number is not durable in one version where it is not in the other
+no_news_in : (old new : Version) (before n newest : ℕ) → (n ≤ old.durable) ⊎ (old.number < n) → new ≡ old → old.durable ≡ before
+    → newest ≡ new.number → (n ≤ before) ⊎ (newest < n)
+no_news_in old new before n newest (inl le) same durable number = inl (omega (arith, le, durable))
+no_news_in old new before n newest (inr lt) same durable number = inr (omega (arith, lt, ap (λ (v : Version). v.number) same, number))
+
+durable_after : (log after : List Entry) (before n newest m : ℕ) → IsReportedIn log n after → (newest_in log).durable ≡ before
+    → (newest_in after).durable ≡ m → newest ≡ (newest_in after).number → IsDurableAfter before n newest m
+durable_after log after before n newest m (inl f) durable told number =
+    inl (omega (arith, f.0.risen, durable), omega (arith, f.0.not_beyond, f.0.same_number, number), sym told ∙ f.0.durable)
+durable_after log after before n newest m (inr s) durable told number =
+    inr (no_news_in _ _ before n newest s.0.no_news s.0.same durable number, sym told ∙ ap (λ (v : Version). v.durable) s.0.same ∙ durable)
+
 module _ (was now : Heard) (log after : List Entry) (n : ℕ) where
   pub report_goes : (r : Result ℕ BookFault) (A : ℕ → Type 0) (B : BookFault → Type 0) → 0 < length was.log
       → IfOk r (λ m. IsReportedIn log n after × A m)
-      → IfOk r (λ _. IsPrefix was.log log × (now ≡ record { book = was.book; log = after; given = was.given }) × IsLog after)
+      → IfOk r (λ _. HasHeard log was × (now ≡ record { book = was.book; log = after; given = was.given }) × IsLog after)
       → IfErr r (λ f. (after ≡ log) × (now ≡ was) × B f) → BeginsWith (history_of now.log) (history_of was.log)
   report_goes (Ok m) A B long a b d =
-      let whole = prefix_trans was.log log after b.0 (report_longer log after n a.0) in
+      let whole = prefix_trans was.log log after b.0.longer (report_longer log after n a.0) in
       begins_with was.log now.log long (subst (λ (t : Heard). IsPrefix was.log t.log) (sym b.1) whole)
   report_goes (Err f) A B long a b d = begins_with was.log now.log long (subst (λ (t : Heard). IsPrefix was.log t.log) (sym d.1) (prefix_self was.log))
 
   pub report_reached : (r : Result ℕ BookFault) (K : Type 0) → 0 < length was.log
       → IfOk r (λ m. IsReportedIn log n after × ((newest_in after).durable ≡ m))
-      → IfOk r (λ _. IsPrefix was.log log × K × IsLog after) → IfOk r (λ m. n ≤ (newest_in was.log).number → n ≤ m)
-  report_reached (Ok m) K long a b = report_reaches was.log log after n m long b.2 b.0 a.0 a.1
+      → IfOk r (λ _. HasHeard log was × K × IsLog after) → IfOk r (λ m. n ≤ (newest_in was.log).number → n ≤ m)
+  report_reached (Ok m) K long a b = report_reaches was.log log after n m long b.2 b.0.longer a.0 a.1
   report_reached (Err f) K long a b = tt
 
   pub report_ok : (r : Result ℕ BookFault) (A B C : Type 0) → IfOk r (λ m. A × ((newest_in after).durable ≡ m))
@@ -148,6 +161,14 @@ module _ (was now : Heard) (log after : List Entry) (n : ℕ) where
       → IfOk r (λ m. (newest_in now.log).durable ≡ m)
   report_ok (Ok m) A B C a b = ap (λ (t : Heard). (newest_in t.log).durable) b.1 ∙ a.1
   report_ok (Err f) A B C a b = tt
+
+  pub report_durable : (r : Result ℕ BookFault) (C : Type 0)
+      → IfOk r (λ m. IsReportedIn log n after × ((newest_in after).durable ≡ m))
+      → IfOk r (λ _. HasHeard log was × (now ≡ record { book = was.book; log = after; given = was.given }) × C)
+      → IfOk r (λ m. IsDurableAfter (newest_in was.log).durable n (newest_in now.log).number m)
+  report_durable (Ok m) C a b =
+      durable_after log after (newest_in was.log).durable n (newest_in now.log).number m a.0 b.0.durable a.1 (ap (λ (t : Heard). (newest_in t.log).number) b.1)
+  report_durable (Err f) C a b = tt
 
   pub report_err : (r : Result ℕ BookFault) (A : Type 0) (B : BookFault → Type 0) → IfErr r (λ f. A × (now ≡ was) × B f)
       → IfErr r (λ f. (now ≡ was) × B f)
@@ -187,11 +208,11 @@ sync_refused (Err f) s v n q = sync_at f s v n q
 -- ---- of news
 module _ {V : Type 0} (was now : Heard) (log : List Entry) (news : ℕ) where
   pub news_goes : (r : Result (Option V) BookFault) (A : V → Type 0) (N P Q : Type 0) (E : BookFault → Type 0) → 0 < length was.log
-      → IfOk r (λ o. IfSome o (λ v. A v × IsPrefix was.log log × IsLog log))
+      → IfOk r (λ o. IfSome o (λ v. A v × HasHeard log was × IsLog log))
       → IfOk r (λ o. IfSome o (λ _. N × (now ≡ record { book = was.book; log = log; given = news })))
       → IfOk r (λ o. IfNone o (P × Q × (now ≡ was))) → IfErr r (λ f. (now ≡ was) × E f) → BeginsWith (history_of now.log) (history_of was.log)
   news_goes (Ok (Some v)) A N P Q E long a b n d =
-      begins_with was.log now.log long (subst (λ (t : Heard). IsPrefix was.log t.log) (sym b.1) a.1)
+      begins_with was.log now.log long (subst (λ (t : Heard). IsPrefix was.log t.log) (sym b.1) a.1.longer)
   news_goes (Ok None) A N P Q E long a b n d = begins_with was.log now.log long (subst (λ (t : Heard). IsPrefix was.log t.log) (sym n.2) (prefix_self was.log))
   news_goes (Err f) A N P Q E long a b n d = begins_with was.log now.log long (subst (λ (t : Heard). IsPrefix was.log t.log) (sym d.0) (prefix_self was.log))
 
@@ -214,6 +235,15 @@ module _ {V : Type 0} (was now : Heard) (log : List Entry) (news : ℕ) where
   news_none (Ok (Some v)) P Q n = tt
   news_none (Ok None) P Q n = n.2
   news_none (Err f) P Q n = tt
+
+  pub news_durable : (r : Result (Option V) BookFault) (A : V → Type 0) (C N P Q : Type 0) (E : BookFault → Type 0)
+      → IfOk r (λ o. IfSome o (λ v. A v × HasHeard log was × C))
+      → IfOk r (λ o. IfSome o (λ _. N × (now ≡ record { book = was.book; log = log; given = news })))
+      → IfOk r (λ o. IfNone o (P × Q × (now ≡ was))) → IfErr r (λ f. (now ≡ was) × E f)
+      → (newest_in now.log).durable ≡ (newest_in was.log).durable
+  news_durable (Ok (Some v)) A C N P Q E a b n d = ap (λ (t : Heard). (newest_in t.log).durable) b.1 ∙ a.1.durable
+  news_durable (Ok None) A C N P Q E a b n d = ap (λ (t : Heard). (newest_in t.log).durable) n.2
+  news_durable (Err f) A C N P Q E a b n d = ap (λ (t : Heard). (newest_in t.log).durable) d.0
 
   pub news_book : (r : Result (Option V) BookFault) (N P Q : Type 0) (E : BookFault → Type 0)
       → IfOk r (λ o. IfSome o (λ _. N × (now ≡ record { book = was.book; log = log; given = news })))

@@ -102,6 +102,12 @@ moved was now to given n book log is at same news =
     is ∙ ap (λ (t : Trail). record { book = t.book; log = t.log; given = given }) at
     ∙ ap (λ b. record { book = b; log = log; given = given }) (sym same) ∙ ap (λ k. record { book = was.book; log = log; given = k }) news
 
+-- the durable number that stands in the version of a log's end
+pub durable_there : (at : Trail) (book : Book) (log : List Entry) (end version : Version) {durable : ℕ} → at ≡ record { book = book; log = log }
+    → end ≡ newest_in log → version ≡ end → durable ≡ version.durable → (newest_in at.log).durable ≡ durable
+durable_there at book log end version is newest same told =
+    ap (λ (t : Trail). (newest_in t.log).durable) is ∙ ap (λ (v : Version). v.durable) (sym newest ∙ sym same) ∙ sym told
+
 pub on_ok : {T E : Type 0} (r : Result T E) (b : Bool) (P : Type 0) → b ≡ is_err r → b ≡ false → OnOk r P → P
 on_ok (Ok n) b P is so p = p
 on_ok (Err f) b P is so p = absurd (true≢false (sym is ∙ so))

@@ -1,7 +1,7 @@
 //! The end of a book, under the lock.
 ghost use Rattle.std.specs.Prelude.{◌≡◌, ◌≤◌, All, IsTrue};
 ghost use Rattle.std.specs.Arc.{arc_value};
-ghost use mathlib.Core.List.{IsPrefix};
+ghost use Rattle.book_history.specs.Known.{HasHeard};
 ghost use Rattle.book_history.specs.Logs.{newest_in, IsLog};
 ghost use Rattle.book_history.specs.Standing.{IsAfterClosing};
 ghost use Rattle.book_desk.specs.Steps.{HasAllOf, IsLevel};
@@ -22,8 +22,8 @@ pub(crate) fn begin_close<J: Naming, R: Wait + Drop>(shelf: &mut Shelf<J, R>)
     shelf.standing.begin_close();
 }
 
-/// Whether the log has all that the reporter and some sessions have seen, and of each session's commands just those
-/// that it made.
+/// Whether the log has all that the reporter and some sessions have seen, no durable number that the reporter did not
+/// report, and of each session's commands just those that it made.
 pub(crate) fn has_all_of<J: Naming, R: Wait + Drop>(
     shelf: &Shelf<J, R>,
     reporter: &Reporter,
@@ -31,12 +31,13 @@ pub(crate) fn has_all_of<J: Naming, R: Wait + Drop>(
 ) -> bool
     requires reporter { reporter.now.book ≡ J.book }
     requires sessions { All (λ session. session.book ≡ J.book) sessions.now }
-    ensures reporter { IsTrue result → IsPrefix reporter.now.log shelf.now.desk }
+    ensures reporter { IsTrue result → HasHeard shelf.now.desk reporter.now }
     ensures sessions { IsTrue result → All (λ session. HasAllOf shelf.now.desk session) sessions.now }
-    ensures level { IsPrefix reporter.now.log shelf.now.desk
+    ensures level { HasHeard shelf.now.desk reporter.now
         → All (λ session. IsLevel shelf.now.desk session) sessions.now → IsTrue result }
 {
-    reporter.is_level(&shelf.desk.last().trace) && has_all_of_each(&shelf.desk, sessions)
+    let last = shelf.desk.last();
+    reporter.is_level(&last.trace, last.version.durable()) && has_all_of_each(&shelf.desk, sessions)
 }
 
 /// The newest version and the log. It waits for the readers.

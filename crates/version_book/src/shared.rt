@@ -2,11 +2,10 @@
 ghost use Rattle.std.specs.Prelude.{◌≡◌, ◌⊎◌, ◌<◌, ◌≤◌, [], ◌∷◌, ◌++◌, IfOk, IfErr, IfSome, IfNone, All};
 ghost use Rattle.std.specs.Prelude.{length, true};
 ghost use Rattle.std.specs.Arc.{arc_value};
-ghost use mathlib.Core.List.{IsPrefix};
 ghost use Rattle.overlay_terms.specs.Histories.{BeginsWith, newest};
 ghost use Rattle.layer_book.specs.Command.{command};
 ghost use Rattle.book_history.specs.Fault.{IfGone, IsRefused, no_memory};
-ghost use Rattle.book_history.specs.Known.{seen, IsOwn};
+ghost use Rattle.book_history.specs.Known.{seen, HasHeard, IsDurableAfter, IsOwn};
 ghost use Rattle.book_history.specs.Logs.{entry, history_of, newest_in, no_event, IsAccepted, IsLog};
 ghost use Rattle.book_history.specs.Rules.{head_of};
 ghost use Rattle.book_desk.specs.Steps.{beginners, HasAllOf};
@@ -59,7 +58,7 @@ impl<J: Naming, R: Wait + Drop> Shared<J, R> {
         ensures count { IfOk result (λ r. length r.2.items ≡ sessions) }
         ensures err { IfErr result (λ fault. (fault ≡ no_memory) ⊎ (fault ≡ BookFault.Gone)) }
     {
-        let reporter = Reporter::new(trace.again());
+        let reporter = Reporter::new(trace.again(), version.durable());
         let (shelf, list) = open(rt, alloc, head, trace, version, store, sessions)?;
         let shared = Shared {
             shelf: Mutex::new(shelf),
@@ -195,6 +194,7 @@ impl<J: Naming, R: Wait + Drop> Shared<J, R> {
         ensures newest { IfOk result (λ o. IfSome o (λ version. arc_value version ≡ newest_in me.new.log)) }
         ensures news { IfOk result (λ o. IfSome o (λ _. ¬ (me.new.given ≡ me.old.given))) }
         ensures none { IfOk result (λ o. IfNone o (me.new ≡ me.old)) }
+        ensures durable { (newest_in me.new.log).durable ≡ (newest_in me.old.log).durable }
         ensures err { IfErr result (λ fault. (me.new ≡ me.old) × ((fault ≡ no_memory) ⊎ (fault ≡ BookFault.Gone))) }
         ensures same { me.new.book ≡ me.old.book }
     {
@@ -216,6 +216,8 @@ impl<J: Naming, R: Wait + Drop> Shared<J, R> {
         requires book { me.old.book ≡ J.book }
         ensures goes_on { BeginsWith (history_of me.new.log) (history_of me.old.log) }
         ensures ok { IfOk result (λ m. (newest_in me.new.log).durable ≡ m) }
+        ensures durable { IfOk result
+            (λ m. IsDurableAfter (newest_in me.old.log).durable number (newest_in me.new.log).number m) }
         ensures reached { IfOk result (λ m. number ≤ (newest_in me.old.log).number → number ≤ m) }
         ensures err { IfErr result (λ fault. (me.new ≡ me.old) × ((fault ≡ no_memory) ⊎ (fault ≡ BookFault.Gone))) }
         ensures same { (me.new.book ≡ me.old.book) × (me.new.given ≡ me.old.given) }
@@ -253,7 +255,7 @@ impl<J: Naming, R: Wait + Drop> Shared<J, R> {
         requires sessions { All (λ session. session.book ≡ J.book) sessions.now }
         ensures version { arc_value result.version ≡ newest_in result.trace.log }
         ensures log { (result.trace.book ≡ J.book) × IsLog result.trace.log }
-        ensures reporter { IsPrefix reporter.now.log result.trace.log }
+        ensures reporter { HasHeard result.trace.log reporter.now }
         ensures sessions { All (λ session. HasAllOf result.trace.log session) sessions.now }
         ensures durable { All (λ entry. entry.version.durable ≤ (newest_in result.trace.log).durable) result.trace.log }
     {

@@ -1,8 +1,8 @@
 //! What the calls that wait decide by, and what the reporter is told, under the lock.
 ghost use Rattle.std.specs.Prelude.{◌≡◌, ◌⊎◌, ◌<◌, ◌≤◌, ◌↔◌, IsTrue, length, IfOk, IfErr, IfSome, IfNone};
 ghost use Rattle.std.specs.Arc.{arc_value};
-ghost use mathlib.Core.List.{IsPrefix};
 ghost use Rattle.book_history.specs.Fault.{IfGone, no_memory};
+ghost use Rattle.book_history.specs.Known.{HasHeard};
 ghost use Rattle.book_history.specs.Logs.{newest_in, IsLog};
 ghost use Rattle.book_history.specs.Standing.{IsAfterFailure};
 ghost use Rattle.book_desk.specs.Steps.{IsLevel, IsReportedIn};
@@ -123,16 +123,17 @@ pub(crate) fn tell_news<J: Naming, R: Wait + Drop>(
     requires book { me.old.book ≡ J.book }
     requires ready { ¬ (IsQuiet shelf.now.standing me.old.given) }
     ensures some { IfOk result (λ o. IfSome o (λ version. (arc_value version ≡ newest_in shelf.now.desk)
-        × IsPrefix me.old.log shelf.now.desk × IsLog shelf.now.desk)) }
+        × HasHeard shelf.now.desk me.old × IsLog shelf.now.desk)) }
     ensures news { IfOk result (λ o. IfSome o (λ _. ¬ (shelf.now.standing.news ≡ me.old.given)
         × (me.new ≡ record { book = me.old.book; log = shelf.now.desk; given = shelf.now.standing.news }))) }
     ensures none { IfOk result (λ o. IfNone o (IsTrue shelf.now.standing.closing
         × (shelf.now.standing.news ≡ me.old.given) × (me.new ≡ me.old))) }
     ensures err { IfErr result (λ fault. (me.new ≡ me.old) × ((fault ≡ no_memory) ⊎ (fault ≡ BookFault.Gone))) }
-    ensures gone { IfErr result (λ fault. IfGone fault (¬ (IsPrefix me.old.log shelf.now.desk)) (Unit {0})) }
+    ensures gone { IfErr result (λ fault. IfGone fault (¬ (HasHeard shelf.now.desk me.old)) (Unit {0})) }
 {
     let last = shelf.desk.last();
-    if !me.is_level(&last.trace) {
+    let durable = last.version.durable();
+    if !me.is_level(&last.trace, durable) {
         return Err(BookFault::Gone);
     }
     if me.given() == shelf.standing.news {
@@ -141,7 +142,7 @@ pub(crate) fn tell_news<J: Naming, R: Wait + Drop>(
     let Ok(version) = Arc::try_clone(&last.version) else {
         return Err(NO_MEMORY);
     };
-    me.move_on(&last.trace, shelf.standing.news);
+    me.move_on(&last.trace, durable, shelf.standing.news);
     Ok(Some(version))
 }
 
@@ -155,7 +156,7 @@ pub(crate) fn report<J: Naming, R: Wait + Drop>(
     requires book { me.old.book ≡ J.book }
     ensures ok { IfOk result (λ m. IsReportedIn shelf.old.desk number shelf.new.desk
         × ((newest_in shelf.new.desk).durable ≡ m)) }
-    ensures seen { IfOk result (λ _. IsPrefix me.old.log shelf.old.desk
+    ensures seen { IfOk result (λ _. HasHeard shelf.old.desk me.old
         × (me.new ≡ record { book = me.old.book; log = shelf.new.desk; given = me.old.given })
         × IsLog shelf.new.desk) }
     ensures begun { 0 < length me.old.log }
@@ -164,11 +165,12 @@ pub(crate) fn report<J: Naming, R: Wait + Drop>(
         × ((fault ≡ no_memory) ⊎ (fault ≡ BookFault.Gone))) }
 {
     let given = me.given();
-    if !me.is_level(&shelf.desk.last().trace) {
+    let last = shelf.desk.last();
+    if !me.is_level(&last.trace, last.version.durable()) {
         return Err(BookFault::Gone);
     }
     let durable = shelf.desk.report(alloc, number)?;
-    me.move_on(&shelf.desk.last().trace, given);
+    me.move_on(&shelf.desk.last().trace, durable, given);
     Ok(durable)
 }
 

@@ -1,12 +1,22 @@
 use Rattle.std.proofs.Common.{inr, refl, ap, sym, ◌∙◌, subst}
 use Rattle.std.proofs.lemmas.Result.{IfOk-from_err}
-use mathlib.Core.List.{IsPrefix}
+use Rattle.book_history.specs.Known.{HasHeard}
+use Rattle.book_history.specs.Logs.{newest_in}
 use Rattle.book_desk.proofs.Beginning.{passed}
-use Rattle.version_book.proofs.Told.{moved}
+use Rattle.version_book.proofs.Told.{durable_there, moved}
 use Rattle.version_book.proofs.telling.report.Goals as goal
 
 pub is_level-requires : goal.is_level-requires
-is_level-requires g c = ap (λ t. t.book) c.last.ensures.trace ∙ sym c.requires.book
+is_level-requires g c =
+    let last = c.last-last.ensures in
+    record {
+      book = ap (λ t. t.book) last.trace ∙ sym c.requires.book;
+      durable = durable_there _ _ _ _ _ last.trace last.version c.deref.ensures c.durable.ensures.value;
+    }
+
+pub move_on-requires : goal.move_on-requires
+move_on-requires g c =
+    ap (λ t. (newest_in t.log).durable) c.last.ensures.trace ∙ c.in_ok-durable.ensures.ok.1
 
 pub returns-then-not-is_level : goal.returns-then-not-is_level
 returns-then-not-is_level g c =
@@ -26,12 +36,12 @@ returns-in_err-durable g c =
 
 pub returns : goal.returns
 returns g c =
-    let log = ap (λ t. t.log) c.last.ensures.trace in
-    let last = c.last-2.ensures in
+    let log = ap (λ t. t.log) c.last-last.ensures.trace in
+    let last = c.last.ensures in
     record {
       ok = c.in_ok-durable.ensures.ok;
       seen = (
-        subst (λ l. IsPrefix c.args.me.now.log l) log (c.if-not-is_level.ensures.longer refl),
+        subst (λ l. HasHeard l c.args.me.now) log (c.if-not-is_level.ensures.0 refl),
         moved c.args.me.now _ _ _ _ _ _ c.move_on.ensures last.trace c.requires.book c.given-given.ensures.value,
         last.log,
       );

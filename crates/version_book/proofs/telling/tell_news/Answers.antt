@@ -1,11 +1,21 @@
 use Rattle.std.proofs.Common.{inl, inr, rules, refl, ap, sym, ◌∙◌, subst}
 use mathlib.Core.Bool.{true≢false}
-use mathlib.Core.List.{IsPrefix}
-use Rattle.version_book.proofs.Told.{moved}
+use Rattle.book_history.specs.Known.{HasHeard}
+use Rattle.version_book.proofs.Told.{durable_there, moved}
 use Rattle.version_book.proofs.telling.tell_news.Goals as goal
 
 pub is_level-requires : goal.is_level-requires
-is_level-requires g c = ap (λ t. t.book) c.last-last.ensures.trace ∙ sym c.requires.book
+is_level-requires g c =
+    let last = c.last-last.ensures in
+    record {
+      book = ap (λ t. t.book) last.trace ∙ sym c.requires.book;
+      durable = durable_there _ _ _ _ _ last.trace last.version c.deref.ensures c.durable-durable.ensures.value;
+    }
+
+pub move_on-requires : goal.move_on-requires
+move_on-requires g c =
+    let last = c.last-last.ensures in
+    durable_there _ _ _ _ _ last.trace last.version c.deref.ensures c.durable-durable.ensures.value
 
 pub returns-then-not-is_level : goal.returns-then-not-is_level
 returns-then-not-is_level g c =
@@ -16,7 +26,7 @@ returns-then-not-is_level g c =
       none = tt;
       err = (refl, inr refl);
       gone = λ p. true≢false
-          (sym (c.is_level.ensures.level (subst (λ l. IsPrefix c.args.me.now.log l) (sym log) p)) ∙ c.if-not-is_level.true);
+          (sym (c.is_level.ensures.1 (subst (λ l. HasHeard l c.args.me.now) (sym log) p)) ∙ c.if-not-is_level.true);
     }
 
 pub returns-in_default : goal.returns-in_default
@@ -28,7 +38,7 @@ returns g c =
     record {
       some = (
         c.in-Ok.ensures ∙ c.last-last.ensures.version,
-        subst (λ l. IsPrefix c.args.me.now.log l) log (c.if-not-is_level.ensures.longer refl),
+        subst (λ l. HasHeard l c.args.me.now) log (c.if-not-is_level.ensures.0 refl),
         c.last-last.ensures.log,
       );
       news = (search rules, moved c.args.me.now _ _ _ _ _ _ c.move_on.ensures c.last-last.ensures.trace c.requires.book refl);

@@ -1,4 +1,4 @@
-use Rattle.version_book.proofs.Results.{news_book, news_given, news_goes, news_newest, news_none}
+use Rattle.version_book.proofs.Results.{news_book, news_durable, news_given, news_goes, news_newest, news_none}
 use Rattle.std.specs.Arc.{arc_value}
 use Rattle.version_book.proofs.shared.Shared.next_version.Goals as goal
 
@@ -15,6 +15,7 @@ returns g c =
       newest = news_newest me new log n s.result arc_value _ _ _ e.some e.news;
       news = news_given me new log n s.result e.news;
       none = news_none me new log n s.result _ _ e.none;
+      durable = news_durable me new log n s.result _ _ _ _ _ _ e.some e.news e.none e.err;
       err = e.err;
       same = news_book me new log n s.result _ _ _ _ e.news e.none e.err;
     }

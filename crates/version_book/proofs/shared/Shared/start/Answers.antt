@@ -1,9 +1,16 @@
 use Rattle.std.proofs.Common.{◌≡◌, length, ap, sym, ◌∙◌, subst}
 use Rattle.std.specs.List.{All}
 use Rattle.book_history.specs.Known.{Known}
+use Rattle.book_history.specs.Logs.{newest_in}
+use Rattle.book_history.specs.Trails.{Trail}
 use Rattle.book_desk.proofs.Beginning.{all_begin, count_of, passed}
 use Rattle.version_book.proofs.Told.{gone_ok}
 use Rattle.version_book.proofs.shared.Shared.start.Goals as goal
+
+pub new-reporter-requires : goal.new-reporter-requires
+new-reporter-requires g c =
+    ap (λ (t : Trail). (newest_in t.log).durable) c.again.ensures ∙ ap (λ l. (newest_in l).durable) c.requires.trace.1
+    ∙ sym c.durable.ensures.value
 
 pub returns-in_err-shelf : goal.returns-in_err-shelf
 returns-in_err-shelf g c =
