@@ -11,7 +11,6 @@ use Rattle.std.proofs.Crossing.{crosses, sync}
 use Rattle.std.specs.contracts.alloc.Global as global
 use Rattle.plane_base.proofs.base_layer.BaseLayer.TheSendSync as bases
 use Rattle.layer_book.specs.contracts.command.Command as command
-use Rattle.layer_expr.specs.contracts.name.Name as name
 use Rattle.layer_expr.proofs.name.Name.TheSendSync as names
 use Rattle.version_book.proofs.Sent.{expr_send, expr_sync, session_send}
 use Rattle.version_book.proofs.SentBook.{shared_sync}
@@ -31,10 +30,10 @@ module _ (J R : RattleType) (g : naming.Ghosts J.Denot) (j : IsSend J) (s : IsSy
       let book = shared_sync J (ShrRef d d' R) g j (shr_send d d' R s) in
       recorded_send _ _ _ O.to_one (struct_send (shape O) (shr_send a a' R s, (shr_send b b' global.the_row sync, (shr_send c c' _ book, (mut_send e e' session.the_row session_send, (shr_send f f' command.the_row command_sync, tt))))))
 
-  -- what a closure captures that waits for the tiles of a layer: the book, the runtime, its session and the name
-  pub waits_send : (ν : Sym) (a b c d e : Lifetime) (a' b' c' d' e' : Lft)
-      → IsSend (TupleAt ν (ShrRef a a' (shared.the_row J (ShrRef b b' R) g) ∷ ShrRef c c' R ∷ MutRef d d' session.the_row ∷ ShrRef e e' name.the_row ∷ []))
-  waits_send ν a b c d e a' b' c' d' e' =
-      let O = type_at ν (ShrRef a a' (shared.the_row J (ShrRef b b' R) g) ∷ ShrRef c c' R ∷ MutRef d d' session.the_row ∷ ShrRef e e' name.the_row ∷ []) in
-      let book = shared_sync J (ShrRef b b' R) g j (shr_send b b' R s) in
-      recorded_send _ _ _ O.to_one (struct_send (shape O) (shr_send a a' _ book, (shr_send c c' R s, (mut_send d d' session.the_row session_send, (shr_send e e' name.the_row names.the_sync, tt)))))
+  -- what a closure captures that builds a tile: the runtime, the allocator and the book
+  pub builds_send : (ν : Sym) (a b c d : Lifetime) (a' b' c' d' : Lft)
+      → IsSend (TupleAt ν (ShrRef a a' R ∷ ShrRef b b' global.the_row ∷ ShrRef c c' (shared.the_row J (ShrRef d d' R) g) ∷ []))
+  builds_send ν a b c d a' b' c' d' =
+      let O = type_at ν (ShrRef a a' R ∷ ShrRef b b' global.the_row ∷ ShrRef c c' (shared.the_row J (ShrRef d d' R) g) ∷ []) in
+      let book = shared_sync J (ShrRef d d' R) g j (shr_send d d' R s) in
+      recorded_send _ _ _ O.to_one (struct_send (shape O) (shr_send a a' R s, (shr_send b b' global.the_row sync, (shr_send c c' _ book, tt))))

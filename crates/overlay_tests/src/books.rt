@@ -13,6 +13,7 @@ use std::marker::Brand;
 use std::process::Abort;
 use std::sync::Wait;
 use std::thread::Threads;
+use std::time::Clock;
 use tile_build::Built;
 use version_book::fault::{BookFault, StoreFault};
 use version_book::job::Job;
@@ -46,7 +47,7 @@ pub enum Row {
     Builds(bool),
     /// A tile is asked for and given back: whether there is one.
     GivesBack(bool),
-    /// A tile is asked for and built beside a thread that waits for a layer's tiles: what the wait answers.
+    /// A tile is asked for and built in a thread of its own, beside a wait for a layer's tiles: what the wait answers.
     BuildsBeside(&'static str, Answer),
     /// Two sessions submit a command each, fifty times in a thread of its own.
     SubmitBeside(Change, Change),
@@ -74,7 +75,7 @@ fn open_history(alloc: Global) -> Opened {
 
 /// Plays lists of rows in a book that was just opened. The tiles that are taken in a list are finished behind it.
 /// The book ends with the version of this number.
-pub fn play<R: Threads + Wait + Abort + Sync>(
+pub fn play<R: Threads + Wait + Clock + Abort + Sync>(
     rt: &R,
     alloc: Global,
     store: bool,
@@ -84,7 +85,7 @@ pub fn play<R: Threads + Wait + Abort + Sync>(
     play_in::<Brand, R>(rt, alloc, open_history(alloc), store, lists, last);
 }
 
-fn play_in<J: Naming + Send + Sync, R: Threads + Wait + Abort + Sync>(
+fn play_in<J: Naming + Send + Sync, R: Threads + Wait + Clock + Abort + Sync>(
     rt: &R,
     alloc: Global,
     opened: Opened,
@@ -116,7 +117,7 @@ fn play_in<J: Naming + Send + Sync, R: Threads + Wait + Abort + Sync>(
     assert!(rt; closed.version.number() == last);
 }
 
-fn play_lists<J: Naming + Send + Sync, R: Threads + Wait + Abort + Sync>(
+fn play_lists<J: Naming + Send + Sync, R: Threads + Wait + Clock + Abort + Sync>(
     rt: &R,
     alloc: Global,
     shared: &Shared<J, &R>,
@@ -135,7 +136,7 @@ fn play_lists<J: Naming + Send + Sync, R: Threads + Wait + Abort + Sync>(
 }
 
 /// Plays the rows from a place on.
-fn play_rows<J: Naming + Send + Sync, R: Threads + Wait + Abort + Sync>(
+fn play_rows<J: Naming + Send + Sync, R: Threads + Wait + Clock + Abort + Sync>(
     rt: &R,
     alloc: Global,
     shared: &Shared<J, &R>,
@@ -160,7 +161,7 @@ fn play_rows<J: Naming + Send + Sync, R: Threads + Wait + Abort + Sync>(
 }
 
 /// Plays a row. It tells of a tile that is to be finished, and whether that is kept.
-fn play_row<J: Naming + Send + Sync, R: Threads + Wait + Abort + Sync>(
+fn play_row<J: Naming + Send + Sync, R: Threads + Wait + Clock + Abort + Sync>(
     rt: &R,
     alloc: Global,
     shared: &Shared<J, &R>,
@@ -192,7 +193,7 @@ fn play_row<J: Naming + Send + Sync, R: Threads + Wait + Abort + Sync>(
         }
         Row::BuildsBeside(name, want) => {
             let name = name_of(rt, alloc, name);
-            let (done, is_kept) = build_beside(rt, alloc, shared, me, &name);
+            let (is_kept, done) = build_beside(rt, alloc, shared, me, &name);
             check(rt, at, &told(done), want);
             assert!(rt; is_kept);
             None

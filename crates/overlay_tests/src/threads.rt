@@ -7,7 +7,8 @@ use layer_expr::name::Name;
 use std::alloc::Global;
 use std::process::Abort;
 use std::sync::Wait;
-use std::thread::{Threads, join_mut};
+use std::thread::{Threads, join_mut, sleep};
+use std::time::{Clock, Duration};
 use version_book::fault::BookFault;
 use version_book::session::Session;
 use version_book::shared::Shared;
@@ -86,25 +87,39 @@ pub fn submit_beside<J: Naming + Send + Sync, R: Threads + Wait + Abort + Sync>(
     assert!(rt; one.snapshot().is_ok_and(|version| version.number() == 100));
 }
 
-/// Waits for a layer's tiles in a thread of its own, and meanwhile asks for a tile and builds it. It tells how the wait
-/// ends, and whether the tile was kept.
-// As a thread takes its time to begin, the tile is asked for first: where there is none but one that is marked, who asks
-// sleeps until the wait takes the mark away.
-pub fn build_beside<J: Naming + Send + Sync, R: Threads + Wait + Abort + Sync>(
+/// Asks for a tile in a thread of its own and builds it, and waits for a layer's tiles a while later. It tells whether
+/// the tile was kept, and how the wait ends.
+// Where there is no tile but one that is marked, who asks sleeps until the wait takes the mark away. Where there is no
+// memory for a thread, the wait comes first and then the tile.
+pub fn build_beside<J: Naming + Send + Sync, R: Threads + Wait + Clock + Abort + Sync>(
     rt: &R,
     alloc: Global,
     shared: &Shared<J, &R>,
     me: &mut Session,
     name: &Name,
-) -> (Result<u64, BookFault>, bool)
+) -> (bool, Result<u64, BookFault>)
     requires { me.old.book ≡ J.book }
     ensures { me.new.book ≡ me.old.book }
 {
     join_mut(
         rt,
-        &mut || shared.wait_built(rt, me, name),
         &mut || build(rt, alloc, shared),
+        &mut || wait_late(rt, shared, me, name),
     )
+}
+
+/// Waits for a layer's tiles, a tenth of a second late.
+fn wait_late<J: Naming, R: Wait + Clock>(
+    rt: &R,
+    shared: &Shared<J, &R>,
+    me: &mut Session,
+    name: &Name,
+) -> Result<u64, BookFault>
+    requires { me.old.book ≡ J.book }
+    ensures { me.new.book ≡ me.old.book }
+{
+    sleep(rt, Duration::from_millis(100));
+    shared.wait_built(rt, me, name)
 }
 
 /// Asks for a tile and builds it, and says whether it was kept.
