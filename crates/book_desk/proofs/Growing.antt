@@ -1,13 +1,9 @@
 -- A log that gains an entry, and what the entry says.
-use Rattle.std.proofs.Common.{◌≡◌, ◌⊎◌, ℕ, ◌<◌, ◌≤◌, List, [], ◌∷◌, ◌++◌, length, ap, sym, ◌∙◌, subst, arith, inl, inr}
+use Rattle.std.proofs.Common.{◌≡◌, ◌⊎◌, ℕ, ◌<◌, ◌≤◌, List, [], ◌∷◌, ◌++◌, length, ap, sym, ◌∙◌, subst, arith, inl, inr, refl, Option, Some, None, IfSome, IfNone}
 use Rattle.std.specs.List.{All}
 use Rattle.std.proofs.lemmas.List.Elements.{All-cons, All-nil}
 use mathlib.Core.List.{IsPrefix}
-use Rattle.overlay_terms.specs.Histories.{Version, Event, accepted, kept, durable_to, Entry, AllFollow, Follows, last_version, Tile, FollowsReport, FollowsTile, IsReported}
-use Rattle.overlay_terms.specs.Layers.{Name}
-use Rattle.version_core.specs.Finish.{IfKept}
-use Rattle.version_core.specs.declared.finishing.Finish.{Finish}
-use Rattle.version_core.specs.declared.finishing.Finish.TheVariants.{Kept}
+use Rattle.overlay_terms.specs.Histories.{Version, Event, accepted, kept, durable_to, Entry, AllFollow, Follows, last_version, FollowsReport, IsReported}
 use Rattle.book_history.specs.Logs.{entry, newest_in, IsLog}
 use Rattle.book_desk.specs.Steps.{IsReportedIn}
 use Rattle.book_history.proofs.Chains.{newest_more}
@@ -37,12 +33,14 @@ reports old last new n durable number same told is most news low = risen (subst 
     risen (inl f) = f
     risen (inr s) = absurd (never s.no_news)
 
--- the version that keeps a tile follows the newest one
-pub keeps : (old last next new : Version) (name : Name) (column : ℕ) (tile : Tile) (finish : Finish) → old ≡ last → new ≡ next → finish ≡ Kept next
-    → IfKept finish (λ v. FollowsTile old name column tile v) → FollowsTile last name column tile new
-keeps old last next new name column tile finish same made is told =
-    let found = subst (λ f. IfKept f (λ v. FollowsTile old name column tile v)) is told in
-    subst (λ v. FollowsTile last name column tile v) (sym made) (subst (λ o. FollowsTile o name column tile next) same found)
+-- what holds of the value that there is
+pub given : {A : Type 0} (o : Option A) (x : A) (P : A → Type 0) → o ≡ Some x → IfSome o P → P x
+given o x P is held = subst (λ o. IfSome o P) is held
+
+-- what holds where there is none
+pub missing : {A : Type 0} (o : Option A) (P : Type 0) → ((x : A) → o ≡ Some x → ⊥) → IfNone o P → P
+missing None P none held = held
+missing (Some x) P none held = absurd (none x refl)
 
 -- numbers do not fall from an entry to the next
 step_rises : (v : Version) (x : Event) (w : Version) → Follows v x w → v.number ≤ w.number

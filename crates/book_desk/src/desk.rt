@@ -115,13 +115,6 @@ impl<J: Naming, R: Wait + Drop> Desk<J, R> {
         by < 4 && me.is_level(&self.press.published().trace, self.counts[by as usize])
     }
 
-    /// The number of the newest version.
-    pub(crate) fn number(&self) -> u64
-        ensures { result ≡ (newest_in self.now).number }
-    {
-        self.press.published().version.number()
-    }
-
     /// A session sees all of it. It does not where that would be less than it has seen, or its commands are others.
     pub fn show(&self, me: &mut Session) -> Result<u64, BookFault>
         requires { me.old.book ≡ J.book }

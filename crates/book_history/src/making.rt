@@ -1,16 +1,20 @@
-//! Versions that are shared, and the version after a command.
-ghost use Rattle.std.specs.Prelude.{◌≡◌, IfOk, IfErr, false};
+//! Versions that are shared: after a command, with a tile, after a report.
+ghost use Rattle.std.specs.Prelude.{◌≡◌, IfOk, IfErr, IfSome, IfNone, false};
 ghost use Rattle.std.specs.Arc.{arc_value};
-ghost use Rattle.overlay_terms.specs.Histories.{FollowsCommand};
+ghost use Rattle.overlay_terms.specs.Histories.{FollowsCommand, FollowsTile, IsReported};
 ghost use Rattle.layer_book.specs.Command.{command};
+ghost use Rattle.version_core.specs.Finish.{IsAwaited};
 ghost use Rattle.book_history.specs.Fault.{IfGone, IsRefused, no_memory};
 
 use crate::fault::BookFault;
 use layer_book::command::Command;
 use layer_book::fault::LayerFault;
+use layer_expr::name::Name;
 use std::alloc::Global;
 use std::sync::Arc;
+use tile_build::built::Built;
 use version_core::fault::VersionFault;
+use version_core::finishing::Finish;
 use version_core::version::Version;
 
 /// The fault where memory runs out.
@@ -39,6 +43,40 @@ pub fn next_version(
     ensures there { IfErr result (λ fault. IfGone fault ⊥ (Unit {0})) }
 {
     match now.submit(alloc, change) {
+        Ok(next) => shared(alloc, next),
+        Err(fault) => Err(BookFault::Version(fault)),
+    }
+}
+
+/// The version with a built tile, where it is awaited.
+pub fn kept_version(
+    alloc: Global,
+    now: &Version,
+    name: &Name,
+    built: &Built,
+) -> Result<Option<Arc<Version, Global>>, BookFault>
+    ensures some { IfOk result (λ o. IfSome o (λ v. IsAwaited now.now name.now built.now.0
+        × FollowsTile now.now name.now built.now.0.column built.now.1 (arc_value v))) }
+    ensures none { IfOk result (λ o. IfNone o (¬ (IsAwaited now.now name.now built.now.0))) }
+    ensures err { IfErr result (λ fault. fault ≡ no_memory) }
+{
+    match now.finish_with(alloc, name, built) {
+        Ok(Finish::Kept(next)) => Ok(Some(shared(alloc, next)?)),
+        Ok(Finish::Stale) => Ok(None),
+        Err(fault) => Err(BookFault::Version(fault)),
+    }
+}
+
+/// The version after a report of a number.
+pub fn reported_version(
+    alloc: Global,
+    now: &Version,
+    number: u64,
+) -> Result<Arc<Version, Global>, BookFault>
+    ensures ok { IfOk result (λ v. IsReported now.now number (arc_value v)) }
+    ensures err { IfErr result (λ fault. fault ≡ no_memory) }
+{
+    match now.durable_to(alloc, number) {
         Ok(next) => shared(alloc, next),
         Err(fault) => Err(BookFault::Version(fault)),
     }

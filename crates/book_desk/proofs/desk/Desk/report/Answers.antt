@@ -1,8 +1,6 @@
 use Rattle.std.proofs.Common.{◌⊎◌, ◌<◌, ◌≤◌, ap, sym, ◌∙◌, subst, refl, arith, inl, inr}
 use Rattle.overlay_terms.specs.Histories.{FollowsReport}
-use Rattle.version_core.specs.declared.fault.VersionFault.{VersionFault}
 use Rattle.book_history.specs.Logs.{newest_in}
-use Rattle.book_history.specs.declared.fault.BookFault.TheVariants as fault
 use Rattle.std.proofs.lemmas.Result.{IfOk-from_err}
 use Rattle.book_desk.proofs.Beginning.{passed}
 use Rattle.book_desk.proofs.Growing.{newest_of, told_by, reports}
@@ -16,12 +14,9 @@ returns-then-number-durable g c =
     let last = newest_in c.args.self.now in
     let no_news : (c.args.number ≤ last.durable) ⊎ (last.number < c.args.number) = elim c.then-number-durable.branch [
       | then-number-durable-via-then-number-durable w ↦ inl (omega (arith, durable, w.if-number-durable.true))
-      | then-number-durable-via-else-number-durable+then-number w ↦ inr (omega (arith, w.number.ensures, w.if-number.true))
+      | then-number-durable-via-else-number-durable+then-number w ↦ inr (omega (arith, w.number.ensures.value, ap (λ v. v.number) (w.deref-else-number-durable.ensures ∙ c.last.ensures.version), w.if-number.true))
     ] in
     record { ok = (inr (record { no_news = no_news; same = refl }, refl), sym durable); err = tt }
-
-pub returns-in-Err : goal.returns-in-Err
-returns-in-Err g c = record { ok = tt; err = (refl, inl (ap (λ (f : VersionFault). fault.Version f) c.in-Err.ensures.err)) }
 
 pub returns-in_err-version : goal.returns-in_err-version
 returns-in_err-version g c =
@@ -32,9 +27,10 @@ pub add-requires : goal.add-requires
 add-requires g c =
     let last = newest_in c.args.self.now in
     let durable = c.durable-durable.ensures.value ∙ ap (λ v. v.durable) (c.deref.ensures ∙ c.last.ensures.version) in
-    let old = c.deref-2.ensures ∙ c.last-2.ensures.version in
-    let told = reports _ last _ c.args.number _ _ old c.in-Ok.ensures.ok durable c.number.ensures c.if-number-durable.false c.if-number.false in
-    record { follows = subst (FollowsReport last c.args.number) (sym c.in_ok-version.ensures.ok) told; seat = tt }
+    let number = c.number.ensures.value ∙ ap (λ v. v.number) (c.deref-else-number-durable.ensures ∙ c.last.ensures.version) in
+    let old = c.deref-2.ensures ∙ c.last.ensures.version in
+    let told = reports _ last _ c.args.number _ _ old c.in_ok-version.ensures.ok durable number c.if-number-durable.false c.if-number.false in
+    record { follows = told; seat = tt }
 
 pub returns-in_err-add : goal.returns-in_err-add
 returns-in_err-add g c =
@@ -46,9 +42,10 @@ pub returns : goal.returns
 returns g c =
     let last = newest_in c.args.self.now in
     let is = c.in_ok-add.ensures.ok in
-    let new = newest_of c.args.self.now c.add.new.self _ is ∙ c.in_ok-version.ensures.ok in
+    let new = newest_of c.args.self.now c.add.new.self _ is in
     let durable = c.durable-durable.ensures.value ∙ ap (λ v. v.durable) (c.deref.ensures ∙ c.last.ensures.version) in
-    let old = c.deref-2.ensures ∙ c.last-2.ensures.version in
-    let told = reports _ last _ c.args.number _ _ old c.in-Ok.ensures.ok durable c.number.ensures c.if-number-durable.false c.if-number.false in
+    let number = c.number.ensures.value ∙ ap (λ v. v.number) (c.deref-else-number-durable.ensures ∙ c.last.ensures.version) in
+    let old = c.deref-2.ensures ∙ c.last.ensures.version in
+    let told = reports _ last _ c.args.number _ _ old c.in_ok-version.ensures.ok durable number c.if-number-durable.false c.if-number.false in
     let then : FollowsReport last c.args.number (newest_in c.add.new.self) = subst (FollowsReport last c.args.number) (sym new) told in
     record { ok = (inl (then, told_by c.args.self.now c.add.new.self _ _ _ refl is), then.durable); err = tt }
