@@ -5,7 +5,7 @@ ghost use Rattle.version_book.specs.Rules.{head_of};
 
 use crate::rows::check;
 use crate::testing::{Change, command, name_of};
-use crate::threads::{build_beside, submit_beside};
+use crate::threads::{Work, beside, submit_beside};
 use exact_point::QueryPoint;
 use layer_book::direct_answer::Place;
 use std::alloc::Global;
@@ -192,15 +192,20 @@ fn play_row<J: Naming + Send + Sync, R: Threads + Wait + Clock + Abort + Sync>(
             None
         }
         Row::BuildsBeside(name, want) => {
-            let name = name_of(rt, alloc, name);
-            let (is_kept, done) = build_beside(rt, alloc, shared, me, &name);
-            check(rt, at, &told(done), want);
-            assert!(rt; is_kept);
+            // Who asks for the tile is the first: where there is no tile but one that is marked, it sleeps until the
+            // wait takes the mark away. Where both run in one thread, the wait comes first, and it finds the tile.
+            let late = Work::WaitsLate(name_of(rt, alloc, name));
+            let (_, done) = beside(rt, alloc, shared, other, me, &Work::Builds, &late);
+            let number = match done {
+                Ok(numbers) => Ok(numbers.last().copied()),
+                Err(fault) => Err(fault),
+            };
+            check(rt, at, &number, want);
             None
         }
         Row::SubmitBeside(first, second) => {
             let (first, second) = (command(rt, alloc, first), command(rt, alloc, second));
-            submit_beside(rt, alloc, shared, me, other, &first, &second);
+            submit_beside(rt, alloc, shared, me, other, first, second);
             None
         }
     }

@@ -1,4 +1,4 @@
-//! Commands of two sessions in threads of their own, for the tests.
+//! What two sessions do in threads of their own, for the tests.
 ghost use Rattle.std.specs.Prelude.{◌≡◌};
 
 use crate::books::{finish, take};
@@ -14,47 +14,70 @@ use version_book::session::Session;
 use version_book::shared::Shared;
 use version_book::trace::Naming;
 
-/// Submits a command fifty times, and tells the numbers of its versions where each is above the one before.
-fn numbers<J: Naming, R: Wait + Drop, W: Wait>(
-    rt: &W,
+/// What a session does with a book.
+#[derive(Drop)]
+pub enum Work {
+    /// Submits the command fifty times.
+    Submits(Command),
+    /// Asks for a tile and builds it, which is to be kept.
+    Builds,
+    /// Waits for the tiles of the layer of this name, a tenth of a second late.
+    WaitsLate(Name),
+}
+
+/// Does a work, and tells the numbers of its versions, each above the one before. A tile that is built tells none.
+fn carry_out<J: Naming, R: Wait + Clock + Abort>(
+    rt: &R,
     alloc: Global,
-    shared: &Shared<J, R>,
+    shared: &Shared<J, &R>,
     me: &mut Session,
-    change: &Command,
-) -> Option<Vec<u64>>
+    work: &Work,
+) -> Result<Vec<u64>, BookFault>
     requires { me.old.book ≡ J.book }
     ensures { me.new.book ≡ me.old.book }
 {
     let mut list = Vec::new(alloc);
-    let mut last = 0;
-    'puts: for _ in 0..50 {
-        let number = shared.submit(rt, alloc, me, change).ok()?;
-        if number <= last {
-            return None;
+    match work {
+        Work::Submits(change) => {
+            let mut last = 0;
+            'puts: for _ in 0..50 {
+                let number = shared.submit(rt, alloc, me, change)?;
+                assert!(rt; number > last);
+                last = number;
+                list.push(number).expect(rt, "memory");
+            }
         }
-        last = number;
-        list.push(number).ok()?;
+        Work::Builds => {
+            let job = take(rt, alloc, shared).expect(rt, "no tile");
+            assert!(rt; finish(rt, alloc, shared, job));
+        }
+        Work::WaitsLate(name) => {
+            sleep(rt, Duration::from_millis(100));
+            list.push(shared.wait_built(rt, me, name)?)
+                .expect(rt, "memory");
+        }
     }
-    Some(list)
+    Ok(list)
 }
 
-/// The numbers of two sessions in threads of their own.
-fn numbers_beside<J: Naming + Send + Sync, R: Threads + Wait + Sync>(
+/// What two sessions do in threads of their own, and the numbers that each tells.
+// Where there is no memory for a thread, the second works first and then the first.
+pub fn beside<J: Naming + Send + Sync, R: Threads + Wait + Clock + Abort + Sync>(
     rt: &R,
     alloc: Global,
     shared: &Shared<J, &R>,
     one: &mut Session,
     two: &mut Session,
-    first: &Command,
-    second: &Command,
-) -> (Option<Vec<u64>>, Option<Vec<u64>>)
+    first: &Work,
+    second: &Work,
+) -> (Result<Vec<u64>, BookFault>, Result<Vec<u64>, BookFault>)
     requires { (one.old.book ≡ J.book) × (two.old.book ≡ J.book) }
     ensures { (one.new.book ≡ one.old.book) × (two.new.book ≡ two.old.book) }
 {
     join_mut(
         rt,
-        &mut || numbers(rt, alloc, shared, one, first),
-        &mut || numbers(rt, alloc, shared, two, second),
+        &mut || carry_out(rt, alloc, shared, one, first),
+        &mut || carry_out(rt, alloc, shared, two, second),
     )
 }
 
@@ -68,66 +91,22 @@ fn share_all<R: Abort>(rt: &R, first: &[u64], second: &[u64]) {
 }
 
 /// Submits one command fifty times in each of two threads.
-pub fn submit_beside<J: Naming + Send + Sync, R: Threads + Wait + Abort + Sync>(
+pub fn submit_beside<J: Naming + Send + Sync, R: Threads + Wait + Clock + Abort + Sync>(
     rt: &R,
     alloc: Global,
     shared: &Shared<J, &R>,
     one: &mut Session,
     two: &mut Session,
-    first: &Command,
-    second: &Command,
+    first: Command,
+    second: Command,
 )
     requires { (one.old.book ≡ J.book) × (two.old.book ≡ J.book) }
     ensures { (one.new.book ≡ one.old.book) × (two.new.book ≡ two.old.book) }
 {
-    let (ours, theirs) = numbers_beside(rt, alloc, shared, one, two, first, second);
+    let (first, second) = (Work::Submits(first), Work::Submits(second));
+    let (ours, theirs) = beside(rt, alloc, shared, one, two, &first, &second);
     let ours = ours.expect(rt, "no numbers of the first");
     let theirs = theirs.expect(rt, "no numbers of the second");
     share_all(rt, &ours, &theirs);
     assert!(rt; one.snapshot().is_ok_and(|version| version.number() == 100));
-}
-
-/// Asks for a tile in a thread of its own and builds it, and waits for a layer's tiles a while later. It tells whether
-/// the tile was kept, and how the wait ends.
-// Where there is no tile but one that is marked, who asks sleeps until the wait takes the mark away. Where there is no
-// memory for a thread, the wait comes first and then the tile.
-pub fn build_beside<J: Naming + Send + Sync, R: Threads + Wait + Clock + Abort + Sync>(
-    rt: &R,
-    alloc: Global,
-    shared: &Shared<J, &R>,
-    me: &mut Session,
-    name: &Name,
-) -> (bool, Result<u64, BookFault>)
-    requires { me.old.book ≡ J.book }
-    ensures { me.new.book ≡ me.old.book }
-{
-    join_mut(
-        rt,
-        &mut || build(rt, alloc, shared),
-        &mut || wait_late(rt, shared, me, name),
-    )
-}
-
-/// Waits for a layer's tiles, a tenth of a second late.
-fn wait_late<J: Naming, R: Wait + Clock>(
-    rt: &R,
-    shared: &Shared<J, &R>,
-    me: &mut Session,
-    name: &Name,
-) -> Result<u64, BookFault>
-    requires { me.old.book ≡ J.book }
-    ensures { me.new.book ≡ me.old.book }
-{
-    sleep(rt, Duration::from_millis(100));
-    shared.wait_built(rt, me, name)
-}
-
-/// Asks for a tile and builds it, and says whether it was kept.
-fn build<J: Naming, R: Wait + Drop, W: Wait + Abort>(
-    rt: &W,
-    alloc: Global,
-    shared: &Shared<J, R>,
-) -> bool {
-    let job = take(rt, alloc, shared).expect(rt, "no tile");
-    finish(rt, alloc, shared, job)
 }
