@@ -1,5 +1,5 @@
 -- The sessions that a book begins with.
-use Rattle.std.proofs.Common.{◌≡◌, ℕ, zero, suc, [], ◌∷◌, length, slice_index, refl, sym, subst, arith, length-append, Result, Ok, Err, IsErrAnd, IfErr}
+use Rattle.std.proofs.Common.{◌≡◌, ℕ, zero, suc, [], ◌∷◌, length, slice_index, refl, arith, length-append}
 use Rattle.std.specs.List.{All}
 use Rattle.std.proofs.lemmas.List.Elements.{All-append, All-cons, All-nil}
 use Rattle.logbook.specs.Pages.{Book}
@@ -29,8 +29,3 @@ none_yet (suc zero) = refl
 none_yet (suc (suc zero)) = refl
 none_yet (suc (suc (suc zero))) = refl
 none_yet (suc (suc (suc (suc n)))) = refl
-
--- what holds of a fault holds of the result that passes it up
-pub passed : {A E : Type 0} (P : E → Type 0) (r : Result A E) (x : E) → IsErrAnd r (λ y. y ≡ x) → P x → IfErr r P
-passed P (Ok v) x and p = absurd and
-passed P (Err y) x and p = subst P (sym and) p

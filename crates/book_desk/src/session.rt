@@ -1,5 +1,5 @@
 //! A session: what it has seen and made.
-ghost use Rattle.std.specs.Prelude.{◌≡◌, ◌+◌, ◌<◌, ◌≤◌, ◌^◌, ◌++◌, ◌∷◌, [], length, take, IfOk, IfErr, IfSome, IsTrue};
+ghost use Rattle.std.specs.Prelude.{◌≡◌, ◌+◌, ◌<◌, ◌≤◌, ◌^◌, ◌++◌, ◌∷◌, [], length, IfOk, IfErr, IfSome, IsTrue};
 ghost use Rattle.std.specs.Arc.{arc_value};
 ghost use Rattle.left_right.specs.Sides.{view as place_view};
 ghost use mathlib.Core.List.{IsPrefix};
@@ -75,14 +75,6 @@ impl Session {
         ensures { result ≡ (newest_in self.now.log).number }
     {
         self.newest
-    }
-
-    /// How many commands it made.
-    pub fn count(&self) -> u64
-        ensures room { result ≤ length (commands_of self.now.session self.now.log) }
-        ensures made { self.now.made ≡ take result (commands_of self.now.session self.now.log) }
-    {
-        self.count
     }
 
     /// What it has seen.

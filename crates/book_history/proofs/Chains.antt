@@ -3,7 +3,7 @@ use Rattle.std.proofs.Common.{◌≡◌, ℕ, ◌<◌, List, [], ◌∷◌, ◌+
 use Rattle.std.proofs.lemmas.List.Elements.{filter_map-append}
 use mathlib.Core.List.{IsPrefix}
 use Rattle.overlay_terms.specs.Histories.{Version, Event, Entry, IsHistory, BeginsWith, Follows, AllFollow, last_version, own_command, commands_of}
-use Rattle.book_history.specs.Logs.{entry, log_of, history_of, IsLog, newest_in}
+use Rattle.book_history.specs.Logs.{entry, history_of, IsLog, newest_in}
 
 pub last_more : (v : Version) (xs : List Entry) (e : Entry) → last_version v (xs ++ e ∷ []) ≡ e.version
 last_more v [] e = refl
@@ -36,11 +36,6 @@ begins_with (x ∷ xs) (y ∷ ys) long p =
     let first : x ≡ y = cc (p.1) in
     let rest : ys ≡ xs ++ p.0 = cc (p.1) in
     (p.0, λ i. record { start = (sym first i).version; entries = rest i })
-
--- a log is that of its history
-pub log_again : (xs : List Entry) → IsLog xs → log_of (history_of xs) ≡ xs
-log_again [] c = absurd c
-log_again (x ∷ xs) c = ap (λ (e : Event). record { event = e; version = x.version } ∷ xs) (sym c.0)
 
 -- the commands of a session in a log are those in its history
 pub commands_in_log : (by : ℕ) (xs : List Entry) → IsLog xs → commands_of by xs ≡ commands_of by (history_of xs).entries

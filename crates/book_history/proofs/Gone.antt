@@ -1,5 +1,5 @@
 -- What a fault says, told from its cases.
-use Rattle.std.proofs.Common.{◌≡◌, Bool, refl, ap, inl, Option, None}
+use Rattle.std.proofs.Common.{◌≡◌, Bool, refl, ap, sym, inl, subst, Option, None, Result, Ok, Err, IsErrAnd, IfErr}
 use Rattle.std.specs.Option.{option_map}
 use Rattle.overlay_terms.specs.Commands.{Command, refusal_at}
 use Rattle.overlay_terms.specs.Histories.{Version}
@@ -30,3 +30,8 @@ gone_map fault.Closing g h x = h x
 gone_map fault.Gone g h x = g x
 gone_map fault.NoStore g h x = h x
 gone_map (fault.Store r) g h x = h x
+
+-- what holds of a fault holds of the result that passes it up
+pub passed : {A E : Type 0} (P : E → Type 0) (r : Result A E) (x : E) → IsErrAnd r (λ y. y ≡ x) → P x → IfErr r P
+passed P (Ok v) x and p = absurd and
+passed P (Err y) x and p = subst P (sym and) p

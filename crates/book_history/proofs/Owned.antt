@@ -1,12 +1,10 @@
 -- What a session made, in a longer log.
 use Rattle.std.proofs.Common.{Bool, eq-eqb, ◌≡◌, ℕ, ◌+◌, ◌≤◌, List, [], ◌∷◌, ◌++◌, length, take, refl, ap, sym, ◌∙◌, arith, length-append, Option, Some, None, if◌then◌else◌}
 use Rattle.std.specs.List.{cons_option}
-use Rattle.std.proofs.lemmas.List.{take-append-le, take_all, append-nil}
+use Rattle.std.proofs.lemmas.List.{take-append-le, take_all}
 use mathlib.Core.List.{IsPrefix}
 use Rattle.overlay_terms.specs.Commands.{Command}
-use Rattle.overlay_terms.specs.Histories.{Entry}
-use Rattle.overlay_terms.specs.Histories.{Version}
-use Rattle.overlay_terms.specs.Histories.{accepted, own_command, commands_of}
+use Rattle.overlay_terms.specs.Histories.{Entry, Version, accepted, own_command, commands_of}
 use Rattle.book_history.specs.Logs.{entry}
 use Rattle.book_history.proofs.Chains.{own-append}
 
@@ -36,10 +34,6 @@ own_le by (x ∷ xs) = let a = own_le by xs in let d = one_more (own_command by 
 -- one more entry of a session is one more command of it, and of no other
 pub own_more : (by : ℕ) (xs : List Entry) (e : Entry) → commands_of by (xs ++ e ∷ []) ≡ commands_of by xs ++ cons_option (own_command by e.event) []
 own_more by xs e = own-append by xs (e ∷ [])
-
--- an entry that is no command leaves the commands
-pub own_same : (by : ℕ) (xs : List Entry) (e : Entry) → own_command by e.event ≡ None → commands_of by (xs ++ e ∷ []) ≡ commands_of by xs
-own_same by xs e none = own_more by xs e ∙ ap (λ (o : Option Command). commands_of by xs ++ cons_option o []) none ∙ append-nil (commands_of by xs)
 
 pub own_next : (by : ℕ) (xs : List Entry) (made : List Command) (c : Command) (v : Version) → commands_of by xs ≡ made → commands_of by (xs ++ entry (accepted by c) v ∷ []) ≡ made ++ c ∷ []
 own_next by xs made c v is =

@@ -1,4 +1,4 @@
--- Trails, and what a session and the reporter know, as data that a model's value may hold.
+-- Trails, and what a session knows, as data that a model's value may hold.
 use Rattle.std.specs.Prelude.{ℕ, List, refl}
 use Rattle.std.specs.Coded.{Coded, code_by, coded_list, coded×, coded_ℕ}
 use Rattle.overlay_terms.specs.Commands.{Command}
@@ -6,7 +6,7 @@ use Rattle.overlay_terms.specs.Histories.{Entry}
 use Rattle.logbook.specs.Pages.{Book, book_coded}
 use Rattle.book_history.specs.Codes.{entry_code, command_code}
 use Rattle.book_history.specs.Trails.{Trail}
-use Rattle.book_history.specs.Known.{Known, Heard}
+use Rattle.book_history.specs.Known.{Known}
 
 abbrev pub trail_code : Coded Trail
 trail_code =
@@ -15,7 +15,3 @@ trail_code =
 abbrev pub known_code : Coded Known
 known_code =
     code_by (Book × (ℕ × (List Entry × List Command))) (coded× book_coded (coded× coded_ℕ (coded× (coded_list entry_code) (coded_list command_code)))) (λ k. (k.book, (k.session, (k.log, k.made)))) (λ p. record { book = p.0; session = p.1.0; log = p.1.1.0; made = p.1.1.1 }) (λ _. refl)
-
-abbrev pub heard_code : Coded Heard
-heard_code =
-    code_by (Book × (List Entry × ℕ)) (coded× book_coded (coded× (coded_list entry_code) coded_ℕ)) (λ h. (h.book, (h.log, h.given))) (λ p. record { book = p.0; log = p.1.0; given = p.1.1 }) (λ _. refl)

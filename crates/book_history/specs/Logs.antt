@@ -11,10 +11,6 @@ entry event version = record { event = event; version = version }
 abbrev pub no_event : Event
 no_event = durable_to 0
 
--- a history as a log
-abbrev pub log_of : History → List Entry
-log_of history = entry no_event history.start ∷ history.entries
-
 -- the history of a log
 abbrev pub history_of : List Entry → History
 history_of [] = record { start = empty_version; entries = [] }

@@ -1,4 +1,4 @@
-//! One history that threads share, what the reporter has seen of it, and where a book stands beside its log.
+//! One history that threads share, and where a book stands beside its log.
 #![tactic(auto)]
 
 pub mod entry;
@@ -8,7 +8,6 @@ pub mod pending;
 pub mod place;
 pub mod press;
 pub mod published;
-pub mod reporter;
 pub mod slots;
 pub mod standing;
 pub mod trace;

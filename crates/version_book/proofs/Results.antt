@@ -1,18 +1,19 @@
 -- From what the lock's methods say of the log to what a call says of histories.
-use Rattle.std.proofs.Common.{◌≡◌, ◌⊎◌, inl, inr, ℕ, ◌<◌, ◌≤◌, Bool, true, List, [], ◌∷◌, ◌++◌, length, refl, ap, sym, ◌∙◌, subst, arith, append_assoc, Option, Some, None, IfSome, IfNone, Result, Ok, Err, IfOk, IfErr}
+use Rattle.std.proofs.Common.{◌≡◌, ℕ, ◌<◌, ◌≤◌, Bool, true, List, [], ◌∷◌, ◌++◌, length, refl, ap, sym, ◌∙◌, subst, arith, append_assoc, Option, Some, None, IfSome, IfNone, Result, Ok, Err, IfOk, IfErr}
 use mathlib.Core.List.{IsPrefix}
 use Rattle.overlay_terms.specs.Commands.{Command}
 use Rattle.overlay_terms.specs.Layers.{Name}
-use Rattle.overlay_terms.specs.Histories.{Version, Entry, accepted, commands_of, newest, BeginsWith}
+use Rattle.overlay_terms.specs.Histories.{Version, Entry, accepted, commands_of, newest, BeginsWith, IsHistory}
 use Rattle.book_history.specs.Logs.{entry, newest_in, history_of, IsAccepted, IsLog}
 use Rattle.book_history.specs.Fault.{IfGone, IsRefused}
-use Rattle.book_history.specs.Known.{Known, Heard, HasHeard, IsDurableAfter, seen, IsOwn}
+use Rattle.book_history.specs.Known.{Known, seen, IsOwn}
 use Rattle.book_desk.specs.Steps.{HasLooked, IsReportedIn}
+use Rattle.version_book.specs.Heard.{Heard, HasHeard, IsReportedBy}
 use Rattle.version_book.specs.Waits.{IsSyncRefused, IsSyncRefusedAt, IsWaitRefused, Looks}
 use Rattle.book_history.specs.declared.standing.Standing.{Standing}
 use Rattle.book_history.specs.declared.fault.BookFault.{BookFault}
 use Rattle.book_history.specs.declared.fault.BookFault.TheVariants as fault
-use Rattle.book_history.proofs.Chains.{begins_with, commands_in_log}
+use Rattle.book_history.proofs.Chains.{begins_with, commands_in_log, is_history}
 use Rattle.book_history.proofs.Fronts.{prefix_self, prefix_trans}
 use Rattle.book_history.proofs.Gone.{gone_or, gone_map}
 use Rattle.book_desk.proofs.Growing.{report_longer, report_reaches}
@@ -73,6 +74,10 @@ module _ (was now : Known) (log : List Entry) where
   looks_own (Ok n) h = looked_own was now log h
   looks_own (Err f) h = tt
 
+  pub looks_history : (r : Result ℕ BookFault) → Looks r was log now → IfOk r (λ _. IsHistory (seen now))
+  looks_history (Ok n) h = subst (λ (k : Known). IsHistory (seen k)) (sym h.knows) (is_history log h.valid)
+  looks_history (Err f) h = tt
+
   pub looks_err : (r : Result ℕ BookFault) → Looks r was log now → IfErr r (λ f. IfGone f (now ≡ was) (IsOwn now))
   looks_err (Ok n) h = tt
   looks_err (Err f) h = gone_map f (λ s. s) (looked_own was now log) h
@@ -110,6 +115,11 @@ module _ (was now : Known) (old new : List Entry) where
       sym (commands_in_log now.session now.log (subst IsLog (sym log) m.2)) ∙ (ap (λ l. commands_of now.session l) log ∙ ap (λ s. commands_of s new) same) ∙ m.1
   submit_own (Err f) A same b m = tt
 
+  pub submit_history : (r : Result ℕ BookFault) (A B : Type 0) → IfOk r (λ n. IsPrefix was.log old × (now.log ≡ new))
+      → IfOk r (λ _. A × B × IsLog new) → IfOk r (λ _. IsHistory (seen now))
+  submit_history (Ok n) A B b m = subst (λ l. IsHistory (history_of l)) (sym b.1) (is_history new m.2)
+  submit_history (Err f) A B b m = tt
+
   pub submit_err : (r : Result ℕ BookFault) (A B : BookFault → Type 0) → IfErr r (λ f. A f × B f × IfGone f (now ≡ was) (HasLooked was old now))
       → IfErr r (λ f. IfGone f (now ≡ was) ((now.made ≡ was.made) × IsOwn now))
   submit_err (Ok n) A B d = tt
@@ -127,19 +137,6 @@ module _ (was now : Known) (old new : List Entry) where
   submit_made (Err f) made A B m = tt
 
 -- ---- of a report
--- a number is not durable in one version where it is not in the other
-no_news_in : (old new : Version) (before n newest : ℕ) → (n ≤ old.durable) ⊎ (old.number < n) → new ≡ old → old.durable ≡ before
-    → newest ≡ new.number → (n ≤ before) ⊎ (newest < n)
-no_news_in old new before n newest (inl le) same durable number = inl (omega (arith, le, durable))
-no_news_in old new before n newest (inr lt) same durable number = inr (omega (arith, lt, ap (λ (v : Version). v.number) same, number))
-
-durable_after : (log after : List Entry) (before n newest m : ℕ) → IsReportedIn log n after → (newest_in log).durable ≡ before
-    → (newest_in after).durable ≡ m → newest ≡ (newest_in after).number → IsDurableAfter before n newest m
-durable_after log after before n newest m (inl f) durable told number =
-    inl (omega (arith, f.0.risen, durable), omega (arith, f.0.not_beyond, f.0.same_number, number), sym told ∙ f.0.durable)
-durable_after log after before n newest m (inr s) durable told number =
-    inr (no_news_in _ _ before n newest s.0.no_news s.0.same durable number, sym told ∙ ap (λ (v : Version). v.durable) s.0.same ∙ durable)
-
 module _ (was now : Heard) (log after : List Entry) (n : ℕ) where
   pub report_goes : (r : Result ℕ BookFault) (A : ℕ → Type 0) (B : BookFault → Type 0) → 0 < length was.log
       → IfOk r (λ m. IsReportedIn log n after × A m)
@@ -162,13 +159,19 @@ module _ (was now : Heard) (log after : List Entry) (n : ℕ) where
   report_ok (Ok m) A B C a b = ap (λ (t : Heard). (newest_in t.log).durable) b.1 ∙ a.1
   report_ok (Err f) A B C a b = tt
 
-  pub report_durable : (r : Result ℕ BookFault) (C : Type 0)
-      → IfOk r (λ m. IsReportedIn log n after × ((newest_in after).durable ≡ m))
+  pub report_by : (r : Result ℕ BookFault) (A : ℕ → Type 0) (C : Type 0) → IfOk r (λ m. IsReportedIn log n after × A m)
       → IfOk r (λ _. HasHeard log was × (now ≡ record { book = was.book; log = after; given = was.given }) × C)
-      → IfOk r (λ m. IsDurableAfter (newest_in was.log).durable n (newest_in now.log).number m)
-  report_durable (Ok m) C a b =
-      durable_after log after (newest_in was.log).durable n (newest_in now.log).number m a.0 b.0.durable a.1 (ap (λ (t : Heard). (newest_in t.log).number) b.1)
-  report_durable (Err f) C a b = tt
+      → IfOk r (λ _. IsReportedBy was n now.log)
+  report_by (Ok m) A C a b =
+      let there : IsReportedBy was n after = record { log = log; heard = b.0; reported = a.0 } in
+      subst (λ (t : Heard). IsReportedBy was n t.log) (sym b.1) there
+  report_by (Err f) A C a b = tt
+
+  pub report_history : (r : Result ℕ BookFault) (B : Type 0)
+      → IfOk r (λ _. B × (now ≡ record { book = was.book; log = after; given = was.given }) × IsLog after)
+      → IfOk r (λ _. IsHistory (history_of now.log))
+  report_history (Ok m) B b = subst (λ (t : Heard). IsHistory (history_of t.log)) (sym b.1) (is_history after b.2)
+  report_history (Err f) B b = tt
 
   pub report_err : (r : Result ℕ BookFault) (A : Type 0) (B : BookFault → Type 0) → IfErr r (λ f. A × (now ≡ was) × B f)
       → IfErr r (λ f. (now ≡ was) × B f)
@@ -223,6 +226,14 @@ module _ {V : Type 0} (was now : Heard) (log : List Entry) (news : ℕ) where
   news_newest (Ok (Some v)) of B C N a b = a.0 ∙ ap (λ (t : Heard). newest_in t.log) (sym b.1)
   news_newest (Ok None) of B C N a b = tt
   news_newest (Err f) of B C N a b = tt
+
+  pub news_history : (r : Result (Option V) BookFault) (A : V → Type 0) (B N : Type 0)
+      → IfOk r (λ o. IfSome o (λ v. A v × B × IsLog log))
+      → IfOk r (λ o. IfSome o (λ _. N × (now ≡ record { book = was.book; log = log; given = news })))
+      → IfOk r (λ o. IfSome o (λ _. IsHistory (history_of now.log)))
+  news_history (Ok (Some v)) A B N a b = subst (λ (t : Heard). IsHistory (history_of t.log)) (sym b.1) (is_history log a.2)
+  news_history (Ok None) A B N a b = tt
+  news_history (Err f) A B N a b = tt
 
   pub news_given : (r : Result (Option V) BookFault)
       → IfOk r (λ o. IfSome o (λ _. ¬ (news ≡ was.given) × (now ≡ record { book = was.book; log = log; given = news })))

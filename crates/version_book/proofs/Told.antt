@@ -9,7 +9,7 @@ use Rattle.overlay_terms.specs.Layers.{Name}
 use Rattle.overlay_terms.specs.Tiles.{Input, input_of}
 use Rattle.book_history.specs.Fault.{IfGone, IsRefused}
 use Rattle.book_history.specs.Free.{IsFree}
-use Rattle.book_history.specs.Known.{Heard, Known}
+use Rattle.book_history.specs.Known.{Known}
 use Rattle.book_history.specs.Logs.{newest_in, IsLog}
 use Rattle.book_history.specs.Trails.{Trail}
 use Rattle.book_history.specs.declared.slots.Slot.{Slot}
@@ -17,6 +17,7 @@ use Rattle.book_history.specs.declared.standing.Standing.{Standing}
 use Rattle.book_history.specs.declared.fault.BookFault.{BookFault}
 use Rattle.book_history.specs.declared.fault.BookFault.TheVariants as fault
 use Rattle.book_desk.specs.Steps.{HasLooked}
+use Rattle.version_book.specs.Heard.{Heard}
 use Rattle.version_book.specs.Jobs.{IsHandedOut, IsJob}
 use Rattle.version_book.specs.Waits.{IsAfterTold, Looks}
 
@@ -41,6 +42,14 @@ pub gone_err : {T : Type 0} (r : Result T BookFault) (x : BookFault) (Q : BookFa
     → IsErrAnd r (λ y. y ≡ x) → x ≡ fault.Gone → Q fault.Gone → IfErr r Q
 gone_err (Ok n) x Q is gone q = tt
 gone_err (Err f) x Q is gone q = subst Q (sym (is ∙ gone)) q
+
+-- a fact stands beside every other fault
+pub where_else : (f : BookFault) {B : Type 0} → B → IfGone f (Unit {0}) B
+where_else (fault.Version r) x = x
+where_else fault.Closing x = x
+where_else fault.Gone x = tt
+where_else fault.NoStore x = x
+where_else (fault.Store r) x = x
 
 pub gone_looks : (r : Result ℕ BookFault) (x : BookFault) (was now : Known) (log : List Entry)
     → IsErrAnd r (λ y. y ≡ x) → x ≡ fault.Gone → now ≡ was → Looks r was log now
@@ -96,11 +105,11 @@ loses_marks o P Q is q = subst (λ o. IfSome o (λ _. P) × IfNone o Q) (sym is)
 -- ---- of a reporter, and of a result that was looked at
 -- a reporter has moved on to a log of its book
 pub moved : (was now : Heard) (to : Trail) (given n : ℕ) (book : Book) (log : List Entry)
-    → now ≡ record { book = to.book; log = to.log; given = given } → to ≡ record { book = book; log = log }
-    → was.book ≡ book → given ≡ n → now ≡ record { book = was.book; log = log; given = n }
-moved was now to given n book log is at same news =
-    is ∙ ap (λ (t : Trail). record { book = t.book; log = t.log; given = given }) at
-    ∙ ap (λ b. record { book = b; log = log; given = given }) (sym same) ∙ ap (λ k. record { book = was.book; log = log; given = k }) news
+    → now ≡ record { book = was.book; log = to.log; given = given } → to ≡ record { book = book; log = log }
+    → given ≡ n → now ≡ record { book = was.book; log = log; given = n }
+moved was now to given n book log is at news =
+    is ∙ ap (λ (t : Trail). record { book = was.book; log = t.log; given = given }) at
+    ∙ ap (λ k. record { book = was.book; log = log; given = k }) news
 
 -- the durable number that stands in the version of a log's end
 pub durable_there : (at : Trail) (book : Book) (log : List Entry) (end version : Version) {durable : ℕ} → at ≡ record { book = book; log = log }

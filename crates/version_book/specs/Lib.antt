@@ -1,3 +1,4 @@
+pub mod Heard
 pub mod Jobs
 pub mod Waits
 pub use Rattle.book_desk.specs.Steps

@@ -45,8 +45,8 @@ pub record IsBuiltAt (version : Version) (name : Name) (number : ℕ) : Type 0 w
   pub built : IsBuilt version name
   pub numbered : version.number ≡ number
 
--- why a wait for the tiles of a layer is refused: no tiles can be asked for; or some are not finished, and memory ran
--- out for one, or the book closes, where it may; or the book is behind
+-- why a wait for the tiles of a layer is refused: no tiles can be asked for; or some are not finished, and either a
+-- want of memory is told or the book closes, where it may; or the book is behind
 abbrev pub IsWaitRefused : Bool → Version → Name → BookFault → Type 0
 IsWaitRefused closing version name (fault.Version refused) =
     (wait_refusal version name ≡ Some refused)

@@ -1,16 +1,16 @@
 //! The end of a book, under the lock.
 ghost use Rattle.std.specs.Prelude.{◌≡◌, ◌≤◌, All, IsTrue};
 ghost use Rattle.std.specs.Arc.{arc_value};
-ghost use Rattle.book_history.specs.Known.{HasHeard};
 ghost use Rattle.book_history.specs.Logs.{newest_in, IsLog};
 ghost use Rattle.book_history.specs.Standing.{IsAfterClosing};
 ghost use Rattle.book_desk.specs.Steps.{HasAllOf, IsLevel};
+ghost use Rattle.version_book.specs.Heard.{HasHeard};
 
+use crate::reporter::Reporter;
 use crate::shelf::Shelf;
 pub use book_desk::closed::Closed;
 use book_desk::desk::Desk;
 use book_desk::session::Session;
-use book_history::reporter::Reporter;
 use book_history::trace::Naming;
 use std::sync::Wait;
 

@@ -4,6 +4,7 @@
 pub mod closing;
 pub mod crossing;
 mod opening;
+pub mod reporter;
 pub mod shared;
 mod shelf;
 mod telling;
@@ -16,11 +17,6 @@ pub mod job {
 /// Why a call on the book is refused.
 pub mod fault {
     pub use book_history::fault::{BookFault, StoreFault, StoreText, Text};
-}
-
-/// The one token that may report durable numbers.
-pub mod reporter {
-    pub use book_history::reporter::Reporter;
 }
 
 /// A session: what it has seen and made.

@@ -2,19 +2,21 @@
 ghost use Rattle.std.specs.Prelude.{◌≡◌, ◌⊎◌, ◌<◌, ◌≤◌, [], ◌∷◌, ◌++◌, IfOk, IfErr, IfSome, IfNone, All};
 ghost use Rattle.std.specs.Prelude.{length, true};
 ghost use Rattle.std.specs.Arc.{arc_value};
-ghost use Rattle.overlay_terms.specs.Histories.{BeginsWith, newest};
+ghost use Rattle.overlay_terms.specs.Histories.{newest, BeginsWith, IsHistory};
 ghost use Rattle.layer_book.specs.Command.{command};
 ghost use Rattle.book_history.specs.Fault.{IfGone, IsRefused, no_memory};
-ghost use Rattle.book_history.specs.Known.{seen, HasHeard, IsDurableAfter, IsOwn};
+ghost use Rattle.book_history.specs.Known.{seen, IsOwn};
 ghost use Rattle.book_history.specs.Logs.{entry, history_of, newest_in, no_event, IsAccepted, IsLog};
 ghost use Rattle.book_history.specs.Rules.{head_of};
 ghost use Rattle.book_desk.specs.Steps.{beginners, HasAllOf};
+ghost use Rattle.version_book.specs.Heard.{HasHeard, IsReportedBy};
 ghost use Rattle.version_book.specs.Jobs.{IsJob};
 ghost use Rattle.version_book.specs.Waits.{IsBuiltAt, IsSyncRefused, IsWaitRefused};
 
 use crate::closing::{Closed, begin_close, has_all_of, into_closed};
 use crate::job::Job;
 use crate::opening::open;
+use crate::reporter::Reporter;
 use crate::shelf::Shelf;
 use crate::telling::{
     is_building, is_idle, is_quiet, is_writing, report, store_failed, tell_built, tell_durable,
@@ -22,7 +24,6 @@ use crate::telling::{
 };
 use book_desk::session::Session;
 use book_history::fault::{BookFault, StoreFault};
-use book_history::reporter::Reporter;
 use book_history::trace::{Head, Naming, Trace};
 use layer_book::command::Command;
 use layer_expr::name::Name;
@@ -77,6 +78,7 @@ impl<J: Naming, R: Wait + Drop> Shared<J, R> {
     ) -> Result<u64, BookFault>
         requires book { me.old.book ≡ J.book }
         ensures goes_on { BeginsWith (seen me.new) (seen me.old) }
+        ensures history { IfOk result (λ _. IsHistory (seen me.new)) }
         ensures ok { IfOk result (λ n. IsAccepted me.old.session (seen me.old) (command change.now) (seen me.new) n) }
         ensures made { IfOk result (λ _. me.new.made ≡ me.old.made ++ command change.now ∷ []) }
         ensures own { IfOk result (λ _. IsOwn me.new) }
@@ -147,6 +149,7 @@ impl<J: Naming, R: Wait + Drop> Shared<J, R> {
     ) -> Result<u64, BookFault>
         requires book { me.old.book ≡ J.book }
         ensures goes_on { BeginsWith (seen me.new) (seen me.old) }
+        ensures history { IfOk result (λ _. IsHistory (seen me.new)) }
         ensures ok { IfOk result (λ n. IsBuiltAt (newest (seen me.new)) name.now n) }
         ensures own { IfOk result (λ _. IsOwn me.new) }
         ensures err { IfErr result (λ fault. IfGone fault (me.new ≡ me.old) (IsOwn me.new)) }
@@ -166,6 +169,7 @@ impl<J: Naming, R: Wait + Drop> Shared<J, R> {
     pub fn wait_durable<W: Wait>(&self, rt: &W, me: &mut Session) -> Result<u64, BookFault>
         requires book { me.old.book ≡ J.book }
         ensures goes_on { BeginsWith (seen me.new) (seen me.old) }
+        ensures history { IfOk result (λ _. IsHistory (seen me.new)) }
         ensures ok { IfOk result (λ n. ((newest (seen me.new)).durable ≡ n) × ((newest (seen me.old)).number ≤ n)) }
         ensures own { IfOk result (λ _. IsOwn me.new) }
         ensures err { IfErr result (λ fault. IfGone fault (me.new ≡ me.old) (IsOwn me.new)) }
@@ -191,6 +195,7 @@ impl<J: Naming, R: Wait + Drop> Shared<J, R> {
     ) -> Result<Option<Arc<Version, Global>>, BookFault>
         requires book { me.old.book ≡ J.book }
         ensures goes_on { BeginsWith (history_of me.new.log) (history_of me.old.log) }
+        ensures history { IfOk result (λ o. IfSome o (λ _. IsHistory (history_of me.new.log))) }
         ensures newest { IfOk result (λ o. IfSome o (λ version. arc_value version ≡ newest_in me.new.log)) }
         ensures news { IfOk result (λ o. IfSome o (λ _. ¬ (me.new.given ≡ me.old.given))) }
         ensures none { IfOk result (λ o. IfNone o (me.new ≡ me.old)) }
@@ -215,9 +220,9 @@ impl<J: Naming, R: Wait + Drop> Shared<J, R> {
     ) -> Result<u64, BookFault>
         requires book { me.old.book ≡ J.book }
         ensures goes_on { BeginsWith (history_of me.new.log) (history_of me.old.log) }
+        ensures history { IfOk result (λ _. IsHistory (history_of me.new.log)) }
         ensures ok { IfOk result (λ m. (newest_in me.new.log).durable ≡ m) }
-        ensures durable { IfOk result
-            (λ m. IsDurableAfter (newest_in me.old.log).durable number (newest_in me.new.log).number m) }
+        ensures reported { IfOk result (λ _. IsReportedBy me.old number me.new.log) }
         ensures reached { IfOk result (λ m. number ≤ (newest_in me.old.log).number → number ≤ m) }
         ensures err { IfErr result (λ fault. (me.new ≡ me.old) × ((fault ≡ no_memory) ⊎ (fault ≡ BookFault.Gone))) }
         ensures same { (me.new.book ≡ me.old.book) × (me.new.given ≡ me.old.given) }
@@ -248,8 +253,8 @@ impl<J: Naming, R: Wait + Drop> Shared<J, R> {
         self.changed.notify_all();
     }
 
-    /// Ends the book once the threads that share it have returned. Were one of these tokens ahead of it, which cannot
-    /// come, it would wait for ever.
+    /// Ends the book once the threads that share it have returned. Were one of these tokens not level with it, which
+    /// cannot come, it would wait for ever.
     pub fn into_closed<W: Wait>(self, rt: &W, reporter: &Reporter, sessions: &[Session]) -> Closed
         requires reporter { reporter.now.book ≡ J.book }
         requires sessions { All (λ session. session.book ≡ J.book) sessions.now }

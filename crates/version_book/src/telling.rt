@@ -2,18 +2,18 @@
 ghost use Rattle.std.specs.Prelude.{◌≡◌, ◌⊎◌, ◌<◌, ◌≤◌, ◌↔◌, IsTrue, length, IfOk, IfErr, IfSome, IfNone};
 ghost use Rattle.std.specs.Arc.{arc_value};
 ghost use Rattle.book_history.specs.Fault.{IfGone, no_memory};
-ghost use Rattle.book_history.specs.Known.{HasHeard};
 ghost use Rattle.book_history.specs.Logs.{newest_in, IsLog};
 ghost use Rattle.book_history.specs.Standing.{IsAfterFailure};
 ghost use Rattle.book_desk.specs.Steps.{IsLevel, IsReportedIn};
+ghost use Rattle.version_book.specs.Heard.{HasHeard};
 ghost use Rattle.version_book.specs.Waits.{IsAfterTold, IsBuilding, IsBuiltAt, IsIdle, IsQuiet, IsSyncRefusedAt};
 ghost use Rattle.version_book.specs.Waits.{IsWaitRefused, IsWriting, Looks};
 
+use crate::reporter::Reporter;
 use crate::shelf::Shelf;
 use book_desk::session::Session;
 use book_history::fault::{BookFault, StoreFault};
 use book_history::making::NO_MEMORY;
-use book_history::reporter::Reporter;
 use book_history::trace::Naming;
 use layer_expr::name::Name;
 use std::alloc::Global;
@@ -129,7 +129,7 @@ pub(crate) fn tell_news<J: Naming, R: Wait + Drop>(
     ensures none { IfOk result (λ o. IfNone o (IsTrue shelf.now.standing.closing
         × (shelf.now.standing.news ≡ me.old.given) × (me.new ≡ me.old))) }
     ensures err { IfErr result (λ fault. (me.new ≡ me.old) × ((fault ≡ no_memory) ⊎ (fault ≡ BookFault.Gone))) }
-    ensures gone { IfErr result (λ fault. IfGone fault (¬ (HasHeard shelf.now.desk me.old)) (Unit {0})) }
+    ensures gone { IfErr result (λ fault. IfGone fault (¬ (HasHeard shelf.now.desk me.old)) (HasHeard shelf.now.desk me.old)) }
 {
     let last = shelf.desk.last();
     let durable = last.version.durable();
@@ -163,6 +163,7 @@ pub(crate) fn report<J: Naming, R: Wait + Drop>(
     ensures standing { shelf.new.standing ≡ shelf.old.standing }
     ensures err { IfErr result (λ fault. (shelf.new.desk ≡ shelf.old.desk) × (me.new ≡ me.old)
         × ((fault ≡ no_memory) ⊎ (fault ≡ BookFault.Gone))) }
+    ensures heard { IfErr result (λ fault. IfGone fault (Unit {0}) (HasHeard shelf.old.desk me.old)) }
 {
     let given = me.given();
     let last = shelf.desk.last();

@@ -1,9 +1,13 @@
 use Rattle.std.proofs.Common.{inr, refl, ap, sym, ◌∙◌, subst}
 use Rattle.std.proofs.lemmas.Result.{IfOk-from_err}
-use Rattle.book_history.specs.Known.{HasHeard}
+use Rattle.version_book.specs.Heard.{HasHeard}
 use Rattle.book_history.specs.Logs.{newest_in}
-use Rattle.book_desk.proofs.Beginning.{passed}
-use Rattle.version_book.proofs.Told.{durable_there, moved}
+use mathlib.Core.List.{IsPrefix}
+use Rattle.book_history.specs.Trails.{Trail}
+use Rattle.book_history.proofs.Fronts.{prefix_trans}
+use Rattle.book_history.proofs.Gone.{passed}
+use Rattle.book_desk.proofs.Growing.{report_longer}
+use Rattle.version_book.proofs.Told.{durable_there, moved, where_else}
 use Rattle.version_book.proofs.telling.report.Goals as goal
 
 pub is_level-requires : goal.is_level-requires
@@ -16,15 +20,24 @@ is_level-requires g c =
 
 pub move_on-requires : goal.move_on-requires
 move_on-requires g c =
-    ap (λ t. (newest_in t.log).durable) c.last.ensures.trace ∙ c.in_ok-durable.ensures.ok.1
+    let last = c.last.ensures.trace in
+    let was = ap (λ t. t.log) c.last-last.ensures.trace in
+    let heard = subst (λ l. HasHeard l c.args.me.now) was (c.if-not-is_level.ensures.0 refl) in
+    let more = report_longer _ _ _ c.in_ok-durable.ensures.ok.0 in
+    record {
+      durable = ap (λ t. (newest_in t.log).durable) last ∙ c.in_ok-durable.ensures.ok.1;
+      book = ap (λ t. t.book) last ∙ sym c.requires.book;
+      longer = subst (λ (t : Trail). IsPrefix c.args.me.now.log t.log) (sym last) (prefix_trans _ _ _ heard.longer more);
+    }
 
 pub returns-then-not-is_level : goal.returns-then-not-is_level
 returns-then-not-is_level g c =
-    record { ok = tt; seen = tt; begun = c.given-given.ensures.begun; standing = refl; err = (refl, refl, inr refl) }
+    record { ok = tt; seen = tt; begun = c.given-given.ensures.begun; standing = refl; err = (refl, refl, inr refl); heard = tt }
 
 pub returns-in_err-durable : goal.returns-in_err-durable
 returns-in_err-durable g c =
     let failed = c.from_residual.ensures in
+    let log = ap (λ t. t.log) c.last-last.ensures.trace in
     let e = c.in_err-durable.ensures.err in
     record {
       ok = IfOk-from_err _ _ failed.0;
@@ -32,6 +45,7 @@ returns-in_err-durable g c =
       begun = c.given-given.ensures.begun;
       standing = refl;
       err = passed _ _ _ failed.1 (e.0, refl, e.1);
+      heard = passed _ _ _ failed.1 (where_else _ (subst (λ l. HasHeard l c.args.me.now) log (c.if-not-is_level.ensures.0 refl)));
     }
 
 pub returns : goal.returns
@@ -42,10 +56,11 @@ returns g c =
       ok = c.in_ok-durable.ensures.ok;
       seen = (
         subst (λ l. HasHeard l c.args.me.now) log (c.if-not-is_level.ensures.0 refl),
-        moved c.args.me.now _ _ _ _ _ _ c.move_on.ensures last.trace c.requires.book c.given-given.ensures.value,
+        moved c.args.me.now _ _ _ _ _ _ c.move_on.ensures last.trace c.given-given.ensures.value,
         last.log,
       );
       begun = c.given-given.ensures.begun;
       standing = refl;
       err = tt;
+      heard = tt;
     }

@@ -1,6 +1,6 @@
 use Rattle.std.proofs.Common.{inl, inr, rules, refl, ap, sym, ◌∙◌, subst}
 use mathlib.Core.Bool.{true≢false}
-use Rattle.book_history.specs.Known.{HasHeard}
+use Rattle.version_book.specs.Heard.{HasHeard}
 use Rattle.version_book.proofs.Told.{durable_there, moved}
 use Rattle.version_book.proofs.telling.tell_news.Goals as goal
 
@@ -15,7 +15,11 @@ is_level-requires g c =
 pub move_on-requires : goal.move_on-requires
 move_on-requires g c =
     let last = c.last-last.ensures in
-    durable_there _ _ _ _ _ last.trace last.version c.deref.ensures c.durable-durable.ensures.value
+    record {
+      durable = durable_there _ _ _ _ _ last.trace last.version c.deref.ensures c.durable-durable.ensures.value;
+      book = ap (λ t. t.book) last.trace ∙ sym c.requires.book;
+      longer = (c.if-not-is_level.ensures.0 refl).longer;
+    }
 
 pub returns-then-not-is_level : goal.returns-then-not-is_level
 returns-then-not-is_level g c =
@@ -30,7 +34,15 @@ returns-then-not-is_level g c =
     }
 
 pub returns-in_default : goal.returns-in_default
-returns-in_default g c = record { some = tt; news = tt; none = tt; err = (refl, inl refl); gone = tt }
+returns-in_default g c =
+    let log = ap (λ t. t.log) c.last-last.ensures.trace in
+    record {
+      some = tt;
+      news = tt;
+      none = tt;
+      err = (refl, inl refl);
+      gone = subst (λ l. HasHeard l c.args.me.now) log (c.if-not-is_level.ensures.0 refl);
+    }
 
 pub returns : goal.returns
 returns g c =
@@ -41,7 +53,7 @@ returns g c =
         subst (λ l. HasHeard l c.args.me.now) log (c.if-not-is_level.ensures.0 refl),
         c.last-last.ensures.log,
       );
-      news = (search rules, moved c.args.me.now _ _ _ _ _ _ c.move_on.ensures c.last-last.ensures.trace c.requires.book refl);
+      news = (search rules, moved c.args.me.now _ _ _ _ _ _ c.move_on.ensures c.last-last.ensures.trace refl);
       none = tt;
       err = tt;
       gone = tt;

@@ -4,7 +4,7 @@ use Rattle.std.specs.Arc.{arc_value}
 use Rattle.overlay_terms.specs.Histories.{kept, Follows, FollowsTile}
 use Rattle.version_core.specs.Finish.{IsAwaited}
 use Rattle.book_history.specs.Logs.{newest_in}
-use Rattle.book_desk.proofs.Beginning.{passed}
+use Rattle.book_history.proofs.Gone.{passed}
 use Rattle.book_desk.proofs.Growing.{given, missing, newest_of, told_by}
 use Rattle.book_desk.proofs.desk.Desk.keep.Goals as goal
 

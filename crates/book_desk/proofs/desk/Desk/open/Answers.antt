@@ -4,7 +4,8 @@ use Rattle.overlay_terms.specs.Histories.{commands_of}
 use Rattle.book_history.specs.Logs.{newest_in}
 use Rattle.book_history.specs.Trails.{Trail}
 use Rattle.book_desk.specs.Steps.{beginners}
-use Rattle.book_desk.proofs.Beginning.{none_yet, passed}
+use Rattle.book_desk.proofs.Beginning.{none_yet}
+use Rattle.book_history.proofs.Gone.{passed}
 use Rattle.book_desk.proofs.desk.Desk.open.Goals as goal
 
 pub returns-in_err-version : goal.returns-in_err-version

@@ -2,7 +2,7 @@ use Rattle.std.proofs.Common.{◌⊎◌, ◌<◌, ◌≤◌, ap, sym, ◌∙◌,
 use Rattle.overlay_terms.specs.Histories.{FollowsReport}
 use Rattle.book_history.specs.Logs.{newest_in}
 use Rattle.std.proofs.lemmas.Result.{IfOk-from_err}
-use Rattle.book_desk.proofs.Beginning.{passed}
+use Rattle.book_history.proofs.Gone.{passed}
 use Rattle.book_desk.proofs.Growing.{newest_of, told_by, reports}
 use Rattle.book_desk.proofs.desk.Desk.report.Goals as goal
 use Rattle.book_desk.proofs.desk.Desk.report.Goals.{then-number-durable-via-then-number-durable, then-number-durable-via-else-number-durable+then-number}

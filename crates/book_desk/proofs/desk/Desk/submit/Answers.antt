@@ -7,11 +7,10 @@ use Rattle.book_history.specs.Fault.{IfGone, IsRefused}
 use Rattle.book_history.specs.Logs.{newest_in}
 use Rattle.book_history.proofs.Fronts.{prefix_trans}
 use Rattle.std.proofs.lemmas.Result.{IfOk-from_err}
-use Rattle.book_desk.proofs.Beginning.{passed}
 use Rattle.book_desk.proofs.Growing.{newest_of, told_by}
 use Rattle.book_history.specs.Trails.{Trail}
 use Rattle.book_history.proofs.Owned.{own_le, own_then}
-use Rattle.book_history.proofs.Gone.{gone_map}
+use Rattle.book_history.proofs.Gone.{gone_map, passed}
 use Rattle.book_desk.specs.Steps.{HasLooked}
 use Rattle.book_desk.proofs.desk.Desk.submit.Goals as goal
 

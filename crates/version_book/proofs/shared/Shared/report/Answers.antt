@@ -1,4 +1,4 @@
-use Rattle.version_book.proofs.Results.{report_durable, report_err, report_goes, report_ok, report_reached, report_same}
+use Rattle.version_book.proofs.Results.{report_by, report_err, report_goes, report_history, report_ok, report_reached, report_same}
 use Rattle.version_book.proofs.shared.Shared.report.Goals as goal
 
 pub returns : goal.returns
@@ -14,7 +14,8 @@ returns g c =
     record {
       goes_on = report_goes me new log after n r _ _ c.given-given.ensures.begun e.ok e.seen e.err;
       ok = report_ok me new log after n r _ _ _ e.ok e.seen;
-      durable = report_durable me new log after n r _ e.ok e.seen;
+      history = report_history me new log after n r _ e.seen;
+      reported = report_by me new log after n r _ _ e.ok e.seen;
       reached = report_reached me new log after n r _ c.given-given.ensures.begun e.ok e.seen;
       err = report_err me new log after n r _ _ e.err;
       same = report_same me new log after n r _ _ _ _ e.seen e.err;

@@ -3,7 +3,8 @@ use Rattle.std.specs.List.{All}
 use Rattle.book_history.specs.Known.{Known}
 use Rattle.book_history.specs.Logs.{newest_in}
 use Rattle.book_history.specs.Trails.{Trail}
-use Rattle.book_desk.proofs.Beginning.{all_begin, count_of, passed}
+use Rattle.book_desk.proofs.Beginning.{all_begin, count_of}
+use Rattle.book_history.proofs.Gone.{passed}
 use Rattle.version_book.proofs.Told.{gone_ok}
 use Rattle.version_book.proofs.shared.Shared.start.Goals as goal
 

@@ -1,7 +1,7 @@
 use Rattle.std.proofs.Common.{true}
 use Rattle.book_history.specs.Logs.{newest_in}
 use Rattle.version_book.specs.Waits.{IsBuiltAt, IsWaitRefused}
-use Rattle.version_book.proofs.Results.{looks_err, looks_goes, looks_ok, looks_own, looks_refused, looks_same, wait_refused}
+use Rattle.version_book.proofs.Results.{looks_err, looks_goes, looks_history, looks_ok, looks_own, looks_refused, looks_same, wait_refused}
 use Rattle.version_book.proofs.shared.Shared.wait_built.Goals as goal
 
 pub returns : goal.returns
@@ -15,6 +15,7 @@ returns g c =
     let seen = s.ensures.seen in
     record {
       goes_on = looks_goes me now log s.result c.number-number.ensures.begun seen;
+      history = looks_history me now log s.result seen;
       ok = looks_ok me now log s.result (λ v n. IsBuiltAt v name n) seen s.ensures.ok;
       own = looks_own me now log s.result seen;
       err = looks_err me now log s.result seen;

@@ -3,7 +3,7 @@ use Rattle.overlay_terms.specs.Histories.{newest}
 use Rattle.book_history.specs.Known.{seen}
 use Rattle.book_history.specs.Logs.{newest_in}
 use Rattle.version_book.specs.Waits.{IsSyncRefused}
-use Rattle.version_book.proofs.Results.{looks_err, looks_goes, looks_ok, looks_own, looks_refused, looks_same, sync_refused}
+use Rattle.version_book.proofs.Results.{looks_err, looks_goes, looks_history, looks_ok, looks_own, looks_refused, looks_same, sync_refused}
 use Rattle.version_book.proofs.shared.Shared.wait_durable.Goals as goal
 
 pub returns : goal.returns
@@ -16,6 +16,7 @@ returns g c =
     let looks = s.ensures.seen in
     record {
       goes_on = looks_goes me now log s.result c.number-number.ensures.begun looks;
+      history = looks_history me now log s.result looks;
       ok = looks_ok me now log s.result (λ v n. (v.durable ≡ n) × ((newest (seen me)).number ≤ n)) looks
           (subst (λ m. IfOk s.result (λ n. ((newest_in log).durable ≡ n) × (m ≤ n))) c.newest-number.ensures s.ensures.ok);
       own = looks_own me now log s.result looks;

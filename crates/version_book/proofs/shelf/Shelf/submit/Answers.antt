@@ -3,7 +3,7 @@ use Rattle.std.proofs.lemmas.Result.{IfOk-from_err}
 use mathlib.Core.Bool.{true≢false}
 use Rattle.layer_book.specs.Command.{command}
 use Rattle.book_history.specs.Logs.{newest_in}
-use Rattle.book_desk.proofs.Beginning.{passed}
+use Rattle.book_history.proofs.Gone.{passed}
 use Rattle.version_book.proofs.Told.{away_looks, away_refused, away_same, open_refused, passed_as, IsTurnedAway}
 use Rattle.version_book.proofs.shelf.Shelf.submit.Goals as goal
 

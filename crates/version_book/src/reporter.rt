@@ -1,9 +1,10 @@
 //! The one token that may report durable numbers.
 ghost use Rattle.std.specs.Prelude.{◌≡◌, ◌<◌, ◌↔◌, length, IsTrue};
-ghost use Rattle.book_history.specs.Known.{HasHeard};
+ghost use mathlib.Core.List.{IsPrefix};
 ghost use Rattle.book_history.specs.Logs.{newest_in, IsLog};
+ghost use Rattle.version_book.specs.Heard.{HasHeard};
 
-use crate::trace::Trace;
+use book_history::trace::Trace;
 use std::marker::Model;
 
 /// The one token that may report durable numbers: what it has seen, the durable number there, and which news it gave
@@ -17,9 +18,8 @@ pub struct Reporter {
 
 impl Model for Reporter {
     ghost use Rattle.std.specs.Prelude.{◌≡◌};
-    ghost use Rattle.book_history.specs.Known.{Heard};
-    ghost use Rattle.book_history.specs.KnownCodes.{heard_code};
     ghost use Rattle.book_history.specs.Logs.{newest_in};
+    ghost use Rattle.version_book.specs.Heard.{Heard, heard_code};
 
     ghost Value = { Heard };
 
@@ -32,7 +32,7 @@ impl Model for Reporter {
 
 impl Reporter {
     /// A reporter that has seen this, where so much is durable, and gave nothing.
-    pub fn new(trace: Trace, durable: u64) -> Reporter
+    pub(crate) fn new(trace: Trace, durable: u64) -> Reporter
         requires { (newest_in trace.log).durable ≡ durable }
         ensures { result ≡ record { book = trace.book; log = trace.log; given = 0 } }
     {
@@ -54,7 +54,7 @@ impl Reporter {
     }
 
     /// Whether a log, where so much is durable, has all that it has seen, and no durable number that it did not report.
-    pub fn is_level(&self, now: &Trace, durable: u64) -> bool
+    pub(crate) fn is_level(&self, now: &Trace, durable: u64) -> bool
         requires book { now.now.book ≡ self.now.book }
         requires durable { (newest_in now.now.log).durable ≡ durable }
         ensures { IsTrue result ↔ HasHeard now.now.log self.now }
@@ -63,10 +63,12 @@ impl Reporter {
         self.trace.at() <= now.at() && self.durable == durable
     }
 
-    /// Sees a log, where so much is durable, with the count of news that it gives with it.
-    pub fn move_on(&mut self, to: &Trace, durable: u64, given: u64)
-        requires { (newest_in to.now.log).durable ≡ durable }
-        ensures { self.new ≡ record { book = to.now.book; log = to.now.log; given = given } }
+    /// Sees a longer log, where so much is durable, with the count of news that it gives with it.
+    pub(crate) fn move_on(&mut self, to: &Trace, durable: u64, given: u64)
+        requires durable { (newest_in to.now.log).durable ≡ durable }
+        requires book { to.now.book ≡ self.old.book }
+        requires longer { IsPrefix self.old.log to.now.log }
+        ensures { self.new ≡ record { book = self.old.book; log = to.now.log; given = given } }
     {
         self.trace = to.again();
         self.durable = durable;
