@@ -3,7 +3,6 @@
 
 pub mod closing;
 pub mod crossing;
-mod opening;
 pub mod reporter;
 pub mod shared;
 mod shelf;

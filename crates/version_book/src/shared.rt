@@ -15,15 +15,16 @@ ghost use Rattle.version_book.specs.Waits.{IsBuiltAt, IsSyncRefused, IsWaitRefus
 
 use crate::closing::{Closed, begin_close, has_all_of, into_closed};
 use crate::job::Job;
-use crate::opening::open;
 use crate::reporter::Reporter;
 use crate::shelf::Shelf;
 use crate::telling::{
     is_building, is_idle, is_quiet, is_writing, report, store_failed, tell_built, tell_durable,
     tell_news,
 };
+use book_desk::desk::Desk;
 use book_desk::session::Session;
 use book_history::fault::{BookFault, StoreFault};
+use book_history::standing::Standing;
 use book_history::trace::{Head, Naming, Trace};
 use layer_book::command::Command;
 use layer_expr::name::Name;
@@ -60,9 +61,10 @@ impl<J: Naming, R: Wait + Drop> Shared<J, R> {
         ensures err { IfErr result (λ fault. (fault ≡ no_memory) ⊎ (fault ≡ BookFault.Gone)) }
     {
         let reporter = Reporter::new(trace.again(), version.durable());
-        let (shelf, list) = open(rt, alloc, head, trace, version, store, sessions)?;
+        let (desk, list) = Desk::open(rt, alloc, head, trace, version, sessions)?;
+        let standing = Standing::new(alloc, store);
         let shared = Shared {
-            shelf: Mutex::new(shelf),
+            shelf: Mutex::new(Shelf { desk, standing }),
             changed: Condvar::new(),
         };
         Ok((shared, reporter, list))
@@ -121,12 +123,9 @@ impl<J: Naming, R: Wait + Drop> Shared<J, R> {
         ensures refused { IfErr result (λ e. (e.2 ≡ no_memory) ⊎ (e.2 ≡ BookFault.Gone)) }
     {
         let mut shelf = self.shelf.lock(rt);
-        let done = shelf.finish(alloc, job, &built);
+        let done = shelf.finish(alloc, job, built);
         self.changed.notify_all();
-        match done {
-            Ok(kept) => Ok(kept),
-            Err((job, fault)) => Err((job, built, fault)),
-        }
+        done
     }
 
     /// Spends a job whose tile could not be built for want of memory: the tile is marked.

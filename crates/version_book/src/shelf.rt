@@ -61,26 +61,27 @@ impl<J: Naming, R: Wait + Drop> Shelf<J, R> {
     }
 
     /// Spends a job: keeps the tile that was built of its input where it is awaited, and says whether it was, by one
-    /// entry or none. The tile is not handed out any more. Where that cannot be written down, the job comes back.
+    /// entry or none. The tile is not handed out any more. Where that cannot be written down, both come back.
     pub fn finish(
         &mut self,
         alloc: Global,
         job: Job,
-        built: &Built,
-    ) -> Result<bool, (Job, BookFault)>
+        built: Built,
+    ) -> Result<bool, (Job, Built, BookFault)>
         requires book { job.book ≡ J.book }
-        requires input { built.now.0 ≡ job.input }
+        requires input { built.0 ≡ job.input }
         ensures log { IfOk result
-            (λ is_kept. IsFinishedIn self.old.desk job.name job.input built.now.1 is_kept self.new.desk) }
+            (λ is_kept. IsFinishedIn self.old.desk job.name job.input built.1 is_kept self.new.desk) }
         ensures standing { IfOk result
             (λ is_kept. IsAfterFinish self.old.standing job.name job.input.column is_kept self.new.standing) }
         ensures err { IfErr result
-            (λ e. (e.0 ≡ job) × (self.new.desk ≡ self.old.desk) × (self.new.standing ≡ self.old.standing)) }
-        ensures refused { IfErr result (λ e. (e.1 ≡ no_memory) ⊎ (e.1 ≡ BookFault.Gone)) }
+            (λ e. (e.0 ≡ job) × (e.1 ≡ built) × (self.new.desk ≡ self.old.desk)
+            × (self.new.standing ≡ self.old.standing)) }
+        ensures refused { IfErr result (λ e. (e.2 ≡ no_memory) ⊎ (e.2 ≡ BookFault.Gone)) }
     {
-        let kept = match self.desk.keep(alloc, job.name(), built) {
+        let kept = match self.desk.keep(alloc, job.name(), &built) {
             Ok(kept) => kept,
-            Err(fault) => return Err((job, fault)),
+            Err(fault) => return Err((job, built, fault)),
         };
         self.standing
             .job_finished(job.name(), job.input().column().number(), kept);
