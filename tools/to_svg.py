@@ -1,0 +1,203 @@
+#!/usr/bin/env python3
+"""Draws a derived layer of overlayd: base edges thin, its boundary bold, its inside shaded, the columns of its tiles.
+
+    python3 tools/to_svg.py script.txt --program crates/overlayd/out/overlayd --layer I > picture.svg
+
+The base layers are those that the layer's definition reaches, filled by even-odd. Above each column stands its number
+and how many pieces its tile has. With --grid N, or where the replies hold a GRID of the layer, its points are drawn:
+full where in, a ring where edge, small where out. Coordinates of the picture are rounded to a hundredth of a unit.
+
+Status 0: the picture is whole; 1: it is not, and standard error tells what lacks, or there is none.
+"""
+
+import argparse
+import html
+import sys
+
+import sessions
+import to_rings
+
+COLOURS = ("#1f77b4", "#d9730d", "#2a8f4d", "#9c3fb0", "#8a6d3b", "#0f8b8d", "#c2407a", "#5c6470")
+INK = "#111111"
+HEAD = 40
+SIDE = 14
+LINE = 18
+
+
+class View:
+    """The part of the plane that is shown, and where it stands in the picture."""
+
+    def __init__(self, points, width):
+        if not points:
+            points = [(-sessions.LIMIT, -sessions.LIMIT), (sessions.LIMIT, sessions.LIMIT)]
+        self.left, self.right = min(x for x, _ in points), max(x for x, _ in points)
+        self.low, self.high = min(y for _, y in points), max(y for _, y in points)
+        margin = max(self.right - self.left, self.high - self.low, 1) / 40
+        self.left, self.right = self.left - margin, self.right + margin
+        self.low, self.high = self.low - margin, self.high + margin
+        self.scale = (width - 2 * SIDE) / (self.right - self.left)
+        self.width = width
+        self.bottom = HEAD + (self.high - self.low) * self.scale
+
+    def x(self, x):
+        return number(SIDE + (x - self.left) * self.scale)
+
+    def y(self, y):
+        return number(HEAD + (self.high - y) * self.scale)
+
+    def place(self, point):
+        """A point (X, Y, W) as two numbers of the picture."""
+        return f"{self.x(point[0] / point[2])} {self.y(point[1] / point[2])}"
+
+
+def number(value):
+    """Two digits behind the point, zeros at the end dropped."""
+    text = f"{value:.2f}".rstrip("0").rstrip(".")
+    return "0" if text == "-0" else text
+
+
+def ring_path(view, points):
+    """A closed path through points (X, Y, W)."""
+    return "M" + "L".join(view.place(point) for point in points) + "Z"
+
+
+def base_layer(view, rings, colour):
+    """The rings of a base layer, thin, and their even-odd inside."""
+    path = "".join(ring_path(view, [(x, y, 1) for x, y in ring[:-1]]) for ring in rings)
+    return (f'<path d="{path}" fill="{colour}" fill-opacity="0.13" fill-rule="evenodd" '
+            f'stroke="{colour}" stroke-width="0.9"/>')
+
+
+def boundary(view, pieces, polygons):
+    """The boundary, bold: as filled rings where they are known, else piece by piece."""
+    style = f'stroke="{INK}" stroke-width="2.2" stroke-linejoin="round" stroke-linecap="round"'
+    if polygons is None:
+        path = "".join(f"M{view.place(a)}L{view.place(b)}" for a, b in pieces)
+        return f'<path d="{path}" fill="none" {style}/>'
+    path = "".join(ring_path(view, ring.corners) for polygon in polygons for ring in polygon)
+    return f'<path d="{path}" fill="{INK}" fill-opacity="0.12" fill-rule="evenodd" {style}/>'
+
+
+def columns(view, counts):
+    """The borders of the columns in view, and above each column its number and its tile's pieces."""
+    found = []
+    for column in range(sessions.COLUMNS):
+        begin = sessions.column_begin(column)
+        end = begin + sessions.COLUMN_WIDTH if column < 16 else begin
+        if view.left <= begin <= view.right:
+            x = view.x(begin)
+            found.append(f'<path d="M{x} {HEAD - 6}V{number(view.bottom)}" stroke="#999999" stroke-width="0.7" '
+                         'stroke-dasharray="4 4"/>')
+        if end < view.left or begin > view.right:
+            continue
+        middle = (max(begin, view.left) + min(end, view.right)) / 2
+        across = float(view.x(min(end, view.right))) - float(view.x(max(begin, view.left)))
+        text = f"{column}: {counts[column]}" if across >= 30 else ""
+        if across >= 110:
+            text = f"column {column}: {counts[column]} pieces" if counts[column] != 1 else f"column {column}: 1 piece"
+        if text:
+            found.append(f'<text x="{view.x(middle)}" y="{HEAD - 12}" text-anchor="middle" fill="#666666">'
+                         f'{text}</text>')
+    return found
+
+
+def grid_points(view, grid):
+    """The points of a GRID reply."""
+    x, y, step, rows = grid
+    found = []
+    for j, row in enumerate(rows):
+        for i, answer in enumerate(row):
+            look = {"#": f'r="2" fill="{INK}"', "+": f'r="2.2" fill="#ffffff" stroke="{INK}"'}
+            style = look.get(answer, 'r="0.7" fill="#999999"')
+            found.append(f'<circle cx="{view.x(x + i * step)}" cy="{view.y(y + j * step)}" {style}/>')
+    return found
+
+
+def legend(view, names, text):
+    """A line for each base layer with its colour, and one for the layer."""
+    found, y = [], view.bottom + LINE
+    entries = [(name, COLOURS[i % len(COLOURS)], 0.9) for i, name in enumerate(names)] + [(text, INK, 2.2)]
+    for name, colour, width in entries:
+        found.append(f'<path d="M{SIDE} {number(y - 4)}h26" stroke="{colour}" stroke-width="{width}"/>')
+        found.append(f'<text x="{SIDE + 34}" y="{number(y)}" fill="{colour}">{html.escape(name)}</text>')
+        y += LINE
+    return found, y
+
+
+def joined(session, layer, say):
+    """The pieces, how many each column has, and the polygons, None where they can't be joined."""
+    pieces, missing = sessions.pieces_of(session, layer)
+    counts = ["?"] * sessions.COLUMNS
+    for column in range(sessions.COLUMNS):
+        answer = session.edges.get((layer, column))
+        if isinstance(answer, list):
+            counts[column] = len(answer)
+    for column, reason in missing:
+        say(f"{layer}: column {column} is not drawn: {reason}")
+    if missing:
+        return pieces, counts, None
+    return pieces, counts, to_rings.polygons_of(pieces)
+
+
+def picture(session, layer, width, say):
+    """The whole picture of a layer, as text."""
+    if layer not in session.definitions:
+        told = [line for request, line in session.refused if layer in request.split()]
+        raise sessions.Unusable(f"{layer} is no derived layer of the script" + (f": {told[0]}" if told else ""))
+    pieces, counts, polygons = joined(session, layer, say)
+    names = session.base_in_reach(layer)
+    points = [point for name in names for ring in session.base[name] for point in ring]
+    view = View(points + [(x / w, y / w) for piece in pieces for x, y, w in piece], width)
+    body = columns(view, counts)
+    body += [base_layer(view, session.base[name], COLOURS[i % len(COLOURS)]) for i, name in enumerate(names)]
+    body.append(boundary(view, pieces, polygons))
+    if layer in session.grids:
+        body += grid_points(view, session.grids[layer])
+    lines, end = legend(view, names, f"{layer} = {session.definitions[layer]}")
+    height = number(end)
+    head = (f'<svg xmlns="http://www.w3.org/2000/svg" width="{width}" height="{height}" '
+            f'viewBox="0 0 {width} {height}" font-family="sans-serif" font-size="12">')
+    return "\n".join([head, '<rect width="100%" height="100%" fill="#ffffff"/>'] + body + lines + ["</svg>", ""])
+
+
+def grid_for(script, count):
+    """A GRID of about so many points across, over the base layers of a script, as x, y, step, nx, ny."""
+    points = [point for rings in sessions.put_by(script).values() for ring in rings for point in ring]
+    if not points:
+        return None
+    left, low = min(x for x, _ in points), min(y for _, y in points)
+    across, up = max(x for x, _ in points) - left, max(y for _, y in points) - low
+    step = max(1, -(-max(across, up) // count))
+    return left, low, step, min(256, across // step + 1), min(256, up // step + 1)
+
+
+def words_of(arguments):
+    parser = argparse.ArgumentParser(description=__doc__, formatter_class=argparse.RawDescriptionHelpFormatter)
+    sessions.add_words(parser)
+    parser.add_argument("--grid", type=int, metavar="N",
+                        help="ask for a GRID of about N points across (1 to 256), and draw it")
+    parser.add_argument("--width", type=int, default=800, help="of the picture (default 800)")
+    words = parser.parse_args(arguments)
+    if words.width < 100 or (words.grid is not None and not 1 <= words.grid <= 256):
+        parser.error("the width is at least 100, the grid 1 to 256")
+    return words
+
+
+def main(arguments, output=None, errors=None):
+    words = words_of(arguments)
+    output, errors = output or sys.stdout, errors or sys.stderr
+    told = []
+    try:
+        session, layer = sessions.session_of(words, lambda script: words.grid and grid_for(script, words.grid))
+        if words.grid and layer not in session.grids:
+            told.append(f"{layer}: no grid in the replies")
+        output.write(picture(session, layer, words.width, told.append))
+    except sessions.Unusable as fault:
+        told.append(str(fault))
+    for text in told:
+        print(text, file=errors)
+    return 1 if told else 0
+
+
+if __name__ == "__main__":
+    sys.exit(main(sys.argv[1:]))

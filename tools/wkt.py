@@ -1,0 +1,110 @@
+"""Reads and writes Well-Known Text: any geometry is read, with fractions, exponents, Z and M."""
+
+import re
+from decimal import Decimal, InvalidOperation
+
+TOKEN = re.compile(r"\s*(?:([A-Za-z]+)|([-+]?(?:\d+\.?\d*|\.\d+)(?:[eE][-+]?\d+)?)|([(),;=]))")
+
+
+class WktFault(Exception):
+    """A text that is no Well-Known Text."""
+
+
+class Reader:
+    """A text and the tokens that are left of it."""
+
+    def __init__(self, text):
+        self.text, self.at = text, 0
+        self.kind, self.word = None, None
+        self.advance()
+
+    def advance(self):
+        match = TOKEN.match(self.text, self.at)
+        if match:
+            self.at = match.end()
+            self.kind, self.word = match.lastindex, match.group(match.lastindex)
+        elif self.text[self.at:].strip():
+            raise WktFault(f"no token of a text at character {self.at}")
+        else:
+            self.kind, self.word = None, None
+
+    def take(self, word):
+        if self.word != word:
+            raise WktFault(f"'{word}' expected before character {self.at}")
+        self.advance()
+
+    def items(self, item):
+        """What item reads, once or more, parted by commas and in brackets."""
+        self.take("(")
+        found = [item()]
+        while self.word == ",":
+            self.advance()
+            found.append(item())
+        self.take(")")
+        return found
+
+    def position(self):
+        numbers = []
+        while self.kind == 2:
+            numbers.append(Decimal(self.word))
+            self.advance()
+        if len(numbers) < 2:
+            raise WktFault(f"two numbers expected before character {self.at}")
+        return numbers
+
+    def nested(self):
+        """Positions in brackets of any depth; of a MULTIPOINT some stand in brackets of their own."""
+        if self.kind == 1 and self.word.upper() == "EMPTY":
+            self.advance()
+            return []
+        if self.word == "(":
+            return self.items(self.nested)
+        return self.position()
+
+    def geometry(self):
+        """The type in upper case, and the coordinates, or for a GEOMETRYCOLLECTION its geometries."""
+        if self.kind != 1:
+            raise WktFault(f"the word of a geometry expected before character {self.at}")
+        kind = self.word.upper()
+        self.advance()
+        if self.kind == 1 and self.word.upper() in ("Z", "M", "ZM"):
+            self.advance()
+        if self.kind == 1 and self.word.upper() == "EMPTY":
+            self.advance()
+            return kind, []
+        return kind, self.items(self.geometry if kind == "GEOMETRYCOLLECTION" else self.nested)
+
+
+def read_all(text):
+    """The geometries of a text, one behind the other; an SRID before one is passed over."""
+    reader, found = Reader(text), []
+    try:
+        while reader.kind is not None:
+            if reader.kind == 1 and reader.word.upper() == "SRID":
+                for _ in range(3):
+                    reader.advance()
+                reader.take(";")
+            found.append(reader.geometry())
+    except (InvalidOperation, RecursionError) as fault:
+        raise WktFault("a number or a nesting beyond all bounds") from fault
+    return found
+
+
+def polygons_of(kind, coordinates):
+    """The polygons of a POLYGON or MULTIPOLYGON, each a list of rings; None for another type."""
+    if kind == "POLYGON":
+        return [coordinates] if coordinates else []
+    if kind == "MULTIPOLYGON":
+        return [polygon for polygon in coordinates if polygon]
+    return None
+
+
+def write(polygons, spell=str):
+    """A POLYGON where there is one, else a MULTIPOLYGON; spell writes a number."""
+    texts = []
+    for polygon in polygons:
+        rings = (", ".join(f"{spell(x)} {spell(y)}" for x, y in ring) for ring in polygon)
+        texts.append("(" + ", ".join(f"({ring})" for ring in rings) + ")")
+    if not texts:
+        return "MULTIPOLYGON EMPTY"
+    return "POLYGON " + texts[0] if len(texts) == 1 else "MULTIPOLYGON (" + ", ".join(texts) + ")"
