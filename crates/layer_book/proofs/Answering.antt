@@ -9,9 +9,7 @@ use Rattle.overlay_terms.specs.Plane.{Point}
 use Rattle.overlay_terms.specs.Trees.{Tree, truth, leaves}
 use Rattle.overlay_terms.specs.Layers.{Name, base, Layer, named}
 use Rattle.overlay_terms.specs.Commands.{index_of}
-use Rattle.layer_book.specs.declared.question.Question.{Question}
-use Rattle.layer_book.specs.declared.question.Question.TheVariants.{IsInside, IsEdge}
-use Rattle.layer_book.specs.Question.{content_answer, answers, labelled, if_wanted, wanted_layers, content_at}
+use Rattle.layer_book.specs.Question.{Question, IsInside, IsEdge, content_answer, answers, labelled, if_wanted, wanted_layers, content_at}
 
 -- what stands beside a name is what stands at its index
 named_by_index : (layers : List Layer) (known : List Bool) (used : Name) → length known ≤ length layers → named false (labelled layers known) used ≡ unwrap_or (slice_get known (index_of layers used)) false

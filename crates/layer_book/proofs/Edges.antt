@@ -9,9 +9,8 @@ use Rattle.overlay_terms.specs.Laws.{is_on_any}
 use Rattle.overlay_terms.specs.Layers.{Name, Content, base, derived, Layer, Marked, named, content_reach, reaches, base_of, marked_segments, segments_in_reach, value_of, answer_at, edge, inside, outside}
 use Rattle.overlay_terms.specs.Commands.{stands}
 use Rattle.overlay_terms.specs.Orderly.{is_orderly_after}
-use Rattle.layer_book.specs.declared.question.Question.TheVariants.{IsEdge, IsInside}
 use Rattle.layer_book.specs.Layer.{content_named}
-use Rattle.layer_book.specs.Question.{content_edge, answers}
+use Rattle.layer_book.specs.Question.{IsInside, IsEdge, content_edge, answers}
 use Rattle.layer_book.proofs.Names.{own_name}
 use Rattle.layer_book.proofs.Order.{fresh, or_false}
 use Rattle.layer_book.proofs.Lookups.{passes, named_passes}

@@ -8,9 +8,7 @@ use Rattle.overlay_terms.specs.Trees.{Tree, leaf, combine, combined, truth, leav
 use Rattle.overlay_terms.specs.Layers.{Name, Content, base, derived, Layer, named}
 use Rattle.overlay_terms.specs.Commands.{index_of, stands}
 use Rattle.overlay_terms.specs.Orderly.{used_names, is_orderly_after}
-use Rattle.layer_book.specs.declared.question.Question.{Question}
-use Rattle.layer_book.specs.declared.question.Question.TheVariants.{IsInside, IsEdge}
-use Rattle.layer_book.specs.Question.{content_answer, answers, labelled, if_wanted, wanted_layers, at_index, is_wanted, NamesAreWanted}
+use Rattle.layer_book.specs.Question.{Question, IsInside, IsEdge, content_answer, answers, labelled, if_wanted, wanted_layers, at_index, is_wanted, NamesAreWanted}
 use Rattle.layer_book.proofs.Names.{same_name, own_name}
 use Rattle.layer_book.proofs.Order.{head_of, apart}
 

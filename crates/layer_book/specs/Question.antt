@@ -8,8 +8,11 @@ use Rattle.overlay_terms.specs.Layers.{Name, Content, base, derived, Layer, cont
 use Rattle.overlay_terms.specs.Commands.{index_of}
 use Rattle.overlay_terms.specs.Orderly.{used_names}
 use Rattle.overlay_terms.specs.Laws.{is_on_any}
-use Rattle.layer_book.specs.declared.question.Question.{Question}
-use Rattle.layer_book.specs.declared.question.Question.TheVariants.{IsInside, IsEdge}
+
+-- whether a layer holds a point, or whether a segment that it reaches does
+pub data Question : Type 0 where
+  IsInside : Question
+  IsEdge : Question
 
 -- whether a segment that a layer reaches holds the point, from which earlier layers reach one
 abbrev pub content_edge : Point → List (Name × Bool) → Content → Bool

@@ -1,18 +1,17 @@
 //! Answers straight from the segments of the base layers.
-ghost use Rattle.std.specs.Prelude.{◌≡◌, ◌↔◌, false, true, IsTrue, IsOk, IfOk, IfErr, unwrap_or};
+ghost use Rattle.std.specs.Prelude.{◌≡◌, ◌↔◌, false, true, IsTrue, IsOk, IfOk, IfErr};
 ghost use Rattle.overlay_terms.specs.Layers.{answer_at, named};
 ghost use Rattle.overlay_terms.specs.Commands.{stands};
 ghost use Rattle.exact_point.specs.Place.{place as place_of_point};
 ghost use Rattle.layer_book.specs.Layer.{IsBook};
 ghost use Rattle.layer_book.specs.Place.{location, IsToldOf};
-ghost use Rattle.layer_book.specs.Question.{answers, is_wanted, NamesAreWanted};
+ghost use Rattle.layer_book.specs.Question.{IsInside, IsEdge, answers};
 
 use crate::fault::LayerFault;
 use crate::layers::Layers;
-use crate::question::Question;
 use exact_point::{HPoint, QueryPoint};
-use layer_expr::MAX_LAYERS;
 use layer_expr::name::Name;
+use point_looks::Seen;
 
 /// Where a point lies: in a layer, outside, or on a segment of a base layer that it reaches.
 #[derive(Clone, Copy, Debug, PartialEq, Eq)]
@@ -24,7 +23,7 @@ pub enum Place {
 
 impl Layers {
     /// Where a point lies for a layer. It takes no memory, finds what the layer reaches once, and looks
-    /// at each layer in reach once for each of its two questions.
+    /// at each segment in reach once.
     pub fn direct(&self, name: &Name, query: &QueryPoint) -> Result<Place, LayerFault>
         ensures ok { IfOk result (λ place. location place ≡ answer_at self.now name.now query.now) }
         ensures known { IsOk result ↔ IsTrue (stands self.now name.now) }
@@ -44,12 +43,11 @@ impl Layers {
         requires { stands self.now name.now ≡ true }
         ensures { IsToldOf self.now name.now query.now told → location result ≡ answer_at self.now name.now query.now }
     {
-        let wanted = self.reach(name);
-        let at = query.point();
-        if self.answer(Question::IsEdge, &wanted, name, &at) {
+        let seen = self.seen(name, &query.point());
+        if seen.edge {
             return Place::Edge;
         }
-        let inside = self.told_or(told, &wanted, name, &at);
+        let inside = told.unwrap_or(seen.inside);
         if inside {
             Place::Inside
         } else {
@@ -57,40 +55,18 @@ impl Layers {
         }
     }
 
-    /// What is told, or else whether the point is inside.
-    fn told_or(
-        &self,
-        told: Option<bool>,
-        wanted: &[bool; MAX_LAYERS],
-        name: &Name,
-        point: &HPoint,
-    ) -> bool
-        requires standing { stands self.now name.now ≡ true }
-        requires asked { is_wanted self.now wanted.now name.now ≡ true }
-        requires closed { NamesAreWanted self.now wanted.now }
-        ensures { result ≡ unwrap_or told (named false (answers Question.IsInside self.now (place_of_point point.now)) name.now) }
-    {
-        match told {
-            Some(inside) => inside,
-            None => self.answer(Question::IsInside, wanted, name, point),
-        }
-    }
-
-    /// The answer of a layer, from what it reaches.
-    fn answer(
-        &self,
-        question: Question,
-        wanted: &[bool; MAX_LAYERS],
-        name: &Name,
-        point: &HPoint,
-    ) -> bool
-        requires standing { stands self.now name.now ≡ true }
-        requires asked { is_wanted self.now wanted.now name.now ≡ true }
-        requires closed { NamesAreWanted self.now wanted.now }
-        ensures value { result ≡ named false (answers question self.now (place_of_point point.now)) name.now }
+    /// The answers of a layer, from what it reaches.
+    fn seen(&self, name: &Name, point: &HPoint) -> Seen
+        requires { stands self.now name.now ≡ true }
+        ensures inside { result.inside ≡ named false (answers IsInside self.now (place_of_point point.now)) name.now }
+        ensures edge { result.edge ≡ named false (answers IsEdge self.now (place_of_point point.now)) name.now }
         ensures valid { IsBook self.now }
     {
-        let known = self.answers(question, wanted, point);
-        self.known_of(name, &known)
+        let wanted = self.reach(name);
+        let known = self.answers(&wanted, point);
+        Seen {
+            inside: self.known_of(name, &known.inside),
+            edge: self.known_of(name, &known.edge),
+        }
     }
 }

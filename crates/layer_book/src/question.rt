@@ -1,85 +1,74 @@
 //! What is asked of each layer at a point, answered from the first layer to the last.
 ghost use Rattle.std.specs.Prelude.{◌≡◌, ◌≤◌, ◌<◌, length, slice_get, unwrap_or, false};
 ghost use Rattle.std.specs.List.{list_any};
-ghost use Rattle.overlay_terms.specs.Plane.{is_inside};
 ghost use Rattle.overlay_terms.specs.Trees.{truth, leaves};
-ghost use Rattle.overlay_terms.specs.Laws.{is_on_any};
 ghost use Rattle.overlay_terms.specs.Commands.{index_of};
 ghost use Rattle.exact_point.specs.Place.{place};
+ghost use Rattle.point_looks.specs.Spot.{point_of};
 ghost use Rattle.layer_expr.specs.Expr.{tree};
 ghost use Rattle.layer_book.specs.Layer.{content, IsBook};
-ghost use Rattle.layer_book.specs.Question.{answers, content_answer, content_at, if_wanted, labelled, wanted_layers};
+ghost use Rattle.layer_book.specs.Question.{IsInside, IsEdge, answers, content_answer, content_at, if_wanted, labelled, wanted_layers};
 
 use crate::layer::Layer;
 use crate::layers::Layers;
-use exact_point::{HPoint, below, on};
+use exact_point::HPoint;
 use layer_expr::MAX_LAYERS;
 use layer_expr::expr::{Node, Operation};
 use layer_expr::name::Name;
-use plane_base::Seg;
+use point_looks::{Seen, Spot, look_at_all};
 
-/// Whether a layer holds a point, or whether a segment that it reaches does.
-#[derive(Clone, Copy, Debug, PartialEq, Eq)]
-pub enum Question {
-    IsInside,
-    IsEdge,
+/// What is known of each layer at a point, by its index: whether it holds the point, and whether a segment that it
+/// reaches does.
+#[derive(Clone, Copy, Debug)]
+pub struct Known {
+    pub inside: [bool; MAX_LAYERS],
+    pub edge: [bool; MAX_LAYERS],
 }
 
 impl Layers {
-    /// The answer of each layer, by its index. One that is not wanted counts as a layer of no rings.
-    pub fn answers(
-        &self,
-        question: Question,
-        wanted: &[bool; MAX_LAYERS],
-        point: &HPoint,
-    ) -> [bool; MAX_LAYERS]
-        ensures value { labelled self.now result ≡ answers question (wanted_layers wanted.now self.now) (place point.now) }
+    /// The answers of each layer. One that is not wanted counts as a layer of no rings. Each segment of a wanted
+    /// base layer is looked at once.
+    pub fn answers(&self, wanted: &[bool; MAX_LAYERS], point: &HPoint) -> Known
+        ensures inside { labelled self.now result.inside ≡ answers IsInside (wanted_layers wanted.now self.now) (place point.now) }
+        ensures edge { labelled self.now result.edge ≡ answers IsEdge (wanted_layers wanted.now self.now) (place point.now) }
         ensures valid { IsBook self.now }
     {
-        let mut known = [false; MAX_LAYERS];
+        let spot = Spot::of(*point);
+        let mut inside = [false; MAX_LAYERS];
+        let mut edge = [false; MAX_LAYERS];
         for i in 0..self.len() {
-            known[i] = self.answer_at(question, i, wanted[i], &known[..i], point);
+            let seen = self.answer_at(i, wanted[i], &inside[..i], &edge[..i], &spot);
+            inside[i] = seen.inside;
+            edge[i] = seen.edge;
         }
-        known
+        Known { inside, edge }
     }
 
-    /// The answer of one layer, from those of the layers before it.
-    fn answer_at(
-        &self,
-        question: Question,
-        i: usize,
-        wanted: bool,
-        known: &[bool],
-        point: &HPoint,
-    ) -> bool
-        requires { length known.now ≤ length self.now }
-        ensures { result ≡ content_answer question (place point.now) (labelled self.now known.now) (if_wanted wanted (content_at self.now i)) }
+    /// The answers of one layer, from those of the layers before it.
+    fn answer_at(&self, i: usize, wanted: bool, inside: &[bool], edge: &[bool], spot: &Spot) -> Seen
+        requires insides { length inside.now ≤ length self.now }
+        requires edges { length edge.now ≤ length self.now }
+        ensures inside { result.inside ≡ content_answer IsInside (point_of spot.now) (labelled self.now inside.now) (if_wanted wanted (content_at self.now i)) }
+        ensures edge { result.edge ≡ content_answer IsEdge (point_of spot.now) (labelled self.now edge.now) (if_wanted wanted (content_at self.now i)) }
     {
         match self.at(i) {
-            Some((_, layer)) if wanted => self.layer_answer(question, layer, known, point),
-            _ => false,
+            Some((_, layer)) if wanted => self.layer_answer(layer, inside, edge, spot),
+            _ => Seen::NOTHING,
         }
     }
 
-    fn layer_answer(
-        &self,
-        question: Question,
-        layer: &Layer,
-        known: &[bool],
-        point: &HPoint,
-    ) -> bool
-        requires { length known.now ≤ length self.now }
-        ensures { result ≡ content_answer question (place point.now) (labelled self.now known.now) (content layer.now) }
+    fn layer_answer(&self, layer: &Layer, inside: &[bool], edge: &[bool], spot: &Spot) -> Seen
+        requires insides { length inside.now ≤ length self.now }
+        requires edges { length edge.now ≤ length self.now }
+        ensures inside { result.inside ≡ content_answer IsInside (point_of spot.now) (labelled self.now inside.now) (content layer.now) }
+        ensures edge { result.edge ≡ content_answer IsEdge (point_of spot.now) (labelled self.now edge.now) (content layer.now) }
     {
-        match (question, layer) {
-            (Question::IsInside, Layer::Base(rings)) => holds(rings.segs(), point),
-            (Question::IsInside, Layer::Derived(expression)) => {
-                self.node_inside(expression.root(), known)
-            }
-            (Question::IsEdge, Layer::Base(rings)) => is_on_any(rings.segs(), point),
-            (Question::IsEdge, Layer::Derived(expression)) => {
-                self.node_edge(expression.root(), known)
-            }
+        match layer {
+            Layer::Base(rings) => look_at_all(rings.segs(), spot),
+            Layer::Derived(expression) => Seen {
+                inside: self.node_inside(expression.root(), inside),
+                edge: self.node_edge(expression.root(), edge),
+            },
         }
     }
 
@@ -119,18 +108,4 @@ impl Layers {
     {
         known.get(self.index_of(name)).copied().unwrap_or(false)
     }
-}
-
-/// Whether an odd number of segments is below the point.
-fn holds(segs: &[Seg], point: &HPoint) -> bool
-    ensures { result ≡ is_inside segs.now (place point.now) }
-{
-    segs.iter().filter(|seg| below(seg, point)).count() % 2 == 1
-}
-
-/// Whether a segment holds the point.
-fn is_on_any(segs: &[Seg], point: &HPoint) -> bool
-    ensures { result ≡ is_on_any segs.now (place point.now) }
-{
-    segs.iter().any(|seg| on(seg, point))
 }

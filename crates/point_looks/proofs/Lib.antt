@@ -1,0 +1,2 @@
+mod FloorLemmas
+mod LookLemmas
