@@ -219,7 +219,7 @@ unknown_stands false never = refl
 module _ (was now : Known) (stays : Stays was now) (made : now.made ≡ was.made) where
   pub locate_gone : (name : List ℕ) (x y w : ℤ) (fault : CommandFault) → IsTrue (is_name name) → IsQuery x y w → fault ≡ Gone → Answers was (locate name x y w) now (error_line fault)
   locate_gone name x y w fault named query gone =
-      answers_so was now stays made (locate name x y w) (error_line fault) (λ _. inr (inr (named, inr (inl (query, refl, refused_as fault Gone gone)))))
+      answers_so was now stays made (locate name x y w) (error_line fault) (λ _. inr (inr (named, inr (inl (query, (refl, refused_as fault Gone gone))))))
 
   pub locate_refused : (name known : List ℕ) (x y w : ℤ) (version : versions.Version) (wrong : VersionFault) → version ≡ newest (seen now)
       → known ≡ name → IsTrue (is_name name) → IsQuery x y w → (wrong ≡ Layer layer_fault.UnknownLayer) × (stands version.layers known ≡ false)

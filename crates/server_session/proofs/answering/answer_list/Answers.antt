@@ -19,4 +19,4 @@ returns-in_err-list c =
 pub returns : goal.returns
 returns c =
     let e = c.look.ensures in
-    list_told c.args.me.now c.look.new.me e.stays e.made _ _ c.in_ok-version.ensures.newest (c.in_ok-list.ensures ∙ ap layers_text c.layers.ensures.value)
+    list_told c.args.me.now c.look.new.me e.stays e.made _ _ (c.deref.ensures ∙ c.in_ok-version.ensures.newest) (c.in_ok-list.ensures ∙ ap layers_text c.layers.ensures.value)

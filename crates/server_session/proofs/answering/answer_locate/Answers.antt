@@ -1,4 +1,4 @@
-use Rattle.std.proofs.Common.{refl, sym, w64}
+use Rattle.std.proofs.Common.{refl, sym, w64, ◌∙◌}
 use Rattle.std.proofs.lemmas.Bool.{false≢true}
 use Rattle.std.proofs.lemmas.Int.{to_z-of_z}
 use Rattle.std.proofs.lemmas.Result.{err_from_is_err_and}
@@ -39,7 +39,7 @@ returns-in_err-place c =
     let named = c.in_ok-name.ensures.ok in
     let query = query_read c.args.x c.args.y c.args.w _ _ _ x y w (c.in_ok-query.ensures.in_range.0 refl) in
     let e = c.look.ensures in
-    rw (p.1, p.2) (locate_refused c.args.me.now c.look.new.me e.stays e.made c.args.name.now _ c.args.x c.args.y c.args.w _ _ c.in_ok-version.ensures.newest named.0 named.1 query (c.in_err-place.ensures.err, unknown_stands _ c.in_err-place.ensures.known.1))
+    rw (p.1, p.2) (locate_refused c.args.me.now c.look.new.me e.stays e.made c.args.name.now _ c.args.x c.args.y c.args.w _ _ (c.deref.ensures ∙ c.in_ok-version.ensures.newest) named.0 named.1 query (c.in_err-place.ensures.err, unknown_stands _ c.in_err-place.ensures.known.1))
 
 pub returns : goal.returns
 returns c =
@@ -53,4 +53,4 @@ returns c =
     let point = point_read c.args.x c.args.y c.args.w _ _ _ _ x y w asked.ok in
     let e = c.look.ensures in
     let shown = c.in_ok-version.ensures in
-    locate_told c.args.me.now c.look.new.me e.stays e.made c.args.name.now _ c.args.x c.args.y c.args.w _ _ (location c.in_ok-place.place) shown.newest shown.history named.0 point named.1 query (found.known.0 refl) found.ok
+    locate_told c.args.me.now c.look.new.me e.stays e.made c.args.name.now _ c.args.x c.args.y c.args.w _ _ (location c.in_ok-place.place) (c.deref.ensures ∙ shown.newest) shown.history named.0 point named.1 query (found.known.0 refl) found.ok

@@ -22,11 +22,11 @@ returns-in_err-verdict c =
     let named = c.in_ok-name.ensures.ok in
     let column = c.asked_column.ensures ∙ ap asked_column (to_z-of_z w64 c.args.number c.ranges.number) in
     let e = c.look.ensures in
-    rw (p.1, p.2) (verify_refused c.args.me.now c.look.new.me e.stays e.made c.args.name.now _ c.args.number _ _ _ c.in_ok-version.ensures.newest named.0 column named.1 c.in_err-verdict.ensures.refused)
+    rw (p.1, p.2) (verify_refused c.args.me.now c.look.new.me e.stays e.made c.args.name.now _ c.args.number _ _ _ (c.deref.ensures ∙ c.in_ok-version.ensures.newest) named.0 column named.1 c.in_err-verdict.ensures.refused)
 
 pub returns : goal.returns
 returns c =
     let named = c.in_ok-name.ensures.ok in
     let column = c.asked_column.ensures ∙ ap asked_column (to_z-of_z w64 c.args.number c.ranges.number) in
     let e = c.look.ensures in
-    verify_told c.args.me.now c.look.new.me e.stays e.made c.args.name.now _ c.args.number _ _ _ c.in_ok-version.ensures.newest named.0 column named.1 c.in_ok-verdict.ensures.accepted c.in_ok-verdict.ensures.same
+    verify_told c.args.me.now c.look.new.me e.stays e.made c.args.name.now _ c.args.number _ _ _ (c.deref.ensures ∙ c.in_ok-version.ensures.newest) named.0 column named.1 c.in_ok-verdict.ensures.accepted c.in_ok-verdict.ensures.same

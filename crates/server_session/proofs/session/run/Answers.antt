@@ -16,9 +16,6 @@ loop-taken-init g c = record {
 pub finish-requires : goal.finish-requires
 finish-requires g c = c.loop-taken.invariant.stays.book ∙ c.requires.book
 
-pub take_bytes-requires : goal.take_bytes-requires
-take_bytes-requires g c = c.loop-taken.invariant.stays.book ∙ c.requires.book
-
 pub returns-in-Err-clause-run : goal.returns-in-Err-clause-run
 unfolding script_max
 returns-in-Err-clause-run g c exact =
