@@ -20,9 +20,9 @@ use Rattle.version_core.specs.declared.fault.VersionFault.TheVariants.{Layer}
 use Rattle.layer_book.specs.declared.fault.LayerFault.TheVariants as layer_fault
 use Rattle.overlay_session.specs.declared.book.Book.{Book}
 use Rattle.script_form.specs.declared.fault.CommandFault.{CommandFault}
-use Rattle.script_form.specs.declared.fault.CommandFault.TheVariants.{Expression, Query, Version, CommandSyntax, OutOfMemory}
+use Rattle.script_form.specs.declared.fault.CommandFault.TheVariants.{Expression, Query, Version, CommandSyntax, OutOfMemory, NoStore}
 use Rattle.script_form.specs.Replies.{error_line, location_line}
-use Rattle.script_form.specs.Requests.{Request, malformed, put, define, remove, locate, list_layers, request_of}
+use Rattle.script_form.specs.Requests.{Request, malformed, put, define, remove, locate, list_layers, sync, request_of}
 use Rattle.overlay_session.specs.Turn.{Holds, TakesTurn}
 use Rattle.script_form.specs.Transcript.{IsRefused, IsSubmitted, IsAnswered, IsOutOfMemory}
 use Rattle.script_form.specs.Reading.{IsMemory, IsNoName, IsPut, IsPutRefused, IsDefine, IsDefineRefused, IsRemove}
@@ -38,7 +38,7 @@ reported (Some refusal) fault e = (refusal, refl, cc)
 -- a refused command leaves the history as it is
 refused_there : (book : Book) (before : History) (command : Command) (wrong : VersionFault)
     → Holds book before → RefusedBy (Layer layer_fault.OutOfMemory) (option_map version_fault.fault_of (refusal_at book.version.number book.version.layers command)) wrong
-    → IsRefused OutOfMemory [] (error_line (Version wrong)) ⊎ IsSubmitted 0 before command before [] (error_line (Version wrong))
+    → IsRefused OutOfMemory [] (error_line (Version wrong)) ⊎ IsSubmitted false 0 before command before [] (error_line (Version wrong))
 refused_there book before command wrong holds refused =
     elim refused [
       | inl memory ↦ inl (record { nothing_made = refl; told = ap (λ w. error_line (Version w)) memory.0 })
@@ -46,7 +46,7 @@ refused_there book before command wrong holds refused =
           let r = reported (refusal_at book.version.number book.version.layers command) wrong by in
           let there : refusal_at (newest before).number (newest before).layers command ≡ Some r.0 =
           ap (λ (v : versions.Version). refusal_at v.number v.layers command) holds.version ∙ r.1 in
-          inr (inl (r.0, there, record { nothing_made = refl; told = ap (λ w. error_line (Version w)) r.2 }))
+          inr (inr (inr (inl (r.0, there, record { nothing_made = refl; told = ap (λ w. error_line (Version w)) r.2 }))))
     ]
 
 pub submits_refused : (old new : Book) (command : Command) (wrong : VersionFault)
@@ -69,7 +69,7 @@ answers_put old new name text command reply is submits before holds =
       answered =
           elim s.submitted [
             | inl memory ↦ inl (is.named, memory)
-            | inr by ↦ inr (inr (is.named, inr (is.rings, is.read, subst (λ (c : Command). IsSubmitted 0 before c s.after s.made reply) is.command_is by)))
+            | inr by ↦ inr (inr (is.named, inr (is.rings, is.read, subst (λ (c : Command). IsSubmitted false 0 before c s.after s.made reply) is.command_is by)))
           ];
     }
 
@@ -84,7 +84,7 @@ answers_define old new name text command reply is submits before holds =
       answered =
           elim s.submitted [
             | inl memory ↦ inl (is.named, memory)
-            | inr by ↦ inr (inr (is.named, inr (is.tree, is.read, subst (λ (c : Command). IsSubmitted 0 before c s.after s.made reply) is.command_is by)))
+            | inr by ↦ inr (inr (is.named, inr (is.tree, is.read, subst (λ (c : Command). IsSubmitted false 0 before c s.after s.made reply) is.command_is by)))
           ];
     }
 
@@ -99,7 +99,7 @@ answers_remove old new name command reply is submits before holds =
       answered =
           elim s.submitted [
             | inl memory ↦ inl (is.named, memory)
-            | inr by ↦ inr (inr (is.named, subst (λ (c : Command). IsSubmitted 0 before c s.after s.made reply) is.command_is by))
+            | inr by ↦ inr (inr (is.named, subst (λ (c : Command). IsSubmitted false 0 before c s.after s.made reply) is.command_is by))
           ];
     }
 
@@ -173,7 +173,7 @@ locate_refused book name known x y w wrong same named query unknown before holds
     let there : stands (newest before).layers name ≡ false =
     ap (λ (v : versions.Version). stands v.layers name) holds.version ∙ ap (stands book.version.layers) (sym same) ∙ unknown.1 in
     answers_there book before (locate name x y w) (error_line (Version wrong)) holds
-    (inr (inr (named, inr (inl (query, there, record { nothing_made = refl; told = ap (λ f. error_line (Version f)) unknown.0 })))))
+    (inr (inr (named, inr (inr (inl (query, there, record { nothing_made = refl; told = ap (λ f. error_line (Version f)) unknown.0 }))))))
 
 pub locate_told : (book : Book) (name known : List ℕ) (x y w : ℤ) (p : Point) (place : Location)
     → known ≡ name → p ≡ record { x = x; y = y; w = w } → IsTrue (is_name name) → IsQuery x y w → IsTrue (stands book.version.layers known)
@@ -185,20 +185,25 @@ locate_told book name known x y w p place same point named query stood is before
     is holds.exact.exact ∙ ap (λ n. answer_at book.version.layers n p) same ∙ ap (answer_at book.version.layers name) point
     ∙ ap (λ (v : versions.Version). answer_at v.layers name (record { x = x; y = y; w = w })) (sym holds.version) in
     answers_there book before (locate name x y w) (location_line place) holds
-    (inr (inr (named, inr (inr (query, there, record { nothing_made = refl; told = ap location_line told })))))
+    (inr (inr (named, inr (inr (inr (query, there, record { nothing_made = refl; told = ap location_line told }))))))
 
 -- ==== LAYERS
 
 pub list_told : (book : Book) (text : List ℕ) → text ≡ layers_text book.version.layers → Answers book list_layers book text
 list_told book text is before holds =
     answers_there book before list_layers text holds
-    (inr (record { nothing_made = refl; told = is ∙ ap (λ (v : versions.Version). layers_text v.layers) (sym holds.version) }))
+    (inr (inr (record { nothing_made = refl; told = is ∙ ap (λ (v : versions.Version). layers_text v.layers) (sym holds.version) })))
 
 -- ==== Lines
 
 pub malformed_told : (book : Book) (reply : List ℕ) → reply ≡ error_line CommandSyntax → Answers book malformed book reply
 malformed_told book reply told before holds =
     answers_there book before malformed reply holds (inr (record { nothing_made = refl; told = told }))
+
+-- a session on its own has no store
+pub sync_refused : (book : Book) (reply : List ℕ) → reply ≡ error_line NoStore → Answers book sync book reply
+sync_refused book reply told before holds =
+    answers_there book before sync reply holds (inr (inl (record { nothing_made = refl; told = told })))
 
 -- a line is answered as what it asks for
 pub takes_turn : (old new : Book) (line : List ℕ) (request : Request) (reply : List ℕ) → request ≡ request_of line → Answers old request new reply → TakesTurn old line new reply
@@ -209,7 +214,7 @@ takes_turn old new line request reply asked answers before holds =
       made = a.made;
       turn = record {
         goes_on = (a.goes.more, a.goes.goes_on);
-        answered = elim a.answered [ inl memory ↦ inl (subst (λ (r : Request). IsOutOfMemory r a.made reply) asked memory) | inr by ↦ inr (subst (λ (r : Request). IsAnswered 0 before r a.after a.made reply) asked by) ];
+        answered = elim a.answered [ inl memory ↦ inl (subst (λ (r : Request). IsOutOfMemory r a.made reply) asked memory) | inr by ↦ inr (subst (λ (r : Request). IsAnswered false 0 before r a.after a.made reply) asked by) ];
       };
       holds = a.goes.holds;
       more = a.goes.more;

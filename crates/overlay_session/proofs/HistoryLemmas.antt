@@ -1,5 +1,5 @@
 -- Histories that go on by an accepted command, by kept tiles, or by nothing.
-use Rattle.std.proofs.Common.{◌≡◌, ℕ, IsTrue, List, [], ◌∷◌, ◌++◌, map, refl, sym, ap, subst, ◌∙◌, ◌⊎◌, inl, inr}
+use Rattle.std.proofs.Common.{◌≡◌, ℕ, false, IsTrue, List, [], ◌∷◌, ◌++◌, map, refl, sym, ap, subst, ◌∙◌, ◌⊎◌, inl, inr}
 use Rattle.std.proofs.lemmas.List.{append-nil}
 use Rattle.std.proofs.lemmas.Option.{none-some}
 use Rattle.overlay_terms.specs.Commands.{Command}
@@ -67,13 +67,13 @@ submits_accepted old new before command reply holds follows told = record {
   after = later_history before (next_entry command new ∷ []);
   made = command ∷ [];
   goes = goes_on old new before (next_entry command new ∷ []) (command ∷ []) holds (follows, tt) refl refl;
-  submitted = inr (inr (record { between = []; version = new.version; goes_on = refl; only = refl; told = told }));
+  submitted = inr (inr (inr (inr (record { between = []; version = new.version; goes_on = refl; only = refl; told = told }))));
 }
 
 -- what is answered at the version that kept tiles lead to
 pub answers_built : (old new : Book) (before : History) (request : Request) (reply : List ℕ)
     → Holds old before → (builds : BuildsUp old.version new.version)
-    → ((after : History) → newest after ≡ new.version → IsOutOfMemory request [] reply ⊎ IsAnswered 0 before request after [] reply)
+    → ((after : History) → newest after ≡ new.version → IsOutOfMemory request [] reply ⊎ IsAnswered false 0 before request after [] reply)
     → AnswersIn before request new reply
 answers_built old new before request reply holds builds answered =
     let goes = goes_on old new before builds.entries [] holds builds.follow builds.arrives builds.no_command in
@@ -86,7 +86,7 @@ answers_built old new before request reply holds builds answered =
 
 -- a request that makes nothing is answered in the history as it stands
 pub answers_there : (book : Book) (before : History) (request : Request) (reply : List ℕ)
-    → Holds book before → IsOutOfMemory request [] reply ⊎ IsAnswered 0 before request before [] reply → AnswersIn before request book reply
+    → Holds book before → IsOutOfMemory request [] reply ⊎ IsAnswered false 0 before request before [] reply → AnswersIn before request book reply
 answers_there book before request reply holds answered = record {
   after = before;
   made = [];

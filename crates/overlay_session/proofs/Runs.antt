@@ -1,5 +1,5 @@
 -- A run with one more line at the end.
-use Rattle.std.proofs.Common.{◌≡◌, ℕ, ◌⊎◌, List, [], ◌∷◌, ◌++◌, map, sym, ap, ◌∙◌, subst}
+use Rattle.std.proofs.Common.{◌≡◌, ℕ, false, ◌⊎◌, List, [], ◌∷◌, ◌++◌, map, sym, ap, ◌∙◌, subst}
 use Rattle.std.proofs.lemmas.List.{map-append}
 use Rattle.std.proofs.lemmas.List.Elements.{filter_map-append}
 use Rattle.overlay_terms.specs.Commands.{Command}
@@ -35,7 +35,7 @@ run-push lines replies old run holds line new reply takes =
         after = on.after;
         made = run.made ++ on.made;
         history = subst IsHistory (sym on.goes_on) (AllFollow-append run.after.start run.after.entries on.more run.history on.follows);
-        told = transcript-push 0 _ lines run.after run.made replies run.told line on.after on.made reply on.turn;
+        told = transcript-push false 0 _ lines run.after run.made replies run.told line on.after on.made reply on.turn;
         only = ap (λ (h : History). commands_in h.entries) on.goes_on
             ∙ filter_map-append (λ (entry : Entry). command_of entry.event) run.after.entries on.more
             ∙ ap (λ es. es ++ commands_in on.more) run.only
@@ -53,7 +53,7 @@ turn-same before line other same new reply on = record {
   made = on.made;
   turn = record {
     goes_on = on.turn.goes_on;
-    answered = subst (λ (request : Request). IsOutOfMemory request on.made reply ⊎ IsAnswered 0 before request on.after on.made reply) same on.turn.answered;
+    answered = subst (λ (request : Request). IsOutOfMemory request on.made reply ⊎ IsAnswered false 0 before request on.after on.made reply) same on.turn.answered;
   };
   holds = on.holds;
   more = on.more;

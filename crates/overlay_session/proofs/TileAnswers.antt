@@ -69,7 +69,7 @@ edges_refused book name known k n wrong same number named refused before holds =
       | inl memory ↦ out_of_memory book before (edges name k) (Version wrong) holds (ap (λ f. error_line (Version f)) memory.0) named
       | inr by ↦
           answers_there book before (edges name k) (error_line (Version wrong)) holds
-          (inr (inr (named, asked_some _ wrong _ (moved (λ v m c. edges_refusal v m c ≡ Some wrong) book.version (newest before) known name n (asked_column k) holds.version same number by))))
+          (inr (inr (named, inr (asked_some _ wrong _ (moved (λ v m c. edges_refusal v m c ≡ Some wrong) book.version (newest before) known name n (asked_column k) holds.version same number by)))))
     ]
 
 pub edges_told : (book : Book) (name known : List ℕ) (k : ℤ) (n : Option ℕ) (reply : List ℕ) → known ≡ name → n ≡ asked_column k → IsTrue (is_name name)
@@ -78,8 +78,8 @@ edges_told book name known k n reply same number named free told before holds =
     answers_there book before (edges name k) reply holds
     (inr (inr (
       named,
-      asked_none _ [] reply _ (moved (λ v m c. edges_refusal v m c ≡ None) book.version (newest before) known name n (asked_column k) holds.version same number free)
-          (record { nothing_made = refl; told = moved (λ v m c. AreEdges v m c reply) book.version (newest before) known name n (asked_column k) holds.version same number told }),
+      inr (asked_none _ [] reply _ (moved (λ v m c. edges_refusal v m c ≡ None) book.version (newest before) known name n (asked_column k) holds.version same number free)
+          (record { nothing_made = refl; told = moved (λ v m c. AreEdges v m c reply) book.version (newest before) known name n (asked_column k) holds.version same number told })),
     )))
 
 -- ==== VERIFY
@@ -91,7 +91,7 @@ verify_refused book name known k n wrong same number named refused before holds 
       | inl memory ↦ out_of_memory book before (verify name k) (Version wrong) holds (ap (λ f. error_line (Version f)) memory.0) named
       | inr by ↦
           answers_there book before (verify name k) (error_line (Version wrong)) holds
-          (inr (inr (named, asked_some _ wrong _ (moved (λ v m c. finished_refusal v m c ≡ Some wrong) book.version (newest before) known name n (asked_column k) holds.version same number by))))
+          (inr (inr (named, inr (asked_some _ wrong _ (moved (λ v m c. finished_refusal v m c ≡ Some wrong) book.version (newest before) known name n (asked_column k) holds.version same number by)))))
     ]
 
 pub verify_told : (book : Book) (name known : List ℕ) (k : ℤ) (n : Option ℕ) (verdict : Verdict) → known ≡ name → n ≡ asked_column k → IsTrue (is_name name)
@@ -100,13 +100,13 @@ verify_told book name known k n verdict same number named free right before hold
     answers_there book before (verify name k) (verdict_line verdict) holds
     (inr (inr (
       named,
-      asked_none _ [] (verdict_line verdict) _ (moved (λ v m c. finished_refusal v m c ≡ None) book.version (newest before) known name n (asked_column k) holds.version same number free)
+      inr (asked_none _ [] (verdict_line verdict) _ (moved (λ v m c. finished_refusal v m c ≡ None) book.version (newest before) known name n (asked_column k) holds.version same number free)
           (record {
             nothing_made = refl;
             verdict = verdict;
             right = moved (λ v m c. IsVerdict v m c verdict) book.version (newest before) known name n (asked_column k) holds.version same number right;
             told = refl;
-          }),
+          })),
     )))
 
 -- ==== WAIT
@@ -119,7 +119,7 @@ wait_refused old new name known wrong same named builds refused before holds =
       | inl memory ↦ inl (named, record { nothing_made = refl; told = ap (λ f. error_line (Version f)) memory.0 })
       | inr by ↦
           let by_new = same_refusal old.version new.version known builds ∙ by in
-          inr (inr (named, asked_some _ wrong _ (moved (λ v m c. wait_refusal v m ≡ Some wrong) new.version (newest after) known name None None is same refl by_new)))
+          inr (inr (named, inr (asked_some _ wrong _ (moved (λ v m c. wait_refusal v m ≡ Some wrong) new.version (newest after) known name None None is same refl by_new))))
     ])
 
 pub wait_told : (old new : Book) (name known : List ℕ) (reply : List ℕ) → known ≡ name → IsTrue (is_name name) → BuildsUp old.version new.version
@@ -128,10 +128,10 @@ wait_told old new name known reply same named builds free built told before hold
     answers_built old new before (wait name) reply holds builds
     (λ after is. inr (inr (
       named,
-      asked_none _ [] reply _ (moved (λ v m c. wait_refusal v m ≡ None) new.version (newest after) known name None None is same refl (same_refusal old.version new.version known builds ∙ free))
-          (record {
+      inr (asked_none _ [] reply _ (moved (λ v m c. wait_refusal v m ≡ None) new.version (newest after) known name None None is same refl (same_refusal old.version new.version known builds ∙ free))
+          (inl (record {
             nothing_made = refl;
             built = moved (λ v m c. IsBuilt v m) new.version (newest after) known name None None is same refl built;
             told = told ∙ ap (λ (v : versions.Version). built_line v.number) (sym is);
-          }),
+          }))),
     )))

@@ -1,5 +1,5 @@
 -- What a request, and a command, make of the book: told for each history whose newest version the book holds.
-use Rattle.std.specs.Prelude.{◌≡◌, ℕ, ◌⊎◌, List, map, Result, Ok, Err}
+use Rattle.std.specs.Prelude.{◌≡◌, ℕ, ◌⊎◌, false, List, map, Result, Ok, Err}
 use Rattle.overlay_terms.specs.Commands.{Command}
 use Rattle.overlay_terms.specs.Histories.{Entry, History, GoesOnBy, AllFollow, newest, commands_in}
 use Rattle.overlay_session.specs.declared.book.Book.{Book}
@@ -30,7 +30,7 @@ pub record AnswersIn (before : History) (request : Request) (new : Book) (reply 
   pub after : History
   pub made : List Command
   pub goes : GoesOnWith before made after new
-  pub answered : IsOutOfMemory request made reply ⊎ IsAnswered 0 before request after made reply
+  pub answered : IsOutOfMemory request made reply ⊎ IsAnswered false 0 before request after made reply
 
 abbrev pub Answers : Book → Request → Book → List ℕ → Type 0
 Answers old request new reply = (before : History) → Holds old before → AnswersIn before request new reply
@@ -40,7 +40,7 @@ pub record SubmitsIn (before : History) (command : Command) (new : Book) (reply 
   pub after : History
   pub made : List Command
   pub goes : GoesOnWith before made after new
-  pub submitted : IsRefused OutOfMemory made reply ⊎ IsSubmitted 0 before command after made reply
+  pub submitted : IsRefused OutOfMemory made reply ⊎ IsSubmitted false 0 before command after made reply
 
 abbrev pub Submits : Book → Command → Book → List ℕ → Type 0
 Submits old command new reply = (before : History) → Holds old before → SubmitsIn before command new reply

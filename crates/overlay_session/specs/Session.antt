@@ -1,5 +1,5 @@
 -- A session on its own: what it writes for what it reads, until its script ends or a fault ends it.
-use Rattle.std.specs.Prelude.{◌≡◌, ℕ, ◌+◌, ◌≤◌, ◌⊎◌, List, [], ◌++◌, map, take, length, Option}
+use Rattle.std.specs.Prelude.{◌≡◌, ℕ, ◌+◌, ◌≤◌, ◌⊎◌, false, List, [], ◌++◌, map, take, length, Option}
 use Rattle.std.specs.Io.KnownBytes.{Appends, Consumes, IsAtEnd}
 use Rattle.overlay_terms.specs.Commands.{Command}
 use Rattle.overlay_terms.specs.Histories.{History, IsHistory, empty_version, commands_in}
@@ -19,7 +19,7 @@ pub record IsOwnRun (lines : List (List ℕ)) (replies : List ℕ) : Type 0 wher
   pub after : History
   pub made : List Command
   pub history : IsHistory after
-  pub told : IsTranscript 0 first_history lines after made replies
+  pub told : IsTranscript false 0 first_history lines after made replies
   pub only : commands_in after.entries ≡ map (λ command. (0, command)) made
 
 -- how a session ended, by the bytes that it took, what the reader has left, and the bytes that it wrote

@@ -1,5 +1,5 @@
 -- What a line makes of the book, told for each history whose newest version the book holds.
-use Rattle.std.specs.Prelude.{◌≡◌, ℕ, List, map}
+use Rattle.std.specs.Prelude.{◌≡◌, ℕ, false, List, map}
 use Rattle.overlay_terms.specs.Commands.{Command}
 use Rattle.overlay_terms.specs.Histories.{Entry, History, GoesOnBy, AllFollow, newest, commands_in}
 use Rattle.overlay_terms.specs.KeptLaws.{IsExact}
@@ -15,7 +15,7 @@ pub record Holds (book : Book) (history : History) : Type 0 where
 pub record GoesOnIn (before : History) (line : List ℕ) (new : Book) (reply : List ℕ) : Type 0 where
   pub after : History
   pub made : List Command
-  pub turn : IsTurn 0 before line after made reply
+  pub turn : IsTurn false 0 before line after made reply
   pub holds : Holds new after
   pub more : List Entry
   pub goes_on : GoesOnBy before more after

@@ -43,6 +43,7 @@ fn answer_request(alloc: Global, book: &mut Book, asked: Request<'_>) -> Result<
         Request::Edges(name, number) => answer_edges(alloc, book, name, number),
         Request::Wait(name) => answer_wait(alloc, book, name),
         Request::Verify(name, number) => answer_verify(alloc, book, name, number),
+        Request::Sync => Err(CommandFault::NoStore),
     }
 }
 

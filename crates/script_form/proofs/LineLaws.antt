@@ -4,8 +4,8 @@ use Rattle.std.specs.List.{list_all}
 use Rattle.std.proofs.lemmas.Bool.{and_parts, or_from, or_left, or_right, not-true, cond-true, cond-false, true≢false, lt-leb, ne_eqb}
 use Rattle.overlay_terms.specs.Blank.{is_blank}
 use Rattle.script_form.specs.Lines.{line_max, is_gap, is_too_long, begins_comment}
-use Rattle.script_form.specs.Requests.{Request, nothing, too_long, malformed, put, define, remove, locate, list_layers, edges, wait, verify, is_word_byte, is_name_side, is_empty, begins, number_of, skip_while, words_of, behind_first_word, by_words, put_of, define_of, behind_sign, located, edges_at, verify_at, numbered, request_of}
-use Rattle.script_form.specs.Shapes.{IsShort, AreGaps, ArePartingGaps, AreSome, IsWord, IsBlankOrComment, IsPutLine, IsDefineLine, IsDropLine, IsWholePointLine, IsPointLine, IsLocateLine, IsLayersLine, IsWaitLine, IsColumnLine, IsShapeOf}
+use Rattle.script_form.specs.Requests.{Request, nothing, too_long, malformed, put, define, remove, locate, list_layers, edges, wait, verify, sync, is_word_byte, is_name_side, is_empty, begins, number_of, skip_while, words_of, behind_first_word, by_words, put_of, define_of, behind_sign, located, edges_at, verify_at, numbered, request_of}
+use Rattle.script_form.specs.Shapes.{IsShort, AreGaps, ArePartingGaps, AreSome, IsWord, IsBlankOrComment, IsPutLine, IsDefineLine, IsDropLine, IsWholePointLine, IsPointLine, IsLocateLine, IsLayersLine, IsWaitLine, IsSyncLine, IsColumnLine, IsShapeOf}
 use Rattle.script_form.specs.Laws as laws
 use Rattle.script_form.proofs.ShapeLemmas.{skip_front, take_front, begins_some, begins_gap, begins_word, some_bytes, words_of-gaps, words_of-word, begins_no_comment, asked, asked_line, line_words, skipped}
 use Rattle.script_form.proofs.ShapeFrom.{made_of, Asks, tells}
@@ -42,6 +42,9 @@ layers_read line short is = asked_line line (codes "LAYERS") [] short is refl
 
 wait_read : (name line : List ℕ) → IsShort line → IsWaitLine name line → request_of line ≡ wait name
 wait_read name line short is = asked_line line (codes "WAIT") (name ∷ []) short is refl
+
+sync_read : (line : List ℕ) → IsShort line → IsSyncLine line → request_of line ≡ sync
+sync_read line short is = asked_line line (codes "SYNC") [] short is refl
 
 edges_read : (name : List ℕ) (column : ℤ) (line : List ℕ) → IsShort line → IsColumnLine (codes "EDGES") name column line → request_of line ≡ edges name column
 edges_read name column line short is =
@@ -176,6 +179,9 @@ layers_line line = (λ h. layers_read line h.0 h.1, back line list_layers)
 pub wait_line : laws.WaitLine
 wait_line name line = (λ h. wait_read name line h.0 h.1, back line (wait name))
 
+pub sync_line : laws.SyncLine
+sync_line line = (λ h. sync_read line h.0 h.1, back line sync)
+
 pub edges_line : laws.EdgesLine
 edges_line name column line = (λ h. edges_read name column line h.0 h.1, back line (edges name column))
 
@@ -197,6 +203,7 @@ shaped line list_layers short is = layers_read line short is
 shaped line (edges name column) short is = edges_read name column line short is
 shaped line (wait name) short is = wait_read name line short is
 shaped line (verify name column) short is = verify_read name column line short is
+shaped line sync short is = sync_read line short is
 
 is_malformed : Request → Bool
 is_malformed nothing = false
@@ -210,6 +217,7 @@ is_malformed list_layers = false
 is_malformed (edges name column) = false
 is_malformed (wait name) = false
 is_malformed (verify name column) = false
+is_malformed sync = false
 
 well_formed : (line : List ℕ) (request : Request) → IsShapeOf request line → is_malformed request ≡ false
 unfolding is_malformed
@@ -224,6 +232,7 @@ well_formed line list_layers is = refl
 well_formed line (edges name column) is = refl
 well_formed line (wait name) is = refl
 well_formed line (verify name column) is = refl
+well_formed line sync is = refl
 
 no_shape : (line : List ℕ) → request_of line ≡ malformed → (request : Request) → IsShapeOf request line → ⊥
 unfolding is_malformed
@@ -242,6 +251,7 @@ none_else line list_layers short none asks = absurd (none list_layers asks.1)
 none_else line (edges name column) short none asks = absurd (none (edges name column) asks.1)
 none_else line (wait name) short none asks = absurd (none (wait name) asks.1)
 none_else line (verify name column) short none asks = absurd (none (verify name column) asks.1)
+none_else line sync short none asks = absurd (none sync asks.1)
 
 pub malformed_line : laws.MalformedLine
 malformed_line line = (λ h. none_else line (request_of line) h.0 h.1 (tells line), λ is. (back line malformed is, no_shape line is))

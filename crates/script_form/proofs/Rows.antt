@@ -1,7 +1,7 @@
 -- What worked lines ask for, and the lines of worked scripts.
 use Rattle.std.proofs.Common.{◌≡◌, pos, negsuc, Some, None, [], ◌∷◌, refl, codes}
 use Rattle.script_form.specs.Lines.{ended_lines, whole_lines}
-use Rattle.script_form.specs.Requests.{nothing, malformed, put, define, remove, locate, list_layers, edges, wait, verify, number_of, request_of}
+use Rattle.script_form.specs.Requests.{nothing, malformed, put, define, remove, locate, list_layers, edges, wait, verify, sync, number_of, request_of}
 
 a_text_runs_to_the_end_of_its_line : request_of (codes "PUT A POLYGON  EMPTY ") ≡ put (codes "A") (codes "POLYGON  EMPTY ")
 a_text_runs_to_the_end_of_its_line = refl
@@ -59,6 +59,12 @@ a_column_may_be_asked_below_zero = refl
 
 wait_takes_a_name : request_of (codes "WAIT I") ≡ wait (codes "I")
 wait_takes_a_name = refl
+
+sync_stands_alone : request_of (codes "SYNC") ≡ sync
+sync_stands_alone = refl
+
+sync_takes_no_name : request_of (codes "SYNC I") ≡ malformed
+sync_takes_no_name = refl
 
 commands_are_in_upper_case : request_of (codes "layers") ≡ malformed
 commands_are_in_upper_case = refl

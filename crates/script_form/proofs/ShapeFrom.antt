@@ -7,8 +7,8 @@ use Rattle.std.proofs.lemmas.List.{take-append-drop}
 use Rattle.overlay_terms.specs.Blank.{is_blank}
 use Rattle.overlay_terms.proofs.NameLemmas.{same_name}
 use Rattle.script_form.specs.Lines.{line_max, is_gap, is_too_long, is_skipped, begins_comment}
-use Rattle.script_form.specs.Requests.{Request, nothing, too_long, malformed, put, define, remove, locate, list_layers, edges, wait, verify, is_word_byte, is_name_side, is_empty, begins, number_of, skip_while, words_of, behind_first_word, by_words, put_of, define_of, behind_sign, located, locate_of, remove_of, list_of, wait_of, numbered, name_and_number, edges_at, verify_at, about_tiles, request_of}
-use Rattle.script_form.specs.Shapes.{IsShort, AreGaps, ArePartingGaps, IsWord, IsLineOf, IsBlankOrComment, IsPutLine, IsDefineLine, IsDropLine, IsLocateLine, IsLayersLine, IsWaitLine, IsColumnLine}
+use Rattle.script_form.specs.Requests.{Request, nothing, too_long, malformed, put, define, remove, locate, list_layers, edges, wait, verify, sync, is_word_byte, is_name_side, is_empty, begins, number_of, skip_while, words_of, behind_first_word, by_words, put_of, define_of, behind_sign, located, locate_of, remove_of, list_of, wait_of, sync_of, numbered, name_and_number, edges_at, verify_at, about_tiles, request_of}
+use Rattle.script_form.specs.Shapes.{IsShort, AreGaps, ArePartingGaps, IsWord, IsLineOf, IsBlankOrComment, IsPutLine, IsDefineLine, IsDropLine, IsLocateLine, IsLayersLine, IsWaitLine, IsSyncLine, IsColumnLine}
 use Rattle.script_form.proofs.WordLemmas.{prefix_more, prefix_none, no_word, some_word}
 use Rattle.script_form.proofs.ShapeLemmas.{take_front}
 
@@ -168,6 +168,7 @@ Asks list_layers line = IsShort line × IsLayersLine line
 Asks (edges name column) line = IsShort line × IsColumnLine (codes "EDGES") name column line
 Asks (wait name) line = IsShort line × IsWaitLine name line
 Asks (verify name column) line = IsShort line × IsColumnLine (codes "VERIFY") name column line
+Asks sync line = IsShort line × IsSyncLine line
 
 -- of two requests by a test
 either : (A : Request → Type 0) (b : Bool) (x y : Request) → (b ≡ true → A x) → (b ≡ false → A y) → A (cond b x y)
@@ -267,6 +268,10 @@ module _ (line : List ℕ) (short : IsShort line) where
   wait_tells (name ∷ []) is = (short, is)
   wait_tells (name ∷ next ∷ words) is = short
 
+  sync_tells : (words : List (List ℕ)) → IsLineOf (codes "SYNC" ∷ words) line → Asks (sync_of words) line
+  sync_tells [] is = (short, is)
+  sync_tells (word ∷ words) is = short
+
   -- a whole point
   whole_tells : (name x y : List ℕ) → IsLineOf (codes "LOCATE" ∷ name ∷ x ∷ y ∷ []) line → (a b : Option ℤ) → number_of x ≡ a → number_of y ≡ b
       → Asks (located name a b (Some (pos 1))) line
@@ -317,7 +322,8 @@ module _ (line : List ℕ) (short : IsShort line) where
   tiles_tell word words is =
       either (λ r. Asks r line) (bytes_eq word (codes "EDGES")) _ _ (λ e. edges_tells words (of_command word (codes "EDGES") words is e))
       (λ _. either (λ r. Asks r line) (bytes_eq word (codes "WAIT")) _ _ (λ e. wait_tells words (of_command word (codes "WAIT") words is e))
-      (λ _. either (λ r. Asks r line) (bytes_eq word (codes "VERIFY")) _ _ (λ e. verify_tells words (of_command word (codes "VERIFY") words is e)) (λ _. short)))
+      (λ _. either (λ r. Asks r line) (bytes_eq word (codes "VERIFY")) _ _ (λ e. verify_tells words (of_command word (codes "VERIFY") words is e))
+      (λ _. either (λ r. Asks r line) (bytes_eq word (codes "SYNC")) _ _ (λ e. sync_tells words (of_command word (codes "SYNC") words is e)) (λ _. short))))
 
   begun_by : (word command : List ℕ) (words : List (List ℕ)) → words_of line ≡ word ∷ words → bytes_eq word command ≡ true → IsBegun command (behind_first_word line) line
   begun_by word command words is same = begun line command words (is ∙ ap (λ w. w ∷ words) (same_name word command same))

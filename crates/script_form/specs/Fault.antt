@@ -5,7 +5,7 @@ use Rattle.layer_expr.specs.Fault as expr
 use Rattle.exact_point.specs.Fault as point
 use Rattle.version_core.specs.Fault as version
 use Rattle.script_form.specs.declared.fault.CommandFault.{CommandFault}
-use Rattle.script_form.specs.declared.fault.CommandFault.TheVariants.{Wkt, Expression, Query, Version, CommandSyntax, LineTooLong, ReadLimit, Read, Write, OutOfMemory}
+use Rattle.script_form.specs.declared.fault.CommandFault.TheVariants.{Wkt, Expression, Query, Version, Device, Full, StoreFailed, SequenceLimit, OutOfMemory, CommandSyntax, LineTooLong, Closing, Gone, GridSize, NoStore, ReadLimit, Read, Write}
 
 -- the number under which a fault is printed
 abbrev pub code_of : CommandFault → ℕ
@@ -13,9 +13,17 @@ code_of (Wkt fault) = wkt.code_of fault
 code_of (Expression fault) = expr.code_of fault
 code_of (Query fault) = point.code_of fault
 code_of (Version fault) = version.code_of fault
+code_of Device = 30
+code_of Full = 31
+code_of StoreFailed = 35
+code_of SequenceLimit = 36
 code_of OutOfMemory = 40
 code_of CommandSyntax = 41
 code_of LineTooLong = 42
+code_of Closing = 43
+code_of Gone = 44
+code_of GridSize = 45
+code_of NoStore = 46
 code_of ReadLimit = 47
 code_of Read = 48
 code_of Write = 49
@@ -26,9 +34,17 @@ text_of (Wkt fault) = wkt.text_of fault
 text_of (Expression fault) = expr.text_of fault
 text_of (Query fault) = point.text_of fault
 text_of (Version fault) = version.text_of fault
+text_of Device = codes "device"
+text_of Full = codes "full"
+text_of StoreFailed = codes "store failed"
+text_of SequenceLimit = codes "sequence limit"
 text_of OutOfMemory = codes "out of memory"
 text_of CommandSyntax = codes "command syntax"
 text_of LineTooLong = codes "line too long"
+text_of Closing = codes "closing"
+text_of Gone = codes "gone"
+text_of GridSize = codes "grid size"
+text_of NoStore = codes "no store"
 text_of ReadLimit = codes "read limit"
 text_of Read = codes "read"
 text_of Write = codes "write"

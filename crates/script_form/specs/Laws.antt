@@ -2,8 +2,8 @@
 use Rattle.std.specs.Prelude.{◌≡◌, ℕ, ℤ, ◌<◌, ◌==◌, ◌↔◌, not, IsTrue, List, [], ◌∷◌, ◌++◌, length, codes}
 use Rattle.std.specs.List.{list_all}
 use Rattle.script_form.specs.Lines.{line_max, pieces_of}
-use Rattle.script_form.specs.Requests.{Request, nothing, too_long, malformed, put, define, remove, locate, list_layers, edges, wait, verify, words_of, request_of}
-use Rattle.script_form.specs.Shapes.{IsShort, IsLineOf, IsBlankOrComment, IsPutLine, IsDefineLine, IsDropLine, IsLocateLine, IsLayersLine, IsWaitLine, IsColumnLine, IsShapeOf}
+use Rattle.script_form.specs.Requests.{Request, nothing, too_long, malformed, put, define, remove, locate, list_layers, edges, wait, verify, sync, words_of, request_of}
+use Rattle.script_form.specs.Shapes.{IsShort, IsLineOf, IsBlankOrComment, IsPutLine, IsDefineLine, IsDropLine, IsLocateLine, IsLayersLine, IsWaitLine, IsSyncLine, IsColumnLine, IsShapeOf}
 
 -- pieces, with a line feed between each two
 abbrev pub joined : List (List ℕ) → List ℕ
@@ -49,6 +49,9 @@ LayersLine = (line : List ℕ) → (IsShort line × IsLayersLine line) ↔ (requ
 
 abbrev pub WaitLine : Type 0
 WaitLine = (name line : List ℕ) → (IsShort line × IsWaitLine name line) ↔ (request_of line ≡ wait name)
+
+abbrev pub SyncLine : Type 0
+SyncLine = (line : List ℕ) → (IsShort line × IsSyncLine line) ↔ (request_of line ≡ sync)
 
 abbrev pub EdgesLine : Type 0
 EdgesLine = (name : List ℕ) (column : ℤ) (line : List ℕ) → (IsShort line × IsColumnLine (codes "EDGES") name column line) ↔ (request_of line ≡ edges name column)

@@ -14,6 +14,10 @@ ok_line number = codes "ok " ++ (decimal number ++ 10 ∷ [])
 abbrev pub built_line : ℕ → List ℕ
 built_line number = codes "built " ++ (decimal number ++ 10 ∷ [])
 
+-- what is durable: the durable number
+abbrev pub durable_line : ℕ → List ℕ
+durable_line number = codes "durable " ++ (decimal number ++ 10 ∷ [])
+
 abbrev pub error_line : CommandFault → List ℕ
 error_line fault = codes "error " ++ (decimal (code_of fault) ++ (codes " " ++ (text_of fault ++ 10 ∷ [])))
 

@@ -1,7 +1,7 @@
 -- Requests of the code as requests of the definitions.
 use Rattle.script_form.specs.Requests as terms
 use Rattle.script_form.specs.declared.request.Request.{Request}
-use Rattle.script_form.specs.declared.request.Request.TheVariants.{Nothing, TooLong, Malformed, Put, Define, Remove, Locate, ListLayers, Edges, Wait, Verify}
+use Rattle.script_form.specs.declared.request.Request.TheVariants.{Nothing, TooLong, Malformed, Put, Define, Remove, Locate, ListLayers, Edges, Wait, Verify, Sync}
 
 abbrev pub request : Request → terms.Request
 request Nothing = terms.nothing
@@ -15,3 +15,4 @@ request ListLayers = terms.list_layers
 request (Edges name number) = terms.edges name.now number
 request (Wait name) = terms.wait name.now
 request (Verify name number) = terms.verify name.now number
+request Sync = terms.sync

@@ -18,6 +18,7 @@ pub data Request : Type 0 where
   edges : List ℕ → ℤ → Request
   wait : List ℕ → Request
   verify : List ℕ → ℤ → Request
+  sync : Request
 
 -- the bytes from the first on that fails the test
 abbrev pub skip_while : (ℕ → Bool) → List ℕ → List ℕ
@@ -117,6 +118,10 @@ abbrev pub wait_of : List (List ℕ) → Request
 wait_of (name ∷ []) = wait name
 wait_of other = malformed
 
+abbrev pub sync_of : List (List ℕ) → Request
+sync_of [] = sync
+sync_of (word ∷ words) = malformed
+
 -- EDGES and VERIFY: a name and the number of a column
 abbrev pub numbered : List ℕ → Option ℤ → Option (List ℕ × ℤ)
 numbered name None = None
@@ -134,12 +139,13 @@ abbrev pub verify_at : Option (List ℕ × ℤ) → Request
 verify_at None = malformed
 verify_at (Some (name, k)) = verify name k
 
--- the commands about tiles, by the first word
+-- the commands about tiles and about the store, by the first word
 abbrev pub about_tiles : List ℕ → List (List ℕ) → Request
 about_tiles word words =
     if bytes_eq word (codes "EDGES") then edges_at (name_and_number words)
     else (if bytes_eq word (codes "WAIT") then wait_of words
-    else (if bytes_eq word (codes "VERIFY") then verify_at (name_and_number words) else malformed))
+    else (if bytes_eq word (codes "VERIFY") then verify_at (name_and_number words)
+    else (if bytes_eq word (codes "SYNC") then sync_of words else malformed)))
 
 -- by its first word, in upper case as it is
 abbrev pub by_words : List (List ℕ) → List ℕ → Request

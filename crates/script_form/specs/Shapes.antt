@@ -3,7 +3,7 @@ use Rattle.std.specs.Prelude.{◌≡◌, ℕ, ℤ, pos, ◌<◌, ◌≤◌, ◌�
 use Rattle.std.specs.List.{list_all}
 use Rattle.overlay_terms.specs.Blank.{is_blank}
 use Rattle.script_form.specs.Lines.{line_max, is_gap}
-use Rattle.script_form.specs.Requests.{Request, nothing, too_long, malformed, put, define, remove, locate, list_layers, edges, wait, verify, is_word_byte, is_name_side, number_of, begins}
+use Rattle.script_form.specs.Requests.{Request, nothing, too_long, malformed, put, define, remove, locate, list_layers, edges, wait, verify, sync, is_word_byte, is_name_side, number_of, begins}
 
 -- not too long
 abbrev pub IsShort : List ℕ → Type 0
@@ -106,6 +106,10 @@ IsLayersLine line = IsLineOf (codes "LAYERS" ∷ []) line
 abbrev pub IsWaitLine : List ℕ → List ℕ → Type 0
 IsWaitLine name line = IsLineOf (codes "WAIT" ∷ name ∷ []) line
 
+-- SYNC alone
+abbrev pub IsSyncLine : List ℕ → Type 0
+IsSyncLine line = IsLineOf (codes "SYNC" ∷ []) line
+
 -- a command, a name and the number of a column
 pub record IsColumnLine (command name : List ℕ) (column : ℤ) (line : List ℕ) : Type 0 where
   pub digits : List ℕ
@@ -125,3 +129,4 @@ IsShapeOf list_layers line = IsLayersLine line
 IsShapeOf (edges name column) line = IsColumnLine (codes "EDGES") name column line
 IsShapeOf (wait name) line = IsWaitLine name line
 IsShapeOf (verify name column) line = IsColumnLine (codes "VERIFY") name column line
+IsShapeOf sync line = IsSyncLine line

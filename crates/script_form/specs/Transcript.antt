@@ -1,5 +1,6 @@
 -- The replies of a script: for each line a history that goes on from the one before, and the reply at its newest version.
-use Rattle.std.specs.Prelude.{◌≡◌, ℕ, ℤ, pos, negsuc, ◌⊎◌, Bool, true, false, IsTrue, List, [], ◌∷◌, ◌++◌, Option, Some, None}
+-- Where sessions share a book, `shared` says so: only such a book closes, is behind what a session saw, or has a store.
+use Rattle.std.specs.Prelude.{◌≡◌, ◌<◌, ◌≤◌, ℕ, ℤ, pos, negsuc, ◌⊎◌, Bool, true, false, IsTrue, List, [], ◌∷◌, ◌++◌, Option, Some, None}
 use Rattle.overlay_terms.specs.Plane.{WholePoint}
 use Rattle.overlay_terms.specs.Trees.{Tree}
 use Rattle.overlay_terms.specs.Layers.{answer_at}
@@ -25,15 +26,23 @@ use Rattle.version_core.specs.declared.verifying.Verdict.{Verdict}
 use Rattle.version_core.specs.Edges.{edges_refusal, finished_refusal, AreEdges}
 use Rattle.version_core.specs.Verdict.{IsVerdict}
 use Rattle.script_form.specs.declared.fault.CommandFault.{CommandFault}
-use Rattle.script_form.specs.declared.fault.CommandFault.TheVariants.{Wkt, Expression, Query, Version, CommandSyntax, LineTooLong, OutOfMemory}
-use Rattle.script_form.specs.Requests.{Request, nothing, too_long, malformed, put, define, remove, locate, list_layers, edges, wait, verify, request_of}
-use Rattle.script_form.specs.Replies.{ok_line, error_line, location_line, built_line, verdict_line}
+use Rattle.script_form.specs.declared.fault.CommandFault.TheVariants.{Wkt, Expression, Query, Version, Device, Full, StoreFailed, SequenceLimit, OutOfMemory, CommandSyntax, LineTooLong, Closing, Gone, NoStore}
+use Rattle.script_form.specs.Requests.{Request, nothing, too_long, malformed, put, define, remove, locate, list_layers, edges, wait, verify, sync, request_of}
+use Rattle.script_form.specs.Replies.{ok_line, error_line, location_line, built_line, durable_line, verdict_line}
 use Rattle.version_core.specs.Building.{IsBuilt, wait_refusal}
 
 -- a refused line: nothing is made, and the reply is the fault
 pub record IsRefused (fault : CommandFault) (made : List Command) (reply : List ℕ) : Type 0 where
   pub nothing_made : made ≡ []
   pub told : reply ≡ error_line fault
+
+-- a book that is shared closes
+abbrev pub IsClosing : Bool → List Command → List ℕ → Type 0
+IsClosing shared made reply = IsTrue shared × IsRefused Closing made reply
+
+-- a book that is shared is behind what was seen, or cannot show a version
+abbrev pub IsGone : Bool → List Command → List ℕ → Type 0
+IsGone shared made reply = IsTrue shared × IsRefused Gone made reply
 
 -- an accepted command: the newest entry is this session's, and the reply is its version's number
 pub record IsAcceptedBy (session : ℕ) (before : History) (command : Command) (after : History) (made : List Command) (reply : List ℕ) : Type 0 where
@@ -43,10 +52,12 @@ pub record IsAcceptedBy (session : ℕ) (before : History) (command : Command) (
   pub only : made ≡ command ∷ []
   pub told : reply ≡ ok_line version.number
 
--- a command: refused by the first reason that applies at the newest version, or accepted
-abbrev pub IsSubmitted : ℕ → History → Command → History → List Command → List ℕ → Type 0
-IsSubmitted session before command after made reply =
-    ((refusal : Refusal) × (refusal_at (newest after).number (newest after).layers command ≡ Some refusal) × IsRefused (Version (Layer (fault_of refusal))) made reply)
+-- a command: refused by the first reason that applies at the newest version, or accepted; or a book that is shared closes, or is behind
+abbrev pub IsSubmitted : Bool → ℕ → History → Command → History → List Command → List ℕ → Type 0
+IsSubmitted shared session before command after made reply =
+    IsClosing shared made reply
+    ⊎ IsGone shared made reply
+    ⊎ ((refusal : Refusal) × (refusal_at (newest after).number (newest after).layers command ≡ Some refusal) × IsRefused (Version (Layer (fault_of refusal))) made reply)
     ⊎ IsAcceptedBy session before command after made reply
 
 -- a line with a name: refused where it is no name, else answered
@@ -87,36 +98,74 @@ pub record IsBuiltTold (version : versions.Version) (name : List ℕ) (made : Li
   pub built : IsBuilt version name
   pub told : reply ≡ built_line version.number
 
+-- a wait ends as the book closes, where a tile of a layer is pending
+pub record IsWaitClosed (shared : Bool) (version : versions.Version) (name : List ℕ) (made : List Command) (reply : List ℕ) : Type 0 where
+  pub pending : ¬ (IsBuilt version name)
+  pub closing : IsClosing shared made reply
+
+-- what a store, or a book that closes before its store is done, says of a version that is not durable
+abbrev pub IsOfStore : CommandFault → Type 0
+IsOfStore fault =
+    (fault ≡ Device) ⊎ (fault ≡ Full) ⊎ (fault ≡ StoreFailed) ⊎ (fault ≡ SequenceLimit) ⊎ (fault ≡ OutOfMemory) ⊎ (fault ≡ Closing)
+
+-- the version that had been seen is durable, and the reply is the durable number
+pub record IsDurableTold (asked : ℕ) (durable : ℕ) (made : List Command) (reply : List ℕ) : Type 0 where
+  pub nothing_made : made ≡ []
+  pub reached : asked ≤ durable
+  pub told : reply ≡ durable_line durable
+
+-- the version that had been seen is not durable, for what the store says
+pub record IsNotDurable (asked : ℕ) (durable : ℕ) (made : List Command) (reply : List ℕ) : Type 0 where
+  pub behind : durable < asked
+  pub fault : CommandFault
+  pub of_store : IsOfStore fault
+  pub refused : IsRefused fault made reply
+
+-- whether the version that a session had seen is durable; a book that is not shared has no store
+abbrev pub IsSynced : Bool → ℕ → ℕ → List Command → List ℕ → Type 0
+IsSynced shared asked durable made reply =
+    IsRefused NoStore made reply
+    ⊎ IsGone shared made reply
+    ⊎ (IsTrue shared × IsDurableTold asked durable made reply)
+    ⊎ (IsTrue shared × IsNotDurable asked durable made reply)
+
 -- what a request makes of the history, what the session makes, and the reply
-abbrev pub IsAnswered : ℕ → History → Request → History → List Command → List ℕ → Type 0
-IsAnswered session before nothing after made reply = IsTold [] made reply
-IsAnswered session before too_long after made reply = IsRefused LineTooLong made reply
-IsAnswered session before malformed after made reply = IsRefused CommandSyntax made reply
-IsAnswered session before (put name text) after made reply =
+abbrev pub IsAnswered : Bool → ℕ → History → Request → History → List Command → List ℕ → Type 0
+IsAnswered shared session before nothing after made reply = IsTold [] made reply
+IsAnswered shared session before too_long after made reply = IsRefused LineTooLong made reply
+IsAnswered shared session before malformed after made reply = IsRefused CommandSyntax made reply
+IsAnswered shared session before (put name text) after made reply =
     WithName name made reply
     (((fault : WktFault) × wkt.IsRefusedBy text fault × IsRefused (Wkt fault) made reply)
-    ⊎ ((rings : List (List WholePoint)) × wkt.ReadsAs text rings × IsSubmitted session before (terms.put name rings) after made reply))
-IsAnswered session before (define name text) after made reply =
+    ⊎ ((rings : List (List WholePoint)) × wkt.ReadsAs text rings × IsSubmitted shared session before (terms.put name rings) after made reply))
+IsAnswered shared session before (define name text) after made reply =
     WithName name made reply
     (((fault : ExprFault) × expr.IsRefusedBy text fault × IsRefused (Expression fault) made reply)
-    ⊎ ((tree : Tree (List ℕ)) × expr.ReadsAs text tree × IsSubmitted session before (terms.define name tree) after made reply))
-IsAnswered session before (remove name) after made reply =
-    WithName name made reply (IsSubmitted session before (terms.remove name) after made reply)
-IsAnswered session before (locate name x y w) after made reply =
+    ⊎ ((tree : Tree (List ℕ)) × expr.ReadsAs text tree × IsSubmitted shared session before (terms.define name tree) after made reply))
+IsAnswered shared session before (remove name) after made reply =
+    WithName name made reply (IsSubmitted shared session before (terms.remove name) after made reply)
+IsAnswered shared session before (locate name x y w) after made reply =
     WithName name made reply
     ((¬ (IsQuery x y w) × IsRefused (Query PointRange) made reply)
+    ⊎ (IsQuery x y w × IsGone shared made reply)
     ⊎ (IsQuery x y w × (stands (newest after).layers name ≡ false) × IsRefused (Version (Layer UnknownLayer)) made reply)
     ⊎ (IsQuery x y w × IsTrue (stands (newest after).layers name)
     × IsTold (location_line (answer_at (newest after).layers name (record { x = x; y = y; w = w }))) made reply))
-IsAnswered session before list_layers after made reply = IsTold (layers_text (newest after).layers) made reply
-IsAnswered session before (edges name k) after made reply =
+IsAnswered shared session before list_layers after made reply = IsGone shared made reply ⊎ IsTold (layers_text (newest after).layers) made reply
+IsAnswered shared session before (edges name k) after made reply =
     WithName name made reply
-    (Asked (edges_refusal (newest after) name (asked_column k)) made reply (IsEdgesTold (newest after) name (asked_column k) made reply))
-IsAnswered session before (wait name) after made reply =
-    WithName name made reply (Asked (wait_refusal (newest after) name) made reply (IsBuiltTold (newest after) name made reply))
-IsAnswered session before (verify name k) after made reply =
+    (IsGone shared made reply
+    ⊎ Asked (edges_refusal (newest after) name (asked_column k)) made reply (IsEdgesTold (newest after) name (asked_column k) made reply))
+IsAnswered shared session before (wait name) after made reply =
     WithName name made reply
-    (Asked (finished_refusal (newest after) name (asked_column k)) made reply (IsVerdictTold (newest after) name (asked_column k) made reply))
+    (IsGone shared made reply
+    ⊎ Asked (wait_refusal (newest after) name) made reply
+    (IsBuiltTold (newest after) name made reply ⊎ IsWaitClosed shared (newest after) name made reply))
+IsAnswered shared session before (verify name k) after made reply =
+    WithName name made reply
+    (IsGone shared made reply
+    ⊎ Asked (finished_refusal (newest after) name (asked_column k)) made reply (IsVerdictTold (newest after) name (asked_column k) made reply))
+IsAnswered shared session before sync after made reply = IsSynced shared (newest before).number (newest after).durable made reply
 
 -- whether a request takes memory: for the name in it, which has to be one, or for the lines of its reply
 abbrev pub takes_memory : Request → Bool
@@ -131,20 +180,22 @@ takes_memory list_layers = true
 takes_memory (edges name k) = is_name name
 takes_memory (wait name) = is_name name
 takes_memory (verify name k) = is_name name
+takes_memory sync = false
 
 -- memory ran out for a request that takes some: nothing is made, and the reply is that fault
 abbrev pub IsOutOfMemory : Request → List Command → List ℕ → Type 0
 IsOutOfMemory request made reply = IsTrue (takes_memory request) × IsRefused OutOfMemory made reply
 
 -- one line: its history goes on from the one before, and it is answered there, or memory ran out for it
-pub record IsTurn (session : ℕ) (before : History) (line : List ℕ) (after : History) (made : List Command) (reply : List ℕ) : Type 0 where
+pub record IsTurn (shared : Bool) (session : ℕ) (before : History) (line : List ℕ) (after : History) (made : List Command) (reply : List ℕ) : Type 0 where
   pub goes_on : BeginsWith after before
-  pub answered : IsOutOfMemory (request_of line) made reply ⊎ IsAnswered session before (request_of line) after made reply
+  pub answered : IsOutOfMemory (request_of line) made reply ⊎ IsAnswered shared session before (request_of line) after made reply
 
 -- the lines in turn: the replies joined, and all that the session made, from what it had seen before to what it has seen then
-abbrev pub IsTranscript : ℕ → History → List (List ℕ) → History → List Command → List ℕ → Type 0
-IsTranscript session seen [] after made replies = (after ≡ seen) × (made ≡ []) × (replies ≡ [])
-IsTranscript session seen (line ∷ lines) after made replies =
+abbrev pub IsTranscript : Bool → ℕ → History → List (List ℕ) → History → List Command → List ℕ → Type 0
+IsTranscript shared session seen [] after made replies = (after ≡ seen) × (made ≡ []) × (replies ≡ [])
+IsTranscript shared session seen (line ∷ lines) after made replies =
     (mid : History) × (first : List Command) × (others : List Command) × (reply : List ℕ) × (rest : List ℕ)
-    × IsTurn session seen line mid first reply × IsTranscript session mid lines after others rest
+    × IsTurn shared session seen line mid first reply
+    × IsTranscript shared session mid lines after others rest
     × (made ≡ first ++ others) × (replies ≡ reply ++ rest)

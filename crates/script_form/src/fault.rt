@@ -23,9 +23,22 @@ pub enum CommandFault {
     Query(PointFault),
     /// Of a command on the layers, or of a question about them.
     Version(VersionFault),
+    /// The store's device failed.
+    Device,
+    /// No room is left in the store.
+    Full,
+    /// The store's device failed before.
+    StoreFailed,
+    SequenceLimit,
     OutOfMemory,
     CommandSyntax,
     LineTooLong,
+    /// The book closes.
+    Closing,
+    /// The book is behind what the session has seen, or cannot show a version.
+    Gone,
+    GridSize,
+    NoStore,
     /// A byte too many came.
     ReadLimit,
     Read,
@@ -42,9 +55,17 @@ impl CommandFault {
             CommandFault::Expression(fault) => fault.code(),
             CommandFault::Query(fault) => fault.code(),
             CommandFault::Version(fault) => fault.code(),
+            CommandFault::Device => 30,
+            CommandFault::Full => 31,
+            CommandFault::StoreFailed => 35,
+            CommandFault::SequenceLimit => 36,
             CommandFault::OutOfMemory => 40,
             CommandFault::CommandSyntax => 41,
             CommandFault::LineTooLong => 42,
+            CommandFault::Closing => 43,
+            CommandFault::Gone => 44,
+            CommandFault::GridSize => 45,
+            CommandFault::NoStore => 46,
             CommandFault::ReadLimit => 47,
             CommandFault::Read => 48,
             CommandFault::Write => 49,

@@ -1,5 +1,5 @@
 //! Laws of lines, and of what they ask for.
-ghost use Rattle.script_form.specs.Laws.{PiecesJoinToTheBytes, NoPieceHasALineFeed, WordsAreRead, LongLine, SkippedLine, PutLine, DefineLine, DropLine, LocateLine, LayersLine, WaitLine, EdgesLine, VerifyLine, MalformedLine};
+ghost use Rattle.script_form.specs.Laws.{PiecesJoinToTheBytes, NoPieceHasALineFeed, WordsAreRead, LongLine, SkippedLine, PutLine, DefineLine, DropLine, LocateLine, LayersLine, WaitLine, SyncLine, EdgesLine, VerifyLine, MalformedLine};
 
 /// The pieces of a script, joined by line feeds, are its bytes, and none of them has a line feed.
 pub fn pieces_law()
@@ -50,6 +50,11 @@ pub fn layers_law()
 /// What WAIT asks for, and that no other line asks for it.
 pub fn wait_law()
     ensures { WaitLine }
+{}
+
+/// What SYNC asks for, and that no other line asks for it.
+pub fn sync_law()
+    ensures { SyncLine }
 {}
 
 /// What EDGES and VERIFY ask for, and that no other line asks for it.

@@ -13,6 +13,8 @@ pub enum Reply {
     Located(Place),
     /// The tiles of a layer are built, with the number of the version.
     Built(u64),
+    /// The durable number.
+    Durable(u64),
     Compared(Verdict),
     Fault(CommandFault),
     /// Lines of text, each with its line feed.

@@ -2,7 +2,7 @@
 ghost use Rattle.std.specs.Prelude.{◌≡◌, ◌+◌, ◌≤◌, ◌++◌, IfErr};
 ghost use Rattle.arrayvec.specs.ArrayString.{array_string_len};
 ghost use Rattle.layer_book.specs.Place.{location};
-ghost use Rattle.script_form.specs.Replies.{ok_line, error_line, location_line, built_line, verdict_line};
+ghost use Rattle.script_form.specs.Replies.{ok_line, error_line, location_line, built_line, durable_line, verdict_line};
 ghost use Rattle.script_form.specs.Reply.{reply_text};
 ghost use Rattle.script_form.specs.FaultText.{shown, IsBrief};
 ghost use Rattle.script_form.specs.Writing.{Writes};
@@ -42,6 +42,7 @@ pub fn write_reply<W: Write>(writer: &mut W, reply: &Reply) -> Result<(), Comman
         Reply::Accepted(number) => write_text(writer, ok_text(*number).as_str().as_bytes()),
         Reply::Located(place) => write_text(writer, location_text(*place)),
         Reply::Built(number) => write_text(writer, built_text(*number).as_str().as_bytes()),
+        Reply::Durable(number) => write_text(writer, durable_text(*number).as_str().as_bytes()),
         Reply::Compared(verdict) => write_text(writer, verdict_text(*verdict)),
         Reply::Fault(fault) => write_text(writer, error_text(*fault).as_str().as_bytes()),
         Reply::Lines(lines) => write_text(writer, lines.as_slice()),
@@ -65,6 +66,17 @@ fn built_text(number: u64) -> ArrayString<32>
     let mut digits = Buffer::new();
     let mut text = ArrayString::new();
     text.push_str("built ");
+    text.push_str(digits.format(number));
+    text.push_str("\n");
+    text
+}
+
+fn durable_text(number: u64) -> ArrayString<32>
+    ensures { result.bytes ≡ durable_line number }
+{
+    let mut digits = Buffer::new();
+    let mut text = ArrayString::new();
+    text.push_str("durable ");
     text.push_str(digits.format(number));
     text.push_str("\n");
     text

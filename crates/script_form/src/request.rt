@@ -2,7 +2,7 @@
 ghost use Rattle.std.specs.Prelude.{◌≡◌, bytes_eq, option_map};
 ghost use Rattle.std.specs.List.{list_all};
 ghost use Rattle.script_form.specs.Lines.{is_skipped, begins_comment, is_gap};
-ghost use Rattle.script_form.specs.Requests.{request_of, by_words, words_of, behind_first_word, put_of, define_of, behind_sign, remove_of, locate_of, list_of, located, about_tiles, edges_at, verify_at, name_and_number, wait_of};
+ghost use Rattle.script_form.specs.Requests.{request_of, by_words, words_of, behind_first_word, put_of, define_of, behind_sign, remove_of, locate_of, list_of, located, about_tiles, edges_at, verify_at, name_and_number, wait_of, sync_of};
 ghost use Rattle.script_form.specs.Request.{request};
 
 use crate::number::number_of;
@@ -31,6 +31,7 @@ pub enum Request<'a> {
     Wait(&'a [u8]),
     /// A name and the number of a column.
     Verify(&'a [u8], i64),
+    Sync,
 }
 
 /// What the line asks for.
@@ -93,7 +94,7 @@ fn by_words(line: &[u8]) -> Request<'_>
     about_tiles(word, rest)
 }
 
-/// What a line asks for about tiles, by its first word.
+/// What a line asks for about tiles or about the store, by its first word.
 fn about_tiles<'a>(word: &[u8], rest: &'a [u8]) -> Request<'a>
     ensures { request result ≡ about_tiles word.now (words_of rest.now) }
 {
@@ -105,6 +106,9 @@ fn about_tiles<'a>(word: &[u8], rest: &'a [u8]) -> Request<'a>
     }
     if is_word(word, b"VERIFY") {
         return verify_of(rest);
+    }
+    if is_word(word, b"SYNC") {
+        return sync_of(rest);
     }
     Request::Malformed
 }
@@ -147,6 +151,15 @@ fn wait_of(rest: &[u8]) -> Request<'_>
         Some((name, rest)) if first_word(rest).is_none() => Request::Wait(name),
         _ => Request::Malformed,
     }
+}
+
+fn sync_of(rest: &[u8]) -> Request<'_>
+    ensures { request result ≡ sync_of (words_of rest.now) }
+{
+    if first_word(rest).is_some() {
+        return Request::Malformed;
+    }
+    Request::Sync
 }
 
 fn is_word(word: &[u8], command: &[u8]) -> bool

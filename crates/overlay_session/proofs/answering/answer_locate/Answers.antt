@@ -3,8 +3,13 @@ use Rattle.std.proofs.lemmas.Bool.{false≢true}
 use Rattle.std.proofs.lemmas.Int.{to_z-of_z}
 use Rattle.std.proofs.lemmas.Result.{err_from_is_err_and}
 use Rattle.layer_book.specs.Place.{location}
-use Rattle.overlay_session.proofs.AnswerLemmas.{query_read, point_read, locate_out_of_range, locate_refused, locate_told, unknown_stands}
+use Rattle.overlay_session.proofs.AnswerLemmas.{query_read, point_read, locate_unnamed, locate_out_of_range, locate_refused, locate_told, unknown_stands}
 use Rattle.overlay_session.proofs.answering.answer_locate.Goals as goal
+
+pub returns-in_err-name : goal.returns-in_err-name
+returns-in_err-name c =
+    let p = err_from_is_err_and c.from_residual.result c.from_residual.ensures.1 in
+    rw (p.1, p.2) (locate_unnamed c.args.book.now c.args.name.now c.args.x c.args.y c.args.w _ c.in_err-name.ensures.refused)
 
 pub returns-in_err-query : goal.returns-in_err-query
 returns-in_err-query c =

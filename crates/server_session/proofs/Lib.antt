@@ -1,0 +1,6 @@
+pub mod Turns
+pub mod Runs
+pub mod Steps
+pub mod Endings
+pub mod AnswerLemmas
+pub mod TileAnswers

@@ -1,0 +1,184 @@
+-- What is answered to questions about tiles and about the store.
+use Rattle.std.proofs.Common.{◌≡◌, ◌≤◌, ◌<◌, ℕ, ℤ, true, IsTrue, List, [], Option, Some, None, refl, sym, ap, subst, ◌∙◌, ◌⊎◌, inl, inr}
+use Rattle.overlay_terms.specs.Commands.{Command}
+use Rattle.overlay_terms.specs.Histories as versions
+use Rattle.overlay_terms.specs.Histories.{BeginsWith, newest}
+use Rattle.layer_expr.specs.Name.{is_name}
+use Rattle.layer_book.specs.Fault.{RefusedBy}
+use Rattle.layer_book.specs.declared.fault.LayerFault.TheVariants as layer_fault
+use Rattle.version_core.specs.declared.fault.VersionFault.{VersionFault}
+use Rattle.version_core.specs.declared.fault.VersionFault.TheVariants.{Layer}
+use Rattle.version_core.specs.declared.verifying.Verdict.{Verdict}
+use Rattle.version_core.specs.Building.{IsBuilt, wait_refusal}
+use Rattle.version_core.specs.Verdict.{IsVerdict}
+use Rattle.version_core.specs.Edges.{edges_refusal, finished_refusal, AreEdges}
+use Rattle.book_history.specs.Known.{Known, seen}
+use Rattle.book_history.specs.declared.fault.BookFault.{BookFault}
+use Rattle.book_history.specs.declared.fault.BookFault.TheVariants as book
+use Rattle.book_history.specs.declared.fault.StoreFault.{StoreFault}
+use Rattle.book_history.specs.declared.fault.StoreFault.TheVariants as store
+use Rattle.version_book.specs.Waits.{IsBuiltAt, IsSyncRefused, IsWaitRefused}
+use Rattle.script_form.specs.declared.fault.CommandFault.{CommandFault}
+use Rattle.script_form.specs.declared.fault.CommandFault.TheVariants.{Version, OutOfMemory, Closing, Gone, NoStore}
+use Rattle.script_form.specs.Reading.{IsMemory, IsNoName}
+use Rattle.script_form.specs.Replies.{error_line, built_line, durable_line, verdict_line}
+use Rattle.script_form.specs.Requests.{edges, wait, verify, sync}
+use Rattle.script_form.specs.Transcript.{Asked, asked_column, IsOutOfMemory, IsAnswered, IsOfStore}
+use Rattle.server_session.specs.Answering.{Answers}
+use Rattle.server_session.specs.Fault.{fault_told, store_told}
+use Rattle.server_session.specs.Turn.{Stays}
+use Rattle.server_session.proofs.AnswerLemmas.{answers_so, answers_there, unnamed, refused_so, refused_as}
+
+-- a question that is refused, and one that is not
+asked_some : (o : Option VersionFault) (wrong : VersionFault) (T : Type 0) → o ≡ Some wrong → Asked o [] (error_line (Version wrong)) T
+asked_some o wrong T is = subst (λ r. Asked r [] (error_line (Version wrong)) T) (sym is) (record { nothing_made = refl; told = refl })
+
+asked_none : (o : Option VersionFault) (made : List Command) (reply : List ℕ) (T : Type 0) → o ≡ None → T → Asked o made reply T
+asked_none o made reply T is answered = subst (λ r. Asked r made reply T) (sym is) answered
+
+-- what holds of a version, a name and a column holds of the newest version, of the name as it was read and of the column as it was asked for
+moved : (P : versions.Version → List ℕ → Option ℕ → Type 0) (version new : versions.Version) (known name : List ℕ) (n k : Option ℕ)
+    → version ≡ new → known ≡ name → n ≡ k → P version known n → P new name k
+moved P version new known name n k is same number h =
+    subst (λ v. P v name k) is (subst (λ m. P version m k) same (subst (λ m. P version known m) number h))
+
+-- ==== Lines whose name is none, or finds no memory
+
+pub edges_unnamed : (me : Known) (name : List ℕ) (k : ℤ) (fault : CommandFault) → IsMemory name fault ⊎ IsNoName name fault → Answers me (edges name k) me (error_line fault)
+edges_unnamed me name k fault refused = answers_there me (edges name k) (error_line fault) (unnamed name fault _ refused)
+
+pub verify_unnamed : (me : Known) (name : List ℕ) (k : ℤ) (fault : CommandFault) → IsMemory name fault ⊎ IsNoName name fault → Answers me (verify name k) me (error_line fault)
+verify_unnamed me name k fault refused = answers_there me (verify name k) (error_line fault) (unnamed name fault _ refused)
+
+pub wait_unnamed : (me : Known) (name : List ℕ) (fault : CommandFault) → IsMemory name fault ⊎ IsNoName name fault → Answers me (wait name) me (error_line fault)
+wait_unnamed me name fault refused = answers_there me (wait name) (error_line fault) (unnamed name fault _ refused)
+
+module _ (was now : Known) (stays : Stays was now) (made : now.made ≡ was.made) where
+  -- ==== EDGES
+
+  pub edges_gone : (name : List ℕ) (k : ℤ) (fault : CommandFault) → IsTrue (is_name name) → fault ≡ Gone → Answers was (edges name k) now (error_line fault)
+  edges_gone name k fault named gone = answers_so was now stays made (edges name k) (error_line fault) (λ _. inr (inr (named, inl (refl, refused_as fault Gone gone))))
+
+  pub edges_refused : (name known : List ℕ) (k : ℤ) (n : Option ℕ) (version : versions.Version) (wrong : VersionFault) → version ≡ newest (seen now)
+      → known ≡ name → n ≡ asked_column k → IsTrue (is_name name) → RefusedBy (Layer layer_fault.OutOfMemory) (edges_refusal version known n) wrong
+      → Answers was (edges name k) now (error_line (Version wrong))
+  edges_refused name known k n version wrong is same number named refused =
+      answers_so was now stays made (edges name k) (error_line (Version wrong))
+      (λ _. elim refused [
+        | inl memory ↦ inl (named, record { nothing_made = refl; told = ap (λ f. error_line (Version f)) memory.0 })
+        | inr by ↦
+            inr (inr (named, inr (asked_some _ wrong _ (moved (λ v m c. edges_refusal v m c ≡ Some wrong) version (newest (seen now)) known name n (asked_column k) is same number by))))
+      ])
+
+  pub edges_told : (name known : List ℕ) (k : ℤ) (n : Option ℕ) (version : versions.Version) (reply : List ℕ) → version ≡ newest (seen now)
+      → known ≡ name → n ≡ asked_column k → IsTrue (is_name name) → edges_refusal version known n ≡ None → AreEdges version known n reply → Answers was (edges name k) now reply
+  edges_told name known k n version reply is same number named free told =
+      answers_so was now stays made (edges name k) reply
+      (λ _. inr (inr (
+        named,
+        inr (asked_none _ [] reply _ (moved (λ v m c. edges_refusal v m c ≡ None) version (newest (seen now)) known name n (asked_column k) is same number free)
+            (record { nothing_made = refl; told = moved (λ v m c. AreEdges v m c reply) version (newest (seen now)) known name n (asked_column k) is same number told })),
+      )))
+
+  -- ==== VERIFY
+
+  pub verify_gone : (name : List ℕ) (k : ℤ) (fault : CommandFault) → IsTrue (is_name name) → fault ≡ Gone → Answers was (verify name k) now (error_line fault)
+  verify_gone name k fault named gone = answers_so was now stays made (verify name k) (error_line fault) (λ _. inr (inr (named, inl (refl, refused_as fault Gone gone))))
+
+  pub verify_refused : (name known : List ℕ) (k : ℤ) (n : Option ℕ) (version : versions.Version) (wrong : VersionFault) → version ≡ newest (seen now)
+      → known ≡ name → n ≡ asked_column k → IsTrue (is_name name) → RefusedBy (Layer layer_fault.OutOfMemory) (finished_refusal version known n) wrong
+      → Answers was (verify name k) now (error_line (Version wrong))
+  verify_refused name known k n version wrong is same number named refused =
+      answers_so was now stays made (verify name k) (error_line (Version wrong))
+      (λ _. elim refused [
+        | inl memory ↦ inl (named, record { nothing_made = refl; told = ap (λ f. error_line (Version f)) memory.0 })
+        | inr by ↦
+            inr (inr (named, inr (asked_some _ wrong _ (moved (λ v m c. finished_refusal v m c ≡ Some wrong) version (newest (seen now)) known name n (asked_column k) is same number by))))
+      ])
+
+  pub verify_told : (name known : List ℕ) (k : ℤ) (n : Option ℕ) (version : versions.Version) (verdict : Verdict) → version ≡ newest (seen now)
+      → known ≡ name → n ≡ asked_column k → IsTrue (is_name name) → finished_refusal version known n ≡ None → IsVerdict version known n verdict
+      → Answers was (verify name k) now (verdict_line verdict)
+  verify_told name known k n version verdict is same number named free right =
+      answers_so was now stays made (verify name k) (verdict_line verdict)
+      (λ _. inr (inr (
+        named,
+        inr (asked_none _ [] (verdict_line verdict) _ (moved (λ v m c. finished_refusal v m c ≡ None) version (newest (seen now)) known name n (asked_column k) is same number free)
+            (record {
+              nothing_made = refl;
+              verdict = verdict;
+              right = moved (λ v m c. IsVerdict v m c verdict) version (newest (seen now)) known name n (asked_column k) is same number right;
+              told = refl;
+            })),
+      )))
+
+-- ==== WAIT
+
+-- a session that waited
+abbrev pub Waited : Known → Known → Type 0
+Waited was now = (now.book ≡ was.book) × (now.session ≡ was.session) × (now.made ≡ was.made)
+
+pub waited_stays : (was now : Known) → BeginsWith (seen now) (seen was) → Waited was now → Stays was now
+waited_stays was now on same = record { book = same.0; session = same.1; goes_on = on }
+
+wait_refused_so : (was now : Known) (name : List ℕ) (fault : BookFault) → IsTrue (is_name name) → IsWaitRefused true (newest (seen now)) name fault
+    → IsOutOfMemory (wait name) [] (error_line (fault_told fault)) ⊎ IsAnswered true was.session (seen was) (wait name) (seen now) [] (error_line (fault_told fault))
+wait_refused_so was now name (book.Version wrong) named (inl by) = inr (inr (named, inr (asked_some _ wrong _ by)))
+wait_refused_so was now name (book.Version wrong) named (inr memory) = inl (named, record { nothing_made = refl; told = ap (λ f. error_line (Version f)) memory.0 })
+wait_refused_so was now name book.Closing named refused =
+    inr (inr (named, inr (asked_none _ [] _ _ refused.1 (inr (record { pending = refused.2; closing = (refl, refused_so Closing) })))))
+wait_refused_so was now name book.Gone named refused = inr (inr (named, inl (refl, refused_so Gone)))
+wait_refused_so was now name book.NoStore named refused = absurd refused
+wait_refused_so was now name (book.Store fault) named refused = absurd refused
+
+pub wait_refused : (was now : Known) (name known : List ℕ) (fault : BookFault) → BeginsWith (seen now) (seen was) → Waited was now → known ≡ name → IsTrue (is_name name)
+    → IsWaitRefused true (newest (seen now)) known fault → (told : CommandFault) → told ≡ fault_told fault → Answers was (wait name) now (error_line told)
+wait_refused was now name known fault on same is named refused told same_told =
+    subst (λ (f : CommandFault). Answers was (wait name) now (error_line f)) (sym same_told)
+    (answers_so was now (waited_stays was now on same) same.2 (wait name) (error_line (fault_told fault))
+    (λ _. wait_refused_so was now name fault named (subst (λ n. IsWaitRefused true (newest (seen now)) n fault) is refused)))
+
+pub wait_told : (was now : Known) (name known : List ℕ) (number : ℕ) → BeginsWith (seen now) (seen was) → Waited was now → known ≡ name → IsTrue (is_name name)
+    → IsBuiltAt (newest (seen now)) known number → Answers was (wait name) now (built_line number)
+wait_told was now name known number on same is named built =
+    let there = subst (λ n. IsBuiltAt (newest (seen now)) n number) is built in
+    answers_so was now (waited_stays was now on same) same.2 (wait name) (built_line number)
+    (λ _. inr (inr (named, inr (asked_none _ [] (built_line number) _ there.derived (inl (record { nothing_made = refl; built = there.built; told = ap built_line (sym there.numbered) }))))))
+
+-- ==== SYNC
+
+of_store : (fault : StoreFault) → IsOfStore (store_told fault)
+of_store store.Device = inl refl
+of_store store.Full = inr (inl refl)
+of_store store.Failed = inr (inr (inl refl))
+of_store store.SequenceLimit = inr (inr (inr (inl refl)))
+of_store store.OutOfMemory = inr (inr (inr (inr (inl refl))))
+
+sync_refused_so : (was now : Known) (fault : BookFault) → IsSyncRefused (newest (seen was)).number (newest (seen now)) fault
+    → IsOutOfMemory sync [] (error_line (fault_told fault)) ⊎ IsAnswered true was.session (seen was) sync (seen now) [] (error_line (fault_told fault))
+sync_refused_so was now (book.Version wrong) refused = absurd refused
+sync_refused_so was now book.Closing refused =
+    inr (inr (inr (inr (refl, record { behind = refused; fault = Closing; of_store = inr (inr (inr (inr (inr refl)))); refused = refused_so Closing }))))
+sync_refused_so was now book.Gone refused = inr (inr (inl (refl, refused_so Gone)))
+sync_refused_so was now book.NoStore refused = inr (inl (refused_so NoStore))
+sync_refused_so was now (book.Store fault) refused =
+    inr (inr (inr (inr (refl, record { behind = refused; fault = store_told fault; of_store = of_store fault; refused = refused_so (store_told fault) }))))
+
+pub sync_refused : (was now : Known) (fault : BookFault) → BeginsWith (seen now) (seen was) → Waited was now
+    → IsSyncRefused (newest (seen was)).number (newest (seen now)) fault → (told : CommandFault) → told ≡ fault_told fault → Answers was sync now (error_line told)
+sync_refused was now fault on same refused told same_told =
+    subst (λ (f : CommandFault). Answers was sync now (error_line f)) (sym same_told)
+    (answers_so was now (waited_stays was now on same) same.2 sync (error_line (fault_told fault)) (λ _. sync_refused_so was now fault refused))
+
+pub sync_told : (was now : Known) (number : ℕ) → BeginsWith (seen now) (seen was) → Waited was now
+    → ((newest (seen now)).durable ≡ number) × ((newest (seen was)).number ≤ number) → Answers was sync now (durable_line number)
+sync_told was now number on same reached =
+    answers_so was now (waited_stays was now on same) same.2 sync (durable_line number)
+    (λ _. inr (inr (inr (inl (
+      refl,
+      record {
+        nothing_made = refl;
+        reached = subst (λ n. (newest (seen was)).number ≤ n) (sym reached.0) reached.1;
+        told = ap durable_line (sym reached.0);
+      },
+    )))))

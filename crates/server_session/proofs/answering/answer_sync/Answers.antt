@@ -1,0 +1,12 @@
+use Rattle.server_session.proofs.TileAnswers.{sync_refused, sync_told}
+use Rattle.server_session.proofs.answering.answer_sync.Goals as goal
+
+pub returns-in-Ok : goal.returns-in-Ok
+returns-in-Ok g c =
+    let e = c.wait_durable.ensures in
+    sync_told c.args.me.now c.wait_durable.new.me c.in-Ok.number e.goes_on e.same c.in-Ok.ensures.ok
+
+pub returns-in-Err : goal.returns-in-Err
+returns-in-Err g c =
+    let e = c.wait_durable.ensures in
+    sync_refused c.args.me.now c.wait_durable.new.me c.in-Err.fault e.goes_on e.same c.in-Err.ensures.refused _ c.command_fault.ensures

@@ -1,0 +1,5 @@
+pub mod Session
+pub mod Fault
+pub mod Turn
+pub mod Answering
+pub mod Loop

@@ -1,0 +1,243 @@
+//! The answer to one line.
+ghost use Rattle.std.specs.Prelude.{◌≡◌, IfOk, IfErr};
+ghost use Rattle.std.specs.Arc.{arc_value};
+ghost use Rattle.overlay_terms.specs.Histories.{newest, IsHistory};
+ghost use Rattle.book_history.specs.Known.{seen};
+ghost use Rattle.layer_book.specs.Command.{command};
+ghost use Rattle.script_form.specs.Reply.{reply_text};
+ghost use Rattle.script_form.specs.Request.{request};
+ghost use Rattle.script_form.specs.Requests.{put, define, remove, locate, list_layers, edges, wait, verify, sync};
+ghost use Rattle.script_form.specs.Transcript.{asked_column};
+ghost use Rattle.server_session.specs.Answering.{Answers, Submits, result_text};
+ghost use Rattle.server_session.specs.Turn.{Stays, TakesTurn};
+
+use crate::fault::command_fault;
+use exact_point::QueryPoint;
+use layer_book::command::Command;
+use plane_base::Column;
+use script_form::{
+    CommandFault, Reply, Request, read_define, read_name, read_put, read_remove, request_of,
+};
+use std::alloc::Global;
+use std::sync::{Arc, Wait};
+use version_book::session::Session;
+use version_book::shared::Shared;
+use version_book::trace::Naming;
+use version_core::version::Version;
+
+/// What a line makes of the book and the session, and the reply. A line that is too long may be handed in cut off
+/// behind its first 65,537 bytes.
+pub fn answer<J: Naming, S: Wait + Drop, Q: Wait>(
+    rt: &Q,
+    alloc: Global,
+    shared: &Shared<J, S>,
+    me: &mut Session,
+    line: &[u8],
+) -> Reply
+    requires { me.old.book ≡ J.book }
+    ensures { TakesTurn me.old line.now me.new (reply_text result) }
+{
+    match answer_request(rt, alloc, shared, me, request_of(line)) {
+        Ok(reply) => reply,
+        Err(fault) => Reply::Fault(fault),
+    }
+}
+
+fn answer_request<J: Naming, S: Wait + Drop, Q: Wait>(
+    rt: &Q,
+    alloc: Global,
+    shared: &Shared<J, S>,
+    me: &mut Session,
+    asked: Request<'_>,
+) -> Result<Reply, CommandFault>
+    requires { me.old.book ≡ J.book }
+    ensures { Answers me.old (request asked.entry) me.new (result_text result) }
+{
+    match asked {
+        Request::Nothing => Ok(Reply::Nothing),
+        Request::TooLong => Err(CommandFault::LineTooLong),
+        Request::Malformed => Err(CommandFault::CommandSyntax),
+        Request::Put(name, text) => answer_put(rt, alloc, shared, me, name, text),
+        Request::Define(name, text) => answer_define(rt, alloc, shared, me, name, text),
+        Request::Remove(name) => answer_remove(rt, alloc, shared, me, name),
+        Request::Locate(name, x, y, w) => answer_locate(alloc, me, name, x, y, w),
+        Request::ListLayers => answer_list(alloc, me),
+        Request::Edges(name, number) => answer_edges(alloc, me, name, number),
+        Request::Wait(name) => answer_wait(rt, alloc, shared, me, name),
+        Request::Verify(name, number) => answer_verify(alloc, me, name, number),
+        Request::Sync => answer_sync(rt, shared, me),
+    }
+}
+
+fn answer_put<J: Naming, S: Wait + Drop, Q: Wait>(
+    rt: &Q,
+    alloc: Global,
+    shared: &Shared<J, S>,
+    me: &mut Session,
+    name: &[u8],
+    text: &[u8],
+) -> Result<Reply, CommandFault>
+    requires { me.old.book ≡ J.book }
+    ensures { Answers me.old (put name.now text.now) me.new (result_text result) }
+{
+    let change = read_put(alloc, name, text)?;
+    submit(rt, alloc, shared, me, &change)
+}
+
+fn answer_define<J: Naming, S: Wait + Drop, Q: Wait>(
+    rt: &Q,
+    alloc: Global,
+    shared: &Shared<J, S>,
+    me: &mut Session,
+    name: &[u8],
+    text: &[u8],
+) -> Result<Reply, CommandFault>
+    requires { me.old.book ≡ J.book }
+    ensures { Answers me.old (define name.now text.now) me.new (result_text result) }
+{
+    let change = read_define(alloc, name, text)?;
+    submit(rt, alloc, shared, me, &change)
+}
+
+fn answer_remove<J: Naming, S: Wait + Drop, Q: Wait>(
+    rt: &Q,
+    alloc: Global,
+    shared: &Shared<J, S>,
+    me: &mut Session,
+    name: &[u8],
+) -> Result<Reply, CommandFault>
+    requires { me.old.book ≡ J.book }
+    ensures { Answers me.old (remove name.now) me.new (result_text result) }
+{
+    let change = read_remove(alloc, name)?;
+    submit(rt, alloc, shared, me, &change)
+}
+
+/// The reply to a command.
+fn submit<J: Naming, S: Wait + Drop, Q: Wait>(
+    rt: &Q,
+    alloc: Global,
+    shared: &Shared<J, S>,
+    me: &mut Session,
+    change: &Command,
+) -> Result<Reply, CommandFault>
+    requires { me.old.book ≡ J.book }
+    ensures { Submits me.old (command change.now) me.new (result_text result) }
+{
+    match shared.submit(rt, alloc, me, change) {
+        Ok(number) => Ok(Reply::Accepted(number)),
+        Err(fault) => Err(command_fault(fault)),
+    }
+}
+
+/// The newest version that the book shows. It waits for nobody.
+fn look(me: &mut Session) -> Result<Arc<Version, Global>, CommandFault>
+    ensures stays { Stays me.old me.new }
+    ensures newest { IfOk result (λ version. arc_value version ≡ newest (seen me.new)) }
+    ensures history { IfOk result (λ _. IsHistory (seen me.new)) }
+    ensures made { me.new.made ≡ me.old.made }
+    ensures err { IfErr result (λ fault. fault ≡ CommandFault.Gone) }
+{
+    match me.snapshot() {
+        Ok(version) => Ok(version),
+        Err(_) => Err(CommandFault::Gone),
+    }
+}
+
+/// Where a point lies. The name alone takes memory.
+fn answer_locate(
+    alloc: Global,
+    me: &mut Session,
+    name: &[u8],
+    x: i64,
+    y: i64,
+    w: i64,
+) -> Result<Reply, CommandFault>
+    ensures { Answers me.old (locate name.now x y w) me.new (result_text result) }
+{
+    let name = read_name(alloc, name)?;
+    let query = QueryPoint::new(x, y, w)?;
+    let version = look(me)?;
+    let place = version.locate(&name, &query)?;
+    Ok(Reply::Located(place))
+}
+
+fn answer_list(alloc: Global, me: &mut Session) -> Result<Reply, CommandFault>
+    ensures { Answers me.old list_layers me.new (result_text result) }
+{
+    let version = look(me)?;
+    Ok(Reply::Lines(version.layers().list(alloc)?))
+}
+
+/// The pieces of a tile.
+fn answer_edges(
+    alloc: Global,
+    me: &mut Session,
+    name: &[u8],
+    number: i64,
+) -> Result<Reply, CommandFault>
+    ensures { Answers me.old (edges name.now number) me.new (result_text result) }
+{
+    let name = read_name(alloc, name)?;
+    let version = look(me)?;
+    let lines = version.edges_in(alloc, &name, asked_column(number))?;
+    Ok(Reply::Lines(lines))
+}
+
+/// Waits until the tiles of a layer are built.
+fn answer_wait<J: Naming, S: Wait + Drop, Q: Wait>(
+    rt: &Q,
+    alloc: Global,
+    shared: &Shared<J, S>,
+    me: &mut Session,
+    name: &[u8],
+) -> Result<Reply, CommandFault>
+    requires { me.old.book ≡ J.book }
+    ensures { Answers me.old (wait name.now) me.new (result_text result) }
+{
+    let name = read_name(alloc, name)?;
+    match shared.wait_built(rt, me, &name) {
+        Ok(number) => Ok(Reply::Built(number)),
+        Err(fault) => Err(command_fault(fault)),
+    }
+}
+
+/// Compares a tile with one that is built anew.
+fn answer_verify(
+    alloc: Global,
+    me: &mut Session,
+    name: &[u8],
+    number: i64,
+) -> Result<Reply, CommandFault>
+    ensures { Answers me.old (verify name.now number) me.new (result_text result) }
+{
+    let name = read_name(alloc, name)?;
+    let version = look(me)?;
+    let verdict = version.verify_in(alloc, &name, asked_column(number))?;
+    Ok(Reply::Compared(verdict))
+}
+
+/// Waits until the newest version that the session has seen is durable.
+fn answer_sync<J: Naming, S: Wait + Drop, Q: Wait>(
+    rt: &Q,
+    shared: &Shared<J, S>,
+    me: &mut Session,
+) -> Result<Reply, CommandFault>
+    requires { me.old.book ≡ J.book }
+    ensures { Answers me.old sync me.new (result_text result) }
+{
+    match shared.wait_durable(rt, me) {
+        Ok(number) => Ok(Reply::Durable(number)),
+        Err(fault) => Err(command_fault(fault)),
+    }
+}
+
+/// The column that was asked for, if there is one. None has a number below 0.
+fn asked_column(number: i64) -> Option<Column>
+    ensures { result ≡ asked_column number }
+{
+    if number < 0 {
+        return None;
+    }
+    Column::new(number as u64)
+}

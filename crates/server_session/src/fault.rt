@@ -1,0 +1,31 @@
+//! What the book refuses, as a reply tells it.
+ghost use Rattle.std.specs.Prelude.{◌≡◌};
+ghost use Rattle.server_session.specs.Fault.{fault_told, store_told};
+
+use script_form::CommandFault;
+use version_book::fault::{BookFault, StoreFault};
+
+/// The fault as a reply tells it.
+pub(crate) fn command_fault(fault: BookFault) -> CommandFault
+    ensures { result ≡ fault_told fault }
+{
+    match fault {
+        BookFault::Version(fault) => CommandFault::Version(fault),
+        BookFault::Closing => CommandFault::Closing,
+        BookFault::Gone => CommandFault::Gone,
+        BookFault::NoStore => CommandFault::NoStore,
+        BookFault::Store(fault) => store_fault(fault),
+    }
+}
+
+fn store_fault(fault: StoreFault) -> CommandFault
+    ensures { result ≡ store_told fault }
+{
+    match fault {
+        StoreFault::Device => CommandFault::Device,
+        StoreFault::Full => CommandFault::Full,
+        StoreFault::Failed => CommandFault::StoreFailed,
+        StoreFault::SequenceLimit => CommandFault::SequenceLimit,
+        StoreFault::OutOfMemory => CommandFault::OutOfMemory,
+    }
+}

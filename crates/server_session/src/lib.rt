@@ -1,0 +1,8 @@
+//! A session of a book that threads share: the answer to a line, and a run from the bytes of a script to those of its replies.
+#![tactic(auto)]
+
+pub mod answering;
+mod fault;
+pub mod session;
+
+pub use session::session_run;

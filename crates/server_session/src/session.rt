@@ -1,0 +1,193 @@
+//! A session of a book that threads share, from the bytes of a script to the bytes of its replies.
+ghost use Rattle.std.specs.Prelude.{◌≡◌, ◌<◌, ◌∷◌, [], length, IfOk};
+ghost use Rattle.overlay_terms.specs.Histories.{BeginsWith};
+ghost use Rattle.overlay_terms.specs.KeptLaws.{IsExact};
+ghost use Rattle.book_history.specs.Known.{seen};
+ghost use Rattle.server_session.specs.Session.{IsSharedSession};
+ghost use Rattle.server_session.specs.Loop.{AnswersLine, TakesBytes, Finishes, EndsBy};
+ghost use Rattle.server_session.specs.Turn.{Stays};
+
+use crate::answering::answer;
+use script_form::{LineBuffer, SCRIPT_MAX, SessionEnd, read_chunk, write_reply, write_text};
+use std::alloc::{AllocError, Global};
+use std::io::{Read, Write};
+use std::sync::Wait;
+use version_book::session::Session;
+use version_book::shared::Shared;
+use version_book::trace::Naming;
+
+/// How many bytes are asked for at once.
+const CHUNK: usize = 4096;
+
+/// A write of a reply failed.
+#[derive(Drop)]
+struct WriteFailed;
+
+/// Runs a script in a book that other threads may change: reads its lines, and writes the reply to each before it asks
+/// for more bytes. The room for its lines is had first, and a fault's line takes none: where there is none it fails with
+/// 40, and from then on no want of memory ends it.
+pub fn session_run<J: Naming, S: Wait + Drop, Q: Wait, R: Read, W: Write>(
+    rt: &Q,
+    alloc: Global,
+    shared: &Shared<J, S>,
+    me: &mut Session,
+    reader: &mut R,
+    writer: &mut W,
+) -> SessionEnd
+    requires { me.old.book ≡ J.book }
+    ensures run { IsExact (seen me.old).start → IsSharedSession result me.old me.new (R.remaining reader.old)
+        (R.remaining reader.new) (W.contents writer.old) (W.contents writer.new) }
+    ensures goes_on { BeginsWith (seen me.new) (seen me.old) }
+    ensures same { (me.new.book ≡ me.old.book) × (me.new.session ≡ me.old.session) }
+{
+    match buffers(alloc) {
+        Ok((mut line, mut chunk)) => run(
+            rt,
+            alloc,
+            shared,
+            me,
+            &mut line,
+            chunk.as_mut_slice(),
+            reader,
+            writer,
+        ),
+        Err(_) => SessionEnd::Failed(40),
+    }
+}
+
+/// Room for a line, and for what a read brings.
+fn buffers(alloc: Global) -> Result<(LineBuffer, Vec<u8>), AllocError>
+    ensures line { IfOk result (λ rooms. rooms.0 ≡ []) }
+    ensures chunk { IfOk result (λ rooms. length rooms.1.items ≡ CHUNK) }
+{
+    let line = LineBuffer::new(alloc)?;
+    let chunk = vec![in alloc; 0; CHUNK]?;
+    Ok((line, chunk))
+}
+
+fn run<J: Naming, S: Wait + Drop, Q: Wait, R: Read, W: Write>(
+    rt: &Q,
+    alloc: Global,
+    shared: &Shared<J, S>,
+    me: &mut Session,
+    line: &mut LineBuffer,
+    chunk: &mut [u8],
+    reader: &mut R,
+    writer: &mut W,
+) -> SessionEnd
+    requires book { me.old.book ≡ J.book }
+    requires empty { line.old ≡ [] }
+    requires room { 0 < length chunk.old }
+    ensures run { IsExact (seen me.old).start → IsSharedSession result me.old me.new (R.remaining reader.old)
+        (R.remaining reader.new) (W.contents writer.old) (W.contents writer.new) }
+    ensures stays { Stays me.old me.new }
+{
+    let mut taken = 0;
+    while taken <= SCRIPT_MAX {
+        let count = match read_chunk(reader, chunk, taken) {
+            Err(_) => return end_by(48, b"error 48 read\n", writer),
+            Ok(0) => return finish(rt, alloc, shared, me, line, writer),
+            Ok(count) => count,
+        };
+        let allowed = count.min(SCRIPT_MAX - taken);
+        let told = take_bytes(rt, alloc, shared, me, line, &chunk[..allowed], writer);
+        if told.is_err() {
+            return SessionEnd::Failed(49);
+        }
+        taken += count;
+    }
+    end_by(47, b"error 47 read limit\n", writer)
+}
+
+/// Takes bytes of the script, and answers each line that they end.
+fn take_bytes<J: Naming, S: Wait + Drop, Q: Wait, W: Write>(
+    rt: &Q,
+    alloc: Global,
+    shared: &Shared<J, S>,
+    me: &mut Session,
+    line: &mut LineBuffer,
+    bytes: &[u8],
+    writer: &mut W,
+) -> Result<(), WriteFailed>
+    requires { me.old.book ≡ J.book }
+    ensures takes { TakesBytes result me.old line.old bytes.now me.new line.new (W.contents writer.old) (W.contents writer.new) }
+    ensures stays { Stays me.old me.new }
+{
+    for byte in bytes {
+        take_byte(rt, alloc, shared, me, line, *byte, writer)?;
+    }
+    Ok(())
+}
+
+fn take_byte<J: Naming, S: Wait + Drop, Q: Wait, W: Write>(
+    rt: &Q,
+    alloc: Global,
+    shared: &Shared<J, S>,
+    me: &mut Session,
+    line: &mut LineBuffer,
+    byte: u8,
+    writer: &mut W,
+) -> Result<(), WriteFailed>
+    requires { me.old.book ≡ J.book }
+    ensures takes { TakesBytes result me.old line.old (byte ∷ []) me.new line.new (W.contents writer.old) (W.contents writer.new) }
+    ensures stays { Stays me.old me.new }
+{
+    if byte != b'\n' {
+        line.push(byte);
+        return Ok(());
+    }
+    answer_line(rt, alloc, shared, me, line.without_cr(), writer)?;
+    line.clear();
+    Ok(())
+}
+
+fn answer_line<J: Naming, S: Wait + Drop, Q: Wait, W: Write>(
+    rt: &Q,
+    alloc: Global,
+    shared: &Shared<J, S>,
+    me: &mut Session,
+    line: &[u8],
+    writer: &mut W,
+) -> Result<(), WriteFailed>
+    requires { me.old.book ≡ J.book }
+    ensures { AnswersLine result me.old line.now me.new (W.contents writer.old) (W.contents writer.new) }
+{
+    let reply = answer(rt, alloc, shared, me, line);
+    match write_reply(writer, &reply) {
+        Ok(()) => Ok(()),
+        Err(_) => Err(WriteFailed),
+    }
+}
+
+/// At the end of the script: answers a last line that lacks its line feed.
+fn finish<J: Naming, S: Wait + Drop, Q: Wait, W: Write>(
+    rt: &Q,
+    alloc: Global,
+    shared: &Shared<J, S>,
+    me: &mut Session,
+    line: &LineBuffer,
+    writer: &mut W,
+) -> SessionEnd
+    requires { me.old.book ≡ J.book }
+    ensures finishes { Finishes result me.old line.now me.new (W.contents writer.old) (W.contents writer.new) }
+    ensures stays { Stays me.old me.new }
+{
+    let bytes = line.bytes();
+    if bytes.is_empty() {
+        return SessionEnd::End;
+    }
+    match answer_line(rt, alloc, shared, me, bytes, writer) {
+        Ok(()) => SessionEnd::End,
+        Err(_) => SessionEnd::Failed(49),
+    }
+}
+
+/// Writes the line of the fault that ends the session.
+fn end_by<W: Write>(number: u8, line: &[u8], writer: &mut W) -> SessionEnd
+    ensures { EndsBy result number line.now (W.contents writer.old) (W.contents writer.new) }
+{
+    match write_text(writer, line) {
+        Ok(()) => SessionEnd::Failed(number),
+        Err(_) => SessionEnd::Failed(49),
+    }
+}
