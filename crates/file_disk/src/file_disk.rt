@@ -1,0 +1,109 @@
+//! A disk in a file of the operating system, of which nothing is claimed.
+ghost use Rattle.std.specs.Prelude.{[]};
+
+use disk_model::disk::Disk;
+use disk_model::fault::DiskFault;
+use std::fs::{File, OpenOptions};
+use std::io;
+use std::os::unix::fs::FileExt;
+use std::path::Path;
+use std::rt::Files;
+
+/// A plain file. That it is honest is claimed nowhere: what it does is shown by tests.
+#[derive(Drop)]
+pub struct FileDisk {
+    /// None once a sync has failed. What was written may be gone then although the system takes the next sync as
+    /// done, so each call fails until the file is opened anew.
+    file: Option<File>,
+}
+
+impl FileDisk {
+    /// The file at a path. Where it is absent it is made if `make` says so, and else that is the fault `Device`, as is
+    /// a folder, a device and whatever the system refuses. No byte of a file that is there is changed or cut off.
+    pub fn at<R: Files<File = File>>(
+        rt: &R,
+        path: &str,
+        make: bool,
+    ) -> Result<FileDisk, DiskFault> {
+        let file = told(opened(rt, path, make))?;
+        Ok(FileDisk { file: Some(file) })
+    }
+
+    /// The file, as long as no sync has failed.
+    fn file(&self) -> Result<&File, DiskFault> {
+        self.file.as_ref().ok_or(DiskFault::Device)
+    }
+}
+
+/// The plain file at a path. One that may have been made is entered in its folder for good.
+fn opened<R: Files<File = File>>(rt: &R, path: &str, make: bool) -> io::Result<File> {
+    let mut how = OpenOptions::new();
+    how.read(true).write(true).create(make);
+    let file = how.open(rt, path)?;
+    if !file.metadata()?.is_file() {
+        return Err(io::Error::from(io::ErrorKind::InvalidInput));
+    }
+    if make {
+        folder_of(rt, path)?.sync_all()?;
+    }
+    Ok(file)
+}
+
+/// The folder in which a path has its file.
+fn folder_of<R: Files<File = File>>(rt: &R, path: &str) -> io::Result<File> {
+    match Path::new(path).parent() {
+        Some(folder) if !folder.as_str().is_empty() => File::open(rt, folder),
+        _ => File::open(rt, "."),
+    }
+}
+
+/// What the system answered, with each of its errors as the device's.
+fn told<T: Drop>(answer: io::Result<T>) -> Result<T, DiskFault> {
+    match answer {
+        Ok(x) => Ok(x),
+        Err(_) => Err(DiskFault::Device),
+    }
+}
+
+impl Disk for FileDisk {
+    ghost use Rattle.file_disk.specs.Nowhere.{none_now, none_only, none_stays};
+
+    ghost is_honest = { λ _. ⊥ };
+
+    ghost seen = { λ _. [] };
+
+    ghost may_leave = { λ _ _. ⊥ };
+
+    ghost moment = { λ _. 0 };
+
+    ghost left_since = { λ _ _ _. ⊥ };
+
+    ghost faults = { λ _. 0 };
+
+    ghost counts_now = { none_now };
+
+    ghost only_now = { none_only };
+
+    ghost seen_may_stay = { none_stays };
+
+    fn length(&mut self) -> Result<usize, DiskFault> {
+        let metadata = told(self.file()?.metadata())?;
+        Ok(metadata.len() as usize)
+    }
+
+    fn read(&mut self, at: usize, buf: &mut [u8]) -> Result<(), DiskFault> {
+        told(self.file()?.read_exact_at(buf, at as u64))
+    }
+
+    fn write_at(&mut self, at: usize, bytes: &[u8]) -> Result<(), DiskFault> {
+        told(self.file()?.write_all_at(bytes, at as u64))
+    }
+
+    fn sync(&mut self) -> Result<(), DiskFault> {
+        let answer = told(self.file()?.sync_data());
+        if answer.is_err() {
+            self.file = None;
+        }
+        answer
+    }
+}

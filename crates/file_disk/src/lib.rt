@@ -1,0 +1,4 @@
+//! A disk in a file of the operating system.
+#![tactic(auto)]
+
+pub mod file_disk;

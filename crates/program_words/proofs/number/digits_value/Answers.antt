@@ -1,0 +1,13 @@
+use Rattle.std.proofs.Common.{arith}
+use Rattle.program_words.proofs.NumberLemmas.{digit_at, power_most}
+use Rattle.program_words.proofs.number.digits_value.Goals as goal
+
+pub overflow_mul-value : goal.overflow_mul-value
+overflow_mul-value c = omega (arith, power_most c.loop-digit.digit-index 6 (omega arith))
+
+pub overflow_add-value : goal.overflow_add-value
+overflow_add-value c =
+    omega (arith, power_most c.loop-digit.digit-index 6 (omega arith), digit_at c.args.digits.now c.loop-digit.digit-index (omega arith) c.requires.all)
+
+pub returns-clause-small : goal.returns-clause-small
+returns-clause-small c = omega (arith, power_most c.loop-digit.digit-index 7 (omega arith))

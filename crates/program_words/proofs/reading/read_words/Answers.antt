@@ -1,0 +1,19 @@
+use Rattle.std.proofs.Common.{rules, ◌≡◌, ◌∙◌, ap, map, string_bytes, sym, true, false}
+use Rattle.std.proofs.lemmas.List.Folds.{list_all-map}
+use Rattle.std.proofs.lemmas.Result.{IfOk-weaker}
+use Rattle.std.specs.List.{list_all}
+use Rattle.program_words.specs.CommandLine.{is_known}
+use Rattle.program_words.proofs.RequestLemmas.{taken, unknown}
+use Rattle.program_words.proofs.reading.read_words.Goals as goal
+
+pub returns-then-not-all_known-clause-refused : goal.returns-then-not-all_known-clause-refused
+returns-then-not-all_known-clause-refused c =
+    let fails : list_all is_known (map string_bytes c.args.words.now) ≡ false = list_all-map is_known string_bytes c.args.words.now ∙ (sym c.all_known.ensures ∙ search rules) in
+    λ e. unknown (map string_bytes c.args.words.now) fails
+
+pub returns-in-Ok-clause-ok : goal.returns-in-Ok-clause-ok
+returns-in-Ok-clause-ok c =
+    let known : list_all is_known (map string_bytes c.args.words.now) ≡ true = list_all-map is_known string_bytes c.args.words.now ∙ (sym c.all_known.ensures ∙ search rules) in
+    let all_is = ap (map (λ word. word.now)) c.deref.ensures.value ∙ c.in_ok-all.ensures in
+    let asked = taken (map string_bytes c.args.words.now) _ _ known all_is c.in-Ok.ensures.faults c.in-Ok.ensures.found in
+    IfOk-weaker c.planned.result _ _ (λ plan is. asked ∙ is) c.planned.ensures.ok

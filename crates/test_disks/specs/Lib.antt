@@ -1,0 +1,2 @@
+pub mod FaultDisk
+pub mod StopDisk

@@ -1,0 +1,6 @@
+//! Disks of which calls fail: one that stops for good, and one that fails once.
+#![tactic(auto)]
+
+pub mod fault_disk;
+mod passing;
+pub mod stop_disk;
