@@ -1,0 +1,4 @@
+pub mod Histories
+pub mod Refusals
+pub mod Reports
+pub mod Storage

@@ -1,0 +1,336 @@
+-- What the calls of the flusher's loop make of a store of a history.
+use Rattle.std.proofs.Common.{◌≡◌, ◌⊎◌, inl, inr, ℕ, ◌≤◌, true, false, List, [], Result, Ok, Err, OnOk, OnErr, IfOk, ⊎_elim, refl, sym, ap, ◌∙◌, subst, arith}
+use Rattle.std.proofs.lemmas.Bool.{false≢true}
+use Rattle.disk_model.specs.declared.disk.Disk.{Ghosts}
+use Rattle.disk_model.specs.Moments.{Leaves, LeavesOnly}
+use Rattle.disk_model.proofs.Runs.{started, joined, widened}
+use Rattle.overlay_terms.specs.Histories.{Version, History, IsHistory, BeginsWith, newest}
+use Rattle.commit_plan.specs.declared.fault.StoreFault.{StoreFault}
+use Rattle.commit_plan.specs.declared.fault.StoreFault.TheVariants as fault
+use Rattle.commit_plan.specs.Kept.{Kept, Either}
+use Rattle.commit_plan.proofs.Reading.{calm_stands}
+use Rattle.root_store.specs.declared.phase.Phase.{Phase}
+use Rattle.root_store.specs.declared.phase.Phase.TheVariants.{Idle, Close, Settle, Put, Open, Finish, Failed}
+use Rattle.root_store.specs.declared.phase.Progress.{Progress}
+use Rattle.root_store.specs.declared.phase.Progress.TheVariants as progress
+use Rattle.root_store.specs.declared.commit.Commit.{Commit}
+use Rattle.root_store.specs.Running.{Before, Outcome, Stands, Runs, Stepped, calls_in, is_busy}
+use Rattle.root_store.proofs.Steps.{rest_either, shut_either, both_either}
+use Rattle.flush_core.specs.declared.flusher.Flusher.{Flusher}
+use Rattle.flush_core.specs.Stored.{stored_after, IsCommitOf, IsImageOf}
+use Rattle.store_flushing.specs.Among.{IsHeldIn, IsFileIn}
+use Rattle.store_flushing.specs.Storing.{Rests, Goes, IsStoreAt, IsStoreOf, Flushes}
+use Rattle.store_flushing.proofs.Histories.{begins_self, begins_trans, numbers_rise, among_more, file_more, newest_among}
+
+abbrev IsDone : Result Progress StoreFault → Type 0
+IsDone (Ok progress.Idle) = ⊥
+IsDone (Ok progress.Going) = ⊥
+IsDone (Ok (progress.Done number)) = Unit {0}
+IsDone (Err why) = ⊥
+
+-- where no call is left, no commit is under way
+pub none_left : (p : Phase) (n i : ℕ) → calls_in p n i ≡ 0 → is_busy p ≡ false
+none_left Idle n i none = refl
+none_left Close n i none = absurd (omega (arith, none))
+none_left Settle n i none = absurd (omega (arith, none))
+none_left Put n i none = absurd (omega (arith, none))
+none_left Open n i none = absurd (omega (arith, none))
+none_left Finish n i none = absurd (omega (arith, none))
+none_left Failed n i none = refl
+
+module _ {D : Type 0} (g : Ghosts D) where
+  -- since this moment there is no other
+  abbrev pub OnlyNow : Flusher D → Type 0
+  OnlyNow s = (c : List ℕ) → g.left_since s.commit.disk (g.moment s.commit.disk) c → g.may_leave s.commit.disk c
+
+  -- ---- what a crash leaves
+
+  before_leaves : (p : Phase) (s : Commit D) (x y : Kept) → Before g p s x y → Leaves g s.disk (Either x y)
+  before_leaves Idle s x y before = absurd before
+  before_leaves Close s x y before = rest_either g x y s.disk before.0
+  before_leaves Settle s x y before = rest_either g x y s.disk before.0
+  before_leaves Put s x y before = shut_either g x y s.disk before.0
+  before_leaves Open s x y before = both_either g x y s.disk before
+  before_leaves Finish s x y before = both_either g x y s.disk before.0
+  before_leaves Failed s x y before = before
+
+  either_among : (h : History) (s : Flusher D) (way : Goes g h s) (c : List ℕ) → Either way.x way.y c → IsFileIn h s.stored c
+  either_among h s way c (inl old) = record { held = way.x.held; among = way.held; no_less = omega (arith, way.number); stands = old }
+  either_among h s way c (inr new) = record { held = way.y.held; among = way.next; no_less = way.later; stands = new }
+
+  way_leaves : (h : History) (s : Flusher D) → Goes g h s → Leaves g s.commit.disk (IsFileIn h s.stored)
+  way_leaves h s way c left = either_among h s way c (before_leaves s.commit.phase s.commit way.x way.y way.runs.before c left)
+
+  in_leaves : (h : History) (p : Phase) (s : Flusher D) → IsStoreAt g h p s → Leaves g s.commit.disk (IsFileIn h s.stored)
+  in_leaves h Idle s rest c left = record { held = rest.x.held; among = rest.held; no_less = omega (arith, rest.number); stands = calm_stands rest.x c (rest.stands.leaves c left) }
+  in_leaves h Close s way c left = way_leaves h s way c left
+  in_leaves h Settle s way c left = way_leaves h s way c left
+  in_leaves h Put s way c left = way_leaves h s way c left
+  in_leaves h Open s way c left = way_leaves h s way c left
+  in_leaves h Finish s way c left = way_leaves h s way c left
+  in_leaves h Failed s store c left = store c left
+
+  -- whatever the phase, each outcome stands for a version of the history
+  pub store_leaves : (h : History) (s : Flusher D) → IsStoreOf g h s → Leaves g s.commit.disk (IsFileIn h s.stored)
+  store_leaves h s is = in_leaves h s.commit.phase s is.store
+
+  -- a store that stands for a version is one of the history that begins with it
+  pub store_begins : (version : Version) (f : Flusher D) (x : Kept) → Stands g f.commit x → IsImageOf version x.held → f.stored ≡ version.number
+      → version.durable ≤ f.stored → IsStoreOf g (record { start = version; entries = [] }) f
+  store_begins version f x stands image stored reported = record {
+    honest = stands.honest;
+    reported = reported;
+    store = subst (λ (p : Phase). IsStoreAt g (record { start = version; entries = [] }) p f) (sym stands.idle)
+        (record {
+          x = x;
+          held = record { version = version; among = newest_among (record { start = version; entries = [] }) version refl; image = image };
+          number = image.number ∙ sym stored;
+          stands = stands;
+        });
+  }
+
+  -- ---- a longer history
+
+  way_more : (was now : History) (s : Flusher D) → BeginsWith now was → Goes g was s → Goes g now s
+  way_more was now s longer way = record {
+    x = way.x;
+    y = way.y;
+    held = among_more was now way.x.held longer way.held;
+    number = way.number;
+    next = among_more was now way.y.held longer way.next;
+    next_number = way.next_number;
+    later = way.later;
+    runs = way.runs;
+  }
+
+  in_more : (was now : History) (p : Phase) (s : Flusher D) → BeginsWith now was → IsStoreAt g was p s → IsStoreAt g now p s
+  in_more was now Idle s longer rest = record { x = rest.x; held = among_more was now rest.x.held longer rest.held; number = rest.number; stands = rest.stands }
+  in_more was now Close s longer way = way_more was now s longer way
+  in_more was now Settle s longer way = way_more was now s longer way
+  in_more was now Put s longer way = way_more was now s longer way
+  in_more was now Open s longer way = way_more was now s longer way
+  in_more was now Finish s longer way = way_more was now s longer way
+  in_more was now Failed s longer store = λ c left. file_more was now s.stored s.stored c longer (omega arith) (store c left)
+
+  pub store_more : (was now : History) (s : Flusher D) → BeginsWith now was → (newest now).durable ≤ s.stored → IsStoreOf g was s → IsStoreOf g now s
+  store_more was now s longer reported is = record { honest = is.honest; reported = reported; store = in_more was now s.commit.phase s longer is.store }
+
+  -- ---- stretches of a run
+
+  pub begun : (h : History) (s : Flusher D) → OnlyNow s → IsStoreOf g h s → Flushes g h s h s
+  begun h s now is = record {
+    goes_on = begins_self h;
+    store = is;
+    no_less = omega arith;
+    reports = λ all. all;
+    moments = started g s.commit.disk (IsFileIn h s.stored) (λ c left. store_leaves h s is c (now c left));
+  }
+
+  pub then : (a b c : History) (s t u : Flusher D) → Flushes g a s b t → Flushes g b t c u → Flushes g a s c u
+  then a b c s t u first second = record {
+    goes_on = begins_trans a b c first.goes_on second.goes_on;
+    store = second.store;
+    no_less = omega (arith, first.no_less, second.no_less);
+    reports = λ all. second.reports (first.reports all);
+    moments = joined g s.commit.disk t.commit.disk u.commit.disk (IsFileIn c s.stored) (IsFileIn c t.stored)
+        (λ file is. file_more c c t.stored s.stored file (begins_self c) first.no_less is)
+        (widened g s.commit.disk t.commit.disk (IsFileIn b s.stored) (IsFileIn c s.stored) (λ file is. file_more b c s.stored s.stored file second.goes_on (omega arith) is) first.moments)
+        second.moments;
+  }
+
+  -- the history goes on where as much is durable, and the store stays
+  pub longer : (was now : History) (s : Flusher D) → OnlyNow s
+      → BeginsWith now was → (newest now).durable ≡ (newest was).durable → IsStoreOf g was s → Flushes g was s now s
+  longer was now s at on same is =
+      let store = store_more was now s on (omega (arith, same, is.reported)) is in
+      record {
+        goes_on = on;
+        store = store;
+        no_less = omega arith;
+        reports = λ all. same ∙ all;
+        moments = started g s.commit.disk (IsFileIn now s.stored) (λ c left. store_leaves now s store c (at c left));
+      }
+
+  -- ---- begin
+
+  begin_in : (h : History) (p : Phase) (s new : Flusher D) (v : Version) → p ≡ s.commit.phase → is_busy p ≡ false → (s.commit.phase ≡ Failed → ⊥) → IsHistory h → v ≡ newest h
+      → ((x : Kept) → Stands g s.commit x → (y : Kept) × IsCommitOf v y × Runs g new.commit x y) → new.stored ≡ s.stored → new.commit.phase ≡ Close
+      → IsStoreAt g h p s → IsStoreAt g h new.commit.phase new
+  begin_in h Idle s new v at idle well history latest begins stored busy rest =
+      let next = begins rest.x rest.stands in
+      let y = next.0 in
+      let of = next.1 in
+      let rising = numbers_rise h rest.held.version history rest.held.among in
+      subst (λ (p : Phase). IsStoreAt g h p new) (sym busy) (record {
+        x = rest.x;
+        y = y;
+        held = rest.held;
+        number = rest.number ∙ sym stored;
+        next = record { version = v; among = newest_among h v latest; image = of.image };
+        next_number = of.image.number ∙ sym of.root;
+        later = omega (arith, stored, rest.number, rest.held.image.number, rising, of.image.number, ap (λ (w : Version). w.number) latest);
+        runs = next.2;
+      })
+  begin_in h Close s new v at idle well history latest begins stored busy way = absurd (false≢true (sym idle))
+  begin_in h Settle s new v at idle well history latest begins stored busy way = absurd (false≢true (sym idle))
+  begin_in h Put s new v at idle well history latest begins stored busy way = absurd (false≢true (sym idle))
+  begin_in h Open s new v at idle well history latest begins stored busy way = absurd (false≢true (sym idle))
+  begin_in h Finish s new v at idle well history latest begins stored busy way = absurd (false≢true (sym idle))
+  begin_in h Failed s new v at idle well history latest begins stored busy store = absurd (well (sym at))
+
+  -- a commit of the newest version begins
+  pub commit_begins : (h : History) (s new : Flusher D) (v : Version) → is_busy s.commit.phase ≡ false → (s.commit.phase ≡ Failed → ⊥) → IsHistory h → v ≡ newest h
+      → ((x : Kept) → Stands g s.commit x → (y : Kept) × IsCommitOf v y × Runs g new.commit x y) → new.stored ≡ s.stored → new.commit.phase ≡ Close → new.commit.disk ≡ s.commit.disk
+      → OnlyNow s
+      → IsStoreOf g h s → Flushes g h s h new
+  commit_begins h s new v idle well history latest begins stored busy disk at is =
+      let store = begin_in h s.commit.phase s new v refl idle well history latest begins stored busy is.store in
+      record {
+        goes_on = begins_self h;
+        store = record { honest = subst g.is_honest (sym disk) is.honest; reported = omega (arith, is.reported, stored); store = store };
+        no_less = omega (arith, stored);
+        reports = λ all. all ∙ sym stored;
+        moments = subst (λ (d : D). LeavesOnly g s.commit.disk d (IsFileIn h s.stored)) (sym disk) (started g s.commit.disk (IsFileIn h s.stored) (λ c left. store_leaves h s is c (at c left)));
+      }
+
+  -- ---- step
+
+  -- no commit is under way, and the device did not fail or did; or one is under way
+  ways : (h : History) (p : Phase) (s : Flusher D) → s.commit.phase ≡ p → IsStoreAt g h p s → (s.commit.phase ≡ Idle) ⊎ ((s.commit.phase ≡ Failed) ⊎ Goes g h s)
+  ways h Idle s at rest = inl at
+  ways h Close s at way = inr (inr way)
+  ways h Settle s at way = inr (inr way)
+  ways h Put s at way = inr (inr way)
+  ways h Open s at way = inr (inr way)
+  ways h Finish s at way = inr (inr way)
+  ways h Failed s at store = inr (inl at)
+
+  way_in : (h : History) (p : Phase) (f : Flusher D) → f.commit.phase ≡ p → Goes g h f → IsStoreAt g h p f
+  way_in h Idle f is way = absurd (subst (λ (q : Phase). Before g q f.commit way.x way.y) is way.runs.before)
+  way_in h Failed f is way = way_leaves h f way
+  way_in h Close f is way = way
+  way_in h Settle f is way = way
+  way_in h Put f is way = way
+  way_in h Open f is way = way
+  way_in h Finish f is way = way
+
+  -- a device call: the store stays one of the history, and a crash within the call leaves a version of it
+  pub record Moves (h : History) (s new : Flusher D) : Type 0 where
+    pub store : IsStoreOf g h new
+    pub no_less : s.stored ≤ new.stored
+    pub moments : LeavesOnly g s.commit.disk new.commit.disk (IsFileIn h s.stored)
+
+  module _ (h : History) (s new : Flusher D) (is : IsStoreOf g h s) (honest : g.is_honest s.commit.disk → g.is_honest new.commit.disk) where
+    module _ (way : Goes g h s) where
+      moments_of : LeavesOnly g s.commit.disk new.commit.disk (Either way.x way.y) → LeavesOnly g s.commit.disk new.commit.disk (IsFileIn h s.stored)
+      moments_of run = widened g s.commit.disk new.commit.disk (Either way.x way.y) (IsFileIn h s.stored) (either_among h s way) run
+
+      goes : new.stored ≡ s.stored → Stepped g s.commit new.commit (Ok progress.Going) way.x way.y → Moves h s new
+      goes stored step = record {
+        store = record {
+          honest = honest is.honest;
+          reported = omega (arith, is.reported, stored);
+          store = way_in h new.commit.phase new refl (record {
+            x = way.x;
+            y = way.y;
+            held = way.held;
+            number = way.number ∙ sym stored;
+            next = way.next;
+            next_number = way.next_number;
+            later = omega (arith, way.later, stored);
+            runs = step.ok;
+          });
+        };
+        no_less = omega (arith, stored);
+        moments = moments_of step.moments;
+      }
+
+      is_done : (number : ℕ) → new.stored ≡ number → Stepped g s.commit new.commit (Ok (progress.Done number)) way.x way.y → Moves h s new
+      is_done number stored step =
+          let stands = step.ok.0 in
+          let here : way.y.held.number ≡ new.stored = way.next_number ∙ sym step.ok.1 ∙ sym stored in
+          record {
+            store = record {
+              honest = honest is.honest;
+              reported = omega (arith, is.reported, way.later, here);
+              store = subst (λ (p : Phase). IsStoreAt g h p new) (sym stands.idle) (record { x = way.y; held = way.next; number = here; stands = stands });
+            };
+            no_less = omega (arith, way.later, here);
+            moments = moments_of step.moments;
+          }
+
+      fails : (why : StoreFault) → new.stored ≡ s.stored → Stepped g s.commit new.commit (Err why) way.x way.y → Moves h s new
+      fails why stored step = record {
+        store = record {
+          honest = honest is.honest;
+          reported = omega (arith, is.reported, stored);
+          store = subst (λ (p : Phase). IsStoreAt g h p new) (sym step.err.1)
+              (λ c left. subst (λ (n : ℕ). IsFileIn h n c) (sym stored) (either_among h s way c (step.err.0 c left)));
+        };
+        no_less = omega (arith, stored);
+        moments = moments_of step.moments;
+      }
+
+      stepped : (r : Result Progress StoreFault) → new.stored ≡ stored_after r s.stored → Stepped g s.commit new.commit r way.x way.y → Moves h s new
+      stepped (Ok progress.Idle) stored step = absurd step.ok
+      stepped (Ok progress.Going) stored step = goes stored step
+      stepped (Ok (progress.Done number)) stored step = is_done number stored step
+      stepped (Err why) stored step = fails why stored step
+
+  module _ (h : History) (s new : Flusher D) (r : Result Progress StoreFault) (now : OnlyNow s)
+      (moves : (x y : Kept) → Runs g s.commit x y → Stepped g s.commit new.commit r x y) (stored : new.stored ≡ stored_after r s.stored) (honest : g.is_honest s.commit.disk → g.is_honest new.commit.disk)
+      (idle : s.commit.phase ≡ Idle → (r ≡ Ok progress.Idle) × (new ≡ s)) (stuck : s.commit.phase ≡ Failed → (r ≡ Err fault.Failed) × (new ≡ s)) (is : IsStoreOf g h s) where
+    stays : new ≡ s → Moves h s new
+    stays same =
+        subst (Moves h s) (sym same) (record { store = is; no_less = omega arith; moments = started g s.commit.disk (IsFileIn h s.stored) (λ c left. store_leaves h s is c (now c left)) })
+
+    -- a device call, if one is made
+    pub steps : Moves h s new
+    steps =
+        ⊎_elim (λ at. stays (idle at).1)
+        (λ other. ⊎_elim (λ at. stays (stuck at).1) (λ way. stepped h s new is honest way r stored (moves way.x way.y way.runs)) other)
+        (ways h s.commit.phase s refl is.store)
+
+    -- one that ends no commit
+    pub steps_on : stored_after r s.stored ≡ s.stored → Flushes g h s h new
+    steps_on same = record {
+      goes_on = begins_self h;
+      store = steps.store;
+      no_less = steps.no_less;
+      reports = λ all. all ∙ sym (stored ∙ same);
+      moments = steps.moments;
+    }
+
+    done_way : (number : ℕ) → IsHistory h → r ≡ Ok (progress.Done number) → Goes g h s → number ≤ (newest h).number
+    done_way number history done way =
+        let told : number ≡ way.y.root.version = (subst (λ (q : Result Progress StoreFault). IfOk q (λ p. Outcome g new.commit p way.x way.y)) done (moves way.x way.y way.runs).ok).1 in
+        omega (arith, numbers_rise h way.next.version history way.next.among, way.next.image.number, way.next_number, told)
+
+    -- a commit that is done was of a version of the history
+    pub done_level : (number : ℕ) → IsHistory h → r ≡ Ok (progress.Done number) → number ≤ (newest h).number
+    done_level number history done =
+        ⊎_elim (λ at. absurd (subst IsDone (sym done ∙ (idle at).0) tt))
+        (λ other. ⊎_elim (λ at. absurd (subst IsDone (sym done ∙ (stuck at).0) tt)) (done_way number history done) other)
+        (ways h s.commit.phase s refl is.store)
+
+  -- a commit that is done, and is reported
+  pub reported : (h n : History) (s new : Flusher D) (number : ℕ) → Moves h s new → new.stored ≡ number → number ≤ (newest h).number → BeginsWith n h
+      → (number ≤ (newest h).number → number ≤ (newest n).durable) → ((newest n).durable ≡ number) ⊎ ((newest n).durable ≡ (newest h).durable) → Flushes g h s n new
+  reported h n s new number moved done level on reached told =
+      let less : (newest n).durable ≤ new.stored = ⊎_elim (λ to. omega (arith, to, done)) (λ stays. omega (arith, stays, moved.store.reported)) told in
+      record {
+        goes_on = on;
+        store = store_more h n new on less moved.store;
+        no_less = moved.no_less;
+        reports = λ all. omega (arith, less, reached level, done);
+        moments = widened g s.commit.disk new.commit.disk (IsFileIn h s.stored) (IsFileIn n s.stored) (λ file is. file_more h n s.stored s.stored file on (omega arith) is) moved.moments;
+      }
+
+Succeeds : {A B : Type 0} → Result A B → Type 0
+Succeeds (Ok x) = Unit {0}
+Succeeds (Err e) = ⊥
+
+-- a result is not of both kinds
+pub never_both : {A B : Type 0} (r : Result A B) (x : A) (e : B) → r ≡ Ok x → r ≡ Err e → ⊥
+unfolding Succeeds
+never_both r x e is not = subst Succeeds (sym is ∙ not) tt

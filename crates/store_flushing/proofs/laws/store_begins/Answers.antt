@@ -1,0 +1,5 @@
+use Rattle.store_flushing.proofs.Storage as lemmas
+use Rattle.store_flushing.proofs.laws.store_begins.Goals as goal
+
+pub returns : goal.returns
+returns g c = lemmas.store_begins g.D.Disk

@@ -1,0 +1,5 @@
+use Rattle.store_flushing.proofs.Storage as lemmas
+use Rattle.store_flushing.proofs.laws.store_leaves.Goals as goal
+
+pub returns : goal.returns
+returns g c = lemmas.store_leaves g.D.Disk

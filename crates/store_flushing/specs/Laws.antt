@@ -1,0 +1,24 @@
+-- How a store of a history begins, and what a crash may leave of it.
+use Rattle.std.specs.Prelude.{◌≡◌, ◌≤◌, []}
+use Rattle.disk_model.specs.declared.disk.Disk.{Ghosts}
+use Rattle.disk_model.specs.Moments.{Leaves}
+use Rattle.overlay_terms.specs.Histories.{Version, History}
+use Rattle.commit_plan.specs.Kept.{Kept}
+use Rattle.root_store.specs.Running.{Stands}
+use Rattle.flush_core.specs.declared.flusher.Flusher.{Flusher}
+use Rattle.flush_core.specs.Stored.{IsImageOf}
+use Rattle.store_flushing.specs.Among.{IsFileIn}
+use Rattle.store_flushing.specs.Storing.{IsStoreOf}
+
+-- a store that stands for a version, of which no more is durable than is stored, is one of the history that begins with
+-- it
+abbrev pub StoreBegins : {D : Type 0} → Ghosts D → Type 0
+StoreBegins {D = D} g =
+    (version : Version) (f : Flusher D) (x : Kept) → Stands g f.commit x → IsImageOf version x.held
+    → f.stored ≡ version.number → version.durable ≤ f.stored → IsStoreOf g (record { start = version; entries = [] }) f
+
+-- every file that a crash may leave of a store of a history stands for one of its versions, no older than what is
+-- stored
+abbrev pub StoreLeaves : {D : Type 0} → Ghosts D → Type 0
+StoreLeaves {D = D} g =
+    (history : History) (f : Flusher D) → IsStoreOf g history f → Leaves g f.commit.disk (IsFileIn history f.stored)

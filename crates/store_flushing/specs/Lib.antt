@@ -1,0 +1,4 @@
+pub mod Among
+pub mod Laws
+pub mod Storing
+pub mod Telling

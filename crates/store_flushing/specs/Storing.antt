@@ -1,0 +1,62 @@
+-- A store of the versions of a history: what is known of it between its calls, and what a run of its flusher makes of
+-- both.
+use Rattle.std.specs.Prelude.{◌≡◌, ℕ, ◌≤◌}
+use Rattle.disk_model.specs.declared.disk.Disk.{Ghosts}
+use Rattle.disk_model.specs.Moments.{Leaves, LeavesOnly}
+use Rattle.overlay_terms.specs.Histories.{History, BeginsWith, newest}
+use Rattle.root_store.specs.declared.phase.Phase.{Phase}
+use Rattle.root_store.specs.declared.phase.Phase.TheVariants.{Idle, Close, Settle, Put, Open, Finish, Failed}
+use Rattle.commit_plan.specs.Kept.{Kept}
+use Rattle.root_store.specs.Running.{Stands, Runs}
+use Rattle.flush_core.specs.declared.flusher.Flusher.{Flusher}
+use Rattle.store_flushing.specs.Among.{IsHeldIn, IsFileIn}
+
+module _ {D : Type 0} (g : Ghosts D) (history : History) where
+  -- no commit is under way: the file stands for the version that is stored
+  pub record Rests (f : Flusher D) : Type 0 where
+    pub x : Kept
+    pub held : IsHeldIn history x.held
+    pub number : x.held.number ≡ f.stored
+    pub stands : Stands g f.commit x
+
+  -- a commit is under way, from the version that is stored to one that is no older
+  pub record Goes (f : Flusher D) : Type 0 where
+    pub x : Kept
+    pub y : Kept
+    pub held : IsHeldIn history x.held
+    pub number : x.held.number ≡ f.stored
+    pub next : IsHeldIn history y.held
+    pub next_number : y.held.number ≡ y.root.version
+    pub later : f.stored ≤ y.held.number
+    pub runs : Runs g f.commit x y
+
+  -- what is known of a store, by where its commit stands
+  abbrev pub IsStoreAt : Phase → Flusher D → Type 0
+  IsStoreAt Idle f = Rests f
+  IsStoreAt Failed f = Leaves g f.commit.disk (IsFileIn history f.stored)
+  IsStoreAt Close f = Goes f
+  IsStoreAt Settle f = Goes f
+  IsStoreAt Put f = Goes f
+  IsStoreAt Open f = Goes f
+  IsStoreAt Finish f = Goes f
+
+  -- a store of this history: what is reported is stored, and every file that a crash may leave stands for one of its
+  -- versions
+  pub record IsStoreOf (f : Flusher D) : Type 0 where
+    pub honest : g.is_honest f.commit.disk
+    pub reported : (newest history).durable ≤ f.stored
+    pub store : IsStoreAt f.commit.phase f
+
+-- what is stored is reported durable
+abbrev pub AllReported : {D : Type 0} → History → Flusher D → Type 0
+AllReported history f = (newest history).durable ≡ f.stored
+
+-- a run of the flusher: the history goes on, the store is one of it, what it stores it reports, and a crash at any
+-- moment leaves a version of the history that is no older than what was stored as the run began
+pub record Flushes {D : Type 0} (g : Ghosts D) (was : History) (old : Flusher D) (now : History) (new : Flusher D)
+    : Type 0 where
+  pub goes_on : BeginsWith now was
+  pub store : IsStoreOf g now new
+  pub no_less : old.stored ≤ new.stored
+  pub reports : AllReported was old → AllReported now new
+  pub moments : LeavesOnly g old.commit.disk new.commit.disk (IsFileIn now old.stored)

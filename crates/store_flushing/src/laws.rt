@@ -1,0 +1,14 @@
+//! Laws over the definitions: each function does nothing, and its contract is the law.
+ghost use Rattle.store_flushing.specs.Laws.{StoreBegins, StoreLeaves};
+
+use disk_model::disk::Disk;
+
+/// A store that was made or opened with a version is one of the history that begins with it.
+pub fn store_begins<D: Disk>()
+    ensures { StoreBegins D.Disk }
+{}
+
+/// Every file that a crash may leave of a store of a history stands for one of its versions.
+pub fn store_leaves<D: Disk>()
+    ensures { StoreLeaves D.Disk }
+{}
