@@ -2,7 +2,7 @@
 ghost use Rattle.std.specs.Prelude.{◌≡◌, true, None, Some, IfOk, IfErr, map, filter_map};
 ghost use Rattle.overlay_terms.specs.Layers.{base_of, layers_in_reach, steps_in_reach};
 ghost use Rattle.overlay_terms.specs.Column.{column_numbered};
-ghost use Rattle.overlay_terms.specs.Commands.{stands_as_derived};
+ghost use Rattle.overlay_terms.specs.Commands.{stands, stands_as_derived};
 ghost use Rattle.overlay_terms.specs.Tiles.{input_of};
 ghost use Rattle.layer_book.specs.Fault.{RefusedBy};
 ghost use Rattle.layer_book.specs.TileRefusal.{tile_refusal};
@@ -61,13 +61,13 @@ impl Layers {
         TileInput::of(alloc, column, &bases, steps)
     }
 
-    /// The base layers that a derived layer reaches, in order.
-    pub(crate) fn bases_in_reach<'a>(
+    /// The base layers that a layer reaches, in order: of a base layer itself alone.
+    pub fn bases_in_reach<'a>(
         &'a self,
         alloc: Global,
         name: &Name,
     ) -> Result<Vec<&'a BaseLayer>, AllocError>
-        requires { stands_as_derived self.now name.now ≡ true }
+        requires { stands self.now name.now ≡ true }
         ensures { IfOk result (λ bases. map (λ b. b.now) bases.items ≡ map (λ b. b.1) (filter_map base_of (layers_in_reach self.now name.now))) }
     {
         let wanted = self.reach(name);
@@ -75,9 +75,9 @@ impl Layers {
         Ok(bases)
     }
 
-    /// The definitions that a derived layer reaches, in order.
-    pub(crate) fn steps_in_reach(&self, alloc: Global, name: &Name) -> Result<StepList, AllocError>
-        requires { stands_as_derived self.now name.now ≡ true }
+    /// The definitions that a layer reaches, in order: of a base layer none, and its value is its own.
+    pub fn steps_in_reach(&self, alloc: Global, name: &Name) -> Result<StepList, AllocError>
+        requires { stands self.now name.now ≡ true }
         ensures { IfOk result (λ steps. steps ≡ steps_in_reach self.now name.now) }
     {
         let wanted = self.reach(name);

@@ -1,9 +1,22 @@
 use Rattle.std.proofs.Common.{map, ap, sym, ◌∙◌}
 use Rattle.overlay_terms.specs.Trees.{Steps}
+use Rattle.overlay_terms.proofs.KeptDerived.{derived_stands}
 use Rattle.overlay_terms.specs.SameInput.{same_steps, same_steps-Decides}
 use Rattle.layer_book.proofs.InputReach.{bases_counted}
 use Rattle.layer_book.proofs.TouchedLemmas.{steps_differ, marks_tell}
 use Rattle.layer_book.proofs.layers.Layers.changed_columns.Goals as goal
+
+pub steps_in_reach-requires : goal.steps_in_reach-requires
+steps_in_reach-requires c = derived_stands c.args.self.now c.args.name.now c.requires.before
+
+pub steps_in_reach-requires-2 : goal.steps_in_reach-requires-2
+steps_in_reach-requires-2 c = derived_stands c.args.after.now c.args.name.now c.requires.afterwards
+
+pub bases_in_reach-requires : goal.bases_in_reach-requires
+bases_in_reach-requires c = derived_stands c.args.self.now c.args.name.now c.requires.before
+
+pub bases_in_reach-requires-2 : goal.bases_in_reach-requires-2
+bases_in_reach-requires-2 c = derived_stands c.args.after.now c.args.name.now c.requires.afterwards
 
 pub returns-then-not-eq : goal.returns-then-not-eq
 returns-then-not-eq c =

@@ -1,32 +1,28 @@
 use Rattle.std.proofs.Common.{◌∙◌, ap, option_copied}
-use Rattle.overlay_terms.proofs.KeptDerived.{derived_stands}
 use Rattle.layer_expr.specs.StepList.{reached}
 use Rattle.layer_book.proofs.InputReach.{few_marked, ordered_marked, last_marked, steps_marked}
 use Rattle.layer_book.proofs.layers.Layers.steps_in_reach.Goals as goal
 
-pub reach-wanted-requires : goal.reach-wanted-requires
-reach-wanted-requires c = derived_stands c.args.self.now c.args.name.now c.requires
-
 pub of-requires-clause-few : goal.of-requires-clause-few
 of-requires-clause-few c =
     few_marked (λ layer. (layer.0.now, option_copied layer.1)) c.args.self.now c.args.name.now c.reach-wanted.result c.deref.result.now
-    (record { book = c.reach-wanted.ensures.valid; is_derived = c.requires; exactly = c.reach-wanted.ensures.exactly })
+    (record { book = c.reach-wanted.ensures.valid; standing = c.requires; exactly = c.reach-wanted.ensures.exactly })
     (ap reached c.deref.ensures.value ∙ c.in_ok-layers.ensures)
 
 pub of-requires-clause-ordered : goal.of-requires-clause-ordered
 of-requires-clause-ordered c =
     ordered_marked c.args.self.now c.args.name.now c.reach-wanted.result (reached c.deref.result.now)
-    (record { book = c.reach-wanted.ensures.valid; is_derived = c.requires; exactly = c.reach-wanted.ensures.exactly })
+    (record { book = c.reach-wanted.ensures.valid; standing = c.requires; exactly = c.reach-wanted.ensures.exactly })
     (ap reached c.deref.ensures.value ∙ c.in_ok-layers.ensures)
 
 pub of-requires-clause-reaches : goal.of-requires-clause-reaches
 of-requires-clause-reaches c =
     last_marked c.args.self.now c.args.name.now c.reach-wanted.result (reached c.deref.result.now)
-    (record { book = c.reach-wanted.ensures.valid; is_derived = c.requires; exactly = c.reach-wanted.ensures.exactly })
+    (record { book = c.reach-wanted.ensures.valid; standing = c.requires; exactly = c.reach-wanted.ensures.exactly })
     (ap reached c.deref.ensures.value ∙ c.in_ok-layers.ensures)
 
 pub returns : goal.returns
 returns c =
     steps_marked c.args.self.now c.args.name.now c.reach-wanted.result (reached c.deref.result.now) c.in_ok-steps.steps
-    (record { book = c.reach-wanted.ensures.valid; is_derived = c.requires; exactly = c.reach-wanted.ensures.exactly })
+    (record { book = c.reach-wanted.ensures.valid; standing = c.requires; exactly = c.reach-wanted.ensures.exactly })
     (ap reached c.deref.ensures.value ∙ c.in_ok-layers.ensures) c.in_ok-steps.ensures.steps
