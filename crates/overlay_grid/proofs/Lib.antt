@@ -1,0 +1,4 @@
+pub mod Ranges
+pub mod Pictures
+pub mod Collected
+pub mod Sent

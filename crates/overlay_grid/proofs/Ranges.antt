@@ -1,0 +1,87 @@
+-- Coordinates at equal steps: all are in range where the first and the last are.
+use Rattle.std.specs.Prelude.{◌≡◌, ℕ, ℤ, pos, neg_ℤ, negsuc, ◌+◌, ◌-◌, ◌*◌, ◌<◌, ◌≤◌, ◌+ℤ◌, ◌*ℤ◌, ◌<ℤ◌, ◌≤ℤ◌, int_le, Bool, true, false}
+use Rattle.std.specs.List.{list_all, range_with_len}
+use Rattle.std.specs.Cmp.{both_ways}
+use Rattle.std.proofs.Common.{zero, suc, refl, ap, sym, ◌∙◌, arith}
+use Rattle.std.proofs.lemmas.Bool.{and_parts, and_from, and_left, and_right, false≢true, true_from_ne_false}
+use Rattle.std.proofs.lemmas.Int.{ints}
+use Rattle.std.proofs.lemmas.List.Folds.{list_all_at}
+use Rattle.std.proofs.lemmas.List.FromFn.{length-range_with_len, get_or-range_with_len}
+use Rattle.std.proofs.Math.Nat.{mul-le-mul_left}
+use Rattle.overlay_terms.specs.Plane.{InRange}
+use Rattle.grid_lines.proofs.RisingLemmas.{first_is}
+use Rattle.overlay_grid.specs.Grid.{Grid, all_in_range, in_range, is_within_range}
+
+le_says : (a b : ℤ) → int_le a b ≡ true → a ≤ℤ b
+le_says a b e = grind (arith, ints)
+
+le_test : (a b : ℤ) → a ≤ℤ b → int_le a b ≡ true
+le_test a b h = grind (arith, ints)
+
+lt_test : (a b : ℤ) → b <ℤ a → int_le a b ≡ false
+lt_test a b h = grind (arith, ints)
+
+in_says : (n : ℤ) → in_range n ≡ true → InRange n
+in_says n e =
+    let parts = and_parts (int_le (neg_ℤ (pos 1048576)) n) (int_le n (pos 1048576)) e in
+    (le_says (neg_ℤ (pos 1048576)) n parts.0, le_says n (pos 1048576) parts.1)
+
+in_test : (n : ℤ) → InRange n → in_range n ≡ true
+in_test n h = and_from (int_le (neg_ℤ (pos 1048576)) n) (int_le n (pos 1048576)) (le_test (neg_ℤ (pos 1048576)) n h.0) (le_test n (pos 1048576) h.1)
+
+pub out_below : (n : ℤ) → n <ℤ neg_ℤ (pos 1048576) → in_range n ≡ false
+out_below n h = and_left (int_le (neg_ℤ (pos 1048576)) n) (int_le n (pos 1048576)) (lt_test (neg_ℤ (pos 1048576)) n h)
+
+pub out_above : (n : ℤ) → pos 1048576 <ℤ n → in_range n ≡ false
+out_above n h = and_right (int_le (neg_ℤ (pos 1048576)) n) (int_le n (pos 1048576)) (lt_test n (pos 1048576) h)
+
+-- ---- a test at each place
+all_true : (p : ℕ → Bool) (a n : ℕ) → ((i : ℕ) → i < a + n → p i ≡ true) → list_all p (range_with_len a n) ≡ true
+all_true p a zero h = refl
+all_true p a (suc n) h = and_from (p a) (list_all p (range_with_len (a + 1) n)) (h a (omega arith)) (all_true p (a + 1) n (λ i l. h i (omega arith)))
+
+one_false : (p : ℕ → Bool) (n i : ℕ) → i < n → p i ≡ false → list_all p (range_with_len 0 n) ≡ false
+one_false p n i h e =
+    let here : 0 + i ≡ i = omega arith in
+    list_all_at p (range_with_len 0 n) i 0 (omega (arith, length-range_with_len 0 n)) (ap p (get_or-range_with_len 0 n i 0 h ∙ here) ∙ e)
+
+one_true : (p : ℕ → Bool) (n i : ℕ) → i < n → list_all p (range_with_len 0 n) ≡ true → p i ≡ true
+one_true p n i h e = true_from_ne_false (p i) (λ f. false≢true (sym (one_false p n i h f) ∙ e))
+
+-- ---- coordinates
+pub first_out : (from step : ℤ) (count : ℕ) → 1 ≤ count → in_range from ≡ false → false ≡ all_in_range from step count
+first_out from step count some e =
+    sym (one_false (λ i. in_range (from +ℤ (step *ℤ pos i))) count 0 (omega arith) (ap in_range (sym (first_is from step)) ∙ e))
+
+-- a coordinate of those in range
+pub one_in_range : (from step : ℤ) (count i : ℕ) → i < count → all_in_range from step count ≡ true → InRange (from +ℤ (step *ℤ pos i))
+one_in_range from step count i h e = in_says (from +ℤ (step *ℤ pos i)) (one_true (λ i. in_range (from +ℤ (step *ℤ pos i))) count i h e)
+
+pub first_in_range : (from step : ℤ) (count : ℕ) → 1 ≤ count → all_in_range from step count ≡ true → InRange from
+first_in_range from step count some e =
+    let first = first_is from step in
+    let there = one_in_range from step count 0 (omega arith) e in
+    rw (← first) at there
+
+between : (from step : ℤ) (i last : ℕ) → pos 1 ≤ℤ step → i ≤ last → InRange from → (from +ℤ (step *ℤ pos last)) ≤ℤ pos 1048576 → InRange (from +ℤ (step *ℤ pos i))
+between from (pos s) i last low h in_from most =
+    let here : pos s *ℤ pos i ≡ pos (s * i) = refl in
+    let there : pos s *ℤ pos last ≡ pos (s * last) = refl in
+    let more : s * i ≤ s * last = mul-le-mul_left s h in
+    (omega (arith, ints, in_from.0), omega (arith, ints))
+between from (negsuc s) i last low h in_from most = absurd (omega (arith, ints))
+
+-- where the first is in range, the last one tells
+pub last_tells : (from step : ℤ) (count : ℕ) → pos 1 ≤ℤ step → 1 ≤ count → InRange from → int_le (from +ℤ (step *ℤ pos (count - 1))) (pos 1048576) ≡ all_in_range from step count
+last_tells from step count low some in_from =
+    both_ways (int_le (from +ℤ (step *ℤ pos (count - 1))) (pos 1048576)) (all_in_range from step count)
+    (λ t. all_true (λ i. in_range (from +ℤ (step *ℤ pos i))) 0 count
+    (λ i l. in_test (from +ℤ (step *ℤ pos i)) (between from step i (count - 1) low (omega arith) in_from (le_says (from +ℤ (step *ℤ pos (count - 1))) (pos 1048576) t))))
+    (λ t. le_test (from +ℤ (step *ℤ pos (count - 1))) (pos 1048576) (one_in_range from step count (count - 1) (omega arith) t).1)
+
+-- the points of a grid within range
+pub row_in_range : (g : Grid) → is_within_range g ≡ true → all_in_range g.x g.step g.nx ≡ true
+row_in_range g e = (and_parts (all_in_range g.x g.step g.nx) (all_in_range g.y g.step g.ny) e).0
+
+pub column_in_range : (g : Grid) → is_within_range g ≡ true → all_in_range g.y g.step g.ny ≡ true
+column_in_range g e = (and_parts (all_in_range g.x g.step g.nx) (all_in_range g.y g.step g.ny) e).1

@@ -1,0 +1,3 @@
+pub mod Fault
+pub mod Grid
+pub mod Rows
