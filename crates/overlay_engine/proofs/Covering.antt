@@ -53,10 +53,9 @@ exact_after old new event follows exact =
     let stays = exactness_stays old new event follows exact.orderly exact.fit exact.exact in
     record { orderly = (layers_stay_orderly old new event follows).0 exact.orderly; fit = stays.0; exact = stays.1 }
 
-module _ {D : Type 0} (g : Ghosts D) (start : Start) where
-  -- ---- what a crash leaves
-
-  before_leaves : (p : Phase) (s : Commit D) (x y : Kept) → Before g p s x y → Leaves g s.disk (Either x y)
+module _ {D : Type 0} (g : Ghosts D) where
+  -- while a commit is under way a crash leaves the one end of it or the other
+  pub before_leaves : (p : Phase) (s : Commit D) (x y : Kept) → Before g p s x y → Leaves g s.disk (Either x y)
   before_leaves Idle s x y before = absurd before
   before_leaves Close s x y before = rest_either g x y s.disk before.0
   before_leaves Settle s x y before = rest_either g x y s.disk before.0
@@ -65,11 +64,14 @@ module _ {D : Type 0} (g : Ghosts D) (start : Start) where
   before_leaves Finish s x y before = both_either g x y s.disk before.0
   before_leaves Failed s x y before = before
 
+module _ {D : Type 0} (g : Ghosts D) (start : Start) where
+  -- ---- what a crash leaves
+
   pub way_either : (f : Flusher D) (commands : List Command) (way : UnderWay g start f commands) (c : List ℕ) → Either way.x way.y c → Covered start f.stored commands c
   way_either f commands way c either = either_covered start f.stored commands way.x way.y c (omega (arith, way.number)) way.later way.stored way.storing either
 
   pub way_covered : (f : Flusher D) (commands : List Command) → UnderWay g start f commands → Leaves g f.commit.disk (Covered start f.stored commands)
-  way_covered f commands way c left = way_either f commands way c (before_leaves f.commit.phase f.commit way.x way.y way.runs.before c left)
+  way_covered f commands way c left = way_either f commands way c (before_leaves g f.commit.phase f.commit way.x way.y way.runs.before c left)
 
   -- whatever the phase, each outcome is covered
   in_covered : (p : Phase) (f : Flusher D) (commands : List Command) → In g start p f commands → Leaves g f.commit.disk (Covered start f.stored commands)

@@ -18,9 +18,11 @@ use Rattle.root_store.specs.Running.{Stands}
 use Rattle.root_store.specs.Opening.{Opened, Tells}
 use Rattle.commit_plan.proofs.Reading.{calm_stands}
 use Rattle.flush_core.specs.declared.flusher.Flusher.{Flusher}
+use Rattle.flush_core.specs.Stored.{IsImageOf}
 use Rattle.overlay_engine.specs.declared.engine.Engine.{Engine}
 use Rattle.overlay_engine.specs.Start.{Start, up_to}
 use Rattle.overlay_engine.specs.Covers.{version_of, Covered, Covers}
+use Rattle.overlay_engine.specs.NewEngine.{IsNewStore}
 use Rattle.overlay_engine.specs.Recovery.{Recovered, Refused, RecoveredAnswers}
 use Rattle.overlay_engine.proofs.Recovering.{opened_recovers, opening_is_covered}
 
@@ -76,6 +78,20 @@ module _ {D : Type 0} (g : Ghosts D) (start : Start) (disk : D) (least : ℕ) (c
     moments = widened g disk s.disk (Opened g disk) (Covered start least commands) covered moments;
     cause = inr refl;
   }
+
+-- a store that stands for what a version is made of stands for just that version
+pub rests_as : {D : Type 0} (g : Ghosts D) (version : Version) (f : Flusher D) (s : Commit D) (n : ℕ) (k : Kept) (x : Held) → f ≡ record { commit = s; stored = n } → n ≡ version.number
+    → version ≡ version_of x → k.held ≡ x → Stands g s k → IsNewStore g version f
+rests_as g version f s n k x flusher number is same stands =
+    let image : IsImageOf (version_of x) x = record { number = refl; layers = refl; tiles = λ name column. refl } in
+    let stored : f.stored ≡ version.number = ap (λ (h : Flusher _). h.stored) flusher ∙ number in
+    record {
+      x = k;
+      stands = subst (λ (h : Flusher _). Stands g h.commit k) (sym flusher) stands;
+      image = subst (λ (h : Held). IsImageOf version h) (sym same) (subst (λ (v : Version). IsImageOf v x) (sym is) image);
+      stored = stored;
+      reported = omega (arith, stored, ap (λ (v : Version). v.durable) is, ap (λ (v : Version). v.number) is);
+    }
 
 pub recovered_answers : {D : Type 0} (g : Ghosts D) → RecoveredAnswers g
 recovered_answers g start disk e least commands recovered name query told tells =

@@ -5,6 +5,7 @@ pub mod Covers
 pub mod Devices
 pub mod Laws
 pub mod Lives
+pub mod NewEngine
 pub mod Recovery
 pub mod Runs
 pub mod Start

@@ -6,6 +6,7 @@ ghost use Rattle.root_store.specs.Creating.{refusal_of_new, Tells};
 ghost use Rattle.root_store.specs.Running.{KeepsTo};
 ghost use Rattle.overlay_engine.specs.Start.{from_nothing};
 ghost use Rattle.overlay_engine.specs.Covers.{Covers};
+ghost use Rattle.overlay_engine.specs.NewEngine.{IsNewEngine};
 
 use crate::engine::Engine;
 use commit_plan::fault::StoreFault;
@@ -21,6 +22,8 @@ impl<D: Disk> Engine<D> {
     /// many blocks.
     pub fn create(alloc: Global, disk: D, max_blocks: u32) -> Result<Engine<D>, OpenFault<D>>
         ensures covers { D.is_honest disk → IfOk result (λ e. Covers D.Disk from_nothing e.flusher e.version []) }
+        // The store stands for just the version, and no commit is under way.
+        ensures rests { D.is_honest disk → IfOk result (λ e. IsNewEngine D.Disk e) }
         ensures version { IfOk result (λ e. e.version ≡ empty_version) }
         ensures jobs { IfOk result (λ e. (e.jobs.items ≡ []) × (e.next_job ≡ 0)) }
         ensures limit { IfOk result (λ e. KeepsTo max_blocks e.flusher.commit) }

@@ -8,6 +8,7 @@ ghost use Rattle.root_store.specs.Opening.{Tells, FailedBy};
 ghost use Rattle.root_store.specs.Running.{KeepsTo};
 ghost use Rattle.overlay_engine.specs.Start.{Start};
 ghost use Rattle.overlay_engine.specs.Covers.{version_of, Covered};
+ghost use Rattle.overlay_engine.specs.NewEngine.{IsNewEngine};
 ghost use Rattle.overlay_engine.specs.Recovery.{Recovered, Refused};
 ghost use Rattle.overlay_engine.specs.Runs.{Made, EachSurvives, CrashesIn, accepted_in};
 
@@ -41,6 +42,8 @@ impl<D: Disk> Engine<D> {
         // Of any file the version is what it stands for, or the fault is what is wrong with it.
         ensures gives { D.is_honest disk → MatchResult result (λ e. (x : Held) × (reading (D.seen disk) ≡ Ok x) × (e.version ≡ version_of x))
             (λ refused. Tells refused.fault (reading (D.seen disk))) }
+        // The store stands for just the version, with its very tiles, and no commit is under way.
+        ensures rests { D.is_honest disk → IfOk result (λ e. IsNewEngine D.Disk e) }
         ensures honest { MatchResult result (λ e. D.is_honest e.flusher.commit.disk ↔ D.is_honest disk)
             (λ refused. D.is_honest refused.disk ↔ D.is_honest disk) }
         ensures cause { D.is_honest disk → MatchResult result (λ e. D.faults e.flusher.commit.disk ≡ D.faults disk)

@@ -3,7 +3,7 @@ use Rattle.commit_plan.specs.declared.fault.StoreFault.TheVariants.{OutOfMemory}
 use Rattle.overlay_engine.specs.Recovery.{Refused}
 use Rattle.overlay_engine.specs.Runs.{accepted_in}
 use Rattle.overlay_engine.proofs.Running.{crash_covered}
-use Rattle.overlay_engine.proofs.Opened.{recovered_with, refused_as, given_up}
+use Rattle.overlay_engine.proofs.Opened.{recovered_with, rests_as, refused_as, given_up}
 use Rattle.overlay_engine.proofs.engine.Engine.recover.Goals as goal
 
 pub returns-in-Ok-restored-clause-ok : goal.returns-in-Ok-restored-clause-ok
@@ -14,6 +14,12 @@ returns-in-Ok-restored-clause-ok g c honest start least commands all =
     (record { version = c.in-Ok-restored.version; flusher = c.new.result; jobs = c.new-in-Ok-restored.result; next_job = 0 })
     c.in-Ok.opened.0 c.number-stored.result opened.0 c.in-Ok.opened.1 c.new.ensures c.number-stored.ensures.value c.in-Ok-restored.ensures
     (c.in-Ok.ensures.gives honest) opened.1 opened.2 opened.3
+
+pub returns-in-Ok-restored-clause-rests : goal.returns-in-Ok-restored-clause-rests
+returns-in-Ok-restored-clause-rests g c honest =
+    let opened = c.in-Ok.ensures.ok honest in
+    rests_as g.D.Disk c.in-Ok-restored.version c.new.result c.in-Ok.opened.0 c.number-stored.result opened.0 c.in-Ok.opened.1
+    c.new.ensures c.number-stored.ensures.value c.in-Ok-restored.ensures opened.1 opened.2
 
 pub returns-in-Err-restored-clause-err : goal.returns-in-Err-restored-clause-err
 returns-in-Err-restored-clause-err g c honest start least commands all =
