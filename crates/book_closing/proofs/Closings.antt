@@ -1,0 +1,54 @@
+-- What is left of a store for the log that a book ends with.
+use Rattle.std.proofs.Common.{◌≡◌, ℕ, ◌≤◌, List, Option, Some, None, IfSome, All, sym, subst, arith}
+use Rattle.disk_model.specs.declared.disk.Disk.{Ghosts}
+use Rattle.disk_model.specs.Moments.{Leaves}
+use Rattle.overlay_terms.specs.Histories.{Entry, History, BeginsWith}
+use Rattle.root_store.specs.declared.phase.Phase.{Phase}
+use Rattle.root_store.specs.declared.phase.Phase.TheVariants.{Idle}
+use Rattle.commit_plan.proofs.Reading.{calm_stands}
+use Rattle.flush_core.specs.declared.flusher.Flusher.{Flusher}
+use Rattle.book_history.specs.Logs.{newest_in}
+use Rattle.version_book.specs.Heard.{Heard, HasHeard}
+use Rattle.store_flushing.specs.Among.{IsFileIn}
+use Rattle.store_flushing.specs.Storing.{IsStoreAt, IsStoreOf}
+use Rattle.store_flushing.proofs.Histories.{among_more, file_more}
+use Rattle.book_closing.specs.Files.{IsFileExactlyIn}
+
+-- the number that is stored, and the disk, of a store if there is one
+abbrev pub IsLeftOf : {D : Type 0} → Option (Flusher D) → ℕ → Option D → Type 0
+IsLeftOf o stored disk = IfSome o (λ f. (stored ≡ f.stored) × (disk ≡ Some f.commit.disk))
+
+-- all that is reported is stored
+pub reported_left : {D : Type 0} (o : Option (Flusher D)) (stored : ℕ) (disk : Option D) → IsLeftOf o stored disk → (reporter : Heard) (log : List Entry) → HasHeard log reporter
+    → All (λ (entry : Entry). entry.version.durable ≤ (newest_in log).durable) log
+    → IfSome o (λ f. (newest_in reporter.log).durable ≤ f.stored → All (λ (entry : Entry). entry.version.durable ≤ stored) log)
+reported_left None stored disk is reporter log heard all = tt
+reported_left (Some f) stored disk is reporter log heard all = λ less k d at. omega (arith, all k d at, heard.durable, less, is.0)
+
+module _ {D : Type 0} (g : Ghosts D) (was now : History) (on : BeginsWith now was) where
+  -- a store at rest: each file stands for the version that is stored
+  exactly_on : (f : Flusher D) → IsStoreOf g was f → f.commit.phase ≡ Idle → Leaves g f.commit.disk (IsFileExactlyIn now f.stored)
+  exactly_on f store idle c left =
+      let rest = subst (λ (p : Phase). IsStoreAt g was p f) idle store.store in
+      record {
+        held = rest.x.held;
+        among = among_more was now rest.x.held on rest.held;
+        exactly = rest.number;
+        stands = calm_stands rest.x c (rest.stands.leaves c left);
+      }
+
+  -- what is said of files for the number of the store holds for the number and the disk that are left
+  left : (P : ℕ → List ℕ → Type 0) (f : Flusher D) (stored : ℕ) (disk : Option D) → stored ≡ f.stored → disk ≡ Some f.commit.disk → Leaves g f.commit.disk (P f.stored)
+      → IfSome disk (λ d. Leaves g d (P stored))
+  left P f stored disk number is all =
+      subst (λ (q : Option D). IfSome q (λ d. Leaves g d (P stored))) (sym is) (subst (λ (n : ℕ). Leaves g f.commit.disk (P n)) (sym number) all)
+
+  pub files_left : (o : Option (Flusher D)) (stored : ℕ) (disk : Option D) → IsLeftOf o stored disk
+      → IfSome o (λ f. Leaves g f.commit.disk (IsFileIn was f.stored) → IfSome disk (λ d. Leaves g d (IsFileIn now stored)))
+  files_left None stored disk is = tt
+  files_left (Some f) stored disk is = λ all. left (IsFileIn now) f stored disk is.0 is.1 (λ c at. file_more was now f.stored f.stored c on (omega arith) (all c at))
+
+  pub exactly_left : (o : Option (Flusher D)) (stored : ℕ) (disk : Option D) → IsLeftOf o stored disk
+      → IfSome o (λ f. IsStoreOf g was f → f.commit.phase ≡ Idle → IfSome disk (λ d. Leaves g d (IsFileExactlyIn now stored)))
+  exactly_left None stored disk is = tt
+  exactly_left (Some f) stored disk is = λ store idle. left (IsFileExactlyIn now) f stored disk is.0 is.1 (exactly_on f store idle)

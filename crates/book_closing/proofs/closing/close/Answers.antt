@@ -1,0 +1,30 @@
+use Rattle.std.proofs.Common.{All, subst}
+use Rattle.book_history.specs.Logs.{history_of}
+use Rattle.book_history.proofs.Chains.{begins_with}
+use Rattle.book_desk.specs.Steps.{HasAllOf}
+use Rattle.book_closing.proofs.Closings.{exactly_left, files_left, reported_left}
+use Rattle.book_closing.proofs.closing.close.Goals as goal
+
+pub returns-clause-sessions : goal.returns-clause-sessions
+returns-clause-sessions g c =
+    let ended = c.into_closed-closed in
+    subst (λ xs. All (λ session. HasAllOf ended.result.trace.log session) xs) c.deref.ensures.value ended.ensures.sessions
+
+pub returns-clause-reported : goal.returns-clause-reported
+returns-clause-reported g c =
+    let ended = c.into_closed-closed in
+    reported_left c.args.flusher c.left_of-stored.result.0 c.left_of-stored.result.1 c.left_of-stored.ensures.some c.args.reporter ended.result.trace.log ended.ensures.reporter ended.ensures.durable
+
+pub returns-clause-files : goal.returns-clause-files
+returns-clause-files g c =
+    let was = c.args.reporter.log in
+    let now = c.into_closed-closed.result.trace.log in
+    let on = begins_with was now c.given-given.ensures.begun c.into_closed-closed.ensures.reporter.longer in
+    files_left g.D.Disk (history_of was) (history_of now) on c.args.flusher c.left_of-stored.result.0 c.left_of-stored.result.1 c.left_of-stored.ensures.some
+
+pub returns-clause-exactly : goal.returns-clause-exactly
+returns-clause-exactly g c =
+    let was = c.args.reporter.log in
+    let now = c.into_closed-closed.result.trace.log in
+    let on = begins_with was now c.given-given.ensures.begun c.into_closed-closed.ensures.reporter.longer in
+    exactly_left g.D.Disk (history_of was) (history_of now) on c.args.flusher c.left_of-stored.result.0 c.left_of-stored.result.1 c.left_of-stored.ensures.some

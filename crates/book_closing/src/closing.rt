@@ -1,0 +1,86 @@
+//! The end of a book and its store.
+ghost use Rattle.std.specs.Prelude.{◌≡◌, ◌≤◌, All, IfSome, IfNone, Some, None};
+ghost use Rattle.std.specs.Arc.{arc_value};
+ghost use mathlib.Core.List.{IsPrefix};
+ghost use Rattle.disk_model.specs.Moments.{Leaves};
+ghost use Rattle.root_store.specs.declared.phase.Phase.TheVariants as phases;
+ghost use Rattle.book_history.specs.Logs.{history_of, newest_in, IsLog};
+ghost use Rattle.book_desk.specs.Steps.{HasAllOf};
+ghost use Rattle.store_flushing.specs.Among.{IsFileIn};
+ghost use Rattle.store_flushing.specs.Storing.{IsStoreOf};
+ghost use Rattle.book_closing.specs.Files.{IsFileExactlyIn};
+
+use disk_model::disk::Disk;
+use flush_core::flusher::Flusher;
+use std::alloc::Global;
+use std::sync::{Arc, Wait};
+use version_book::reporter::Reporter;
+use version_book::session::Session;
+use version_book::shared::Shared;
+use version_book::trace::{Naming, Trace};
+use version_core::version::Version;
+
+/// What is left of a book and its store.
+#[derive(Drop)]
+pub struct Closed<D> {
+    /// The newest version.
+    pub version: Arc<Version, Global>,
+    /// The log that it ends.
+    pub trace: Trace,
+    /// The number of the version that is stored; 0 without a store.
+    pub stored: u64,
+    /// The store's disk.
+    pub disk: Option<D>,
+}
+
+/// Ends a book once the threads that share it have returned, and gives up its store. The sessions are all that it began
+/// with.
+pub fn close<J: Naming, R: Wait + Drop, D: Disk, W: Wait>(
+    rt: &W,
+    shared: Shared<J, R>,
+    reporter: Reporter,
+    flusher: Option<Flusher<D>>,
+    sessions: Vec<Session>,
+) -> Closed<D>
+    requires reporter { reporter.book ≡ J.book }
+    requires sessions { All (λ session. session.book ≡ J.book) sessions.items }
+    // The version ends a log that has all that the tokens have seen, and of each session's commands just those that it
+    // made.
+    ensures version { arc_value result.version ≡ newest_in result.trace.log }
+    ensures log { (result.trace.book ≡ J.book) × IsLog result.trace.log }
+    ensures reporter { IsPrefix reporter.log result.trace.log }
+    ensures sessions { All (λ session. HasAllOf result.trace.log session) sessions.items }
+    ensures none { IfNone flusher ((result.stored ≡ 0) × (result.disk ≡ None)) }
+    ensures disk { IfSome flusher (λ f. (result.stored ≡ f.stored) × (result.disk ≡ Some f.commit.disk)) }
+    // All that is reported is stored, where it was for the reporter.
+    ensures reported { IfSome flusher (λ f. (newest_in reporter.log).durable ≤ f.stored
+        → All (λ entry. entry.version.durable ≤ result.stored) result.trace.log) }
+    // Every file that a crash may leave stands for a version of the log, where it stood for one of the reporter's.
+    ensures files { IfSome flusher (λ f. Leaves D.Disk f.commit.disk (IsFileIn (history_of reporter.log) f.stored)
+        → IfSome result.disk (λ disk. Leaves D.Disk disk (IsFileIn (history_of result.trace.log) result.stored))) }
+    // It is just the version that is stored, where no commit is under way and the device did not fail.
+    ensures exactly { IfSome flusher (λ f. IsStoreOf D.Disk (history_of reporter.log) f → f.commit.phase ≡ phases.Idle
+        → IfSome result.disk (λ disk. Leaves D.Disk disk
+        (IsFileExactlyIn (history_of result.trace.log) result.stored))) }
+{
+    let _given = reporter.given();
+    let closed = shared.into_closed(rt, &reporter, &sessions);
+    let (stored, disk) = left_of(flusher);
+    Closed {
+        version: closed.version,
+        trace: closed.trace,
+        stored,
+        disk,
+    }
+}
+
+/// The number of the version that is stored, and the disk.
+fn left_of<D: Disk>(flusher: Option<Flusher<D>>) -> (u64, Option<D>)
+    ensures none { IfNone flusher ((result.0 ≡ 0) × (result.1 ≡ None)) }
+    ensures some { IfSome flusher (λ f. (result.0 ≡ f.stored) × (result.1 ≡ Some f.commit.disk)) }
+{
+    match flusher {
+        Some(flusher) => (flusher.stored(), Some(flusher.into_disk())),
+        None => (0, None),
+    }
+}
