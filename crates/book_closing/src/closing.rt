@@ -5,7 +5,7 @@ ghost use mathlib.Core.List.{IsPrefix};
 ghost use Rattle.disk_model.specs.Moments.{Leaves};
 ghost use Rattle.root_store.specs.declared.phase.Phase.TheVariants as phases;
 ghost use Rattle.book_history.specs.Logs.{history_of, newest_in, IsLog};
-ghost use Rattle.book_desk.specs.Steps.{HasAllOf};
+ghost use Rattle.book_lock.specs.Steps.{HasAllOf};
 ghost use Rattle.store_flushing.specs.Among.{IsFileIn};
 ghost use Rattle.store_flushing.specs.Storing.{IsStoreOf};
 ghost use Rattle.book_closing.specs.Files.{IsFileExactlyIn};
@@ -15,9 +15,9 @@ use flush_core::flusher::Flusher;
 use std::alloc::Global;
 use std::sync::{Arc, Wait};
 use version_book::reporter::Reporter;
+use version_book::seen_log::{Naming, SeenLog};
 use version_book::session::Session;
 use version_book::shared::Shared;
-use version_book::trace::{Naming, Trace};
 use version_core::version::Version;
 
 /// What is left of a book and its store.
@@ -26,7 +26,7 @@ pub struct Closed<D> {
     /// The newest version.
     pub version: Arc<Version, Global>,
     /// The log that it ends.
-    pub trace: Trace,
+    pub trace: SeenLog,
     /// The number of the version that is stored; 0 without a store.
     pub stored: u64,
     /// The store's disk.

@@ -22,10 +22,10 @@ use Rattle.version_core.specs.contracts.version.Version as version
 use Rattle.version_core.proofs.tiles.FinishedTile.TheSendSync as finished
 use Rattle.book_history.specs.contracts.published.PublishedAbsorb.TheImpl as absorb
 use Rattle.book_history.specs.contracts.published.Published as published
-use Rattle.book_history.specs.contracts.published.Tale as tale
-use Rattle.book_history.specs.contracts.published.TaleProtocolPublishedTrace.TheImpl as rule
-use Rattle.book_history.specs.contracts.trace.Trace as trace
-use Rattle.book_history.proofs.trace.Trace.TheSendSync as traces
+use Rattle.book_history.specs.contracts.published.OnlyGrows as only_grows
+use Rattle.book_history.specs.contracts.published.OnlyGrowsProtocolPublishedSeenLog.TheImpl as rule
+use Rattle.book_history.specs.contracts.seen_log.SeenLog as trace
+use Rattle.book_history.proofs.seen_log.SeenLog.TheSendSync as traces
 use Rattle.left_right.specs.contracts.reader.Reader as reader
 use Rattle.left_right.specs.contracts.writer.Writer as writer
 use Rattle.left_right.proofs.reader.Reader.TheSendSync as readers
@@ -67,8 +67,8 @@ published_send =
     let O = published.the_type in
     recorded_send _ _ _ O.to_one (struct_send (shape O) (Arc-send version.the_row version_send version_sync, (traces.the_send, tt)))
 
-pub place_send : IsSend (reader.the_row published.the_row trace.the_row tale.the_row global.the_row rule.ghosts heap.ghosts)
-place_send = readers.the_send published.the_row trace.the_row tale.the_row global.the_row rule.ghosts heap.ghosts send published_sync sync frees
+pub place_send : IsSend (reader.the_row published.the_row trace.the_row only_grows.the_row global.the_row rule.ghosts heap.ghosts)
+place_send = readers.the_send published.the_row trace.the_row only_grows.the_row global.the_row rule.ghosts heap.ghosts send published_sync sync frees
 
-pub press_send : IsSend (writer.the_row published.the_row published.the_row trace.the_row tale.the_row global.the_row trace.the_row absorb.ghosts rule.ghosts heap.ghosts)
-press_send = writers.the_send published.the_row published.the_row trace.the_row tale.the_row global.the_row trace.the_row absorb.ghosts rule.ghosts heap.ghosts published_send published_send send published_sync sync frees
+pub publisher_send : IsSend (writer.the_row published.the_row published.the_row trace.the_row only_grows.the_row global.the_row trace.the_row absorb.ghosts rule.ghosts heap.ghosts)
+publisher_send = writers.the_send published.the_row published.the_row trace.the_row only_grows.the_row global.the_row trace.the_row absorb.ghosts rule.ghosts heap.ghosts published_send published_send send published_sync sync frees

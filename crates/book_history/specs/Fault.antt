@@ -7,13 +7,13 @@ use Rattle.overlay_terms.specs.Histories.{Version}
 use Rattle.layer_book.specs.declared.fault.LayerFault.TheVariants.{OutOfMemory as NoMemory}
 use Rattle.version_core.specs.Fault as version_fault
 use Rattle.version_core.specs.declared.fault.VersionFault.TheVariants.{Layer}
-use Rattle.book_history.specs.declared.fault.StoreFault.{StoreFault}
-use Rattle.book_history.specs.declared.fault.StoreFault.TheVariants.{Device, Full, Failed, SequenceLimit, OutOfMemory}
+use Rattle.book_history.specs.declared.fault.ToldFault.{ToldFault}
+use Rattle.book_history.specs.declared.fault.ToldFault.TheVariants.{Device, Full, Failed, SequenceLimit, OutOfMemory}
 use Rattle.book_history.specs.declared.fault.BookFault.{BookFault}
 use Rattle.book_history.specs.declared.fault.BookFault.TheVariants as fault
 
 -- the number under which a store's fault is printed
-abbrev pub store_code_of : StoreFault → ℕ
+abbrev pub store_code_of : ToldFault → ℕ
 store_code_of Device = 30
 store_code_of Full = 31
 store_code_of Failed = 35
@@ -29,7 +29,7 @@ code_of fault.NoStore = 46
 code_of (fault.Store refused) = store_code_of refused
 
 -- whether an accepted command takes a store's fault away
-abbrev pub passes : StoreFault → Bool
+abbrev pub passes : ToldFault → Bool
 passes Device = false
 passes Full = true
 passes Failed = false
@@ -37,7 +37,7 @@ passes SequenceLimit = true
 passes OutOfMemory = true
 
 -- the text behind a store's number
-abbrev pub store_text_of : StoreFault → List ℕ
+abbrev pub store_text_of : ToldFault → List ℕ
 store_text_of Device = codes "device"
 store_text_of Full = codes "full"
 store_text_of Failed = codes "store failed"

@@ -5,20 +5,20 @@ use Rattle.overlay_terms.specs.Layers.{Name}
 use Rattle.overlay_terms.specs.Commands.{stands_as_derived}
 use Rattle.overlay_terms.specs.Histories.{Version, tile_at}
 use Rattle.version_core.specs.Finish.{IsPending}
-use Rattle.book_history.specs.Slots.{has_slot}
-use Rattle.book_history.specs.declared.slots.Slot.{Slot}
+use Rattle.book_history.specs.HeldTiles.{is_held}
+use Rattle.book_history.specs.declared.held_tiles.HeldTile.{HeldTile}
 
 -- a tile of a layer and column can be handed out: it is pending, and it is neither handed out nor marked
-pub record IsFree (version : Version) (slots : List Slot) (name : Name) (column : ℕ) : Type 0 where
+pub record IsFree (version : Version) (held : List HeldTile) (name : Name) (column : ℕ) : Type 0 where
   pub pending : IsPending version name column
   pub there : column < column_count
-  pub free : has_slot name column slots ≡ false
+  pub free : is_held name column held ≡ false
 
 -- each tile of a layer that is not finished is handed out or marked
-abbrev pub AreHeld : Version → List Slot → Name → Type 0
-AreHeld version slots name =
-    (column : ℕ) → column < column_count → tile_at version.tiles name column ≡ None → has_slot name column slots ≡ true
+abbrev pub AreHeld : Version → List HeldTile → Name → Type 0
+AreHeld version held name =
+    (column : ℕ) → column < column_count → tile_at version.tiles name column ≡ None → is_held name column held ≡ true
 
 -- no tile can be handed out: each pending one is handed out or marked
-abbrev pub AllAreHeld : Version → List Slot → Type 0
-AllAreHeld version slots = (name : Name) → IsTrue (stands_as_derived version.layers name) → AreHeld version slots name
+abbrev pub AllAreHeld : Version → List HeldTile → Type 0
+AllAreHeld version held = (name : Name) → IsTrue (stands_as_derived version.layers name) → AreHeld version held name

@@ -7,6 +7,6 @@ pub mod KnownCodes
 pub mod Known
 pub mod Rules
 pub mod Trails
-pub mod Slots
+pub mod HeldTiles
 pub mod Standing
 pub mod Free

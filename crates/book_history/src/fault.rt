@@ -8,7 +8,7 @@ use version_core::fault::VersionFault;
 
 /// What kept a store from writing a version.
 #[derive(Clone, Copy, Debug, PartialEq, Eq)]
-pub enum StoreFault {
+pub enum ToldFault {
     /// The device failed.
     Device,
     /// No room is left within the limit of blocks.
@@ -19,17 +19,17 @@ pub enum StoreFault {
     OutOfMemory,
 }
 
-impl StoreFault {
+impl ToldFault {
     /// The number under which the fault is printed.
     pub fn code(&self) -> u8
         ensures { result ≡ store_code_of self.now }
     {
         match self {
-            StoreFault::Device => 30,
-            StoreFault::Full => 31,
-            StoreFault::Failed => 35,
-            StoreFault::SequenceLimit => 36,
-            StoreFault::OutOfMemory => 40,
+            ToldFault::Device => 30,
+            ToldFault::Full => 31,
+            ToldFault::Failed => 35,
+            ToldFault::SequenceLimit => 36,
+            ToldFault::OutOfMemory => 40,
         }
     }
 
@@ -38,8 +38,8 @@ impl StoreFault {
         ensures { result ≡ passes self.now }
     {
         match self {
-            StoreFault::Full | StoreFault::SequenceLimit | StoreFault::OutOfMemory => true,
-            StoreFault::Device | StoreFault::Failed => false,
+            ToldFault::Full | ToldFault::SequenceLimit | ToldFault::OutOfMemory => true,
+            ToldFault::Device | ToldFault::Failed => false,
         }
     }
 }
@@ -56,7 +56,7 @@ pub enum BookFault {
     Gone,
     NoStore,
     /// The store said this.
-    Store(StoreFault),
+    Store(ToldFault),
 }
 
 impl BookFault {
@@ -94,18 +94,18 @@ impl fmt::Display for Text {
 
 /// The text of a store's fault.
 #[derive(Clone, Copy)]
-pub struct StoreText(pub StoreFault);
+pub struct StoreText(pub ToldFault);
 
 impl fmt::Display for StoreText {
     ghost output = { λ text. Some (store_text_of text.0) };
 
     fn fmt<W: fmt::Write>(&self, f: &mut fmt::Formatter<W>) -> fmt::Result {
         f.write_str(match self.0 {
-            StoreFault::Device => "device",
-            StoreFault::Full => "full",
-            StoreFault::Failed => "store failed",
-            StoreFault::SequenceLimit => "sequence limit",
-            StoreFault::OutOfMemory => "out of memory",
+            ToldFault::Device => "device",
+            ToldFault::Full => "full",
+            ToldFault::Failed => "store failed",
+            ToldFault::SequenceLimit => "sequence limit",
+            ToldFault::OutOfMemory => "out of memory",
         })
     }
 }

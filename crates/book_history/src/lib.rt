@@ -3,11 +3,11 @@
 
 pub mod entry;
 pub mod fault;
+pub mod held_tiles;
 pub mod making;
 pub mod pending;
-pub mod place;
-pub mod press;
 pub mod published;
-pub mod slots;
+pub mod publisher;
+pub mod reader_place;
+pub mod seen_log;
 pub mod standing;
-pub mod trace;

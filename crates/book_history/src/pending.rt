@@ -4,9 +4,9 @@ ghost use Rattle.overlay_terms.specs.Column.{column_count};
 ghost use Rattle.overlay_terms.specs.Histories.{tile_at};
 ghost use Rattle.overlay_terms.specs.Tiles.{input_of};
 ghost use Rattle.book_history.specs.Free.{AllAreHeld, AreHeld, IsFree};
-ghost use Rattle.book_history.specs.Slots.{has_slot};
+ghost use Rattle.book_history.specs.HeldTiles.{is_held};
 
-use crate::slots::Slots;
+use crate::held_tiles::HeldTiles;
 use arrange::tile_input::TileInput;
 use layer_expr::name::Name;
 use plane_base::COLUMN_COUNT;
@@ -14,15 +14,15 @@ use std::alloc::{AllocError, Global};
 use version_core::version::Version;
 
 /// A pending tile of a version that is neither handed out nor marked.
-pub fn free<'a>(version: &'a Version, slots: &Slots) -> Option<(&'a Name, u8)>
-    ensures some { IfSome result (λ r. IsFree version.now slots.now.list.items r.0.now r.1) }
-    ensures none { IfNone result (AllAreHeld version.now slots.now.list.items) }
+pub fn free<'a>(version: &'a Version, held: &HeldTiles) -> Option<(&'a Name, u8)>
+    ensures some { IfSome result (λ r. IsFree version.now held.now.list.items r.0.now r.1) }
+    ensures none { IfNone result (AllAreHeld version.now held.now.list.items) }
 {
     let layers = version.layers();
     for place in 0..layers.len() {
         if let Some((name, _layer)) = layers.at(place) {
             if layers.stands_as_derived(name) {
-                if let Some(column) = free_column(version, slots, name) {
+                if let Some(column) = free_column(version, held, name) {
                     return Some((name, column));
                 }
             }
@@ -32,14 +32,14 @@ pub fn free<'a>(version: &'a Version, slots: &Slots) -> Option<(&'a Name, u8)>
 }
 
 // The same among the columns of a layer.
-fn free_column(version: &Version, slots: &Slots, name: &Name) -> Option<u8>
+fn free_column(version: &Version, held: &HeldTiles, name: &Name) -> Option<u8>
     ensures pending { IfSome result (λ column. tile_at version.now.tiles name.now column ≡ None) }
     ensures column { IfSome result (λ column. column < column_count) }
-    ensures free { IfSome result (λ column. has_slot name.now column slots.now.list.items ≡ false) }
-    ensures none { IfNone result (AreHeld version.now slots.now.list.items name.now) }
+    ensures free { IfSome result (λ column. is_held name.now column held.now.list.items ≡ false) }
+    ensures none { IfNone result (AreHeld version.now held.now.list.items name.now) }
 {
     for column in 0..COLUMN_COUNT {
-        if version.tile(name, column).is_none() && !slots.has(name, column) {
+        if version.tile(name, column).is_none() && !held.has(name, column) {
             return Some(column);
         }
     }

@@ -3,7 +3,7 @@ ghost use Rattle.std.specs.Prelude.{◌≡◌, IfOk};
 ghost use Rattle.std.specs.Arc.{arc_value};
 ghost use Rattle.book_history.specs.Logs.{newest_in};
 
-use crate::trace::Trace;
+use crate::seen_log::SeenLog;
 use atomic_table::{Join, Split};
 use crossbeam_utils::rule::{Outcome, Protocol};
 use left_right::Absorb;
@@ -17,7 +17,7 @@ use version_core::version::Version;
 #[derive(Drop)]
 pub struct Published {
     pub version: Arc<Version, Global>,
-    pub trace: Trace,
+    pub trace: SeenLog,
     pub ghost last: { arc_value version ≡ newest_in trace.log },
 }
 
@@ -31,7 +31,7 @@ impl Published {
         })
     }
 
-    pub fn into_parts(self) -> (Arc<Version, Global>, Trace)
+    pub fn into_parts(self) -> (Arc<Version, Global>, SeenLog)
         ensures { (arc_value result.0 ≡ newest_in result.1.log) × (result.1 ≡ self.trace) }
     {
         let Published { version, trace } = self;
@@ -41,7 +41,7 @@ impl Published {
 
 /// An operation is what is published next.
 impl Absorb<Published> for Published {
-    type State = Trace;
+    type State = SeenLog;
 
     ghost state = { λ p. p.trace };
 
@@ -63,9 +63,9 @@ impl Absorb<Published> for Published {
 }
 
 /// The log that is published only grows.
-pub struct Tale;
+pub struct OnlyGrows;
 
-impl Protocol<Published, Trace> for Tale {
+impl Protocol<Published, SeenLog> for OnlyGrows {
     ghost use Rattle.book_history.specs.Trails.{AllWithin, newcomer};
 
     ghost holds = { λ p views. AllWithin p.trace views };
@@ -76,7 +76,7 @@ impl Protocol<Published, Trace> for Tale {
 /// A step that sees what is published after it.
 pub struct Sees;
 
-impl Outcome<Published, Trace> for Sees {
+impl Outcome<Published, SeenLog> for Sees {
     ghost use Rattle.std.specs.Prelude.{◌≡◌};
     ghost use Rattle.book_history.specs.Trails.{Within};
 
@@ -86,13 +86,13 @@ impl Outcome<Published, Trace> for Sees {
 /// What the writer hands on: all that it knows.
 pub struct Notes;
 
-impl Split<Trace> for Notes {
+impl Split<SeenLog> for Notes {
     ghost left = { λ v. v };
 
     ghost right = { λ v. v };
 }
 
-impl Join<Trace> for Notes {
+impl Join<SeenLog> for Notes {
     ghost use Rattle.book_history.specs.Trails.{newcomer};
 
     ghost both = { λ v w. w };
@@ -101,7 +101,7 @@ impl Join<Trace> for Notes {
 }
 
 /// A place from which a token reads what is published.
-pub type Place = Reader<Published, Trace, Tale>;
+pub type ReaderPlace = Reader<Published, SeenLog, OnlyGrows>;
 
 /// What publishes.
-pub type Press = Writer<Published, Published, Trace, Tale>;
+pub type Publisher = Writer<Published, Published, SeenLog, OnlyGrows>;

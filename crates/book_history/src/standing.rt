@@ -1,22 +1,22 @@
 //! Where the book stands beside its log.
 ghost use Rattle.std.specs.Prelude.{◌≡◌};
-ghost use Rattle.book_history.specs.Slots.{given_back, unmarked_of};
-ghost use Rattle.book_history.specs.Standing.{HasSlots, IsAfterClosing, IsAfterCommand, IsAfterFailure, IsAfterFinish};
+ghost use Rattle.book_history.specs.HeldTiles.{given_back, unmarked_of};
+ghost use Rattle.book_history.specs.Standing.{HasHeld, IsAfterClosing, IsAfterCommand, IsAfterFailure, IsAfterFinish};
 ghost use Rattle.book_history.specs.Standing.{IsFresh, left_over, told};
 
-use crate::fault::StoreFault;
-use crate::slots::Slots;
+use crate::fault::ToldFault;
+use crate::held_tiles::HeldTiles;
 use layer_expr::name::Name;
 use std::alloc::Global;
 
 /// What lies under the lock beside the log.
 #[derive(Drop)]
 pub struct Standing {
-    pub slots: Slots,
+    pub held: HeldTiles,
     /// Whether there is a store.
     pub store: bool,
     /// What the store told, while it stands.
-    pub fault: Option<StoreFault>,
+    pub fault: Option<ToldFault>,
     /// Whether the reporter waits for an accepted command.
     pub resting: bool,
     pub closing: bool,
@@ -30,7 +30,7 @@ impl Standing {
         ensures { IsFresh store result }
     {
         Standing {
-            slots: Slots::new(alloc),
+            held: HeldTiles::new(alloc),
             store,
             fault: None,
             resting: false,
@@ -43,7 +43,7 @@ impl Standing {
     pub fn command_accepted(&mut self)
         ensures { IsAfterCommand self.old self.new }
     {
-        self.slots.unmark();
+        self.held.unmark();
         self.fault = left_over(self.fault);
         self.resting = false;
         self.news = self.news.wrapping_add(1);
@@ -53,14 +53,14 @@ impl Standing {
     pub fn job_finished(&mut self, name: &Name, column: u8, kept: bool)
         ensures { IsAfterFinish self.old name.now column kept self.new }
     {
-        self.slots.take_in(name, column);
+        self.held.take_in(name, column);
         if kept {
             self.news = self.news.wrapping_add(1);
         }
     }
 
     /// The store told a fault.
-    pub fn store_failed(&mut self, fault: StoreFault)
+    pub fn store_failed(&mut self, fault: ToldFault)
         ensures { IsAfterFailure self.old fault self.new }
     {
         self.fault = told(self.fault, fault);
@@ -69,16 +69,16 @@ impl Standing {
 
     /// A tile that was handed out was given back: it is marked.
     pub fn give_back(&mut self, name: &Name, column: u8)
-        ensures { HasSlots self.old (given_back name.now column self.old.slots.list.items) self.new }
+        ensures { HasHeld self.old (given_back name.now column self.old.held.list.items) self.new }
     {
-        self.slots.give_back(name, column);
+        self.held.give_back(name, column);
     }
 
     /// A wait for the tiles of a layer was told of its marks, which go.
     pub fn unmark_of(&mut self, name: &Name)
-        ensures { HasSlots self.old (unmarked_of name.now self.old.slots.list.items) self.new }
+        ensures { HasHeld self.old (unmarked_of name.now self.old.held.list.items) self.new }
     {
-        self.slots.unmark_of(name);
+        self.held.unmark_of(name);
     }
 
     /// The book closes from now on.
@@ -89,7 +89,7 @@ impl Standing {
     }
 }
 
-fn left_over(old: Option<StoreFault>) -> Option<StoreFault>
+fn left_over(old: Option<ToldFault>) -> Option<ToldFault>
     ensures { result ≡ left_over old }
 {
     match old {
@@ -98,7 +98,7 @@ fn left_over(old: Option<StoreFault>) -> Option<StoreFault>
     }
 }
 
-fn told(old: Option<StoreFault>, fault: StoreFault) -> Option<StoreFault>
+fn told(old: Option<ToldFault>, fault: ToldFault) -> Option<ToldFault>
     ensures { result ≡ told old fault }
 {
     match old {

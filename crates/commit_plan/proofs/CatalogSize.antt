@@ -10,7 +10,7 @@ use Rattle.byteorder.specs.Numbers.{length-bytes_high_first}
 use Rattle.overlay_terms.specs.Column.{column_count}
 use Rattle.overlay_terms.specs.Layers.{Name, Layer}
 use Rattle.overlay_terms.specs.Histories.{Finished}
-use Rattle.store_terms.specs.declared.root.Extent.{Extent}
+use Rattle.store_terms.specs.declared.root.RecordExtent.{RecordExtent}
 use Rattle.store_terms.specs.Fields.{number, counted}
 use Rattle.store_terms.specs.Choices.{optional}
 use Rattle.store_terms.specs.Catalog.{Listed, extent, listed, catalog}
@@ -22,7 +22,7 @@ use Rattle.record_bytes.specs.declared.catalog.Records.TheVariants.{Base, Derive
 use Rattle.commit_plan.specs.Filing.{Filed, FiledLayer, a_base, a_definition, listed_of, filed_tiles, SpellTiles, SpellLayer, SpellLayers}
 use Rattle.commit_plan.specs.Sizes.{entry_size, catalog_size}
 
-pub extent_long : (e : Extent) → length (extent.text e) ≡ 12
+pub extent_long : (e : RecordExtent) → length (extent.text e) ≡ 12
 extent_long e =
     length-append (big_bytes 8 e.block) (big_bytes 4 e.size)
     ∙ (λ i. length-bytes_high_first 8 e.block i + length-bytes_high_first 4 e.size i)
@@ -119,7 +119,7 @@ catalog_long ls layers tiles spelled columns =
 
 -- ---- entries of the code
 
-abbrev entries_in : Extent ⊎ Extent × List (Option Extent) → List (Option Extent)
+abbrev entries_in : RecordExtent ⊎ RecordExtent × List (Option RecordExtent) → List (Option RecordExtent)
 entries_in (inl e) = []
 entries_in (inr records) = records.1
 

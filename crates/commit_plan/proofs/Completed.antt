@@ -5,7 +5,7 @@ use Rattle.overlay_terms.specs.Commands.{version_max}
 use Rattle.extent_map.specs.declared.extent.Extent as runs
 use Rattle.extent_map.specs.Extents.{AreAlike}
 use Rattle.extent_map.specs.Taken.{taken_of}
-use Rattle.store_terms.specs.declared.root.Extent.{Extent}
+use Rattle.store_terms.specs.declared.root.RecordExtent.{RecordExtent}
 use Rattle.store_terms.specs.Catalog.{Listed, catalog_of_record}
 use Rattle.store_terms.specs.Places.{all_apart, extents_listed}
 use Rattle.store_terms.specs.Roots.{body_text, sequence_max}
@@ -47,9 +47,9 @@ module _ (x : Kept) (given : List runs.Extent) (limit : ℕ) (layers : List File
   y = record { root = next.root; extents = next.root.catalog ∷ extents_listed (map listed_of layers); held = held }
 
   are : AreRunsOf (extents_listed (map listed_of layers) ++ catalog.extent ∷ []) d.runs.items
-  are = subst (λ (l : List Extent). AreRunsOf l d.runs.items)
+  are = subst (λ (l : List RecordExtent). AreRunsOf l d.runs.items)
       (extents_both (flat_map filed_of layers) (catalog ∷ [])
-      ∙ ap (λ (l : List Extent). l ++ catalog.extent ∷ []) (listed_are layers)) draft.runs
+      ∙ ap (λ (l : List RecordExtent). l ++ catalog.extent ∷ []) (listed_are layers)) draft.runs
 
   files : Files y layers catalog
   files = record {
@@ -59,7 +59,7 @@ module _ (x : Kept) (given : List runs.Extent) (limit : ℕ) (layers : List File
     there = c.catalog_is;
     number = c.version;
     extents = refl;
-    apart = subst (λ (e : Extent). all_apart (e ∷ extents_listed (map listed_of layers)) ≡ true) (sym c.catalog_is)
+    apart = subst (λ (e : RecordExtent). all_apart (e ∷ extents_listed (map listed_of layers)) ≡ true) (sym c.catalog_is)
         (extents_apart (extents_listed (map listed_of layers)) catalog.extent d.runs.items
         (planned_apart given limit _ d.runs.items draft.placed.planned) are);
   }
@@ -85,7 +85,7 @@ module _ (x : Kept) (given : List runs.Extent) (limit : ℕ) (layers : List File
     kept = y;
     holds = refl;
     root = refl;
-    room = subst (λ (e : Extent). IsMapOf (e ∷ extents_listed (map listed_of layers)) (taken_of next.room.map))
+    room = subst (λ (e : RecordExtent). IsMapOf (e ∷ extents_listed (map listed_of layers)) (taken_of next.room.map))
         (sym c.catalog_is)
         (map_turned (extents_listed (map listed_of layers)) catalog.extent (taken_of next.room.map)
         (map_of_runs (extents_listed (map listed_of layers) ++ catalog.extent ∷ []) d.runs.items

@@ -11,7 +11,7 @@ use Rattle.store_terms.specs.declared.damage.Damage.{Damage}
 use Rattle.store_terms.specs.BaseRecord.{base_of_record}
 use Rattle.store_terms.specs.DefinitionRecord.{definition_of_record}
 use Rattle.store_terms.specs.TileRecord.{tile_of_record}
-use Rattle.store_terms.specs.declared.root.Extent.{Extent}
+use Rattle.store_terms.specs.declared.root.RecordExtent.{RecordExtent}
 use Rattle.store_terms.specs.Catalog.{Listed, catalog_of_record}
 use Rattle.store_terms.specs.Places.{blocks, bytes_of, is_placed}
 use Rattle.store_terms.specs.Image.{listing_of, held_of}
@@ -20,7 +20,7 @@ use Rattle.store_terms.specs.Spelled.{Spells, TilesAre, LayerIs, LayersAre}
 use Rattle.store_terms.proofs.SpelledLemmas.{spelled_is_held, listing_spelled}
 use Rattle.store_terms.proofs.RecordLemmas.{held_is_placed}
 use Rattle.commit_plan.specs.declared.write.Write.{Write}
-use Rattle.commit_plan.specs.Planning.{IsPut}
+use Rattle.commit_plan.specs.Planning.{IsWritten}
 use Rattle.commit_plan.specs.Filing.{Filed, FiledLayer, a_base, a_definition, listed_of, filed_tiles, filed_of, SpellTiles, SpellLayer, SpellLayers, IsWriteOf, AreWritesOf, FilingMakes}
 
 -- the bytes of a record stand at its place
@@ -38,7 +38,7 @@ front_of_part : (file : List ℕ) (at n m : ℕ) → n ≤ m → take n (part fi
 unfolding part
 front_of_part file at n m le = take-take n m (drop at file) le
 
-put_is_filed : (file : List ℕ) (f : Filed) (w : Write) → IsWriteOf f w → IsPut file w → IsFiled file f
+put_is_filed : (file : List ℕ) (f : Filed) (w : Write) → IsWriteOf f w → IsWritten file w → IsFiled file f
 put_is_filed file f w write put =
     let e = f.extent in
     let end : w.at + length w.bytes.items ≤ length file = put.within in
@@ -53,7 +53,7 @@ put_is_filed file f w write put =
           ∙ write.front;
     }
 
-all_filed : (file : List ℕ) (fs : List Filed) (ws : List Write) → AreWritesOf fs ws → AllByRecursion (IsPut file) ws
+all_filed : (file : List ℕ) (fs : List Filed) (ws : List Write) → AreWritesOf fs ws → AllByRecursion (IsWritten file) ws
     → AllByRecursion (IsFiled file) fs
 all_filed file [] [] writes puts = tt
 all_filed file [] (w ∷ ws) writes puts = absurd writes
@@ -116,7 +116,7 @@ filing_makes y layers listing ws file files writes puts =
     let records = front_filed (IsFiled file) (flat_map filed_of layers) (listing ∷ []) filed in
     let last = back_filed (IsFiled file) (flat_map filed_of layers) (listing ∷ []) filed in
     let catalog_spells : Spells file y.root.catalog catalog_of_record (map listed_of layers) =
-    subst (λ (e : Extent). Spells file e catalog_of_record (map listed_of layers)) (sym files.there)
+    subst (λ (e : RecordExtent). Spells file e catalog_of_record (map listed_of layers)) (sym files.there)
     (filed_spells file listing catalog_of_record (map listed_of layers) last.0 files.catalog) in
     let holds : held_of file y.root ≡ Ok y.held = spelled_is_held file y.root y.held files.stored (record {
       listing = map listed_of layers;
@@ -131,7 +131,7 @@ filing_makes y layers listing ws file files writes puts =
     ap (λ (l : Result (List Listed) Damage). y.root.catalog ∷ listed_extents l) read ∙ sym files.extents in
     record {
       extents = extents;
-      placed = subst (λ (es : List Extent). AllByRecursion (λ e. is_placed file e ≡ true) es) extents
+      placed = subst (λ (es : List RecordExtent). AllByRecursion (λ e. is_placed file e ≡ true) es) extents
           (held_is_placed file y.root y.held holds);
       holds = holds;
     }

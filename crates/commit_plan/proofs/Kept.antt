@@ -4,7 +4,7 @@ use Rattle.std.specs.List.{AllByRecursion}
 use Rattle.std.proofs.lemmas.Bool.{and_parts, and_from, leb-true, le-leb}
 use Rattle.disk_model.specs.Disk.{Holds, Torn}
 use Rattle.disk_model.proofs.Ranges.{Apart, byte_kept, part_kept}
-use Rattle.store_terms.specs.declared.root.Extent.{Extent}
+use Rattle.store_terms.specs.declared.root.RecordExtent.{RecordExtent}
 use Rattle.store_terms.specs.Places.{blocks, is_placed}
 use Rattle.store_terms.specs.declared.root.Root.{Root}
 use Rattle.store_terms.specs.Frame.{IsSameAt}
@@ -21,37 +21,37 @@ more_blocks : (m n : ℕ) → m ≤ n → m / 4096 ≤ n / 4096
 more_blocks m n le = omega arith
 
 -- what is placed
-pub record IsBehind (file : List ℕ) (e : Extent) : Type 0 where
+pub record IsBehind (file : List ℕ) (e : RecordExtent) : Type 0 where
   pub behind : 2 ≤ e.block
   pub within : e.block + blocks e.size ≤ length file / 4096
 
-pub is_behind : (file : List ℕ) (e : Extent) → is_placed file e ≡ true → IsBehind file e
+pub is_behind : (file : List ℕ) (e : RecordExtent) → is_placed file e ≡ true → IsBehind file e
 is_behind file e placed =
     let p = and_parts (nat_le 2 e.block) (nat_le (e.block + blocks e.size) (length file / 4096)) placed in
     record { behind = leb-true 2 e.block p.0; within = leb-true _ _ p.1 }
 
-pub still_placed : (old new : List ℕ) (e : Extent) → length old ≤ length new → is_placed old e ≡ true
+pub still_placed : (old new : List ℕ) (e : RecordExtent) → length old ≤ length new → is_placed old e ≡ true
     → is_placed new e ≡ true
 still_placed old new e le placed =
     let b = is_behind old e placed in
     and_from (nat_le 2 e.block) (nat_le (e.block + blocks e.size) (length new / 4096)) (le-leb 2 e.block b.behind)
     (le-leb _ _ (omega (arith, b.within, more_blocks (length old) (length new) le)))
 
-abbrev pub AllPlaced : List ℕ → List Extent → Type 0
+abbrev pub AllPlaced : List ℕ → List RecordExtent → Type 0
 AllPlaced file es = AllByRecursion (λ e. is_placed file e ≡ true) es
 
 -- a range touches none of these extents
-abbrev pub ApartFrom : ℕ → ℕ → List Extent → Type 0
+abbrev pub ApartFrom : ℕ → ℕ → List RecordExtent → Type 0
 ApartFrom at n es = AllByRecursion (λ e. Apart at n (4096 * e.block) e.size) es
 
 -- a range in the slots touches no extent
-pub low_apart : (file : List ℕ) (at n : ℕ) (es : List Extent) → at + n ≤ 8192 → AllPlaced file es → ApartFrom at n es
+pub low_apart : (file : List ℕ) (at n : ℕ) (es : List RecordExtent) → at + n ≤ 8192 → AllPlaced file es → ApartFrom at n es
 low_apart file at n [] low all = tt
 low_apart file at n (e ∷ es) low all =
     (inl (omega (arith, low, (is_behind file e all.0).behind)), low_apart file at n es low all.1)
 
 module _ (old new : List ℕ) (at n : ℕ) (torn : Torn at n old new) where
-  same_at : (e : Extent) → is_placed old e ≡ true → Apart at n (4096 * e.block) e.size → IsSameAt old new e
+  same_at : (e : RecordExtent) → is_placed old e ≡ true → Apart at n (4096 * e.block) e.size → IsSameAt old new e
   same_at e placed apart =
       let b = is_behind old e placed in
       record {
@@ -60,11 +60,11 @@ module _ (old new : List ℕ) (at n : ℕ) (torn : Torn at n old new) where
         placed = still_placed old new e torn.no_shorter placed ∙ sym placed;
       }
 
-  all_same : (es : List Extent) → AllPlaced old es → ApartFrom at n es → AllByRecursion (IsSameAt old new) es
+  all_same : (es : List RecordExtent) → AllPlaced old es → ApartFrom at n es → AllByRecursion (IsSameAt old new) es
   all_same [] placed apart = tt
   all_same (e ∷ es) placed apart = (same_at e placed.0 apart.0, all_same es placed.1 apart.1)
 
-  all_placed : (es : List Extent) → AllPlaced old es → AllPlaced new es
+  all_placed : (es : List RecordExtent) → AllPlaced old es → AllPlaced new es
   all_placed [] placed = tt
   all_placed (e ∷ es) placed = (still_placed old new e torn.no_shorter placed.0, all_placed es placed.1)
 
@@ -78,7 +78,7 @@ module _ (old new : List ℕ) (at n : ℕ) (torn : Torn at n old new) where
       → Named k x new
   named_kept k x small off_body off_extents named =
       let same = elsewhere_has_no_meaning old new x.root
-      (subst (λ (es : List Extent). AllByRecursion (IsSameAt old new) es) (sym named.extents)
+      (subst (λ (es : List RecordExtent). AllByRecursion (IsSameAt old new) es) (sym named.extents)
       (all_same x.extents named.placed off_extents)) in
       record {
         long = omega (arith, named.long, torn.no_shorter);

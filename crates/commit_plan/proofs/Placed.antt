@@ -6,9 +6,9 @@ use Rattle.std.proofs.lemmas.Bool.{and_from, le-leb}
 use Rattle.disk_model.proofs.Ranges.{Apart}
 use Rattle.extent_map.specs.declared.extent.Extent as runs
 use Rattle.extent_map.specs.Extents as maps
-use Rattle.extent_map.specs.Extents.{IsApart, IsFree}
+use Rattle.extent_map.specs.Extents.{IsApart, IsUnused}
 use Rattle.extent_map.specs.FirstFit.{IsPlanned}
-use Rattle.store_terms.specs.declared.root.Extent.{Extent}
+use Rattle.store_terms.specs.declared.root.RecordExtent.{RecordExtent}
 use Rattle.store_terms.specs.Places.{blocks, are_apart, is_apart_from, all_apart, some_extents, extents_of_records, extents_listed}
 use Rattle.commit_plan.specs.declared.write.Write.{Write}
 use Rattle.commit_plan.specs.Kept.{Kept}
@@ -21,7 +21,7 @@ use Rattle.root_reading.proofs.Rooms.{AreFreeOf}
 -- a run behind the slots that is free
 pub record IsNew (given : List runs.Extent) (r : runs.Extent) : Type 0 where
   pub behind : 2 ≤ r.block
-  pub free : IsFree given r.block r.blocks
+  pub free : IsUnused given r.block r.blocks
 
 new_of_fewer : (given : List runs.Extent) (q : runs.Extent) (rs : List runs.Extent)
     → AllByRecursion (IsNew (q ∷ given)) rs → AllByRecursion (IsNew given) rs
@@ -38,7 +38,7 @@ planned_new given limit (n ∷ ns) (r ∷ rs) planned = (
   record {
     behind = planned.1.behind;
     free =
-        subst (λ (m : ℕ). IsFree given r.block m) (sym planned.0) planned.1.free;
+        subst (λ (m : ℕ). IsUnused given r.block m) (sym planned.0) planned.1.free;
   },
   new_of_fewer given r rs (planned_new
       (r ∷ given) limit ns rs planned.2),
@@ -49,7 +49,7 @@ turned q r (inl before) = inr before
 turned q r (inr behind) = inl behind
 
 apart_from_first : (given : List runs.Extent) (r : runs.Extent) (rs : List runs.Extent)
-    → AllByRecursion (IsNew (r ∷ given)) rs → IsFree rs r.block r.blocks
+    → AllByRecursion (IsNew (r ∷ given)) rs → IsUnused rs r.block r.blocks
 apart_from_first given r [] new = tt
 apart_from_first given r (q ∷ rs) new = (turned q r new.0.free.0, apart_from_first given r rs new.1)
 
@@ -69,7 +69,7 @@ planned_apart given limit (n ∷ ns) (r ∷ rs) planned = (
 size_fits : (n : ℕ) → n ≤ 4096 * blocks n
 size_fits n = omega arith
 
-off_extents : (w : Write) (block need : ℕ) (es : List Extent) → w.at ≡ 4096 * block → length w.bytes.items ≡ 4096 * need
+off_extents : (w : Write) (block need : ℕ) (es : List RecordExtent) → w.at ≡ 4096 * block → length w.bytes.items ≡ 4096 * need
     → AreFreeOf block need es
     → AllByRecursion (λ e. Apart w.at (length w.bytes.items) (4096 * e.block) e.size) es
 off_extents w block need [] at size free = tt
@@ -111,7 +111,7 @@ writes_apart f g w v r q block size block2 size2 is is2 apart =
 
 apart_from_all : (f : Filed) (w : Write) (r : runs.Extent) (fs : List Filed) (ws : List Write) (rs : List runs.Extent)
     → r.block ≡ f.extent.block → r.blocks ≡ blocks f.extent.size → IsWriteOf f w
-    → IsFree rs r.block r.blocks → AreRunsOf (extents_of_filed fs) rs → AreWritesOf fs ws
+    → IsUnused rs r.block r.blocks → AreRunsOf (extents_of_filed fs) rs → AreWritesOf fs ws
     → AllByRecursion (AreApart w) ws
 apart_from_all f w r [] [] rs block size is free are writes = tt
 apart_from_all f w r [] (v ∷ ws) rs block size is free are writes = absurd writes
@@ -131,17 +131,17 @@ all_writes_apart (g ∷ fs) (v ∷ ws) (q ∷ rs) apart are writes =
 
 -- ---- extents, the catalog's first
 
-abbrev Beside : Extent → Extent → Type 0
+abbrev Beside : RecordExtent → RecordExtent → Type 0
 Beside e f = (e.block + blocks e.size ≤ f.block) ⊎ (f.block + blocks f.size ≤ e.block)
 
-beside_runs : (e f : Extent) (r q : runs.Extent) → r.block ≡ e.block → r.blocks ≡ blocks e.size → q.block ≡ f.block
+beside_runs : (e f : RecordExtent) (r q : runs.Extent) → r.block ≡ e.block → r.blocks ≡ blocks e.size → q.block ≡ f.block
     → q.blocks ≡ blocks f.size → IsApart r.block r.blocks q → Beside e f
 beside_runs e f r q block size block2 size2 (inl before) =
     inl (subst (λ (n : ℕ). e.block + n ≤ f.block) size (omega (arith, before, block, block2)))
 beside_runs e f r q block size block2 size2 (inr behind) =
     inr (subst (λ (n : ℕ). f.block + n ≤ e.block) size2 (omega (arith, behind, block, block2)))
 
-beside_turned : (e f : Extent) → Beside e f → Beside f e
+beside_turned : (e f : RecordExtent) → Beside e f → Beside f e
 beside_turned e f (inl before) = inr before
 beside_turned e f (inr behind) = inl behind
 
@@ -151,69 +151,69 @@ or_left a b is = search rules
 or_right : (a b : Bool) → b ≡ true → a || b ≡ true
 or_right a b is = search rules
 
-beside_is : (e f : Extent) → Beside e f → are_apart e f ≡ true
+beside_is : (e f : RecordExtent) → Beside e f → are_apart e f ≡ true
 beside_is e f (inl before) = or_left _ _ (le-leb _ _ before)
 beside_is e f (inr behind) = or_right (nat_le (e.block + blocks e.size) f.block) _ (le-leb _ _ behind)
 
-abbrev AllBeside : List Extent → Type 0
+abbrev AllBeside : List RecordExtent → Type 0
 AllBeside [] = Unit {0}
 AllBeside (e ∷ es) = AllByRecursion (Beside e) es × AllBeside es
 
-beside_all : (e : Extent) (r : runs.Extent) (es : List Extent) (rs : List runs.Extent) → r.block ≡ e.block
-    → r.blocks ≡ blocks e.size → IsFree rs r.block r.blocks → AreRunsOf es rs → AllByRecursion (Beside e) es
+beside_all : (e : RecordExtent) (r : runs.Extent) (es : List RecordExtent) (rs : List runs.Extent) → r.block ≡ e.block
+    → r.blocks ≡ blocks e.size → IsUnused rs r.block r.blocks → AreRunsOf es rs → AllByRecursion (Beside e) es
 beside_all e r [] rs block size free are = tt
 beside_all e r (f ∷ es) [] block size free are = absurd are
 beside_all e r (f ∷ es) (q ∷ rs) block size free are =
     (beside_runs e f r q block size are.0 are.1 free.0, beside_all e r es rs block size free.1 are.2)
 
-all_beside : (es : List Extent) (rs : List runs.Extent) → maps.AreApart rs → AreRunsOf es rs → AllBeside es
+all_beside : (es : List RecordExtent) (rs : List runs.Extent) → maps.AreApart rs → AreRunsOf es rs → AllBeside es
 all_beside [] rs apart are = tt
 all_beside (e ∷ es) [] apart are = absurd are
 all_beside (e ∷ es) (r ∷ rs) apart are =
     (beside_all e r es rs are.0 are.1 apart.0 are.2, all_beside es rs apart.1 are.2)
 
 -- what holds of a list and of one behind it
-last_of : (P : Extent → Type 0) (es : List Extent) (c : Extent) → AllByRecursion P (es ++ c ∷ []) → P c
+last_of : (P : RecordExtent → Type 0) (es : List RecordExtent) (c : RecordExtent) → AllByRecursion P (es ++ c ∷ []) → P c
 last_of P [] c all = all.0
 last_of P (e ∷ es) c all = last_of P es c all.1
 
-front_of_all : (P : Extent → Type 0) (es : List Extent) (c : Extent) → AllByRecursion P (es ++ c ∷ [])
+front_of_all : (P : RecordExtent → Type 0) (es : List RecordExtent) (c : RecordExtent) → AllByRecursion P (es ++ c ∷ [])
     → AllByRecursion P es
 front_of_all P [] c all = tt
 front_of_all P (e ∷ es) c all = (all.0, front_of_all P es c all.1)
 
-behind_all : (P : Extent → Type 0) (es : List Extent) (c : Extent) → P c → AllByRecursion P es
+behind_all : (P : RecordExtent → Type 0) (es : List RecordExtent) (c : RecordExtent) → P c → AllByRecursion P es
     → AllByRecursion P (es ++ c ∷ [])
 behind_all P [] c last all = (last, tt)
 behind_all P (e ∷ es) c last all = (all.0, behind_all P es c last all.1)
 
-beside_last : (es : List Extent) (c : Extent) → AllBeside (es ++ c ∷ []) → AllByRecursion (Beside c) es
+beside_last : (es : List RecordExtent) (c : RecordExtent) → AllBeside (es ++ c ∷ []) → AllByRecursion (Beside c) es
 beside_last [] c all = tt
 beside_last (e ∷ es) c all = (beside_turned e c (last_of (Beside e) es c all.0), beside_last es c all.1)
 
-beside_front : (es : List Extent) (c : Extent) → AllBeside (es ++ c ∷ []) → AllBeside es
+beside_front : (es : List RecordExtent) (c : RecordExtent) → AllBeside (es ++ c ∷ []) → AllBeside es
 beside_front [] c all = tt
 beside_front (e ∷ es) c all = (front_of_all (Beside e) es c all.0, beside_front es c all.1)
 
-apart_from_is : (e : Extent) (es : List Extent) → AllByRecursion (Beside e) es → is_apart_from e es ≡ true
+apart_from_is : (e : RecordExtent) (es : List RecordExtent) → AllByRecursion (Beside e) es → is_apart_from e es ≡ true
 apart_from_is e [] all = refl
 apart_from_is e (f ∷ es) all =
     and_from (are_apart e f) (is_apart_from e es) (beside_is e f all.0) (apart_from_is e es all.1)
 
-all_apart_is : (es : List Extent) → AllBeside es → all_apart es ≡ true
+all_apart_is : (es : List RecordExtent) → AllBeside es → all_apart es ≡ true
 all_apart_is [] all = refl
 all_apart_is (e ∷ es) all =
     and_from (is_apart_from e es) (all_apart es) (apart_from_is e es all.0) (all_apart_is es all.1)
 
 -- extents whose runs are apart, and the last of them first
-pub extents_apart : (es : List Extent) (c : Extent) (rs : List runs.Extent) → maps.AreApart rs
+pub extents_apart : (es : List RecordExtent) (c : RecordExtent) (rs : List runs.Extent) → maps.AreApart rs
     → AreRunsOf (es ++ c ∷ []) rs → all_apart (c ∷ es) ≡ true
 extents_apart es c rs apart are =
     let all = all_beside (es ++ c ∷ []) rs apart are in
     all_apart_is (c ∷ es) (beside_last es c all, beside_front es c all)
 
 -- the map of some extents and one behind them is that of the one and them
-pub map_turned : (es : List Extent) (c : Extent) (taken : List runs.Extent) → IsMapOf (es ++ c ∷ []) taken
+pub map_turned : (es : List RecordExtent) (c : RecordExtent) (taken : List runs.Extent) → IsMapOf (es ++ c ∷ []) taken
     → IsMapOf (c ∷ es) taken
 map_turned es c taken room = record {
   there = λ start need free. let all = room.there start need free in (last_of _ es c all, front_of_all _ es c all);
@@ -224,17 +224,17 @@ map_turned es c taken room = record {
 
 pub extents_both : (fs gs : List Filed) → extents_of_filed (fs ++ gs) ≡ extents_of_filed fs ++ extents_of_filed gs
 extents_both [] gs = refl
-extents_both (f ∷ fs) gs = ap (λ (l : List Extent). f.extent ∷ l) (extents_both fs gs)
+extents_both (f ∷ fs) gs = ap (λ (l : List RecordExtent). f.extent ∷ l) (extents_both fs gs)
 
 tile_extents : (ts : List (Option Filed))
     → extents_of_filed (filed_tiles ts) ≡ some_extents (map (option_map (λ (t : Filed). t.extent)) ts)
 tile_extents [] = refl
 tile_extents (None ∷ ts) = tile_extents ts
-tile_extents (Some f ∷ ts) = ap (λ (l : List Extent). f.extent ∷ l) (tile_extents ts)
+tile_extents (Some f ∷ ts) = ap (λ (l : List RecordExtent). f.extent ∷ l) (tile_extents ts)
 
 layer_extents : (l : FiledLayer) → extents_of_filed (filed_of l) ≡ extents_of_records (listed_of l).records
 layer_extents (a_base name f) = refl
-layer_extents (a_definition name f ts) = ap (λ (l : List Extent). f.extent ∷ l) (tile_extents ts)
+layer_extents (a_definition name f ts) = ap (λ (l : List RecordExtent). f.extent ∷ l) (tile_extents ts)
 
 pub listed_are : (ls : List FiledLayer) → extents_of_filed (flat_map filed_of ls) ≡ extents_listed (map listed_of ls)
 listed_are [] = refl

@@ -9,7 +9,7 @@ use Rattle.commit_plan.specs.declared.write.Write.{Write}
 use Rattle.store_terms.specs.StandsFor.{body_at}
 use Rattle.commit_plan.specs.Kept.{Kept, other, Shut, Ready}
 use Rattle.commit_plan.specs.Planning.{Leads, Spare, Plans}
-use Rattle.commit_plan.specs.Planning.{IsPut, IsOff, AreApart, AllApart, IsPlan}
+use Rattle.commit_plan.specs.Planning.{IsWritten, IsOff, AreApart, AllApart, IsPlan}
 use Rattle.commit_plan.proofs.Kept.{gate_kept, live_kept, low_apart}
 use Rattle.commit_plan.proofs.Reading.{own_is}
 
@@ -40,15 +40,15 @@ body_spares x old new shut torn =
           (inr (omega arith))) ∙ is);
     }
 
-put_kept : (w : Write) (old new : List ℕ) (at n : ℕ) → Apart at n w.at (length w.bytes.items) → IsPut old w
-    → Torn at n old new → IsPut new w
+put_kept : (w : Write) (old new : List ℕ) (at n : ℕ) → Apart at n w.at (length w.bytes.items) → IsWritten old w
+    → Torn at n old new → IsWritten new w
 put_kept w old new at n apart put torn = record {
   within = omega (arith, put.within, torn.no_shorter);
   bytes = part_kept old new at n w.at (length w.bytes.items) torn put.within apart ∙ put.bytes;
 }
 
 puts_kept : (x : Kept) (ws : List Write) (old new : List ℕ) (at n : ℕ) → at + n ≤ 8192 → AllByRecursion (IsOff x) ws
-    → AllByRecursion (IsPut old) ws → Torn at n old new → AllByRecursion (IsPut new) ws
+    → AllByRecursion (IsWritten old) ws → Torn at n old new → AllByRecursion (IsWritten new) ws
 puts_kept x [] old new at n low off puts torn = tt
 puts_kept x (w ∷ ws) old new at n low off puts torn = (
   put_kept w old new at n
@@ -56,7 +56,7 @@ puts_kept x (w ∷ ws) old new at n low off puts torn = (
   puts_kept x ws old new at n low off.1 puts.1 torn,
 )
 
-was_put : (w : Write) (file : List ℕ) → Holds file w.at w.bytes.items → IsPut file w
+was_put : (w : Write) (file : List ℕ) → Holds file w.at w.bytes.items → IsWritten file w
 was_put w file holds = record { within = holds.within; bytes = part_written file w.at w.bytes.items holds }
 
 -- a write keeps a fact on the file
@@ -64,7 +64,7 @@ abbrev Keeps : (List ℕ → Type 0) → Write → Type 0
 Keeps P w = (old new : List ℕ) → P old → Torn w.at (length w.bytes.items) old new → P new
 
 keeps_both : (P : List ℕ → Type 0) (w : Write) (ws : List Write) → AllByRecursion (Keeps P) ws
-    → AllByRecursion (AreApart w) ws → AllByRecursion (Keeps (λ f. P f × IsPut f w)) ws
+    → AllByRecursion (AreApart w) ws → AllByRecursion (Keeps (λ f. P f × IsWritten f w)) ws
 keeps_both P w [] keeps apart = tt
 keeps_both P w (v ∷ ws) keeps apart = (
   (λ old new both torn. (
@@ -77,12 +77,12 @@ keeps_both P w (v ∷ ws) keeps apart = (
 
 leads_from : (x y : Kept) (ws tail : List Write) (P : List ℕ → Type 0) → AllByRecursion (IsOff x) ws → AllApart ws
     → AllByRecursion (Keeps P) ws
-    → ((file : List ℕ) → Shut x file → P file → AllByRecursion (IsPut file) ws → Leads (Ready x y) tail file)
+    → ((file : List ℕ) → Shut x file → P file → AllByRecursion (IsWritten file) ws → Leads (Ready x y) tail file)
     → (file : List ℕ) → Shut x file → P file → Leads (Ready x y) (ws ++ tail) file
 leads_from x y [] tail P off apart keeps ends file shut here = ends file shut here tt
 leads_from x y (w ∷ ws) tail P off apart keeps ends file shut here =
     λ mid torn holds.
-    leads_from x y ws tail (λ f. P f × IsPut f w) off.1 apart.1 (keeps_both P w ws keeps.1 apart.0)
+    leads_from x y ws tail (λ f. P f × IsWritten f w) off.1 apart.1 (keeps_both P w ws keeps.1 apart.0)
     (λ f s both puts. ends f s both.0 (both.1, puts)) mid
     (off_spares x w file mid off.0 shut torn) (keeps.0 file mid here torn, was_put w mid holds)
 
@@ -94,7 +94,7 @@ module _ (x y : Kept) (ws : List Write) (b : Write) (plan : IsPlan x y ws b) whe
   size : length b.bytes.items ≡ 48
   size = ap length plan.spelled ∙ length-body_text y.root
 
-  ready : (mid new : List ℕ) → Shut x mid → AllByRecursion (IsPut mid) ws → Torn b.at (length b.bytes.items) mid new
+  ready : (mid new : List ℕ) → Shut x mid → AllByRecursion (IsWritten mid) ws → Torn b.at (length b.bytes.items) mid new
       → Holds new b.at b.bytes.items → Ready x y new
   ready mid new shut puts torn held =
       let o = body_at (other x.root) in

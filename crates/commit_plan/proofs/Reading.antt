@@ -6,7 +6,7 @@ use Rattle.store_terms.specs.declared.damage.Damage.{Damage}
 use Rattle.store_terms.specs.declared.damage.Damage.TheVariants.{NotAStore, Format, Numbers}
 use Rattle.store_terms.specs.Image.{◌>>=◌, listing_of, held_of}
 use Rattle.store_terms.specs.declared.root.Root.{Root}
-use Rattle.store_terms.specs.StandsFor.{gate, body, fits_slot, is_foreign, slot, newest, root_of, StandsFor}
+use Rattle.store_terms.specs.StandsFor.{gate, body, fits_slot, is_foreign, slot, newer_root, root_of, StandsFor}
 use Rattle.store_terms.specs.declared.root.Body.{Body}
 use Rattle.store_terms.specs.Roots.{ours}
 use Rattle.commit_plan.specs.Kept.{Kept, own, other, Named, Live, Rest, Shut, Calm, Ready, Either}
@@ -42,24 +42,24 @@ ours_not_foreign file k r spelt =
 pub shut_not_foreign : (file : List ℕ) (k : ℕ) → gate file k ≢ 167 → is_foreign file k ≡ false
 shut_not_foreign file k shut = and_left (gate file k == 167) (not (body file k).is_ours) (grind (arith, nat_tests))
 
-newer_first : (a b : Root) → b.sequence < a.sequence → newest (Some a) (Some b) ≡ Ok a
+newer_first : (a b : Root) → b.sequence < a.sequence → newer_root (Some a) (Some b) ≡ Ok a
 newer_first a b less =
     let t : nat_lt b.sequence a.sequence ≡ true = grind (arith, nat_tests) in ap (λ c. cond c (Ok a) (Ok b)) t
 
-newer_second : (a b : Root) → a.sequence < b.sequence → newest (Some a) (Some b) ≡ Ok b
+newer_second : (a b : Root) → a.sequence < b.sequence → newer_root (Some a) (Some b) ≡ Ok b
 newer_second a b less =
     let t : nat_lt b.sequence a.sequence ≡ false = grind (arith, nat_tests) in ap (λ c. cond c (Ok a) (Ok b)) t
 
 pub from_slots : (file : List ℕ) (a b : Option Root) → 8192 ≤ length file → is_foreign file 0 ≡ false
-    → is_foreign file 1 ≡ false → slot file 0 ≡ Ok a → slot file 1 ≡ Ok b → root_of file ≡ newest a b
+    → is_foreign file 1 ≡ false → slot file 0 ≡ Ok a → slot file 1 ≡ Ok b → root_of file ≡ newer_root a b
 unfolding root_of
 from_slots file a b long ours_0 ours_1 first second =
     let t : nat_lt (length file) 8192 ≡ false = grind (arith, nat_tests) in
     let none : (nat_lt (length file) 8192 || (is_foreign file 0 || is_foreign file 1)) ≡ false =
     or_from _ _ t (or_from _ _ ours_0 ours_1) in
-    ap (λ b. cond b (Err NotAStore) (slot file 0 >>= λ a. slot file 1 >>= λ b. newest a b)) none
-    ∙ ap (λ (x : Result (Option Root) Damage). x >>= λ a. slot file 1 >>= λ b. newest a b) first
-    ∙ ap (λ (x : Result (Option Root) Damage). x >>= λ b. newest a b) second
+    ap (λ b. cond b (Err NotAStore) (slot file 0 >>= λ a. slot file 1 >>= λ b. newer_root a b)) none
+    ∙ ap (λ (x : Result (Option Root) Damage). x >>= λ a. slot file 1 >>= λ b. newer_root a b) first
+    ∙ ap (λ (x : Result (Option Root) Damage). x >>= λ b. newer_root a b) second
 
 -- of two open slots, or one
 pub root_is : (file : List ℕ) (r : Root) (k : ℕ) → 8192 ≤ length file → (k ≡ 0) ⊎ (k ≡ 1) → is_foreign file k ≡ false

@@ -32,7 +32,7 @@ use Rattle.store_terms.specs.TileRecord.{segment, point_name, piece, named_tile}
 use Rattle.store_terms.specs.Catalog.{extent, listed, catalog}
 use Rattle.store_terms.specs.Choices.{optional}
 use Rattle.store_terms.specs.Fields.{number, counted}
-use Rattle.store_terms.specs.declared.root.Extent.{Extent}
+use Rattle.store_terms.specs.declared.root.RecordExtent.{RecordExtent}
 use Rattle.store_terms.proofs.BaseLemmas.{few_rings}
 use Rattle.record_bytes.specs.Listing.{spelled_records, records_of, HasColumns, listed_of, listing_of, IsListable}
 use Rattle.record_bytes.specs.declared.catalog.Listed as code
@@ -186,11 +186,11 @@ tile_short k Oversize formed = omega (arith, length-bytes_high_first 1 k)
 
 -- ---- catalogs: at most 490 bytes an entry
 
-optional_long : (e : Option Extent) → length ((optional extent).text e) ≤ 13
+optional_long : (e : Option RecordExtent) → length ((optional extent).text e) ≤ 13
 optional_long None = omega arith
 optional_long (Some e) = omega (arith, extent_long e)
 
-optionals_long : (es : List (Option Extent)) → length (flat_map (optional extent).text es) ≤ 13 * length es
+optionals_long : (es : List (Option RecordExtent)) → length (flat_map (optional extent).text es) ≤ 13 * length es
 optionals_long [] = omega arith
 optionals_long (e ∷ es) =
     let both : length ((optional extent).text e ++ flat_map (optional extent).text es)

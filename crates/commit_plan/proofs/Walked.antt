@@ -14,7 +14,7 @@ use Rattle.overlay_terms.specs.Plane.{WholePoint}
 use Rattle.overlay_terms.specs.Trees.{Tree}
 use Rattle.overlay_terms.specs.Column.{column_count}
 use Rattle.tile_build.specs.Tile.{finished_of, tile_of}
-use Rattle.store_terms.specs.declared.root.Extent.{Extent}
+use Rattle.store_terms.specs.declared.root.RecordExtent.{RecordExtent}
 use Rattle.store_terms.specs.Catalog.{Listed}
 use Rattle.store_terms.specs.BaseRecord.{base_of_record}
 use Rattle.store_terms.specs.DefinitionRecord.{definition_of_record}
@@ -354,7 +354,7 @@ entries_both : (os ps : List (Option Filed))
     ≡ map (option_map (λ (f : Filed). f.extent)) os ++ map (option_map (λ (f : Filed). f.extent)) ps
 entries_both [] ps = refl
 entries_both (o ∷ os) ps =
-    ap (λ (l : List (Option Extent)). option_map (λ (f : Filed). f.extent) o ∷ l) (entries_both os ps)
+    ap (λ (l : List (Option RecordExtent)). option_map (λ (f : Filed). f.extent) o ∷ l) (entries_both os ps)
 
 pub none_filed : (given : List runs.Extent) (limit : ℕ) (fs : List Filed) (layers : List Layer) (place k : ℕ)
     (ts : List Finished) (d : Draft) → IsDraft given limit fs d → IsElsewhere layers place k ts
@@ -367,7 +367,7 @@ none_filed given limit fs layers place k ts d draft elsewhere = record {
 }
 
 pub tiles_more : (given : List runs.Extent) (limit : ℕ) (fs : List Filed) (layers : List Layer) (place k : ℕ)
-    (ts mid rest : List Finished) (es all : List (Option Extent)) (e : Option Extent) (old new : Draft)
+    (ts mid rest : List Finished) (es all : List (Option RecordExtent)) (e : Option RecordExtent) (old new : Draft)
     → (so_far : AreTilesFiled given limit fs layers place k ts mid es old)
     → IsTileFiled given limit (fs ++ filed_tiles so_far.filed) layers place k mid rest e new → all ≡ es ++ e ∷ []
     → AreTilesFiled given limit fs layers place (k + 1) ts rest all new
@@ -411,7 +411,7 @@ base_filed given limit fs layers place ts f name rings d draft there reads = rec
 }
 
 pub definition_filed : (given : List runs.Extent) (limit : ℕ) (fs : List Filed) (layers : List Layer) (place k : ℕ)
-    (ts rest : List Finished) (f : Filed) (name : Name) (tree : Tree Name) (es : List (Option Extent)) (d : Draft)
+    (ts rest : List Finished) (f : Filed) (name : Name) (tree : Tree Name) (es : List (Option RecordExtent)) (d : Draft)
     → AreTilesFiled given limit (fs ++ f ∷ []) layers place k ts rest es d
     → slice_get layers place ≡ Some (record { name = name; content = derived tree })
     → definition_of_record f.bytes ≡ Some tree

@@ -5,7 +5,7 @@ use Rattle.extent_map.specs.Extents.{AreAlike}
 use Rattle.extent_map.specs.FirstFit.{IsPlanned, taken_with}
 use Rattle.extent_map.specs.Taken.{taken_of}
 use Rattle.overlay_terms.specs.Commands.{version_max}
-use Rattle.store_terms.specs.declared.root.Extent.{Extent}
+use Rattle.store_terms.specs.declared.root.RecordExtent.{RecordExtent}
 use Rattle.store_terms.specs.Catalog.{Listed}
 use Rattle.store_terms.specs.Image.{Held}
 use Rattle.store_terms.specs.Spelled.{MayBeStored}
@@ -19,7 +19,7 @@ use Rattle.root_reading.specs.Taking.{AreRunsOf, IsMapOf}
 abbrev pub lengths_of : List Filed → List ℕ
 lengths_of fs = map (λ (f : Filed). length f.bytes) fs
 
-abbrev pub extents_of_filed : List Filed → List Extent
+abbrev pub extents_of_filed : List Filed → List RecordExtent
 extents_of_filed fs = map (λ (f : Filed). f.extent) fs
 
 -- records of these sizes find, in order, the lowest runs that are free beside what is taken

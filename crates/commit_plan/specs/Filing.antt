@@ -10,17 +10,17 @@ use Rattle.overlay_terms.specs.Histories.{Tile, Finished}
 use Rattle.store_terms.specs.BaseRecord.{base_of_record}
 use Rattle.store_terms.specs.DefinitionRecord.{definition_of_record}
 use Rattle.store_terms.specs.TileRecord.{tile_of_record}
-use Rattle.store_terms.specs.declared.root.Extent.{Extent}
+use Rattle.store_terms.specs.declared.root.RecordExtent.{RecordExtent}
 use Rattle.store_terms.specs.Catalog.{Listed, catalog_of_record}
 use Rattle.store_terms.specs.Places.{blocks, all_apart, extents_listed}
 use Rattle.store_terms.specs.Spelled.{MayBeStored}
 use Rattle.commit_plan.specs.declared.write.Write.{Write}
 use Rattle.commit_plan.specs.Kept.{Kept}
-use Rattle.commit_plan.specs.Planning.{IsPut, Makes}
+use Rattle.commit_plan.specs.Planning.{IsWritten, Makes}
 
 -- the bytes of a record, and where they go
 pub record Filed : Type 0 where
-  pub extent : Extent
+  pub extent : RecordExtent
   pub bytes : List ℕ
 
 -- a base layer's record; or that of a definition, and of each of its finished tiles
@@ -96,4 +96,4 @@ abbrev pub FilingMakes : Type 0
 FilingMakes =
     (y : Kept) (layers : List FiledLayer) (listing : Filed) (ws : List Write) (file : List ℕ) → Files y layers listing
     → AreWritesOf (flat_map filed_of layers ++ listing ∷ []) ws
-    → AllByRecursion (IsPut file) ws → Makes y file
+    → AllByRecursion (IsWritten file) ws → Makes y file

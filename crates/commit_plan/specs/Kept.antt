@@ -2,7 +2,7 @@
 use Rattle.std.specs.Prelude.{◌≡◌, ◌≢◌, ◌⊎◌, ℕ, ◌+◌, ◌*◌, ◌%◌, ◌<◌, ◌≤◌, true, List, length, Ok}
 use Rattle.std.specs.List.{AllByRecursion}
 use Rattle.overlay_terms.specs.Commands.{version_max}
-use Rattle.store_terms.specs.declared.root.Extent.{Extent}
+use Rattle.store_terms.specs.declared.root.RecordExtent.{RecordExtent}
 use Rattle.store_terms.specs.declared.root.Root.{Root}
 use Rattle.store_terms.specs.Places.{block_size, is_placed}
 use Rattle.store_terms.specs.Roots.{ours, sequence_max}
@@ -13,7 +13,7 @@ use Rattle.store_terms.specs.StandsFor.{gate, open_gate, body, StandsFor}
 -- a root with the extents that it names, and what it holds
 pub record Kept : Type 0 where
   pub root : Root
-  pub extents : List Extent
+  pub extents : List RecordExtent
   pub held : Held
 
 -- the slot of a root, and the other one

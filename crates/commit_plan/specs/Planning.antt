@@ -30,7 +30,7 @@ pub record Plans (x y : Kept) (plan : List Write) : Type 0 where
   pub spares : Spare (Shut x) plan
 
 -- the bytes of a write stand where it puts them
-pub record IsPut (file : List ℕ) (w : Write) : Type 0 where
+pub record IsWritten (file : List ℕ) (w : Write) : Type 0 where
   pub within : w.at + length w.bytes.items ≤ length file
   pub bytes : part file w.at (length w.bytes.items) ≡ w.bytes.items
 
@@ -63,7 +63,7 @@ pub record IsPlan (x y : Kept) (ws : List Write) (b : Write) : Type 0 where
   pub small : y.root.catalog.size < 2 ^ 32
   pub off : AllByRecursion (IsOff x) ws
   pub apart : AllApart ws
-  pub makes : (file : List ℕ) → Shut x file → AllByRecursion (IsPut file) ws → Makes y file
+  pub makes : (file : List ℕ) → Shut x file → AllByRecursion (IsWritten file) ws → Makes y file
   pub there : b.at ≡ body_at (other x.root)
   pub spelled : b.bytes.items ≡ body_text y.root
 

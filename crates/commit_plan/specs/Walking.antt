@@ -10,7 +10,7 @@ use Rattle.overlay_terms.specs.StoredTiles.{is_tile_before}
 use Rattle.store_terms.specs.Catalog.{Listed}
 use Rattle.store_terms.specs.TileRecord.{tile_of_record}
 use Rattle.extent_map.specs.declared.extent.Extent as runs
-use Rattle.store_terms.specs.declared.root.Extent.{Extent}
+use Rattle.store_terms.specs.declared.root.RecordExtent.{RecordExtent}
 use Rattle.commit_plan.specs.declared.draft.Draft.{Draft}
 use Rattle.commit_plan.specs.Filing.{Filed, FiledLayer, listed_of, filed_tiles, filed_of, SpellLayer, SpellLayers}
 use Rattle.commit_plan.specs.Drafting.{IsDraft}
@@ -61,7 +61,7 @@ pub record AreLeft (layers : List Layer) (place k : ℕ) (ts : List Finished) : 
 
 -- in a draft of some records a column of a layer has taken its tile, if that is the first
 pub record IsTileFiled (given : List runs.Extent) (limit : ℕ) (fs : List Filed) (layers : List Layer) (place k : ℕ)
-    (ts rest : List Finished) (e : Option Extent) (d : Draft) : Type 0 where
+    (ts rest : List Finished) (e : Option RecordExtent) (d : Draft) : Type 0 where
   pub filed : Option Filed
   pub extent : e ≡ option_map (λ (f : Filed). f.extent) filed
   pub draft : IsDraft given limit (fs ++ filed_tiles (filed ∷ [])) d
@@ -69,7 +69,7 @@ pub record IsTileFiled (given : List runs.Extent) (limit : ℕ) (fs : List Filed
 
 -- the same of the columns before one
 pub record AreTilesFiled (given : List runs.Extent) (limit : ℕ) (fs : List Filed) (layers : List Layer) (place k : ℕ)
-    (ts rest : List Finished) (es : List (Option Extent)) (d : Draft) : Type 0 where
+    (ts rest : List Finished) (es : List (Option RecordExtent)) (d : Draft) : Type 0 where
   pub filed : List (Option Filed)
   pub extents : es ≡ map (option_map (λ (f : Filed). f.extent)) filed
   pub count : length filed ≡ k

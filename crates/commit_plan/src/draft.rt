@@ -12,7 +12,7 @@ use crate::write::Write;
 use extent_map::extent::Extent as Run;
 use root_reading::fetching::BLOCK;
 use std::alloc::{AllocError, Global};
-use store_terms::root::Extent;
+use store_terms::root::RecordExtent;
 
 /// The records that have their places: what is taken with them, the runs that they take, and their writes.
 #[derive(Drop)]
@@ -45,7 +45,7 @@ impl Draft {
     }
 
     /// Puts a record in the lowest place that is free for it.
-    pub(crate) fn file(&mut self, bytes: Vec<u8>) -> Result<Extent, StoreFault>
+    pub(crate) fn file(&mut self, bytes: Vec<u8>) -> Result<RecordExtent, StoreFault>
         requires { length bytes.items < 2 ^ 32 }
         ensures ok { (given : List runs.Extent) (limit : ℕ) (fs : List Filed) → IsDraft given limit fs self.old
             → IfOk result (λ e. IsDraft given limit (fs ++ record { extent = e; bytes = bytes.items } ∷ []) self.new) }
@@ -68,7 +68,7 @@ impl Draft {
             at: run.block as usize * BLOCK,
             bytes,
         })?;
-        Ok(Extent {
+        Ok(RecordExtent {
             block: run.block,
             size,
         })

@@ -22,7 +22,7 @@ use record_bytes::catalog::{Listed, Records};
 use record_bytes::definition_writing::write_definition;
 use record_bytes::tile_writing::write_tile;
 use std::alloc::Global;
-use store_terms::root::Extent;
+use store_terms::root::RecordExtent;
 use tile_build::Tile;
 
 /// Whether the first of some tiles is that of a layer and column.
@@ -52,7 +52,7 @@ fn file_tile<'a>(
     place: usize,
     column: u8,
     tiles: &'a [(Name, u8, Tile)],
-) -> Result<(Option<Extent>, &'a [(Name, u8, Tile)]), StoreFault>
+) -> Result<(Option<RecordExtent>, &'a [(Name, u8, Tile)]), StoreFault>
     requires place { place < length layers.now }
     requires left { AreLeft layers.now place column (map finished_of tiles.now) }
     ensures ok { (given : List runs.Extent) (limit : ℕ) (fs : List Filed) → IsDraft given limit fs draft.old
@@ -81,7 +81,7 @@ fn file_tiles<'a>(
     layers: &Layers,
     place: usize,
     tiles: &'a [(Name, u8, Tile)],
-) -> Result<(Vec<Option<Extent>>, &'a [(Name, u8, Tile)]), StoreFault>
+) -> Result<(Vec<Option<RecordExtent>>, &'a [(Name, u8, Tile)]), StoreFault>
     requires place { place < length layers.now }
     requires left { AreLeft layers.now place 0 (map finished_of tiles.now) }
     ensures ok { (given : List runs.Extent) (limit : ℕ) (fs : List Filed) → IsDraft given limit fs draft.old

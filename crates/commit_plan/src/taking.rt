@@ -15,12 +15,12 @@ use root_reading::load_fault::LoadFault;
 use root_reading::taking::runs_of;
 use std::alloc::Global;
 use store_terms::damage::Damage;
-use store_terms::root::Extent;
+use store_terms::root::RecordExtent;
 
 /// The room that a catalog and the records that it lists take, if no two have a block in common.
 pub fn room_of(
     alloc: Global,
-    catalog: Extent,
+    catalog: RecordExtent,
     listing: &[Listed],
     max_blocks: u32,
 ) -> Result<Room, LoadFault>

@@ -9,7 +9,7 @@ use Rattle.std.specs.declared.alloc.Global.{Global}
 use Rattle.disk_model.specs.declared.mem_disk.Call.{Call}
 use Rattle.disk_model.specs.declared.mem_disk.Call.TheVariants.{Write, Sync}
 use Rattle.disk_model.specs.Bytes.{length-over}
-use Rattle.disk_model.specs.Disk.{Torn, Follows, Fewer, Only, Elapses}
+use Rattle.disk_model.specs.Disk.{Torn, OneStepOn, Fewer, Only, Elapses}
 use Rattle.disk_model.specs.MemoryLaws.{stays_replayed}
 use Rattle.disk_model.specs.Replay.{State, start, after, replay, over, MayLeave, LeftSince}
 
@@ -131,7 +131,7 @@ write_torn at bytes s c sound left =
       },
     )
 
-pub write_crash : (file : List ℕ) (calls next : List Call) (at : ℕ) (bytes : List ℕ) (copy : Vec ℕ Global) → copy.items ≡ bytes → next ≡ calls ++ Write at copy ∷ [] → Follows (Torn at (length bytes)) (MayLeave (At file calls)) (MayLeave (At file next))
+pub write_crash : (file : List ℕ) (calls next : List Call) (at : ℕ) (bytes : List ℕ) (copy : Vec ℕ Global) → copy.items ≡ bytes → next ≡ calls ++ Write at copy ∷ [] → OneStepOn (Torn at (length bytes)) (MayLeave (At file calls)) (MayLeave (At file next))
 write_crash file calls next at bytes copy same is c left =
     let from = write_torn at copy (At file calls) c (sound file calls) (left_after file calls next (Write at copy) c is left) in
     (from.0, from.1, subst (λ (n : ℕ). Torn at n from.0 c) (ap length same) from.2)
@@ -145,7 +145,7 @@ write_seen file calls next at bytes seen done copy played is same more =
 pub torn_nothing : (at n : ℕ) (file : List ℕ) → Torn at n file file
 torn_nothing at n file = record { no_shorter = omega arith; no_longer = omega arith; below = λ i h b. refl; above = λ i h a. refl }
 
-pub lost_crash : (file : List ℕ) (calls next : List Call) (at n : ℕ) → next ≡ calls → Follows (Torn at n) (MayLeave (At file calls)) (MayLeave (At file next))
+pub lost_crash : (file : List ℕ) (calls next : List Call) (at n : ℕ) → next ≡ calls → OneStepOn (Torn at n) (MayLeave (At file calls)) (MayLeave (At file next))
 lost_crash file calls next at n is c left = (c, same_crash file calls next is c left, torn_nothing at n c)
 
 -- a write that was noted and done, or neither

@@ -10,7 +10,7 @@ use Rattle.disk_model.specs.declared.image.Faces.{Faces}
 use Rattle.disk_model.specs.declared.mem_disk.Call.{Call}
 use Rattle.disk_model.specs.declared.mem_disk.Call.TheVariants.{Write, Sync}
 use Rattle.disk_model.specs.Bytes.{length-over, over_torn, over_within, over_gap}
-use Rattle.disk_model.specs.Image.{IsWithin, IsFilled, IsImage}
+use Rattle.disk_model.specs.Image.{IsWithin, IsFilled, IsChosen}
 use Rattle.disk_model.specs.declared.mem_disk.MemDisk.{MemDisk}
 use Rattle.disk_model.specs.MemDisk.{bytes_of}
 use Rattle.disk_model.specs.MemoryLaws.{stays_replayed}
@@ -115,7 +115,7 @@ pub plays_all : (byte : ℕ) (file : List ℕ) (calls : List Call) (i : ℕ) (fa
 plays_all byte file calls i faces past plays = subst (λ (cs : List Call). Plays (replay (start file) cs) byte faces) (take_all i calls past) plays
 
 -- each image is one of what a crash may leave
-image_stays : (s : State) (choice : Choice) (c : List ℕ) → MayLeave s s.seen → IsImage s choice c → MayLeave s c
+image_stays : (s : State) (choice : Choice) (c : List ℕ) → MayLeave s s.seen → IsChosen s choice c → MayLeave s c
 image_stays s Old c sound is = record {
   no_shorter = omega (arith, ap length is);
   no_longer = omega (arith, ap length is, sound.no_shorter);
@@ -128,7 +128,7 @@ image_stays s (Fill byte) c sound is = record {
   stays = λ i h out. is.others i (omega (arith, h, sound.no_shorter)) out ∙ sound.stays i h out;
 }
 
-pub image_may_stay : (file : List ℕ) (calls : List Call) (choice : Choice) (c : List ℕ) → IsImage (replay (start file) calls) choice c → MayLeave (replay (start file) calls) c
+pub image_may_stay : (file : List ℕ) (calls : List Call) (choice : Choice) (c : List ℕ) → IsChosen (replay (start file) calls) choice c → MayLeave (replay (start file) calls) c
 image_may_stay file calls choice c is =
     image_stays (replay (start file) calls) choice c
     (stays_replayed calls (start file) (record { no_shorter = omega arith; no_longer = omega arith; stays = λ i h out. refl })) is

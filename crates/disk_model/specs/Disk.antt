@@ -18,8 +18,8 @@ pub record Torn (at n : ℕ) (old new : List ℕ) : Type 0 where
   pub above : (i : ℕ) → i < length old → at + n ≤ i → slice_index new i ≡ slice_index old i
 
 -- each new outcome of a crash is an old outcome after a step
-abbrev pub Follows : (List ℕ → List ℕ → Type 0) → (List ℕ → Type 0) → (List ℕ → Type 0) → Type 0
-Follows step old new = (c : List ℕ) → new c → (d : List ℕ) × old d × step d c
+abbrev pub OneStepOn : (List ℕ → List ℕ → Type 0) → (List ℕ → Type 0) → (List ℕ → Type 0) → Type 0
+OneStepOn step old new = (c : List ℕ) → new c → (d : List ℕ) × old d × step d c
 
 -- each new outcome of a crash is an old one
 abbrev pub Fewer : (List ℕ → Type 0) → (List ℕ → Type 0) → Type 0

@@ -16,7 +16,7 @@ pub record IsFilled (byte : ℕ) (s : State) (c : List ℕ) : Type 0 where
   pub others : (i : ℕ) → i < length s.seen → IsOutside s.ranges i → slice_index c i ≡ slice_index s.seen i
 
 -- the file that a choice names
-abbrev pub IsImage : State → Choice → List ℕ → Type 0
-IsImage s Old c = c ≡ s.synced
-IsImage s New c = c ≡ s.seen
-IsImage s (Fill byte) c = IsFilled byte s c
+abbrev pub IsChosen : State → Choice → List ℕ → Type 0
+IsChosen s Old c = c ≡ s.synced
+IsChosen s New c = c ≡ s.seen
+IsChosen s (Fill byte) c = IsFilled byte s c

@@ -1,6 +1,6 @@
 //! The disk as a trait: what its calls promise where the device is honest.
 ghost use Rattle.std.specs.Prelude.{◌≡◌, ◌↔◌, ◌+◌, ◌≤◌, List, ℕ, length, IfOk, OnOk};
-ghost use Rattle.disk_model.specs.Disk.{part, Holds, Torn, Follows, Fewer, Only, Elapses, CountsFailure};
+ghost use Rattle.disk_model.specs.Disk.{part, Holds, Torn, OneStepOn, Fewer, Only, Elapses, CountsFailure};
 
 use crate::fault::DiskFault;
 
@@ -48,7 +48,7 @@ pub trait Disk {
         ensures honest { is_honest self.new ↔ is_honest self.old }
         ensures written { is_honest self.old → OnOk result (Holds (seen self.new) at bytes.now) }
         ensures others { is_honest self.old → Torn at (length bytes.now) (seen self.old) (seen self.new) }
-        ensures crash { is_honest self.old → Follows (Torn at (length bytes.now)) (may_leave self.old) (may_leave self.new) }
+        ensures crash { is_honest self.old → OneStepOn (Torn at (length bytes.now)) (may_leave self.old) (may_leave self.new) }
         ensures time { is_honest self.old → Elapses (moment self.old) (moment self.new) (left_since self.old) (left_since self.new) (may_leave self.new) }
         ensures cause { is_honest self.old → CountsFailure result (faults self.old) (faults self.new) };
 

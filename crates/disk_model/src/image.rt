@@ -1,7 +1,7 @@
 //! What a crash leaves of a disk in memory: one file of those that it may leave, by a choice.
 ghost use Rattle.std.specs.Prelude.{◌≡◌, replicate, length, IfOk, OnOk};
 ghost use Rattle.disk_model.specs.Replay.{State, start, after, replay};
-ghost use Rattle.disk_model.specs.Image.{IsImage};
+ghost use Rattle.disk_model.specs.Image.{IsChosen};
 ghost use Rattle.disk_model.specs.Played.{Plays};
 
 use crate::mem_disk::Call;
@@ -74,7 +74,7 @@ pub fn image_of(
     calls: &[Call],
     choice: Choice,
 ) -> Result<Vec<u8>, AllocError>
-    ensures { IfOk result (λ bytes. IsImage (replay (start first.now) calls.now) choice bytes.items) }
+    ensures { IfOk result (λ bytes. IsChosen (replay (start first.now) calls.now) choice bytes.items) }
 {
     let byte = match choice {
         Choice::Fill(byte) => byte,

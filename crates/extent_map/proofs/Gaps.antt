@@ -3,7 +3,7 @@ use Rattle.std.proofs.Common.{◌≡◌, inl, inr, ℕ, ◌+◌, ◌<◌, ◌≤
 use Rattle.std.proofs.lemmas.List.{take-append-drop, take_more, at_drop_more}
 use Rattle.std.specs.List.{AllByRecursion}
 use Rattle.extent_map.specs.declared.extent.Extent.{Extent}
-use Rattle.extent_map.specs.Extents.{IsApart, IsFree, AreApart, AreAlike, Ascend, IsGap}
+use Rattle.extent_map.specs.Extents.{IsApart, IsUnused, AreApart, AreAlike, Ascend, IsGap}
 
 module _ {A : Type 0} (P : A → Type 0) where
   pub all_append : (xs ys : List A) → AllByRecursion P xs → AllByRecursion P ys → AllByRecursion P (xs ++ ys)
@@ -54,12 +54,12 @@ ascend_insert es place e ascends gap = ascend_put (take place es) e (drop place 
 pub alike_insert : (given es : List Extent) (place : ℕ) (e : Extent) → AreAlike given es → AreAlike (e ∷ given) (take place es ++ e ∷ drop place es)
 alike_insert given es place e alike = record {
   there = λ start need free.
-      let all = subst (λ (l : List Extent). IsFree l start need) (sym (take-append-drop place es)) (alike.there start need free.1) in
+      let all = subst (λ (l : List Extent). IsUnused l start need) (sym (take-append-drop place es)) (alike.there start need free.1) in
       all_append (IsApart start need) (take place es) (e ∷ drop place es) (all_front (IsApart start need) (take place es) (drop place es) all) (free.0, all_back (IsApart start need) (take place es) (drop place es) all);
   back = λ start need free.
       let back = all_back (IsApart start need) (take place es) (e ∷ drop place es) free in (
         back.0,
-        alike.back start need (subst (λ (l : List Extent). IsFree l start need) (take-append-drop place es)
+        alike.back start need (subst (λ (l : List Extent). IsUnused l start need) (take-append-drop place es)
             (all_append (IsApart start need) (take place es) (drop place es) (all_front (IsApart start need) (take place es) (e ∷ drop place es) free) back.1)),
       );
 }
@@ -75,17 +75,17 @@ alike_last given e es alike = record {
 }
 
 -- a gap is free
-pub gap_free : (es : List Extent) (place start need : ℕ) → IsGap es place start need → IsFree es start need
+pub gap_free : (es : List Extent) (place start need : ℕ) → IsGap es place start need → IsUnused es start need
 gap_free es place start need gap =
-    subst (λ (l : List Extent). IsFree l start need) (take-append-drop place es)
+    subst (λ (l : List Extent). IsUnused l start need) (take-append-drop place es)
     (all_append (IsApart start need) (take place es) (drop place es)
     (all_wider (λ e. e.block + e.blocks ≤ start) (IsApart start need) (λ e before. inr before) (take place es) gap.before)
     (all_wider (λ e. start + need ≤ e.block) (IsApart start need) (λ e behind. inl behind) (drop place es) gap.behind))
 
 -- what is free of all is free of each
-pub free_at : (es : List Extent) (i : ℕ) (e : Extent) (start need : ℕ) → i < length es → e ≡ get_or es i e → IsFree es start need → IsApart start need e
+pub free_at : (es : List Extent) (i : ℕ) (e : Extent) (start need : ℕ) → i < length es → e ≡ get_or es i e → IsUnused es start need → IsApart start need e
 free_at es i e start need inside is free =
-    (subst (λ (l : List Extent). IsFree l start need) (split_at es i e inside is) (all_back (IsApart start need) (take i es) (drop i es) (subst (λ (l : List Extent). IsFree l start need) (sym (take-append-drop i es)) free))).0
+    (subst (λ (l : List Extent). IsUnused l start need) (split_at es i e inside is) (all_back (IsApart start need) (take i es) (drop i es) (subst (λ (l : List Extent). IsUnused l start need) (sym (take-append-drop i es)) free))).0
 
 -- from an extent that begins behind on, all do
 pub behind_from : (es : List Extent) (i : ℕ) (e : Extent) (end : ℕ) → i < length es → e ≡ get_or es i e → Ascend es → end ≤ e.block → AllByRecursion (λ f. end ≤ f.block) (drop i es)
@@ -100,7 +100,7 @@ apart_turned d e (inl before) = inr before
 apart_turned d e (inr behind) = inl behind
 
 -- one extent more that is apart from all
-pub apart_more : (es : List Extent) (e : Extent) → AreApart es → IsFree es e.block e.blocks → AreApart (es ++ e ∷ [])
+pub apart_more : (es : List Extent) (e : Extent) → AreApart es → IsUnused es e.block e.blocks → AreApart (es ++ e ∷ [])
 apart_more [] e apart free = (tt, tt)
 apart_more (d ∷ es) e apart free = (
   all_append (IsApart d.block d.blocks) es (e ∷ []) apart.0 (apart_turned e d free.0, tt),
@@ -108,6 +108,6 @@ apart_more (d ∷ es) e apart free = (
 )
 
 -- where all are apart, each is apart from those before it
-pub apart_before : (es : List Extent) (e : Extent) (fs : List Extent) → AreApart (es ++ e ∷ fs) → IsFree es e.block e.blocks
+pub apart_before : (es : List Extent) (e : Extent) (fs : List Extent) → AreApart (es ++ e ∷ fs) → IsUnused es e.block e.blocks
 apart_before [] e fs apart = tt
 apart_before (d ∷ es) e fs apart = (apart_turned d e (all_back (IsApart d.block d.blocks) es (e ∷ fs) apart.0).0, apart_before es e fs apart.1)

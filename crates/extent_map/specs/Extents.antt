@@ -9,18 +9,18 @@ abbrev pub IsApart : ℕ → ℕ → Extent → Type 0
 IsApart start need e = (start + need ≤ e.block) ⊎ (e.block + e.blocks ≤ start)
 
 -- they have none in common with any that is taken
-abbrev pub IsFree : List Extent → ℕ → ℕ → Type 0
-IsFree taken start need = AllByRecursion (IsApart start need) taken
+abbrev pub IsUnused : List Extent → ℕ → ℕ → Type 0
+IsUnused taken start need = AllByRecursion (IsApart start need) taken
 
 -- no two extents have a block in common
 abbrev pub AreApart : List Extent → Type 0
 AreApart [] = Unit {0}
-AreApart (e ∷ es) = IsFree es e.block e.blocks × AreApart es
+AreApart (e ∷ es) = IsUnused es e.block e.blocks × AreApart es
 
 -- what is free of the one is free of the other
 pub record AreAlike (given taken : List Extent) : Type 0 where
-  pub there : (start need : ℕ) → IsFree given start need → IsFree taken start need
-  pub back : (start need : ℕ) → IsFree taken start need → IsFree given start need
+  pub there : (start need : ℕ) → IsUnused given start need → IsUnused taken start need
+  pub back : (start need : ℕ) → IsUnused taken start need → IsUnused given start need
 
 -- each extent ends before those after it begin
 abbrev pub Ascend : List Extent → Type 0

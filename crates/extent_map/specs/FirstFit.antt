@@ -1,7 +1,7 @@
 -- The lowest run that fits, for one length and for several.
 use Rattle.std.specs.Prelude.{◌≡◌, ℕ, ◌+◌, ◌/◌, ◌<◌, ◌≤◌, max, List, [], ◌∷◌, ◌++◌}
 use Rattle.extent_map.specs.declared.extent.Extent.{Extent}
-use Rattle.extent_map.specs.Extents.{IsFree}
+use Rattle.extent_map.specs.Extents.{IsUnused}
 
 -- the blocks that so many bytes take: no record takes none
 abbrev pub blocks_for : ℕ → ℕ
@@ -11,12 +11,12 @@ blocks_for length = max 1 ((length + 4095) / 4096)
 pub record IsFirstFit (taken : List Extent) (limit need start : ℕ) : Type 0 where
   pub behind : 2 ≤ start
   pub below : start + need ≤ limit
-  pub free : IsFree taken start need
-  pub lowest : (s : ℕ) → 2 ≤ s → s < start → IsFree taken s need → ⊥
+  pub free : IsUnused taken start need
+  pub lowest : (s : ℕ) → 2 ≤ s → s < start → IsUnused taken s need → ⊥
 
 -- so many free blocks stand nowhere from block 2 on and below the limit
 abbrev pub NoFit : List Extent → ℕ → ℕ → Type 0
-NoFit taken limit need = (s : ℕ) → 2 ≤ s → s + need ≤ limit → IsFree taken s need → ⊥
+NoFit taken limit need = (s : ℕ) → 2 ≤ s → s + need ≤ limit → IsUnused taken s need → ⊥
 
 -- each length in order has the lowest run that is free of what is taken and of the runs before it
 abbrev pub IsPlanned : List Extent → ℕ → List ℕ → List Extent → Type 0

@@ -1,6 +1,6 @@
 //! The blocks that are taken, and a place for each of some records among those that are free.
 ghost use Rattle.std.specs.Prelude.{◌≡◌, ◌∷◌, List, IsOk, IfOk, IfSome, IfNone, IfErr, IsErrOf, OnErr};
-ghost use Rattle.extent_map.specs.Extents.{IsFree, AreApart, AreAlike, Ascend, Ascend-prop, IsGap};
+ghost use Rattle.extent_map.specs.Extents.{IsUnused, AreApart, AreAlike, Ascend, Ascend-prop, IsGap};
 ghost use Rattle.extent_map.specs.FirstFit.{IsPlanned, IsFull, IsFirstFit, NoFit, blocks_for};
 
 use crate::extent::Extent;
@@ -20,7 +20,7 @@ pub struct Extents {
 fn place_of(taken: &[Extent], extent: &Extent) -> Option<usize>
     requires { Ascend taken.now }
     ensures some { IfSome result (λ place. IsGap taken.now place extent.now.block extent.now.blocks) }
-    ensures none { IfNone result (IsFree taken.now extent.now.block extent.now.blocks → ⊥) }
+    ensures none { IfNone result (IsUnused taken.now extent.now.block extent.now.blocks → ⊥) }
 {
     for i in 0..taken.len() {
         let other = taken[i];

@@ -1,6 +1,6 @@
 //! The lowest run of free blocks.
 ghost use Rattle.std.specs.Prelude.{◌≡◌, ◌↔◌, ℕ, ◌≤◌, ◌<◌, ◌+◌, IfSome, IfNone, IsTrue};
-ghost use Rattle.extent_map.specs.Extents.{IsFree, Ascend, IsGap};
+ghost use Rattle.extent_map.specs.Extents.{IsUnused, Ascend, IsGap};
 ghost use Rattle.extent_map.specs.FirstFit.{IsFirstFit, NoFit, blocks_for};
 
 use crate::extent::Extent;
@@ -28,7 +28,7 @@ fn lowest(taken: &[Extent], need: u64) -> (usize, u64)
     requires { Ascend taken.now }
     ensures gap { IsGap taken.now result.0 result.1 need }
     ensures behind { 2 ≤ result.1 }
-    ensures lowest { (s : ℕ) → 2 ≤ s → s < result.1 → IsFree taken.now s need → ⊥ }
+    ensures lowest { (s : ℕ) → 2 ≤ s → s < result.1 → IsUnused taken.now s need → ⊥ }
 {
     let mut start = FIRST_BLOCK;
     for i in 0..taken.len() {

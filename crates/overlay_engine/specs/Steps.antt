@@ -14,7 +14,7 @@ use Rattle.version_core.specs.Finish.{IsAwaited}
 use Rattle.version_core.specs.declared.finishing.Finish.{Finish}
 use Rattle.version_core.specs.declared.finishing.Finish.TheVariants as finish
 use Rattle.overlay_engine.specs.declared.engine.Engine.{Engine}
-use Rattle.overlay_engine.specs.declared.engine.Job.{Job}
+use Rattle.overlay_engine.specs.declared.engine.HeldJob.{HeldJob}
 use Rattle.overlay_engine.specs.declared.step.Reply.{Reply}
 use Rattle.overlay_engine.specs.declared.step.Reply.TheVariants.{Accepted, Refused, Taken, NoJob, Kept, Stale, Done, Durable}
 
@@ -33,11 +33,11 @@ abbrev pub jobs_max : ℕ
 jobs_max = 2 ^ 32 - 1
 
 -- where the job of a number stands among some
-abbrev pub job_at : ℕ → List Job → Option ℕ
+abbrev pub job_at : ℕ → List HeldJob → Option ℕ
 job_at number jobs = position (λ job. job.number == number) jobs
 
 -- what becomes of the tile of a job: it is kept where the job's input is awaited, and else stale
-abbrev pub IsResult : Version → Job → Finish → Type 0
+abbrev pub IsResult : Version → HeldJob → Finish → Type 0
 IsResult version job (finish.Kept next) =
     IsAwaited version job.name job.input × (tile : Tile) × FollowsTile version job.name job.input.column tile next
 IsResult version job finish.Stale = ¬ (IsAwaited version job.name job.input)
@@ -81,7 +81,7 @@ module _ {D : Type 0} where
   Takes name column old reply new = ⊥
 
   -- a job that is held is given up, and nothing else changes but the version
-  pub record GivesUp (number : ℕ) (old : Engine D) (job : Job) (new : Engine D) : Type 0 where
+  pub record GivesUp (number : ℕ) (old : Engine D) (job : HeldJob) (new : Engine D) : Type 0 where
     pub index : ℕ
     pub there : job_at number old.jobs.items ≡ Some index
     pub held : slice_get old.jobs.items index ≡ Some job
@@ -91,8 +91,8 @@ module _ {D : Type 0} where
 
   -- an engine builds the tile of a job: none has the number; or the job is given up, and its tile is kept or stale; or memory runs out, and the job is held on
   abbrev pub Finishes : ℕ → Engine D → Reply → Engine D → Type 0
-  Finishes number old Kept new = (job : Job) × GivesUp number old job new × IsResult old.version job (finish.Kept new.version)
-  Finishes number old Stale new = (job : Job) × GivesUp number old job new × IsResult old.version job finish.Stale × (new.version ≡ old.version)
+  Finishes number old Kept new = (job : HeldJob) × GivesUp number old job new × IsResult old.version job (finish.Kept new.version)
+  Finishes number old Stale new = (job : HeldJob) × GivesUp number old job new × IsResult old.version job finish.Stale × (new.version ≡ old.version)
   Finishes number old NoJob new = (job_at number old.jobs.items ≡ None) × (new ≡ old)
   Finishes number old (Refused code) new = IsTrue (is_some (job_at number old.jobs.items)) × (code ≡ 40) × (new ≡ old)
   Finishes number old reply new = ⊥

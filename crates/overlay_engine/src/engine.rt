@@ -12,7 +12,7 @@ pub(crate) const OUT_OF_MEMORY: u8 = 40;
 
 /// The input of a tile that was handed out, under a number of its own.
 #[derive(Drop)]
-pub struct Job {
+pub struct HeldJob {
     pub(crate) number: u32,
     pub(crate) name: Name,
     pub(crate) input: TileInput,
@@ -23,7 +23,7 @@ pub struct Job {
 pub struct Engine<D: Disk> {
     pub(crate) version: Version,
     pub(crate) flusher: Flusher<D>,
-    pub(crate) jobs: Vec<Job>,
+    pub(crate) jobs: Vec<HeldJob>,
     /// The number of the next job.
     pub(crate) next_job: u32,
 }

@@ -3,7 +3,7 @@ ghost use Rattle.std.specs.Prelude.{◌≡◌, ◌<◌, ◌==◌, length, IfOk, 
 ghost use Rattle.std.specs.List.{position};
 ghost use Rattle.overlay_engine.specs.Steps.{Finishes, IsResult};
 
-use crate::engine::{Engine, Job, OUT_OF_MEMORY};
+use crate::engine::{Engine, HeldJob, OUT_OF_MEMORY};
 use crate::step::Reply;
 use disk_model::disk::Disk;
 use layer_book::fault::LayerFault;
@@ -46,7 +46,7 @@ impl<D: Disk> Engine<D> {
 }
 
 /// What becomes of the tile of a job, built of the job's input.
-fn finished(alloc: Global, version: &Version, job: &Job) -> Result<Finish, VersionFault>
+fn finished(alloc: Global, version: &Version, job: &HeldJob) -> Result<Finish, VersionFault>
     ensures ok { IfOk result (λ finish. IsResult version.now job.now finish) }
 {
     let input = job.input.try_copy(alloc)?;

@@ -3,7 +3,7 @@ ghost use Rattle.std.specs.Prelude.{◌≡◌, ◌<◌, true, OnErr, IfOk};
 ghost use Rattle.overlay_terms.specs.Commands.{stands_as_derived};
 ghost use Rattle.overlay_engine.specs.Steps.{Takes, Holds, Stays, jobs_max};
 
-use crate::engine::{Engine, Job, OUT_OF_MEMORY};
+use crate::engine::{Engine, HeldJob, OUT_OF_MEMORY};
 use crate::step::Reply;
 use disk_model::disk::Disk;
 use layer_expr::name::Name;
@@ -41,7 +41,7 @@ impl<D: Disk> Engine<D> {
     {
         let input = self.version.layers().input_in_reach(alloc, name, column)?;
         let number = self.next_job;
-        let job = Job {
+        let job = HeldJob {
             number,
             name: name.clone()?,
             input,

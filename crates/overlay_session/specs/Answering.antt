@@ -5,15 +5,15 @@ use Rattle.overlay_terms.specs.Histories.{Entry, History, GoesOnBy, AllFollow, n
 use Rattle.overlay_session.specs.declared.book.Book.{Book}
 use Rattle.script_form.specs.declared.fault.CommandFault.{CommandFault}
 use Rattle.script_form.specs.declared.fault.CommandFault.TheVariants.{OutOfMemory}
-use Rattle.script_form.specs.declared.reply.Reply.{Reply}
+use Rattle.script_form.specs.declared.line_reply.LineReply.{LineReply}
 use Rattle.script_form.specs.Replies.{error_line}
-use Rattle.script_form.specs.Reply.{reply_text}
+use Rattle.script_form.specs.LineReply.{reply_text}
 use Rattle.script_form.specs.Requests.{Request}
 use Rattle.overlay_session.specs.Turn.{Holds}
 use Rattle.script_form.specs.Transcript.{IsRefused, IsSubmitted, IsAnswered, IsOutOfMemory}
 
 -- the bytes that tell a reply or a fault
-abbrev pub result_text : Result Reply CommandFault → List ℕ
+abbrev pub result_text : Result LineReply CommandFault → List ℕ
 result_text (Ok reply) = reply_text reply
 result_text (Err fault) = error_line fault
 

@@ -3,7 +3,7 @@
 use crate::books::{Call, Row, play};
 use crate::testing::{Change, Corners, SHIFTED, SQUARE};
 use layer_book::fault::LayerFault;
-use version_book::fault::{BookFault, StoreFault};
+use version_book::fault::{BookFault, ToldFault};
 use version_core::fault::VersionFault;
 
 const PUT_A: Call = Call::Submit(Change::Put("A", SQUARE));
@@ -101,9 +101,9 @@ const DURABLE: &[&[Row]] = &[&[
     Row::Calls(Call::Report(1), Ok(Some(1))),
     Row::Calls(Call::Report(9), Ok(Some(1))),
     Row::Calls(Call::WaitDurable, Ok(Some(1))),
-    Row::Calls(Call::StoreFailed(StoreFault::Device), Ok(None)),
+    Row::Calls(Call::StoreFailed(ToldFault::Device), Ok(None)),
     Row::Calls(PUT_A, Ok(Some(2))),
-    Row::Calls(Call::WaitDurable, Err(BookFault::Store(StoreFault::Device))),
+    Row::Calls(Call::WaitDurable, Err(BookFault::Store(ToldFault::Device))),
 ]];
 
 #[test]

@@ -15,12 +15,12 @@ use std::sync::Wait;
 use std::thread::Threads;
 use std::time::Clock;
 use tile_build::Built;
-use version_book::fault::{BookFault, StoreFault};
+use version_book::fault::{BookFault, ToldFault};
 use version_book::job::Job;
 use version_book::reporter::Reporter;
+use version_book::seen_log::{Head, Naming, SeenLog, open};
 use version_book::session::Session;
 use version_book::shared::Shared;
-use version_book::trace::{Head, Naming, Trace, open};
 use version_core::version::Version;
 
 /// A call on a book by its first session or its reporter.
@@ -32,7 +32,7 @@ pub enum Call {
     WaitDurable,
     NextVersion,
     Report(u64),
-    StoreFailed(StoreFault),
+    StoreFailed(ToldFault),
     BeginClose,
 }
 
@@ -56,7 +56,7 @@ pub enum Row {
 /// A history of the empty version alone, which is no book's yet.
 struct Opened {
     head: Head,
-    trace: Trace,
+    trace: SeenLog,
     version: Version,
     ghost head_is: { head ≡ head_of trace.book },
     ghost begun: { trace.log ≡ entry no_event version ∷ [] },

@@ -10,9 +10,9 @@ use std::sync::Wait;
 use std::thread::{Threads, join_mut, sleep};
 use std::time::{Clock, Duration};
 use version_book::fault::BookFault;
+use version_book::seen_log::Naming;
 use version_book::session::Session;
 use version_book::shared::Shared;
-use version_book::trace::Naming;
 
 /// What a session does with a book.
 #[derive(Drop)]

@@ -15,7 +15,7 @@ use Rattle.overlay_terms.proofs.NameLemmas.{name_itself}
 use Rattle.layer_expr.specs.Name.{is_name}
 use Rattle.store_terms.specs.declared.damage.Damage.{Damage}
 use Rattle.store_terms.specs.declared.damage.Damage.TheVariants.{RecordPlace, LayerForm, LayerRefused, TileForm, Overlap}
-use Rattle.store_terms.specs.declared.root.Extent.{Extent}
+use Rattle.store_terms.specs.declared.root.RecordExtent.{RecordExtent}
 use Rattle.store_terms.specs.declared.root.Root.{Root}
 use Rattle.store_terms.specs.Fields.{whole}
 use Rattle.store_terms.specs.BaseRecord.{base_of_record}
@@ -136,7 +136,7 @@ record AreOf (name : Name) (k : ℕ) (tiles : List Finished) : Type 0 where
   own : AllByRecursion (IsOf name k) tiles
   rising : Pairs IsLeftOf tiles
 
-tiles_are_of : (file : List ℕ) (name : Name) (k : ℕ) (es : List (Option Extent)) (tiles : List Finished)
+tiles_are_of : (file : List ℕ) (name : Name) (k : ℕ) (es : List (Option RecordExtent)) (tiles : List Finished)
     → tiles_of file name k es ≡ Ok tiles → AreOf name k tiles
 tiles_are_of file name k [] tiles e = subst (AreOf name k) (same_ok [] tiles e) (record { own = tt; rising = tt })
 tiles_are_of file name k (None ∷ es) tiles e =

@@ -13,14 +13,14 @@ use crate::fault::{ReadFault, RecordFault};
 use plane_base::COLUMN_COUNT;
 use std::alloc::Global;
 use store_terms::damage::Damage;
-use store_terms::root::Extent;
+use store_terms::root::RecordExtent;
 
 /// Where the records of a layer lie: that of a base layer; or that of a definition, and by column
 /// those of its finished tiles.
 #[derive(Drop)]
 pub enum Records {
-    Base(Extent),
-    Derived(Extent, Vec<Option<Extent>>),
+    Base(RecordExtent),
+    Derived(RecordExtent, Vec<Option<RecordExtent>>),
 }
 
 /// The name of a layer, as its bytes, and where its records lie.
@@ -107,7 +107,7 @@ fn records_at(alloc: Global, bytes: &[u8]) -> Result<(Records, &[u8]), ReadFault
 }
 
 /// A tile entry for each column, and what follows them.
-fn tiles_at(alloc: Global, bytes: &[u8]) -> Result<(Vec<Option<Extent>>, &[u8]), ReadFault>
+fn tiles_at(alloc: Global, bytes: &[u8]) -> Result<(Vec<Option<RecordExtent>>, &[u8]), ReadFault>
     ensures { Gives (λ x. (x.0.items, x.1.now)) result (read_many (optional extent).read column_count bytes.now) }
 {
     let mut tiles = Vec::new(alloc);
@@ -121,7 +121,7 @@ fn tiles_at(alloc: Global, bytes: &[u8]) -> Result<(Vec<Option<Extent>>, &[u8]),
 }
 
 /// Where the record of a tile lies, if it is finished, and what follows.
-fn tile_at(bytes: &[u8]) -> Result<(Option<Extent>, &[u8]), ReadFault>
+fn tile_at(bytes: &[u8]) -> Result<(Option<RecordExtent>, &[u8]), ReadFault>
     ensures { Gives (λ x. (x.0, x.1.now)) result ((optional extent).read bytes.now) }
 {
     let (state, rest) = byte_at(bytes)?;
@@ -135,10 +135,10 @@ fn tile_at(bytes: &[u8]) -> Result<(Option<Extent>, &[u8]), ReadFault>
     }
 }
 
-fn extent_at(bytes: &[u8]) -> Result<(Extent, &[u8]), ReadFault>
+fn extent_at(bytes: &[u8]) -> Result<(RecordExtent, &[u8]), ReadFault>
     ensures { Gives (λ x. (x.0, x.1.now)) result (extent.read bytes.now) }
 {
     let (block, rest) = eight_bytes_at(bytes)?;
     let (size, rest) = four_bytes_at(rest)?;
-    Ok((Extent { block, size }, rest))
+    Ok((RecordExtent { block, size }, rest))
 }

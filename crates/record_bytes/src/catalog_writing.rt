@@ -10,7 +10,7 @@ ghost use Rattle.store_terms.specs.Catalog.{catalog, extent as spelled, listed, 
 use crate::bytes::{put_eight_bytes, put_four_bytes, put_two_bytes};
 use crate::catalog::{Listed, Records};
 use std::alloc::{AllocError, Global};
-use store_terms::root::Extent;
+use store_terms::root::RecordExtent;
 
 /// The record that lists some layers in order.
 pub fn write_catalog(alloc: Global, listing: &[Listed]) -> Result<Vec<u8>, AllocError>
@@ -67,7 +67,7 @@ fn put_records(out: &mut Vec<u8>, records: &Records) -> Result<(), AllocError>
 }
 
 /// Writes a tile entry for each column behind some bytes.
-fn put_tiles(out: &mut Vec<u8>, tiles: &[Option<Extent>]) -> Result<(), AllocError>
+fn put_tiles(out: &mut Vec<u8>, tiles: &[Option<RecordExtent>]) -> Result<(), AllocError>
     requires { length tiles.now ≡ column_count }
     ensures { OnOk result (IsPut (repeated column_count (optional spelled)) tiles.now out.old.items out.new.items) }
 {
@@ -77,7 +77,7 @@ fn put_tiles(out: &mut Vec<u8>, tiles: &[Option<Extent>]) -> Result<(), AllocErr
     Ok(())
 }
 
-fn put_tile(out: &mut Vec<u8>, tile: Option<Extent>) -> Result<(), AllocError>
+fn put_tile(out: &mut Vec<u8>, tile: Option<RecordExtent>) -> Result<(), AllocError>
     ensures { OnOk result (IsPut (optional spelled) tile out.old.items out.new.items) }
 {
     match tile {
@@ -93,7 +93,7 @@ fn put_tile(out: &mut Vec<u8>, tile: Option<Extent>) -> Result<(), AllocError>
     }
 }
 
-fn put_extent(out: &mut Vec<u8>, extent: Extent) -> Result<(), AllocError>
+fn put_extent(out: &mut Vec<u8>, extent: RecordExtent) -> Result<(), AllocError>
     ensures { OnOk result (IsPut spelled extent out.old.items out.new.items) }
 {
     put_eight_bytes(out, extent.block)?;

@@ -3,7 +3,7 @@ ghost use Rattle.std.specs.Prelude.{◌≡◌, ◌≤◌, length, take};
 ghost use Rattle.store_terms.specs.Roots.{body_in, body_text, ours};
 
 use byteorder::{BigEndian, ByteOrder};
-use store_terms::root::{Body, Extent, Root};
+use store_terms::root::{Body, RecordExtent, Root};
 
 /// The bytes that each body begins with.
 const MAGIC: &[u8] = b"OVLSTORE";
@@ -22,7 +22,7 @@ pub fn read_body(bytes: &[u8]) -> Body
         root: Root {
             sequence: BigEndian::read_u64(&bytes[12..]),
             version: BigEndian::read_u64(&bytes[20..]),
-            catalog: Extent {
+            catalog: RecordExtent {
                 block: BigEndian::read_u64(&bytes[28..]),
                 size: BigEndian::read_u32(&bytes[36..]),
             },

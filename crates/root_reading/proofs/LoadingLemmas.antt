@@ -4,7 +4,7 @@ use Rattle.std.proofs.lemmas.List.{at_drop_more}
 use Rattle.overlay_terms.specs.Layers.{Name, Layer}
 use Rattle.overlay_terms.specs.Histories.{Finished}
 use Rattle.store_terms.specs.declared.damage.Damage.{Damage}
-use Rattle.store_terms.specs.declared.root.Extent.{Extent}
+use Rattle.store_terms.specs.declared.root.RecordExtent.{RecordExtent}
 use Rattle.store_terms.specs.Catalog.{Listed}
 use Rattle.store_terms.specs.Image.{tiles_of, layers_of}
 use Rattle.root_reading.specs.declared.load_fault.LoadFault.{LoadFault}
@@ -13,34 +13,34 @@ use Rattle.root_reading.specs.Loading.{then_tiles, then_layers}
 
 -- ---- the loop over the columns
 
-pub tiles_go_on : (file mid : List ℕ) (name : Name) (k : ℕ) (entry : Option Extent) (entries : List (Option Extent))
+pub tiles_go_on : (file mid : List ℕ) (name : Name) (k : ℕ) (entry : Option RecordExtent) (entries : List (Option RecordExtent))
     (front next : List Finished) (total : Result (List Finished) Damage)
     → mid ≡ file → k < length entries → entry ≡ get_or entries k entry
-    → ((rest : List (Option Extent))
+    → ((rest : List (Option RecordExtent))
     → then_tiles front (tiles_of mid name k (entry ∷ rest)) ≡ then_tiles next (tiles_of mid name (k + 1) rest))
     → then_tiles front (tiles_of file name k (drop k entries)) ≡ total
     → then_tiles next (tiles_of file name (k + 1) (drop (k + 1) entries)) ≡ total
 tiles_go_on file mid name k entry entries front next total same lt is adds so_far =
     let rest = drop (k + 1) entries in
     let here : drop k entries ≡ entry ∷ rest =
-    at_drop_more (λ (es : List (Option Extent)). es) entries k entry lt
-    ∙ ap (λ (e : Option Extent). e ∷ rest) (sym is) in
+    at_drop_more (λ (es : List (Option RecordExtent)). es) entries k entry lt
+    ∙ ap (λ (e : Option RecordExtent). e ∷ rest) (sym is) in
     sym (subst (λ (f : List ℕ). then_tiles front (tiles_of f name k (entry ∷ rest))
     ≡ then_tiles next (tiles_of f name (k + 1) rest)) same (adds rest))
-    ∙ ap (λ (es : List (Option Extent)). then_tiles front (tiles_of file name k es)) (sym here) ∙ so_far
+    ∙ ap (λ (es : List (Option RecordExtent)). then_tiles front (tiles_of file name k es)) (sym here) ∙ so_far
 
-pub tiles_end : (file mid : List ℕ) (name : Name) (k : ℕ) (entry : Option Extent) (entries : List (Option Extent))
+pub tiles_end : (file mid : List ℕ) (name : Name) (k : ℕ) (entry : Option RecordExtent) (entries : List (Option RecordExtent))
     (front : List Finished) (total : Result (List Finished) Damage) (fault : LoadFault)
     → mid ≡ file → k < length entries → entry ≡ get_or entries k entry
-    → ((rest : List (Option Extent)) → Refuses fault (then_tiles front (tiles_of mid name k (entry ∷ rest))))
+    → ((rest : List (Option RecordExtent)) → Refuses fault (then_tiles front (tiles_of mid name k (entry ∷ rest))))
     → then_tiles front (tiles_of file name k (drop k entries)) ≡ total → Refuses fault total
 tiles_end file mid name k entry entries front total fault same lt is refuses so_far =
     let rest = drop (k + 1) entries in
     let here : drop k entries ≡ entry ∷ rest =
-    at_drop_more (λ (es : List (Option Extent)). es) entries k entry lt
-    ∙ ap (λ (e : Option Extent). e ∷ rest) (sym is) in
+    at_drop_more (λ (es : List (Option RecordExtent)). es) entries k entry lt
+    ∙ ap (λ (e : Option RecordExtent). e ∷ rest) (sym is) in
     subst (Refuses fault)
-    (ap (λ (es : List (Option Extent)). then_tiles front (tiles_of file name k es)) (sym here) ∙ so_far)
+    (ap (λ (es : List (Option RecordExtent)). then_tiles front (tiles_of file name k es)) (sym here) ∙ so_far)
     (subst (λ (f : List ℕ). Refuses fault (then_tiles front (tiles_of f name k (entry ∷ rest)))) same (refuses rest))
 
 -- ---- the loop over the catalog

@@ -5,7 +5,7 @@ use Rattle.overlay_terms.specs.Layers.{Name, Layer, derived}
 use Rattle.overlay_terms.specs.Histories.{Finished}
 use Rattle.store_terms.specs.declared.damage.Damage.{Damage}
 use Rattle.store_terms.specs.declared.damage.Damage.TheVariants.{CatalogPlace, RecordPlace, LayerForm, TileForm}
-use Rattle.store_terms.specs.declared.root.Extent.{Extent}
+use Rattle.store_terms.specs.declared.root.RecordExtent.{RecordExtent}
 use Rattle.store_terms.specs.declared.root.Root.{Root}
 use Rattle.store_terms.specs.DefinitionRecord.{definition_of_record}
 use Rattle.store_terms.specs.TileRecord.{tile_of_record}
@@ -20,12 +20,12 @@ bound : {A B : Type 0} (o : Result A Damage) (f : A → Result B Damage) (y : B)
 bound (Ok x) f y e = (x, refl, e)
 bound (Err fault) f y e = absurd (cc e)
 
-both_near : (xs ys : List Extent) → AllNear xs → AllNear ys → AllNear (xs ++ ys)
+both_near : (xs ys : List RecordExtent) → AllNear xs → AllNear ys → AllNear (xs ++ ys)
 both_near [] ys a b = b
 both_near (x ∷ xs) ys a b = (a.0, both_near xs ys a.1 b)
 
 module _ (file : List ℕ) (short : length file < 2 ^ 64) where
-  near_bytes : (fault : Damage) (e : Extent) (bytes : List ℕ) → placed_bytes fault file e ≡ Ok bytes → IsNear e
+  near_bytes : (fault : Damage) (e : RecordExtent) (bytes : List ℕ) → placed_bytes fault file e ≡ Ok bytes → IsNear e
   near_bytes fault e bytes is =
       let p = and_parts (nat_le 2 e.block) (nat_le (e.block + blocks e.size) (length file / 4096))
       (placed (is_placed file e) is) in
@@ -36,7 +36,7 @@ module _ (file : List ℕ) (short : length file < 2 ^ 64) where
       placed true is = refl
       placed false is = absurd (cc is)
 
-  near_tiles : (name : Name) (k : ℕ) (es : List (Option Extent)) (tiles : List Finished)
+  near_tiles : (name : Name) (k : ℕ) (es : List (Option RecordExtent)) (tiles : List Finished)
       → tiles_of file name k es ≡ Ok tiles → AllNear (some_extents es)
   near_tiles name k [] tiles is = tt
   near_tiles name k (None ∷ es) tiles is = near_tiles name (k + 1) es tiles is

@@ -6,30 +6,30 @@ use Rattle.overlay_terms.specs.Layers.{Name, base, derived, Layer}
 use Rattle.overlay_terms.specs.Histories.{Tile, Finished}
 use Rattle.store_terms.specs.declared.damage.Damage.{Damage}
 use Rattle.store_terms.specs.declared.damage.Damage.TheVariants.{RecordPlace, LayerForm, TileForm}
-use Rattle.store_terms.specs.declared.root.Extent.{Extent}
+use Rattle.store_terms.specs.declared.root.RecordExtent.{RecordExtent}
 use Rattle.store_terms.specs.BaseRecord.{base_of_record}
 use Rattle.store_terms.specs.DefinitionRecord.{definition_of_record}
 use Rattle.store_terms.specs.TileRecord.{tile_of_record}
 use Rattle.store_terms.specs.Image.{◌>>=◌, or_fault, placed_bytes, with_layer}
 
 -- the rings of the base record in an extent
-abbrev pub rings_at : List ℕ → Extent → Result (List (List WholePoint)) Damage
+abbrev pub rings_at : List ℕ → RecordExtent → Result (List (List WholePoint)) Damage
 rings_at file e = placed_bytes RecordPlace file e >>= λ bytes. or_fault LayerForm (base_of_record bytes)
 
 -- the expression of the definition record in an extent
-abbrev pub expression_at : List ℕ → Extent → Result (Tree Name) Damage
+abbrev pub expression_at : List ℕ → RecordExtent → Result (Tree Name) Damage
 expression_at file e = placed_bytes RecordPlace file e >>= λ bytes. or_fault LayerForm (definition_of_record bytes)
 
 -- the layers with one more behind them: rings, or an expression, from an extent
-abbrev pub layers_with_base : List ℕ → List Layer → Name → Extent → Result (List Layer) Damage
+abbrev pub layers_with_base : List ℕ → List Layer → Name → RecordExtent → Result (List Layer) Damage
 layers_with_base file known name e = rings_at file e >>= λ rings. with_layer known name (base rings)
 
-abbrev pub layers_with_derived : List ℕ → List Layer → Name → Extent → Result (List Layer) Damage
+abbrev pub layers_with_derived : List ℕ → List Layer → Name → RecordExtent → Result (List Layer) Damage
 layers_with_derived file known name e =
     expression_at file e >>= λ expression. with_layer known name (derived expression)
 
 -- the tile of a column in an extent
-abbrev pub tile_at : List ℕ → ℕ → Extent → Result Tile Damage
+abbrev pub tile_at : List ℕ → ℕ → RecordExtent → Result Tile Damage
 tile_at file k e = placed_bytes RecordPlace file e >>= λ bytes. or_fault TileForm (tile_of_record k bytes)
 
 -- some tiles, and those that are read behind them

@@ -8,7 +8,7 @@ use crate::load_fault::LoadFault;
 use disk_model::disk::Disk;
 use std::alloc::Global;
 use store_terms::damage::Damage;
-use store_terms::root::Extent;
+use store_terms::root::RecordExtent;
 
 /// How many bytes a block has.
 pub const BLOCK: usize = 4096;
@@ -21,7 +21,7 @@ pub(crate) fn blocks_of(size: u32) -> u64
 }
 
 /// Whether a record lies behind the slots in a file of so many blocks.
-fn is_within(extent: Extent, whole: u64) -> bool
+fn is_within(extent: RecordExtent, whole: u64) -> bool
     ensures { result ≡ (nat_le 2 extent.block && nat_le (extent.block + blocks extent.size) whole) }
 {
     extent.block >= 2 && extent.block <= whole && blocks_of(extent.size) <= whole - extent.block
@@ -31,7 +31,7 @@ fn is_within(extent: Extent, whole: u64) -> bool
 pub(crate) fn fetch<D: Disk>(
     alloc: Global,
     disk: &mut D,
-    extent: Extent,
+    extent: RecordExtent,
     damage: Damage,
 ) -> Result<Vec<u8>, LoadFault>
     ensures honest { D.is_honest disk.new ↔ D.is_honest disk.old }

@@ -22,7 +22,7 @@ use layer_expr::name::Name;
 use record_bytes::catalog::{Listed, Records};
 use std::alloc::Global;
 use std::sync::Arc;
-use store_terms::root::Extent;
+use store_terms::root::RecordExtent;
 use tile_build::tile::Tile;
 
 /// What is read so far: layers, and the finished tiles of them.
@@ -38,7 +38,7 @@ fn with_base<D: Disk>(
     disk: &mut D,
     layers: &Layers,
     name: &[u8],
-    extent: Extent,
+    extent: RecordExtent,
 ) -> Result<Layers, LoadFault>
     ensures honest { D.is_honest disk.new ↔ D.is_honest disk.old }
     ensures looks { D.is_honest disk.old → Looks D.Disk disk.old disk.new }
@@ -60,7 +60,7 @@ fn with_derived<D: Disk>(
     disk: &mut D,
     layers: &Layers,
     name: &[u8],
-    extent: Extent,
+    extent: RecordExtent,
 ) -> Result<Layers, LoadFault>
     ensures honest { D.is_honest disk.new ↔ D.is_honest disk.old }
     ensures looks { D.is_honest disk.old → Looks D.Disk disk.old disk.new }
@@ -82,7 +82,7 @@ fn add_base<D: Disk>(
     alloc: Global,
     disk: &mut D,
     name: &[u8],
-    extent: Extent,
+    extent: RecordExtent,
     content: &mut Content,
 ) -> Result<(), LoadFault>
     ensures honest { D.is_honest disk.new ↔ D.is_honest disk.old }
@@ -107,8 +107,8 @@ fn add_derived<D: Disk>(
     alloc: Global,
     disk: &mut D,
     name: &[u8],
-    extent: Extent,
-    entries: &[Option<Extent>],
+    extent: RecordExtent,
+    entries: &[Option<RecordExtent>],
     content: &mut Content,
 ) -> Result<(), LoadFault>
     ensures honest { D.is_honest disk.new ↔ D.is_honest disk.old }

@@ -15,7 +15,7 @@ use record_form::base_record::read_base;
 use record_form::definition_record::read_definition;
 use std::alloc::Global;
 use store_terms::damage::Damage;
-use store_terms::root::{Extent, Root};
+use store_terms::root::{RecordExtent, Root};
 
 /// The layers that the catalog of a root lists.
 #[tactic(auto, unfolding(store_terms::specs::Image::listing_of))]
@@ -39,7 +39,7 @@ pub fn listing_at<D: Disk>(
 pub(crate) fn base_at<D: Disk>(
     alloc: Global,
     disk: &mut D,
-    extent: Extent,
+    extent: RecordExtent,
 ) -> Result<BaseLayer, LoadFault>
     ensures honest { D.is_honest disk.new ↔ D.is_honest disk.old }
     ensures looks { D.is_honest disk.old → Looks D.Disk disk.old disk.new }
@@ -55,7 +55,7 @@ pub(crate) fn base_at<D: Disk>(
 pub(crate) fn expression_at<D: Disk>(
     alloc: Global,
     disk: &mut D,
-    extent: Extent,
+    extent: RecordExtent,
 ) -> Result<Expr, LoadFault>
     ensures honest { D.is_honest disk.new ↔ D.is_honest disk.old }
     ensures looks { D.is_honest disk.old → Looks D.Disk disk.old disk.new }

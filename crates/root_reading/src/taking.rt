@@ -2,17 +2,17 @@
 ghost use Rattle.std.specs.Prelude.{◌≡◌, ◌++◌, ◌∷◌, [], List, IfOk, OnOk};
 ghost use Rattle.record_bytes.specs.Listing.{listing_of, records_of};
 ghost use Rattle.store_terms.specs.Places.{blocks, some_extents, extents_of_records, extents_listed};
-ghost use Rattle.store_terms.specs.declared.root.Extent as terms;
+ghost use Rattle.store_terms.specs.declared.root.RecordExtent as terms;
 ghost use Rattle.root_reading.specs.Taking.{IsNear, AreRunsFor};
 
 use crate::fetching::blocks_of;
 use extent_map::extent::Extent as Run;
 use record_bytes::catalog::{Listed, Records};
 use std::alloc::{AllocError, Global};
-use store_terms::root::Extent;
+use store_terms::root::RecordExtent;
 
 /// The run of blocks of an extent; some run where its end is no number of 64 bits.
-fn run_of(extent: Extent) -> Run
+fn run_of(extent: RecordExtent) -> Run
     ensures { IsNear extent → (result.block ≡ extent.block) × (result.blocks ≡ blocks extent.size) }
 {
     if let Some(run) = Run::new(extent.block, blocks_of(extent.size)) {
@@ -25,8 +25,8 @@ fn run_of(extent: Extent) -> Run
 }
 
 #[tactic(auto, using(crate::proofs::TakingLemmas::runs_more))]
-fn add_run(runs: &mut Vec<Run>, extent: Extent) -> Result<(), AllocError>
-    ensures { (es : List terms.Extent) → AreRunsFor es runs.old.items
+fn add_run(runs: &mut Vec<Run>, extent: RecordExtent) -> Result<(), AllocError>
+    ensures { (es : List terms.RecordExtent) → AreRunsFor es runs.old.items
         → OnOk result (AreRunsFor (es ++ extent ∷ []) runs.new.items) }
 {
     runs.push(run_of(extent))?;
@@ -34,8 +34,8 @@ fn add_run(runs: &mut Vec<Run>, extent: Extent) -> Result<(), AllocError>
 }
 
 /// Adds the run of a tile, if it is finished.
-fn add_entry(runs: &mut Vec<Run>, entry: Option<Extent>) -> Result<(), AllocError>
-    ensures { (es : List terms.Extent) → AreRunsFor es runs.old.items
+fn add_entry(runs: &mut Vec<Run>, entry: Option<RecordExtent>) -> Result<(), AllocError>
+    ensures { (es : List terms.RecordExtent) → AreRunsFor es runs.old.items
         → OnOk result (AreRunsFor (es ++ some_extents (entry ∷ [])) runs.new.items) }
 {
     match entry {
@@ -45,8 +45,8 @@ fn add_entry(runs: &mut Vec<Run>, entry: Option<Extent>) -> Result<(), AllocErro
 }
 
 /// Adds the run of each tile that is finished.
-fn add_entries(runs: &mut Vec<Run>, entries: &[Option<Extent>]) -> Result<(), AllocError>
-    ensures { (es : List terms.Extent) → AreRunsFor es runs.old.items
+fn add_entries(runs: &mut Vec<Run>, entries: &[Option<RecordExtent>]) -> Result<(), AllocError>
+    ensures { (es : List terms.RecordExtent) → AreRunsFor es runs.old.items
         → OnOk result (AreRunsFor (es ++ some_extents entries.now) runs.new.items) }
 {
     for entry in entries.iter() {
@@ -57,7 +57,7 @@ fn add_entries(runs: &mut Vec<Run>, entries: &[Option<Extent>]) -> Result<(), Al
 
 /// Adds the runs of a layer's records.
 fn add_records(runs: &mut Vec<Run>, records: &Records) -> Result<(), AllocError>
-    ensures { (es : List terms.Extent) → AreRunsFor es runs.old.items
+    ensures { (es : List terms.RecordExtent) → AreRunsFor es runs.old.items
         → OnOk result (AreRunsFor (es ++ extents_of_records (records_of records.now)) runs.new.items) }
 {
     match records {
@@ -70,7 +70,11 @@ fn add_records(runs: &mut Vec<Run>, records: &Records) -> Result<(), AllocError>
 }
 
 /// The runs of a catalog and of the records that it lists.
-pub fn runs_of(alloc: Global, catalog: Extent, listing: &[Listed]) -> Result<Vec<Run>, AllocError>
+pub fn runs_of(
+    alloc: Global,
+    catalog: RecordExtent,
+    listing: &[Listed],
+) -> Result<Vec<Run>, AllocError>
     ensures { IfOk result (λ runs. AreRunsFor (catalog ∷ extents_listed (listing_of listing.now)) runs.items) }
 {
     let mut runs = Vec::new(alloc);

@@ -6,7 +6,7 @@ ghost use Rattle.overlay_terms.specs.Layers.{Layer};
 ghost use Rattle.overlay_terms.specs.StoredTiles.{AreStored};
 ghost use Rattle.tile_build.specs.Tile.{finished_of, tile_of};
 ghost use Rattle.store_terms.specs.Image.{tiles_of};
-ghost use Rattle.store_terms.specs.declared.root.Extent as terms;
+ghost use Rattle.store_terms.specs.declared.root.RecordExtent as terms;
 ghost use Rattle.root_reading.specs.Looking.{Gives, Refuses, Looks, Causes};
 ghost use Rattle.root_reading.specs.Loading.{tile_at, then_tiles};
 ghost use Rattle.root_reading.specs.Stored.{AreStoredTo};
@@ -19,7 +19,7 @@ use plane_base::COLUMN_COUNT;
 use record_form::tile_record::read_tile;
 use std::alloc::Global;
 use store_terms::damage::Damage;
-use store_terms::root::Extent;
+use store_terms::root::RecordExtent;
 use tile_build::tile::Tile;
 
 /// The tile of a column whose record lies in an extent.
@@ -28,7 +28,7 @@ fn tile_at<D: Disk>(
     alloc: Global,
     disk: &mut D,
     column: usize,
-    extent: Extent,
+    extent: RecordExtent,
 ) -> Result<Tile, LoadFault>
     ensures known { IfOk result (λ tile. column < column_count) }
     ensures formed { IfOk result (λ tile. is_formed (tile_of tile) column ≡ true) }
@@ -53,19 +53,19 @@ fn add_tile<D: Disk>(
     disk: &mut D,
     name: &Name,
     column: usize,
-    entry: Option<Extent>,
+    entry: Option<RecordExtent>,
     tiles: &mut Vec<(Name, u8, Tile)>,
 ) -> Result<(), LoadFault>
     ensures honest { D.is_honest disk.new ↔ D.is_honest disk.old }
     ensures looks { D.is_honest disk.old → Looks D.Disk disk.old disk.new }
     ensures adds { D.is_honest disk.old
         → OnOk result
-        ((rest : List (Option terms.Extent))
+        ((rest : List (Option terms.RecordExtent))
         → then_tiles (map finished_of tiles.old.items) (tiles_of (D.seen disk.old) name.now column (entry ∷ rest))
         ≡ then_tiles (map finished_of tiles.new.items) (tiles_of (D.seen disk.old) name.now (column + 1) rest)) }
     ensures refuses { D.is_honest disk.old
         → IfErr result
-        (λ e. (rest : List (Option terms.Extent))
+        (λ e. (rest : List (Option terms.RecordExtent))
         → Refuses e (then_tiles (map finished_of tiles.old.items)
         (tiles_of (D.seen disk.old) name.now column (entry ∷ rest)))) }
     ensures stored { (layers : List Layer) → AreStoredTo layers (map finished_of tiles.old.items) name.now column
@@ -85,7 +85,7 @@ pub(crate) fn add_tiles<D: Disk>(
     alloc: Global,
     disk: &mut D,
     name: &Name,
-    entries: &[Option<Extent>],
+    entries: &[Option<RecordExtent>],
     tiles: &mut Vec<(Name, u8, Tile)>,
 ) -> Result<(), LoadFault>
     ensures honest { D.is_honest disk.new ↔ D.is_honest disk.old }

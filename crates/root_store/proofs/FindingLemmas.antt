@@ -10,7 +10,7 @@ use Rattle.store_terms.specs.Places.{block_size}
 use Rattle.disk_model.specs.Disk.{part}
 use Rattle.disk_model.proofs.Ranges.{length-part, get-part}
 use Rattle.store_terms.specs.Roots.{body_in}
-use Rattle.store_terms.specs.StandsFor.{gate, body, is_foreign, slot, newest, root_of}
+use Rattle.store_terms.specs.StandsFor.{gate, body, is_foreign, slot, newer_root, root_of}
 
 pub short_root : (file : List ℕ) → length file < block_size * 2 → root_of file ≡ Err NotAStore
 unfolding root_of
@@ -23,7 +23,7 @@ foreign_root file long foreign =
     let t : nat_lt (length file) 8192 ≡ false = grind (arith, nat_tests) in rw (t, foreign) refl
 
 pub slots_root : (file : List ℕ) → block_size * 2 ≤ length file → (is_foreign file 0 || is_foreign file 1) ≡ false
-    → root_of file ≡ (slot file 0 >>= λ a. slot file 1 >>= λ b. newest a b)
+    → root_of file ≡ (slot file 0 >>= λ a. slot file 1 >>= λ b. newer_root a b)
 unfolding root_of
 slots_root file long ours = let t : nat_lt (length file) 8192 ≡ false = grind (arith, nat_tests) in rw (t, ours) refl
 
@@ -32,20 +32,20 @@ module _ (file : List ℕ) (long : block_size * 2 ≤ length file)
   pub first_err : (damage : Damage) → slot file 0 ≡ Err damage → root_of file ≡ Err damage
   first_err damage first =
       slots_root file long ours
-      ∙ ap (λ (x : Result (Option Root) Damage). x >>= λ a. slot file 1 >>= λ b. newest a b) first
+      ∙ ap (λ (x : Result (Option Root) Damage). x >>= λ a. slot file 1 >>= λ b. newer_root a b) first
 
   pub second_err : (a : Option Root) (damage : Damage) → slot file 0 ≡ Ok a → slot file 1 ≡ Err damage
       → root_of file ≡ Err damage
   second_err a damage first second =
       slots_root file long ours
-      ∙ ap (λ (x : Result (Option Root) Damage). x >>= λ a. slot file 1 >>= λ b. newest a b) first
-      ∙ ap (λ (x : Result (Option Root) Damage). x >>= λ b. newest a b) second
+      ∙ ap (λ (x : Result (Option Root) Damage). x >>= λ a. slot file 1 >>= λ b. newer_root a b) first
+      ∙ ap (λ (x : Result (Option Root) Damage). x >>= λ b. newer_root a b) second
 
-  pub both_ok : (a b : Option Root) → slot file 0 ≡ Ok a → slot file 1 ≡ Ok b → root_of file ≡ newest a b
+  pub both_ok : (a b : Option Root) → slot file 0 ≡ Ok a → slot file 1 ≡ Ok b → root_of file ≡ newer_root a b
   both_ok a b first second =
       slots_root file long ours
-      ∙ ap (λ (x : Result (Option Root) Damage). x >>= λ a. slot file 1 >>= λ b. newest a b) first
-      ∙ ap (λ (x : Result (Option Root) Damage). x >>= λ b. newest a b) second
+      ∙ ap (λ (x : Result (Option Root) Damage). x >>= λ a. slot file 1 >>= λ b. newer_root a b) first
+      ∙ ap (λ (x : Result (Option Root) Damage). x >>= λ b. newer_root a b) second
 
 -- a part of a part
 pub part_part : (file : List ℕ) (at n from m : ℕ) → at + n ≤ length file → from + m ≤ n

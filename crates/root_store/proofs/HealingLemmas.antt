@@ -2,7 +2,7 @@
 use Rattle.std.proofs.Common.{◌≡◌, ℕ, ◌^◌, ◌<◌, List, length, Result, Ok, Err, ap, subst}
 use Rattle.std.specs.Prelude.{IsErr}
 use Rattle.disk_model.specs.declared.disk.Disk.{Ghosts}
-use Rattle.disk_model.specs.Disk.{Holds, Torn, Follows}
+use Rattle.disk_model.specs.Disk.{Holds, Torn, OneStepOn}
 use Rattle.disk_model.specs.Moments.{Leaves, LeavesOnly}
 use Rattle.store_terms.specs.Roots.{body_text, sequence_max}
 use Rattle.store_terms.specs.StandsFor.{body_at}
@@ -20,7 +20,7 @@ module _ {D : Type 0} (g : Ghosts D) (old mid : D) (x : Kept) (at : ℕ) (bytes 
   in_place c d torn = subst (λ (a : ℕ). Torn a 48 c d) there (subst (λ (n : ℕ). Torn at n c d) (ap length text) torn)
 
   -- written or not, the file is as it was but for the other slot's body
-  pub still_shut : Leaves g old (Shut x) → Follows (Torn at (length bytes)) (g.may_leave old) (g.may_leave mid)
+  pub still_shut : Leaves g old (Shut x) → OneStepOn (Torn at (length bytes)) (g.may_leave old) (g.may_leave mid)
       → Leaves g mid (Shut x)
   still_shut all follows =
       leaves_torn g old mid (Shut x) at (length bytes) all follows

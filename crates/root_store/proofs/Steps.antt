@@ -2,7 +2,7 @@
 use Rattle.std.proofs.Common.{◌≡◌, inl, inr, arith, ℕ, ◌+◌, ◌<◌, ◌≤◌, List, ◌∷◌, length, drop, get_or, Result, Ok, Err, sym, ◌∙◌, ap, subst}
 use Rattle.std.proofs.lemmas.List.{at_drop_more, at_drop_all}
 use Rattle.disk_model.specs.declared.disk.Disk.{Ghosts}
-use Rattle.disk_model.specs.Disk.{Holds, Torn, Follows, Fewer, Only, Elapses}
+use Rattle.disk_model.specs.Disk.{Holds, Torn, OneStepOn, Fewer, Only, Elapses}
 use Rattle.disk_model.specs.Moments.{Leaves, LeavesOnly}
 use Rattle.disk_model.proofs.Runs.{started, goes_on}
 use Rattle.commit_plan.specs.declared.write.Write.{Write}
@@ -26,7 +26,7 @@ calm_rest x file below (inr last) = absurd (omega (arith, below, last.1))
 
 module _ {D : Type 0} (g : Ghosts D) where
   pub leaves_torn : (old new : D) (P : List ℕ → Type 0) (at n : ℕ) → Leaves g old P
-      → Follows (Torn at n) (g.may_leave old) (g.may_leave new) → ((c d : List ℕ) → P c → Torn at n c d → P d)
+      → OneStepOn (Torn at n) (g.may_leave old) (g.may_leave new) → ((c d : List ℕ) → P c → Torn at n c d → P d)
       → Leaves g new P
   leaves_torn old new P at n all follows keeps c left =
       let from = follows c left in keeps from.0 c (all from.0 from.1) from.2
@@ -69,11 +69,11 @@ module _ {D : Type 0} (g : Ghosts D) where
 
     -- the gate shuts, or may be anything
     pub closing : (old new : D) → Leaves g old (Rest x)
-        → Follows (Torn (gate_at (other x.root)) 1) (g.may_leave old) (g.may_leave new) → Leaves g new (Rest x)
+        → OneStepOn (Torn (gate_at (other x.root)) 1) (g.may_leave old) (g.may_leave new) → Leaves g new (Rest x)
     closing old new all follows = leaves_torn old new (Rest x) (gate_at (other x.root)) 1 all follows (rest_kept x)
 
     pub opening : (old new : D) → Leaves g old (Ready x y)
-        → Follows (Torn (gate_at (other x.root)) 1) (g.may_leave old) (g.may_leave new) → Leaves g new (Ready x y)
+        → OneStepOn (Torn (gate_at (other x.root)) 1) (g.may_leave old) (g.may_leave new) → Leaves g new (Ready x y)
     opening old new all follows =
         leaves_torn old new (Ready x y) (gate_at (other x.root)) 1 all follows (ready_kept x y)
 

@@ -9,10 +9,10 @@ use Rattle.store_terms.specs.declared.root.Body.{Body}
 use Rattle.store_terms.specs.Image.{◌>>=◌}
 use Rattle.store_terms.specs.Places.{block_size}
 use Rattle.store_terms.specs.Roots.{ours, sequence_max}
-use Rattle.store_terms.specs.StandsFor.{gate, body, open_gate, fits_slot, is_foreign, slot, newest, root_of}
+use Rattle.store_terms.specs.StandsFor.{gate, body, open_gate, fits_slot, is_foreign, slot, newer_root, root_of}
 use Rattle.overlay_terms.specs.Commands.{version_max}
 use Rattle.commit_plan.specs.Kept.{other, Harmless}
-use Rattle.root_store.specs.Healing.{IsTaken, Found}
+use Rattle.root_store.specs.Healing.{IsTakenRoot, Found}
 use Rattle.root_store.specs.Finding.{has_shut_gate}
 use Rattle.root_store.proofs.FindingLemmas.{short_root, foreign_root, slots_root}
 
@@ -81,7 +81,7 @@ bit n = search arith
 parity_other : (n k j : ℕ) → n % 2 ≡ k → k + j ≡ 1 → (n + 1) % 2 ≡ j
 parity_other n k j e sum = omega arith
 
-taken : (file : List ℕ) (k : ℕ) (r : Root) → block_size * 2 ≤ length file → IsOpen file k r → IsTaken file r
+taken : (file : List ℕ) (k : ℕ) (r : Root) → block_size * 2 ≤ length file → IsOpen file k r → IsTakenRoot file r
 taken file k r long o = record {
   long = long;
   opened = ap (gate file) o.parity ∙ o.opened;
@@ -115,7 +115,7 @@ abbrev pick : Bool → Root → Root → Result Root Damage
 pick b p q = cond b (Ok p) (Ok q)
 
 both_open : (file : List ℕ) (p q r : Root) → block_size * 2 ≤ length file → IsOpen file 0 p → IsOpen file 1 q
-    → newest (Some p) (Some q) ≡ Ok r → Found file r
+    → newer_root (Some p) (Some q) ≡ Ok r → Found file r
 both_open file p q r long o_0 o_1 is =
     ⊎_elim
     (λ less.
@@ -134,7 +134,7 @@ both_open file p q r long o_0 o_1 is =
     }))
     (cases_lt q.sequence p.sequence)
   where
-    ok_same : (x y : Root) → newest (Some x) None ≡ Ok y → x ≡ y
+    ok_same : (x y : Root) → newer_root (Some x) None ≡ Ok y → x ≡ y
     ok_same x y e = cc e
 
     apart : (m n : ℕ) → m % 2 ≡ 0 → n % 2 ≡ 1 → m ≤ n → m < n
@@ -143,7 +143,7 @@ both_open file p q r long o_0 o_1 is =
 -- the newer of the roots of two slots
 newest_found : (file : List ℕ) (a b : Option Root) (r : Root) → block_size * 2 ≤ length file → is_foreign file 0 ≡ false
     → is_foreign file 1 ≡ false
-    → slot file 0 ≡ Ok a → slot file 1 ≡ Ok b → newest a b ≡ Ok r → Found file r
+    → slot file 0 ≡ Ok a → slot file 1 ≡ Ok b → newer_root a b ≡ Ok r → Found file r
 newest_found file None None r long ours_0 ours_1 first second is = absurd (cc is)
 newest_found file (Some p) None r long ours_0 ours_1 first second is =
     let same : p ≡ r = cc is in
@@ -165,14 +165,14 @@ root_found file r is =
     (λ foreign. absurd (cc (foreign_root file long foreign, is)))
     (λ mine.
     let own_both = or_parts (is_foreign file 0) (is_foreign file 1) mine in
-    let a = ok_bound (slot file 0) (λ x. slot file 1 >>= λ y. newest x y) r (sym (slots_root file long mine) ∙ is) in
-    let b = ok_bound (slot file 1) (λ y. newest a.0 y) r a.2 in
+    let a = ok_bound (slot file 0) (λ x. slot file 1 >>= λ y. newer_root x y) r (sym (slots_root file long mine) ∙ is) in
+    let b = ok_bound (slot file 1) (λ y. newer_root a.0 y) r a.2 in
     newest_found file a.0 b.0 r long own_both.0 own_both.1 a.1 b.1 b.2)
     (cases_Bool (is_foreign file 0 || is_foreign file 1)))
     (cases_lt (length file) (block_size * 2))
 
 -- where a gate is shut, it is that of the other slot
-pub other_shut : (file : List ℕ) (r : Root) → IsTaken file r → has_shut_gate file ≡ true
+pub other_shut : (file : List ℕ) (r : Root) → IsTakenRoot file r → has_shut_gate file ≡ true
     → gate file (other r) ≢ open_gate
 other_shut file r taken shut opened = ⊎_elim
     (λ zero. both (ap (gate file) (sym zero) ∙ taken.opened) (ap (gate file) (sym (one_more r.sequence zero)) ∙ opened))

@@ -15,7 +15,7 @@ abbrev pub kept_of : List ℕ → Root → Held → Kept
 kept_of file r held = record { root = r; extents = extents_of file r; held = held }
 
 -- what opening has read of the root that it takes
-pub record IsTaken (file : List ℕ) (r : Root) : Type 0 where
+pub record IsTakenRoot (file : List ℕ) (r : Root) : Type 0 where
   pub long : block_size * 2 ≤ length file
   pub opened : gate file (own r) ≡ open_gate
   pub spelt : body file (own r) ≡ ours r
@@ -24,12 +24,12 @@ pub record IsTaken (file : List ℕ) (r : Root) : Type 0 where
 
 -- the root of a file: it is taken, and behind a gate of the other slot that is open stands one that does no harm
 pub record Found (file : List ℕ) (r : Root) : Type 0 where
-  pub taken : IsTaken file r
+  pub taken : IsTakenRoot file r
   pub beside : (gate file (other r) ≢ open_gate) ⊎ Harmless (other r) r file
 
 -- a root that is taken, and what it holds, is live
 abbrev pub TakenIsLive : Type 0
-TakenIsLive = (file : List ℕ) (r : Root) (held : Held) → IsTaken file r → held_of file r ≡ Ok held
+TakenIsLive = (file : List ℕ) (r : Root) (held : Held) → IsTakenRoot file r → held_of file r ≡ Ok held
     → Live (kept_of file r held) file
 
 -- the twin of a root: the next sequence, and the same version and catalog

@@ -19,10 +19,10 @@ use disk_model::fault::DiskFault;
 use extent_map::extent::Extent as Run;
 use record_bytes::root_body::write_body;
 use std::alloc::{AllocError, Global};
-use store_terms::root::{Extent, Root};
+use store_terms::root::{RecordExtent, Root};
 
 /// Where the empty catalog of a new store lies.
-const CATALOG: Extent = Extent { block: 2, size: 2 };
+const CATALOG: RecordExtent = RecordExtent { block: 2, size: 2 };
 
 /// The root of a new store.
 const FIRST: Root = Root {

@@ -2,7 +2,7 @@
 ghost use Rattle.std.specs.Prelude.{◌≡◌, ◌↔◌, ◌==◌, ◌&&◌, ◌*◌, ◌^◌, ◌<◌, ◌≤◌, ℕ, List, length, not, IfSome, IfOk, IfErr};
 ghost use Rattle.overlay_terms.specs.Commands.{version_max};
 ghost use Rattle.store_terms.specs.Places.{block_size};
-ghost use Rattle.store_terms.specs.StandsFor.{gate, slot, newest, root_of, is_foreign, open_gate};
+ghost use Rattle.store_terms.specs.StandsFor.{gate, slot, newer_root, root_of, is_foreign, open_gate};
 ghost use Rattle.root_reading.specs.Looking.{Gives, Looks, Causes};
 ghost use Rattle.root_store.specs.Finding.{IsSlot, has_shut_gate};
 
@@ -21,12 +21,12 @@ pub const NUMBER_MAX: u64 = 1 << 62;
 
 /// What stands in a slot: its gate, and its body whatever the gate.
 #[derive(Clone, Copy)]
-pub(crate) struct Slot {
+pub(crate) struct RootSlot {
     pub(crate) gate: u8,
     pub(crate) body: Body,
 }
 
-impl Slot {
+impl RootSlot {
     fn is_open(&self) -> bool
         ensures { result ≡ (self.now.gate == open_gate) }
     {
@@ -60,7 +60,7 @@ impl Slot {
 }
 
 fn newer(first: Option<Root>, second: Option<Root>) -> Result<Root, Damage>
-    ensures gives { result ≡ newest first second }
+    ensures gives { result ≡ newer_root first second }
     ensures numbered { IfSome first (λ r. r.version ≤ version_max) → IfSome second (λ r. r.version ≤ version_max)
         → IfOk result (λ r. r.version ≤ version_max) }
 {
@@ -79,7 +79,7 @@ fn newer(first: Option<Root>, second: Option<Root>) -> Result<Root, Damage>
 }
 
 /// The root that two slots of a file name.
-fn root_in(first: &Slot, second: &Slot) -> Result<Root, Damage>
+fn root_in(first: &RootSlot, second: &RootSlot) -> Result<Root, Damage>
     ensures gives { (file : List ℕ) → block_size * 2 ≤ length file → IsSlot file 0 first.now → IsSlot file 1 second.now
         → result ≡ root_of file }
     ensures numbered { IfOk result (λ r. r.version ≤ version_max) }
@@ -93,7 +93,7 @@ fn root_in(first: &Slot, second: &Slot) -> Result<Root, Damage>
 }
 
 /// What stands in the slot with this number.
-fn read_slot<D: Disk>(disk: &mut D, number: usize) -> Result<Slot, LoadFault>
+fn read_slot<D: Disk>(disk: &mut D, number: usize) -> Result<RootSlot, LoadFault>
     requires small { number ≤ 1 }
     requires long { D.is_honest disk.old → block_size * 2 ≤ length (D.seen disk.old) }
     ensures honest { D.is_honest disk.new ↔ D.is_honest disk.old }
@@ -104,7 +104,7 @@ fn read_slot<D: Disk>(disk: &mut D, number: usize) -> Result<Slot, LoadFault>
 {
     let mut bytes = [0; 56];
     disk.read(number * BLOCK, &mut bytes)?;
-    Ok(Slot {
+    Ok(RootSlot {
         gate: bytes[0],
         body: read_body(&bytes[16..]),
     })

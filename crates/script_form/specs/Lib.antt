@@ -5,7 +5,7 @@ pub mod Fault
 pub mod FaultText
 pub mod Replies
 pub mod Writing
-pub mod Reply
+pub mod LineReply
 pub mod Transcript
 pub mod Reading
 pub mod Shapes

@@ -3,13 +3,13 @@ ghost use Rattle.std.specs.Prelude.{◌≡◌, ◌+◌, ◌≤◌, ◌++◌, IfE
 ghost use Rattle.arrayvec.specs.ArrayString.{array_string_len};
 ghost use Rattle.layer_book.specs.Place.{location};
 ghost use Rattle.script_form.specs.Replies.{ok_line, error_line, location_line, built_line, durable_line, verdict_line};
-ghost use Rattle.script_form.specs.Reply.{reply_text};
+ghost use Rattle.script_form.specs.LineReply.{reply_text};
 ghost use Rattle.script_form.specs.FaultText.{shown, IsBrief};
 ghost use Rattle.script_form.specs.Writing.{Writes};
 
 use crate::fault::CommandFault;
 use crate::fault_text::{FaultText, fault_text};
-use crate::reply::Reply;
+use crate::line_reply::LineReply;
 use arrayvec::ArrayString;
 use itoa::Buffer;
 use layer_book::direct_answer::Place;
@@ -33,19 +33,19 @@ pub fn write_text<W: Write>(writer: &mut W, text: &[u8]) -> Result<(), CommandFa
 }
 
 /// Writes the reply, without taking memory.
-pub fn write_reply<W: Write>(writer: &mut W, reply: &Reply) -> Result<(), CommandFault>
+pub fn write_reply<W: Write>(writer: &mut W, reply: &LineReply) -> Result<(), CommandFault>
     ensures writes { Writes result (W.contents writer.old) (W.contents writer.new) (reply_text reply.now) }
     ensures err { IfErr result (λ fault. fault ≡ CommandFault.Write) }
 {
     match reply {
-        Reply::Nothing => Ok(()),
-        Reply::Accepted(number) => write_text(writer, ok_text(*number).as_str().as_bytes()),
-        Reply::Located(place) => write_text(writer, location_text(*place)),
-        Reply::Built(number) => write_text(writer, built_text(*number).as_str().as_bytes()),
-        Reply::Durable(number) => write_text(writer, durable_text(*number).as_str().as_bytes()),
-        Reply::Compared(verdict) => write_text(writer, verdict_text(*verdict)),
-        Reply::Fault(fault) => write_text(writer, error_text(*fault).as_str().as_bytes()),
-        Reply::Lines(lines) => write_text(writer, lines.as_slice()),
+        LineReply::Nothing => Ok(()),
+        LineReply::Accepted(number) => write_text(writer, ok_text(*number).as_str().as_bytes()),
+        LineReply::Located(place) => write_text(writer, location_text(*place)),
+        LineReply::Built(number) => write_text(writer, built_text(*number).as_str().as_bytes()),
+        LineReply::Durable(number) => write_text(writer, durable_text(*number).as_str().as_bytes()),
+        LineReply::Compared(verdict) => write_text(writer, verdict_text(*verdict)),
+        LineReply::Fault(fault) => write_text(writer, error_text(*fault).as_str().as_bytes()),
+        LineReply::Lines(lines) => write_text(writer, lines.as_slice()),
     }
 }
 

@@ -15,8 +15,8 @@ use Rattle.version_core.specs.Edges.{edges_refusal, finished_refusal, AreEdges}
 use Rattle.book_history.specs.Known.{Known, seen}
 use Rattle.book_history.specs.declared.fault.BookFault.{BookFault}
 use Rattle.book_history.specs.declared.fault.BookFault.TheVariants as book
-use Rattle.book_history.specs.declared.fault.StoreFault.{StoreFault}
-use Rattle.book_history.specs.declared.fault.StoreFault.TheVariants as store
+use Rattle.book_history.specs.declared.fault.ToldFault.{ToldFault}
+use Rattle.book_history.specs.declared.fault.ToldFault.TheVariants as store
 use Rattle.version_book.specs.Waits.{IsBuiltAt, IsSyncRefused, IsWaitRefused}
 use Rattle.script_form.specs.declared.fault.CommandFault.{CommandFault}
 use Rattle.script_form.specs.declared.fault.CommandFault.TheVariants.{Version, OutOfMemory, Closing, Gone, NoStore}
@@ -147,7 +147,7 @@ wait_told was now name known number on same is named built =
 
 -- ==== SYNC
 
-of_store : (fault : StoreFault) → IsOfStore (store_told fault)
+of_store : (fault : ToldFault) → IsOfStore (store_told fault)
 of_store store.Device = inl refl
 of_store store.Full = inr (inl refl)
 of_store store.Failed = inr (inr (inl refl))

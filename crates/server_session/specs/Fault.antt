@@ -1,12 +1,12 @@
 -- How a session tells what the book refuses.
 use Rattle.book_history.specs.declared.fault.BookFault.{BookFault}
 use Rattle.book_history.specs.declared.fault.BookFault.TheVariants as book
-use Rattle.book_history.specs.declared.fault.StoreFault.{StoreFault}
-use Rattle.book_history.specs.declared.fault.StoreFault.TheVariants as store
+use Rattle.book_history.specs.declared.fault.ToldFault.{ToldFault}
+use Rattle.book_history.specs.declared.fault.ToldFault.TheVariants as store
 use Rattle.script_form.specs.declared.fault.CommandFault.{CommandFault}
 use Rattle.script_form.specs.declared.fault.CommandFault.TheVariants.{Version, Device, Full, StoreFailed, SequenceLimit, OutOfMemory, Closing, Gone, NoStore}
 
-abbrev pub store_told : StoreFault → CommandFault
+abbrev pub store_told : ToldFault → CommandFault
 store_told store.Device = Device
 store_told store.Full = Full
 store_told store.Failed = StoreFailed

@@ -4,7 +4,7 @@ ghost use Rattle.std.specs.Arc.{arc_value};
 ghost use Rattle.overlay_terms.specs.Histories.{newest, IsHistory};
 ghost use Rattle.book_history.specs.Known.{seen};
 ghost use Rattle.layer_book.specs.Command.{command};
-ghost use Rattle.script_form.specs.Reply.{reply_text};
+ghost use Rattle.script_form.specs.LineReply.{reply_text};
 ghost use Rattle.script_form.specs.Request.{request};
 ghost use Rattle.script_form.specs.Requests.{put, define, remove, locate, list_layers, edges, wait, verify, sync};
 ghost use Rattle.script_form.specs.Transcript.{asked_column};
@@ -16,13 +16,13 @@ use exact_point::QueryPoint;
 use layer_book::command::Command;
 use plane_base::Column;
 use script_form::{
-    CommandFault, Reply, Request, read_define, read_name, read_put, read_remove, request_of,
+    CommandFault, LineReply, Request, read_define, read_name, read_put, read_remove, request_of,
 };
 use std::alloc::Global;
 use std::sync::{Arc, Wait};
+use version_book::seen_log::Naming;
 use version_book::session::Session;
 use version_book::shared::Shared;
-use version_book::trace::Naming;
 use version_core::version::Version;
 
 /// What a line makes of the book and the session, and the reply. A line that is too long may be handed in cut off
@@ -33,13 +33,13 @@ pub fn answer<J: Naming, S: Wait + Drop, Q: Wait>(
     shared: &Shared<J, S>,
     me: &mut Session,
     line: &[u8],
-) -> Reply
+) -> LineReply
     requires { me.old.book ≡ J.book }
     ensures { TakesTurn me.old line.now me.new (reply_text result) }
 {
     match answer_request(rt, alloc, shared, me, request_of(line)) {
         Ok(reply) => reply,
-        Err(fault) => Reply::Fault(fault),
+        Err(fault) => LineReply::Fault(fault),
     }
 }
 
@@ -49,12 +49,12 @@ fn answer_request<J: Naming, S: Wait + Drop, Q: Wait>(
     shared: &Shared<J, S>,
     me: &mut Session,
     asked: Request<'_>,
-) -> Result<Reply, CommandFault>
+) -> Result<LineReply, CommandFault>
     requires { me.old.book ≡ J.book }
     ensures { Answers me.old (request asked.entry) me.new (result_text result) }
 {
     match asked {
-        Request::Nothing => Ok(Reply::Nothing),
+        Request::Nothing => Ok(LineReply::Nothing),
         Request::TooLong => Err(CommandFault::LineTooLong),
         Request::Malformed => Err(CommandFault::CommandSyntax),
         Request::Put(name, text) => answer_put(rt, alloc, shared, me, name, text),
@@ -76,7 +76,7 @@ fn answer_put<J: Naming, S: Wait + Drop, Q: Wait>(
     me: &mut Session,
     name: &[u8],
     text: &[u8],
-) -> Result<Reply, CommandFault>
+) -> Result<LineReply, CommandFault>
     requires { me.old.book ≡ J.book }
     ensures { Answers me.old (put name.now text.now) me.new (result_text result) }
 {
@@ -91,7 +91,7 @@ fn answer_define<J: Naming, S: Wait + Drop, Q: Wait>(
     me: &mut Session,
     name: &[u8],
     text: &[u8],
-) -> Result<Reply, CommandFault>
+) -> Result<LineReply, CommandFault>
     requires { me.old.book ≡ J.book }
     ensures { Answers me.old (define name.now text.now) me.new (result_text result) }
 {
@@ -105,7 +105,7 @@ fn answer_remove<J: Naming, S: Wait + Drop, Q: Wait>(
     shared: &Shared<J, S>,
     me: &mut Session,
     name: &[u8],
-) -> Result<Reply, CommandFault>
+) -> Result<LineReply, CommandFault>
     requires { me.old.book ≡ J.book }
     ensures { Answers me.old (remove name.now) me.new (result_text result) }
 {
@@ -120,12 +120,12 @@ fn submit<J: Naming, S: Wait + Drop, Q: Wait>(
     shared: &Shared<J, S>,
     me: &mut Session,
     change: &Command,
-) -> Result<Reply, CommandFault>
+) -> Result<LineReply, CommandFault>
     requires { me.old.book ≡ J.book }
     ensures { Submits me.old (command change.now) me.new (result_text result) }
 {
     match shared.submit(rt, alloc, me, change) {
-        Ok(number) => Ok(Reply::Accepted(number)),
+        Ok(number) => Ok(LineReply::Accepted(number)),
         Err(fault) => Err(command_fault(fault)),
     }
 }
@@ -152,21 +152,21 @@ fn answer_locate(
     x: i64,
     y: i64,
     w: i64,
-) -> Result<Reply, CommandFault>
+) -> Result<LineReply, CommandFault>
     ensures { Answers me.old (locate name.now x y w) me.new (result_text result) }
 {
     let name = read_name(alloc, name)?;
     let query = QueryPoint::new(x, y, w)?;
     let version = look(me)?;
     let place = version.locate(&name, &query)?;
-    Ok(Reply::Located(place))
+    Ok(LineReply::Located(place))
 }
 
-fn answer_list(alloc: Global, me: &mut Session) -> Result<Reply, CommandFault>
+fn answer_list(alloc: Global, me: &mut Session) -> Result<LineReply, CommandFault>
     ensures { Answers me.old list_layers me.new (result_text result) }
 {
     let version = look(me)?;
-    Ok(Reply::Lines(version.layers().list(alloc)?))
+    Ok(LineReply::Lines(version.layers().list(alloc)?))
 }
 
 /// The pieces of a tile.
@@ -175,13 +175,13 @@ fn answer_edges(
     me: &mut Session,
     name: &[u8],
     number: i64,
-) -> Result<Reply, CommandFault>
+) -> Result<LineReply, CommandFault>
     ensures { Answers me.old (edges name.now number) me.new (result_text result) }
 {
     let name = read_name(alloc, name)?;
     let version = look(me)?;
     let lines = version.edges_in(alloc, &name, asked_column(number))?;
-    Ok(Reply::Lines(lines))
+    Ok(LineReply::Lines(lines))
 }
 
 /// Waits until the tiles of a layer are built.
@@ -191,13 +191,13 @@ fn answer_wait<J: Naming, S: Wait + Drop, Q: Wait>(
     shared: &Shared<J, S>,
     me: &mut Session,
     name: &[u8],
-) -> Result<Reply, CommandFault>
+) -> Result<LineReply, CommandFault>
     requires { me.old.book ≡ J.book }
     ensures { Answers me.old (wait name.now) me.new (result_text result) }
 {
     let name = read_name(alloc, name)?;
     match shared.wait_built(rt, me, &name) {
-        Ok(number) => Ok(Reply::Built(number)),
+        Ok(number) => Ok(LineReply::Built(number)),
         Err(fault) => Err(command_fault(fault)),
     }
 }
@@ -208,13 +208,13 @@ fn answer_verify(
     me: &mut Session,
     name: &[u8],
     number: i64,
-) -> Result<Reply, CommandFault>
+) -> Result<LineReply, CommandFault>
     ensures { Answers me.old (verify name.now number) me.new (result_text result) }
 {
     let name = read_name(alloc, name)?;
     let version = look(me)?;
     let verdict = version.verify_in(alloc, &name, asked_column(number))?;
-    Ok(Reply::Compared(verdict))
+    Ok(LineReply::Compared(verdict))
 }
 
 /// Waits until the newest version that the session has seen is durable.
@@ -222,12 +222,12 @@ fn answer_sync<J: Naming, S: Wait + Drop, Q: Wait>(
     rt: &Q,
     shared: &Shared<J, S>,
     me: &mut Session,
-) -> Result<Reply, CommandFault>
+) -> Result<LineReply, CommandFault>
     requires { me.old.book ≡ J.book }
     ensures { Answers me.old sync me.new (result_text result) }
 {
     match shared.wait_durable(rt, me) {
-        Ok(number) => Ok(Reply::Durable(number)),
+        Ok(number) => Ok(LineReply::Durable(number)),
         Err(fault) => Err(command_fault(fault)),
     }
 }

@@ -3,7 +3,7 @@ ghost use Rattle.std.specs.Prelude.{◌≡◌};
 ghost use Rattle.server_session.specs.Fault.{fault_told, store_told};
 
 use script_form::CommandFault;
-use version_book::fault::{BookFault, StoreFault};
+use version_book::fault::{BookFault, ToldFault};
 
 /// The fault as a reply tells it.
 pub(crate) fn command_fault(fault: BookFault) -> CommandFault
@@ -18,14 +18,14 @@ pub(crate) fn command_fault(fault: BookFault) -> CommandFault
     }
 }
 
-fn store_fault(fault: StoreFault) -> CommandFault
+fn store_fault(fault: ToldFault) -> CommandFault
     ensures { result ≡ store_told fault }
 {
     match fault {
-        StoreFault::Device => CommandFault::Device,
-        StoreFault::Full => CommandFault::Full,
-        StoreFault::Failed => CommandFault::StoreFailed,
-        StoreFault::SequenceLimit => CommandFault::SequenceLimit,
-        StoreFault::OutOfMemory => CommandFault::OutOfMemory,
+        ToldFault::Device => CommandFault::Device,
+        ToldFault::Full => CommandFault::Full,
+        ToldFault::Failed => CommandFault::StoreFailed,
+        ToldFault::SequenceLimit => CommandFault::SequenceLimit,
+        ToldFault::OutOfMemory => CommandFault::OutOfMemory,
     }
 }

@@ -12,9 +12,9 @@ use script_form::{LineBuffer, SCRIPT_MAX, SessionEnd, read_chunk, write_reply, w
 use std::alloc::{AllocError, Global};
 use std::io::{Read, Write};
 use std::sync::Wait;
+use version_book::seen_log::Naming;
 use version_book::session::Session;
 use version_book::shared::Shared;
-use version_book::trace::Naming;
 
 /// How many bytes are asked for at once.
 const CHUNK: usize = 4096;

@@ -14,8 +14,8 @@ use std::alloc::Global;
 use std::sync::Wait;
 use std::thread;
 use version_book::reporter::Reporter;
+use version_book::seen_log::Naming;
 use version_book::shared::Shared;
-use version_book::trace::Naming;
 use version_core::version::Version;
 
 /// Commits each version that the book gives, and reports it once it is stored, until the book closes or the device

@@ -9,10 +9,10 @@ use commit_plan::fault::StoreFault;
 use std::alloc::Global;
 use std::sync::Wait;
 use std::thread;
-use version_book::fault::StoreFault as Told;
+use version_book::fault::ToldFault as Told;
 use version_book::reporter::Reporter;
+use version_book::seen_log::Naming;
 use version_book::shared::Shared;
-use version_book::trace::Naming;
 
 /// Reports a number, and tries again where there is no memory.
 pub(crate) fn report<J: Naming, R: Wait + Drop, W: Wait>(

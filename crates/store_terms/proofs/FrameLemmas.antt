@@ -8,26 +8,26 @@ use Rattle.store_terms.specs.declared.damage.Damage.TheVariants.{CatalogPlace, C
 use Rattle.store_terms.specs.BaseRecord.{base_of_record}
 use Rattle.store_terms.specs.DefinitionRecord.{definition_of_record}
 use Rattle.store_terms.specs.TileRecord.{tile_of_record}
-use Rattle.store_terms.specs.declared.root.Extent.{Extent}
+use Rattle.store_terms.specs.declared.root.RecordExtent.{RecordExtent}
 use Rattle.store_terms.specs.Catalog.{Records, Listed, catalog_of_record}
 use Rattle.store_terms.specs.Places.{some_extents, extents_of_records, extents_listed, all_apart}
 use Rattle.store_terms.specs.declared.root.Root.{Root}
 use Rattle.store_terms.specs.Image.{◌>>=◌, or_fault, placed_bytes, with_layer, tiles_of, layer_of, layers_of, listing_of, held_by}
 use Rattle.store_terms.specs.Frame.{IsSameAt, listed_extents, ElsewhereHasNoMeaning}
 
-same_bytes : (fault : Damage) (old new : List ℕ) (e : Extent) → IsSameAt old new e → placed_bytes fault new e ≡ placed_bytes fault old e
+same_bytes : (fault : Damage) (old new : List ℕ) (e : RecordExtent) → IsSameAt old new e → placed_bytes fault new e ≡ placed_bytes fault old e
 same_bytes fault old new e same = λ i. cond (same.placed i) (Ok (same.bytes i)) (Err fault)
 
 -- facts on the members of two lists
-all_front : (P : Extent → Type 0) (xs ys : List Extent) → AllByRecursion P (xs ++ ys) → AllByRecursion P xs
+all_front : (P : RecordExtent → Type 0) (xs ys : List RecordExtent) → AllByRecursion P (xs ++ ys) → AllByRecursion P xs
 all_front P [] ys all = tt
 all_front P (x ∷ xs) ys all = (all.0, all_front P xs ys all.1)
 
-all_back : (P : Extent → Type 0) (xs ys : List Extent) → AllByRecursion P (xs ++ ys) → AllByRecursion P ys
+all_back : (P : RecordExtent → Type 0) (xs ys : List RecordExtent) → AllByRecursion P (xs ++ ys) → AllByRecursion P ys
 all_back P [] ys all = all
 all_back P (x ∷ xs) ys all = all_back P xs ys all.1
 
-same_tiles : (old new : List ℕ) (name : Name) (k : ℕ) (es : List (Option Extent)) → AllByRecursion (IsSameAt old new) (some_extents es) → tiles_of new name k es ≡ tiles_of old name k es
+same_tiles : (old new : List ℕ) (name : Name) (k : ℕ) (es : List (Option RecordExtent)) → AllByRecursion (IsSameAt old new) (some_extents es) → tiles_of new name k es ≡ tiles_of old name k es
 same_tiles old new name k [] same = refl
 same_tiles old new name k (None ∷ es) same = same_tiles old new name (k + 1) es same
 same_tiles old new name k (Some e ∷ es) same =

@@ -20,7 +20,7 @@ use Rattle.store_terms.specs.declared.damage.Damage.TheVariants.{CatalogPlace, R
 use Rattle.store_terms.specs.Fields.{◌>>=◌, whole}
 use Rattle.store_terms.specs.DefinitionRecord.{is_expression, written_of, spelled_tree, definition_of_record}
 use Rattle.store_terms.specs.TileRecord.{NamedTile, column_of_tile, tile_of, named_tile, tile_of_record, IsTileRecord}
-use Rattle.store_terms.specs.declared.root.Extent.{Extent}
+use Rattle.store_terms.specs.declared.root.RecordExtent.{RecordExtent}
 use Rattle.store_terms.specs.Catalog.{Records, Listed}
 use Rattle.store_terms.specs.Places.{bytes_of, is_placed, some_extents, extents_of_records, extents_listed}
 use Rattle.store_terms.specs.Image.{or_fault, placed_bytes, with_layer, tiles_of, layer_of, layers_of, Held, listing_of, held_by, held_of}
@@ -84,20 +84,20 @@ ok_bound : {A B : Type 0} (o : Result A Damage) (f : A → Result B Damage) (y :
 ok_bound (Ok x) f y e = (x, refl, e)
 ok_bound (Err d) f y e = absurd cc
 
-is_there : (fault : Damage) (file : List ℕ) (e : Extent) (bytes : List ℕ) → placed_bytes fault file e ≡ Ok bytes → is_placed file e ≡ true
+is_there : (fault : Damage) (file : List ℕ) (e : RecordExtent) (bytes : List ℕ) → placed_bytes fault file e ≡ Ok bytes → is_placed file e ≡ true
 is_there fault file e bytes h = by_test (is_placed file e) h where
   by_test : (b : Bool) → cond b (Ok (bytes_of file e)) (Err fault) ≡ Ok bytes → b ≡ true
   by_test true g = refl
   by_test false g = absurd cc
 
-abbrev Placed : List ℕ → List Extent → Type 0
+abbrev Placed : List ℕ → List RecordExtent → Type 0
 Placed file es = AllByRecursion (λ e. is_placed file e ≡ true) es
 
-both_placed : (file : List ℕ) (xs ys : List Extent) → Placed file xs → Placed file ys → Placed file (xs ++ ys)
+both_placed : (file : List ℕ) (xs ys : List RecordExtent) → Placed file xs → Placed file ys → Placed file (xs ++ ys)
 both_placed file [] ys a b = b
 both_placed file (x ∷ xs) ys a b = (a.0, both_placed file xs ys a.1 b)
 
-tiles_placed : (file : List ℕ) (name : Name) (k : ℕ) (es : List (Option Extent)) (tiles : List Finished) → tiles_of file name k es ≡ Ok tiles → Placed file (some_extents es)
+tiles_placed : (file : List ℕ) (name : Name) (k : ℕ) (es : List (Option RecordExtent)) (tiles : List Finished) → tiles_of file name k es ≡ Ok tiles → Placed file (some_extents es)
 tiles_placed file name k [] tiles e = tt
 tiles_placed file name k (None ∷ es) tiles e = tiles_placed file name (k + 1) es tiles e
 tiles_placed file name k (Some x ∷ es) tiles e =

@@ -13,7 +13,7 @@ use Rattle.store_terms.specs.declared.damage.Damage.TheVariants.{CatalogPlace, C
 use Rattle.store_terms.specs.BaseRecord.{base_of_record}
 use Rattle.store_terms.specs.DefinitionRecord.{definition_of_record}
 use Rattle.store_terms.specs.TileRecord.{tile_of_record}
-use Rattle.store_terms.specs.declared.root.Extent.{Extent}
+use Rattle.store_terms.specs.declared.root.RecordExtent.{RecordExtent}
 use Rattle.store_terms.specs.Catalog.{Records, Listed, catalog_of_record}
 use Rattle.store_terms.specs.Places.{bytes_of, extents_listed, all_apart}
 use Rattle.store_terms.specs.declared.root.Root.{Root}
@@ -22,17 +22,17 @@ use Rattle.store_terms.specs.Spelled.{Spells, TilesAre, LayerIs, LayersAre, Spel
 use Rattle.store_terms.proofs.Accepting.{names_of, may_follow_stands}
 
 -- a record that is placed, and what it spells
-spelled : {A : Type 0} (place form : Damage) (file : List ℕ) (e : Extent) (read : List ℕ → Option A) (value : A) → Spells file e read value → (placed_bytes place file e >>= λ bytes. or_fault form (read bytes)) ≡ Ok value
+spelled : {A : Type 0} (place form : Damage) (file : List ℕ) (e : RecordExtent) (read : List ℕ → Option A) (value : A) → Spells file e read value → (placed_bytes place file e >>= λ bytes. or_fault form (read bytes)) ≡ Ok value
 spelled place form file e read value spells =
     ap (λ b. cond b (Ok (bytes_of file e)) (Err place) >>= λ bytes. or_fault form (read bytes)) spells.placed ∙ ap (or_fault form) spells.is
 
 -- the same with what comes behind
-spelled_then : {A B : Type 0} (place form : Damage) (file : List ℕ) (e : Extent) (read : List ℕ → Option A) (value : A) (next : A → Result B Damage) → Spells file e read value
+spelled_then : {A B : Type 0} (place form : Damage) (file : List ℕ) (e : RecordExtent) (read : List ℕ → Option A) (value : A) (next : A → Result B Damage) → Spells file e read value
     → (placed_bytes place file e >>= λ bytes. or_fault form (read bytes) >>= next) ≡ next value
 spelled_then place form file e read value next spells =
     ap (λ b. cond b (Ok (bytes_of file e)) (Err place) >>= λ bytes. or_fault form (read bytes) >>= next) spells.placed ∙ ap (λ o. or_fault form o >>= next) spells.is
 
-tiles_spelled : (file : List ℕ) (name : Name) (k : ℕ) (es : List (Option Extent)) (tiles : List Finished) → TilesAre file name k es tiles → tiles_of file name k es ≡ Ok tiles
+tiles_spelled : (file : List ℕ) (name : Name) (k : ℕ) (es : List (Option RecordExtent)) (tiles : List Finished) → TilesAre file name k es tiles → tiles_of file name k es ≡ Ok tiles
 tiles_spelled file name k [] tiles are = ap Ok (sym are)
 tiles_spelled file name k (None ∷ es) tiles are = tiles_spelled file name (k + 1) es tiles are
 tiles_spelled file name k (Some e ∷ es) tiles are =

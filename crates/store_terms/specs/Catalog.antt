@@ -2,17 +2,17 @@
 use Rattle.std.specs.Prelude.{ℕ, ◌⊎◌, List, Option}
 use Rattle.overlay_terms.specs.Column.{column_count}
 use Rattle.overlay_terms.specs.Layers.{Name}
-use Rattle.store_terms.specs.declared.root.Extent.{Extent}
+use Rattle.store_terms.specs.declared.root.RecordExtent.{RecordExtent}
 use Rattle.store_terms.specs.Fields.{Field, number, both, made, repeated, counted, whole}
 use Rattle.store_terms.specs.Choices.{either, optional}
 
 -- the first block of a record, then how many bytes it has
-abbrev pub extent : Field Extent
+abbrev pub extent : Field RecordExtent
 extent = made (λ p. record { block = p.0; size = p.1 }) (λ e. (e.block, e.size)) (both (number 8) (number 4))
 
 -- the record of a base layer; or that of a definition, and by column of each finished tile
 abbrev pub Records : Type 0
-Records = Extent ⊎ Extent × List (Option Extent)
+Records = RecordExtent ⊎ RecordExtent × List (Option RecordExtent)
 
 -- the name of a layer, and its records
 pub record Listed : Type 0 where

@@ -2,24 +2,24 @@
 use Rattle.std.specs.Prelude.{◌≡◌, ℕ, List, [], ◌∷◌, Result, Ok, Err}
 use Rattle.std.specs.List.{AllByRecursion}
 use Rattle.store_terms.specs.declared.damage.Damage.{Damage}
-use Rattle.store_terms.specs.declared.root.Extent.{Extent}
+use Rattle.store_terms.specs.declared.root.RecordExtent.{RecordExtent}
 use Rattle.store_terms.specs.Catalog.{Listed}
 use Rattle.store_terms.specs.Places.{bytes_of, is_placed, extents_listed}
 use Rattle.store_terms.specs.declared.root.Root.{Root}
 use Rattle.store_terms.specs.Image.{listing_of, held_of}
 
 -- two files have the same bytes in an extent, which lies in both or in neither
-pub record IsSameAt (old new : List ℕ) (e : Extent) : Type 0 where
+pub record IsSameAt (old new : List ℕ) (e : RecordExtent) : Type 0 where
   pub bytes : bytes_of new e ≡ bytes_of old e
   pub placed : is_placed new e ≡ is_placed old e
 
 -- the extents of a catalog
-abbrev pub listed_extents : Result (List Listed) Damage → List Extent
+abbrev pub listed_extents : Result (List Listed) Damage → List RecordExtent
 listed_extents (Ok listing) = extents_listed listing
 listed_extents (Err fault) = []
 
 -- the extents that a root names, its catalog first
-abbrev pub extents_of : List ℕ → Root → List Extent
+abbrev pub extents_of : List ℕ → Root → List RecordExtent
 extents_of file r = r.catalog ∷ listed_extents (listing_of file r)
 
 -- a file that is the same in the extents of a root holds the same for it, whatever stands elsewhere

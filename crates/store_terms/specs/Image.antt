@@ -10,7 +10,7 @@ use Rattle.store_terms.specs.declared.damage.Damage.TheVariants.{CatalogPlace, C
 use Rattle.store_terms.specs.BaseRecord.{base_of_record}
 use Rattle.store_terms.specs.DefinitionRecord.{definition_of_record}
 use Rattle.store_terms.specs.TileRecord.{tile_of_record}
-use Rattle.store_terms.specs.declared.root.Extent.{Extent}
+use Rattle.store_terms.specs.declared.root.RecordExtent.{RecordExtent}
 use Rattle.store_terms.specs.Catalog.{Records, Listed, catalog_of_record}
 use Rattle.store_terms.specs.Places.{bytes_of, is_placed, extents_listed, all_apart}
 use Rattle.store_terms.specs.declared.root.Root.{Root}
@@ -26,7 +26,7 @@ or_fault fault None = Err fault
 or_fault fault (Some x) = Ok x
 
 -- the bytes of a record that is placed
-abbrev pub placed_bytes : Damage → List ℕ → Extent → Result (List ℕ) Damage
+abbrev pub placed_bytes : Damage → List ℕ → RecordExtent → Result (List ℕ) Damage
 placed_bytes fault file e = if is_placed file e then Ok (bytes_of file e) else Err fault
 
 -- ---- layers and their tiles
@@ -48,7 +48,7 @@ abbrev pub with_layer : List Layer → Name → Content → Result (List Layer) 
 with_layer known name content = if may_stand known name content then Ok (known ++ record { name = name; content = content } ∷ []) else Err LayerRefused
 
 -- the tiles of a layer, from a column on
-abbrev pub tiles_of : List ℕ → Name → ℕ → List (Option Extent) → Result (List Finished) Damage
+abbrev pub tiles_of : List ℕ → Name → ℕ → List (Option RecordExtent) → Result (List Finished) Damage
 tiles_of file name k [] = Ok []
 tiles_of file name k (None ∷ rest) = tiles_of file name (k + 1) rest
 tiles_of file name k (Some e ∷ rest) =

@@ -44,17 +44,17 @@ slot file k =
     else Ok None
 
 -- the root with the greater sequence
-abbrev pub newest : Option Root → Option Root → Result Root Damage
-newest None None = Err NotAStore
-newest (Some a) None = Ok a
-newest None (Some b) = Ok b
-newest (Some a) (Some b) = if nat_lt b.sequence a.sequence then Ok a else Ok b
+abbrev pub newer_root : Option Root → Option Root → Result Root Damage
+newer_root None None = Err NotAStore
+newer_root (Some a) None = Ok a
+newer_root None (Some b) = Ok b
+newer_root (Some a) (Some b) = if nat_lt b.sequence a.sequence then Ok a else Ok b
 
 -- the root of a file: both slots are ours, then the numbers of the one and of the other are right, then the newer is taken
 unfoldable pub root_of : List ℕ → Result Root Damage
 root_of file =
     if nat_lt (length file) (block_size * 2) || (is_foreign file 0 || is_foreign file 1) then Err NotAStore
-    else (slot file 0 >>= λ a. slot file 1 >>= λ b. newest a b)
+    else (slot file 0 >>= λ a. slot file 1 >>= λ b. newer_root a b)
 
 -- what opening the file gives
 abbrev pub reading : List ℕ → Result Held Damage

@@ -2,7 +2,7 @@
 
 /// Where a record lies: its first block, and how many bytes it has.
 #[derive(Clone, Copy, PartialEq, Eq)]
-pub struct Extent {
+pub struct RecordExtent {
     pub block: u64,
     pub size: u32,
 }
@@ -12,7 +12,7 @@ pub struct Extent {
 pub struct Root {
     pub sequence: u64,
     pub version: u64,
-    pub catalog: Extent,
+    pub catalog: RecordExtent,
 }
 
 /// What the body of a slot says, whether it is ours or not.

@@ -1,6 +1,6 @@
 //! A disk that passes so many calls on, and then fails each.
 ghost use Rattle.std.specs.Prelude.{◌≡◌, ◌↔◌, ◌+◌, ◌-◌, ◌<◌, ◌≤◌, length, IfOk, OnOk, OnErr, IsErr};
-ghost use Rattle.disk_model.specs.Disk.{part, Holds, Torn, Follows, Fewer, Only, Elapses, CountsFailure};
+ghost use Rattle.disk_model.specs.Disk.{part, Holds, Torn, OneStepOn, Fewer, Only, Elapses, CountsFailure};
 
 use crate::passing::refuse;
 use disk_model::disk::Disk;
@@ -130,7 +130,7 @@ impl<D: Disk> Disk for StopDisk<D> {
         ensures others { D.is_honest (below_of self.old)
             → Torn at (length bytes.now) (D.seen (below_of self.old)) (D.seen (below_of self.new)) }
         ensures crash { D.is_honest (below_of self.old)
-            → Follows (Torn at (length bytes.now)) (D.may_leave (below_of self.old)) (D.may_leave (below_of self.new)) }
+            → OneStepOn (Torn at (length bytes.now)) (D.may_leave (below_of self.old)) (D.may_leave (below_of self.new)) }
         ensures time { D.is_honest (below_of self.old)
             → Elapses (D.moment (below_of self.old)) (D.moment (below_of self.new))
             (D.left_since (below_of self.old)) (D.left_since (below_of self.new)) (D.may_leave (below_of self.new)) }

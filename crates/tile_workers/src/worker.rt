@@ -7,8 +7,8 @@ use std::sync::Wait;
 use std::thread;
 use tile_build::built::Built;
 use version_book::job::Job;
+use version_book::seen_log::Naming;
 use version_book::shared::Shared;
-use version_book::trace::Naming;
 
 /// Builds tiles until the book closes. Where a tile is not handed out for want of memory (40), it asks again; where
 /// memory runs out later, it gives the tile back.

@@ -7,7 +7,7 @@ use Rattle.overlay_terms.specs.Histories.{Version, Entry, accepted, commands_of,
 use Rattle.book_history.specs.Logs.{entry, newest_in, history_of, IsAccepted, IsLog}
 use Rattle.book_history.specs.Fault.{IfGone, IsRefused}
 use Rattle.book_history.specs.Known.{Known, seen, IsOwn}
-use Rattle.book_desk.specs.Steps.{HasLooked, IsReportedIn}
+use Rattle.book_lock.specs.Steps.{HasLooked, IsReportedIn}
 use Rattle.version_book.specs.Heard.{Heard, HasHeard, IsReportedBy}
 use Rattle.version_book.specs.Waits.{IsSyncRefused, IsSyncRefusedAt, IsWaitRefused, Looks}
 use Rattle.book_history.specs.declared.standing.Standing.{Standing}
@@ -16,7 +16,7 @@ use Rattle.book_history.specs.declared.fault.BookFault.TheVariants as fault
 use Rattle.book_history.proofs.Chains.{begins_with, commands_in_log, is_history}
 use Rattle.book_history.proofs.Fronts.{prefix_self, prefix_trans}
 use Rattle.book_history.proofs.Gone.{gone_or, gone_map}
-use Rattle.book_desk.proofs.Growing.{report_longer, report_reaches}
+use Rattle.book_lock.proofs.Growing.{report_longer, report_reaches}
 
 -- a log that goes on by some entries is that of a history that does
 history_more : (was old new : List Entry) (e : Entry) (p : IsPrefix was old) → 0 < length was → new ≡ old ++ e ∷ []

@@ -12,11 +12,11 @@ use Rattle.book_history.specs.Free.{IsFree}
 use Rattle.book_history.specs.Known.{Known}
 use Rattle.book_history.specs.Logs.{newest_in, IsLog}
 use Rattle.book_history.specs.Trails.{Trail}
-use Rattle.book_history.specs.declared.slots.Slot.{Slot}
+use Rattle.book_history.specs.declared.held_tiles.HeldTile.{HeldTile}
 use Rattle.book_history.specs.declared.standing.Standing.{Standing}
 use Rattle.book_history.specs.declared.fault.BookFault.{BookFault}
 use Rattle.book_history.specs.declared.fault.BookFault.TheVariants as fault
-use Rattle.book_desk.specs.Steps.{HasLooked}
+use Rattle.book_lock.specs.Steps.{HasLooked}
 use Rattle.version_book.specs.Heard.{Heard}
 use Rattle.version_book.specs.Jobs.{IsHandedOut, IsJob}
 use Rattle.version_book.specs.Waits.{IsAfterTold, Looks}
@@ -127,18 +127,18 @@ on_err (Err f) b P is so p = p
 
 -- ---- of a tile that is handed out
 -- what is made of a tile that is free in the newest version of a log is a job
-pub job_of : (book : Book) (log now : List Entry) (name tile : Name) (column : ℕ) (input : Input) (slots : List Slot)
-    → now ≡ log → IsLog log → name ≡ tile → input ≡ input_of (newest_in log).layers tile column → IsFree (newest_in log) slots tile column
+pub job_of : (book : Book) (log now : List Entry) (name tile : Name) (column : ℕ) (input : Input) (held : List HeldTile)
+    → now ≡ log → IsLog log → name ≡ tile → input ≡ input_of (newest_in log).layers tile column → IsFree (newest_in log) held tile column
     → IsJob (record { book = book; log = now; name = name; input = input })
-job_of book log now name tile column input slots is valid named present free =
+job_of book log now name tile column input held is valid named present free =
     let there : IsJob (record { book = book; log = log; name = tile; input = input_of (newest_in log).layers tile column }) =
     record { valid = valid; pending = free.pending; present = refl } in
     subst (λ l. IsJob (record { book = book; log = l; name = name; input = input })) (sym is)
     (subst (λ n. IsJob (record { book = book; log = log; name = n; input = input })) (sym named)
     (subst (λ i. IsJob (record { book = book; log = log; name = tile; input = i })) (sym present) there))
 
-pub handed_of : (v : Version) (slots : List Slot) (name tile : Name) (column : ℕ) (input : Input)
-    → name ≡ tile → input ≡ input_of v.layers tile column → IsFree v slots tile column → IsHandedOut v slots name input
-handed_of v slots name tile column input named present free =
-    let there : IsHandedOut v slots tile (input_of v.layers tile column) = record { pending = free.pending; free = free.free; present = refl } in
-    subst (λ n. IsHandedOut v slots n input) (sym named) (subst (λ i. IsHandedOut v slots tile i) (sym present) there)
+pub handed_of : (v : Version) (held : List HeldTile) (name tile : Name) (column : ℕ) (input : Input)
+    → name ≡ tile → input ≡ input_of v.layers tile column → IsFree v held tile column → IsHandedOut v held name input
+handed_of v held name tile column input named present free =
+    let there : IsHandedOut v held tile (input_of v.layers tile column) = record { pending = free.pending; free = free.free; present = refl } in
+    subst (λ n. IsHandedOut v held n input) (sym named) (subst (λ i. IsHandedOut v held tile i) (sym present) there)

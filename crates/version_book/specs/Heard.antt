@@ -6,7 +6,7 @@ use Rattle.logbook.specs.Pages.{Book, book_coded}
 use Rattle.overlay_terms.specs.Histories.{Entry}
 use Rattle.book_history.specs.Codes.{entry_code}
 use Rattle.book_history.specs.Logs.{newest_in}
-use Rattle.book_desk.specs.Steps.{IsReportedIn}
+use Rattle.book_lock.specs.Steps.{IsReportedIn}
 
 -- which book it is of, the log that it has seen, and the count of the news that it gave last
 pub record Heard : Type 0 where

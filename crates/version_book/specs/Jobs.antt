@@ -9,8 +9,8 @@ use Rattle.overlay_terms.specs.Tiles.{Input, input_of}
 use Rattle.version_core.specs.Finish.{IsPending}
 use Rattle.book_history.specs.Codes.{entry_code, name_code}
 use Rattle.book_history.specs.Logs.{newest_in, IsLog}
-use Rattle.book_history.specs.Slots.{has_slot}
-use Rattle.book_history.specs.declared.slots.Slot.{Slot}
+use Rattle.book_history.specs.HeldTiles.{is_held}
+use Rattle.book_history.specs.declared.held_tiles.HeldTile.{HeldTile}
 
 -- which book a job is of, the log at which it was handed out, the name of its layer, and what its tile is built from
 pub record Handed : Type 0 where
@@ -31,7 +31,7 @@ handed_code =
     code_by (Book × (List Entry × (Name × Input))) (coded× book_coded (coded× (coded_list entry_code) (coded× name_code input_code))) (λ j. (j.book, (j.log, (j.name, j.input)))) (λ p. record { book = p.0; log = p.1.0; name = p.1.1.0; input = p.1.1.1 }) (λ _. refl)
 
 -- a tile can be handed out: it is pending, it is neither handed out nor marked, and this is its present input
-pub record IsHandedOut (version : Version) (slots : List Slot) (name : Name) (input : Input) : Type 0 where
+pub record IsHandedOut (version : Version) (held : List HeldTile) (name : Name) (input : Input) : Type 0 where
   pub pending : IsPending version name input.column
-  pub free : has_slot name input.column slots ≡ false
+  pub free : is_held name input.column held ≡ false
   pub present : input ≡ input_of version.layers name input.column

@@ -1,7 +1,7 @@
 pub mod Heard
 pub mod Jobs
 pub mod Waits
-pub use Rattle.book_desk.specs.Steps
+pub use Rattle.book_lock.specs.Steps
 pub use Rattle.book_history.specs.Fault
 pub use Rattle.book_history.specs.Known
 pub use Rattle.book_history.specs.Logs

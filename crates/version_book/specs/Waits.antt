@@ -10,21 +10,21 @@ use Rattle.book_history.specs.declared.fault.BookFault.TheVariants as fault
 use Rattle.book_history.specs.Fault.{IfGone}
 use Rattle.book_history.specs.Free.{AllAreHeld}
 use Rattle.book_history.specs.Known.{Known}
-use Rattle.book_history.specs.Slots.{has_mark, unmarked_of}
-use Rattle.book_history.specs.Standing.{HasSlots}
+use Rattle.book_history.specs.HeldTiles.{has_mark, unmarked_of}
+use Rattle.book_history.specs.Standing.{HasHeld}
 use Rattle.book_history.specs.declared.standing.Standing.{Standing}
-use Rattle.book_desk.specs.Steps.{HasLooked}
+use Rattle.book_lock.specs.Steps.{HasLooked}
 
 -- a worker waits on: the book is open, and no tile can be handed out
 pub record IsIdle (version : Version) (standing : Standing) : Type 0 where
   pub not_closing : standing.closing ≡ false
-  pub held : AllAreHeld version standing.slots.list.items
+  pub held : AllAreHeld version standing.held.list.items
 
 -- a wait for the tiles of a layer goes on: tiles can be asked for, one is pending, none is marked, and the book is open
 pub record IsBuilding (version : Version) (standing : Standing) (name : Name) : Type 0 where
   pub derived : wait_refusal version name ≡ None
   pub pending : ¬ (IsBuilt version name)
-  pub unmarked : has_mark name standing.slots.list.items ≡ false
+  pub unmarked : has_mark name standing.held.list.items ≡ false
   pub not_closing : standing.closing ≡ false
 
 -- a wait for a durable number goes on: there is a store, it is not so far, it told no fault, and the book is open
@@ -85,7 +85,7 @@ Looks (Err fault) was log now = IfGone fault (now ≡ was) (HasLooked was log no
 -- the marks of a layer, of which there are some, go
 abbrev pub LosesMarks : Standing → Name → Standing → Type 0
 LosesMarks old name new =
-    (has_mark name old.slots.list.items ≡ true) × HasSlots old (unmarked_of name old.slots.list.items) new
+    (has_mark name old.held.list.items ≡ true) × HasHeld old (unmarked_of name old.held.list.items) new
 
 -- a wait for the tiles of a layer was told how it ends: its marks go where memory ran out, and else nothing changes;
 -- there are no marks where it ends by closing
@@ -93,7 +93,7 @@ abbrev pub IsAfterTold : Version → Standing → Name → Result ℕ BookFault 
 IsAfterTold version old name (Ok number) new = new ≡ old
 IsAfterTold version old name (Err (fault.Version refused)) new =
     IfSome (wait_refusal version name) (λ _. new ≡ old) × IfNone (wait_refusal version name) (LosesMarks old name new)
-IsAfterTold version old name (Err fault.Closing) new = (new ≡ old) × (has_mark name old.slots.list.items ≡ false)
+IsAfterTold version old name (Err fault.Closing) new = (new ≡ old) × (has_mark name old.held.list.items ≡ false)
 IsAfterTold version old name (Err fault.Gone) new = new ≡ old
 IsAfterTold version old name (Err fault.NoStore) new = new ≡ old
 IsAfterTold version old name (Err (fault.Store refused)) new = new ≡ old

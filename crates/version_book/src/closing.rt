@@ -3,63 +3,63 @@ ghost use Rattle.std.specs.Prelude.{◌≡◌, ◌≤◌, All, IsTrue};
 ghost use Rattle.std.specs.Arc.{arc_value};
 ghost use Rattle.book_history.specs.Logs.{newest_in, IsLog};
 ghost use Rattle.book_history.specs.Standing.{IsAfterClosing};
-ghost use Rattle.book_desk.specs.Steps.{HasAllOf, IsLevel};
+ghost use Rattle.book_lock.specs.Steps.{HasAllOf, IsLevel};
 ghost use Rattle.version_book.specs.Heard.{HasHeard};
 
+use crate::locked_book::LockedBook;
 use crate::reporter::Reporter;
-use crate::shelf::Shelf;
-pub use book_desk::closed::Closed;
-use book_desk::desk::Desk;
-use book_desk::session::Session;
-use book_history::trace::Naming;
+use book_history::seen_log::Naming;
+pub use book_lock::closed::Closed;
+use book_lock::locked_log::LockedLog;
+use book_lock::session::Session;
 use std::sync::Wait;
 
 /// The book closes from now on.
-pub(crate) fn begin_close<J: Naming, R: Wait + Drop>(shelf: &mut Shelf<J, R>)
-    ensures log { shelf.new.desk ≡ shelf.old.desk }
-    ensures standing { IsAfterClosing shelf.old.standing shelf.new.standing }
+pub(crate) fn begin_close<J: Naming, R: Wait + Drop>(locked: &mut LockedBook<J, R>)
+    ensures log { locked.new.log ≡ locked.old.log }
+    ensures standing { IsAfterClosing locked.old.standing locked.new.standing }
 {
-    shelf.standing.begin_close();
+    locked.standing.begin_close();
 }
 
 /// Whether the log has all that the reporter and some sessions have seen, no durable number that the reporter did not
 /// report, and of each session's commands just those that it made.
 pub(crate) fn has_all_of<J: Naming, R: Wait + Drop>(
-    shelf: &Shelf<J, R>,
+    locked: &LockedBook<J, R>,
     reporter: &Reporter,
     sessions: &[Session],
 ) -> bool
     requires reporter { reporter.now.book ≡ J.book }
     requires sessions { All (λ session. session.book ≡ J.book) sessions.now }
-    ensures reporter { IsTrue result → HasHeard shelf.now.desk reporter.now }
-    ensures sessions { IsTrue result → All (λ session. HasAllOf shelf.now.desk session) sessions.now }
-    ensures level { HasHeard shelf.now.desk reporter.now
-        → All (λ session. IsLevel shelf.now.desk session) sessions.now → IsTrue result }
+    ensures reporter { IsTrue result → HasHeard locked.now.log reporter.now }
+    ensures sessions { IsTrue result → All (λ session. HasAllOf locked.now.log session) sessions.now }
+    ensures level { HasHeard locked.now.log reporter.now
+        → All (λ session. IsLevel locked.now.log session) sessions.now → IsTrue result }
 {
-    let last = shelf.desk.last();
-    reporter.is_level(&last.trace, last.version.durable()) && has_all_of_each(&shelf.desk, sessions)
+    let last = locked.log.last();
+    reporter.is_level(&last.trace, last.version.durable()) && has_all_of_each(&locked.log, sessions)
 }
 
 /// The newest version and the log. It waits for the readers.
-pub(crate) fn into_closed<J: Naming, R: Wait + Drop>(shelf: Shelf<J, R>) -> Closed
+pub(crate) fn into_closed<J: Naming, R: Wait + Drop>(locked: LockedBook<J, R>) -> Closed
     ensures version { arc_value result.version ≡ newest_in result.trace.log }
-    ensures log { (result.trace ≡ record { book = J.book; log = shelf.desk }) × IsLog result.trace.log }
+    ensures log { (result.trace ≡ record { book = J.book; log = locked.log }) × IsLog result.trace.log }
     ensures durable { All (λ entry. entry.version.durable ≤ (newest_in result.trace.log).durable) result.trace.log }
 {
-    let Shelf {
-        desk,
+    let LockedBook {
+        log,
         standing: _standing,
-    } = shelf;
-    desk.into_closed()
+    } = locked;
+    log.into_closed()
 }
 
-fn has_all_of_each<J: Naming, R: Wait + Drop>(desk: &Desk<J, R>, sessions: &[Session]) -> bool
+fn has_all_of_each<J: Naming, R: Wait + Drop>(log: &LockedLog<J, R>, sessions: &[Session]) -> bool
     requires { All (λ session. session.book ≡ J.book) sessions.now }
-    ensures all { IsTrue result → All (λ session. HasAllOf desk.now session) sessions.now }
-    ensures level { All (λ session. IsLevel desk.now session) sessions.now → IsTrue result }
+    ensures all { IsTrue result → All (λ session. HasAllOf log.now session) sessions.now }
+    ensures level { All (λ session. IsLevel log.now session) sessions.now → IsTrue result }
 {
     for session in sessions {
-        if !desk.is_level(session) {
+        if !log.is_level(session) {
             return false;
         }
     }

@@ -1,7 +1,7 @@
 //! Sessions, and the book under its lock, go to threads.
 use crate::shared::Shared;
-use book_desk::session::Session;
-use book_history::trace::Naming;
+use book_history::seen_log::Naming;
+use book_lock::session::Session;
 use std::sync::Wait;
 
 fn goes<T: Send>() {}

@@ -3,27 +3,27 @@
 
 pub mod closing;
 pub mod crossing;
+mod locked_book;
 pub mod reporter;
 pub mod shared;
-mod shelf;
 mod telling;
 
 /// A tile that is handed out.
 pub mod job {
-    pub use crate::shelf::job::Job;
+    pub use crate::locked_book::job::Job;
 }
 
 /// Why a call on the book is refused.
 pub mod fault {
-    pub use book_history::fault::{BookFault, StoreFault, StoreText, Text};
+    pub use book_history::fault::{BookFault, StoreText, Text, ToldFault};
 }
 
 /// A session: what it has seen and made.
 pub mod session {
-    pub use book_desk::session::Session;
+    pub use book_lock::session::Session;
 }
 
 /// A beginning of the history that was seen.
-pub mod trace {
-    pub use book_history::trace::{Add, Begin, Head, Law, Naming, Nothing, Trace, open};
+pub mod seen_log {
+    pub use book_history::seen_log::{Add, Head, Law, Naming, Nothing, OpensLog, SeenLog, open};
 }

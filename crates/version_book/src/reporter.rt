@@ -4,14 +4,14 @@ ghost use mathlib.Core.List.{IsPrefix};
 ghost use Rattle.book_history.specs.Logs.{newest_in, IsLog};
 ghost use Rattle.version_book.specs.Heard.{HasHeard};
 
-use book_history::trace::Trace;
+use book_history::seen_log::SeenLog;
 use std::marker::Model;
 
 /// The one token that may report durable numbers: what it has seen, the durable number there, and which news it gave
 /// last.
 #[derive(Drop)]
 pub struct Reporter {
-    trace: Trace,
+    trace: SeenLog,
     durable: u64,
     given: u64,
 }
@@ -32,7 +32,7 @@ impl Model for Reporter {
 
 impl Reporter {
     /// A reporter that has seen this, where so much is durable, and gave nothing.
-    pub(crate) fn new(trace: Trace, durable: u64) -> Reporter
+    pub(crate) fn new(trace: SeenLog, durable: u64) -> Reporter
         requires { (newest_in trace.log).durable ≡ durable }
         ensures { result ≡ record { book = trace.book; log = trace.log; given = 0 } }
     {
@@ -54,7 +54,7 @@ impl Reporter {
     }
 
     /// Whether a log, where so much is durable, has all that it has seen, and no durable number that it did not report.
-    pub(crate) fn is_level(&self, now: &Trace, durable: u64) -> bool
+    pub(crate) fn is_level(&self, now: &SeenLog, durable: u64) -> bool
         requires book { now.now.book ≡ self.now.book }
         requires durable { (newest_in now.now.log).durable ≡ durable }
         ensures { IsTrue result ↔ HasHeard now.now.log self.now }
@@ -64,7 +64,7 @@ impl Reporter {
     }
 
     /// Sees a longer log, where so much is durable, with the count of news that it gives with it.
-    pub(crate) fn move_on(&mut self, to: &Trace, durable: u64, given: u64)
+    pub(crate) fn move_on(&mut self, to: &SeenLog, durable: u64, given: u64)
         requires durable { (newest_in to.now.log).durable ≡ durable }
         requires book { to.now.book ≡ self.old.book }
         requires longer { IsPrefix self.old.log to.now.log }

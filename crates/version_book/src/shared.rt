@@ -8,24 +8,24 @@ ghost use Rattle.book_history.specs.Fault.{IfGone, IsRefused, no_memory};
 ghost use Rattle.book_history.specs.Known.{seen, IsOwn};
 ghost use Rattle.book_history.specs.Logs.{entry, history_of, newest_in, no_event, IsAccepted, IsLog};
 ghost use Rattle.book_history.specs.Rules.{head_of};
-ghost use Rattle.book_desk.specs.Steps.{beginners, HasAllOf};
+ghost use Rattle.book_lock.specs.Steps.{beginners, HasAllOf};
 ghost use Rattle.version_book.specs.Heard.{HasHeard, IsReportedBy};
 ghost use Rattle.version_book.specs.Jobs.{IsJob};
 ghost use Rattle.version_book.specs.Waits.{IsBuiltAt, IsSyncRefused, IsWaitRefused};
 
 use crate::closing::{Closed, begin_close, has_all_of, into_closed};
 use crate::job::Job;
+use crate::locked_book::LockedBook;
 use crate::reporter::Reporter;
-use crate::shelf::Shelf;
 use crate::telling::{
     is_building, is_idle, is_quiet, is_writing, report, store_failed, tell_built, tell_durable,
     tell_news,
 };
-use book_desk::desk::Desk;
-use book_desk::session::Session;
-use book_history::fault::{BookFault, StoreFault};
+use book_history::fault::{BookFault, ToldFault};
+use book_history::seen_log::{Head, Naming, SeenLog};
 use book_history::standing::Standing;
-use book_history::trace::{Head, Naming, Trace};
+use book_lock::locked_log::LockedLog;
+use book_lock::session::Session;
 use layer_book::command::Command;
 use layer_expr::name::Name;
 use std::alloc::Global;
@@ -35,7 +35,7 @@ use version_core::version::Version;
 
 /// The book under its lock.
 pub struct Shared<J: Naming, R: Wait + Drop> {
-    shelf: Mutex<Shelf<J, R>>,
+    locked: Mutex<LockedBook<J, R>>,
     changed: Condvar,
 }
 
@@ -45,7 +45,7 @@ impl<J: Naming, R: Wait + Drop> Shared<J, R> {
         rt: R,
         alloc: Global,
         head: Head,
-        trace: Trace,
+        trace: SeenLog,
         version: Version,
         store: bool,
         sessions: usize,
@@ -61,10 +61,10 @@ impl<J: Naming, R: Wait + Drop> Shared<J, R> {
         ensures err { IfErr result (λ fault. (fault ≡ no_memory) ⊎ (fault ≡ BookFault.Gone)) }
     {
         let reporter = Reporter::new(trace.again(), version.durable());
-        let (desk, list) = Desk::open(rt, alloc, head, trace, version, sessions)?;
+        let (log, list) = LockedLog::open(rt, alloc, head, trace, version, sessions)?;
         let standing = Standing::new(alloc, store);
         let shared = Shared {
-            shelf: Mutex::new(Shelf { desk, standing }),
+            locked: Mutex::new(LockedBook { log, standing }),
             changed: Condvar::new(),
         };
         Ok((shared, reporter, list))
@@ -90,8 +90,8 @@ impl<J: Naming, R: Wait + Drop> Shared<J, R> {
         ensures same { (me.new.book ≡ me.old.book) × (me.new.session ≡ me.old.session) }
     {
         let _number = me.number();
-        let mut shelf = self.shelf.lock(rt);
-        let done = shelf.submit(alloc, me, change);
+        let mut locked = self.locked.lock(rt);
+        let done = locked.submit(alloc, me, change);
         self.changed.notify_all();
         done
     }
@@ -102,10 +102,10 @@ impl<J: Naming, R: Wait + Drop> Shared<J, R> {
         ensures job { IfOk result (λ o. IfSome o (λ job. IsJob job)) }
         ensures err { IfErr result (λ fault. fault ≡ no_memory) }
     {
-        let mut shelf = self
+        let mut locked = self
             .changed
-            .wait_while(rt, self.shelf.lock(rt), |shelf| is_idle(shelf));
-        shelf.take(alloc)
+            .wait_while(rt, self.locked.lock(rt), |locked| is_idle(locked));
+        locked.take(alloc)
     }
 
     /// Spends a job with the tile that was built of its input, and says whether it was kept. Where that cannot be
@@ -122,20 +122,20 @@ impl<J: Naming, R: Wait + Drop> Shared<J, R> {
         ensures err { IfErr result (λ e. (e.0 ≡ job) × (e.1 ≡ built)) }
         ensures refused { IfErr result (λ e. (e.2 ≡ no_memory) ⊎ (e.2 ≡ BookFault.Gone)) }
     {
-        let mut shelf = self.shelf.lock(rt);
-        let done = shelf.finish(alloc, job, built);
+        let mut locked = self.locked.lock(rt);
+        let done = locked.finish(alloc, job, built);
         self.changed.notify_all();
         done
     }
 
     /// Spends a job whose tile could not be built for want of memory: the tile is marked.
     // It has no clause, as nothing of what lies under the lock can be said once that is given up. But a job can be let
-    // go by the lock's methods alone, and `Shelf::give_back` says what it does to the tile.
+    // go by the lock's methods alone, and `LockedBook::give_back` says what it does to the tile.
     pub fn give_back<W: Wait>(&self, rt: &W, job: Job)
         requires { job.book ≡ J.book }
     {
-        let mut shelf = self.shelf.lock(rt);
-        shelf.give_back(job);
+        let mut locked = self.locked.lock(rt);
+        locked.give_back(job);
         self.changed.notify_all();
     }
 
@@ -156,10 +156,12 @@ impl<J: Naming, R: Wait + Drop> Shared<J, R> {
         ensures same { (me.new.book ≡ me.old.book) × (me.new.session ≡ me.old.session) × (me.new.made ≡ me.old.made) }
     {
         let _number = me.number();
-        let mut shelf = self
-            .changed
-            .wait_while(rt, self.shelf.lock(rt), |shelf| is_building(shelf, name));
-        let told = tell_built(&mut shelf, me, name);
+        let mut locked = self.changed.wait_while(
+            rt,
+            self.locked.lock(rt),
+            |locked| is_building(locked, name),
+        );
+        let told = tell_built(&mut locked, me, name);
         self.changed.notify_all();
         told
     }
@@ -178,10 +180,12 @@ impl<J: Naming, R: Wait + Drop> Shared<J, R> {
     {
         let _number = me.number();
         let number = me.newest();
-        let shelf = self
-            .changed
-            .wait_while(rt, self.shelf.lock(rt), |shelf| is_writing(shelf, number));
-        tell_durable(&shelf, me, number)
+        let locked = self.changed.wait_while(
+            rt,
+            self.locked.lock(rt),
+            |locked| is_writing(locked, number),
+        );
+        tell_durable(&locked, me, number)
     }
 
     /// Gives the reporter the newest version once there are commands or kept tiles that it was not
@@ -203,10 +207,10 @@ impl<J: Naming, R: Wait + Drop> Shared<J, R> {
         ensures same { me.new.book ≡ me.old.book }
     {
         let given = me.given();
-        let shelf = self
+        let locked = self
             .changed
-            .wait_while(rt, self.shelf.lock(rt), |shelf| is_quiet(shelf, given));
-        tell_news(&shelf, me)
+            .wait_while(rt, self.locked.lock(rt), |locked| is_quiet(locked, given));
+        tell_news(&locked, me)
     }
 
     /// Reports a number durable, and answers the durable number then.
@@ -227,28 +231,28 @@ impl<J: Naming, R: Wait + Drop> Shared<J, R> {
         ensures same { (me.new.book ≡ me.old.book) × (me.new.given ≡ me.old.given) }
     {
         let _given = me.given();
-        let mut shelf = self.shelf.lock(rt);
-        let done = report(&mut shelf, alloc, me, number);
+        let mut locked = self.locked.lock(rt);
+        let done = report(&mut locked, alloc, me, number);
         self.changed.notify_all();
         done
     }
 
     /// The store told a fault: the reporter rests until a command is accepted.
-    pub fn store_failed<W: Wait>(&self, rt: &W, me: &mut Reporter, fault: StoreFault)
+    pub fn store_failed<W: Wait>(&self, rt: &W, me: &mut Reporter, fault: ToldFault)
         requires { me.old.book ≡ J.book }
         ensures { me.new ≡ me.old }
     {
         let _given = me.given();
-        let mut shelf = self.shelf.lock(rt);
-        store_failed(&mut shelf, fault);
+        let mut locked = self.locked.lock(rt);
+        store_failed(&mut locked, fault);
         self.changed.notify_all();
     }
 
     /// From now on commands are refused, no job is handed out, and no call waits for long.
     // It has no clause: it gives nothing, and that the book closes is said under the lock, by `begin_close` there.
     pub fn begin_close<W: Wait>(&self, rt: &W) {
-        let mut shelf = self.shelf.lock(rt);
-        begin_close(&mut shelf);
+        let mut locked = self.locked.lock(rt);
+        begin_close(&mut locked);
         self.changed.notify_all();
     }
 
@@ -264,14 +268,14 @@ impl<J: Naming, R: Wait + Drop> Shared<J, R> {
         ensures durable { All (λ entry. entry.version.durable ≤ (newest_in result.trace.log).durable) result.trace.log }
     {
         let Shared {
-            shelf,
+            locked,
             changed: _changed,
         } = self;
-        let shelf = shelf.into_inner();
-        if !has_all_of(&shelf, reporter, sessions) {
+        let locked = locked.into_inner();
+        if !has_all_of(&locked, reporter, sessions) {
             never(rt)
         }
-        into_closed(shelf)
+        into_closed(locked)
     }
 }
 
@@ -284,8 +288,8 @@ fn never<W: Wait>(rt: &W) -> ! {
 /// It waits for the readers.
 impl<J: Naming, R: Wait + Drop> Drop for Shared<J, R> {
     fn drop(self) {
-        let Self { shelf, changed } = self;
-        drop(shelf);
+        let Self { locked, changed } = self;
+        drop(locked);
         drop(changed);
     }
 }

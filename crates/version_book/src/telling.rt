@@ -4,83 +4,83 @@ ghost use Rattle.std.specs.Arc.{arc_value};
 ghost use Rattle.book_history.specs.Fault.{IfGone, no_memory};
 ghost use Rattle.book_history.specs.Logs.{newest_in, IsLog};
 ghost use Rattle.book_history.specs.Standing.{IsAfterFailure};
-ghost use Rattle.book_desk.specs.Steps.{IsLevel, IsReportedIn};
+ghost use Rattle.book_lock.specs.Steps.{IsLevel, IsReportedIn};
 ghost use Rattle.version_book.specs.Heard.{HasHeard};
 ghost use Rattle.version_book.specs.Waits.{IsAfterTold, IsBuilding, IsBuiltAt, IsIdle, IsQuiet, IsSyncRefusedAt};
 ghost use Rattle.version_book.specs.Waits.{IsWaitRefused, IsWriting, Looks};
 
+use crate::locked_book::LockedBook;
 use crate::reporter::Reporter;
-use crate::shelf::Shelf;
-use book_desk::session::Session;
-use book_history::fault::{BookFault, StoreFault};
+use book_history::fault::{BookFault, ToldFault};
 use book_history::making::NO_MEMORY;
-use book_history::trace::Naming;
+use book_history::seen_log::Naming;
+use book_lock::session::Session;
 use layer_expr::name::Name;
 use std::alloc::Global;
 use std::sync::{Arc, Wait};
 use version_core::version::Version;
 
 /// Whether nothing can be handed out, and the book does not close.
-pub(crate) fn is_idle<J: Naming, R: Wait + Drop>(shelf: &Shelf<J, R>) -> bool
-    ensures { IsTrue result ↔ IsIdle (newest_in shelf.now.desk) shelf.now.standing }
+pub(crate) fn is_idle<J: Naming, R: Wait + Drop>(locked: &LockedBook<J, R>) -> bool
+    ensures { IsTrue result ↔ IsIdle (newest_in locked.now.log) locked.now.standing }
 {
-    !shelf.standing.closing && shelf.free().is_none()
+    !locked.standing.closing && locked.free().is_none()
 }
 
 /// Whether a layer's tiles can be waited for, and none of the ends of the wait is there.
-pub(crate) fn is_building<J: Naming, R: Wait + Drop>(shelf: &Shelf<J, R>, name: &Name) -> bool
-    ensures { IsTrue result ↔ IsBuilding (newest_in shelf.now.desk) shelf.now.standing name.now }
+pub(crate) fn is_building<J: Naming, R: Wait + Drop>(locked: &LockedBook<J, R>, name: &Name) -> bool
+    ensures { IsTrue result ↔ IsBuilding (newest_in locked.now.log) locked.now.standing name.now }
 {
-    let version = &shelf.desk.last().version;
+    let version = &locked.log.last().version;
     version.wait_refusal(name).is_none()
         && !version.is_built(name)
-        && !shelf.standing.slots.has_mark(name)
-        && !shelf.standing.closing
+        && !locked.standing.held.has_mark(name)
+        && !locked.standing.closing
 }
 
 /// Whether a version of this number is not yet durable, and none of the other ends of the wait is there.
-pub(crate) fn is_writing<J: Naming, R: Wait + Drop>(shelf: &Shelf<J, R>, number: u64) -> bool
-    ensures { IsTrue result ↔ IsWriting (newest_in shelf.now.desk) shelf.now.standing number }
+pub(crate) fn is_writing<J: Naming, R: Wait + Drop>(locked: &LockedBook<J, R>, number: u64) -> bool
+    ensures { IsTrue result ↔ IsWriting (newest_in locked.now.log) locked.now.standing number }
 {
-    shelf.standing.store
-        && shelf.desk.last().version.durable() < number
-        && shelf.standing.fault.is_none()
-        && !shelf.standing.closing
+    locked.standing.store
+        && locked.log.last().version.durable() < number
+        && locked.standing.fault.is_none()
+        && !locked.standing.closing
 }
 
 /// Whether there are no news for the reporter, or it rests.
-pub(crate) fn is_quiet<J: Naming, R: Wait + Drop>(shelf: &Shelf<J, R>, given: u64) -> bool
-    ensures { IsTrue result ↔ IsQuiet shelf.now.standing given }
+pub(crate) fn is_quiet<J: Naming, R: Wait + Drop>(locked: &LockedBook<J, R>, given: u64) -> bool
+    ensures { IsTrue result ↔ IsQuiet locked.now.standing given }
 {
-    !shelf.standing.closing && (shelf.standing.news == given || shelf.standing.resting)
+    !locked.standing.closing && (locked.standing.news == given || locked.standing.resting)
 }
 
 /// Tells a session how a wait for the tiles of a layer ends. The marks of the layer go where it ends by them.
 pub(crate) fn tell_built<J: Naming, R: Wait + Drop>(
-    shelf: &mut Shelf<J, R>,
+    locked: &mut LockedBook<J, R>,
     me: &mut Session,
     name: &Name,
 ) -> Result<u64, BookFault>
     requires book { me.old.book ≡ J.book }
-    requires ready { ¬ (IsBuilding (newest_in shelf.old.desk) shelf.old.standing name.now) }
-    ensures ok { IfOk result (λ n. IsBuiltAt (newest_in shelf.old.desk) name.now n) }
+    requires ready { ¬ (IsBuilding (newest_in locked.old.log) locked.old.standing name.now) }
+    ensures ok { IfOk result (λ n. IsBuiltAt (newest_in locked.old.log) name.now n) }
     ensures refused { IfErr result
-        (λ fault. IsWaitRefused shelf.old.standing.closing (newest_in shelf.old.desk) name.now fault) }
-    ensures seen { Looks result me.old shelf.old.desk me.new }
-    ensures gone { IfErr result (λ fault. IfGone fault (¬ (IsLevel shelf.old.desk me.old)) (Unit {0})) }
-    ensures log { shelf.new.desk ≡ shelf.old.desk }
-    ensures standing { IsAfterTold (newest_in shelf.old.desk) shelf.old.standing name.now result shelf.new.standing }
+        (λ fault. IsWaitRefused locked.old.standing.closing (newest_in locked.old.log) name.now fault) }
+    ensures seen { Looks result me.old locked.old.log me.new }
+    ensures gone { IfErr result (λ fault. IfGone fault (¬ (IsLevel locked.old.log me.old)) (Unit {0})) }
+    ensures log { locked.new.log ≡ locked.old.log }
+    ensures standing { IsAfterTold (newest_in locked.old.log) locked.old.standing name.now result locked.new.standing }
 {
-    let number = shelf.desk.show(me)?;
-    let version = &shelf.desk.last().version;
+    let number = locked.log.show(me)?;
+    let version = &locked.log.last().version;
     if let Some(fault) = version.wait_refusal(name) {
         return Err(BookFault::Version(fault));
     }
     if version.is_built(name) {
         return Ok(number);
     }
-    if shelf.standing.slots.has_mark(name) {
-        shelf.standing.unmark_of(name);
+    if locked.standing.held.has_mark(name) {
+        locked.standing.unmark_of(name);
         return Err(NO_MEMORY);
     }
     Err(BookFault::Closing)
@@ -88,28 +88,28 @@ pub(crate) fn tell_built<J: Naming, R: Wait + Drop>(
 
 /// Tells a session how a wait until a number is durable ends.
 pub(crate) fn tell_durable<J: Naming, R: Wait + Drop>(
-    shelf: &Shelf<J, R>,
+    locked: &LockedBook<J, R>,
     me: &mut Session,
     number: u64,
 ) -> Result<u64, BookFault>
     requires book { me.old.book ≡ J.book }
-    requires ready { ¬ (IsWriting (newest_in shelf.now.desk) shelf.now.standing number) }
-    ensures ok { IfOk result (λ n. ((newest_in shelf.now.desk).durable ≡ n) × (number ≤ n)) }
-    ensures store { IfOk result (λ _. IsTrue shelf.now.standing.store) }
+    requires ready { ¬ (IsWriting (newest_in locked.now.log) locked.now.standing number) }
+    ensures ok { IfOk result (λ n. ((newest_in locked.now.log).durable ≡ n) × (number ≤ n)) }
+    ensures store { IfOk result (λ _. IsTrue locked.now.standing.store) }
     ensures refused { IfErr result
-        (λ fault. IsSyncRefusedAt shelf.now.standing (newest_in shelf.now.desk) number fault) }
-    ensures seen { Looks result me.old shelf.now.desk me.new }
-    ensures gone { IfErr result (λ fault. IfGone fault (¬ (IsLevel shelf.now.desk me.old)) (Unit {0})) }
+        (λ fault. IsSyncRefusedAt locked.now.standing (newest_in locked.now.log) number fault) }
+    ensures seen { Looks result me.old locked.now.log me.new }
+    ensures gone { IfErr result (λ fault. IfGone fault (¬ (IsLevel locked.now.log me.old)) (Unit {0})) }
 {
-    shelf.desk.show(me)?;
-    if !shelf.standing.store {
+    locked.log.show(me)?;
+    if !locked.standing.store {
         return Err(BookFault::NoStore);
     }
-    let durable = shelf.desk.last().version.durable();
+    let durable = locked.log.last().version.durable();
     if number <= durable {
         return Ok(durable);
     }
-    match shelf.standing.fault {
+    match locked.standing.fault {
         Some(fault) => Err(BookFault::Store(fault)),
         None => Err(BookFault::Closing),
     }
@@ -117,68 +117,71 @@ pub(crate) fn tell_durable<J: Naming, R: Wait + Drop>(
 
 /// Gives the reporter the newest version, where there are news. None comes where there are none, at closing.
 pub(crate) fn tell_news<J: Naming, R: Wait + Drop>(
-    shelf: &Shelf<J, R>,
+    locked: &LockedBook<J, R>,
     me: &mut Reporter,
 ) -> Result<Option<Arc<Version, Global>>, BookFault>
     requires book { me.old.book ≡ J.book }
-    requires ready { ¬ (IsQuiet shelf.now.standing me.old.given) }
-    ensures some { IfOk result (λ o. IfSome o (λ version. (arc_value version ≡ newest_in shelf.now.desk)
-        × HasHeard shelf.now.desk me.old × IsLog shelf.now.desk)) }
-    ensures news { IfOk result (λ o. IfSome o (λ _. ¬ (shelf.now.standing.news ≡ me.old.given)
-        × (me.new ≡ record { book = me.old.book; log = shelf.now.desk; given = shelf.now.standing.news }))) }
-    ensures none { IfOk result (λ o. IfNone o (IsTrue shelf.now.standing.closing
-        × (shelf.now.standing.news ≡ me.old.given) × (me.new ≡ me.old))) }
+    requires ready { ¬ (IsQuiet locked.now.standing me.old.given) }
+    ensures some { IfOk result (λ o. IfSome o (λ version. (arc_value version ≡ newest_in locked.now.log)
+        × HasHeard locked.now.log me.old × IsLog locked.now.log)) }
+    ensures news { IfOk result (λ o. IfSome o (λ _. ¬ (locked.now.standing.news ≡ me.old.given)
+        × (me.new ≡ record { book = me.old.book; log = locked.now.log; given = locked.now.standing.news }))) }
+    ensures none { IfOk result (λ o. IfNone o (IsTrue locked.now.standing.closing
+        × (locked.now.standing.news ≡ me.old.given) × (me.new ≡ me.old))) }
     ensures err { IfErr result (λ fault. (me.new ≡ me.old) × ((fault ≡ no_memory) ⊎ (fault ≡ BookFault.Gone))) }
-    ensures gone { IfErr result (λ fault. IfGone fault (¬ (HasHeard shelf.now.desk me.old)) (HasHeard shelf.now.desk me.old)) }
+    ensures gone { IfErr result (λ fault. IfGone fault (¬ (HasHeard locked.now.log me.old)) (HasHeard locked.now.log me.old)) }
 {
-    let last = shelf.desk.last();
+    let last = locked.log.last();
     let durable = last.version.durable();
     if !me.is_level(&last.trace, durable) {
         return Err(BookFault::Gone);
     }
-    if me.given() == shelf.standing.news {
+    if me.given() == locked.standing.news {
         return Ok(None);
     }
     let Ok(version) = Arc::try_clone(&last.version) else {
         return Err(NO_MEMORY);
     };
-    me.move_on(&last.trace, durable, shelf.standing.news);
+    me.move_on(&last.trace, durable, locked.standing.news);
     Ok(Some(version))
 }
 
 /// Reports a number durable: one entry, or none. It answers the durable number then.
 pub(crate) fn report<J: Naming, R: Wait + Drop>(
-    shelf: &mut Shelf<J, R>,
+    locked: &mut LockedBook<J, R>,
     alloc: Global,
     me: &mut Reporter,
     number: u64,
 ) -> Result<u64, BookFault>
     requires book { me.old.book ≡ J.book }
-    ensures ok { IfOk result (λ m. IsReportedIn shelf.old.desk number shelf.new.desk
-        × ((newest_in shelf.new.desk).durable ≡ m)) }
-    ensures seen { IfOk result (λ _. HasHeard shelf.old.desk me.old
-        × (me.new ≡ record { book = me.old.book; log = shelf.new.desk; given = me.old.given })
-        × IsLog shelf.new.desk) }
+    ensures ok { IfOk result (λ m. IsReportedIn locked.old.log number locked.new.log
+        × ((newest_in locked.new.log).durable ≡ m)) }
+    ensures seen { IfOk result (λ _. HasHeard locked.old.log me.old
+        × (me.new ≡ record { book = me.old.book; log = locked.new.log; given = me.old.given })
+        × IsLog locked.new.log) }
     ensures begun { 0 < length me.old.log }
-    ensures standing { shelf.new.standing ≡ shelf.old.standing }
-    ensures err { IfErr result (λ fault. (shelf.new.desk ≡ shelf.old.desk) × (me.new ≡ me.old)
+    ensures standing { locked.new.standing ≡ locked.old.standing }
+    ensures err { IfErr result (λ fault. (locked.new.log ≡ locked.old.log) × (me.new ≡ me.old)
         × ((fault ≡ no_memory) ⊎ (fault ≡ BookFault.Gone))) }
-    ensures heard { IfErr result (λ fault. IfGone fault (Unit {0}) (HasHeard shelf.old.desk me.old)) }
+    ensures heard { IfErr result (λ fault. IfGone fault (Unit {0}) (HasHeard locked.old.log me.old)) }
 {
     let given = me.given();
-    let last = shelf.desk.last();
+    let last = locked.log.last();
     if !me.is_level(&last.trace, last.version.durable()) {
         return Err(BookFault::Gone);
     }
-    let durable = shelf.desk.report(alloc, number)?;
-    me.move_on(&shelf.desk.last().trace, durable, given);
+    let durable = locked.log.report(alloc, number)?;
+    me.move_on(&locked.log.last().trace, durable, given);
     Ok(durable)
 }
 
 /// The store told a fault.
-pub(crate) fn store_failed<J: Naming, R: Wait + Drop>(shelf: &mut Shelf<J, R>, fault: StoreFault)
-    ensures log { shelf.new.desk ≡ shelf.old.desk }
-    ensures standing { IsAfterFailure shelf.old.standing fault shelf.new.standing }
+pub(crate) fn store_failed<J: Naming, R: Wait + Drop>(
+    locked: &mut LockedBook<J, R>,
+    fault: ToldFault,
+)
+    ensures log { locked.new.log ≡ locked.old.log }
+    ensures standing { IsAfterFailure locked.old.standing fault locked.new.standing }
 {
-    shelf.standing.store_failed(fault);
+    locked.standing.store_failed(fault);
 }

@@ -18,7 +18,7 @@ use Rattle.wkt_form.specs.declared.token.Symbol.TheVariants as symbols
 use Rattle.wkt_form.specs.Number.{is_number, is_whole, number_value, is_coordinate}
 use Rattle.wkt_form.specs.Token.{Kind, word, run, open_bracket, close_bracket, comma, stray, Token}
 use Rattle.wkt_form.specs.Symbol.{number_worth, word_symbol, symbol_of}
-use Rattle.wkt_form.specs.Seen.{seen}
+use Rattle.wkt_form.specs.Seen.{seen_token}
 use Rattle.wkt_form.specs.Reading.{Reading, ◌>>=◌, with_token, with_tokens}
 use Rattle.wkt_form.specs.Grammar.{WrittenPoint, WrittenPolygon, empty, rings, WrittenText, polygon, no_polygons, polygons, point_of, polygon_rings, text_rings, in_upper_case, kinds_of, number_fault}
 use Rattle.wkt_form.proofs.Progress.{Means, means, run_bytes, Frame, one, several, Progress, nothing, members, polygon_due, ring_due, first_due, second_due, point_end, ring_end, polygon_end, whole, with_kind, advance, walk}
@@ -178,7 +178,7 @@ same_fault at offset comma = everywhere (advance at comma) where
 same_fault at offset stray = rw (unknown_stops at []) tt
 
 -- the answer to a token
-token_answers : (at : Progress) (z : ℤ) (t : Token) → IsFirst at z → Answers t.at (advance at (in_upper_case t.kind)) (number_fault t) (with_token (reading_of at z) (seen t))
+token_answers : (at : Progress) (z : ℤ) (t : Token) → IsFirst at z → Answers t.at (advance at (in_upper_case t.kind)) (number_fault t) (with_token (reading_of at z) (seen_token t))
 token_answers at z t i =
     change (advance at (in_upper_case t.kind)) _ _ _ (one_token at z (symbol_of (in_upper_case t.kind)) (in_upper_case t.kind) t.at (means (in_upper_case t.kind)) i) (same_fault at t.at t.kind) where
       change : (o : Option Progress) (f g : Option WktFault) (r : Result Reading WktFault) → Answers t.at o f r → IfSome o (λ _. f ≡ g) → Answers t.at o g r
@@ -235,19 +235,19 @@ one_before at next t ts (Err fault) e g stop =
       wrong = stop.wrong;
     }
 
-pub tokens_outcome : (at : Progress) (z : ℤ) (tokens : List Token) → IsFirst at z → Outcome at tokens (with_tokens (reading_of at z) (map seen tokens))
+pub tokens_outcome : (at : Progress) (z : ℤ) (tokens : List Token) → IsFirst at z → Outcome at tokens (with_tokens (reading_of at z) (map seen_token tokens))
 tokens_outcome at z [] i = record { last = at; first = z; read = refl; good = All-nil (λ u. number_fault u ≡ None); is = refl }
 tokens_outcome at z (t ∷ ts) i =
-    by_answer (advance at (in_upper_case t.kind)) refl (number_fault t) refl (with_token (reading_of at z) (seen t)) (token_answers at z t i) (λ next w j. tokens_outcome next w ts j) where
+    by_answer (advance at (in_upper_case t.kind)) refl (number_fault t) refl (with_token (reading_of at z) (seen_token t)) (token_answers at z t i) (λ next w j. tokens_outcome next w ts j) where
       by_answer : (o : Option Progress) → advance at (in_upper_case t.kind) ≡ o → (f : Option WktFault) → number_fault t ≡ f → (r : Result Reading WktFault) → Answers t.at o f r
-          → ((next : Progress) (w : ℤ) → IsFirst next w → Outcome next ts (with_tokens (reading_of next w) (map seen ts)))
-          → Outcome at (t ∷ ts) (r >>= λ more. with_tokens more (map seen ts))
+          → ((next : Progress) (w : ℤ) → IsFirst next w → Outcome next ts (with_tokens (reading_of next w) (map seen_token ts)))
+          → Outcome at (t ∷ ts) (r >>= λ more. with_tokens more (map seen_token ts))
       by_answer None e f g r a rest =
-          subst (λ s. Outcome at (t ∷ ts) (s >>= λ more. with_tokens more (map seen ts))) (sym a)
+          subst (λ s. Outcome at (t ∷ ts) (s >>= λ more. with_tokens more (map seen_token ts))) (sym a)
           (record { front = []; token = t; back = ts; next = at; split = refl; read = refl; good = All-nil (λ u. number_fault u ≡ None); wrong = inl (e, refl) })
       by_answer (Some next) e (Some fault) g r a rest =
-          subst (λ s. Outcome at (t ∷ ts) (s >>= λ more. with_tokens more (map seen ts))) (sym a)
+          subst (λ s. Outcome at (t ∷ ts) (s >>= λ more. with_tokens more (map seen_token ts))) (sym a)
           (record { front = []; token = t; back = ts; next = at; split = refl; read = refl; good = All-nil (λ u. number_fault u ≡ None); wrong = inr (next, e, g) })
       by_answer (Some next) e None g r a rest =
-          subst (λ s. Outcome at (t ∷ ts) (s >>= λ more. with_tokens more (map seen ts))) (sym a.2)
-          (one_before at next t ts (with_tokens (reading_of next a.0) (map seen ts)) e g (rest next a.0 a.1))
+          subst (λ s. Outcome at (t ∷ ts) (s >>= λ more. with_tokens more (map seen_token ts))) (sym a.2)
+          (one_before at next t ts (with_tokens (reading_of next a.0) (map seen_token ts)) e g (rest next a.0 a.1))

@@ -13,7 +13,7 @@ use Rattle.wkt_form.specs.declared.token.Token as code
 use Rattle.overlay_terms.specs.Blank.{is_blank}
 use Rattle.wkt_form.specs.Token.{Kind, word, run, Token, is_run_byte, begins, longer, first_longer, tokens_from}
 use Rattle.wkt_form.specs.Symbol.{word_symbol, run_symbol}
-use Rattle.wkt_form.specs.Seen.{seen, seen_from}
+use Rattle.wkt_form.specs.Seen.{seen_token, seen_from}
 
 -- ==== Blanks
 
@@ -102,10 +102,10 @@ runs_grow = record {
 }
 
 pub word_seen : (bytes : List ℕ) → 0 < length bytes → is_ascii_alphabetic (get_or bytes 0 0) ≡ true → (at : ℕ) → seen_from at bytes ≡ record { at = at; symbol = word_symbol (str_to_ascii_uppercase (take (prefix_len is_ascii_alphabetic bytes) bytes)) } ∷ seen_from (at + prefix_len is_ascii_alphabetic bytes) (drop (prefix_len is_ascii_alphabetic bytes) bytes)
-word_seen bytes some holds at = ap (map seen) (first_is is_ascii_alphabetic word words_grow bytes some holds at)
+word_seen bytes some holds at = ap (map seen_token) (first_is is_ascii_alphabetic word words_grow bytes some holds at)
 
 pub run_seen : (bytes : List ℕ) → 0 < length bytes → is_run_byte (get_or bytes 0 0) ≡ true → (at : ℕ) → seen_from at bytes ≡ record { at = at; symbol = run_symbol (take (prefix_len is_run_byte bytes) bytes) } ∷ seen_from (at + prefix_len is_run_byte bytes) (drop (prefix_len is_run_byte bytes) bytes)
-run_seen bytes some holds at = ap (map seen) (first_is is_run_byte run runs_grow bytes some holds at)
+run_seen bytes some holds at = ap (map seen_token) (first_is is_run_byte run runs_grow bytes some holds at)
 
 -- ==== Bytes from an offset on
 
@@ -113,7 +113,7 @@ run_seen bytes some holds at = ap (map seen) (first_is is_run_byte run runs_grow
 pub seen_past_blanks : (bytes : List ℕ) (at n : ℕ) → n ≡ prefix_len is_blank (take (length bytes - at) (drop at bytes)) → seen_from at (drop at bytes) ≡ seen_from (at + n) (drop (at + n) bytes)
 seen_past_blanks bytes at n e =
     let size : n ≡ prefix_len is_blank (drop at bytes) = e ∙ ap (prefix_len is_blank) (take_rest bytes at) in
-    ap (map seen) (tokens_past_blanks at (drop at bytes))
+    ap (map seen_token) (tokens_past_blanks at (drop at bytes))
     ∙ ap (λ k. seen_from (at + k) (drop k (drop at bytes))) (sym size)
     ∙ ap (seen_from (at + n)) (drop-drop n at bytes)
 

@@ -5,9 +5,9 @@ use Rattle.wkt_form.specs.Token.{Token, tokens_from}
 use Rattle.wkt_form.specs.Grammar.{in_upper_case}
 use Rattle.wkt_form.specs.Symbol.{symbol_of}
 
-abbrev pub seen : Token → code.Token
-seen t = record { at = t.at; symbol = symbol_of (in_upper_case t.kind) }
+abbrev pub seen_token : Token → code.Token
+seen_token t = record { at = t.at; symbol = symbol_of (in_upper_case t.kind) }
 
 -- the tokens of bytes that begin at an offset
 abbrev pub seen_from : ℕ → List ℕ → List code.Token
-seen_from at bytes = map seen (tokens_from at bytes)
+seen_from at bytes = map seen_token (tokens_from at bytes)

@@ -15,7 +15,7 @@ pub loop-place-preserved : goal.loop-place-preserved
 loop-place-preserved c =
     let layers = c.layers-layers.result.now in
     let i = c.loop-place.place in
-    let held : Layer → Type 0 = λ layer. IsTrue (stands_as_derived layers layer.name) → AreHeld c.args.version.now c.args.slots.now.list.items layer.name in
+    let held : Layer → Type 0 = λ layer. IsTrue (stands_as_derived layers layer.name) → AreHeld c.args.version.now c.args.held.now.list.items layer.name in
     elim c.match-at.branch [
       | in-Some+then-stands_as_derived+in_default-free_column w ↦ one_more held layers i _ (sym w.in-Some.ensures) c.loop-place.invariant (λ _. w.in_default-free_column.ensures.none)
       | in-Some+else-stands_as_derived w ↦ one_more held layers i _ (sym w.in-Some.ensures) c.loop-place.invariant
@@ -28,7 +28,7 @@ returns-clause-none c name stands =
     let version = c.args.version.now in
     let layers = c.layers-layers.result.now in
     let i = c.loop-place.place in
-    let held : Name → Type 0 = λ n. IsTrue (stands_as_derived layers n) → AreHeld version c.args.slots.now.list.items n in
+    let held : Name → Type 0 = λ n. IsTrue (stands_as_derived layers n) → AreHeld version c.args.held.now.list.items n in
     let same : layers ≡ version.layers = c.layers-layers.ensures.value in
     let there : stands_as_derived layers name ≡ true = subst (λ ls. stands_as_derived ls name ≡ true) (sym same) stands in
     let whole : length layers ≤ i = subst (λ n. n ≤ i) c.len-place-end.ensures.value c.loop-place-test.false in

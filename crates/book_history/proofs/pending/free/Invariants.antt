@@ -9,4 +9,4 @@ use Rattle.book_history.proofs.pending.free.Given as goal
 -- the tiles of the layers before this one are finished or held
 abbrev pub invariant-loop-place : goal.invariant-loop-place
 invariant-loop-place l =
-    All (λ (layer : Layer). IsTrue (stands_as_derived l.layers layer.name) → AreHeld l.version l.slots.list.items layer.name) (take l.place l.layers)
+    All (λ (layer : Layer). IsTrue (stands_as_derived l.layers layer.name) → AreHeld l.version l.held.list.items layer.name) (take l.place l.layers)

@@ -1,9 +1,9 @@
 use Rattle.std.specs.Prelude.{◌≡◌, ℕ, ◌<◌, true, None}
 use Rattle.overlay_terms.specs.Histories.{tile_at}
-use Rattle.book_history.specs.Slots.{has_slot}
+use Rattle.book_history.specs.HeldTiles.{is_held}
 use Rattle.book_history.proofs.pending.free_column.Given as goal
 
 -- the tiles of the columns before this one are finished or held
 abbrev pub invariant-loop-column : goal.invariant-loop-column
 invariant-loop-column l =
-    (k : ℕ) → k < l.column → tile_at l.version.tiles l.name k ≡ None → has_slot l.name k l.slots.list.items ≡ true
+    (k : ℕ) → k < l.column → tile_at l.version.tiles l.name k ≡ None → is_held l.name k l.held.list.items ≡ true

@@ -4,7 +4,7 @@ use Rattle.tile_build.specs.declared.tile.Tile.{Tile}
 use Rattle.tile_build.specs.Tile.{finished_of, tile_of}
 use Rattle.store_terms.specs.TileRecord.{named_tile, tile_of_record}
 use Rattle.record_bytes.specs.Tiles.{named_by}
-use Rattle.store_terms.specs.declared.root.Extent.{Extent}
+use Rattle.store_terms.specs.declared.root.RecordExtent.{RecordExtent}
 use Rattle.commit_plan.specs.declared.fault.StoreFault.TheVariants.{Full}
 use Rattle.commit_plan.specs.Filing.{Filed}
 use Rattle.commit_plan.proofs.Drafts.{passed_error}
@@ -89,4 +89,4 @@ returns-in_err-extent-clause-full c given limit sizes placed u =
     (c.is_here.ensures.here c.if-not-is_here.false) refl spelled in
     one_finds_none given limit sizes c.args.layers.now c.args.place tiles (drop 1 tiles) (length bytes) one
     (c.in_err-extent.ensures.full given limit sizes placed
-    (passed_error Extent c.from_residual-in_err-extent.result c.in_err-extent.field-0.0 Full c.from_residual-in_err-extent.ensures.1 u))
+    (passed_error RecordExtent c.from_residual-in_err-extent.result c.in_err-extent.field-0.0 Full c.from_residual-in_err-extent.ensures.1 u))

@@ -1,13 +1,13 @@
 use Rattle.std.proofs.Common.{◌<◌, ◌++◌, length, take, List, Option, sym, subst, append-nil}
 use Rattle.std.proofs.lemmas.List.{get_or_default, take_all}
-use Rattle.store_terms.specs.declared.root.Extent.{Extent}
+use Rattle.store_terms.specs.declared.root.RecordExtent.{RecordExtent}
 use Rattle.store_terms.specs.Places.{some_extents}
 use Rattle.root_reading.specs.Taking.{AreRunsFor}
 use Rattle.root_reading.proofs.TakingLemmas.{entries_on}
 use Rattle.root_reading.proofs.taking.add_entries.Goals as goal
 
 pub loop-entry-init : goal.loop-entry-init
-loop-entry-init c es are = subst (λ (xs : List Extent). AreRunsFor xs c.args.runs.now.items) (sym (append-nil es)) are
+loop-entry-init c es are = subst (λ (xs : List RecordExtent). AreRunsFor xs c.args.runs.now.items) (sym (append-nil es)) are
 
 pub loop-entry-preserved : goal.loop-entry-preserved
 loop-entry-preserved c es are =
@@ -19,5 +19,5 @@ loop-entry-preserved c es are =
 
 pub returns : goal.returns
 returns c es are =
-    subst (λ (xs : List (Option Extent)). AreRunsFor (es ++ some_extents xs) c.loop-entry.runs.items)
+    subst (λ (xs : List (Option RecordExtent)). AreRunsFor (es ++ some_extents xs) c.loop-entry.runs.items)
     (take_all c.loop-entry.entry-index c.args.entries.now c.loop-entry-test.false) (c.loop-entry.invariant es are)

@@ -1,5 +1,5 @@
 use denote.Param.Send.{sendable}
-use Rattle.book_desk.proofs.SentDesk.{session_send}
+use Rattle.book_lock.proofs.SentLog.{session_send}
 use Rattle.version_book.proofs.crossing.session_goes.Goals as goal
 
 pub goes-requires-send-T : goal.goes-requires-send-T

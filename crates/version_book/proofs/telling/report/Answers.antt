@@ -6,7 +6,7 @@ use mathlib.Core.List.{IsPrefix}
 use Rattle.book_history.specs.Trails.{Trail}
 use Rattle.book_history.proofs.Fronts.{prefix_trans}
 use Rattle.book_history.proofs.Gone.{passed}
-use Rattle.book_desk.proofs.Growing.{report_longer}
+use Rattle.book_lock.proofs.Growing.{report_longer}
 use Rattle.version_book.proofs.Told.{durable_there, moved, where_else}
 use Rattle.version_book.proofs.telling.report.Goals as goal
 

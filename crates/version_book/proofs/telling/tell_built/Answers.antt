@@ -14,7 +14,7 @@ returns-in_err-number g c =
       seen = gone_looks r _ _ _ _ c.from_residual.ensures.1 gone.0 gone.1;
       gone = gone_err r _ _ c.from_residual.ensures.1 gone.0 c.in_err-number.ensures.behind;
       log = refl;
-      standing = gone_told r _ (newest_in c.args.shelf.now.desk) _ c.args.name.now c.from_residual.ensures.1 gone.0;
+      standing = gone_told r _ (newest_in c.args.locked.now.log) _ c.args.name.now c.from_residual.ensures.1 gone.0;
     }
 
 pub returns-in-Some : goal.returns-in-Some

@@ -15,16 +15,16 @@ returns-in_err-show g c =
       gone = gone_err r _ _ c.from_residual.ensures.1 gone.0 c.in_err-show.ensures.behind;
     }
 
-pub returns-then-not-shelf : goal.returns-then-not-shelf
-returns-then-not-shelf g c =
-    record { ok = tt; store = tt; refused = c.if-not-shelf.true; seen = c.in_ok-show.ensures.ok.0; gone = tt }
+pub returns-then-not-locked : goal.returns-then-not-locked
+returns-then-not-locked g c =
+    record { ok = tt; store = tt; refused = c.if-not-locked.true; seen = c.in_ok-show.ensures.ok.0; gone = tt }
 
 pub returns-then-number-durable : goal.returns-then-number-durable
 returns-then-number-durable g c =
     let newest = ap (λ v. v.durable) (c.deref.ensures ∙ c.last.ensures.version) in
     record {
       ok = (sym (c.durable-durable.ensures.value ∙ newest), c.if-number-durable.true);
-      store = c.if-not-shelf.false;
+      store = c.if-not-locked.false;
       refused = tt;
       seen = c.in_ok-show.ensures.ok.0;
       gone = tt;
@@ -33,13 +33,13 @@ returns-then-number-durable g c =
 pub returns-in-Some : goal.returns-in-Some
 returns-in-Some g c =
     let newest = c.durable-durable.ensures.value ∙ ap (λ v. v.durable) (c.deref.ensures ∙ c.last.ensures.version) in
-    let behind : (newest_in c.args.shelf.now.desk).durable < c.args.number = omega (arith, newest, c.if-number-durable.false) in
-    record { ok = tt; store = tt; refused = (c.if-not-shelf.false, behind, c.in-Some.is); seen = c.in_ok-show.ensures.ok.0; gone = tt }
+    let behind : (newest_in c.args.locked.now.log).durable < c.args.number = omega (arith, newest, c.if-number-durable.false) in
+    record { ok = tt; store = tt; refused = (c.if-not-locked.false, behind, c.in-Some.is); seen = c.in_ok-show.ensures.ok.0; gone = tt }
 
 pub returns-in-None : goal.returns-in-None
 returns-in-None g c =
     let newest = c.durable-durable.ensures.value ∙ ap (λ v. v.durable) (c.deref.ensures ∙ c.last.ensures.version) in
-    let behind : (newest_in c.args.shelf.now.desk).durable < c.args.number = omega (arith, newest, c.if-number-durable.false) in
-    let store = c.if-not-shelf.false in
+    let behind : (newest_in c.args.locked.now.log).durable < c.args.number = omega (arith, newest, c.if-number-durable.false) in
+    let store = c.if-not-locked.false in
     let closing = not_false _ (λ wide. c.requires.ready (record { store = store; behind = behind; sound = c.in-None.is; not_closing = wide })) in
     record { ok = tt; store = tt; refused = (store, behind, c.in-None.is, closing); seen = c.in_ok-show.ensures.ok.0; gone = tt }

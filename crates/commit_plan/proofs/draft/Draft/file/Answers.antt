@@ -2,7 +2,7 @@ use Rattle.std.proofs.Common.{◌≡◌, ◌*◌, ℕ, length, refl, subst, rule
 use Rattle.extent_map.specs.FirstFit.{NoFit, IsFirstFit, blocks_for}
 use Rattle.extent_map.specs.Taken.{taken_of}
 use Rattle.extent_map.specs.declared.extent.Extent as runs
-use Rattle.store_terms.specs.declared.root.Extent.{Extent}
+use Rattle.store_terms.specs.declared.root.RecordExtent.{RecordExtent}
 use Rattle.commit_plan.specs.declared.write.Write.{Write}
 use Rattle.commit_plan.specs.declared.draft.Draft.{Draft}
 use Rattle.commit_plan.specs.Filing.{Filed}
@@ -15,7 +15,7 @@ returns-in-Err-clause-full c given limit sizes placed u =
     let d = c.args.self.now in
     let size : c.len-size.result ≡ length c.args.bytes.items = search rules in
     let none = subst (λ (n : ℕ). NoFit (taken_of d.room.map) d.room.max_blocks (blocks_for n)) size
-    (c.in-Err.ensures.full (same_error Extent runs.Extent _ _ u)) in
+    (c.in-Err.ensures.full (same_error RecordExtent runs.Extent _ _ u)) in
     no_run given limit sizes d (length c.args.bytes.items) placed none
 
 pub returns-clause-placed : goal.returns-clause-placed

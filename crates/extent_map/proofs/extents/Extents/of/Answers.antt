@@ -1,7 +1,7 @@
 use Rattle.std.proofs.Common.{◌≡◌, ◌<◌, ◌+◌, ◌∷◌, [], ◌++◌, List, length, take, drop, refl, sym, ◌∙◌, ap, subst, rules}
 use Rattle.std.proofs.lemmas.List.{take_more, take-append-drop}
 use Rattle.extent_map.specs.declared.extent.Extent.{Extent}
-use Rattle.extent_map.specs.Extents.{IsFree, IsGap, AreApart, AreAlike}
+use Rattle.extent_map.specs.Extents.{IsUnused, IsGap, AreApart, AreAlike}
 use Rattle.extent_map.proofs.Gaps.{split_at, alike_last, gap_free, apart_more, apart_before}
 use Rattle.extent_map.proofs.extents.Extents.of.Goals as goal
 
@@ -11,7 +11,7 @@ returns-in_default-clause-overlap c u apart =
     let i = c.loop-extent.extent-index in
     let e = c.extent-item.result in
     let inside : i < length es = search rules in
-    let none = subst (λ (l : List Extent). IsFree l e.block e.blocks → ⊥) c.deref.ensures.value c.in_default.ensures.none in
+    let none = subst (λ (l : List Extent). IsUnused l e.block e.blocks → ⊥) c.deref.ensures.value c.in_default.ensures.none in
     let around : es ≡ take i es ++ e ∷ drop (i + 1) es = sym (take-append-drop i es) ∙ ap (λ (l : List Extent). take i es ++ l) (split_at es i e inside c.extent-item.is) in
     none (c.loop-extent.invariant.alike.there e.block e.blocks (apart_before (take i es) e (drop (i + 1) es) (subst AreApart around apart)))
 

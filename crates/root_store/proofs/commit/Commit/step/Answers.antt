@@ -1,5 +1,5 @@
 use Rattle.std.proofs.Common.{◌≡◌, length, drop, List, [], ◌∷◌, ℕ, inl, refl, sym, ◌∙◌, ap, subst, rules}
-use Rattle.disk_model.specs.Disk.{Torn, Holds, Follows}
+use Rattle.disk_model.specs.Disk.{Torn, Holds, OneStepOn}
 use Rattle.root_store.specs.declared.phase.Phase.{Phase}
 use Rattle.store_terms.specs.StandsFor.{gate_at}
 use Rattle.commit_plan.specs.Kept.{other, Either, Rest, Shut, Ready}
@@ -25,8 +25,8 @@ returns-in_err-write_at-in-Close-clause-moves g c x y runs =
     let stop = w.crash runs.honest in
     let now : (f : List ℕ) → k.left_since s.disk (k.moment s.disk) f → k.may_leave s.disk f =
     λ f left. g.met.D.Disk.only_now s.disk f runs.honest left in
-    let torn : Follows (Torn (gate_at (other x.root)) 1) (k.may_leave s.disk) (k.may_leave new) =
-    subst (λ (a : ℕ). Follows (Torn a 1) (k.may_leave s.disk) (k.may_leave new))
+    let torn : OneStepOn (Torn (gate_at (other x.root)) 1) (k.may_leave s.disk) (k.may_leave new) =
+    subst (λ (a : ℕ). OneStepOn (Torn a 1) (k.may_leave s.disk) (k.may_leave new))
     (c.other_gate.ensures ∙ ap (λ (r : Root). gate_at (other r)) runs.root) stop in
     let early = rest_either k x y s.disk b.0 in
     let late = rest_either k x y new (closing k x y s.disk new b.0 torn) in
@@ -63,8 +63,8 @@ returns-in_err-write_at-in-Put-clause-moves g c x y runs =
     let v = c.index-write.result.now in
     let spares = next_spares k x y (Shut x) s.plan.items s.next v (search rules) (search rules) b.2 in
     let same : c.deref.result.now ≡ v.bytes.items = search rules in
-    let torn : Follows (Torn v.at (length v.bytes.items)) (k.may_leave s.disk) (k.may_leave new) =
-    subst (λ (bytes : List ℕ). Follows (Torn v.at (length bytes)) (k.may_leave s.disk)
+    let torn : OneStepOn (Torn v.at (length v.bytes.items)) (k.may_leave s.disk) (k.may_leave new) =
+    subst (λ (bytes : List ℕ). OneStepOn (Torn v.at (length bytes)) (k.may_leave s.disk)
     (k.may_leave new)) same stop in
     let shut = leaves_torn k s.disk new (Shut x) v.at (length v.bytes.items) b.0 torn spares.0 in
     let early = shut_either k x y s.disk b.0 in
@@ -99,8 +99,8 @@ returns-in_err-write_at-in-Open-clause-moves g c x y runs =
     let stop = w.crash runs.honest in
     let now : (f : List ℕ) → k.left_since s.disk (k.moment s.disk) f → k.may_leave s.disk f =
     λ f left. g.met.D.Disk.only_now s.disk f runs.honest left in
-    let torn : Follows (Torn (gate_at (other x.root)) 1) (k.may_leave s.disk) (k.may_leave new) =
-    subst (λ (a : ℕ). Follows (Torn a 1) (k.may_leave s.disk) (k.may_leave new))
+    let torn : OneStepOn (Torn (gate_at (other x.root)) 1) (k.may_leave s.disk) (k.may_leave new) =
+    subst (λ (a : ℕ). OneStepOn (Torn a 1) (k.may_leave s.disk) (k.may_leave new))
     (c.other_gate-in-Open.ensures ∙ ap (λ (r : Root). gate_at (other r)) runs.root) stop in
     let early = both_either k x y s.disk b in
     let late = both_either k x y new (opening k x y s.disk new b torn) in
@@ -133,8 +133,8 @@ returns-in_ok-write_at-in-Close-clause-moves g c x y runs =
     let stop = w.crash runs.honest in
     let now : (f : List ℕ) → k.left_since s.disk (k.moment s.disk) f → k.may_leave s.disk f =
     λ f left. g.met.D.Disk.only_now s.disk f runs.honest left in
-    let torn : Follows (Torn (gate_at (other x.root)) 1) (k.may_leave s.disk) (k.may_leave new) =
-    subst (λ (a : ℕ). Follows (Torn a 1) (k.may_leave s.disk) (k.may_leave new))
+    let torn : OneStepOn (Torn (gate_at (other x.root)) 1) (k.may_leave s.disk) (k.may_leave new) =
+    subst (λ (a : ℕ). OneStepOn (Torn a 1) (k.may_leave s.disk) (k.may_leave new))
     (c.other_gate.ensures ∙ ap (λ (r : Root). gate_at (other r)) runs.root) stop in
     let held : Holds (k.seen new) (gate_at (other x.root)) (0 ∷ []) =
     subst (λ (a : ℕ). Holds (k.seen new) a (0 ∷ []))
@@ -204,8 +204,8 @@ returns-in_ok-write_at-in-Put-clause-moves g c x y runs =
     let v = c.index-write.result.now in
     let spares = next_spares k x y (Shut x) s.plan.items s.next v (search rules) (search rules) b.2 in
     let same : c.deref.result.now ≡ v.bytes.items = search rules in
-    let torn : Follows (Torn v.at (length v.bytes.items)) (k.may_leave s.disk) (k.may_leave new) =
-    subst (λ (bytes : List ℕ). Follows (Torn v.at (length bytes)) (k.may_leave s.disk)
+    let torn : OneStepOn (Torn v.at (length v.bytes.items)) (k.may_leave s.disk) (k.may_leave new) =
+    subst (λ (bytes : List ℕ). OneStepOn (Torn v.at (length bytes)) (k.may_leave s.disk)
     (k.may_leave new)) same stop in
     let shut = leaves_torn k s.disk new (Shut x) v.at (length v.bytes.items) b.0 torn spares.0 in
     let others : Torn v.at (length v.bytes.items) (k.seen s.disk) (k.seen new) =
@@ -270,8 +270,8 @@ returns-in_ok-write_at-in-Open-clause-moves g c x y runs =
     let stop = w.crash runs.honest in
     let now : (f : List ℕ) → k.left_since s.disk (k.moment s.disk) f → k.may_leave s.disk f =
     λ f left. g.met.D.Disk.only_now s.disk f runs.honest left in
-    let torn : Follows (Torn (gate_at (other x.root)) 1) (k.may_leave s.disk) (k.may_leave new) =
-    subst (λ (a : ℕ). Follows (Torn a 1) (k.may_leave s.disk) (k.may_leave new))
+    let torn : OneStepOn (Torn (gate_at (other x.root)) 1) (k.may_leave s.disk) (k.may_leave new) =
+    subst (λ (a : ℕ). OneStepOn (Torn a 1) (k.may_leave s.disk) (k.may_leave new))
     (c.other_gate-in-Open.ensures ∙ ap (λ (r : Root). gate_at (other r)) runs.root) stop in
     let held : Holds (k.seen new) (gate_at (other x.root)) (167 ∷ []) =
     subst (λ (a : ℕ). Holds (k.seen new) a (167 ∷ []))

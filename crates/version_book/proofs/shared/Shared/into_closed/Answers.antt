@@ -2,7 +2,7 @@ use Rattle.std.proofs.Common.{ap, refl, sym, subst}
 use Rattle.std.specs.List.{All}
 use Rattle.version_book.specs.Heard.{HasHeard}
 use Rattle.book_history.specs.Trails.{Trail}
-use Rattle.book_desk.specs.Steps.{HasAllOf}
+use Rattle.book_lock.specs.Steps.{HasAllOf}
 use Rattle.version_book.proofs.shared.Shared.into_closed.Goals as goal
 
 pub returns : goal.returns

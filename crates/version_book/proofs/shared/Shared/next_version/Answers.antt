@@ -7,7 +7,7 @@ returns g c =
     let s = c.tell_news in
     let me = c.args.me.now in
     let new = s.new.me in
-    let log = c.deref.result.now.desk in
+    let log = c.deref.result.now.log in
     let n = c.deref.result.now.standing.news in
     let e = s.ensures in
     record {

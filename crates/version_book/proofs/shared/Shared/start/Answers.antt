@@ -3,7 +3,7 @@ use Rattle.std.specs.List.{All}
 use Rattle.book_history.specs.Known.{Known}
 use Rattle.book_history.specs.Logs.{newest_in}
 use Rattle.book_history.specs.Trails.{Trail}
-use Rattle.book_desk.proofs.Beginning.{all_begin, count_of}
+use Rattle.book_lock.proofs.Beginning.{all_begin, count_of}
 use Rattle.book_history.proofs.Gone.{passed}
 use Rattle.version_book.proofs.Told.{gone_ok}
 use Rattle.version_book.proofs.shared.Shared.start.Goals as goal
@@ -13,8 +13,8 @@ new-reporter-requires g c =
     ap (λ (t : Trail). (newest_in t.log).durable) c.again.ensures ∙ ap (λ l. (newest_in l).durable) c.requires.trace.1
     ∙ sym c.durable.ensures.value
 
-pub returns-in_err-desk : goal.returns-in_err-desk
-returns-in_err-desk g c =
+pub returns-in_err-log : goal.returns-in_err-log
+returns-in_err-log g c =
     let r = c.from_residual.result in
     let is = c.from_residual.ensures.1 in
     record {
@@ -23,12 +23,12 @@ returns-in_err-desk g c =
       of_book = gone_ok r _ _ is;
       reporter_of_book = gone_ok r _ _ is;
       count = gone_ok r _ _ is;
-      err = passed _ r _ is c.in_err-desk.ensures.err;
+      err = passed _ r _ is c.in_err-log.ensures.err;
     }
 
 pub returns : goal.returns
 returns g c =
-    let all = c.in_ok-desk.ensures.sessions in
+    let all = c.in_ok-log.ensures.sessions in
     let begun = c.new-reporter.ensures ∙ ap (λ t. record { book = t.book; log = t.log; given = 0 }) c.again.ensures in
     record {
       reporter = begun;

@@ -8,9 +8,9 @@ returns g c =
     let me = c.args.me.now in
     let new = s.new.me in
     let change = command c.args.change.now in
-    let shelf = c.deref_mut.result.now in
-    let log = shelf.desk in
-    let after = s.new.self.desk in
+    let locked = c.deref_mut.result.now in
+    let log = locked.log in
+    let after = s.new.self.log in
     let r = s.result in
     let e = s.ensures in
     record {
@@ -20,6 +20,6 @@ returns g c =
       made = submit_made me new log after r _ _ _ e.made;
       own = submit_own me new log after r _ e.same.1 e.seen e.made;
       err = submit_err me new log after r _ _ e.err;
-      refused = submit_refused me new log after r _ _ shelf.standing.closing change e.err e.refused;
+      refused = submit_refused me new log after r _ _ locked.standing.closing change e.err e.refused;
       same = e.same;
     }

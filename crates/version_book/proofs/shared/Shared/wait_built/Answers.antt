@@ -9,9 +9,9 @@ returns g c =
     let s = c.tell_built-told in
     let me = c.args.me.now in
     let now = s.new.me in
-    let shelf = c.deref_mut.result.now in
+    let locked = c.deref_mut.result.now in
     let name = c.args.name.now in
-    let log = shelf.desk in
+    let log = locked.log in
     let seen = s.ensures.seen in
     record {
       goes_on = looks_goes me now log s.result c.number-number.ensures.begun seen;
@@ -20,6 +20,6 @@ returns g c =
       own = looks_own me now log s.result seen;
       err = looks_err me now log s.result seen;
       refused = looks_refused me now log s.result (λ v f. IsWaitRefused true v name f) (λ v. tt) seen
-          (wait_refused s.result shelf.standing.closing (newest_in log) name s.ensures.refused);
+          (wait_refused s.result locked.standing.closing (newest_in log) name s.ensures.refused);
       same = looks_same me now log s.result seen;
     }

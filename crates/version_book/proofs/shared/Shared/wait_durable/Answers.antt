@@ -11,8 +11,8 @@ returns g c =
     let s = c.tell_durable in
     let me = c.args.me.now in
     let now = s.new.me in
-    let shelf = c.deref.result.now in
-    let log = shelf.desk in
+    let locked = c.deref.result.now in
+    let log = locked.log in
     let looks = s.ensures.seen in
     record {
       goes_on = looks_goes me now log s.result c.number-number.ensures.begun looks;
@@ -23,6 +23,6 @@ returns g c =
       err = looks_err me now log s.result looks;
       refused = subst (λ m. IfErr s.result (λ f. IsSyncRefused m (newest (seen now)) f)) c.newest-number.ensures
           (looks_refused me now log s.result (λ v f. IsSyncRefused c.newest-number.result v f) (λ v. tt) looks
-          (sync_refused s.result shelf.standing (newest_in log) _ s.ensures.refused));
+          (sync_refused s.result locked.standing (newest_in log) _ s.ensures.refused));
       same = looks_same me now log s.result looks;
     }

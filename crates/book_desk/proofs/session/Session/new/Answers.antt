@@ -1,8 +1,0 @@
-use Rattle.std.proofs.Common.{◌<◌, length, sym, arith}
-use Rattle.book_history.proofs.Trails.{begins_same}
-use Rattle.book_desk.proofs.session.Session.new.Goals as goal
-
-pub invariant_of-result : goal.invariant_of-result
-invariant_of-result c =
-    let long : 0 < length c.args.trace.log = omega (arith, c.at.ensures.length) in
-    (omega arith, long, begins_same c.args.trace _ (sym c.requires.place) long, c.requires.newest)

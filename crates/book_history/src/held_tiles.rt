@@ -1,0 +1,110 @@
+//! Tiles that are handed out, and tiles that wait for memory.
+ghost use Rattle.std.specs.Prelude.{◌≡◌, [], OnErr, OnOk};
+ghost use Rattle.book_history.specs.HeldTiles.{given_back, handed_out, has_mark, is_held, is_of, marked_if, taken_in};
+ghost use Rattle.book_history.specs.HeldTiles.{unmarked, unmarked_of};
+
+use layer_expr::name::Name;
+use std::alloc::{AllocError, Global};
+
+/// A tile by its layer's name and its column.
+#[derive(Drop)]
+pub struct HeldTile {
+    pub name: Name,
+    pub column: u8,
+    /// Whether it was given back for want of memory. It is handed out otherwise.
+    pub marked: bool,
+}
+
+impl HeldTile {
+    fn is_of(&self, name: &Name, column: u8) -> bool
+        ensures { result ≡ is_of name.now column self.now }
+    {
+        self.name.bytes() == name.bytes() && self.column == column
+    }
+
+    fn mark(&mut self, name: &Name, column: u8)
+        ensures { self.new ≡ marked_if name.now column self.old }
+    {
+        if self.is_of(name, column) {
+            self.marked = true;
+        }
+    }
+}
+
+/// The tiles that are handed out, and those that are marked.
+#[derive(Drop)]
+pub struct HeldTiles {
+    pub list: Vec<HeldTile>,
+}
+
+impl HeldTiles {
+    pub fn new(alloc: Global) -> HeldTiles
+        ensures { result.list.items ≡ [] }
+    {
+        HeldTiles {
+            list: Vec::new(alloc),
+        }
+    }
+
+    /// Whether a tile is handed out or marked.
+    pub fn has(&self, name: &Name, column: u8) -> bool
+        ensures { result ≡ is_held name.now column self.now.list.items }
+    {
+        self.list.iter().any(|tile| tile.is_of(name, column))
+    }
+
+    /// Whether a tile of a layer is marked.
+    pub fn has_mark(&self, name: &Name) -> bool
+        ensures { result ≡ has_mark name.now self.now.list.items }
+    {
+        self.list
+            .iter()
+            .any(|tile| tile.marked && tile.name.bytes() == name.bytes())
+    }
+
+    /// Hands a tile out.
+    pub fn hand_out(&mut self, name: &Name, column: u8) -> Result<(), AllocError>
+        ensures ok { OnOk result (self.new.list.items ≡ handed_out name.now column self.old.list.items) }
+        ensures err { OnErr result (self.new.list.items ≡ self.old.list.items) }
+    {
+        let tile = HeldTile {
+            name: name.clone()?,
+            column,
+            marked: false,
+        };
+        self.list.push(tile)?;
+        Ok(())
+    }
+
+    /// Takes a tile in that was handed out.
+    pub fn take_in(&mut self, name: &Name, column: u8)
+        ensures { self.new.list.items ≡ taken_in name.now column self.old.list.items }
+    {
+        self.list
+            .retain(|tile| tile.marked || !tile.is_of(name, column));
+    }
+
+    /// Marks a tile that was handed out.
+    pub fn give_back(&mut self, name: &Name, column: u8)
+        ensures { self.new.list.items ≡ given_back name.now column self.old.list.items }
+    {
+        for tile in self.list.iter_mut() {
+            tile.mark(name, column);
+        }
+    }
+
+    /// Drops all marks.
+    pub fn unmark(&mut self)
+        ensures { self.new.list.items ≡ unmarked self.old.list.items }
+    {
+        self.list.retain(|tile| !tile.marked);
+    }
+
+    /// Drops the marks of a layer's tiles.
+    pub fn unmark_of(&mut self, name: &Name)
+        ensures { self.new.list.items ≡ unmarked_of name.now self.old.list.items }
+    {
+        self.list
+            .retain(|tile| !(tile.marked && tile.name.bytes() == name.bytes()));
+    }
+}

@@ -1,0 +1,177 @@
+//! A beginning of the history that was seen.
+ghost use Rattle.std.specs.Prelude.{◌≡◌, ◌+◌, ◌<◌, ◌≤◌, ◌^◌, ◌++◌, ◌∷◌, [], length, MatchBool};
+ghost use mathlib.Core.List.{IsPrefix};
+ghost use Rattle.overlay_terms.specs.Histories.{Follows};
+ghost use Rattle.book_history.specs.Logs.{IsLog, entry, no_event, newest_in};
+ghost use Rattle.book_history.specs.Causes.{event_of};
+ghost use Rattle.book_history.specs.Rules.{head_of};
+
+use crate::entry::{Ask, Cause, Entry};
+use logbook::{Gain, Offer, Opening, Plain, Play, Rule, Seen, Start, Word};
+use std::marker::{Brand, Model};
+use version_core::version::Version;
+
+/// The rule of the history.
+pub struct Law;
+
+impl Rule<Entry, u64> for Law {
+    ghost use Rattle.std.specs.Prelude.{[]};
+    ghost use base.Fml.{ftrue};
+    ghost use Rattle.book_history.specs.Rules.{IsKept};
+
+    ghost holds = { λ cells log. IsKept cells log };
+
+    ghost first = { [] };
+
+    ghost hinted = { λ n log. Unit {0} };
+
+    ghost shows = { λ log. [] };
+
+    ghost keeps = { λ names log. ftrue };
+
+    ghost moves = { λ ask before after answer. Unit {0} };
+}
+
+/// Callers trade nothing.
+pub struct Nothing;
+
+impl Gain<Entry, u64> for Nothing {
+    ghost use base.Fml.{ftrue};
+
+    ghost after = { λ names about answer. ftrue };
+}
+
+/// A history that begins with a version.
+pub struct OpensLog;
+
+impl Opening<Version, Entry> for OpensLog {
+    ghost use Rattle.std.specs.Prelude.{[], ◌∷◌};
+    ghost use Rattle.book_history.specs.Logs.{entry, no_event};
+
+    ghost log = { λ n v. entry no_event v ∷ [] };
+}
+
+/// A step that adds an entry.
+pub struct Add;
+
+impl Play<Entry, u64> for Add {
+    ghost use Rattle.book_history.specs.Rules.{Adds};
+
+    ghost then = { Adds };
+}
+
+/// What a step asks for: the entry.
+impl<'a> Plain<Ask<'a>, Entry, u64> for Add {
+    ghost use Rattle.std.specs.Prelude.{None};
+    ghost use Rattle.book_history.specs.Logs.{entry};
+    ghost use Rattle.book_history.specs.Causes.{event_of};
+
+    ghost ask = { λ a. entry (event_of a.cause) a.version.now };
+
+    ghost state = { λ a. None };
+}
+
+/// Which history it is. Each call of a program picks it.
+pub trait Naming {
+    ghost use Rattle.logbook.specs.Pages.{Book};
+
+    ghost book: { Book };
+}
+
+impl Naming for Brand {
+    ghost book = { record { number = 0; log_name = 0; cells_name = 0 } };
+}
+
+/// The word of a history: how many entries follow the first.
+pub type Head = Word<Entry, u64, Law>;
+
+/// Begins a history with a version.
+pub fn open(version: &Version) -> (Head, SeenLog)
+    ensures { (result.0 ≡ head_of result.1.book) × (result.1.log ≡ entry no_event version.now ∷ []) }
+{
+    let (seen, mut pens) = Seen::open_row::<Version, OpensLog>(version, Start::alone(), 1);
+    let mut pen = pens.take();
+    let head = Word::tracked(0, &mut pen);
+    (head, SeenLog { at: 0, seen })
+}
+
+/// A beginning of a history that was seen.
+#[derive(Drop)]
+pub struct SeenLog {
+    at: u64,
+    seen: Seen<Entry, u64, Law>,
+}
+
+impl Model for SeenLog {
+    ghost use Rattle.std.specs.Prelude.{◌≡◌, suc, length};
+    ghost use Rattle.book_history.specs.Logs.{IsLog};
+    ghost use Rattle.book_history.specs.Trails.{Trail};
+    ghost use Rattle.book_history.specs.KnownCodes.{trail_code};
+
+    ghost Value = { Trail };
+
+    ghost coded = { trail_code };
+
+    ghost view = { λ f. record { book = f.seen.book; log = f.seen.log } };
+
+    ghost invariant = { λ f. (suc f.at ≡ length f.seen.log) × IsLog f.seen.log };
+}
+
+impl SeenLog {
+    /// How many entries follow the first.
+    pub fn at(&self) -> u64
+        ensures length { result + 1 ≡ length self.now.log }
+        ensures chain { IsLog self.now.log }
+    {
+        self.at
+    }
+
+    /// A copy.
+    pub fn again(&self) -> SeenLog
+        ensures { result ≡ self.now }
+    {
+        SeenLog {
+            at: self.at,
+            seen: self.seen.again(),
+        }
+    }
+
+    /// Of two beginnings of one history, the one that isn't longer begins the other.
+    pub fn compare(&self, other: &SeenLog)
+        requires { other.now.book ≡ self.now.book }
+        ensures there { length self.now.log ≤ length other.now.log → IsPrefix self.now.log other.now.log }
+        ensures back { length other.now.log ≤ length self.now.log → IsPrefix other.now.log self.now.log }
+    {
+        let mut both = self.seen.again();
+        both.learn(&other.seen);
+        let _ = &self.at;
+        let _ = &other.at;
+    }
+
+    /// Adds an entry to all that was seen, and says whether it did.
+    pub fn add(&mut self, head: &Head, cause: Cause<'_>, version: &Version) -> bool
+        requires head { head.now ≡ head_of self.old.book }
+        requires room { length self.old.log < 2 ^ 62 }
+        requires follows { Follows (newest_in self.old.log) (event_of cause) version.now }
+        ensures { MatchBool result (self.new ≡ record { book = self.old.book; log = self.old.log ++ entry (event_of cause.entry) version.now ∷ [] }) (self.new ≡ self.old) }
+    {
+        let mut seen = self.seen.again();
+        let ask = Ask { cause, version };
+        let mut offer: Offer<Entry, u64, Law, Nothing> = seen.plain::<Nothing, Ask<'_>, Add>(&ask);
+        let mut pen = seen.no_pen();
+        let at = self.at;
+        let found = head.compare_exchange::<Add, Nothing>(
+            at,
+            at + 1,
+            &mut seen,
+            &mut offer,
+            &mut pen,
+        );
+        if found != at {
+            return false;
+        }
+        self.seen = seen;
+        self.at = at + 1;
+        true
+    }
+}

@@ -1,0 +1,12 @@
+//! What is left of a book that closes.
+use book_history::seen_log::SeenLog;
+use std::alloc::Global;
+use std::sync::Arc;
+use version_core::version::Version;
+
+/// What is left of a book: its newest version, and the log that this ends.
+#[derive(Drop)]
+pub struct Closed {
+    pub version: Arc<Version, Global>,
+    pub trace: SeenLog,
+}

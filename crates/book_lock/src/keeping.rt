@@ -1,0 +1,46 @@
+//! Entries that no session makes: a tile that is kept, a number that is durable.
+ghost use Rattle.std.specs.Prelude.{◌≡◌, ◌⊎◌, IfOk, IfErr};
+ghost use Rattle.book_history.specs.Fault.{no_memory};
+ghost use Rattle.book_history.specs.Logs.{newest_in};
+ghost use Rattle.book_lock.specs.Steps.{IsFinishedIn, IsReportedIn};
+
+use crate::locked_log::LockedLog;
+use book_history::entry::Cause;
+use book_history::fault::BookFault;
+use book_history::making::{kept_version, reported_version};
+use book_history::seen_log::Naming;
+use layer_expr::name::Name;
+use std::alloc::Global;
+use std::sync::Wait;
+use tile_build::built::Built;
+
+impl<J: Naming, R: Wait + Drop> LockedLog<J, R> {
+    /// Keeps a built tile where it is awaited: the one entry that this adds, or nothing.
+    pub fn keep(&mut self, alloc: Global, name: &Name, built: &Built) -> Result<bool, BookFault>
+        ensures kept { IfOk result (λ is_kept. IsFinishedIn self.old name.now built.now.0 built.now.1 is_kept self.new) }
+        ensures err { IfErr result (λ fault. (self.new ≡ self.old) × ((fault ≡ no_memory) ⊎ (fault ≡ BookFault.Gone))) }
+    {
+        let Some(version) = kept_version(alloc, &self.last().version, name, built)? else {
+            return Ok(false);
+        };
+        let column = built.input().column().number();
+        self.add(Cause::Kept(name, column, built.tile()), version)?;
+        Ok(true)
+    }
+
+    /// Reports a number durable: the one entry that this adds, or nothing. It answers the durable number then.
+    pub fn report(&mut self, alloc: Global, number: u64) -> Result<u64, BookFault>
+        ensures ok { IfOk result (λ durable. IsReportedIn self.old number self.new
+            × ((newest_in self.new).durable ≡ durable)) }
+        ensures err { IfErr result (λ fault. (self.new ≡ self.old) × ((fault ≡ no_memory) ⊎ (fault ≡ BookFault.Gone))) }
+    {
+        let now = &self.last().version;
+        let durable = now.durable();
+        if number <= durable || now.number() < number {
+            return Ok(durable);
+        }
+        let version = reported_version(alloc, now, number)?;
+        self.add(Cause::Durable(number), version)?;
+        Ok(number)
+    }
+}

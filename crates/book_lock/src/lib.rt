@@ -1,0 +1,7 @@
+//! The log under the lock: what each call that changes it does, and what its sessions have seen.
+#![tactic(auto)]
+
+pub mod closed;
+mod keeping;
+pub mod locked_log;
+pub mod session;

@@ -1,0 +1,250 @@
+//! The log under the lock, which is what is published.
+ghost use Rattle.std.specs.Prelude.{ℕ, ◌≡◌, ◌+◌, ◌^◌, ◌<◌, ◌≤◌, [], ◌∷◌, ◌++◌, ◌⊎◌, length, slice_index, IfOk, IfErr};
+ghost use Rattle.std.specs.Prelude.{IsTrue, All, false};
+ghost use Rattle.std.specs.Arc.{arc_value};
+ghost use mathlib.Core.List.{IsPrefix};
+ghost use Rattle.left_right.specs.Sides.{view};
+ghost use Rattle.overlay_terms.specs.Histories.{accepted, commands_of, Follows};
+ghost use Rattle.layer_book.specs.Command.{command};
+ghost use Rattle.book_history.specs.Causes.{event_of, HasSeat};
+ghost use Rattle.book_history.specs.Fault.{IsRefused, IfGone, no_memory};
+ghost use Rattle.book_history.specs.Logs.{entry, no_event, newest_in, IsLog};
+ghost use Rattle.book_history.specs.Rules.{head_of};
+ghost use Rattle.book_lock.specs.Steps.{HasLooked, IsAcceptedIn, IsLevel, beginners};
+
+use crate::closed::Closed;
+use crate::session::Session;
+use book_history::entry::{Cause, counted};
+use book_history::fault::BookFault;
+use book_history::making::{NO_MEMORY, next_version, shared};
+use book_history::published::{Published, Publisher};
+use book_history::publisher::{first_publisher, new_place, put_out};
+use book_history::seen_log::{Head, Naming, SeenLog};
+use layer_book::command::Command;
+use std::alloc::Global;
+use std::marker::{Model, PhantomData};
+use std::sync::{Arc, Wait};
+use version_core::version::Version;
+
+const MOST: u64 = 1 << 60;
+
+/// What lies under the lock: the log that is published, and how many commands of each session it has.
+pub struct LockedLog<J: Naming, R: Wait + Drop> {
+    head: Head,
+    publisher: Publisher,
+    counts: [u64; 4],
+    rt: R,
+    of: PhantomData<J>,
+}
+
+impl<J: Naming, R: Wait + Drop> Model for LockedLog<J, R> {
+    ghost use Rattle.std.specs.Prelude.{◌≡◌, ◌<◌, ℕ, List, [], length, drop, slice_index};
+    ghost use Rattle.std.specs.Coded.{coded_list};
+    ghost use Rattle.overlay_terms.specs.Histories as terms;
+    ghost use Rattle.overlay_terms.specs.Histories.{commands_of};
+    ghost use Rattle.book_history.specs.Codes.{entry_code};
+    ghost use Rattle.book_history.specs.Rules.{head_of};
+
+    ghost Value = { List terms.Entry };
+
+    ghost coded = { coded_list entry_code };
+
+    ghost view = { λ d. d.publisher.desk.shown.value.trace.log };
+
+    ghost invariant = { λ d. (d.head ≡ head_of J.book) × (d.publisher.desk.shown.value.trace.book ≡ J.book)
+        × (drop d.publisher.behind d.publisher.log.items ≡ [])
+        × ((by : ℕ) → by < 4 → slice_index d.counts by ≡ length (commands_of by d.publisher.desk.shown.value.trace.log)) };
+}
+
+impl<J: Naming, R: Wait + Drop> LockedLog<J, R> {
+    /// The log under the lock, of one version, and sessions that have seen just that.
+    pub fn open(
+        rt: R,
+        alloc: Global,
+        head: Head,
+        trace: SeenLog,
+        version: Version,
+        sessions: usize,
+    ) -> Result<(LockedLog<J, R>, Vec<Session>), BookFault>
+        requires head { head ≡ head_of J.book }
+        requires trace { (trace.book ≡ J.book) × (trace.log ≡ entry no_event version ∷ []) }
+        requires sessions { (0 < sessions) × (sessions ≤ 4) }
+        ensures log { IfOk result (λ r. r.0 ≡ trace.log) }
+        ensures sessions { IfOk result (λ r. r.1.items ≡ beginners trace sessions) }
+        ensures err { IfErr result (λ fault. (fault ≡ no_memory) ⊎ (fault ≡ BookFault.Gone)) }
+    {
+        let first = trace.again();
+        let number = version.number();
+        let version = shared(alloc, version)?;
+        let begun = Published { version, trace };
+        let Some(publisher) = first_publisher(&rt, alloc, begun, sessions + 1) else {
+            return Err(NO_MEMORY);
+        };
+        let mut publisher = publisher;
+        let list = beginners(alloc, &mut publisher, &first, number, sessions);
+        let log = LockedLog {
+            head,
+            publisher,
+            counts: [0; 4],
+            rt,
+            of: PhantomData,
+        };
+        Ok((log, list?))
+    }
+
+    /// What is published last.
+    pub fn last(&self) -> &Published
+        ensures trace { result.now.trace ≡ record { book = J.book; log = self.now } }
+        ensures version { arc_value result.now.version ≡ newest_in self.now }
+        ensures log { IsLog self.now }
+    {
+        let last = self.publisher.published();
+        let _ = last.trace.at();
+        last
+    }
+
+    /// Whether it has all that a session has seen, and just the commands that it made.
+    pub fn is_level(&self, me: &Session) -> bool
+        requires { me.now.book ≡ J.book }
+        ensures longer { IsTrue result → IsPrefix me.now.log self.now }
+        ensures own { IsTrue result → commands_of me.now.session self.now ≡ me.now.made }
+        ensures seat { IsTrue result → me.now.session < 4 }
+        ensures level { IsLevel self.now me.now → IsTrue result }
+    {
+        let by = me.number();
+        by < 4 && me.is_level(&self.publisher.published().trace, self.counts[by as usize])
+    }
+
+    /// A session sees all of it. It does not where that would be less than it has seen, or its commands are others.
+    pub fn show(&self, me: &mut Session) -> Result<u64, BookFault>
+        requires { me.old.book ≡ J.book }
+        ensures ok { IfOk result (λ n. HasLooked me.old self.now me.new × ((newest_in self.now).number ≡ n)) }
+        ensures err { IfErr result (λ fault. (fault ≡ BookFault.Gone) × (me.new ≡ me.old)) }
+        ensures behind { IfErr result (λ _. ¬ (IsLevel self.now me.old)) }
+    {
+        if !self.is_level(me) {
+            return Err(BookFault::Gone);
+        }
+        let last = self.last();
+        let number = last.version.number();
+        me.move_on(&last.trace, number);
+        Ok(number)
+    }
+
+    /// Adds an entry that follows the newest version, or nothing.
+    pub(crate) fn add(
+        &mut self,
+        cause: Cause<'_>,
+        version: Arc<Version, Global>,
+    ) -> Result<(), BookFault>
+        requires follows { Follows (newest_in self.old) (event_of cause) (arc_value version) }
+        requires seat { HasSeat cause }
+        ensures ok { IfOk result (λ _. self.new ≡ self.old ++ entry (event_of cause.entry) (arc_value version) ∷ []) }
+        ensures room { IfOk result (λ _. length self.old < 2 ^ 62) }
+        ensures err { IfErr result (λ fault. (fault ≡ BookFault.Gone) × (self.new ≡ self.old)) }
+    {
+        let mut trace = self.publisher.published().trace.again();
+        if trace.at() >= MOST || !trace.add(&self.head, cause, &version) {
+            return Err(BookFault::Gone);
+        }
+        put_out(&self.rt, &mut self.publisher, Published { version, trace });
+        self.counts = counted(self.counts, cause);
+        Ok(())
+    }
+
+    /// The newest version and the log. It waits for the readers.
+    pub fn into_closed(self) -> Closed
+        ensures version { arc_value result.version ≡ newest_in result.trace.log }
+        ensures log { (result.trace ≡ record { book = J.book; log = self }) × IsLog result.trace.log }
+        ensures durable { All (λ entry. entry.version.durable ≤ (newest_in result.trace.log).durable) result.trace.log }
+    {
+        let LockedLog {
+            head: _head,
+            publisher,
+            counts: _,
+            rt,
+            of: _,
+        } = self;
+        let last = Box::into_inner(publisher.take(&rt));
+        let (version, trace) = last.into_parts();
+        let _at = trace.at();
+        Closed { version, trace }
+    }
+
+    /// Accepts a command of a session: the one entry that this adds, or nothing.
+    pub fn submit(
+        &mut self,
+        alloc: Global,
+        me: &mut Session,
+        change: &Command,
+    ) -> Result<u64, BookFault>
+        requires book { me.old.book ≡ J.book }
+        ensures ok { IfOk result (λ n. IsAcceptedIn self.old me.old.session (command change.now) self.new n) }
+        ensures seen { IfOk result (λ _. IsPrefix me.old.log self.old × (me.new.log ≡ self.new)) }
+        ensures made { IfOk result (λ _. (me.new.made ≡ me.old.made ++ command change.now ∷ [])
+            × (commands_of me.old.session self.new ≡ me.new.made) × IsLog self.new) }
+        ensures same { (me.new.book ≡ me.old.book) × (me.new.session ≡ me.old.session) }
+        ensures err { IfErr result (λ fault. (self.new ≡ self.old)
+            × IfGone fault (me.new ≡ me.old) (HasLooked me.old self.old me.new)) }
+        ensures refused { IfErr result (λ fault. IsRefused false (newest_in self.old) (command change.now) fault) }
+    {
+        if !self.is_level(me) {
+            return Err(BookFault::Gone);
+        }
+        let version = match next_version(alloc, &self.last().version, change) {
+            Ok(version) => version,
+            Err(fault) => {
+                self.show(me)?;
+                return Err(fault);
+            }
+        };
+        let by = me.number();
+        self.add(Cause::Accepted(by, change), version)?;
+        let last = self.last();
+        let accepted = last.version.number();
+        me.made_one(&last.trace, accepted);
+        Ok(accepted)
+    }
+}
+
+/// It waits for the readers.
+impl<J: Naming, R: Wait + Drop> Drop for LockedLog<J, R> {
+    fn drop(self) {
+        let Self {
+            head: _head,
+            publisher,
+            counts: _,
+            rt,
+            of: _,
+        } = self;
+        drop(publisher.take(&rt));
+    }
+}
+
+// So many sessions that have seen what the publisher knows.
+fn beginners(
+    alloc: Global,
+    publisher: &mut Publisher,
+    first: &SeenLog,
+    newest: u64,
+    sessions: usize,
+) -> Result<Vec<Session>, BookFault>
+    requires known { view publisher.old.desk.place ≡ first.now }
+    requires newest { (newest_in first.now.log).number ≡ newest }
+    ensures kept { (publisher.new.desk.shown ≡ publisher.old.desk.shown) × (publisher.new.log ≡ publisher.old.log)
+        × (publisher.new.behind ≡ publisher.old.behind) }
+    ensures given { IfOk result (λ list. list.items ≡ beginners first.now sessions) }
+    ensures err { IfErr result (λ fault. (fault ≡ no_memory) ⊎ (fault ≡ BookFault.Gone)) }
+{
+    let mut list = Vec::new(alloc);
+    for number in 0..sessions {
+        let Some(place) = new_place(publisher) else {
+            return Err(BookFault::Gone);
+        };
+        let session = Session::new(number as u64, newest, first.again(), place);
+        if list.push(session).is_err() {
+            return Err(NO_MEMORY);
+        }
+    }
+    Ok(list)
+}

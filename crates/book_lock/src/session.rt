@@ -1,0 +1,163 @@
+//! A session: what it has seen and made.
+ghost use Rattle.std.specs.Prelude.{◌≡◌, ◌+◌, ◌<◌, ◌≤◌, ◌^◌, ◌++◌, ◌∷◌, [], length, IfOk, IfErr, IfSome, IsTrue};
+ghost use Rattle.std.specs.Arc.{arc_value};
+ghost use Rattle.left_right.specs.Sides.{view as place_view};
+ghost use mathlib.Core.List.{IsPrefix};
+ghost use Rattle.overlay_terms.specs.Commands.{Command};
+ghost use Rattle.overlay_terms.specs.Histories.{commands_of, newest, BeginsWith, IsHistory};
+ghost use Rattle.book_history.specs.Logs.{newest_in};
+ghost use Rattle.book_history.specs.Known.{seen};
+
+use book_history::fault::BookFault;
+use book_history::published::{ReaderPlace, Sees};
+use book_history::reader_place::moved;
+use book_history::seen_log::SeenLog;
+use std::alloc::{AllocError, Global};
+use std::marker::Model;
+use std::sync::Arc;
+use version_core::version::Version;
+
+/// A session: what it has seen and made.
+#[derive(Drop)]
+pub struct Session {
+    number: u64,
+    count: u64,
+    newest: u64,
+    trace: SeenLog,
+    place: Option<ReaderPlace>,
+}
+
+impl Model for Session {
+    ghost use Rattle.std.specs.Prelude.{◌≡◌, ◌≤◌, ◌<◌, length, take, IfSome};
+    ghost use Rattle.left_right.specs.Sides.{view as place_view};
+    ghost use Rattle.overlay_terms.specs.Histories.{commands_of};
+    ghost use Rattle.book_history.specs.Known.{Known};
+    ghost use Rattle.book_history.specs.Logs.{newest_in};
+    ghost use Rattle.book_history.specs.Trails.{Begins};
+    ghost use Rattle.book_history.specs.KnownCodes.{known_code};
+
+    ghost Value = { Known };
+
+    ghost coded = { known_code };
+
+    ghost view = { λ s. record { book = s.trace.book; session = s.number; log = s.trace.log; made = take s.count (commands_of s.number s.trace.log) } };
+
+    ghost invariant = { λ s. (s.count ≤ length (commands_of s.number s.trace.log)) × (0 < length s.trace.log) × IfSome s.place (λ r. Begins s.trace (place_view r.place)) × ((newest_in s.trace.log).number ≡ s.newest) };
+}
+
+impl Session {
+    /// A session that has seen this, and made nothing.
+    pub(crate) fn new(number: u64, newest: u64, trace: SeenLog, place: ReaderPlace) -> Session
+        requires place { place_view place.place ≡ trace }
+        requires newest { (newest_in trace.log).number ≡ newest }
+        ensures { result ≡ record { book = trace.book; session = number; log = trace.log; made = [] } }
+    {
+        let _ = trace.at();
+        Session {
+            number,
+            count: 0,
+            newest,
+            trace,
+            place: Some(place),
+        }
+    }
+
+    /// Its number.
+    pub fn number(&self) -> u64
+        ensures value { result ≡ self.now.session }
+        ensures begun { 0 < length self.now.log }
+    {
+        self.number
+    }
+
+    /// The number of the newest version that it has seen.
+    pub fn newest(&self) -> u64
+        ensures { result ≡ (newest_in self.now.log).number }
+    {
+        self.newest
+    }
+
+    /// What it has seen.
+    pub fn trace(&self) -> &SeenLog
+        ensures { (result.now.log ≡ self.now.log) × (result.now.book ≡ self.now.book) }
+    {
+        &self.trace
+    }
+
+    /// Whether a log with so many commands of this session has all that it has seen, and just the commands that
+    /// it made.
+    pub(crate) fn is_level(&self, now: &SeenLog, count: u64) -> bool
+        requires book { now.now.book ≡ self.now.book }
+        requires count { count ≡ length (commands_of self.now.session now.now.log) }
+        ensures longer { IsTrue result → IsPrefix self.now.log now.now.log }
+        ensures own { IsTrue result → commands_of self.now.session now.now.log ≡ self.now.made }
+        ensures count { IsTrue result → count ≡ length self.now.made }
+        ensures level { IsPrefix self.now.log now.now.log → commands_of self.now.session now.now.log ≡ self.now.made
+            → IsTrue result }
+    {
+        now.compare(&self.trace);
+        self.trace.at() <= now.at() && self.count == count
+    }
+
+    /// Sees a longer log, and moves its place on to what is published.
+    pub(crate) fn move_on(&mut self, to: &SeenLog, newest: u64)
+        requires newest { (newest_in to.now.log).number ≡ newest }
+        requires book { to.now.book ≡ self.old.book }
+        requires longer { IsPrefix self.old.log to.now.log }
+        ensures { self.new ≡ record { book = self.old.book; session = self.old.session; log = to.now.log; made = self.old.made } }
+    {
+        let place = self.place.take();
+        self.newest = newest;
+        self.trace = to.again();
+        self.place = moved(place, to);
+    }
+
+    /// Sees a longer log, in which the command that it just made stands last.
+    pub(crate) fn made_one(&mut self, to: &SeenLog, newest: u64)
+        requires newest { (newest_in to.now.log).number ≡ newest }
+        requires book { to.now.book ≡ self.old.book }
+        requires longer { IsPrefix self.old.log to.now.log }
+        requires own { (command : Command) × (commands_of self.old.session to.now.log ≡ self.old.made ++ command ∷ []) }
+        requires room { length self.old.made < 2 ^ 62 }
+        ensures { self.new ≡ record { book = self.old.book; session = self.old.session; log = to.now.log; made = commands_of self.old.session to.now.log } }
+    {
+        let place = self.place.take();
+        self.count += 1;
+        self.newest = newest;
+        self.trace = to.again();
+        self.place = moved(place, to);
+    }
+
+    /// The last version. It waits for nobody.
+    pub fn snapshot(&mut self) -> Result<Arc<Version, Global>, BookFault>
+        ensures goes_on { BeginsWith (seen self.new) (seen self.old) }
+        ensures newest { IfOk result (λ version. arc_value version ≡ newest (seen self.new)) }
+        ensures history { IfOk result (λ _. IsHistory (seen self.new)) }
+        ensures same { (self.new.book ≡ self.old.book) × (self.new.session ≡ self.old.session) × (self.new.made ≡ self.old.made) }
+        ensures err { IfErr result (λ fault. (fault ≡ BookFault.Gone) × (self.new ≡ self.old)) }
+    {
+        let Some(place) = self.place.take() else {
+            return Err(BookFault::Gone);
+        };
+        match place.enter_as::<Sees>() {
+            Ok(reading) => {
+                let copy = reading.get().again();
+                self.place = Some(reading.leave());
+                match copy {
+                    Ok(copy) => {
+                        let _ = copy.trace.at();
+                        let (version, trace) = copy.into_parts();
+                        self.newest = version.number();
+                        self.trace = trace;
+                        Ok(version)
+                    }
+                    Err(AllocError) => Err(BookFault::Gone),
+                }
+            }
+            Err(place) => {
+                self.place = Some(place);
+                Err(BookFault::Gone)
+            }
+        }
+    }
+}

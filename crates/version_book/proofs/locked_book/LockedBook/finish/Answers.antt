@@ -1,0 +1,22 @@
+use Rattle.std.proofs.Common.{refl, rules, subst}
+use Rattle.book_lock.specs.Steps.{IsFinishedIn}
+use Rattle.version_book.proofs.locked_book.LockedBook.finish.Goals as goal
+
+pub returns-in-Err : goal.returns-in-Err
+returns-in-Err g c =
+    let e = c.in-Err.ensures.err in
+    record { log = tt; standing = tt; err = (refl, refl, e.0, refl); refused = e.1 }
+
+pub returns : goal.returns
+returns g c =
+    let old = c.args.self.now.log in
+    let new = c.keep.new.self in
+    let tile = c.args.built.1 in
+    let kept = c.in-Ok.ensures.kept in
+    record {
+      log = subst (λ i. IsFinishedIn old c.args.job.name i tile c.in-Ok.kept new) c.requires.input
+          (subst (λ n. IsFinishedIn old n c.args.built.0 tile c.in-Ok.kept new) c.name.ensures kept);
+      standing = search rules;
+      err = tt;
+      refused = tt;
+    }

@@ -1,0 +1,83 @@
+//! Handing out tiles, and taking them back without, under the lock.
+ghost use Rattle.std.specs.Prelude.{◌≡◌, IsTrue, None, Ok, IfOk, IfErr, IfSome, IfNone};
+ghost use Rattle.overlay_terms.specs.Tiles.{input_of};
+ghost use Rattle.book_history.specs.Fault.{no_memory};
+ghost use Rattle.book_history.specs.Free.{AllAreHeld, IsFree};
+ghost use Rattle.book_history.specs.Logs.{newest_in};
+ghost use Rattle.book_history.specs.HeldTiles.{given_back, handed_out};
+ghost use Rattle.book_history.specs.Standing.{HasHeld};
+ghost use Rattle.version_book.specs.Jobs.{IsHandedOut, IsJob};
+ghost use Rattle.version_book.specs.Waits.{IsIdle};
+
+use crate::locked_book::LockedBook;
+use crate::locked_book::job::Job;
+use arrange::tile_input::TileInput;
+use book_history::fault::BookFault;
+use book_history::making::NO_MEMORY;
+use book_history::pending::{free, parts};
+use book_history::seen_log::Naming;
+use layer_expr::name::Name;
+use std::alloc::{AllocError, Global};
+use std::sync::Wait;
+
+impl<J: Naming, R: Wait + Drop> LockedBook<J, R> {
+    /// Hands out a pending tile that is neither handed out nor marked. None comes where the book closes.
+    pub fn take(&mut self, alloc: Global) -> Result<Option<Job>, BookFault>
+        requires ready { ¬ (IsIdle (newest_in self.old.log) self.old.standing) }
+        ensures log { self.new.log ≡ self.old.log }
+        ensures job { IfOk result (λ o. IfSome o
+            (λ job. IsHandedOut (newest_in self.old.log) self.old.standing.held.list.items job.name job.input)) }
+        ensures at { IfOk result (λ o. IfSome o (λ job. (job.book ≡ J.book) × (job.log ≡ self.old.log) × IsJob job)) }
+        ensures standing { IfOk result (λ o. IfSome o
+            (λ job. HasHeld self.old.standing (handed_out job.name job.input.column self.old.standing.held.list.items) self.new.standing)) }
+        ensures closing { IsTrue self.old.standing.closing → result ≡ Ok None }
+        ensures none { IfOk result (λ o. IfNone o (IsTrue self.old.standing.closing
+            × (self.new.standing ≡ self.old.standing))) }
+        ensures err { IfErr result (λ fault. (fault ≡ no_memory)
+            × HasHeld self.old.standing self.old.standing.held.list.items self.new.standing) }
+    {
+        if self.standing.closing {
+            return Ok(None);
+        }
+        let Some((name, column)) = self.free() else {
+            return Ok(None);
+        };
+        let Ok((name, input)) = self.parts(alloc, name, column) else {
+            return Err(NO_MEMORY);
+        };
+        let job = Job::new(name, input, self.log.last().trace.again());
+        if self.standing.held.hand_out(job.name(), column).is_err() {
+            job.end();
+            return Err(NO_MEMORY);
+        }
+        Ok(Some(job))
+    }
+
+    /// Spends a job whose tile could not be built for want of memory: the tile is marked.
+    pub fn give_back(&mut self, job: Job)
+        requires { job.book ≡ J.book }
+        ensures log { self.new.log ≡ self.old.log }
+        ensures standing { HasHeld self.old.standing (given_back job.name job.input.column self.old.standing.held.list.items) self.new.standing }
+    {
+        self.standing
+            .give_back(job.name(), job.input().column().number());
+        job.end();
+    }
+
+    /// A pending tile that is neither handed out nor marked.
+    pub fn free(&self) -> Option<(&Name, u8)>
+        ensures some { IfSome result
+            (λ r. IsFree (newest_in self.now.log) self.now.standing.held.list.items r.0.now r.1) }
+        ensures none { IfNone result (AllAreHeld (newest_in self.now.log) self.now.standing.held.list.items) }
+    {
+        free(&self.log.last().version, &self.standing.held)
+    }
+
+    // A copy of a tile's name, and the tile's input.
+    fn parts(&self, alloc: Global, name: &Name, column: u8) -> Result<(Name, TileInput), AllocError>
+        ensures { IfOk result (λ r. (r.0 ≡ name.now)
+            × (r.1 ≡ input_of (newest_in self.now.log).layers name.now column)) }
+    {
+        parts(&self.log.last().version, alloc, name, column)
+    }
+}
