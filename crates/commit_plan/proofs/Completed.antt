@@ -6,6 +6,7 @@ use Rattle.extent_map.specs.declared.extent.Extent as runs
 use Rattle.extent_map.specs.Extents.{AreAlike}
 use Rattle.extent_map.specs.Taken.{taken_of}
 use Rattle.store_terms.specs.declared.root.RecordExtent.{RecordExtent}
+use Rattle.store_terms.specs.declared.root.Root.{Root}
 use Rattle.store_terms.specs.Catalog.{Listed, catalog_of_record}
 use Rattle.store_terms.specs.Places.{all_apart, extents_listed}
 use Rattle.store_terms.specs.Roots.{body_text, sequence_max}
@@ -18,7 +19,7 @@ use Rattle.commit_plan.specs.Kept.{Kept, other}
 use Rattle.commit_plan.specs.Planning.{IsPlan, Plans}
 use Rattle.commit_plan.specs.Filing.{Filed, FiledLayer, listed_of, filed_of, Files}
 use Rattle.root_reading.specs.Taking.{AreRunsOf, IsMapOf}
-use Rattle.commit_plan.specs.Drafting.{IsDraft, Spell, IsNext}
+use Rattle.commit_plan.specs.Drafting.{IsDraft, IsLaidOut, Spell, IsNext}
 use Rattle.commit_plan.proofs.Filed.{filing_makes}
 use Rattle.commit_plan.proofs.Plan.{plans}
 use Rattle.root_reading.proofs.Rooms.{map_of_runs}
@@ -92,3 +93,24 @@ module _ (x : Kept) (given : List runs.Extent) (limit : ℕ) (layers : List File
         (taken_of next.room.map) are c.alike));
     plans = subst (λ (ws : List Write). Plans x y ws) (sym c.plan) (plans x y d.writes.items b is_plan);
   }
+
+-- the writes of a draft with its catalog, and the body behind them
+pub laid_out : (given : List runs.Extent) (limit : ℕ) (layers : List FiledLayer) (held : Held) (listing : List Listed) (catalog : Filed) (b : Write) (body : ℕ) (d : Draft) (root : Root)
+    (plan : List Write) → IsDraft given limit (flat_map filed_of layers ++ catalog ∷ []) d → Spell layers listing held → catalog_of_record catalog.bytes ≡ Some listing
+    → root.catalog ≡ catalog.extent → b.at ≡ body → b.bytes.items ≡ body_text root → plan ≡ d.writes.items ++ b ∷ [] → IsLaidOut given limit held body root plan
+laid_out given limit layers held listing catalog b body d root plan draft spell read named there spelled order = record {
+  layers = layers;
+  catalog = catalog;
+  places = d.runs.items;
+  records = d.writes.items;
+  last = b;
+  spelled = spell.spelled;
+  lists = read ∙ ap Some (sym spell.listed);
+  names = named;
+  planned = draft.placed.planned;
+  runs = draft.runs;
+  writes = draft.writes;
+  order = order;
+  there = there;
+  spells = spelled;
+}

@@ -60,6 +60,9 @@ written_so f w r behind block size long at is =
           ∙ front_of f.bytes _;
       blocks = omega (arith, all, bytes_fit (length f.bytes), long)
           ∙ ap (λ (n : ℕ). 4096 * n) (long ∙ ap blocks (sym size));
+      filled = is ∙ ap (λ (n : ℕ). f.bytes ++ replicate n 0)
+          (ap (λ (n : ℕ). 4096 * n - length f.bytes) (long ∙ ap blocks (sym size))
+          ∙ ap (λ (n : ℕ). 4096 * blocks f.extent.size - n) (sym size));
     }
 
 -- one record more has its run

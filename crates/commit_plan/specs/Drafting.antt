@@ -1,19 +1,22 @@
 -- The records of a commit that have their places.
-use Rattle.std.specs.Prelude.{◌≡◌, ℕ, ◌≤◌, List, length, map}
+use Rattle.std.specs.Prelude.{◌≡◌, ℕ, ◌≤◌, List, [], ◌∷◌, ◌++◌, length, map, flat_map, Some}
 use Rattle.extent_map.specs.declared.extent.Extent as runs
 use Rattle.extent_map.specs.Extents.{AreAlike}
 use Rattle.extent_map.specs.FirstFit.{IsPlanned, taken_with}
 use Rattle.extent_map.specs.Taken.{taken_of}
 use Rattle.overlay_terms.specs.Commands.{version_max}
 use Rattle.store_terms.specs.declared.root.RecordExtent.{RecordExtent}
-use Rattle.store_terms.specs.Catalog.{Listed}
+use Rattle.store_terms.specs.declared.root.Root.{Root}
+use Rattle.store_terms.specs.Catalog.{Listed, catalog_of_record}
+use Rattle.store_terms.specs.Roots.{body_text}
 use Rattle.store_terms.specs.Image.{Held}
 use Rattle.store_terms.specs.Spelled.{MayBeStored}
+use Rattle.commit_plan.specs.declared.write.Write.{Write}
 use Rattle.commit_plan.specs.declared.draft.Draft.{Draft}
 use Rattle.commit_plan.specs.declared.next.Next.{Next}
 use Rattle.commit_plan.specs.Kept.{Kept}
 use Rattle.commit_plan.specs.Planning.{Plans}
-use Rattle.commit_plan.specs.Filing.{Filed, FiledLayer, listed_of, SpellLayers, AreWritesOf}
+use Rattle.commit_plan.specs.Filing.{Filed, FiledLayer, listed_of, filed_of, SpellLayers, AreWritesOf}
 use Rattle.root_reading.specs.Taking.{AreRunsOf, IsMapOf}
 
 abbrev pub lengths_of : List Filed → List ℕ
@@ -44,6 +47,24 @@ pub record Spell (layers : List FiledLayer) (listing : List Listed) (x : Held) :
   pub stored : MayBeStored x.layers
   pub small : x.number ≤ version_max
   pub listed : map listed_of layers ≡ listing
+
+-- how the writes of a commit lie: first each record, layer by layer, in the lowest run that is free, in whole blocks of which the rest is zero; behind them the catalog that lists them, likewise; and last the body of the root, where it is to be put
+pub record IsLaidOut (given : List runs.Extent) (limit : ℕ) (held : Held) (body : ℕ) (root : Root)
+    (plan : List Write) : Type 0 where
+  pub layers : List FiledLayer
+  pub catalog : Filed
+  pub places : List runs.Extent
+  pub records : List Write
+  pub last : Write
+  pub spelled : SpellLayers layers held.layers held.tiles
+  pub lists : catalog_of_record catalog.bytes ≡ Some (map listed_of layers)
+  pub names : root.catalog ≡ catalog.extent
+  pub planned : IsPlanned given limit (lengths_of (flat_map filed_of layers ++ catalog ∷ [])) places
+  pub runs : AreRunsOf (extents_of_filed (flat_map filed_of layers ++ catalog ∷ [])) places
+  pub writes : AreWritesOf (flat_map filed_of layers ++ catalog ∷ []) records
+  pub order : plan ≡ records ++ last ∷ []
+  pub there : last.at ≡ body
+  pub spells : last.bytes.items ≡ body_text root
 
 -- what a commit goes on to from x: a root that holds this, the blocks that it takes, and the writes that lead there
 pub record IsNext (x : Kept) (held : Held) (next : Next) : Type 0 where

@@ -1,5 +1,5 @@
 -- Records with their places, as a commit writes them: the catalog, the extents and the writes come from one list.
-use Rattle.std.specs.Prelude.{◌≡◌, ℕ, ◌+◌, ◌*◌, ◌≤◌, true, List, [], ◌∷◌, ◌++◌, length, take, map, flat_map, Option, Some, None}
+use Rattle.std.specs.Prelude.{◌≡◌, ℕ, ◌+◌, ◌-◌, ◌*◌, ◌≤◌, true, List, [], ◌∷◌, ◌++◌, length, take, map, flat_map, replicate, Option, Some, None}
 use Rattle.std.proofs.Common.{inl, inr}
 use Rattle.std.specs.Option.{option_map}
 use Rattle.std.specs.List.{AllByRecursion}
@@ -66,12 +66,13 @@ SpellLayers (l ∷ ls) layers tiles =
     (layer : Layer) × (rest : List Layer) × (own : List Finished) × (more : List Finished) × (layers ≡ layer ∷ rest)
     × (tiles ≡ own ++ more) × SpellLayer l layer own × SpellLayers ls rest more
 
--- the write of a record: whole blocks, the record in front
+-- the write of a record: whole blocks, the record in front and zeros behind it
 pub record IsWriteOf (f : Filed) (w : Write) : Type 0 where
   pub behind : 2 ≤ f.extent.block
   pub there : w.at ≡ 4096 * f.extent.block
   pub size : f.extent.size ≡ length f.bytes
   pub front : take f.extent.size w.bytes.items ≡ f.bytes
+  pub filled : w.bytes.items ≡ f.bytes ++ replicate (4096 * blocks f.extent.size - f.extent.size) 0
   pub blocks : length w.bytes.items ≡ 4096 * blocks f.extent.size
 
 -- the writes are those of the records, in order

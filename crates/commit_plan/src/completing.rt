@@ -12,7 +12,7 @@ ghost use Rattle.store_terms.specs.StandsFor.{body_at};
 ghost use Rattle.commit_plan.specs.Kept.{Kept, other};
 ghost use Rattle.commit_plan.specs.Filing.{Filed, FiledLayer, filed_of};
 ghost use Rattle.root_reading.specs.Taking.{IsMapOf};
-ghost use Rattle.commit_plan.specs.Drafting.{ArePlanned, ArePlaced, IsDraft, Spell, IsNext};
+ghost use Rattle.commit_plan.specs.Drafting.{ArePlanned, ArePlaced, IsDraft, IsLaidOut, Spell, IsNext};
 
 use crate::draft::Draft;
 use crate::fault::StoreFault;
@@ -42,6 +42,9 @@ pub(crate) fn completed(
         → x.root ≡ root → body ≡ body_at (other root) → IsMapOf x.extents given
         → IsDraft given limit (flat_map filed_of layers) draft → Spell layers (listing_of listing.now) held
         → held.number ≡ number → IfOk result (λ next. IsNext x held next) }
+    ensures laid { (given : List runs.Extent) (limit : ℕ) (layers : List FiledLayer) (held : Held)
+        → IsDraft given limit (flat_map filed_of layers) draft → Spell layers (listing_of listing.now) held
+        → IfOk result (λ next. IsLaidOut given limit held body next.root next.plan.items) }
     ensures calls { IfOk result (λ next. length next.plan.items ≡ length draft.writes.items + 2) }
     ensures number { IfOk result (λ next. next.root.version ≡ number) }
     ensures placed { (given : List runs.Extent) (limit : ℕ) (sizes : List ℕ) → ArePlaced given limit sizes draft

@@ -5,7 +5,7 @@ ghost use Rattle.store_terms.specs.Roots.{sequence_max};
 ghost use Rattle.store_terms.specs.StandsFor.{body_at};
 ghost use Rattle.root_reading.specs.Taking.{IsMapOf};
 ghost use Rattle.commit_plan.specs.Kept.{Kept, other};
-ghost use Rattle.commit_plan.specs.Drafting.{IsNext};
+ghost use Rattle.commit_plan.specs.Drafting.{IsLaidOut, IsNext};
 ghost use Rattle.commit_plan.specs.Fitting.{HasRoom, HasNoRoom};
 
 use crate::completing::completed;
@@ -30,6 +30,10 @@ pub fn drafted(
     requires { root.sequence < sequence_max }
     ensures ok { (x : Kept) → x.root ≡ root → body ≡ body_at (other root) → IsMapOf x.extents (taken_of room.now.map)
         → IfOk result (λ next. IsNext x image.now next) }
+    // The records, the catalog and the body, in this order; each record and the catalog in the lowest free run, in
+    // whole blocks.
+    ensures laid { IfOk result
+        (λ next. IsLaidOut (taken_of room.now.map) room.now.max_blocks image.now body next.root next.plan.items) }
     // One write for each record, the catalog and the body.
     ensures calls { IfOk result
         (λ next. length next.plan.items ≡ length image.now.layers + length image.now.tiles + 2) }

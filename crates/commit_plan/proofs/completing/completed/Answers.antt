@@ -18,7 +18,7 @@ use Rattle.extent_map.specs.FirstFit.{IsPlanned, IsFull}
 use Rattle.commit_plan.proofs.Drafts.{room_fault, not_full, passed_error, same_fault}
 use Rattle.commit_plan.proofs.Short.{catalog_short}
 use Rattle.commit_plan.proofs.Placed.{planned_apart}
-use Rattle.commit_plan.proofs.Completed.{completes}
+use Rattle.commit_plan.proofs.Completed.{completes, laid_out}
 use Rattle.commit_plan.proofs.completing.completed.Goals as goal
 
 pub returns-clause-ok : goal.returns-clause-ok
@@ -93,3 +93,13 @@ returns-in-Err-clause-full c given limit sizes placed u =
 pub returns-clause-blocks : goal.returns-clause-blocks
 returns-clause-blocks c given limit sizes placed =
     c.in-Ok.ensures.limit ∙ (c.in_ok-catalog.ensures.placed given limit sizes placed).blocks
+
+pub returns-clause-laid : goal.returns-clause-laid
+returns-clause-laid c given limit layers held draft spell =
+    let cat : Filed = record { extent = c.in_ok-catalog.catalog; bytes = c.in_ok-bytes.bytes.items } in
+    let d = c.file.new.self in
+    let root : Root = record { sequence = c.args.root.sequence + 1; version = c.args.number; catalog = c.in_ok-catalog.catalog } in
+    let b : Write = record { at = c.args.body; bytes = c.in_ok-from_slice.field-0 } in
+    laid_out given limit layers held (listing_of c.args.listing.now) cat b c.args.body d root c.push.new.self.items
+    (c.in_ok-catalog.ensures.ok given limit (flat_map filed_of layers) draft) spell c.in_ok-bytes.ensures.reads_back refl refl
+    (c.in_ok-from_slice.ensures.items ∙ c.write_body.ensures.spelled) c.in_ok-push.ensures.items

@@ -1,4 +1,4 @@
-use Rattle.std.proofs.Common.{◌≡◌, ◌+◌, [], ◌∷◌, ◌++◌, List, length, ap, map, sym, ◌∙◌, subst, arith}
+use Rattle.std.proofs.Common.{◌≡◌, ◌+◌, [], ◌∷◌, ◌++◌, ℕ, List, length, ap, map, sym, ◌∙◌, subst, arith}
 use Rattle.std.specs.List.{flat_map}
 use Rattle.overlay_terms.specs.Layers.{Layer}
 use Rattle.overlay_terms.specs.Histories.{Finished}
@@ -17,7 +17,7 @@ use Rattle.store_terms.specs.Catalog.{catalog}
 use Rattle.commit_plan.specs.declared.fault.StoreFault.TheVariants.{Full}
 use Rattle.commit_plan.specs.Sizes.{sizes_of_layer, catalog_size}
 use Rattle.commit_plan.specs.Fitting.{HasRoom}
-use Rattle.commit_plan.specs.Drafting.{ArePlanned, ArePlaced, Spell}
+use Rattle.commit_plan.specs.Drafting.{ArePlanned, ArePlaced, IsLaidOut, Spell}
 use Rattle.commit_plan.proofs.Drafts.{passed_error}
 use Rattle.commit_plan.proofs.Sized.{full_more}
 use Rattle.commit_plan.proofs.Roomed.{has_room, has_no_room, catalog_sized}
@@ -176,3 +176,28 @@ returns-clause-blocks c =
     (λ next is. is ∙ c.in_ok-try_copy.ensures.limit ∙ sym room.limit)
     (c.completed.ensures.blocks (taken_of copy.map) copy.max_blocks
     (flat_map (sizes_of_layer c.tiles.result.now) c.layers-2.result.now) placed)
+
+pub returns-clause-laid : goal.returns-clause-laid
+returns-clause-laid c =
+    let image = c.args.image.now in
+    let room = c.args.room.now in
+    let copy = c.in_ok-try_copy.field-0 in
+    let d = c.file_layers.new.draft in
+    let given = taken_of copy.map in
+    let ls = listing_of c.in_ok-listing.listing.items in
+    let as_read = c.in_ok-listing.ensures.ok given copy.max_blocks c.new-draft.ensures in
+    let in_layers =
+    subst (λ (l : List Layer). AreLayersFiled given copy.max_blocks l
+    (map finished_of c.tiles.result.now) [] ls d) c.layers-2.ensures as_read in
+    let filed = subst
+    (λ (t : List Finished). AreLayersFiled given copy.max_blocks image.layers t [] ls d) c.tiles.ensures in_layers in
+    let book : IsBook image.layers = subst IsBook c.layers.ensures c.len.ensures.valid in
+    let spell = spell_of image given copy.max_blocks ls d c.number-number.ensures.valid book filed in
+    let listed : Spell filed.filed (listing_of c.deref.result.now) image =
+    subst (λ (l : List code.Listed). Spell filed.filed (listing_of l) image) (sym c.deref.ensures.value) spell in
+    let laid = c.completed.ensures.laid given copy.max_blocks filed.filed image filed.draft listed in
+    if_ok c.completed.result
+    (λ (next : Next). IsLaidOut given copy.max_blocks image c.args.body next.root next.plan.items)
+    (λ (next : Next). IsLaidOut (taken_of room.map) room.max_blocks image c.args.body next.root next.plan.items)
+    (λ (next : Next) is. subst (λ (l : List runs.Extent). IsLaidOut l room.max_blocks image c.args.body next.root next.plan.items) c.in_ok-try_copy.ensures.taken
+    (subst (λ (n : ℕ). IsLaidOut given n image c.args.body next.root next.plan.items) c.in_ok-try_copy.ensures.limit is)) laid
