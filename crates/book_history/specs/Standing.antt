@@ -22,9 +22,8 @@ abbrev pub next_news : ℕ → ℕ
 next_news news = (news + 1) % 2 ^ 64
 
 -- a book begins: no tile is handed out or marked, and the store told of nothing
-pub record IsFresh (store : Bool) (new : Standing) : Type 0 where
+pub record IsFresh (new : Standing) : Type 0 where
   pub held : new.held.list.items ≡ []
-  pub has_store : new.store ≡ store
   pub fault : new.fault ≡ None
   pub resting : new.resting ≡ false
   pub closing : new.closing ≡ false
@@ -35,7 +34,6 @@ pub record HasHeld (old : Standing) (tiles : List HeldTile) (new : Standing) : T
   pub held : new.held.list.items ≡ tiles
   pub fault : new.fault ≡ old.fault
   pub resting : new.resting ≡ old.resting
-  pub store : new.store ≡ old.store
   pub closing : new.closing ≡ old.closing
   pub news : new.news ≡ old.news
 
@@ -44,7 +42,6 @@ pub record IsAfterCommand (old new : Standing) : Type 0 where
   pub held : new.held.list.items ≡ unmarked old.held.list.items
   pub fault : new.fault ≡ left_over old.fault
   pub resting : new.resting ≡ false
-  pub store : new.store ≡ old.store
   pub closing : new.closing ≡ old.closing
   pub news : new.news ≡ next_news old.news
 
@@ -53,7 +50,6 @@ pub record IsAfterFinish (old : Standing) (name : Name) (column : ℕ) (is_kept 
   pub held : new.held.list.items ≡ taken_in name column old.held.list.items
   pub fault : new.fault ≡ old.fault
   pub resting : new.resting ≡ old.resting
-  pub store : new.store ≡ old.store
   pub closing : new.closing ≡ old.closing
   pub news : new.news ≡ (if is_kept then next_news old.news else old.news)
 
@@ -62,7 +58,6 @@ pub record IsAfterFailure (old : Standing) (fault : ToldFault) (new : Standing) 
   pub fault_told : new.fault ≡ told old.fault fault
   pub resting : new.resting ≡ true
   pub held : new.held ≡ old.held
-  pub store : new.store ≡ old.store
   pub closing : new.closing ≡ old.closing
   pub news : new.news ≡ old.news
 
@@ -72,5 +67,4 @@ pub record IsAfterClosing (old new : Standing) : Type 0 where
   pub held : new.held ≡ old.held
   pub fault : new.fault ≡ old.fault
   pub resting : new.resting ≡ old.resting
-  pub store : new.store ≡ old.store
   pub news : new.news ≡ old.news

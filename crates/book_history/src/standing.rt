@@ -13,8 +13,6 @@ use std::alloc::Global;
 #[derive(Drop)]
 pub struct Standing {
     pub held: HeldTiles,
-    /// Whether there is a store.
-    pub store: bool,
     /// What the store told, while it stands.
     pub fault: Option<ToldFault>,
     /// Whether the reporter waits for an accepted command.
@@ -26,12 +24,11 @@ pub struct Standing {
 
 impl Standing {
     /// No tile is handed out or marked, and the store told of nothing.
-    pub fn new(alloc: Global, store: bool) -> Standing
-        ensures { IsFresh store result }
+    pub fn new(alloc: Global) -> Standing
+        ensures { IsFresh result }
     {
         Standing {
             held: HeldTiles::new(alloc),
-            store,
             fault: None,
             resting: false,
             closing: false,

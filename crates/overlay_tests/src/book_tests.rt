@@ -1,6 +1,6 @@
 //! What a book answers: a snapshot, commands of two threads, tiles that are taken, finished and given back, durable
 //! numbers, and how it closes.
-use crate::books::{Call, Row, play};
+use crate::books::{Call, Row, WaitFor, play};
 use crate::testing::{Change, Corners, SHIFTED, SQUARE};
 use layer_book::fault::LayerFault;
 use version_book::fault::{BookFault, ToldFault};
@@ -20,14 +20,14 @@ fn a_command_is_in_the_next_snapshot(rt: HostRuntime) {
     play(&rt, rt.alloc(), false, SNAPSHOT, 1);
 }
 
-const BESIDE: &[&[Row]] = &[&[
-    Row::SubmitBeside(Change::Put("A", SQUARE), Change::Put("B", SHIFTED)),
-    Row::Calls(Call::NextVersion, Ok(Some(100))),
-]];
+const BESIDE: Row = Row::SubmitBeside(Change::Put("A", SQUARE), Change::Put("B", SHIFTED));
+
+/// Fifteen hundred commands of each session, and thirty reports.
+const MANY: &[&[Row]] = &[&[BESIDE; 30]];
 
 #[test]
-fn two_threads_share_one_row_of_numbers(rt: HostRuntime) {
-    play(&rt, rt.alloc(), false, BESIDE, 100);
+fn two_threads_share_one_row_of_numbers_however_long(rt: HostRuntime) {
+    play(&rt, rt.alloc(), false, MANY, 3000);
 }
 
 /// The squares A and B, and I where both are.
@@ -82,6 +82,7 @@ const GIVEN_BACK: &[&[Row]] = &[
         BUILDS,
         BUILDS,
         BUILDS,
+        Row::WaitsBeside(WaitFor::Built("I"), Call::GiveBack, Err(NO_MEMORY)),
         Row::GivesBack(true),
         Row::BuildsBeside("I", Err(NO_MEMORY)),
     ],
@@ -109,6 +110,24 @@ const DURABLE: &[&[Row]] = &[&[
 #[test]
 fn a_version_that_is_reported_is_durable(rt: HostRuntime) {
     play(&rt, rt.alloc(), true, DURABLE, 2);
+}
+
+const ENDED: &[&[Row]] = &[&[
+    Row::Calls(PUT_A, Ok(Some(1))),
+    Row::WaitsBeside(WaitFor::Durable, Call::Report(1), Ok(Some(1))),
+    Row::Calls(PUT_A, Ok(Some(2))),
+    Row::WaitsBeside(
+        WaitFor::Durable,
+        Call::StoreFailed(ToldFault::Full),
+        Err(BookFault::Store(ToldFault::Full)),
+    ),
+    Row::Calls(PUT_A, Ok(Some(3))),
+    Row::WaitsBeside(WaitFor::Durable, Call::BeginClose, Err(BookFault::Closing)),
+]];
+
+#[test]
+fn a_report_a_fault_and_closing_each_end_a_wait(rt: HostRuntime) {
+    play(&rt, rt.alloc(), true, ENDED, 3);
 }
 
 const WITHOUT_STORE: &[&[Row]] = &[&[Row::Calls(Call::WaitDurable, Err(BookFault::NoStore))]];

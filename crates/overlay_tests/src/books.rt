@@ -5,7 +5,7 @@ ghost use Rattle.version_book.specs.Rules.{head_of};
 
 use crate::rows::check;
 use crate::testing::{Change, command, name_of};
-use crate::threads::{Work, beside, submit_beside};
+use crate::threads::{Work, beside, submit_beside, wait_beside};
 use exact_point::QueryPoint;
 use layer_book::direct_answer::Place;
 use std::alloc::Global;
@@ -33,7 +33,17 @@ pub enum Call {
     NextVersion,
     Report(u64),
     StoreFailed(ToldFault),
+    /// A tile is taken and given back, as if memory had run out.
+    GiveBack,
     BeginClose,
+}
+
+/// What a session waits for.
+pub enum WaitFor {
+    /// The tiles of a layer.
+    Built(&'static str),
+    /// That the newest version that it has seen is durable.
+    Durable,
 }
 
 /// The number that a call answers, where it answers one, or its fault.
@@ -49,7 +59,9 @@ pub enum Row {
     GivesBack(bool),
     /// A tile is asked for and built in a thread of its own, beside a wait for a layer's tiles: what the wait answers.
     BuildsBeside(&'static str, Answer),
-    /// Two sessions submit a command each, fifty times in a thread of its own.
+    /// The first session waits in a thread of its own, until a call ends that: what the wait answers.
+    WaitsBeside(WaitFor, Call, Answer),
+    /// Two sessions submit a command each, fifty times in a thread of its own, and the last version is reported.
     SubmitBeside(Change, Change),
 }
 
@@ -196,18 +208,46 @@ fn play_row<J: Naming + Send + Sync, R: Threads + Wait + Clock + Abort + Sync>(
             // wait takes the mark away. Where both run in one thread, the wait comes first, and it finds the tile.
             let late = Work::WaitsLate(name_of(rt, alloc, name));
             let (_, done) = beside(rt, alloc, shared, other, me, &Work::Builds, &late);
-            let number = match done {
-                Ok(numbers) => Ok(numbers.last().copied()),
-                Err(fault) => Err(fault),
+            check(rt, at, &last_of(done), want);
+            None
+        }
+        Row::WaitsBeside(awaited, asked, want) => {
+            let wait = match awaited {
+                WaitFor::Built(name) => Work::Waits(name_of(rt, alloc, name)),
+                WaitFor::Durable => Work::WaitsDurable,
             };
-            check(rt, at, &number, want);
+            let (done, _) = wait_beside(rt, alloc, shared, reporter, me, other, &wait, asked);
+            check(rt, at, &last_of(done), want);
             None
         }
         Row::SubmitBeside(first, second) => {
             let (first, second) = (command(rt, alloc, first), command(rt, alloc, second));
-            submit_beside(rt, alloc, shared, me, other, first, second);
+            let last = submit_beside(rt, alloc, shared, me, other, first, second);
+            let reported = report_news(rt, alloc, shared, reporter);
+            check(rt, at, &reported, &Ok(Some(last)));
             None
         }
+    }
+}
+
+/// The last number of a list.
+fn last_of(done: Result<Vec<u64>, BookFault>) -> Answer {
+    Ok(done?.last().copied())
+}
+
+/// Reports the version durable that the reporter is given.
+fn report_news<J: Naming, R: Wait + Abort>(
+    rt: &R,
+    alloc: Global,
+    shared: &Shared<J, &R>,
+    reporter: &mut Reporter,
+) -> Answer
+    requires { reporter.old.book ≡ J.book }
+    ensures { reporter.new.book ≡ reporter.old.book }
+{
+    match shared.next_version(rt, reporter)? {
+        Some(version) => told(shared.report(rt, alloc, reporter, version.number())),
+        None => Ok(None),
     }
 }
 
@@ -228,7 +268,7 @@ fn number_where_inside<R: Abort>(
 }
 
 /// What a call answers.
-fn answer<J: Naming, R: Wait + Abort>(
+pub fn answer<J: Naming, R: Wait + Abort>(
     rt: &R,
     alloc: Global,
     shared: &Shared<J, &R>,
@@ -260,6 +300,10 @@ fn answer<J: Naming, R: Wait + Abort>(
         Call::Report(number) => told(shared.report(rt, alloc, reporter, *number)),
         Call::StoreFailed(fault) => {
             shared.store_failed(rt, reporter, *fault);
+            Ok(None)
+        }
+        Call::GiveBack => {
+            assert!(rt; give_back(rt, alloc, shared));
             Ok(None)
         }
         Call::BeginClose => {

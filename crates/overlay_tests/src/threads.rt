@@ -1,7 +1,7 @@
 //! What two sessions do in threads of their own, for the tests.
 ghost use Rattle.std.specs.Prelude.{◌≡◌};
 
-use crate::books::{finish, take};
+use crate::books::{Answer, Call, answer, finish, take};
 use layer_book::command::Command;
 use layer_expr::name::Name;
 use std::alloc::Global;
@@ -10,6 +10,7 @@ use std::sync::Wait;
 use std::thread::{Threads, join_mut, sleep};
 use std::time::{Clock, Duration};
 use version_book::fault::BookFault;
+use version_book::reporter::Reporter;
 use version_book::seen_log::Naming;
 use version_book::session::Session;
 use version_book::shared::Shared;
@@ -17,12 +18,16 @@ use version_book::shared::Shared;
 /// What a session does with a book.
 #[derive(Drop)]
 pub enum Work {
-    /// Submits the command fifty times.
+    /// Submits the command fifty times, and looks at each version.
     Submits(Command),
     /// Asks for a tile and builds it, which is to be kept.
     Builds,
     /// Waits for the tiles of the layer of this name, a tenth of a second late.
     WaitsLate(Name),
+    /// Waits for the tiles of the layer of this name.
+    Waits(Name),
+    /// Waits until the newest version that it has seen is durable.
+    WaitsDurable,
 }
 
 /// Does a work, and tells the numbers of its versions, each above the one before. A tile that is built tells none.
@@ -43,6 +48,8 @@ fn carry_out<J: Naming, R: Wait + Clock + Abort>(
             'puts: for _ in 0..50 {
                 let number = shared.submit(rt, alloc, me, change)?;
                 assert!(rt; number > last);
+                let seen = me.snapshot()?.number();
+                assert!(rt; seen >= number);
                 last = number;
                 list.push(number).expect(rt, "memory");
             }
@@ -56,6 +63,10 @@ fn carry_out<J: Naming, R: Wait + Clock + Abort>(
             list.push(shared.wait_built(rt, me, name)?)
                 .expect(rt, "memory");
         }
+        Work::Waits(name) => list
+            .push(shared.wait_built(rt, me, name)?)
+            .expect(rt, "memory"),
+        Work::WaitsDurable => list.push(shared.wait_durable(rt, me)?).expect(rt, "memory"),
     }
     Ok(list)
 }
@@ -81,16 +92,56 @@ pub fn beside<J: Naming + Send + Sync, R: Threads + Wait + Clock + Abort + Sync>
     )
 }
 
-/// Asserts that two lists of fifty numbers have those from 1 to 100 between them, and so each once.
-fn share_all<R: Abort>(rt: &R, first: &[u64], second: &[u64]) {
+/// What a wait answers that one session begins in a thread of its own, where a call ends it a tenth of a second later.
+// Where there is no memory for a thread, the call comes first.
+pub fn wait_beside<J: Naming + Send + Sync, R: Threads + Wait + Clock + Abort + Sync>(
+    rt: &R,
+    alloc: Global,
+    shared: &Shared<J, &R>,
+    reporter: &mut Reporter,
+    me: &mut Session,
+    other: &mut Session,
+    wait: &Work,
+    asked: &Call,
+) -> (Result<Vec<u64>, BookFault>, Answer)
+    requires { (reporter.old.book ≡ J.book) × (me.old.book ≡ J.book) × (other.old.book ≡ J.book) }
+    ensures { (reporter.new.book ≡ reporter.old.book) × (me.new.book ≡ me.old.book)
+        × (other.new.book ≡ other.old.book) }
+{
+    join_mut(
+        rt,
+        &mut || carry_out(rt, alloc, shared, me, wait),
+        &mut || late(rt, alloc, shared, reporter, other, asked),
+    )
+}
+
+/// What a call answers, a tenth of a second late.
+fn late<J: Naming, R: Wait + Clock + Abort>(
+    rt: &R,
+    alloc: Global,
+    shared: &Shared<J, &R>,
+    reporter: &mut Reporter,
+    me: &mut Session,
+    asked: &Call,
+) -> Answer
+    requires { (reporter.old.book ≡ J.book) × (me.old.book ≡ J.book) }
+    ensures { (reporter.new.book ≡ reporter.old.book) × (me.new.book ≡ me.old.book) }
+{
+    sleep(rt, Duration::from_millis(100));
+    answer(rt, alloc, shared, reporter, me, asked)
+}
+
+/// Asserts that two lists of fifty numbers have the hundred behind one between them, and so each once.
+fn share_all<R: Abort>(rt: &R, from: u64, first: &[u64], second: &[u64]) {
     assert!(rt; first.len() == 50);
     assert!(rt; second.len() == 50);
-    for number in 1..101 {
+    for more in 1..101 {
+        let number = from.wrapping_add(more);
         assert!(rt; first.contains(&number) || second.contains(&number));
     }
 }
 
-/// Submits one command fifty times in each of two threads.
+/// Submits one command fifty times in each of two threads, and tells the number of the last version.
 pub fn submit_beside<J: Naming + Send + Sync, R: Threads + Wait + Clock + Abort + Sync>(
     rt: &R,
     alloc: Global,
@@ -99,14 +150,17 @@ pub fn submit_beside<J: Naming + Send + Sync, R: Threads + Wait + Clock + Abort 
     two: &mut Session,
     first: Command,
     second: Command,
-)
+) -> u64
     requires { (one.old.book ≡ J.book) × (two.old.book ≡ J.book) }
     ensures { (one.new.book ≡ one.old.book) × (two.new.book ≡ two.old.book) }
 {
+    let from = one.snapshot().expect(rt, "no version").number();
     let (first, second) = (Work::Submits(first), Work::Submits(second));
     let (ours, theirs) = beside(rt, alloc, shared, one, two, &first, &second);
     let ours = ours.expect(rt, "no numbers of the first");
     let theirs = theirs.expect(rt, "no numbers of the second");
-    share_all(rt, &ours, &theirs);
-    assert!(rt; one.snapshot().is_ok_and(|version| version.number() == 100));
+    share_all(rt, from, &ours, &theirs);
+    let last = one.snapshot().expect(rt, "no version").number();
+    assert!(rt; last == from.wrapping_add(100));
+    last
 }

@@ -1,5 +1,6 @@
 -- From what the lock's methods say of the log to what a call says of histories.
-use Rattle.std.proofs.Common.{◌≡◌, ℕ, ◌<◌, ◌≤◌, Bool, true, List, [], ◌∷◌, ◌++◌, length, refl, ap, sym, ◌∙◌, subst, arith, append_assoc, Option, Some, None, IfSome, IfNone, Result, Ok, Err, IfOk, IfErr}
+use Rattle.std.proofs.Common.{◌≡◌, ◌⊎◌, inl, inr, ℕ, ◌<◌, ◌≤◌, Bool, true, List, [], ◌∷◌, ◌++◌, length, refl, ap, sym, ◌∙◌, subst, arith, append_assoc, Option, Some, None, IfSome, IfNone, Result, Ok, Err, IfOk, IfErr}
+use Rattle.std.specs.Prelude.{IsErrAnd}
 use mathlib.Core.List.{IsPrefix}
 use Rattle.overlay_terms.specs.Commands.{Command}
 use Rattle.overlay_terms.specs.Layers.{Name}
@@ -197,12 +198,31 @@ pub wait_refused : (r : Result ℕ BookFault) (closing : Bool) (v : Version) (na
 wait_refused (Ok n) closing v name q = tt
 wait_refused (Err f) closing v name q = wait_more f closing v name q
 
+abbrev no_store : Result ℕ BookFault
+no_store = Err fault.NoStore
+
 sync_at : (f : BookFault) (s : Standing) (v : Version) (n : ℕ) → IsSyncRefusedAt s v n f → IsSyncRefused n v f
 sync_at (fault.Version r) s v n q = q
-sync_at fault.Closing s v n q = q.1
+sync_at fault.Closing s v n q = q.0
 sync_at fault.Gone s v n q = tt
-sync_at fault.NoStore s v n q = tt
-sync_at (fault.Store r) s v n q = q.1
+sync_at fault.NoStore s v n q = absurd q
+sync_at (fault.Store r) s v n q = q.0
+
+-- a wait without a store is refused as such, or the book is behind
+pub without_store : (r : Result ℕ BookFault) (v : Version) (n : ℕ) → IsErrAnd r (λ f. (f ≡ fault.NoStore) ⊎ (f ≡ fault.Gone))
+    → IfErr r (λ f. IsSyncRefused n v f)
+without_store (Ok m) v n q = tt
+without_store (Err f) v n (inl is) = subst (λ f. IsSyncRefused n v f) (sym is) tt
+without_store (Err f) v n (inr is) = subst (λ f. IsSyncRefused n v f) (sym is) tt
+
+pub never_ok : (r : Result ℕ BookFault) (Q : BookFault → Type 0) (P : ℕ → Type 0) → IsErrAnd r Q → IfOk r P
+never_ok (Ok m) Q P q = absurd q
+never_ok (Err f) Q P q = tt
+
+-- a wait with a store is not refused for want of one
+pub with_store : (r : Result ℕ BookFault) (s : Standing) (v : Version) (n : ℕ) → IfErr r (λ f. IsSyncRefusedAt s v n f)
+    → r ≡ no_store → ⊥
+with_store r s v n q is = subst (λ r. IfErr r (λ f. IsSyncRefusedAt s v n f)) is q
 
 pub sync_refused : (r : Result ℕ BookFault) (s : Standing) (v : Version) (n : ℕ) → IfErr r (λ f. IsSyncRefusedAt s v n f) → IfErr r (λ f. IsSyncRefused n v f)
 sync_refused (Ok m) s v n q = tt

@@ -43,6 +43,11 @@ pub gone_err : {T : Type 0} (r : Result T BookFault) (x : BookFault) (Q : BookFa
 gone_err (Ok n) x Q is gone q = tt
 gone_err (Err f) x Q is gone q = subst Q (sym (is ∙ gone)) q
 
+pub err_and : {T : Type 0} (r : Result T BookFault) (x : BookFault) (Q : BookFault → Type 0)
+    → IsErrAnd r (λ y. y ≡ x) → Q x → IsErrAnd r Q
+err_and (Ok n) x Q is q = absurd is
+err_and (Err f) x Q is q = subst Q (sym is) q
+
 -- a fact stands beside every other fault
 pub where_else : (f : BookFault) {B : Type 0} → B → IfGone f (Unit {0}) B
 where_else (fault.Version r) x = x

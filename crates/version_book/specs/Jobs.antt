@@ -1,14 +1,15 @@
 -- A tile that can be handed out, and one that is: what it is to be built from.
-use Rattle.std.specs.Prelude.{◌≡◌, List, false, refl}
+use Rattle.std.specs.Prelude.{◌≡◌, Bool, List, false, refl}
 use Rattle.std.specs.Coded.{Coded, code_by, coded_list, coded×}
 use Rattle.logbook.specs.Pages.{Book, book_coded}
-use Rattle.overlay_terms.specs.Histories.{Entry, Version}
+use Rattle.overlay_terms.specs.Histories.{Entry, Tile, Version}
 use Rattle.overlay_terms.specs.InputCode.{input_code}
 use Rattle.overlay_terms.specs.Layers.{Name}
 use Rattle.overlay_terms.specs.Tiles.{Input, input_of}
 use Rattle.version_core.specs.Finish.{IsPending}
 use Rattle.book_history.specs.Codes.{entry_code, name_code}
 use Rattle.book_history.specs.Logs.{newest_in, IsLog}
+use Rattle.book_lock.specs.Steps.{IsFinishedIn}
 use Rattle.book_history.specs.HeldTiles.{is_held}
 use Rattle.book_history.specs.declared.held_tiles.HeldTile.{HeldTile}
 
@@ -24,6 +25,11 @@ pub record IsJob (job : Handed) : Type 0 where
   pub valid : IsLog job.log
   pub pending : IsPending (newest_in job.log) job.name job.input.column
   pub present : job.input ≡ input_of (newest_in job.log).layers job.name job.input.column
+
+-- a job was spent with a tile: where it was awaited it stands last now, and where not, the log stayed as it was
+pub record IsFinishedBy (job : Handed) (tile : Tile) (is_kept : Bool) (after : List Entry) : Type 0 where
+  pub log : List Entry
+  pub finished : IsFinishedIn log job.name job.input tile is_kept after
 
 -- a job as data that a model's value may hold
 abbrev pub handed_code : Coded Handed

@@ -1,5 +1,6 @@
 pub mod Heard
 pub mod Jobs
+pub mod Store
 pub mod Waits
 pub use Rattle.book_lock.specs.Steps
 pub use Rattle.book_history.specs.Fault

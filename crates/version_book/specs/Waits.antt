@@ -14,6 +14,8 @@ use Rattle.book_history.specs.HeldTiles.{has_mark, unmarked_of}
 use Rattle.book_history.specs.Standing.{HasHeld}
 use Rattle.book_history.specs.declared.standing.Standing.{Standing}
 use Rattle.book_lock.specs.Steps.{HasLooked}
+use Rattle.version_book.specs.declared.locked_book.telling.Awaited.{Awaited}
+use Rattle.version_book.specs.declared.locked_book.telling.Awaited.TheVariants.{Tile, Built, Durable, News}
 
 -- a worker waits on: the book is open, and no tile can be handed out
 pub record IsIdle (version : Version) (standing : Standing) : Type 0 where
@@ -27,9 +29,8 @@ pub record IsBuilding (version : Version) (standing : Standing) (name : Name) : 
   pub unmarked : has_mark name standing.held.list.items ≡ false
   pub not_closing : standing.closing ≡ false
 
--- a wait for a durable number goes on: there is a store, it is not so far, it told no fault, and the book is open
+-- a wait for a durable number goes on: the store is not so far, it told no fault, and the book is open
 pub record IsWriting (version : Version) (standing : Standing) (number : ℕ) : Type 0 where
-  pub store : standing.store ≡ true
   pub behind : version.durable < number
   pub sound : standing.fault ≡ None
   pub not_closing : standing.closing ≡ false
@@ -38,6 +39,13 @@ pub record IsWriting (version : Version) (standing : Standing) (number : ℕ) : 
 pub record IsQuiet (standing : Standing) (given : ℕ) : Type 0 where
   pub not_closing : standing.closing ≡ false
   pub nothing : (standing.news ≡ given) ⊎ (standing.resting ≡ true)
+
+-- a wait goes on, by what it is for
+abbrev pub Waits : Version → Standing → Awaited → Type 0
+Waits version standing Tile = IsIdle version standing
+Waits version standing (Built name) = IsBuilding version standing name.now
+Waits version standing (Durable number) = IsWriting version standing number
+Waits version standing (News given) = IsQuiet standing given
 
 -- the layer has tiles, all of them are finished, and the version has this number
 pub record IsBuiltAt (version : Version) (name : Name) (number : ℕ) : Type 0 where
@@ -66,16 +74,16 @@ IsSyncRefused number version fault.Gone = Unit {0}
 IsSyncRefused number version fault.NoStore = Unit {0}
 IsSyncRefused number version (fault.Store refused) = version.durable < number
 
--- the same under the lock: there is no store; or the number is not durable, and the store told this fault, or it told
--- none and the book closes
+-- the same under the lock of a book that has a store: the number is not durable, and the store told this fault, or it
+-- told none and the book closes
 abbrev pub IsSyncRefusedAt : Standing → Version → ℕ → BookFault → Type 0
 IsSyncRefusedAt standing version number (fault.Version refused) = ⊥
 IsSyncRefusedAt standing version number fault.Closing =
-    (standing.store ≡ true) × (version.durable < number) × (standing.fault ≡ None) × (standing.closing ≡ true)
+    (version.durable < number) × (standing.fault ≡ None) × (standing.closing ≡ true)
 IsSyncRefusedAt standing version number fault.Gone = Unit {0}
-IsSyncRefusedAt standing version number fault.NoStore = standing.store ≡ false
+IsSyncRefusedAt standing version number fault.NoStore = ⊥
 IsSyncRefusedAt standing version number (fault.Store refused) =
-    (standing.store ≡ true) × (version.durable < number) × (standing.fault ≡ Some refused)
+    (version.durable < number) × (standing.fault ≡ Some refused)
 
 -- a session has looked at this log; or the book was behind it, and nothing changed
 abbrev pub Looks : Result ℕ BookFault → Known → List Entry → Known → Type 0

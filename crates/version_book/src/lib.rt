@@ -1,12 +1,16 @@
 //! Published versions: the book that threads share, its sessions, its reporter and its jobs.
 #![tactic(auto)]
 
-pub mod closing;
 pub mod crossing;
 mod locked_book;
 pub mod reporter;
 pub mod shared;
-mod telling;
+mod turns;
+
+/// What is left of a book that closes.
+pub mod closing {
+    pub use book_lock::closed::Closed;
+}
 
 /// A tile that is handed out.
 pub mod job {

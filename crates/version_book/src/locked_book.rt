@@ -10,7 +10,7 @@ ghost use Rattle.book_lock.specs.Steps.{HasLooked, IsAcceptedIn, IsFinishedIn};
 
 use crate::locked_book::job::Job;
 use book_history::fault::BookFault;
-use book_history::seen_log::Naming;
+use book_history::seen_log::{Naming, SeenLog};
 use book_history::standing::Standing;
 use book_lock::locked_log::LockedLog;
 use book_lock::session::Session;
@@ -19,17 +19,24 @@ use std::alloc::Global;
 use std::sync::Wait;
 use tile_build::built::Built;
 
+pub mod closing;
 mod handing;
 pub mod job;
+pub mod telling;
 
-/// What lies under the lock.
+/// What lies under the lock. Its parts are changed by its own calls alone.
 #[derive(Drop)]
 pub struct LockedBook<J: Naming, R: Wait + Drop> {
-    pub log: LockedLog<J, R>,
-    pub standing: Standing,
+    log: LockedLog<J, R>,
+    standing: Standing,
 }
 
 impl<J: Naming, R: Wait + Drop> LockedBook<J, R> {
+    /// A book that begins with a log.
+    pub fn new(log: LockedLog<J, R>, standing: Standing) -> LockedBook<J, R> {
+        LockedBook { log, standing }
+    }
+
     /// Accepts a command of a session: one entry, or none.
     pub fn submit(
         &mut self,
@@ -58,6 +65,14 @@ impl<J: Naming, R: Wait + Drop> LockedBook<J, R> {
         let number = self.log.submit(alloc, me, change)?;
         self.standing.command_accepted();
         Ok(number)
+    }
+
+    /// The log, as it is.
+    pub fn end(&self) -> SeenLog
+        ensures log { result.log ≡ self.now.log }
+        ensures valid { (result.book ≡ J.book) × IsLog result.log }
+    {
+        self.log.last().trace.again()
     }
 
     /// Spends a job: keeps the tile that was built of its input where it is awaited, and says whether it was, by one

@@ -1,6 +1,6 @@
 //! What threads share: the book under its lock, and the calls on it.
 ghost use Rattle.std.specs.Prelude.{◌≡◌, ◌⊎◌, ◌<◌, ◌≤◌, [], ◌∷◌, ◌++◌, IfOk, IfErr, IfSome, IfNone, All};
-ghost use Rattle.std.specs.Prelude.{length, true};
+ghost use Rattle.std.specs.Prelude.{length, true, false, Err, IsErrAnd};
 ghost use Rattle.std.specs.Arc.{arc_value};
 ghost use Rattle.overlay_terms.specs.Histories.{newest, BeginsWith, IsHistory};
 ghost use Rattle.layer_book.specs.Command.{command};
@@ -10,17 +10,19 @@ ghost use Rattle.book_history.specs.Logs.{entry, history_of, newest_in, no_event
 ghost use Rattle.book_history.specs.Rules.{head_of};
 ghost use Rattle.book_lock.specs.Steps.{beginners, HasAllOf};
 ghost use Rattle.version_book.specs.Heard.{HasHeard, IsReportedBy};
-ghost use Rattle.version_book.specs.Jobs.{IsJob};
+ghost use Rattle.version_book.specs.Jobs.{IsFinishedBy, IsJob};
+ghost use Rattle.version_book.specs.Store.{has_store};
 ghost use Rattle.version_book.specs.Waits.{IsBuiltAt, IsSyncRefused, IsWaitRefused};
 
-use crate::closing::{Closed, begin_close, has_all_of, into_closed};
+use crate::closing::Closed;
 use crate::job::Job;
 use crate::locked_book::LockedBook;
-use crate::reporter::Reporter;
-use crate::telling::{
-    is_building, is_idle, is_quiet, is_writing, report, store_failed, tell_built, tell_durable,
-    tell_news,
+use crate::locked_book::closing::{begin_close, has_all_of, into_closed};
+use crate::locked_book::telling::{
+    Awaited, report, store_failed, tell_built, tell_durable, tell_news, tell_no_store,
 };
+use crate::reporter::Reporter;
+use crate::turns::Turns;
 use book_history::fault::{BookFault, ToldFault};
 use book_history::seen_log::{Head, Naming, SeenLog};
 use book_history::standing::Standing;
@@ -29,14 +31,14 @@ use book_lock::session::Session;
 use layer_book::command::Command;
 use layer_expr::name::Name;
 use std::alloc::Global;
-use std::sync::{Arc, Condvar, Mutex, Wait};
+use std::sync::{Arc, Wait};
 use tile_build::built::Built;
 use version_core::version::Version;
 
-/// The book under its lock.
+/// The book under its lock, and whether it has a store.
 pub struct Shared<J: Naming, R: Wait + Drop> {
-    locked: Mutex<LockedBook<J, R>>,
-    changed: Condvar,
+    turns: Turns<J, R>,
+    store: bool,
 }
 
 impl<J: Naming, R: Wait + Drop> Shared<J, R> {
@@ -58,16 +60,23 @@ impl<J: Naming, R: Wait + Drop> Shared<J, R> {
         ensures of_book { IfOk result (λ r. All (λ session. session.book ≡ J.book) r.2.items) }
         ensures reporter_of_book { IfOk result (λ r. r.1.book ≡ J.book) }
         ensures count { IfOk result (λ r. length r.2.items ≡ sessions) }
+        ensures store { IfOk result (λ r. has_store r.0 ≡ store) }
         ensures err { IfErr result (λ fault. (fault ≡ no_memory) ⊎ (fault ≡ BookFault.Gone)) }
     {
         let reporter = Reporter::new(trace.again(), version.durable());
         let (log, list) = LockedLog::open(rt, alloc, head, trace, version, sessions)?;
-        let standing = Standing::new(alloc, store);
         let shared = Shared {
-            locked: Mutex::new(LockedBook { log, standing }),
-            changed: Condvar::new(),
+            turns: Turns::new(LockedBook::new(log, Standing::new(alloc))),
+            store,
         };
         Ok((shared, reporter, list))
+    }
+
+    /// Whether it has a store.
+    pub fn has_store(&self) -> bool
+        ensures { result ≡ has_store self.now }
+    {
+        self.store
     }
 
     /// Accepts a command of a session, and answers the number of its version.
@@ -90,10 +99,8 @@ impl<J: Naming, R: Wait + Drop> Shared<J, R> {
         ensures same { (me.new.book ≡ me.old.book) × (me.new.session ≡ me.old.session) }
     {
         let _number = me.number();
-        let mut locked = self.locked.lock(rt);
-        let done = locked.submit(alloc, me, change);
-        self.changed.notify_all();
-        done
+        let mut turn = self.turns.next(rt);
+        turn.book.submit(alloc, me, change)
     }
 
     /// Hands out a pending tile that is neither handed out nor marked. It waits for one; None comes at closing.
@@ -102,10 +109,8 @@ impl<J: Naming, R: Wait + Drop> Shared<J, R> {
         ensures job { IfOk result (λ o. IfSome o (λ job. IsJob job)) }
         ensures err { IfErr result (λ fault. fault ≡ no_memory) }
     {
-        let mut locked = self
-            .changed
-            .wait_while(rt, self.locked.lock(rt), |locked| is_idle(locked));
-        locked.take(alloc)
+        let mut turn = self.turns.behind(rt, &Awaited::Tile);
+        turn.book.take(alloc)
     }
 
     /// Spends a job with the tile that was built of its input, and says whether it was kept. Where that cannot be
@@ -122,10 +127,34 @@ impl<J: Naming, R: Wait + Drop> Shared<J, R> {
         ensures err { IfErr result (λ e. (e.0 ≡ job) × (e.1 ≡ built)) }
         ensures refused { IfErr result (λ e. (e.2 ≡ no_memory) ⊎ (e.2 ≡ BookFault.Gone)) }
     {
-        let mut locked = self.locked.lock(rt);
-        let done = locked.finish(alloc, job, built);
-        self.changed.notify_all();
-        done
+        match self.finish_seen(rt, alloc, job, built) {
+            Ok((kept, _log)) => Ok(kept),
+            Err(back) => Err(back),
+        }
+    }
+
+    /// Spends a job as `finish` does, and gives the log behind it: the tile stands last there where it was kept.
+    pub fn finish_seen<W: Wait>(
+        &self,
+        rt: &W,
+        alloc: Global,
+        job: Job,
+        built: Built,
+    ) -> Result<(bool, SeenLog), (Job, Built, BookFault)>
+        requires book { job.book ≡ J.book }
+        requires input { built.0 ≡ job.input }
+        ensures finished { IfOk result (λ r. IsFinishedBy job built.1 r.0 r.1.log) }
+        ensures log { IfOk result (λ r. (r.1.book ≡ J.book) × IsLog r.1.log) }
+        ensures err { IfErr result (λ e. (e.0 ≡ job) × (e.1 ≡ built)) }
+        ensures refused { IfErr result (λ e. (e.2 ≡ no_memory) ⊎ (e.2 ≡ BookFault.Gone)) }
+    {
+        let mut turn = self.turns.next(rt);
+        let kept = match turn.book.finish(alloc, job, built) {
+            Ok(kept) => kept,
+            Err(back) => return Err(back),
+        };
+        let log = turn.book.end();
+        Ok((kept, log))
     }
 
     /// Spends a job whose tile could not be built for want of memory: the tile is marked.
@@ -134,9 +163,8 @@ impl<J: Naming, R: Wait + Drop> Shared<J, R> {
     pub fn give_back<W: Wait>(&self, rt: &W, job: Job)
         requires { job.book ≡ J.book }
     {
-        let mut locked = self.locked.lock(rt);
-        locked.give_back(job);
-        self.changed.notify_all();
+        let mut turn = self.turns.next(rt);
+        turn.book.give_back(job);
     }
 
     /// Waits until the tiles of a layer are finished, and answers the number of such a version.
@@ -156,14 +184,8 @@ impl<J: Naming, R: Wait + Drop> Shared<J, R> {
         ensures same { (me.new.book ≡ me.old.book) × (me.new.session ≡ me.old.session) × (me.new.made ≡ me.old.made) }
     {
         let _number = me.number();
-        let mut locked = self.changed.wait_while(
-            rt,
-            self.locked.lock(rt),
-            |locked| is_building(locked, name),
-        );
-        let told = tell_built(&mut locked, me, name);
-        self.changed.notify_all();
-        told
+        let mut turn = self.turns.behind(rt, &Awaited::Built(name));
+        tell_built(&mut turn.book, me, name)
     }
 
     /// Waits until the newest version that a session has seen is durable, and answers the durable number.
@@ -176,16 +198,19 @@ impl<J: Naming, R: Wait + Drop> Shared<J, R> {
         ensures err { IfErr result (λ fault. IfGone fault (me.new ≡ me.old) (IsOwn me.new)) }
         ensures refused { IfErr result
             (λ fault. IsSyncRefused (newest (seen me.old)).number (newest (seen me.new)) fault) }
+        ensures only_without { result ≡ Err BookFault.NoStore → has_store self.now ≡ false }
+        ensures without { has_store self.now ≡ false
+            → IsErrAnd result (λ fault. (fault ≡ BookFault.NoStore) ⊎ (fault ≡ BookFault.Gone)) }
         ensures same { (me.new.book ≡ me.old.book) × (me.new.session ≡ me.old.session) × (me.new.made ≡ me.old.made) }
     {
         let _number = me.number();
         let number = me.newest();
-        let locked = self.changed.wait_while(
-            rt,
-            self.locked.lock(rt),
-            |locked| is_writing(locked, number),
-        );
-        tell_durable(&locked, me, number)
+        if !self.store {
+            let turn = self.turns.next(rt);
+            return tell_no_store(&turn.book, me);
+        }
+        let turn = self.turns.behind(rt, &Awaited::Durable(number));
+        tell_durable(&turn.book, me, number)
     }
 
     /// Gives the reporter the newest version once there are commands or kept tiles that it was not
@@ -207,10 +232,8 @@ impl<J: Naming, R: Wait + Drop> Shared<J, R> {
         ensures same { me.new.book ≡ me.old.book }
     {
         let given = me.given();
-        let locked = self
-            .changed
-            .wait_while(rt, self.locked.lock(rt), |locked| is_quiet(locked, given));
-        tell_news(&locked, me)
+        let turn = self.turns.behind(rt, &Awaited::News(given));
+        tell_news(&turn.book, me)
     }
 
     /// Reports a number durable, and answers the durable number then.
@@ -231,10 +254,8 @@ impl<J: Naming, R: Wait + Drop> Shared<J, R> {
         ensures same { (me.new.book ≡ me.old.book) × (me.new.given ≡ me.old.given) }
     {
         let _given = me.given();
-        let mut locked = self.locked.lock(rt);
-        let done = report(&mut locked, alloc, me, number);
-        self.changed.notify_all();
-        done
+        let mut turn = self.turns.next(rt);
+        report(&mut turn.book, alloc, me, number)
     }
 
     /// The store told a fault: the reporter rests until a command is accepted.
@@ -243,17 +264,15 @@ impl<J: Naming, R: Wait + Drop> Shared<J, R> {
         ensures { me.new ≡ me.old }
     {
         let _given = me.given();
-        let mut locked = self.locked.lock(rt);
-        store_failed(&mut locked, fault);
-        self.changed.notify_all();
+        let mut turn = self.turns.next(rt);
+        store_failed(&mut turn.book, fault);
     }
 
     /// From now on commands are refused, no job is handed out, and no call waits for long.
     // It has no clause: it gives nothing, and that the book closes is said under the lock, by `begin_close` there.
     pub fn begin_close<W: Wait>(&self, rt: &W) {
-        let mut locked = self.locked.lock(rt);
-        begin_close(&mut locked);
-        self.changed.notify_all();
+        let mut turn = self.turns.next(rt);
+        begin_close(&mut turn.book);
     }
 
     /// Ends the book once the threads that share it have returned. Were one of these tokens not level with it, which
@@ -268,10 +287,10 @@ impl<J: Naming, R: Wait + Drop> Shared<J, R> {
         ensures durable { All (λ entry. entry.version.durable ≤ (newest_in result.trace.log).durable) result.trace.log }
     {
         let Shared {
-            locked,
-            changed: _changed,
+            turns,
+            store: _store,
         } = self;
-        let locked = locked.into_inner();
+        let locked = turns.into_inner();
         if !has_all_of(&locked, reporter, sessions) {
             never(rt)
         }
@@ -288,8 +307,10 @@ fn never<W: Wait>(rt: &W) -> ! {
 /// It waits for the readers.
 impl<J: Naming, R: Wait + Drop> Drop for Shared<J, R> {
     fn drop(self) {
-        let Self { locked, changed } = self;
-        drop(locked);
-        drop(changed);
+        let Self {
+            turns,
+            store: _store,
+        } = self;
+        drop(turns);
     }
 }

@@ -29,7 +29,7 @@ returns-in_default-parts g c = record {
   standing = tt;
   closing = λ is. absurd (true≢false (sym is ∙ c.if-self.false));
   none = tt;
-  err = (refl, record { held = refl; fault = refl; resting = refl; store = refl; closing = refl; news = refl });
+  err = (refl, record { held = refl; fault = refl; resting = refl; closing = refl; news = refl });
 }
 
 pub returns-then-is_err : goal.returns-then-is_err
@@ -42,7 +42,7 @@ returns-then-is_err g c =
       standing = tt;
       closing = λ is. absurd (true≢false (sym is ∙ c.if-self.false));
       none = tt;
-      err = (refl, record { held = held; fault = refl; resting = refl; store = refl; closing = refl; news = refl });
+      err = (refl, record { held = held; fault = refl; resting = refl; closing = refl; news = refl });
     }
 
 pub returns : goal.returns
@@ -64,7 +64,7 @@ returns g c =
         ap (λ j. j.log) c.new-job.ensures ∙ log,
         subst IsJob (sym c.new-job.ensures) job,
       );
-      standing = record { held = held; fault = refl; resting = refl; store = refl; closing = refl; news = refl };
+      standing = record { held = held; fault = refl; resting = refl; closing = refl; news = refl };
       closing = λ is. absurd (true≢false (sym is ∙ is_open));
       none = tt;
       err = tt;

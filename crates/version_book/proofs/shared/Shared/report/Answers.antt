@@ -3,7 +3,7 @@ use Rattle.version_book.proofs.shared.Shared.report.Goals as goal
 
 pub returns : goal.returns
 returns g c =
-    let s = c.report-done in
+    let s = c.report in
     let me = c.args.me.now in
     let new = s.new.me in
     let log = c.deref_mut.result.now.log in

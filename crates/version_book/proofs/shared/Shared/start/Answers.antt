@@ -1,4 +1,4 @@
-use Rattle.std.proofs.Common.{◌≡◌, length, ap, sym, ◌∙◌, subst}
+use Rattle.std.proofs.Common.{◌≡◌, length, refl, ap, sym, ◌∙◌, subst}
 use Rattle.std.specs.List.{All}
 use Rattle.book_history.specs.Known.{Known}
 use Rattle.book_history.specs.Logs.{newest_in}
@@ -23,6 +23,7 @@ returns-in_err-log g c =
       of_book = gone_ok r _ _ is;
       reporter_of_book = gone_ok r _ _ is;
       count = gone_ok r _ _ is;
+      store = gone_ok r _ _ is;
       err = passed _ r _ is c.in_err-log.ensures.err;
     }
 
@@ -37,5 +38,6 @@ returns g c =
           (all_begin c.args.trace g.J.Naming.book c.args.sessions c.requires.trace.0);
       reporter_of_book = ap (λ h. h.book) begun ∙ c.requires.trace.0;
       count = ap length all ∙ count_of c.args.trace c.args.sessions;
+      store = refl;
       err = tt;
     }

@@ -4,7 +4,7 @@ use Rattle.version_book.proofs.shared.Shared.submit.Goals as goal
 
 pub returns : goal.returns
 returns g c =
-    let s = c.submit-done in
+    let s = c.submit in
     let me = c.args.me.now in
     let new = s.new.me in
     let change = command c.args.change.now in

@@ -1,5 +1,5 @@
 //! What the calls that wait decide by, and what the reporter is told, under the lock.
-ghost use Rattle.std.specs.Prelude.{◌≡◌, ◌⊎◌, ◌<◌, ◌≤◌, ◌↔◌, IsTrue, length, IfOk, IfErr, IfSome, IfNone};
+ghost use Rattle.std.specs.Prelude.{◌≡◌, ◌⊎◌, ◌<◌, ◌≤◌, ◌↔◌, IsTrue, length, IfOk, IfErr, IfSome, IfNone, IsErrAnd};
 ghost use Rattle.std.specs.Arc.{arc_value};
 ghost use Rattle.book_history.specs.Fault.{IfGone, no_memory};
 ghost use Rattle.book_history.specs.Logs.{newest_in, IsLog};
@@ -7,7 +7,7 @@ ghost use Rattle.book_history.specs.Standing.{IsAfterFailure};
 ghost use Rattle.book_lock.specs.Steps.{IsLevel, IsReportedIn};
 ghost use Rattle.version_book.specs.Heard.{HasHeard};
 ghost use Rattle.version_book.specs.Waits.{IsAfterTold, IsBuilding, IsBuiltAt, IsIdle, IsQuiet, IsSyncRefusedAt};
-ghost use Rattle.version_book.specs.Waits.{IsWaitRefused, IsWriting, Looks};
+ghost use Rattle.version_book.specs.Waits.{IsWaitRefused, IsWriting, Looks, Waits};
 
 use crate::locked_book::LockedBook;
 use crate::reporter::Reporter;
@@ -20,15 +20,43 @@ use std::alloc::Global;
 use std::sync::{Arc, Wait};
 use version_core::version::Version;
 
-/// Whether nothing can be handed out, and the book does not close.
-pub(crate) fn is_idle<J: Naming, R: Wait + Drop>(locked: &LockedBook<J, R>) -> bool
+/// What a call waits for.
+#[derive(Clone, Copy)]
+pub(crate) enum Awaited<'a> {
+    /// A tile that can be handed out.
+    Tile,
+    /// The tiles of a layer.
+    Built(&'a Name),
+    /// That a number is durable.
+    Durable(u64),
+    /// News behind those of a count.
+    News(u64),
+}
+
+/// Whether a wait goes on.
+pub(crate) fn waits<J: Naming, R: Wait + Drop>(
+    locked: &LockedBook<J, R>,
+    awaited: &Awaited<'_>,
+) -> bool
+    ensures { IsTrue result ↔ Waits (newest_in locked.now.log) locked.now.standing awaited.now }
+{
+    match awaited {
+        Awaited::Tile => is_idle(locked),
+        Awaited::Built(name) => is_building(locked, name),
+        Awaited::Durable(number) => is_writing(locked, *number),
+        Awaited::News(given) => is_quiet(locked, *given),
+    }
+}
+
+// Whether nothing can be handed out, and the book does not close.
+fn is_idle<J: Naming, R: Wait + Drop>(locked: &LockedBook<J, R>) -> bool
     ensures { IsTrue result ↔ IsIdle (newest_in locked.now.log) locked.now.standing }
 {
     !locked.standing.closing && locked.free().is_none()
 }
 
-/// Whether a layer's tiles can be waited for, and none of the ends of the wait is there.
-pub(crate) fn is_building<J: Naming, R: Wait + Drop>(locked: &LockedBook<J, R>, name: &Name) -> bool
+// Whether a layer's tiles can be waited for, and none of the ends of the wait is there.
+fn is_building<J: Naming, R: Wait + Drop>(locked: &LockedBook<J, R>, name: &Name) -> bool
     ensures { IsTrue result ↔ IsBuilding (newest_in locked.now.log) locked.now.standing name.now }
 {
     let version = &locked.log.last().version;
@@ -38,18 +66,17 @@ pub(crate) fn is_building<J: Naming, R: Wait + Drop>(locked: &LockedBook<J, R>, 
         && !locked.standing.closing
 }
 
-/// Whether a version of this number is not yet durable, and none of the other ends of the wait is there.
-pub(crate) fn is_writing<J: Naming, R: Wait + Drop>(locked: &LockedBook<J, R>, number: u64) -> bool
+// Whether a version of this number is not yet durable, and none of the other ends of the wait is there.
+fn is_writing<J: Naming, R: Wait + Drop>(locked: &LockedBook<J, R>, number: u64) -> bool
     ensures { IsTrue result ↔ IsWriting (newest_in locked.now.log) locked.now.standing number }
 {
-    locked.standing.store
-        && locked.log.last().version.durable() < number
+    locked.log.last().version.durable() < number
         && locked.standing.fault.is_none()
         && !locked.standing.closing
 }
 
-/// Whether there are no news for the reporter, or it rests.
-pub(crate) fn is_quiet<J: Naming, R: Wait + Drop>(locked: &LockedBook<J, R>, given: u64) -> bool
+// Whether there are no news for the reporter, or it rests.
+fn is_quiet<J: Naming, R: Wait + Drop>(locked: &LockedBook<J, R>, given: u64) -> bool
     ensures { IsTrue result ↔ IsQuiet locked.now.standing given }
 {
     !locked.standing.closing && (locked.standing.news == given || locked.standing.resting)
@@ -86,7 +113,7 @@ pub(crate) fn tell_built<J: Naming, R: Wait + Drop>(
     Err(BookFault::Closing)
 }
 
-/// Tells a session how a wait until a number is durable ends.
+/// Tells a session how a wait until a number is durable ends, in a book that has a store.
 pub(crate) fn tell_durable<J: Naming, R: Wait + Drop>(
     locked: &LockedBook<J, R>,
     me: &mut Session,
@@ -95,16 +122,12 @@ pub(crate) fn tell_durable<J: Naming, R: Wait + Drop>(
     requires book { me.old.book ≡ J.book }
     requires ready { ¬ (IsWriting (newest_in locked.now.log) locked.now.standing number) }
     ensures ok { IfOk result (λ n. ((newest_in locked.now.log).durable ≡ n) × (number ≤ n)) }
-    ensures store { IfOk result (λ _. IsTrue locked.now.standing.store) }
     ensures refused { IfErr result
         (λ fault. IsSyncRefusedAt locked.now.standing (newest_in locked.now.log) number fault) }
     ensures seen { Looks result me.old locked.now.log me.new }
     ensures gone { IfErr result (λ fault. IfGone fault (¬ (IsLevel locked.now.log me.old)) (Unit {0})) }
 {
     locked.log.show(me)?;
-    if !locked.standing.store {
-        return Err(BookFault::NoStore);
-    }
     let durable = locked.log.last().version.durable();
     if number <= durable {
         return Ok(durable);
@@ -113,6 +136,20 @@ pub(crate) fn tell_durable<J: Naming, R: Wait + Drop>(
         Some(fault) => Err(BookFault::Store(fault)),
         None => Err(BookFault::Closing),
     }
+}
+
+/// Tells a session that there is no store.
+pub(crate) fn tell_no_store<J: Naming, R: Wait + Drop>(
+    locked: &LockedBook<J, R>,
+    me: &mut Session,
+) -> Result<u64, BookFault>
+    requires book { me.old.book ≡ J.book }
+    ensures refused { IsErrAnd result (λ fault. (fault ≡ BookFault.NoStore) ⊎ (fault ≡ BookFault.Gone)) }
+    ensures seen { Looks result me.old locked.now.log me.new }
+    ensures gone { IfErr result (λ fault. IfGone fault (¬ (IsLevel locked.now.log me.old)) (Unit {0})) }
+{
+    locked.log.show(me)?;
+    Err(BookFault::NoStore)
 }
 
 /// Gives the reporter the newest version, where there are news. None comes where there are none, at closing.

@@ -8,7 +8,7 @@ use Rattle.book_history.proofs.Fronts.{prefix_trans}
 use Rattle.book_history.proofs.Gone.{passed}
 use Rattle.book_lock.proofs.Growing.{report_longer}
 use Rattle.version_book.proofs.Told.{durable_there, moved, where_else}
-use Rattle.version_book.proofs.telling.report.Goals as goal
+use Rattle.version_book.proofs.locked_book.telling.report.Goals as goal
 
 pub is_level-requires : goal.is_level-requires
 is_level-requires g c =

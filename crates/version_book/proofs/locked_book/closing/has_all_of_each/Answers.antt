@@ -3,7 +3,7 @@ use Rattle.std.specs.List.{All}
 use Rattle.std.proofs.lemmas.List.{take_all}
 use Rattle.book_lock.specs.Steps.{HasAllOf}
 use Rattle.book_history.proofs.Holding.{one_at}
-use Rattle.version_book.proofs.closing.has_all_of_each.Goals as goal
+use Rattle.version_book.proofs.locked_book.closing.has_all_of_each.Goals as goal
 
 pub loop-session-preserved : goal.loop-session-preserved
 loop-session-preserved g c =
