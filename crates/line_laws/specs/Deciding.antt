@@ -55,9 +55,10 @@ pub record AreTurnsOf (stored : Bool) (session : ℕ) (seen : History) (run : Ru
 -- each transcript is told by turns
 abbrev pub TranscriptsHaveTurns : Type 0
 TranscriptsHaveTurns =
-    (stored : Bool) (session : ℕ) (seen : History) (run : Run) → IsRun stored session seen run → AreTurnsOf stored session seen run
+    (stored : Bool) (session : ℕ) (seen : History) (run : Run) →
+    IsRun stored session seen run → AreTurnsOf stored session seen run
 
--- whether a reply refuses a line for what neither lines nor layers decide: memory ran out, the book closes, or is behind
+-- whether a reply refuses a line for what neither lines nor layers decide: memory ran out, the book closes or is behind
 abbrev pub is_from_outside : List ℕ → Bool
 is_from_outside reply =
     bytes_eq reply (error_line OutOfMemory) || bytes_eq reply (error_line Closing) || bytes_eq reply (error_line Gone)
