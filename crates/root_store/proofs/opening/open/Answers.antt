@@ -1,5 +1,6 @@
 use Rattle.std.proofs.Common.{refl, sym, ◌∙◌, ap, Ok}
 use Rattle.store_terms.specs.StandsFor.{reading}
+use Rattle.store_terms.specs.Image.{Held}
 use Rattle.root_store.proofs.OpeningLemmas.{tells_of, failed_of, memory_of}
 use Rattle.root_store.specs.Opening.{fault_of}
 use Rattle.root_store.proofs.opening.open.Goals as goal
@@ -44,3 +45,12 @@ returns-in-Err-clause-untouched g c honest other =
 pub returns-in-Err-clause-memory : goal.returns-in-Err-clause-memory
 returns-in-Err-clause-memory g c honest memory =
     c.in-Err.ensures.memory honest (memory_of c.in-Err.fault (sym c.told.ensures ∙ memory))
+
+pub returns-in-Ok-clause-writes : goal.returns-in-Ok-clause-writes
+returns-in-Ok-clause-writes g c honest = c.load.ensures.writes honest
+
+pub returns-in-Err-clause-writes : goal.returns-in-Err-clause-writes
+returns-in-Err-clause-writes g c honest = c.load.ensures.writes honest
+
+pub returns-in-Ok-clause-number : goal.returns-in-Ok-clause-number
+returns-in-Ok-clause-number g c = ap (λ (h : Held). h.number) c.new-image.ensures
