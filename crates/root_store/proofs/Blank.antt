@@ -58,7 +58,7 @@ pub blank_made : (zero one two three : List ℕ) → zero ≡ replicate 12288 0 
     → Holds one 16 (body_text first_root) → Torn 4112 48 one two → Holds two 4112 (body_text second_root)
     → Torn 8192 2 two three → Holds three 8192 (0 ∷ 0 ∷ []) → IsFirstWrite three
 blank_made zero one two three zeros torn1 held1 torn2 held2 torn3 held3 =
-    let size : length zero ≡ 12288 = ap length zeros ∙ length-replicate 12288 0 in
+    let size : length zero ≡ 12288 = ap length zeros ∙ length-replicate {A = ℕ} 12288 0 in
     let s1 : length one ≡ 12288 = omega (arith, torn1.no_shorter, torn1.no_longer, size) in
     let s2 : length two ≡ 12288 = omega (arith, torn2.no_shorter, torn2.no_longer, s1) in
     let at_zero : (i : ℕ) → i < 12288 → get_or zero i 0 ≡ 0 =

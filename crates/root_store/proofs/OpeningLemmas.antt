@@ -165,14 +165,14 @@ untouched_err g old new fault answer is seen fewer =
     (λ other. record { seen = seen; fewer = fewer })
 
 -- the device's own fault
-pub device_err : {P : Type 0} (fault : LoadFault) (answer : Result Loaded LoadFault) → IsErrAnd answer (λ e. e ≡ fault)
+pub device_err : (P : Type 0) (fault : LoadFault) (answer : Result Loaded LoadFault) → IsErrAnd answer (λ e. e ≡ fault)
     → fault ≡ Device → IfErr answer (λ e. e ≢ Device → P)
-device_err {P} fault answer is device =
+device_err P fault answer is device =
     if_err answer fault (λ (e : LoadFault). e ≢ Device → P) is (λ other. absurd (other device))
 
-pub device_or_memory : {P : Type 0} (fault : LoadFault) (answer : Result Loaded LoadFault)
+pub device_or_memory : (P : Type 0) (fault : LoadFault) (answer : Result Loaded LoadFault)
     → IsErrAnd answer (λ e. e ≡ fault) → fault ≡ Device → IfErr answer (λ e. e ≡ OutOfMemory → P)
-device_or_memory {P} fault answer is device =
+device_or_memory P fault answer is device =
     if_err answer fault (λ (e : LoadFault). e ≡ OutOfMemory → P) is (λ memory. absurd (cc (memory, device)))
 
 -- want of memory, as the store tells it

@@ -5,7 +5,7 @@ use Rattle.store_terms.specs.Roots.{sequence_max}
 use Rattle.commit_plan.specs.Loading.{held_in}
 use Rattle.root_reading.specs.declared.load_fault.LoadFault.{LoadFault}
 use Rattle.root_reading.specs.declared.load_fault.LoadFault.TheVariants.{OutOfMemory}
-use Rattle.root_store.specs.Opening.{HasRoot}
+use Rattle.root_store.specs.Opening.{HasRoot, Untouched}
 use Rattle.root_reading.proofs.Looked.{refuses_device, if_err}
 use Rattle.root_store.proofs.OpeningLemmas.{shuts, both_loads, last_loads, healed_loads, failed_loads, unread_loads, body_writes, untouched_err, device_err, device_or_memory}
 use Rattle.root_store.proofs.opening.load.Goals as goal
@@ -96,7 +96,7 @@ returns-in_err-loaded-clause-untouched g c honest =
 
 pub returns-in_err-heal-clause-untouched : goal.returns-in_err-heal-clause-untouched
 returns-in_err-heal-clause-untouched g c honest =
-    device_err c.in_err-heal.field-0.0 c.from_residual-in_err-heal.result c.from_residual-in_err-heal.ensures.1
+    device_err (Untouched g.D.Disk c.args.disk.now c.heal.new.disk) c.in_err-heal.field-0.0 c.from_residual-in_err-heal.result c.from_residual-in_err-heal.ensures.1
     c.in_err-heal.ensures.err
 
 pub returns-in_err-loaded-clause-memory : goal.returns-in_err-loaded-clause-memory
@@ -107,5 +107,5 @@ returns-in_err-loaded-clause-memory g c honest =
 
 pub returns-in_err-heal-clause-memory : goal.returns-in_err-heal-clause-memory
 returns-in_err-heal-clause-memory g c honest =
-    device_or_memory c.in_err-heal.field-0.0 c.from_residual-in_err-heal.result c.from_residual-in_err-heal.ensures.1
+    device_or_memory (HasRoot (g.D.Disk.seen c.args.disk.now)) c.in_err-heal.field-0.0 c.from_residual-in_err-heal.result c.from_residual-in_err-heal.ensures.1
     c.in_err-heal.ensures.err
