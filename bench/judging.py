@@ -4,12 +4,12 @@
 python3 bench/judging.py OUTPUT SCRIPT..
 python3 bench/judging.py --test
 
-OUTPUT is what the program wrote for the scripts. The numbers behind `ok` give each accepted command its place in the one
-history: each number from 1 on has to stand just once, and its command has to be accepted there. Every other reply has to
-be right at some version of that history which is no older than what the session saw before, has all commands that this
-session had accepted by then, and none that it was still to send. `durable N` and `built N` are no older than what was seen.
-EDGES and VERIFY may be refused as pending only where no session was told that the layer was built, with nothing changed
-since. The refusals 30, 31, 35, 36, 40, 43 and 44 can't be judged: they are counted apart.
+OUTPUT is what the program wrote for the scripts. The numbers behind `ok` give each accepted command its place in the
+one history: each number from 1 on has to stand just once, and its command has to be accepted there. Every other reply
+has to be right at some version of that history which is no older than what the session saw before, has all commands
+that this session had accepted by then, and none that it was still to send. `durable N` and `built N` are no older than
+what was seen. EDGES and VERIFY may be refused as pending only where no session was told that the layer was built, with
+nothing changed since. The refusals 30, 31, 35, 36, 40, 43 and 44 can't be judged: they are counted apart.
 """
 
 import bisect
@@ -217,8 +217,9 @@ class Session:
             self.built[name] = self.seen
             return
         self.exact(reply, model.Refused(10 if code == 10 else 12))
-        tries = list(self.history.keys_between(name, self.seen, high))
-        fits = [v for v, key in tries if (key is None if code == 10 else key is not None and not meanings.is_derived(key))]
+        tries = self.history.keys_between(name, self.seen, high)
+        question = model.Question("VERIFY", name, (0,))
+        fits = [v for v, key in tries if model.answer_or_refusal(meanings, question, key) == reply]
         self.first(fits, lambda v: True, f"no version to {high} refuses it so")
 
     def judge_layers(self, reply, high):
