@@ -75,7 +75,8 @@ BROKEN = [
     "PUT A0 POLYGON ((0 0, 1 0, 0 1, 5 5))", "PUT A1 POLYGON ((0 0, 10.5 0, 0 1, 0 0))", "LAYERS now", "SYNC 1",
     "PUT A1 POLYGON ((0 0, 1048577 0, 0 1, 0 0))", "PUT A2 POLYGON Z ((0 0 0))", "DEFINE D0", "DEFINE D0 = A0 &",
     "DEFINE D0 = (A0", "DEFINE 9X = A0", "DEFINE D1 = " + " | ".join(["A0"] * 33), "DEFINE D1 = A?", "DROP",
-    "DROP A0 A1", "LOCATE A0 1", "LOCATE A0 1 1 0", "LOCATE A0 1 1 1025", "LOCATE A0 1048577 0", "LOCATE A0 x 1", "EDGES D0", "WAIT",
+    "DROP A0 A1", "LOCATE A0 1", "LOCATE A0 1 1 0", "LOCATE A0 1 1 1025", "LOCATE A0 1048577 0", "LOCATE A0 x 1",
+    "EDGES D0", "WAIT",
     "EDGES D0 17", "EDGES D0 -1", "VERIFY D0 17", "GRID D0 0 0 0 1 1", "GRID D0 0 0 1 257 1", "GRID D0 0 0 1 1",
     "GRID A0 1048576 0 1 2 1", "WAIT 9X", "put A0 POLYGON EMPTY", "LOCATE A0 +1 -0", " \t LOCATE\tA0  2 \t 2 ",
 ]
@@ -275,7 +276,7 @@ def stress(words, folder):
     store = folder / "store.db"
     output, took = run(words.program, store, scripts, folder, words.workers, "--create")
     (folder / "output.txt").write_text(output)
-    print(f"ran {words.commands} commands, {words.sessions} sessions, {words.workers} workers: {took:.1f} s", flush=True)
+    print(f"ran {words.commands} commands, {words.sessions} sessions, {words.workers} workers, {took:.1f} s", flush=True)
     start = time.time()
     judged = judging.judge(scripts, output)
     count = sum(judged.replies.values())
