@@ -61,18 +61,16 @@ def number_of(reply):
 
 
 class History:
-    """The versions that accepted commands make: version n is at n, version 0 is empty (or what a store had)."""
+    """The versions that accepted commands make: version n is at n, version 0 is empty."""
 
-    def __init__(self, meanings, layers=None):
+    def __init__(self, meanings):
         self.meanings = meanings
-        self.versions = [layers or model.Layers()]
+        self.versions = [model.Layers()]
         self.shapes = [0]  # the versions at which names or definitions change
         self.changes = collections.defaultdict(lambda: [(0, None)])  # by name: version and key
         self.touched = collections.defaultdict(lambda: [0])  # by name: the versions that may touch its tiles
         self.keys = {}
         self.told_built = collections.defaultdict(list)
-        for name in self.versions[0].names:
-            self.renew(name, self.versions[0], True)
 
     def renew(self, name, layers, is_touched):
         """Takes down the key of a name at the last version."""
@@ -157,11 +155,11 @@ class History:
 class Session:
     """One session: what it asked and was answered, and the least version that it has seen."""
 
-    def __init__(self, history, asked, replies):
+    def __init__(self, history, asked, replies, seen):
         self.history = history
         self.asked = asked
         self.replies = replies
-        self.seen = 0
+        self.seen = seen
         self.built = {}  # by layer: the number of this session's last `built`
         self.bounds = self.upper_bounds()
 
@@ -304,28 +302,31 @@ def accepted_of(asked, replies):
     return accepted
 
 
-def history_of(accepted, meanings, start=0, layers=None):
-    """The history of accepted commands; start is the number of the version that a store had."""
-    history = History(meanings, layers)
-    for number in range(start + 1, start + len(accepted) + 1):
+def history_of(accepted, meanings):
+    """The history of accepted commands, given by their numbers."""
+    history = History(meanings)
+    for number in range(1, len(accepted) + 1):
         if number not in accepted:
             raise Wrong(f"no command has the number {number}, and {len(accepted)} were accepted")
         history.add(accepted[number])
     return history
 
 
-def judge(scripts, output, meanings=None):
-    """Judges the output of the program for these scripts, over an empty book."""
+def judge(scripts, output, meanings=None, before=()):
+    """Judges the output of the program for these scripts, over the book that the accepted commands `before` left."""
     replies = sections(output, len(scripts))
     asked = [[read_or_refusal(line) for line in model.lines_of(script)] for script in scripts]
     for place, (requests, answers) in enumerate(zip(asked, replies)):
         if len(requests) != len(answers):
             raise Wrong(f"script {place + 1}: {len(answers)} replies for {len(requests)} lines")
-    history = history_of(accepted_of(asked, replies), meanings or model.Meanings())
+    accepted = accepted_of(asked, replies)
+    if any(number <= len(before) for number in accepted):
+        raise Wrong(f"a command has a number that isn't above {len(before)}")
+    history = history_of({**dict(enumerate(before, 1)), **accepted}, meanings or model.Meanings())
     judged = Judged(history)
     take_down_built(history, asked, replies)
     for place, (requests, answers) in enumerate(zip(asked, replies)):
-        session = Session(history, requests, answers)
+        session = Session(history, requests, answers, len(before))
         judge_session(session, place + 1, judged)
     return judged
 

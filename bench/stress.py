@@ -276,7 +276,7 @@ def stress(words, folder):
     store = folder / "store.db"
     output, took = run(words.program, store, scripts, folder, words.workers, "--create")
     (folder / "output.txt").write_text(output)
-    print(f"ran {words.commands} commands, {words.sessions} sessions, {words.workers} workers, {took:.1f} s", flush=True)
+    print(f"ran {words.commands} commands, {words.sessions} sessions, {words.workers} workers: {took:.0f} s", flush=True)
     start = time.time()
     judged = judging.judge(scripts, output)
     count = sum(judged.replies.values())
