@@ -155,8 +155,9 @@ class History:
 class Session:
     """One session: what it asked and was answered, and the least version that it has seen."""
 
-    def __init__(self, history, asked, replies, seen):
+    def __init__(self, history, asked, replies, seen, has_store):
         self.history = history
+        self.has_store = has_store
         self.asked = asked
         self.replies = replies
         self.seen = seen
@@ -262,6 +263,8 @@ class Session:
             return False
         elif not isinstance(asked, model.Question):
             self.judge_command(asked, reply, high)
+        elif asked.word == "SYNC" and not self.has_store:
+            self.exact(reply, model.Refused(46))
         elif asked.word == "SYNC":
             self.judge_number("durable", reply, high)
         elif asked.word == "WAIT":
@@ -312,7 +315,7 @@ def history_of(accepted, meanings):
     return history
 
 
-def judge(scripts, output, meanings=None, before=()):
+def judge(scripts, output, before=(), has_store=True):
     """Judges the output of the program for these scripts, over the book that the accepted commands `before` left."""
     replies = sections(output, len(scripts))
     asked = [[read_or_refusal(line) for line in model.lines_of(script)] for script in scripts]
@@ -322,11 +325,11 @@ def judge(scripts, output, meanings=None, before=()):
     accepted = accepted_of(asked, replies)
     if any(number <= len(before) for number in accepted):
         raise Wrong(f"a command has a number that isn't above {len(before)}")
-    history = history_of({**dict(enumerate(before, 1)), **accepted}, meanings or model.Meanings())
+    history = history_of({**dict(enumerate(before, 1)), **accepted}, model.Meanings())
     judged = Judged(history)
     take_down_built(history, asked, replies)
     for place, (requests, answers) in enumerate(zip(asked, replies)):
-        session = Session(history, requests, answers, len(before))
+        session = Session(history, requests, answers, len(before), has_store)
         judge_session(session, place + 1, judged)
     return judged
 

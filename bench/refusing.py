@@ -143,7 +143,8 @@ def judge_output(scenario, outcome):
         if outcome.status != 1 or not FAULT_LINE.fullmatch(outcome.fault):
             raise judging.Wrong(f"no replies, status {outcome.status}, standard error {outcome.fault[:100]!r}")
         return None
-    judged = judging.judge(scenario.scripts, outcome.output, before=scenario.commands())
+    has_store = scenario.before is not None
+    judged = judging.judge(scenario.scripts, outcome.output, scenario.commands(), has_store)
     if judged.wrong:
         raise judging.Wrong(judged.wrong[0])
     return judged
