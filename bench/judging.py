@@ -315,17 +315,36 @@ def history_of(accepted, meanings):
     return history
 
 
-def judge(scripts, output, before=(), has_store=True):
-    """Judges the output of the program for these scripts, over the book that the accepted commands `before` left."""
+def place_cut_off(asked, replies, accepted):
+    """Takes in a command that may have been accepted though its session was cut off before the reply."""
+    for requests, answers in zip(asked, replies):
+        if len(answers) < len(requests) and isinstance(requests[len(answers)], (model.Put, model.Define, model.Drop)):
+            missing = [number for number in range(1, len(accepted) + 1) if number not in accepted]
+            if missing:
+                accepted[missing[0]] = requests[len(answers)]
+            else:
+                yield requests[len(answers)]
+
+
+def judge(scripts, output, before=(), has_store=True, is_cut=False):
+    """Judges the output of the program for these scripts, over the book that the accepted commands `before` left.
+
+    Where is_cut, sessions may have ended before all their lines were answered.
+    """
     replies = sections(output, len(scripts))
     asked = [[read_or_refusal(line) for line in model.lines_of(script)] for script in scripts]
     for place, (requests, answers) in enumerate(zip(asked, replies)):
-        if len(requests) != len(answers):
+        if len(requests) < len(answers) or (len(requests) > len(answers) and not is_cut):
             raise Wrong(f"script {place + 1}: {len(answers)} replies for {len(requests)} lines")
     accepted = accepted_of(asked, replies)
     if any(number <= len(before) for number in accepted):
         raise Wrong(f"a command has a number that isn't above {len(before)}")
-    history = history_of({**dict(enumerate(before, 1)), **accepted}, model.Meanings())
+    accepted |= dict(enumerate(before, 1))
+    last = list(place_cut_off(asked, replies, accepted))
+    history = history_of(accepted, model.Meanings())
+    for command in last:
+        if history.versions[-1].refusal(command) is None:
+            history.add(command)
     judged = Judged(history)
     take_down_built(history, asked, replies)
     for place, (requests, answers) in enumerate(zip(asked, replies)):

@@ -75,6 +75,7 @@ class Outcome:
         self.fault = fault
         self.store = store
         self.counts = counts
+        self.is_lost = False
 
 
 class Runner:
@@ -144,7 +145,8 @@ def judge_output(scenario, outcome):
             raise judging.Wrong(f"no replies, status {outcome.status}, standard error {outcome.fault[:100]!r}")
         return None
     has_store = scenario.before is not None
-    judged = judging.judge(scenario.scripts, outcome.output, scenario.commands(), has_store)
+    is_cut = outcome.status == 1 and outcome.fault != ""
+    judged = judging.judge(scenario.scripts, outcome.output, scenario.commands(), has_store, is_cut)
     if judged.wrong:
         raise judging.Wrong(judged.wrong[0])
     return judged
@@ -160,6 +162,11 @@ def judge_store(runner, outcome, judged):
         raise judging.Wrong(f"the store is refused by {lines[0]}")
     number = int(lines[0].split()[1])
     before = runner.scenario.commands()
+    if judged is None and number > len(before):
+        outcome.is_lost = True  # what the sessions made is in the store, and their replies were not printed
+        if runner.reopened(outcome.store)[1] != number:
+            raise judging.Wrong("the program opens the store as another version")
+        return
     history = judged.history if judged else judging.history_of(dict(enumerate(before, 1)), model.Meanings())
     least = max(len(before), judged.durable if judged else 0)
     if not least <= number <= history.last():
@@ -201,6 +208,7 @@ class Table:
         self.refused = 0
         self.failed = 0
         self.silent = 0
+        self.lost = 0
         self.wrong = []
 
     def add(self, outcome, fault, label):
@@ -208,6 +216,7 @@ class Table:
         self.refused += outcome.counts[1] > 0
         self.failed += outcome.status == 1
         self.silent += outcome.status == 1 and not outcome.fault
+        self.lost += outcome.is_lost
         if fault:
             self.wrong.append(f"{label}: {fault}")
 
@@ -226,11 +235,13 @@ def run_all(runner, prefix, settings):
     return table
 
 
-HEAD = "| Run | Which | Calls | Runs | Met in | Status 1 | of them without a line | Wrong |\n" + "|---" * 8 + "|"
+HEAD = "| Run | Which | Calls | Runs | Met in | Status 1 | of them without a line | replies lost | Wrong |\n"
+HEAD += "|---" * 9 + "|"
 
 
 def print_table(runner, which, calls, table):
-    cells = [runner.scenario.name, which, calls, table.runs, table.refused, table.failed, table.silent]
-    print("| " + " | ".join(map(str, [*cells, len(table.wrong)])) + " |", flush=True)
+    cells = [runner.scenario.name, which, calls, table.runs, table.refused]
+    cells += [table.failed, table.silent, table.lost, len(table.wrong)]
+    print("| " + " | ".join(map(str, cells)) + " |", flush=True)
     for line in table.wrong[:10]:
         print("    " + line)

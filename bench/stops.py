@@ -27,6 +27,7 @@ import argparse
 import array
 import concurrent.futures
 import fcntl
+import hashlib
 import os
 import pathlib
 import random
@@ -194,16 +195,16 @@ def parts_of(at, data):
 
 
 def files_of(synced, writes, draw):
-    """The files that a stop may leave of writes behind a sync."""
+    """The files that a stop may leave of writes behind a sync: what is laid into the synced bytes, and the length."""
     length = len(laid(synced, writes))
     for chosen in sets_of(len(writes), draw):
-        yield laid(synced, [writes[n] for n in chosen])
-        yield laid(synced, [writes[n] for n in chosen]).ljust(length, b"\0")
+        yield [writes[n] for n in chosen], 0
+        yield [writes[n] for n in chosen], length
     for place, (at, data) in enumerate(writes):
         for part in parts_of(at, data):
-            yield laid(synced, part)
-            yield laid(synced, writes[:place] + part + writes[place + 1 :])
-            yield laid(synced, part).ljust(length, b"\0")
+            yield part, 0
+            yield writes[:place] + part + writes[place + 1 :], 0
+            yield part, length
 
 
 class Epoch:
@@ -330,32 +331,38 @@ class Tries:
 
     def __init__(self, epochs, seed):
         draw = random.Random(seed)
+        self.epochs = epochs
         self.made = 0
-        self.files = {}
+        self.files = {}  # by digest: the least version, the epoch, what is laid into its synced bytes, and the length
         for place, epoch in enumerate(epochs):
-            for data in files_of(epoch.synced, epoch.writes, draw):
+            for writes, length in files_of(epoch.synced, epoch.writes, draw):
                 self.made += 1
-                least = self.files.get(data, (epoch.least, place))[0]
+                digest = hashlib.sha256(laid(epoch.synced, writes).ljust(length, b"\0")).digest()
+                least = self.files[digest][0] if digest in self.files else None
                 known = [number for number in (least, epoch.least) if number is not None]
-                self.files[data] = (max(known) if known else None, place)
+                self.files[digest] = (max(known) if known else None, place, writes, length)
+
+    def file(self, place):
+        _, epoch, writes, length = list(self.files.values())[place]
+        return laid(self.epochs[epoch].synced, writes).ljust(length, b"\0")
 
     def judge(self, versions, program, folder, most):
         """Judges all files; the wrong ones as lines, and how many the program opened."""
-        files = list(self.files.items())
+        files = list(self.files.values())
         chosen = set(range(len(files))) if most is None else set(range(0, len(files), max(1, -(-len(files) // most))))
         wrong, lost, numbers = [], 0, {}
-        for place, (data, (least, epoch)) in enumerate(files):
-            fault, numbers[place] = versions.fault_of(data, least)
+        for place, (least, epoch, _, _) in enumerate(files):
+            fault, numbers[place] = versions.fault_of(self.file(place), least)
             if fault:
                 wrong.append((place, f"file {place}, epoch {epoch}, by the reader: {fault}"))
                 lost += "durable" in fault or "refused" in fault
         with concurrent.futures.ThreadPoolExecutor(os.cpu_count()) as pool:
             places = sorted(chosen)
-            answers = pool.map(lambda place: opened(program, folder, place, files[place][0]), places)
+            answers = pool.map(lambda place: opened(program, folder, place, self.file(place)), places)
             for place, answer in zip(places, answers):
                 fault = judge_opened(versions, numbers[place], answer)
                 if fault:
-                    wrong.append((place, f"file {place}, epoch {files[place][1][1]}, by the program: {fault}"))
+                    wrong.append((place, f"file {place}, epoch {files[place][1]}, by the program: {fault}"))
         return wrong, lost, len(chosen)
 
 
@@ -379,11 +386,10 @@ def replay(words, folder):
     tries = Tries(following.epochs, 1)
     print(f"files made {tries.made}, different {len(tries.files)}", flush=True)
     wrong, lost, count = tries.judge(versions, words.program, folder, words.most)
-    files = list(tries.files)
     for place, line in wrong[:20]:
-        (folder / f"wrong{place}.db").write_bytes(files[place])
+        (folder / f"wrong{place}.db").write_bytes(tries.file(place))
         print(line)
-    print(f"read {len(files)}, opened by the program {count}, versions lost {lost}, wrong {len(wrong)}")
+    print(f"read {len(tries.files)}, opened by the program {count}, versions lost {lost}, wrong {len(wrong)}")
     return 1 if wrong else 0
 
 
@@ -395,7 +401,8 @@ def test():
         r'7 pwrite64(5, "\x01", 1, 0) = 1', r"7 close(4) = 0", r"7 fdatasync(4) = 0",
     ])
     events = [("write", 3, b"\x01\x02"), ("read", b"\n"), ("sync",)]
-    files = set(files_of(b"ab", [(1, b"x"), (2, b"yz")], random.Random(1)))
+    made = files_of(b"ab", [(1, b"x"), (2, b"yz")], random.Random(1))
+    files = {laid(b"ab", writes).ljust(length, b"\0") for writes, length in made}
     kept = {b"ab", b"ax", b"abyz", b"axyz", b"ab\0\0", b"ax\0\0", b"aby", b"axy", b"ab\0z", b"ax\0z"}
     checks = [
         ("events", events_of(trace, "a"), events), ("laid", laid(b"ab", [(3, b"x")]), b"ab\0x"),
