@@ -288,6 +288,7 @@ class Judged:
         self.wrong = []
         self.seen = []
         self.durable = 0
+        self.turns = 0  # how often the next accepted command is of another session
 
 
 def accepted_of(asked, replies):
@@ -313,6 +314,15 @@ def history_of(accepted, meanings):
             raise Wrong(f"no command has the number {number}, and {len(accepted)} were accepted")
         history.add(accepted[number])
     return history
+
+
+def turns_of(replies):
+    """How often the accepted commands go on with another session."""
+    owners = {}
+    for session, answers in enumerate(replies):
+        owners.update((number_of(reply), session) for reply in answers if reply[0].startswith("ok "))
+    order = [owners[number] for number in sorted(owners)]
+    return sum(before != after for before, after in zip(order, order[1:]))
 
 
 def place_cut_off(asked, replies, accepted):
@@ -346,6 +356,7 @@ def judge(scripts, output, before=(), has_store=True, is_cut=False):
         if history.versions[-1].refusal(command) is None:
             history.add(command)
     judged = Judged(history)
+    judged.turns = turns_of(replies)
     take_down_built(history, asked, replies)
     for place, (requests, answers) in enumerate(zip(asked, replies)):
         session = Session(history, requests, answers, len(before), has_store)

@@ -283,6 +283,7 @@ def stress(words, folder):
     unjudged = sum(judged.unjudged.values())
     last = judged.history.last()
     print(f"judged {count} replies in {time.time() - start:.0f} s: accepted {last}, wrong {len(judged.wrong)}")
+    print(f"sessions took turns {judged.turns} times among the accepted commands")
     print("replies: " + ", ".join(f"{kind} {number}" for kind, number in sorted(judged.replies.items())))
     final = Final(judged.history)
     final.check(unjudged == 0, f"refusals that can't be judged: {dict(judged.unjudged)}")
