@@ -27,6 +27,7 @@ import argparse
 import array
 import concurrent.futures
 import fcntl
+import functools
 import hashlib
 import os
 import pathlib
@@ -47,6 +48,11 @@ import stress
 SECTOR = 512
 CALLS = "read,pwrite64,pwritev,write,fdatasync,fsync,open,openat,ftruncate,fallocate,close"
 LIMIT = 120
+
+
+# What records stand for is looked up where the same bytes were read before.
+for reader in ("read_tile", "read_base", "read_definition"):
+    setattr(read_store, reader, functools.lru_cache(maxsize=10000)(getattr(read_store, reader)))
 
 
 def long_ring():

@@ -12,6 +12,7 @@ of the model. Prints counts; ends with status 1 where anything is wrong, and kee
 """
 
 import argparse
+import functools
 import os
 import pathlib
 import random
@@ -185,9 +186,9 @@ def run(program, store, scripts, folder, workers, *words):
 # ---- the store
 
 
-def tile_ends(data, extent, column):
+@functools.lru_cache(maxsize=10000)
+def tile_ends(record, column):
     """The ends of the pieces of a tile's record, None where it is oversize."""
-    record = read_store.record_at(data, extent, 5)
     if read_store.read_tile(record, column) == "oversize":
         return None
     rest = read_store.Bytes(record)
@@ -202,7 +203,7 @@ def tiles_in(data):
     for listed in read_store.read_catalog(read_store.record_at(data, root.catalog, 3)):
         for column, extent in enumerate(listed.tiles or []):
             if extent is not None:
-                tiles[listed.name.decode(), column] = tile_ends(data, extent, column)
+                tiles[listed.name.decode(), column] = tile_ends(read_store.record_at(data, extent, 5), column)
     return tiles
 
 
