@@ -9,7 +9,8 @@ a number. Three runs: one script of all commands in memory, two scripts over a n
 opened. Each has to end by itself with status 0 or 1; its replies have to be those of the model, 40 allowed; standard
 error has nothing or one line of a fault; and the store that it leaves has to hold a version of the history, no older
 than what was told durable, with right tiles, and be opened by the program. --step N refuses only each Nth growth in
-turn; --every also tries each growth refused together with every second, third and hundredth behind it. Prints a table;
+turn; --every also tries each growth refused together with every second, third and hundredth behind it: there a run may
+be without end, as what asks again for memory is refused again and again, and is ended then and counted. Prints a table;
 ends with status 1 where anything is wrong. Threads draw their order anew in each run, so two tables may differ.
 
 A program that takes its memory by calls that can't be counted so (built static, or with an allocator of its own) is
@@ -52,7 +53,7 @@ def refuse(words, folder):
             print(f"{scenario.name}: with nothing refused: {faults or 'no growth was counted: is the program static?'}")
             return 1
         for which, settings in tries(calls, words.step, words.every):
-            table = refusing.run_all(runner, "REFUSE", settings)
+            table = refusing.run_all(runner, "REFUSE", settings, which != "one growth")
             refusing.print_table(runner, which, calls, table)
             wrong += len(table.wrong)
     return wrong

@@ -209,19 +209,21 @@ class Table:
         self.failed = 0
         self.silent = 0
         self.lost = 0
+        self.endless = 0
         self.wrong = []
 
-    def add(self, outcome, fault, label):
+    def add(self, outcome, fault, label, may_be_endless):
         self.runs += 1
+        self.endless += outcome.status is None
         self.refused += outcome.counts[1] > 0
         self.failed += outcome.status == 1
         self.silent += outcome.status == 1 and not outcome.fault
         self.lost += outcome.is_lost
-        if fault:
+        if fault and not (outcome.status is None and may_be_endless):
             self.wrong.append(f"{label}: {fault}")
 
 
-def run_all(runner, prefix, settings):
+def run_all(runner, prefix, settings, may_be_endless=False):
     """Runs with each of some settings, a few side by side, and counts."""
     table = Table()
 
@@ -231,17 +233,18 @@ def run_all(runner, prefix, settings):
 
     with concurrent.futures.ThreadPoolExecutor(os.cpu_count()) as pool:
         for given, outcome, fault in pool.map(one, settings):
-            table.add(outcome, fault, " ".join(f"{prefix}_{name}={value}" for name, value in given.items()))
+            label = " ".join(f"{prefix}_{name}={value}" for name, value in given.items())
+            table.add(outcome, fault, label, may_be_endless)
     return table
 
 
-HEAD = "| Run | Which | Calls | Runs | Met in | Status 1 | of them without a line | replies lost | Wrong |\n"
-HEAD += "|---" * 9 + "|"
+HEAD = "| Run | Which | Calls | Runs | Met in | Status 1 | of them without a line | replies lost "
+HEAD += "| Did not end | Wrong |\n" + "|---" * 10 + "|"
 
 
 def print_table(runner, which, calls, table):
     cells = [runner.scenario.name, which, calls, table.runs, table.refused]
-    cells += [table.failed, table.silent, table.lost, len(table.wrong)]
+    cells += [table.failed, table.silent, table.lost, table.endless, len(table.wrong)]
     print("| " + " | ".join(map(str, cells)) + " |", flush=True)
     for line in table.wrong[:10]:
         print("    " + line)
