@@ -89,15 +89,17 @@ def commits(runs, count):
     for others in (0, 16):
         head = [f"PUT B{n} {SQUARE}" for n in range(others)] + ["SYNC"]
         puts = [line for n in range(count) for line in (f"PUT A {ring(16, n, 0, 900)}", "SYNC")]
-        product, plain = [], []
+        product, plain, used = [], [], []
         for _ in range(5):
-            took = runs.once([head + puts], 1, True)[0] - runs.once([head], 1, True)[0]
-            product.append(took / count)
+            whole, empty = runs.once([head + puts], 1, True), runs.once([head], 1, True)
+            product.append((whole[0] - empty[0]) / count)
+            used.append((whole[1] - empty[1]) / count)
             plain.append(runs.commit_of_c(count, 2))
         ours, theirs = min(product), min(plain)
         rows.append((
             f"PUT and SYNC of one layer beside {others} others", milliseconds(ours),
-            f"the same writes of two blocks and three syncs in C: {milliseconds(theirs)}; {ours / theirs:.2f} times",
+            f"the same writes of two blocks and three syncs in C: {milliseconds(theirs)}; {ours / theirs:.2f} times; "
+            f"of processors {milliseconds(min(used))}",
         ))
     return rows
 
