@@ -1,0 +1,159 @@
+/* Makes calls of a store's device fail in a program that it is loaded into, for bench/faults.py.
+
+   Counts the calls of open, fstat, statx, pread, pwrite, fdatasync, fsync and ftruncate of the file FAIL_STORE and of
+   its folder FAIL_FOLDER. The call with the number FAIL_FIRST fails, and all behind it where FAIL_REST is 1. How it
+   fails is FAIL_KIND: 0 with EIO and nothing done; 1 with EIO, a write having written half; 2 a write writes half and
+   tells so, another call is interrupted (EINTR); 3 with ENOSPC. The first 8 bytes of the file FAIL_COUNTS are how many
+   calls there were, the next 8 how many failed. */
+#define _GNU_SOURCE
+#include <dlfcn.h>
+#include <errno.h>
+#include <fcntl.h>
+#include <stdarg.h>
+#include <stdlib.h>
+#include <string.h>
+#include <sys/stat.h>
+#include <sys/syscall.h>
+#include <unistd.h>
+
+struct counts {
+    unsigned long calls, failed;
+};
+
+static struct counts none;
+static struct counts *counts = &none;
+static unsigned long first, rest, kind;
+static char watched[1024];
+
+static unsigned long number_of(const char *name)
+{
+    const char *text = getenv(name);
+    return text ? strtoul(text, NULL, 10) : 0;
+}
+
+__attribute__((constructor)) static void begin(void)
+{
+    const char *path = getenv("FAIL_COUNTS");
+    long file = path ? syscall(SYS_openat, AT_FDCWD, path, O_RDWR | O_CREAT, 0600) : -1;
+    if (file >= 0 && syscall(SYS_ftruncate, file, sizeof none) == 0) {
+        long place = syscall(SYS_mmap, 0, sizeof none, 3, 1, file, 0); /* to read and write, shared */
+        if (place != -1)
+            counts = (struct counts *)place;
+        syscall(SYS_close, file);
+    }
+    first = number_of("FAIL_FIRST");
+    rest = number_of("FAIL_REST");
+    kind = number_of("FAIL_KIND");
+}
+
+static int is_watched(int file)
+{
+    return file >= 0 && file < (int)sizeof watched && watched[file];
+}
+
+static int is_path(const char *path)
+{
+    const char *store = getenv("FAIL_STORE"), *folder = getenv("FAIL_FOLDER");
+    return (store && strcmp(path, store) == 0) || (folder && strcmp(path, folder) == 0);
+}
+
+/* Whether this call is to fail. */
+static int fails(void)
+{
+    unsigned long number = __atomic_add_fetch(&counts->calls, 1, __ATOMIC_SEQ_CST);
+    if (first == 0 || number < first || (number > first && !rest))
+        return 0;
+    __atomic_add_fetch(&counts->failed, 1, __ATOMIC_SEQ_CST);
+    errno = kind == 3 ? ENOSPC : kind == 2 ? EINTR : EIO;
+    return 1;
+}
+
+static int opened(const char *path, int how, unsigned mode)
+{
+    int is_ours = is_path(path);
+    if (is_ours && fails())
+        return -1;
+    int file = (int)syscall(SYS_openat, AT_FDCWD, path, how, mode);
+    if (file >= 0 && file < (int)sizeof watched)
+        watched[file] = (char)is_ours;
+    return file;
+}
+
+int open(const char *path, int how, ...)
+{
+    va_list more;
+    va_start(more, how);
+    unsigned mode = how & O_CREAT ? va_arg(more, unsigned) : 0;
+    va_end(more);
+    return opened(path, how, mode);
+}
+
+int open64(const char *path, int how, ...)
+{
+    va_list more;
+    va_start(more, how);
+    unsigned mode = how & O_CREAT ? va_arg(more, unsigned) : 0;
+    va_end(more);
+    return opened(path, how, mode);
+}
+
+int close(int file)
+{
+    if (file >= 0 && file < (int)sizeof watched)
+        watched[file] = 0;
+    return (int)syscall(SYS_close, file);
+}
+
+int statx(int file, const char *restrict path, int how, unsigned mask, struct statx *restrict told)
+{
+    int is_ours = is_watched(file) && !*path;
+    return is_ours && fails() ? -1 : (int)syscall(SYS_statx, file, path, how, mask, told);
+}
+
+int fstat(int file, struct stat *told)
+{
+    return is_watched(file) && fails() ? -1 : (int)syscall(SYS_fstat, file, told);
+}
+
+ssize_t pread(int file, void *to, size_t size, off_t at)
+{
+    return is_watched(file) && fails() ? -1 : syscall(SYS_pread64, file, to, size, at);
+}
+
+ssize_t pread64(int file, void *to, size_t size, off_t at)
+{
+    return pread(file, to, size, at);
+}
+
+ssize_t pwrite(int file, const void *from, size_t size, off_t at)
+{
+    if (!is_watched(file) || !fails())
+        return syscall(SYS_pwrite64, file, from, size, at);
+    if (kind == 2)
+        return size > 1 ? syscall(SYS_pwrite64, file, from, size / 2, at) : -1;
+    if (kind == 1 && size > 1) {
+        syscall(SYS_pwrite64, file, from, size / 2, at);
+        errno = EIO;
+    }
+    return -1;
+}
+
+ssize_t pwrite64(int file, const void *from, size_t size, off_t at)
+{
+    return pwrite(file, from, size, at);
+}
+
+int fdatasync(int file)
+{
+    return is_watched(file) && fails() ? -1 : (int)syscall(SYS_fdatasync, file);
+}
+
+int fsync(int file)
+{
+    return is_watched(file) && fails() ? -1 : (int)syscall(SYS_fsync, file);
+}
+
+int ftruncate(int file, off_t size)
+{
+    return is_watched(file) && fails() ? -1 : (int)syscall(SYS_ftruncate, file, size);
+}

@@ -1,0 +1,97 @@
+#!/usr/bin/env python3
+"""Refuses each growth of the program in turn: the first, the second and so on, until a run meets no refusal.
+
+python3 bench/growths.py PROGRAM [--step N] [--seconds N] [--every]
+python3 bench/growths.py --test
+
+The program is made to load bench/growths.c, which counts its calls for memory and for threads and refuses the one with
+a number. Three runs: one script of all commands in memory, two scripts over a new store, and one over a store that is
+opened. Each has to end by itself with status 0 or 1; its replies have to be those of the model, 40 allowed; standard
+error has nothing or one line of a fault; and the store that it leaves has to hold a version of the history, no older
+than what was told durable, with right tiles, and be opened by the program. --step N refuses only each Nth growth in
+turn; --every also tries each growth refused together with every second, third and hundredth behind it: there a run may
+be without end, as what asks again for memory is refused again and again, and is ended then and counted. Prints a table;
+ends with status 1 where anything is wrong. Threads draw their order anew in each run, so two tables may differ.
+
+A program that takes its memory by calls that can't be counted so (built static, or with an allocator of its own) is
+told as such. The stacks of threads, which the C library takes from the system, stand for one growth a thread.
+"""
+
+import argparse
+import os
+import pathlib
+import subprocess
+import sys
+import tempfile
+
+import refusing
+
+MARGIN = 20
+
+
+def tries(calls, step, every):
+    """The settings of the runs, by what is refused: somewhat more than there were calls, as threads may make more."""
+    numbers = range(1, calls + MARGIN, step)
+    yield "one growth", [{"FIRST": number, "EACH": 0} for number in numbers]
+    if every:
+        for each in (2, 3, 100):
+            few = range(1, calls + MARGIN, 7 * step)
+            yield f"and each {each} behind", [{"FIRST": number, "EACH": each} for number in few]
+
+
+def refuse(words, folder):
+    """Prints the table, and gives how many runs were wrong."""
+    library = refusing.compiled("growths", folder)
+    wrong = 0
+    print(refusing.HEAD)
+    for scenario in (refusing.MEMORY, refusing.CREATED, refusing.OPENED):
+        runner = refusing.Runner(words.program, scenario, library, folder, words.seconds)
+        plain = [runner.run({}, "REFUSE") for _ in range(3)]
+        faults = [fault for fault in (refusing.judge(runner, outcome) for outcome in plain) if fault]
+        calls = max(outcome.counts[0] for outcome in plain)
+        if faults or not calls:
+            print(f"{scenario.name}: with nothing refused: {faults or 'no growth was counted: is the program static?'}")
+            return 1
+        for which, settings in tries(calls, words.step, words.every):
+            table = refusing.run_all(runner, "REFUSE", settings, which != "one growth")
+            refusing.print_table(runner, which, calls, table)
+            wrong += len(table.wrong)
+    return wrong
+
+
+def test():
+    """Looks whether the shim refuses the call that it is told, in a small program."""
+    source = '#include <stdio.h>\n#include <stdlib.h>\nint main(void) { for (int i = 0; i < 4; i++) '
+    source += 'putchar(malloc(8) ? 49 : 48); return 0; }\n'
+    with tempfile.TemporaryDirectory() as place:
+        folder = pathlib.Path(place)
+        library = refusing.compiled("growths", folder)
+        (folder / "four.c").write_text(source)
+        subprocess.run(["gcc", "-O0", "-o", str(folder / "four"), str(folder / "four.c")], check=True)
+        given = {"LD_PRELOAD": str(library), "REFUSE_FIRST": "1", "REFUSE_EACH": "3"}
+        given["REFUSE_COUNTS"] = place + "/counts"
+        done = subprocess.run([str(folder / "four")], env={**os.environ, **given}, capture_output=True, check=True)
+        counts = (folder / "counts").read_bytes()
+        numbers = [int.from_bytes(counts[at : at + 8], "little") for at in (0, 8)]
+    # The output's buffer may be a growth too, the second one.
+    is_right = done.stdout in (b"0110", b"0101") and numbers[0] in (4, 5) and numbers[1] == 2
+    print(f"four growths: {done.stdout.decode()}, counted {numbers}: {'right' if is_right else 'wrong'}")
+    return 0 if is_right else 1
+
+
+def main():
+    if sys.argv[1:] == ["--test"]:
+        return test()
+    parser = argparse.ArgumentParser(description=__doc__, formatter_class=argparse.RawDescriptionHelpFormatter)
+    parser.add_argument("program")
+    parser.add_argument("--step", type=int, default=1)
+    parser.add_argument("--seconds", type=int, default=20, help="how long a run may take (20)")
+    parser.add_argument("--every", action="store_true", help="also refuses many growths of a run")
+    words = parser.parse_args()
+    words.program = os.path.abspath(words.program)
+    with tempfile.TemporaryDirectory(prefix="growths") as place:
+        return 1 if refuse(words, pathlib.Path(place)) else 0
+
+
+if __name__ == "__main__":
+    sys.exit(main())

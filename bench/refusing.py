@@ -1,0 +1,250 @@
+"""Runs of the program in which something is refused, and what may come of them: for growths.py and faults.py."""
+
+import concurrent.futures
+import os
+import pathlib
+import re
+import subprocess
+import tempfile
+
+import judging
+import model
+import read_store
+import stress
+
+HERE = pathlib.Path(__file__).resolve().parent
+FAULT_LINE = re.compile(r"error (\d+) [a-z #0-9]+\n")
+
+SQUARE = "POLYGON ((0 0, 10 0, 10 10, 0 10, 0 0))"
+OTHER = "POLYGON ((5 5, 15 5, 15 15, 5 15, 5 5))"
+WORDS = [
+    f"PUT A {SQUARE}", f"PUT B {OTHER}", "DEFINE I = A & B", "LOCATE I 7 7", "LAYERS", "WAIT I", "EDGES I 8",
+    "VERIFY I 8", "GRID I 4 4 2 4 4", "HELLO", "LOCATE Z 1 1", f"PUT A POLYGON ((0 0, 9 0, 9 9, 0 9, 0 0))", "SYNC",
+    "DEFINE J = I ^ B", "WAIT J", "DROP J", "SYNC", "LOCATE A 9 1",
+]
+FIRST = [f"PUT A {SQUARE}", "DEFINE I = A", "WAIT I", "EDGES I 8", "SYNC", "GRID A 0 0 5 3 3", "LAYERS"]
+SECOND = [f"PUT B {OTHER}", "SYNC", "DEFINE J = A ^ B", "WAIT J", "VERIFY J 8", "DROP I", "SYNC"]
+BEFORE = [f"PUT A {SQUARE}", f"PUT B {OTHER}", "DEFINE I = A & B"]
+AFTER = ["LOCATE I 7 7", "EDGES I 8", f"PUT C {SQUARE}", "SYNC", "DROP I", "VERIFY I 8"]
+
+
+class Scenario:
+    """Scripts and words of a run; before: the commands that made the store that it opens (None: no store)."""
+
+    def __init__(self, name, scripts, workers, before=()):
+        self.name = name
+        self.scripts = ["\n".join(script).encode() + b"\n" for script in scripts]
+        self.workers = workers
+        self.before = before
+
+    def commands(self):
+        return [model.read_line(line.encode()) for line in self.before or ()]
+
+    def prepare(self, program, folder):
+        """Makes the store that the runs open; its bytes, None where they make one."""
+        if not self.before:
+            return None
+        path = folder / "before.db"
+        script = "\n".join(self.before + ["WAIT I", "SYNC"]).encode()
+        words = [program, "--store", str(path), "--create"]
+        subprocess.run(words, input=script, stdout=subprocess.DEVNULL, check=True, timeout=60)
+        data = path.read_bytes()
+        path.unlink()
+        return data
+
+
+MEMORY = Scenario("one script in memory", [WORDS], 1, None)
+CREATED = Scenario("two scripts, a new store", [FIRST, SECOND], 2)
+OPENED = Scenario("one script, a store opened", [AFTER], 2, BEFORE)
+
+
+def compiled(name, folder):
+    """Compiles a source beside this file into something that a program can be made to load."""
+    library = folder / (name + ".so")
+    words = ["gcc", "-O1", "-shared", "-fPIC", "-o", str(library), str(HERE / (name + ".c")), "-ldl"]
+    subprocess.run(words, check=True)
+    return library
+
+
+class Outcome:
+    """What a run left."""
+
+    def __init__(self, status, output, fault, store, counts):
+        self.status = status  # None where it did not end by itself
+        self.output = output
+        self.fault = fault
+        self.store = store
+        self.counts = counts
+        self.is_lost = False
+
+
+class Runner:
+    """Runs a scenario, each time in a folder of its own."""
+
+    def __init__(self, program, scenario, library, folder, seconds):
+        self.program = program
+        self.scenario = scenario
+        self.library = library
+        self.folder = folder
+        self.seconds = seconds
+        self.prepared = scenario.prepare(program, folder)
+        self.paths = []
+        for place, script in enumerate(scenario.scripts):
+            self.paths.append(folder / f"script{place + 1}.txt")
+            self.paths[-1].write_bytes(script)
+
+    def words(self, store):
+        words = [self.program, "--workers", str(self.scenario.workers)]
+        if self.scenario.before is not None:
+            words += ["--store", str(store)] + ([] if self.prepared is not None else ["--create"])
+        return words + list(map(str, self.paths))
+
+    def run(self, settings, prefix):
+        """A run with settings in its environment, whose names begin so."""
+        with tempfile.TemporaryDirectory(dir=self.folder) as place:
+            store, counts = pathlib.Path(place) / "store.db", pathlib.Path(place) / "counts"
+            if self.prepared is not None:
+                store.write_bytes(self.prepared)
+            given = {f"{prefix}_{name}": str(value) for name, value in settings.items()}
+            given |= {f"{prefix}_COUNTS": str(counts), f"{prefix}_STORE": str(store), f"{prefix}_FOLDER": place}
+            given |= {"LD_PRELOAD": str(self.library)}
+            with subprocess.Popen(
+                self.words(store), stdin=subprocess.DEVNULL, stdout=subprocess.PIPE, stderr=subprocess.PIPE,
+                env={**os.environ, **given},
+            ) as run:
+                try:
+                    output, fault = run.communicate(timeout=self.seconds)
+                    status = run.returncode
+                except subprocess.TimeoutExpired:
+                    run.kill()
+                    output, fault = run.communicate()
+                    status = None
+            numbers = counts.read_bytes() if counts.exists() else b""
+            counted = tuple(int.from_bytes(numbers[at : at + 8], "little") for at in (0, 8))
+            data = store.read_bytes() if store.exists() else None
+            return Outcome(status, output.decode(errors="replace"), fault.decode(errors="replace"), data, counted)
+
+    def reopened(self, data):
+        """What the program tells of the store that a run left, with nothing refused: its layers and its version."""
+        with tempfile.TemporaryDirectory(dir=self.folder) as place:
+            store = pathlib.Path(place) / "store.db"
+            store.write_bytes(data)
+            script = b"LAYERS\nPUT One_more POLYGON EMPTY\nSYNC\n"
+            words = [self.program, "--store", str(store)]
+            done = subprocess.run(words, input=script, capture_output=True, timeout=60, check=False)
+            if done.returncode != 0:
+                raise judging.Wrong(f"opened again: status {done.returncode}, {done.stderr[:100]!r}")
+            replies = judging.sections(done.stdout.decode(), 1)[0]
+            return replies[0][1:], judging.number_of(replies[1]) - 1
+
+
+def judge_output(scenario, outcome):
+    """Judges the replies; the history and the greatest durable number (None where no session ran)."""
+    if not outcome.output:
+        if outcome.status != 1 or not FAULT_LINE.fullmatch(outcome.fault):
+            raise judging.Wrong(f"no replies, status {outcome.status}, standard error {outcome.fault[:100]!r}")
+        return None
+    has_store = scenario.before is not None
+    is_cut = outcome.status == 1 and outcome.fault != ""
+    judged = judging.judge(scenario.scripts, outcome.output, scenario.commands(), has_store, is_cut)
+    if judged.wrong:
+        raise judging.Wrong(judged.wrong[0])
+    return judged
+
+
+def judge_store(runner, outcome, judged):
+    """Looks at the store that a run left: a version of the history, all that was told durable, right tiles."""
+    created = runner.prepared is None
+    lines = read_store.told(outcome.store) if outcome.store is not None else ["32"]
+    if not lines[0].startswith("version"):
+        if created and judged is None and lines == ["32"]:
+            return
+        raise judging.Wrong(f"the store is refused by {lines[0]}")
+    number = int(lines[0].split()[1])
+    before = runner.scenario.commands()
+    if judged is None and number > len(before):
+        outcome.is_lost = True  # what the sessions made is in the store, and their replies were not printed
+        if runner.reopened(outcome.store)[1] != number:
+            raise judging.Wrong("the program opens the store as another version")
+        return
+    history = judged.history if judged else judging.history_of(dict(enumerate(before, 1)), model.Meanings())
+    least = max(len(before), judged.durable if judged else 0)
+    if not least <= number <= history.last():
+        raise judging.Wrong(f"the store has version {number}; {least} was durable, {history.last()} the last")
+    if judged and outcome.status == 0 and number != history.last():
+        raise judging.Wrong(f"status 0, and the store has version {number} of {history.last()}")
+    right = history.versions[number].lines()
+    if [line[len("layer ") :] for line in lines if line.startswith("layer ")] != right:
+        raise judging.Wrong(f"the store has other layers than those of version {number}")
+    for (name, column), pieces in stress.tiles_in(outcome.store).items():
+        if pieces != history.meanings.tile(history.key_at(name, number), column):
+            raise judging.Wrong(f"the store's tile {name} {column} is wrong")
+    if runner.reopened(outcome.store) != (right, number):
+        raise judging.Wrong("the program opens the store as another version")
+
+
+def judge(runner, outcome):
+    """What is wrong with a run, None where nothing is."""
+    if outcome.status is None:
+        return f"did not end in {runner.seconds} s"
+    if outcome.status not in (0, 1):
+        return f"ended with status {outcome.status}; standard error {outcome.fault[:200]!r}"
+    if outcome.fault and not FAULT_LINE.fullmatch(outcome.fault):
+        return f"standard error {outcome.fault[:200]!r}"
+    try:
+        judged = judge_output(runner.scenario, outcome)
+        if runner.scenario.before is not None:
+            judge_store(runner, outcome, judged)
+    except (judging.Wrong, read_store.Damage, subprocess.TimeoutExpired) as fault:
+        return f"status {outcome.status}: {fault}"
+    return None
+
+
+class Table:
+    """Counts of the runs of a scenario."""
+
+    def __init__(self):
+        self.runs = 0
+        self.refused = 0
+        self.failed = 0
+        self.silent = 0
+        self.lost = 0
+        self.endless = 0
+        self.wrong = []
+
+    def add(self, outcome, fault, label, may_be_endless):
+        self.runs += 1
+        self.endless += outcome.status is None
+        self.refused += outcome.counts[1] > 0
+        self.failed += outcome.status == 1
+        self.silent += outcome.status == 1 and not outcome.fault
+        self.lost += outcome.is_lost
+        if fault and not (outcome.status is None and may_be_endless):
+            self.wrong.append(f"{label}: {fault}")
+
+
+def run_all(runner, prefix, settings, may_be_endless=False):
+    """Runs with each of some settings, a few side by side, and counts."""
+    table = Table()
+
+    def one(given):
+        outcome = runner.run(given, prefix)
+        return given, outcome, judge(runner, outcome)
+
+    with concurrent.futures.ThreadPoolExecutor(os.cpu_count()) as pool:
+        for given, outcome, fault in pool.map(one, settings):
+            label = " ".join(f"{prefix}_{name}={value}" for name, value in given.items())
+            table.add(outcome, fault, label, may_be_endless)
+    return table
+
+
+HEAD = "| Run | Which | Calls | Runs | Met in | Status 1 | of them without a line | replies lost "
+HEAD += "| Did not end | Wrong |\n" + "|---" * 10 + "|"
+
+
+def print_table(runner, which, calls, table):
+    cells = [runner.scenario.name, which, calls, table.runs, table.refused]
+    cells += [table.failed, table.silent, table.lost, table.endless, len(table.wrong)]
+    print("| " + " | ".join(map(str, cells)) + " |", flush=True)
+    for line in table.wrong[:10]:
+        print("    " + line)
