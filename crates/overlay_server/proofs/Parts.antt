@@ -45,15 +45,16 @@ pub served : {R : Type 0} (book : Book) (remaining : R → Option (List ℕ)) (s
     → All (HasAllOf log) (map (λ (e : Ended R). e.session) es) → AllByRecursion (IsServed remaining start log) (parts_of ss es)
 served book remaining start log [] es ran begun own = tt
 served book remaining start log (s ∷ ss) [] ran begun own = absurd ran
-served book remaining start log (s ∷ ss) (e ∷ es) ran begun own =
-    (record {
-      now = e.session;
-      left = remaining e.reader;
-      same = ran.0.same;
-      ran = λ exact. ran.0.ran (subst IsExact (sym begun.0) exact);
-      own = All-head (HasAllOf log) e.session (map (λ (x : Ended R). x.session) es) own;
-    },
-    served book remaining start log ss es ran.1 begun.1 (All-tail (HasAllOf log) e.session (map (λ (x : Ended R). x.session) es) own))
+served book remaining start log (s ∷ ss) (e ∷ es) ran begun own = (
+  record {
+    now = e.session;
+    left = remaining e.reader;
+    same = ran.0.same;
+    ran = λ exact. ran.0.ran (subst IsExact (sym begun.0) exact);
+    own = All-head (HasAllOf log) e.session (map (λ (x : Ended R). x.session) es) own;
+  },
+  served book remaining start log ss es ran.1 begun.1 (All-tail (HasAllOf log) e.session (map (λ (x : Ended R). x.session) es) own),
+)
 
 -- the sessions that a book begins with are of it, and have seen its first version alone
 pub all_begin : (book : Book) (start : Version) (P : Known → Type 0) → ((n : ℕ) → P (record { book = book; session = n; log = first_log start; made = [] }))

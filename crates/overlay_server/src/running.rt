@@ -11,9 +11,9 @@ use std::marker::PhantomData;
 use std::snapshot::Snapshot;
 use std::sync::Wait;
 use std::thread::{Promise, PromisedHandle, Scope, Threads};
+use version_book::seen_log::Naming;
 use version_book::session::Session;
 use version_book::shared::Shared;
-use version_book::seen_log::Naming;
 
 /// A session with the script that it is to run.
 #[derive(Drop)]
@@ -75,13 +75,14 @@ fn start_session<
     's,
     E,
     J: Naming + Send + Sync,
+    S: Wait + Drop + Send + 's,
     Q: Threads + Wait + Sync,
     R: Read + Send + Drop + 's,
 >(
     scope: &'s Scope<'s, E>,
     rt: &'s Q,
     alloc: Global,
-    shared: &'s Shared<J, &'s Q>,
+    shared: &'s Shared<J, S>,
     script: Script<R>,
 ) -> Option<Running<J, R>>
     requires { script.session.book ≡ J.book }
@@ -101,13 +102,14 @@ pub fn start_sessions<
     's,
     E,
     J: Naming + Send + Sync,
+    S: Wait + Drop + Send + 's,
     Q: Threads + Wait + Sync,
     R: Read + Send + Drop + 's,
 >(
     scope: &'s Scope<'s, E>,
     rt: &'s Q,
     alloc: Global,
-    shared: &'s Shared<J, &'s Q>,
+    shared: &'s Shared<J, S>,
     scripts: Vec<Script<R>>,
 ) -> Option<Vec<Running<J, R>>>
     requires { All (λ script. script.session.book ≡ J.book) scripts.items }

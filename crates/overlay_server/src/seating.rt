@@ -8,7 +8,11 @@ use std::alloc::Global;
 use version_book::session::Session;
 
 /// The readers' scripts, each with the session that runs it, in their order. None comes where memory is refused.
-pub fn seated<R: Drop>(alloc: Global, sessions: Vec<Session>, readers: Vec<R>) -> Option<Vec<Script<R>>>
+pub fn seated<R: Drop>(
+    alloc: Global,
+    sessions: Vec<Session>,
+    readers: Vec<R>,
+) -> Option<Vec<Script<R>>>
     requires { length sessions.items ≡ length readers.items }
     ensures sessions { IfSome result (λ list. map session_of list.items ≡ sessions.items) }
     ensures readers { IfSome result (λ list. map reader_of list.items ≡ readers.items) }
@@ -21,10 +25,7 @@ pub fn seated<R: Drop>(alloc: Global, sessions: Vec<Session>, readers: Vec<R>) -
 }
 
 /// The sessions that have ended, and what they wrote, each in their order. None comes where memory is refused.
-pub fn parted<R: Drop>(
-    alloc: Global,
-    ended: Vec<Ended<R>>,
-) -> Option<(Vec<Session>, Vec<Outcome>)>
+pub fn parted<R: Drop>(alloc: Global, ended: Vec<Ended<R>>) -> Option<(Vec<Session>, Vec<Outcome>)>
     ensures sessions { IfSome result (λ r. r.0.items ≡ map (λ e. e.session) ended.items) }
     ensures outcomes { IfSome result (λ r. r.1.items ≡ map outcome_of ended.items) }
 {

@@ -20,9 +20,9 @@ use std::marker::Brand;
 use std::sync::Wait;
 use std::thread::Threads;
 use tile_workers::gate::Gate;
+use version_book::seen_log::{Head, Naming, SeenLog, open};
 use version_book::session::Session;
 use version_book::shared::Shared;
-use version_book::seen_log::{Head, Naming, SeenLog, open};
 use version_core::version::Version;
 
 /// A book that is to be opened: the history of one version, and the store that it was read from.
@@ -145,8 +145,15 @@ fn run_book<
     let Some(scripts) = seated(alloc, sessions, readers) else {
         return Err(refused(store.flusher));
     };
-    let Returned { store, ended } =
-        run_threads(rt, alloc, gate, &shared, options.workers, store, scripts);
+    let Returned { store, ended } = run_threads(
+        rt,
+        alloc,
+        gate,
+        &shared,
+        options.workers,
+        store,
+        scripts,
+    );
     let Some(store) = store else {
         return Err(refused(None));
     };
@@ -166,8 +173,7 @@ fn run_book<
 }
 
 /// No memory, or no thread: the disk comes back.
-fn refused<D: Disk>(flusher: Option<Flusher<D>>) -> ServerFault<D>
-{
+fn refused<D: Disk>(flusher: Option<Flusher<D>>) -> ServerFault<D> {
     ServerFault {
         code: 40,
         disk: disk_of(flusher),

@@ -11,8 +11,8 @@ use std::sync::Wait;
 use std::thread::{Promise, PromisedHandle, Scope, Threads};
 use store_flushing::flushing::flusher_loop;
 use version_book::reporter::Reporter;
-use version_book::shared::Shared;
 use version_book::seen_log::Naming;
+use version_book::shared::Shared;
 
 /// Who reports durable numbers, and the store that versions are written to, where there is one.
 #[derive(Drop)]
@@ -66,13 +66,14 @@ pub fn start_store<
     's,
     E,
     J: Naming + Send + Sync,
+    S: Wait + Drop + Send + 's,
     Q: Threads + Wait + Sync,
     D: Disk + Send + Drop + 's,
 >(
     scope: &'s Scope<'s, E>,
     rt: &'s Q,
     alloc: Global,
-    shared: &'s Shared<J, &'s Q>,
+    shared: &'s Shared<J, S>,
     store: Store<D>,
 ) -> Option<PromisedHandle<Store<D>, KeepsStore<J, D>>>
     requires { store.reporter.book ≡ J.book }

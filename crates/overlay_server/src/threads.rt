@@ -14,8 +14,8 @@ use std::thread;
 use std::thread::{Scope, Threads};
 use tile_workers::gate::Gate;
 use tile_workers::worker::worker_loop;
-use version_book::shared::Shared;
 use version_book::seen_log::Naming;
+use version_book::shared::Shared;
 
 /// What the threads gave back: the store, where its thread could start, and the sessions that have ended, where every
 /// thread could.
@@ -30,6 +30,7 @@ pub struct Returned<R, D: Disk> {
 pub fn run_threads<
     J: Naming + Send + Sync,
     G: Gate + Sync,
+    S: Wait + Drop + Send,
     Q: Threads + Wait + Sync,
     R: Read + Send + Drop,
     D: Disk + Send + Drop,
@@ -37,7 +38,7 @@ pub fn run_threads<
     rt: &Q,
     alloc: Global,
     gate: &G,
-    shared: &Shared<J, &Q>,
+    shared: &Shared<J, S>,
     workers: usize,
     store: Store<D>,
     scripts: Vec<Script<R>>,
@@ -64,6 +65,7 @@ fn run_in<
     E,
     J: Naming + Send + Sync,
     G: Gate + Sync,
+    S: Wait + Drop + Send + 's,
     Q: Threads + Wait + Sync,
     R: Read + Send + Drop + 's,
     D: Disk + Send + Drop + 's,
@@ -72,7 +74,7 @@ fn run_in<
     rt: &'s Q,
     alloc: Global,
     gate: &'s G,
-    shared: &'s Shared<J, &'s Q>,
+    shared: &'s Shared<J, S>,
     workers: usize,
     store: Store<D>,
     scripts: Vec<Script<R>>,
@@ -97,12 +99,19 @@ fn run_in<
 }
 
 /// Starts so many workers, and says whether each has its thread.
-fn start_workers<'s, E, J: Naming + Send + Sync, G: Gate + Sync, Q: Threads + Wait + Sync>(
+fn start_workers<
+    's,
+    E,
+    J: Naming + Send + Sync,
+    G: Gate + Sync,
+    S: Wait + Drop + Send + 's,
+    Q: Threads + Wait + Sync,
+>(
     scope: &'s Scope<'s, E>,
     rt: &'s Q,
     alloc: Global,
     gate: &'s G,
-    shared: &'s Shared<J, &'s Q>,
+    shared: &'s Shared<J, S>,
     workers: usize,
 ) -> bool {
     for _ in 0..workers {
@@ -121,13 +130,14 @@ fn run_sessions<
     's,
     E,
     J: Naming + Send + Sync,
+    S: Wait + Drop + Send + 's,
     Q: Threads + Wait + Sync,
     R: Read + Send + Drop + 's,
 >(
     scope: &'s Scope<'s, E>,
     rt: &'s Q,
     alloc: Global,
-    shared: &'s Shared<J, &'s Q>,
+    shared: &'s Shared<J, S>,
     scripts: Vec<Script<R>>,
 ) -> Option<Vec<Ended<R>>>
     requires { All (λ script. script.session.book ≡ J.book) scripts.items }
