@@ -57,12 +57,12 @@ files_are_covered history least file is exact stands =
     let first = accepted_in earlier.entries in
     let later = accepted_in among.begins.0 in
     let all : accepted_in history.entries ≡ first ++ later =
-        ap (λ (h : History). accepted_in h.entries) among.begins.1 ∙ accepted_append earlier.entries among.begins.0 in
+    ap (λ (h : History). accepted_in h.entries) among.begins.1 ∙ accepted_append earlier.entries among.begins.0 in
     let newest_number : (newest earlier).number ≡ start.number + length first = made.number ∙ ap (λ (v : Version). v.number + length first) (sym begins) in
     let number : stands.held.number ≡ start.number + length first =
-        image.number ∙ ap (λ (v : Version). v.number) among.newest ∙ newest_number in
+    image.number ∙ ap (λ (v : Version). v.number) among.newest ∙ newest_number in
     let these : up_to start stands.held.number (accepted_in history.entries) ≡ first =
-        ap (λ (cs : List Command). take (stands.held.number - start.number) cs) all ∙ first_up_to start.number stands.held.number first later number in
+    ap (λ (cs : List Command). take (stands.held.number - start.number) cs) all ∙ first_up_to start.number stands.held.number first later number in
     let count : length (accepted_in history.entries) ≡ length first + length later = ap (λ (cs : List Command). length cs) all ∙ length-append first later in
     record {
       held = stands.held;

@@ -1,10 +1,9 @@
 -- The sessions of a server, their readers, and what they left, side by side.
-use Rattle.std.proofs.Common.{◌≡◌, ◌++◌, ◌∷◌, [], ℕ, zero, suc, ◌<◌, ◌+◌, List, Option, Some, None, length, map, refl, ap, sym, ◌∙◌, subst, arith}
+use Rattle.std.proofs.Common.{◌≡◌, ◌++◌, ◌∷◌, [], ℕ, zero, suc, Bool, ◌<◌, ◌+◌, List, Option, Some, None, length, map, refl, ap, sym, ◌∙◌, subst, arith}
 use Rattle.std.specs.List.{All, AllZip, AllByRecursion}
 use Rattle.std.proofs.lemmas.List.Elements.{All-append, All-cons, All-nil, All-head, All-tail}
 use Rattle.logbook.specs.Pages.{Book}
 use Rattle.overlay_terms.specs.Histories.{Version, Entry, History, BeginsWith}
-use Rattle.overlay_terms.specs.KeptLaws.{IsExact}
 use Rattle.book_history.specs.Known.{Known, seen}
 use Rattle.book_history.specs.Logs.{history_of}
 use Rattle.book_history.proofs.Chains.{begins_with}
@@ -65,40 +64,40 @@ each_script P [] h = tt
 each_script P (s ∷ ss) h = (All-head P s ss h, each_script P ss (All-tail P s ss h))
 
 -- of all sessions that have ended
-pub of_ended : {R : Type 0} (book : Book) (remaining : R → Option (List ℕ)) (ss : List (Script R)) (es : List (Ended R))
-    → AllZip (IsRunOf book remaining) ss es → All (λ (k : Known). k.book ≡ book) (map ended_session es)
-of_ended book remaining [] [] h = All-nil (λ (k : Known). k.book ≡ book)
-of_ended book remaining [] (e ∷ es) h = absurd h
-of_ended book remaining (s ∷ ss) [] h = absurd h
-of_ended book remaining (s ∷ ss) (e ∷ es) h =
-    All-cons (λ (k : Known). k.book ≡ book) (ended_session e) (map ended_session es) h.0.of (of_ended book remaining ss es h.1)
+pub of_ended : {R : Type 0} (book : Book) (stored : Bool) (remaining : R → Option (List ℕ)) (ss : List (Script R)) (es : List (Ended R))
+    → AllZip (IsRunOf book stored remaining) ss es → All (λ (k : Known). k.book ≡ book) (map ended_session es)
+of_ended book stored remaining [] [] h = All-nil (λ (k : Known). k.book ≡ book)
+of_ended book stored remaining [] (e ∷ es) h = absurd h
+of_ended book stored remaining (s ∷ ss) [] h = absurd h
+of_ended book stored remaining (s ∷ ss) (e ∷ es) h =
+    All-cons (λ (k : Known). k.book ≡ book) (ended_session e) (map ended_session es) h.0.of (of_ended book stored remaining ss es h.1)
 
 -- ---- what a server owes
 
--- each session that ran from this version was served, where the log has all of it
-served : {R : Type 0} (book : Book) (remaining : R → Option (List ℕ)) (start : Version) (log : List Entry) (ss : List (Script R)) (es : List (Ended R))
-    → AllZip (IsRunOf book remaining) ss es → AllByRecursion (λ (s : Script R). (seen s.session).start ≡ start) ss
-    → All (HasAllOf log) (map ended_session es) → AllByRecursion (IsServed remaining start log) (parts_of ss es)
-served book remaining start log [] es ran begun own = tt
-served book remaining start log (s ∷ ss) [] ran begun own = absurd ran
-served book remaining start log (s ∷ ss) (e ∷ es) ran begun own =
-    (record {
-      now = ended_session e;
-      left = remaining e.reader;
-      same = ran.0.same;
-      goes_on = ran.0.goes_on;
-      ran = λ exact. ran.0.ran (subst IsExact (sym begun.0) exact);
-      own = All-head (HasAllOf log) (ended_session e) (map ended_session es) own;
-    },
-    served book remaining start log ss es ran.1 begun.1 (All-tail (HasAllOf log) (ended_session e) (map ended_session es) own))
+-- each session that ran was served, where the log has all of it
+served : {R : Type 0} (book : Book) (stored : Bool) (remaining : R → Option (List ℕ)) (log : List Entry) (ss : List (Script R)) (es : List (Ended R))
+    → AllZip (IsRunOf book stored remaining) ss es → All (HasAllOf log) (map ended_session es) → AllByRecursion (IsServed stored remaining log) (parts_of ss es)
+served book stored remaining log [] es ran own = tt
+served book stored remaining log (s ∷ ss) [] ran own = absurd ran
+served book stored remaining log (s ∷ ss) (e ∷ es) ran own = (
+  record {
+    now = ended_session e;
+    left = remaining e.reader;
+    same = ran.0.same;
+    goes_on = ran.0.goes_on;
+    ran = ran.0.ran;
+    own = All-head (HasAllOf log) (ended_session e) (map ended_session es) own;
+  },
+  served book stored remaining log ss es ran.1 (All-tail (HasAllOf log) (ended_session e) (map ended_session es) own),
+)
 
 -- the first session's history shows where the log begins
-begins_there : {R : Type 0} (book : Book) (remaining : R → Option (List ℕ)) (start : Version) (log : List Entry) (ss : List (Script R)) (es : List (Ended R))
-    → AllZip (IsRunOf book remaining) ss es → AllByRecursion (λ (s : Script R). (seen s.session).start ≡ start) ss
+begins_there : {R : Type 0} (book : Book) (stored : Bool) (remaining : R → Option (List ℕ)) (start : Version) (log : List Entry) (ss : List (Script R)) (es : List (Ended R))
+    → AllZip (IsRunOf book stored remaining) ss es → AllByRecursion (λ (s : Script R). (seen s.session).start ≡ start) ss
     → All (HasAllOf log) (map ended_session es) → 0 < length ss → (history_of log).start ≡ start
-begins_there book remaining start log [] es ran begun own some = absurd (omega (arith, some))
-begins_there book remaining start log (s ∷ ss) [] ran begun own some = absurd ran
-begins_there book remaining start log (s ∷ ss) (e ∷ es) ran begun own some =
+begins_there book stored remaining start log [] es ran begun own some = absurd (omega (arith, some))
+begins_there book stored remaining start log (s ∷ ss) [] ran begun own some = absurd ran
+begins_there book stored remaining start log (s ∷ ss) (e ∷ es) ran begun own some =
     let first = All-head (HasAllOf log) (ended_session e) (map ended_session es) own in
     let on = begins_with e.session.log log ran.0.begun first.longer in
     ap (λ (h : History). h.start) on.1 ∙ ap (λ (h : History). h.start) ran.0.goes_on.1 ∙ begun.0
@@ -130,19 +129,19 @@ pub as_many : {R : Type 0} (book : Book) (start : Version) (readers : List R) (s
     → length scripts ≡ length readers
 as_many book start readers scripts seated = sym (length-map_reader scripts) ∙ ap (λ (rs : List _). length rs) seated.readers_are
 
-module _ {R : Type 0} (book : Book) (remaining : R → Option (List ℕ)) (start : Version) (readers : List R) (scripts : List (Script R)) (seated : AreSeated book start readers scripts)
-    (ended : List (Ended R)) (ran : AllZip (IsRunOf book remaining) scripts ended) (log : List Entry) (own : All (HasAllOf log) (map ended_session ended)) where
-  pub are_served : AreServed remaining start log readers (map outcome_of ended)
+module _ {R : Type 0} (book : Book) (stored : Bool) (remaining : R → Option (List ℕ)) (start : Version) (readers : List R) (scripts : List (Script R)) (seated : AreSeated book start readers scripts)
+    (ended : List (Ended R)) (ran : AllZip (IsRunOf book stored remaining) scripts ended) (log : List Entry) (own : All (HasAllOf log) (map ended_session ended)) where
+  pub are_served : AreServed stored remaining start log readers (map outcome_of ended)
   are_served = record {
     book = book;
     parts = parts_of scripts ended;
-    sessions = sessions_are (IsRunOf book remaining) scripts ended ran ∙ seated.sessions;
-    readers_are = readers_are (IsRunOf book remaining) scripts ended ran ∙ seated.readers_are;
-    outcomes_are = outcomes_are (IsRunOf book remaining) scripts ended ran;
-    served = served book remaining start log scripts ended ran (starts_there book start readers scripts seated) own;
+    sessions = sessions_are (IsRunOf book stored remaining) scripts ended ran ∙ seated.sessions;
+    readers_are = readers_are (IsRunOf book stored remaining) scripts ended ran ∙ seated.readers_are;
+    outcomes_are = outcomes_are (IsRunOf book stored remaining) scripts ended ran;
+    served = served book stored remaining log scripts ended ran own;
   }
 
   pub begins_first : 0 < length readers → (history_of log).start ≡ start
   begins_first some =
-      begins_there book remaining start log scripts ended ran (starts_there book start readers scripts seated) own
+      begins_there book stored remaining start log scripts ended ran (starts_there book start readers scripts seated) own
       (omega (arith, some, as_many book start readers scripts seated))

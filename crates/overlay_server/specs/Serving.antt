@@ -1,12 +1,11 @@
 -- What a server leaves: its sessions' replies, and its store.
-use Rattle.std.specs.Prelude.{◌≡◌, ◌⊎◌, ◌∷◌, ◌≤◌, ℕ, false, List, [], length, map, All, Option, Some, None}
+use Rattle.std.specs.Prelude.{◌≡◌, ◌⊎◌, ◌∷◌, ◌≤◌, ℕ, Bool, false, is_some, List, [], length, map, All, Option, Some, None}
 use Rattle.std.specs.Arc.{arc_value}
 use Rattle.std.specs.List.{AllByRecursion}
 use Rattle.logbook.specs.Pages.{Book}
 use Rattle.disk_model.specs.declared.disk.Disk.{Ghosts}
 use Rattle.disk_model.specs.Moments.{Leaves, LeavesOnly}
 use Rattle.overlay_terms.specs.Histories.{Version, Entry, BeginsWith, empty_version}
-use Rattle.overlay_terms.specs.KeptLaws.{IsExact}
 use Rattle.root_store.specs.Running.{is_busy}
 use Rattle.root_store.specs.declared.phase.Phase.TheVariants.{Idle}
 use Rattle.flush_core.specs.declared.flusher.Flusher.{Flusher}
@@ -46,23 +45,23 @@ pub record Part (R : Type 0) : Type 0 where
   pub outcome : Outcome
 
 -- a session was served: what it wrote are the replies to its reader's lines, by histories that it has seen then; the log
--- has all of that, and of the session's commands just those that it made
-pub record IsServed {R : Type 0} (remaining : R → Option (List ℕ)) (start : Version) (log : List Entry) (part : Part R) : Type 0 where
+-- has all of that, and of the session's commands just those that it made; `stored` says whether there is a store
+pub record IsServed {R : Type 0} (stored : Bool) (remaining : R → Option (List ℕ)) (log : List Entry) (part : Part R) : Type 0 where
   pub now : Known
   pub left : Option (List ℕ)
   pub same : now.session ≡ part.session.session
   pub goes_on : BeginsWith (seen now) (seen part.session)
-  pub ran : IsExact start → IsSharedSession part.outcome.end part.session now (remaining part.reader) left (Some []) (Some part.outcome.bytes.items)
+  pub ran : IsSharedSession stored part.outcome.end part.session now (remaining part.reader) left (Some []) (Some part.outcome.bytes.items)
   pub own : HasAllOf log now
 
 -- each reader has a session of the book that begins with a version, by their order, and was served
-pub record AreServed {R : Type 0} (remaining : R → Option (List ℕ)) (start : Version) (log : List Entry) (readers : List R) (outcomes : List Outcome) : Type 0 where
+pub record AreServed {R : Type 0} (stored : Bool) (remaining : R → Option (List ℕ)) (start : Version) (log : List Entry) (readers : List R) (outcomes : List Outcome) : Type 0 where
   pub book : Book
   pub parts : List (Part R)
   pub sessions : map (λ (part : Part R). part.session) parts ≡ beginners (record { book = book; log = first_log start }) (length readers)
   pub readers_are : map (λ (part : Part R). part.reader) parts ≡ readers
   pub outcomes_are : map (λ (part : Part R). part.outcome) parts ≡ outcomes
-  pub served : AllByRecursion (IsServed remaining start log) parts
+  pub served : AllByRecursion (IsServed stored remaining log) parts
 
 -- ---- the store
 
@@ -116,7 +115,7 @@ pub record IsServedFrom {R D : Type 0} (remaining : R → Option (List ℕ)) (g 
   pub version : arc_value served.closed.version ≡ newest_in served.closed.trace.log
   pub log : IsLog served.closed.trace.log
   pub begins : (history_of served.closed.trace.log).start ≡ start
-  pub sessions : AreServed remaining start served.closed.trace.log readers served.sessions.items
+  pub sessions : AreServed (is_some store) remaining start served.closed.trace.log readers served.sessions.items
   pub store : AreLeft g start store served.closed
 
 -- a server could not run: for want of memory or of a thread, or of places in the book; the disk comes back

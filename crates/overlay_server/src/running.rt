@@ -3,6 +3,7 @@ ghost use Rattle.std.specs.Prelude.{◌≡◌, All, length, IfSome};
 ghost use Rattle.std.specs.List.{AllZip};
 ghost use Rattle.overlay_server.specs.Rooms.{HasRoom, HasRooms};
 ghost use Rattle.overlay_server.specs.Running.{IsRunOf};
+ghost use Rattle.version_book.specs.Store.{has_store};
 
 use script_form::SessionEnd;
 use server_session::session::session_run;
@@ -36,13 +37,15 @@ pub struct Ended<R> {
 #[derive(Drop)]
 pub struct RunsScript<J: Naming, R> {
     begun: Snapshot<Script<R>>,
+    /// Whether the book has a store.
+    stored: bool,
     of: PhantomData<J>,
 }
 
 impl<J: Naming, R: Read> Promise<Ended<R>> for RunsScript<J, R> {
     ghost use Rattle.overlay_server.specs.Running.{IsRunOf};
 
-    ghost kept_by = { λ p r. IsRunOf J.book R.remaining p.begun.value r };
+    ghost kept_by = { λ p r. IsRunOf J.book p.stored R.remaining p.begun.value r };
 }
 
 /// A thread that runs a script.
@@ -73,7 +76,7 @@ pub fn run_sessions<
 ) -> Option<Vec<Ended<R>>>
     requires scripts { All (λ script. script.session.book ≡ J.book) scripts.items }
     requires rooms { HasRooms rooms (length scripts.items) }
-    ensures { IfSome result (λ list. AllZip (λ script ended. IsRunOf J.book R.remaining script ended) scripts.items list.items) }
+    ensures { IfSome result (λ list. AllZip (λ script ended. IsRunOf J.book (has_store shared.now) R.remaining script ended) scripts.items list.items) }
 {
     let Rooms { running, ended } = rooms;
     let running = start_sessions(scope, rt, alloc, shared, scripts, running)?;
@@ -98,7 +101,7 @@ fn start_sessions<
 ) -> Option<Vec<Running<J, R>>>
     requires scripts { All (λ script. script.session.book ≡ J.book) scripts.items }
     requires room { HasRoom list (length scripts.items) }
-    ensures begun { IfSome result (λ list. AllZip (λ script h. h.promise.begun.value ≡ script) scripts.items list.items) }
+    ensures begun { IfSome result (λ list. AllZip (λ script h. (h.promise.begun.value ≡ script) × (h.promise.stored ≡ has_store shared.now)) scripts.items list.items) }
 {
     for script in scripts {
         list.push_reserved(start_session(scope, rt, alloc, shared, script)?);
@@ -122,10 +125,11 @@ fn start_session<
     script: Script<R>,
 ) -> Option<Running<J, R>>
     requires { script.session.book ≡ J.book }
-    ensures { IfSome result (λ h. h.promise.begun.value ≡ script) }
+    ensures { IfSome result (λ h. (h.promise.begun.value ≡ script) × (h.promise.stored ≡ has_store shared.now)) }
 {
     let promise = RunsScript {
         begun: Snapshot::of(&script),
+        stored: shared.has_store(),
         of: PhantomData,
     };
     scope
@@ -140,7 +144,7 @@ fn join_sessions<J: Naming, Q: Threads, R: Read + Drop>(
     mut list: Vec<Ended<R>>,
 ) -> Vec<Ended<R>>
     requires { HasRoom list (length running.items) }
-    ensures { AllZip (λ h ended. IsRunOf J.book R.remaining h.promise.begun.value ended) running.items result.items }
+    ensures { AllZip (λ h ended. IsRunOf J.book h.promise.stored R.remaining h.promise.begun.value ended) running.items result.items }
 {
     for handle in running {
         list.push_reserved(handle.join(rt));
@@ -149,14 +153,14 @@ fn join_sessions<J: Naming, Q: Threads, R: Read + Drop>(
 }
 
 /// Runs a script into a list of bytes.
-fn run_script<J: Naming, S: Wait + Drop, Q: Wait, R: Read>(
+fn run_script<J: Naming, S: Wait + Drop, Q: Threads + Wait + Sync, R: Read>(
     rt: &Q,
     alloc: Global,
     shared: &Shared<J, S>,
     script: Script<R>,
 ) -> Ended<R>
     requires { script.session.book ≡ J.book }
-    ensures { IsRunOf J.book R.remaining script result }
+    ensures { IsRunOf J.book (has_store shared.now) R.remaining script result }
 {
     let Script {
         mut session,

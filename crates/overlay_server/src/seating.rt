@@ -56,7 +56,11 @@ pub fn seated<J: Naming, R: Read + Drop>(
 }
 
 /// The readers' scripts, each with its session, in their order.
-fn scripts<R: Drop>(alloc: Global, sessions: Vec<Session>, readers: Vec<R>) -> Option<Vec<Script<R>>>
+fn scripts<R: Drop>(
+    alloc: Global,
+    sessions: Vec<Session>,
+    readers: Vec<R>,
+) -> Option<Vec<Script<R>>>
     requires { length sessions.items ≡ length readers.items }
     ensures sessions { IfSome result (λ list. map session_of list.items ≡ sessions.items) }
     ensures readers { IfSome result (λ list. map reader_of list.items ≡ readers.items) }

@@ -1,9 +1,10 @@
 //! A server: from readers and an engine to what the sessions wrote, and what is left of the book and its store.
-ghost use Rattle.std.specs.Prelude.{◌≡◌, ◌⊎◌, ◌<◌, ◌≤◌, ◌∷◌, [], All, None, Some, length, IfOk, IfErr, MatchOption};
+ghost use Rattle.std.specs.Prelude.{◌≡◌, ◌⊎◌, ◌<◌, ◌≤◌, ◌∷◌, [], All, None, Some, length, IfOk, IfErr, MatchOption, is_some};
 ghost use Rattle.book_history.specs.Logs.{entry, no_event};
 ghost use Rattle.overlay_terms.specs.Histories.{Version as Numbered};
 ghost use Rattle.book_history.specs.Rules.{head_of};
 ghost use Rattle.book_lock.specs.Steps.{beginners};
+ghost use Rattle.version_book.specs.Store.{has_store};
 ghost use Rattle.overlay_server.specs.Serving.{IsServedFrom, IsRefusedFrom, first_log, flusher_of, start_of};
 
 use crate::outcome::{ServeOptions, Served, ServerFault};
@@ -139,6 +140,7 @@ fn run_book<
 ) -> Result<Served<D>, ServerFault<D>>
     ghost start: { Numbered }
     requires readers { 0 < length readers.items }
+    requires stored { has_store shared ≡ is_some store.flusher }
     requires reporter { (store.reporter.book ≡ J.book) × (store.reporter.log ≡ first_log start) }
     requires sessions { sessions.items ≡ beginners (record { book = J.book; log = first_log start }) (length readers.items) }
     ensures served { IfOk result (IsServedFrom R.remaining D.Disk start store.flusher readers.items) }
@@ -153,8 +155,9 @@ fn run_book<
         parts,
     } = seats;
     let workers = options.workers;
-    let Returned { store, ended } =
-        run_threads(rt, alloc, gate, &shared, workers, store, scripts, rooms);
+    let Returned { store, ended } = run_threads(
+        rt, alloc, gate, &shared, workers, store, scripts, rooms,
+    );
     // What was finished after the last commit is committed now that the workers have returned.
     let Store { reporter, flusher } = keep_store(rt, alloc, &shared, store);
     let Some(ended) = ended else {

@@ -4,6 +4,7 @@ ghost use Rattle.std.specs.List.{AllZip};
 ghost use Rattle.overlay_server.specs.Rooms.{HasRooms};
 ghost use Rattle.overlay_server.specs.Running.{IsRunOf};
 ghost use Rattle.overlay_server.specs.Keeping.{IsKept};
+ghost use Rattle.version_book.specs.Store.{has_store};
 
 use crate::running::{Ended, Rooms, Script, run_sessions};
 use crate::storing::{Store, start_store};
@@ -48,7 +49,7 @@ pub fn run_threads<
     requires scripts { All (λ script. script.session.book ≡ J.book) scripts.items }
     requires rooms { HasRooms rooms (length scripts.items) }
     ensures store { IsKept J.book D.Disk store result.store }
-    ensures ended { IfSome result.ended (λ list. AllZip (λ script ended. IsRunOf J.book R.remaining script ended) scripts.items list.items) }
+    ensures ended { IfSome result.ended (λ list. AllZip (λ script ended. IsRunOf J.book (has_store shared.now) R.remaining script ended) scripts.items list.items) }
 {
     thread::scope(
         thread::scope_env(),
@@ -57,8 +58,12 @@ pub fn run_threads<
             requires { (store.reporter.book ≡ J.book)
                 × All (λ script. script.session.book ≡ J.book) scripts.items × HasRooms rooms (length scripts.items) }
             ensures { IsKept J.book D.Disk store result.store
-                × IfSome result.ended (λ list. AllZip (λ script ended. IsRunOf J.book R.remaining script ended) scripts.items list.items) }
-        { run_in(scope, rt, alloc, gate, shared, workers, store, scripts, rooms) },
+                × IfSome result.ended (λ list. AllZip (λ script ended. IsRunOf J.book (has_store shared.now) R.remaining script ended) scripts.items list.items) }
+        {
+            run_in(
+                scope, rt, alloc, gate, shared, workers, store, scripts, rooms,
+            )
+        },
     )
 }
 
@@ -87,7 +92,7 @@ fn run_in<
     requires scripts { All (λ script. script.session.book ≡ J.book) scripts.items }
     requires rooms { HasRooms rooms (length scripts.items) }
     ensures store { IsKept J.book D.Disk store result.store }
-    ensures ended { IfSome result.ended (λ list. AllZip (λ script ended. IsRunOf J.book R.remaining script ended) scripts.items list.items) }
+    ensures ended { IfSome result.ended (λ list. AllZip (λ script ended. IsRunOf J.book (has_store shared.now) R.remaining script ended) scripts.items list.items) }
 {
     let working = start_workers(scope, rt, alloc, gate, shared, workers);
     let keeping = start_store(scope, rt, alloc, shared, store);
