@@ -1,7 +1,6 @@
 //! A server: from readers and an engine to what the sessions wrote, and what is left of the book and its store.
 ghost use Rattle.std.specs.Prelude.{◌≡◌, ◌⊎◌, ◌<◌, ◌≤◌, ◌∷◌, [], All, None, Some, length, IfOk, IfErr, MatchOption, is_some};
 ghost use Rattle.book_history.specs.Logs.{entry, no_event};
-ghost use Rattle.overlay_terms.specs.Histories.{Version as Numbered};
 ghost use Rattle.book_history.specs.Rules.{head_of};
 ghost use Rattle.book_lock.specs.Steps.{beginners};
 ghost use Rattle.version_book.specs.Store.{has_store};
@@ -18,6 +17,7 @@ use overlay_engine::engine::Engine;
 use std::alloc::Global;
 use std::io::Read;
 use std::marker::Brand;
+use std::snapshot::Snapshot;
 use std::sync::Wait;
 use std::thread::Threads;
 use tile_workers::gate::Gate;
@@ -106,12 +106,15 @@ fn serve_in<
         version,
         flusher,
     } = opened;
-    let store = flusher.is_some();
+    let start = Snapshot::of(&version);
+    let stored = flusher.is_some();
     let sessions = readers.len();
-    match Shared::<J, &Q>::start(rt, alloc, head, trace, version, store, sessions) {
+    match Shared::<J, &Q>::start(rt, alloc, head, trace, version, stored, sessions) {
         Ok((shared, reporter, sessions)) => {
             let store = Store { reporter, flusher };
-            run_book(rt, alloc, options, gate, shared, store, sessions, readers)
+            run_book(
+                rt, alloc, options, gate, start, shared, store, sessions, readers,
+            )
         }
         Err(fault) => Err(ServerFault {
             code: fault.code(),
@@ -133,18 +136,18 @@ fn run_book<
     alloc: Global,
     options: ServeOptions,
     gate: &G,
+    start: Snapshot<Version>,
     shared: Shared<J, S>,
     store: Store<D>,
     sessions: Vec<Session>,
     readers: Vec<R>,
 ) -> Result<Served<D>, ServerFault<D>>
-    ghost start: { Numbered }
     requires readers { 0 < length readers.items }
     requires stored { has_store shared ≡ is_some store.flusher }
-    requires reporter { (store.reporter.book ≡ J.book) × (store.reporter.log ≡ first_log start) }
-    requires sessions { sessions.items ≡ beginners (record { book = J.book; log = first_log start }) (length readers.items) }
-    ensures served { IfOk result (IsServedFrom R.remaining D.Disk start store.flusher readers.items) }
-    ensures refused { IfErr result (IsRefusedFrom D.Disk start store.flusher) }
+    requires reporter { (store.reporter.book ≡ J.book) × (store.reporter.log ≡ first_log start.value) }
+    requires sessions { sessions.items ≡ beginners (record { book = J.book; log = first_log start.value }) (length readers.items) }
+    ensures served { IfOk result (IsServedFrom R.remaining D.Disk start.value store.flusher readers.items) }
+    ensures refused { IfErr result (IsRefusedFrom D.Disk start.value store.flusher) }
 {
     let Some(seats) = seated::<J, R>(alloc, sessions, readers) else {
         return Err(refused(store.flusher));
