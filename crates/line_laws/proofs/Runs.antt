@@ -8,7 +8,7 @@ use Rattle.overlay_terms.specs.Histories.{Version, Entry, History, accepted, All
 use Rattle.script_form.specs.Replies.{ok_line}
 use Rattle.script_form.specs.Requests.{request_of}
 use Rattle.script_form.specs.Transcript.{IsAcceptedBy, IsTurn, IsTranscript}
-use Rattle.line_laws.specs.Deciding.{Turn, history_after, made_by, AreTurns, AreTurnsOf, TranscriptsHaveTurns, is_from_outside, Decided, decided, DecideAlike, LinesDecide}
+use Rattle.line_laws.specs.Deciding.{Turn, history_after, lines_of, made_by, AreTurns, AreTurnsOf, TranscriptsHaveTurns, is_from_outside, Decided, decided, decided_by, outside_of, GoAlike, LinesDecide}
 use Rattle.line_laws.proofs.Asking.{AsksFor, asks_for_one}
 use Rattle.line_laws.proofs.Entries.{accepted_more, count, count_more, follow_front, follow_rest, history_front, history_rest, newest_more, with_commands, decided_more}
 use Rattle.line_laws.proofs.Views.{IsDeclined, IsUnmade, IsMade, Comes, comes}
@@ -202,16 +202,15 @@ module _ (stored other_stored : Bool) (session other : ℕ) where
       → IsHistory (history_after seen turns) → IsHistory (history_after other_seen others)
       → count (history_after seen turns) ≡ count seen + length (made_by turns) → count (history_after other_seen others) ≡ count other_seen + length (made_by others)
       → decided (newest seen) ≡ decided (newest other_seen)
-      → map (λ (turn : Turn). turn.line) turns ≡ map (λ (turn : Turn). turn.line) others
-      → map (λ (turn : Turn). is_from_outside turn.reply) turns ≡ map (λ (turn : Turn). is_from_outside turn.reply) others → DecideAlike turns others
+      → lines_of turns ≡ lines_of others → outside_of turns ≡ outside_of others → GoAlike turns others
   alike seen other_seen [] [] told other_told history other_history alone other_alone same lines from = record { versions = refl; commands = refl }
   alike seen other_seen [] (u ∷ others) told other_told history other_history alone other_alone same lines from = absurd (cc)
   alike seen other_seen (t ∷ turns) [] told other_told history other_history alone other_alone same lines from = absurd (cc)
   alike seen other_seen (t ∷ turns) (u ∷ others) (first, rest) (other_first, other_rest) history other_history alone other_alone same lines from =
       let line : t.line ≡ u.line = cc (lines) in
-      let later_lines : map (λ (turn : Turn). turn.line) turns ≡ map (λ (turn : Turn). turn.line) others = cc (lines) in
+      let later_lines : lines_of turns ≡ lines_of others = cc (lines) in
       let outside : is_from_outside t.reply ≡ is_from_outside u.reply = cc (from) in
-      let later_from : map (λ (turn : Turn). is_from_outside turn.reply) turns ≡ map (λ (turn : Turn). is_from_outside turn.reply) others = cc (from) in
+      let later_from : outside_of turns ≡ outside_of others = cc (from) in
       let counts = first_alone stored session seen t turns (first, rest) alone in
       let other_counts = first_alone other_stored other other_seen u others (other_first, other_rest) other_alone in
       let one = step_of stored session seen t u.line line first (history_back stored session t.after turns rest history) counts.first in
@@ -222,7 +221,7 @@ module _ (stored other_stored : Bool) (session other : ℕ) where
       one.shows ∙ ap (λ (d : Decided). with_commands d t.made) same ∙ ap (with_commands (decided (newest other_seen))) made ∙ sym two.shows in
       let later = alike t.after u.after turns others rest other_rest history other_history counts.others other_counts.others version later_lines later_from in
       record {
-        versions = ap (λ (d : Decided). d ∷ map (λ (turn : Turn). decided (newest turn.after)) turns) version
+        versions = ap (λ (d : Decided). d ∷ decided_by turns) version
             ∙ ap (λ (ds : List Decided). decided (newest u.after) ∷ ds) later.versions;
         commands = ap (λ (cs : List Command). cs ∷ map (λ (turn : Turn). turn.made) turns) made ∙ ap (λ (cs : List (List Command)). u.made ∷ cs) later.commands;
       }
@@ -239,11 +238,13 @@ lines_decide stored other_stored session other seen other_seen turns others one 
 
 -- ==== Transcripts
 
-pub transcripts_have_turns : TranscriptsHaveTurns
-transcripts_have_turns stored session seen [] after made replies (same, none, empty) =
+turns_of : (stored : Bool) (session : ℕ) (seen : History) (lines : List (List ℕ)) (after : History) (made : List Command) (replies : List ℕ)
+    → IsTranscript stored session seen lines after made replies
+    → AreTurnsOf stored session seen (record { lines = lines; after = after; made = made; replies = replies })
+turns_of stored session seen [] after made replies (same, none, empty) =
     record { turns = []; told = tt; same_lines = refl; same_after = sym same; same_made = sym none; same_replies = sym empty }
-transcripts_have_turns stored session seen (line ∷ lines) after made replies (mid, first, others, reply, rest, turn, run, all_made, all_told) =
-    let later = transcripts_have_turns stored session mid lines after others rest run in
+turns_of stored session seen (line ∷ lines) after made replies (mid, first, others, reply, rest, turn, run, all_made, all_told) =
+    let later = turns_of stored session mid lines after others rest run in
     let here : Turn = record { line = line; after = mid; made = first; reply = reply } in
     record {
       turns = here ∷ later.turns;
@@ -253,3 +254,6 @@ transcripts_have_turns stored session seen (line ∷ lines) after made replies (
       same_made = ap (λ (cs : List Command). first ++ cs) later.same_made ∙ sym all_made;
       same_replies = ap (λ (bytes : List ℕ). reply ++ bytes) later.same_replies ∙ sym all_told;
     }
+
+pub transcripts_have_turns : TranscriptsHaveTurns
+transcripts_have_turns stored session seen run told = turns_of stored session seen run.lines run.after run.made run.replies told

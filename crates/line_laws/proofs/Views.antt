@@ -1,18 +1,17 @@
 -- What a turn comes to: nothing is made, or the command that its line asks for is accepted.
-use Rattle.std.proofs.Common.{◌≡◌, ℕ, ℤ, ◌⊎◌, inl, inr, Bool, true, false, ◌||◌, IsTrue, List, [], ◌∷◌, ◌++◌, Option, Some, None, refl, sym, ap, ◌∙◌, subst, bytes_eq}
+use Rattle.std.proofs.Common.{◌≡◌, ℕ, ℤ, ◌⊎◌, inl, inr, true, false, List, [], Option, Some, None, refl, sym, ap, ◌∙◌, subst, bytes_eq}
 use Rattle.std.proofs.lemmas.Bool.{true≢false, or_left, or_right}
 use Rattle.overlay_terms.specs.Commands.{Command, Refusal, refusal_at}
 use Rattle.overlay_terms.specs.Commands as terms
 use Rattle.overlay_terms.specs.Histories.{History, Version, newest}
 use Rattle.overlay_terms.proofs.NameLemmas.{name_itself}
-use Rattle.layer_expr.specs.Name.{is_name}
 use Rattle.version_core.specs.declared.fault.VersionFault.{VersionFault}
 use Rattle.overlay_grid.specs.declared.fault.GridFault.{GridFault}
 use Rattle.script_form.specs.declared.fault.CommandFault.{CommandFault}
 use Rattle.script_form.specs.declared.fault.CommandFault.TheVariants.{OutOfMemory, Closing, Gone}
 use Rattle.script_form.specs.Replies.{error_line}
 use Rattle.script_form.specs.Requests.{Request, nothing, too_long, malformed, put, define, remove, locate, grid, list_layers, edges, wait, verify, sync, request_of}
-use Rattle.script_form.specs.Transcript.{IsRefused, IsAcceptedBy, IsSubmitted, IsAnswered, IsOutOfMemory, IsTurn, WithName, Asked, Drawn, IsTold}
+use Rattle.script_form.specs.Transcript.{IsRefused, IsAcceptedBy, IsSubmitted, IsAnswered, IsOutOfMemory, IsTurn, Asked, Drawn}
 use Rattle.line_laws.specs.Deciding.{is_from_outside}
 use Rattle.line_laws.proofs.Asking.{AsksFor}
 
@@ -75,10 +74,6 @@ submitted session before request command after made reply asks (inr (inr (inl (r
 submitted session before request command after made reply asks (inr (inr (inr by))) = inr (record { command = command; asks = asks; how = by })
 
 -- ==== Questions
-
-named_none : (name : List ℕ) (made : List Command) (reply : List ℕ) (T : Type 0) → WithName name made reply T → (T → made ≡ []) → made ≡ []
-named_none name made reply T (inl (none, refused)) then = refused.nothing_made
-named_none name made reply T (inr (named, answered)) then = then answered
 
 asked_none : (o : Option VersionFault) (made : List Command) (reply : List ℕ) (T : Type 0) → Asked o made reply T → (T → made ≡ []) → made ≡ []
 asked_none (Some fault) made reply T refused then = refused.nothing_made
