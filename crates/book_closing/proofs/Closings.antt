@@ -16,18 +16,18 @@ use Rattle.book_closing.specs.Files.{IsFileExactlyIn}
 
 -- the number that is stored, and the disk, of a store if there is one
 abbrev pub IsLeftOf : {D : Type 0} → Option (Flusher D) → ℕ → Option D → Type 0
-IsLeftOf o stored disk = IfSome o (λ f. (stored ≡ f.stored) × (disk ≡ Some f.commit.disk))
+IsLeftOf o stored disk = IfSome o (λ f. (stored ≡ f.commit.root.version) × (disk ≡ Some f.commit.disk))
 
 -- all that is reported is stored
 pub reported_left : {D : Type 0} (o : Option (Flusher D)) (stored : ℕ) (disk : Option D) → IsLeftOf o stored disk → (reporter : Heard) (log : List Entry) → HasHeard log reporter
     → All (λ (entry : Entry). entry.version.durable ≤ (newest_in log).durable) log
-    → IfSome o (λ f. (newest_in reporter.log).durable ≤ f.stored → All (λ (entry : Entry). entry.version.durable ≤ stored) log)
+    → IfSome o (λ f. (newest_in reporter.log).durable ≤ f.commit.root.version → All (λ (entry : Entry). entry.version.durable ≤ stored) log)
 reported_left None stored disk is reporter log heard all = tt
 reported_left (Some f) stored disk is reporter log heard all = λ less k d at. omega (arith, all k d at, heard.durable, less, is.0)
 
 module _ {D : Type 0} (g : Ghosts D) (was now : History) (on : BeginsWith now was) where
   -- a store at rest: each file stands for the version that is stored
-  exactly_on : (f : Flusher D) → IsStoreOf g was f → f.commit.phase ≡ Idle → Leaves g f.commit.disk (IsFileExactlyIn now f.stored)
+  exactly_on : (f : Flusher D) → IsStoreOf g was f → f.commit.phase ≡ Idle → Leaves g f.commit.disk (IsFileExactlyIn now f.commit.root.version)
   exactly_on f store idle c left =
       let rest = subst (λ (p : Phase). IsStoreAt g was p f) idle store.store in
       record {
@@ -38,15 +38,15 @@ module _ {D : Type 0} (g : Ghosts D) (was now : History) (on : BeginsWith now wa
       }
 
   -- what is said of files for the number of the store holds for the number and the disk that are left
-  left : (P : ℕ → List ℕ → Type 0) (f : Flusher D) (stored : ℕ) (disk : Option D) → stored ≡ f.stored → disk ≡ Some f.commit.disk → Leaves g f.commit.disk (P f.stored)
+  left : (P : ℕ → List ℕ → Type 0) (f : Flusher D) (stored : ℕ) (disk : Option D) → stored ≡ f.commit.root.version → disk ≡ Some f.commit.disk → Leaves g f.commit.disk (P f.commit.root.version)
       → IfSome disk (λ d. Leaves g d (P stored))
   left P f stored disk number is all =
       subst (λ (q : Option D). IfSome q (λ d. Leaves g d (P stored))) (sym is) (subst (λ (n : ℕ). Leaves g f.commit.disk (P n)) (sym number) all)
 
   pub files_left : (o : Option (Flusher D)) (stored : ℕ) (disk : Option D) → IsLeftOf o stored disk
-      → IfSome o (λ f. Leaves g f.commit.disk (IsFileIn was f.stored) → IfSome disk (λ d. Leaves g d (IsFileIn now stored)))
+      → IfSome o (λ f. Leaves g f.commit.disk (IsFileIn was f.commit.root.version) → IfSome disk (λ d. Leaves g d (IsFileIn now stored)))
   files_left None stored disk is = tt
-  files_left (Some f) stored disk is = λ all. left (IsFileIn now) f stored disk is.0 is.1 (λ c at. file_more was now f.stored f.stored c on (omega arith) (all c at))
+  files_left (Some f) stored disk is = λ all. left (IsFileIn now) f stored disk is.0 is.1 (λ c at. file_more was now f.commit.root.version f.commit.root.version c on (omega arith) (all c at))
 
   pub exactly_left : (o : Option (Flusher D)) (stored : ℕ) (disk : Option D) → IsLeftOf o stored disk
       → IfSome o (λ f. IsStoreOf g was f → f.commit.phase ≡ Idle → IfSome disk (λ d. Leaves g d (IsFileExactlyIn now stored)))

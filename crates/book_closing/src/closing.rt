@@ -51,12 +51,12 @@ pub fn close<J: Naming, R: Wait + Drop, D: Disk, W: Wait>(
     ensures reporter { IsPrefix reporter.log result.trace.log }
     ensures sessions { All (λ session. HasAllOf result.trace.log session) sessions.items }
     ensures none { IfNone flusher ((result.stored ≡ 0) × (result.disk ≡ None)) }
-    ensures disk { IfSome flusher (λ f. (result.stored ≡ f.stored) × (result.disk ≡ Some f.commit.disk)) }
+    ensures disk { IfSome flusher (λ f. (result.stored ≡ f.commit.root.version) × (result.disk ≡ Some f.commit.disk)) }
     // All that is reported is stored, where it was for the reporter.
-    ensures reported { IfSome flusher (λ f. (newest_in reporter.log).durable ≤ f.stored
+    ensures reported { IfSome flusher (λ f. (newest_in reporter.log).durable ≤ f.commit.root.version
         → All (λ entry. entry.version.durable ≤ result.stored) result.trace.log) }
     // Every file that a crash may leave stands for a version of the log, where it stood for one of the reporter's.
-    ensures files { IfSome flusher (λ f. Leaves D.Disk f.commit.disk (IsFileIn (history_of reporter.log) f.stored)
+    ensures files { IfSome flusher (λ f. Leaves D.Disk f.commit.disk (IsFileIn (history_of reporter.log) f.commit.root.version)
         → IfSome result.disk (λ disk. Leaves D.Disk disk (IsFileIn (history_of result.trace.log) result.stored))) }
     // It is just the version that is stored, where no commit is under way and the device did not fail.
     ensures exactly { IfSome flusher (λ f. IsStoreOf D.Disk (history_of reporter.log) f → f.commit.phase ≡ phases.Idle
@@ -77,7 +77,7 @@ pub fn close<J: Naming, R: Wait + Drop, D: Disk, W: Wait>(
 /// The number of the version that is stored, and the disk.
 fn left_of<D: Disk>(flusher: Option<Flusher<D>>) -> (u64, Option<D>)
     ensures none { IfNone flusher ((result.0 ≡ 0) × (result.1 ≡ None)) }
-    ensures some { IfSome flusher (λ f. (result.0 ≡ f.stored) × (result.1 ≡ Some f.commit.disk)) }
+    ensures some { IfSome flusher (λ f. (result.0 ≡ f.commit.root.version) × (result.1 ≡ Some f.commit.disk)) }
 {
     match flusher {
         Some(flusher) => (flusher.stored(), Some(flusher.into_disk())),

@@ -11,7 +11,7 @@ use Rattle.root_store.specs.declared.phase.Progress.{Progress}
 use Rattle.root_store.specs.declared.phase.Progress.TheVariants.{Idle, Going, Done}
 use Rattle.flush_core.specs.Imaging.{tiles_in_order, version_held}
 
--- the number of the version that is stored after a step: only one that answers Done changes it, to the number of its commit
+-- the number of the version that is stored after a step: only one that answers Done changes it, to the number that it tells
 abbrev pub stored_after : Result Progress StoreFault → ℕ → ℕ
 stored_after (Ok (Done number)) old = number
 stored_after (Ok Going) old = old

@@ -1,10 +1,10 @@
-//! A store, and the number of the version that is stored.
-ghost use Rattle.std.specs.Prelude.{◌≡◌, ◌↔◌, ◌≤◌, ℕ, false, Err, IfOk, OnOk, OnErr, IsErrOf, IfErr};
+//! A store to which versions are written.
+ghost use Rattle.std.specs.Prelude.{◌≡◌, ◌↔◌, ◌<◌, ◌≤◌, ℕ, false, Err, IfOk, OnOk, OnErr, IsErrOf, IfErr};
 ghost use Rattle.disk_model.specs.Disk.{Failed};
 ghost use Rattle.store_terms.specs.Roots.{sequence_max};
 ghost use Rattle.root_store.specs.Beginning.{IsReason};
 ghost use Rattle.commit_plan.specs.Kept.{Kept};
-ghost use Rattle.root_store.specs.Running.{Stands, Runs, KeepsTo, Stepped, Counts, calls_left, is_busy, fault_in};
+ghost use Rattle.root_store.specs.Running.{Stands, Runs, KeepsTo, Stepped, Counts, Turns, KeepsRoots, calls_left, is_busy, fault_in};
 ghost use Rattle.flush_core.specs.Stored.{stored_after, IsCommitOf, HasRoomFor, HasNoRoomFor, calls_of};
 
 use crate::imaging::image_of;
@@ -15,19 +15,18 @@ use root_store::phase::{Phase, Progress};
 use std::alloc::Global;
 use version_core::version::Version;
 
-/// A store to which versions are written, and the number of the one that was written last.
+/// A store to which versions are written.
 #[derive(Drop)]
 pub struct Flusher<D: Disk> {
     pub(crate) commit: Commit<D>,
-    pub(crate) stored: u64,
 }
 
 impl<D: Disk> Flusher<D> {
-    /// A store that was made or opened, with the number of the version that it holds.
-    pub fn new(commit: Commit<D>, stored: u64) -> Flusher<D>
-        ensures { result ≡ record { commit = commit; stored = stored } }
+    /// A store that was made or opened.
+    pub fn new(commit: Commit<D>) -> Flusher<D>
+        ensures { result ≡ record { commit = commit } }
     {
-        Flusher { commit, stored }
+        Flusher { commit }
     }
 
     /// Whether a commit is under way.
@@ -37,11 +36,11 @@ impl<D: Disk> Flusher<D> {
         self.commit.busy()
     }
 
-    /// The number of the version that is stored: that of the last commit that is done.
+    /// The number of the version that is stored: that of the store's live root.
     pub fn stored(&self) -> u64
-        ensures { result ≡ self.now.stored }
+        ensures { result ≡ self.now.commit.root.version }
     {
-        self.stored
+        self.commit.version()
     }
 
     /// Begins the commit of a version. It makes no device call, and a refusal changes nothing.
@@ -49,7 +48,12 @@ impl<D: Disk> Flusher<D> {
         requires { is_busy self.old.commit.phase ≡ false }
         // From the content that the store stands for to just the version's number, layers and finished tiles.
         ensures begun { (x : Kept) → Stands D.Disk self.old.commit x → OnOk result ((y : Kept) × IsCommitOf version.now y × Runs D.Disk self.new.commit x y) }
-        ensures stored { self.new.stored ≡ self.old.stored }
+        ensures stored { self.new.commit.root.version ≡ self.old.commit.root.version }
+        // The root that it leads to has the version's number.
+        ensures number { OnOk result (self.new.commit.next_root.version ≡ version.now.number) }
+        // One begins only where none is under way, the device did not fail, and there is a number for it.
+        ensures idle { OnOk result (self.old.commit.phase ≡ Phase.Idle) }
+        ensures below { OnOk result (self.old.commit.root.sequence < sequence_max) }
         ensures begins { OnOk result (self.new.commit.phase ≡ Phase.Close) }
         // The blocks that the file may have stay as many.
         ensures blocks { (limit : ℕ) → KeepsTo limit self.old.commit → KeepsTo limit self.new.commit }
@@ -82,7 +86,11 @@ impl<D: Disk> Flusher<D> {
     pub fn step(&mut self) -> Result<Progress, StoreFault>
         // Where a commit from x to y is under way, a crash at any moment of the call leaves x or y.
         ensures moves { (x y : Kept) → Runs D.Disk self.old.commit x y → Stepped D.Disk self.old.commit self.new.commit result x y }
-        ensures stored { self.new.stored ≡ stored_after result self.old.stored }
+        // Done n: n is the number of the root that the commit leads to, and that root is live. Any other answer leaves
+        // the live root and the next one.
+        ensures roots { IfOk result (λ p. Turns p self.old.commit self.new.commit) }
+        ensures same_roots { OnErr result (KeepsRoots self.old.commit self.new.commit) }
+        ensures stored { self.new.commit.root.version ≡ stored_after result self.old.commit.root.version }
         ensures honest { D.is_honest self.new.commit.disk ↔ D.is_honest self.old.commit.disk }
         // The blocks that the file may have stay as many.
         ensures blocks { (limit : ℕ) → KeepsTo limit self.old.commit → KeepsTo limit self.new.commit }
@@ -94,10 +102,6 @@ impl<D: Disk> Flusher<D> {
         ensures errors { IfErr result (λ fault. fault ≡ fault_in self.old.commit.phase) }
         ensures cause { D.is_honest self.old.commit.disk → IsErrOf result StoreFault.Device → Failed (D.faults self.old.commit.disk) (D.faults self.new.commit.disk) }
     {
-        let progress = self.commit.step()?;
-        if let Progress::Done(number) = progress {
-            self.stored = number;
-        }
-        Ok(progress)
+        self.commit.step()
     }
 }

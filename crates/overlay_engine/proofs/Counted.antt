@@ -14,6 +14,7 @@ use Rattle.root_store.specs.declared.phase.Phase.{Phase}
 use Rattle.root_store.specs.declared.phase.Phase.TheVariants as phase
 use Rattle.root_store.specs.declared.phase.Progress.TheVariants as progress
 use Rattle.root_store.specs.declared.commit.Commit.{Commit}
+use Rattle.store_terms.specs.declared.root.Root.{Root}
 use Rattle.root_store.specs.Beginning.{IsReason}
 use Rattle.root_store.specs.Running.{Counts, calls_in, calls_left, is_busy}
 use Rattle.flush_core.specs.declared.flusher.Flusher.{Flusher}
@@ -27,7 +28,7 @@ use Rattle.overlay_engine.specs.Steps.{RefusedAs}
 use Rattle.overlay_engine.specs.Devices.{DeviceFailed, Devices}
 use Rattle.overlay_engine.specs.Acts.{Acts}
 use Rattle.overlay_engine.specs.Runs.{Made, Leads}
-use Rattle.overlay_engine.specs.Counting.{calls_asked, calls_asked_in, DeviceRefusals, CommitCounts}
+use Rattle.overlay_engine.specs.Counting.{calls_asked, calls_asked_in, DeviceRefusals, CommitCounts, CommitTells}
 use Rattle.overlay_engine.proofs.Following.{makes}
 
 -- ---- a refusal by 30
@@ -164,3 +165,58 @@ module _ {D : Type 0} (g : Ghosts D) where
       (as_device last.old last.new (Done whole.number) last.step last.reply whole.ends.0 whole.ends.1 parts.1) in
       ap calls_asked_in whole.parts ∙ omega (arith, asked_push whole.between last, ap calls_asked whole.begins.0, ap calls_asked whole.ends.0, begun.0, on.0, done)
       ∙ ap (λ (e : Engine D). calls_of e.version) joins
+
+  -- ---- the number that a commit tells
+
+  abbrev next_of : Engine D → ℕ
+  next_of e = e.flusher.commit.next_root.version
+
+  next_going : (old new : Engine D) → 0 < left_by old → Devices g old Going new → next_of new ≡ next_of old
+  next_going old new left (inl (busy, calls)) = ap (λ (r : Root). r.version) calls.1.1
+  next_going old new left (inr (inl (idle, mid, begins, calls))) = absurd (at_rest old idle left)
+  next_going old new left (inr (inr (idle, not_begun))) = absurd (at_rest old idle left)
+
+  done_tells : (old new : Engine D) (number : ℕ) → 0 < left_by old → Devices g old (Done number) new → number ≡ next_of old
+  done_tells old new number left (inl (busy, calls)) = calls.1.0
+  done_tells old new number left (inr (inl (idle, mid, begins, calls))) = absurd (at_rest old idle left)
+  done_tells old new number left (inr (inr (idle, not_begun))) = absurd (at_rest old idle left)
+
+  next_begins : (old new : Engine D) → is_busy old.flusher.commit.phase ≡ false → Devices g old Going new → next_of new ≡ old.version.number
+  next_begins old new idle (inl (busy, calls)) = absurd (false≢true (sym idle ∙ busy))
+  next_begins old new idle (inr (inl (rests, mid, begins, calls))) = ap (λ (r : Root). r.version) calls.1.1 ∙ begins.number
+  next_begins old new idle (inr (inr (rests, not_begun))) = absurd (cc (not_begun.told))
+
+  next_other : (old new : Engine D) → new.flusher ≡ old.flusher → next_of new ≡ next_of old
+  next_other old new same = ap (λ (f : Flusher D). f.commit.next_root.version) same
+
+  next_stays : (step : Step) (old : Engine D) (reply : Reply) (new : Engine D) → (step ≡ Device → reply ≡ Going) → 0 < left_by old → Acts g step old reply new
+      → next_of new ≡ next_of old
+  next_stays Device old reply new goes_on left acts = next_going old new left (subst (λ (r : Reply). Devices g old r new) (goes_on refl) acts)
+  next_stays (Submit change) old reply new goes_on left acts = next_other old new ((makes g (Submit change) old reply new acts).1 refl)
+  next_stays (Take name column) old reply new goes_on left acts = next_other old new ((makes g (Take name column) old reply new acts).1 refl)
+  next_stays (Finish number) old reply new goes_on left acts = next_other old new ((makes g (Finish number) old reply new acts).1 refl)
+  next_stays Report old reply new goes_on left acts = next_other old new ((makes g Report old reply new acts).1 refl)
+
+  next_kept : (run : List (Made D)) (old new : Engine D) → Leads g old run new → AllByRecursion (λ (made : Made D). made.step ≡ Device → made.reply ≡ Going) run
+      → 0 < left_by old → next_of new ≡ next_of old
+  next_kept [] old new same all left = ap next_of same
+  next_kept (made ∷ run) old new (joins, acts, leads) (goes_on, all) left =
+      let here : 0 < left_by made.old = omega (arith, ap left_by joins, left) in
+      let one = one_more made.step made.old made.reply made.new goes_on here acts in
+      next_kept run made.new new leads all one.1 ∙ next_stays made.step made.old made.reply made.new goes_on here acts ∙ ap next_of joins
+
+  pub commit_tells : CommitTells g
+  commit_tells old run new whole =
+      let first = whole.first in
+      let last = whole.last in
+      let joins = whole.leads.0 in
+      let idle = subst (λ (e : Engine D). is_busy e.flusher.commit.phase ≡ false) (sym joins) whole.idle in
+      let begins = as_device first.old first.new Going first.step first.reply whole.begins.0 whole.begins.1 whole.leads.1 in
+      let begun = device_begins first.old first.new idle begins in
+      let parts = leads_between whole.between last first.new new whole.leads.2 in
+      let on = going_on whole.between first.new last.old parts.0 whole.goes_on begun.1 in
+      done_tells last.old last.new whole.number on.1
+      (as_device last.old last.new (Done whole.number) last.step last.reply whole.ends.0 whole.ends.1 parts.1)
+      ∙ next_kept whole.between first.new last.old parts.0 whole.goes_on begun.1
+      ∙ next_begins first.old first.new idle begins
+      ∙ ap (λ (e : Engine D). e.version.number) joins

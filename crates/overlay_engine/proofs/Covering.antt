@@ -67,14 +67,14 @@ module _ {D : Type 0} (g : Ghosts D) where
 module _ {D : Type 0} (g : Ghosts D) (start : Start) where
   -- ---- what a crash leaves
 
-  pub way_either : (f : Flusher D) (commands : List Command) (way : UnderWay g start f commands) (c : List ℕ) → Either way.x way.y c → Covered start f.stored commands c
-  way_either f commands way c either = either_covered start f.stored commands way.x way.y c (omega (arith, way.number)) way.later way.stored way.storing either
+  pub way_either : (f : Flusher D) (commands : List Command) (way : UnderWay g start f commands) (c : List ℕ) → Either way.x way.y c → Covered start f.commit.root.version commands c
+  way_either f commands way c either = either_covered start f.commit.root.version commands way.x way.y c (omega (arith, way.number)) way.later way.stored way.storing either
 
-  pub way_covered : (f : Flusher D) (commands : List Command) → UnderWay g start f commands → Leaves g f.commit.disk (Covered start f.stored commands)
+  pub way_covered : (f : Flusher D) (commands : List Command) → UnderWay g start f commands → Leaves g f.commit.disk (Covered start f.commit.root.version commands)
   way_covered f commands way c left = way_either f commands way c (before_leaves g f.commit.phase f.commit way.x way.y way.runs.before c left)
 
   -- whatever the phase, each outcome is covered
-  in_covered : (p : Phase) (f : Flusher D) (commands : List Command) → In g start p f commands → Leaves g f.commit.disk (Covered start f.stored commands)
+  in_covered : (p : Phase) (f : Flusher D) (commands : List Command) → In g start p f commands → Leaves g f.commit.disk (Covered start f.commit.root.version commands)
   in_covered Idle f commands rest c left = record { held = rest.x.held; no_less = omega (arith, rest.number); stored = rest.stored; stands = calm_stands rest.x c (rest.stands.leaves c left) }
   in_covered Failed f commands store c left = store c left
   in_covered Close f commands way c left = way_covered f commands way c left
@@ -83,11 +83,11 @@ module _ {D : Type 0} (g : Ghosts D) (start : Start) where
   in_covered Open f commands way c left = way_covered f commands way c left
   in_covered Finish f commands way c left = way_covered f commands way c left
 
-  pub stored_leaves : (f : Flusher D) (version : Version) (commands : List Command) → Covers g start f version commands → Leaves g f.commit.disk (Covered start f.stored commands)
+  pub stored_leaves : (f : Flusher D) (version : Version) (commands : List Command) → Covers g start f version commands → Leaves g f.commit.disk (Covered start f.commit.root.version commands)
   stored_leaves f version commands covers = in_covered f.commit.phase f commands covers.store
 
   pub reported_leaves : (f : Flusher D) (version : Version) (commands : List Command) → Covers g start f version commands → Leaves g f.commit.disk (Covered start version.durable commands)
-  reported_leaves f version commands covers c left = covered_less start version.durable f.stored commands c covers.reported (stored_leaves f version commands covers c left)
+  reported_leaves f version commands covers c left = covered_less start version.durable f.commit.root.version commands c covers.reported (stored_leaves f version commands covers c left)
 
   -- ---- events
 
@@ -105,7 +105,7 @@ module _ {D : Type 0} (g : Ghosts D) (start : Start) where
 
   in_more : (p : Phase) (f : Flusher D) (commands more : List Command) → In g start p f commands → In g start p f (commands ++ more)
   in_more Idle f commands more rest = record { x = rest.x; number = rest.number; stored = stored_more start commands more rest.x.held rest.stored; stands = rest.stands }
-  in_more Failed f commands more store = λ c left. covered_more start f.stored commands more c (store c left)
+  in_more Failed f commands more store = λ c left. covered_more start f.commit.root.version commands more c (store c left)
   in_more Close f commands more way = way_more f commands more way
   in_more Settle f commands more way = way_more f commands more way
   in_more Put f commands more way = way_more f commands more way

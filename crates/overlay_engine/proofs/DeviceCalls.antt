@@ -41,9 +41,9 @@ module _ {D : Type 0} (g : Ghosts D) (start : Start) where
 
   module _ (f new : Flusher D) (version : Version) (commands : List Command) (covers : Covers g start f version commands) (way : UnderWay g start f commands) where
     reported : (c : List ℕ) → Either way.x way.y c → Covered start version.durable commands c
-    reported c either = covered_less start version.durable f.stored commands c covers.reported (way_either g start f commands way c either)
+    reported c either = covered_less start version.durable f.commit.root.version commands c covers.reported (way_either g start f commands way c either)
 
-    moved : (result : Result Progress StoreFault) → new.stored ≡ stored_after result f.stored → (g.is_honest f.commit.disk → g.is_honest new.commit.disk)
+    moved : (result : Result Progress StoreFault) → new.commit.root.version ≡ stored_after result f.commit.root.version → (g.is_honest f.commit.disk → g.is_honest new.commit.disk)
         → Stepped g f.commit new.commit result way.x way.y → Moves g start f new version commands
     moved (Ok progress.Idle) stored honest stepped = absurd stepped.ok
     moved (Ok progress.Going) stored honest stepped = record {
@@ -69,7 +69,7 @@ module _ {D : Type 0} (g : Ghosts D) (start : Start) where
     }
     moved (Ok (progress.Done number)) stored honest stepped =
         let stands = stepped.ok.0 in
-        let here : way.y.held.number ≡ new.stored = way.next_number ∙ sym stepped.ok.1 ∙ sym stored in
+        let here : way.y.held.number ≡ new.commit.root.version = way.next_number ∙ sym stepped.ok.1 ∙ sym stored in
         record {
           covers = record {
             honest = honest covers.honest;
@@ -97,7 +97,7 @@ module _ {D : Type 0} (g : Ghosts D) (start : Start) where
     }
 
   -- a call keeps the store covering, and a crash at any moment of it leaves what is no older than what was durable
-  pub called : (f new : Flusher D) (version : Version) (commands : List Command) (result : Result Progress StoreFault) → is_busy f.commit.phase ≡ true → new.stored ≡ stored_after result f.stored
+  pub called : (f new : Flusher D) (version : Version) (commands : List Command) (result : Result Progress StoreFault) → is_busy f.commit.phase ≡ true → new.commit.root.version ≡ stored_after result f.commit.root.version
       → (g.is_honest f.commit.disk → g.is_honest new.commit.disk) → ((x y : Kept) → Runs g f.commit x y → Stepped g f.commit new.commit result x y)
       → Covers g start f version commands → Moves g start f new version commands
   called f new version commands result busy stored honest steps covers =

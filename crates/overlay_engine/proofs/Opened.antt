@@ -15,7 +15,7 @@ use Rattle.root_store.specs.declared.open_fault.OpenFault.{OpenFault}
 use Rattle.root_store.specs.declared.commit.Commit.{Commit}
 use Rattle.commit_plan.specs.Kept.{Kept}
 use Rattle.root_store.specs.Running.{Stands}
-use Rattle.root_store.specs.Opening.{Opened, Tells}
+use Rattle.root_store.specs.Opening.{Opened, Writes, HasRoot, Tells}
 use Rattle.commit_plan.proofs.Reading.{calm_stands}
 use Rattle.flush_core.specs.declared.flusher.Flusher.{Flusher}
 use Rattle.flush_core.specs.Stored.{IsImageOf}
@@ -39,7 +39,7 @@ module _ {D : Type 0} (g : Ghosts D) (start : Start) (disk : D) (least : ℕ) (c
   covered : (c : List ℕ) → Opened g disk c → Covered start least commands c
   covered c opened = opening_is_covered g start disk least commands all stays c opened
 
-  recovered : (e : Engine D) (k : Kept) (x : Held) → reading (g.seen disk) ≡ Ok x → k.held ≡ x → Stands g e.flusher.commit k → e.flusher.stored ≡ x.number → e.version ≡ version_of x
+  recovered : (e : Engine D) (k : Kept) (x : Held) → reading (g.seen disk) ≡ Ok x → k.held ≡ x → Stands g e.flusher.commit k → e.flusher.commit.root.version ≡ x.number → e.version ≡ version_of x
       → LeavesOnly g disk e.flusher.commit.disk (Opened g disk) → Recovered g start disk e least commands
   recovered e k x reads same stands stored version moments =
       let is : e.version ≡ version_of k.held = version ∙ ap version_of (sym same) in
@@ -53,11 +53,11 @@ module _ {D : Type 0} (g : Ghosts D) (start : Start) (disk : D) (least : ℕ) (c
         moments = widened g disk e.flusher.commit.disk (Opened g disk) (Covered start least commands) covered moments;
       }
 
-  pub recovered_with : (e : Engine D) (s : Commit D) (n : ℕ) (k : Kept) (x : Held) → e.flusher ≡ record { commit = s; stored = n } → n ≡ e.version.number → e.version ≡ version_of x
+  pub recovered_with : (e : Engine D) (s : Commit D) (k : Kept) (x : Held) → e.flusher ≡ record { commit = s } → s.root.version ≡ e.version.number → e.version ≡ version_of x
       → reading (g.seen disk) ≡ Ok x → k.held ≡ x → Stands g s k → LeavesOnly g disk s.disk (Opened g disk) → Recovered g start disk e least commands
-  recovered_with e s n k x flusher number version reads same stands moments =
+  recovered_with e s k x flusher number version reads same stands moments =
       recovered e k x reads same (subst (λ (f : Flusher D). Stands g f.commit k) (sym flusher) stands)
-      (ap (λ (f : Flusher D). f.stored) flusher ∙ number ∙ ap (λ (v : Version). v.number) version) version
+      (ap (λ (f : Flusher D). f.commit.root.version) flusher ∙ number ∙ ap (λ (v : Version). v.number) version) version
       (subst (λ (f : Flusher D). LeavesOnly g disk f.commit.disk (Opened g disk)) (sym flusher) moments)
 
   pub refused_as : (refused : OpenFault D) → Tells refused.fault (reading (g.seen disk)) → g.is_honest refused.disk → Leaves g refused.disk (Opened g disk)
@@ -80,11 +80,11 @@ module _ {D : Type 0} (g : Ghosts D) (start : Start) (disk : D) (least : ℕ) (c
   }
 
 -- a store that stands for what a version is made of stands for just that version
-pub rests_as : {D : Type 0} (g : Ghosts D) (version : Version) (f : Flusher D) (s : Commit D) (n : ℕ) (k : Kept) (x : Held) → f ≡ record { commit = s; stored = n } → n ≡ version.number
+pub rests_as : {D : Type 0} (g : Ghosts D) (version : Version) (f : Flusher D) (s : Commit D) (k : Kept) (x : Held) → f ≡ record { commit = s } → s.root.version ≡ version.number
     → version ≡ version_of x → k.held ≡ x → Stands g s k → IsNewStore g version f
-rests_as g version f s n k x flusher number is same stands =
+rests_as g version f s k x flusher number is same stands =
     let image : IsImageOf (version_of x) x = record { number = refl; layers = refl; tiles = λ name column. refl } in
-    let stored : f.stored ≡ version.number = ap (λ (h : Flusher _). h.stored) flusher ∙ number in
+    let stored : f.commit.root.version ≡ version.number = ap (λ (h : Flusher _). h.commit.root.version) flusher ∙ number in
     record {
       x = k;
       stands = subst (λ (h : Flusher _). Stands g h.commit k) (sym flusher) stands;
@@ -92,6 +92,10 @@ rests_as g version f s n k x flusher number is same stands =
       stored = stored;
       reported = omega (arith, stored, ap (λ (v : Version). v.durable) is, ap (λ (v : Version). v.number) is);
     }
+
+-- the disk of a store that was opened, as an engine or a refusal hands it on
+pub writes_of : {D : Type 0} (g : Ghosts D) (old : List ℕ) (f : Flusher D) (s : Commit D) → f ≡ record { commit = s } → Writes old (g.seen s.disk) → Writes old (g.seen f.commit.disk)
+writes_of g old f s is writes = subst (λ (h : Flusher _). Writes old (g.seen h.commit.disk)) (sym is) writes
 
 pub recovered_answers : {D : Type 0} (g : Ghosts D) → RecoveredAnswers g
 recovered_answers g start disk e least commands recovered name query told tells =

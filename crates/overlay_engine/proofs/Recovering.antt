@@ -98,5 +98,5 @@ module _ {D : Type 0} (g : Ghosts D) where
       → LeavesOnly g disk disk (Covered start version.durable commands)
   stays_covered start f version commands disk is now covers =
       started g disk (Covered start version.durable commands) (λ c left.
-      covered_less start version.durable f.stored commands c covers.reported
+      covered_less start version.durable f.commit.root.version commands c covers.reported
       (covers_leaves g start f version commands covers c (subst (λ (d : D). g.may_leave d c) (sym is) (now c left))))

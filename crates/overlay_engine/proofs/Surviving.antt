@@ -118,7 +118,7 @@ module _ {D : Type 0} (g : Ghosts D) (start : Start) (commands : List Command) (
 
     pub reported : (reply : Reply) (new : Engine D) → Reports old reply new → Survives g start commands Report old reply new
     reported (Durable number) new (inl follows, told, same) =
-        by_event Report (Durable number) new (durable_to old.flusher.stored) refl follows (omega arith) (ap (λ (e : Engine D). e.flusher) same) (λ version is. tt)
+        by_event Report (Durable number) new (durable_to old.flusher.commit.root.version) refl follows (omega arith) (ap (λ (e : Engine D). e.flusher) same) (λ version is. tt)
     reported (Durable number) new (inr stays, told, same) =
         by_nothing Report (Durable number) new refl stays.same (ap (λ (e : Engine D). e.flusher) same) (λ version is. tt)
     reported (Refused code) new reports = unchanged Report (Refused code) new refl reports.1 (λ version is. tt)

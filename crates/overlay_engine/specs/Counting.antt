@@ -46,3 +46,7 @@ module _ {D : Type 0} (g : Ghosts D) where
   -- it makes as many calls as are told of the version that it began with
   abbrev pub CommitCounts : Type 0
   CommitCounts = (old : Engine D) (run : List (Made D)) (new : Engine D) → IsWholeCommit old run new → calls_asked_in run ≡ calls_of old.version
+
+  -- and it tells the number of that version, whatever the disk does
+  abbrev pub CommitTells : Type 0
+  CommitTells = (old : Engine D) (run : List (Made D)) (new : Engine D) (whole : IsWholeCommit old run new) → whole.number ≡ old.version.number

@@ -43,7 +43,7 @@ module _ {D : Type 0} (g : Ghosts D) (start : Start) where
   -- no commit is under way: the file stands for the version that is stored
   pub record AtRest (f : Flusher D) (commands : List Command) : Type 0 where
     pub x : Kept
-    pub number : x.held.number ≡ f.stored
+    pub number : x.held.number ≡ f.commit.root.version
     pub stored : IsStored start commands x.held
     pub stands : Stands g f.commit x
 
@@ -51,17 +51,17 @@ module _ {D : Type 0} (g : Ghosts D) (start : Start) where
   pub record UnderWay (f : Flusher D) (commands : List Command) : Type 0 where
     pub x : Kept
     pub y : Kept
-    pub number : x.held.number ≡ f.stored
+    pub number : x.held.number ≡ f.commit.root.version
     pub stored : IsStored start commands x.held
     pub next_number : y.held.number ≡ y.root.version
     pub storing : IsStored start commands y.held
-    pub later : f.stored ≤ y.held.number
+    pub later : f.commit.root.version ≤ y.held.number
     pub runs : Runs g f.commit x y
 
   -- what is known of a store, by where its commit stands
   abbrev pub In : Phase → Flusher D → List Command → Type 0
   In Idle f commands = AtRest f commands
-  In Failed f commands = Leaves g f.commit.disk (Covered start f.stored commands)
+  In Failed f commands = Leaves g f.commit.disk (Covered start f.commit.root.version commands)
   In Close f commands = UnderWay f commands
   In Settle f commands = UnderWay f commands
   In Put f commands = UnderWay f commands
@@ -74,8 +74,8 @@ module _ {D : Type 0} (g : Ghosts D) (start : Start) where
     pub number : version.number ≡ start.number + length commands
     pub layers : version.layers ≡ layers_from start commands
     pub exact : IsExact version
-    pub reported : version.durable ≤ f.stored
-    pub stored : f.stored ≤ version.number
+    pub reported : version.durable ≤ f.commit.root.version
+    pub stored : f.commit.root.version ≤ version.number
     pub store : In f.commit.phase f commands
 
   -- a device call: the store covers the same version, and a crash at any moment of the call leaves one that is no older than what was reported as it began
@@ -93,4 +93,4 @@ added (durable_to number) = []
 abbrev pub ReportsStored : {D : Type 0} → Flusher D → Event → Type 0
 ReportsStored f (accepted session command) = Unit {0}
 ReportsStored f (kept name column tile) = Unit {0}
-ReportsStored f (durable_to number) = number ≤ f.stored
+ReportsStored f (durable_to number) = number ≤ f.commit.root.version

@@ -1,5 +1,5 @@
 -- The device step of an engine.
-use Rattle.std.specs.Prelude.{◌≡◌, ◌⊎◌, ◌≤◌, true, false}
+use Rattle.std.specs.Prelude.{◌≡◌, ◌⊎◌, ◌<◌, ◌≤◌, true, false}
 use Rattle.disk_model.specs.declared.disk.Disk.{Ghosts}
 use Rattle.disk_model.specs.Disk as disks
 use Rattle.store_terms.specs.Roots.{sequence_max}
@@ -10,18 +10,21 @@ use Rattle.root_store.specs.declared.phase.Progress.TheVariants as progress
 use Rattle.root_store.specs.Beginning.{IsReason}
 use Rattle.flush_core.specs.Stored.{HasRoomFor, HasNoRoomFor, calls_of}
 use Rattle.commit_plan.specs.Fault.{code_of}
-use Rattle.root_store.specs.Running.{Counts, calls_left, is_busy}
+use Rattle.root_store.specs.Running.{Counts, Turns, KeepsRoots, calls_left, is_busy}
 use Rattle.overlay_engine.specs.declared.engine.Engine.{Engine}
 use Rattle.overlay_engine.specs.declared.step.Reply.{Reply}
 use Rattle.overlay_engine.specs.declared.step.Reply.TheVariants.{Refused, Going, Done}
 
 module _ {D : Type 0} where
-  -- a commit of the newest version begins, as there is room for it: nothing changes but that it is under way, with so many calls left
+  -- a commit of the newest version begins, where none is under way, the device did not fail, there is a number for it, and there is room: nothing changes but that it is under way, to a root with the version's number, with so many calls left
   pub record Begins (old mid : Engine D) : Type 0 where
+    pub idle : old.flusher.commit.phase ≡ Idle
+    pub below : old.flusher.commit.root.sequence < sequence_max
     pub began : mid.flusher.commit.phase ≡ Close
+    pub number : mid.flusher.commit.next_root.version ≡ old.version.number
     pub room : HasRoomFor old.flusher.commit old.version
     pub calls : calls_left mid.flusher.commit ≡ calls_of old.version
-    pub stored : mid.flusher.stored ≡ old.flusher.stored
+    pub stored : mid.flusher.commit.root.version ≡ old.flusher.commit.root.version
     pub disk : mid.flusher.commit.disk ≡ old.flusher.commit.disk
     pub rest : mid ≡ record old { flusher = mid.flusher }
 
@@ -40,14 +43,14 @@ module _ {D : Type 0} (g : Ghosts D) where
   DeviceFailed old new =
       g.is_honest old.flusher.commit.disk → disks.Failed (g.faults old.flusher.commit.disk) (g.faults new.flusher.commit.disk)
 
-  -- one device call of the commit under way: a call fewer is left; or it was the last, and the commit's version is stored; or the device failed in it, and no commit is under way any more
+  -- one device call of the commit under way: a call fewer is left; or it was the last, and what is stored is the root that the commit leads to, with the number that is told; or the device failed in it, and no commit is under way any more
   abbrev pub Calls : Engine D → Reply → Engine D → Type 0
   Calls old Going new =
-      Counts progress.Going (calls_left old.flusher.commit) (calls_left new.flusher.commit) × (new.flusher.stored ≡ old.flusher.stored) × (new ≡ record old { flusher = new.flusher })
+      Counts progress.Going (calls_left old.flusher.commit) (calls_left new.flusher.commit) × KeepsRoots old.flusher.commit new.flusher.commit × (new ≡ record old { flusher = new.flusher })
   Calls old (Done number) new =
-      Counts (progress.Done number) (calls_left old.flusher.commit) (calls_left new.flusher.commit) × (new.flusher.stored ≡ number) × (new ≡ record old { flusher = new.flusher })
+      Counts (progress.Done number) (calls_left old.flusher.commit) (calls_left new.flusher.commit) × Turns (progress.Done number) old.flusher.commit new.flusher.commit × (new ≡ record old { flusher = new.flusher })
   Calls old (Refused code) new =
-      (code ≡ 30) × DeviceFailed old new × (new.flusher.commit.phase ≡ Failed) × (new.flusher.stored ≡ old.flusher.stored) × (new ≡ record old { flusher = new.flusher })
+      (code ≡ 30) × DeviceFailed old new × (new.flusher.commit.phase ≡ Failed) × KeepsRoots old.flusher.commit new.flusher.commit × (new ≡ record old { flusher = new.flusher })
   Calls old reply new = ⊥
 
   -- where a commit is under way, one call of it; else the first call of the commit of the newest version, or a refusal of that

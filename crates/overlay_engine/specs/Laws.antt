@@ -24,14 +24,14 @@ module _ {D : Type 0} (g : Ghosts D) where
   abbrev pub CoveredStays : Type 0
   CoveredStays =
       (start : Start) (f : Flusher D) (version : Version) (commands : List Command)
-      → Covers g start f version commands → Leaves g f.commit.disk (Covered start f.stored commands)
+      → Covers g start f version commands → Leaves g f.commit.disk (Covered start f.commit.root.version commands)
 
   -- a store that was opened on this disk, with what its file holds
   pub record IsOpened (disk : D) (f : Flusher D) (x : Kept) : Type 0 where
     pub stays : g.may_leave disk (g.seen disk)
     pub reads : reading (g.seen disk) ≡ Ok x.held
     pub stands : Stands g f.commit x
-    pub stored : f.stored ≡ x.held.number
+    pub stored : f.commit.root.version ≡ x.held.number
 
   -- what a file holds is the version after the first commands, no older than the least, and the store covers it, all of it durable
   pub record Recovers (start : Start) (f : Flusher D) (x : Kept) (least : ℕ) (commands : List Command) : Type 0 where
@@ -55,7 +55,7 @@ module _ {D : Type 0} (g : Ghosts D) where
     pub began : new.commit.phase ≡ Close
     pub honest : g.is_honest old.commit.disk → g.is_honest new.commit.disk
     pub runs : (x : Kept) → Stands g old.commit x → (y : Kept) × IsCommitOf version y × Runs g new.commit x y
-    pub stored : new.stored ≡ old.stored
+    pub stored : new.commit.root.version ≡ old.commit.root.version
 
   abbrev pub BegunCovers : Type 0
   BegunCovers =

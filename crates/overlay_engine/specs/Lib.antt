@@ -10,3 +10,4 @@ pub mod Recovery
 pub mod Runs
 pub mod Start
 pub mod Steps
+pub mod Telling

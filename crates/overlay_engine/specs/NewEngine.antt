@@ -13,8 +13,8 @@ pub record IsNewStore {D : Type 0} (g : Ghosts D) (version : Version) (f : Flush
   pub x : Kept
   pub stands : Stands g f.commit x
   pub image : IsImageOf version x.held
-  pub stored : f.stored ≡ version.number
-  pub reported : version.durable ≤ f.stored
+  pub stored : f.commit.root.version ≡ version.number
+  pub reported : version.durable ≤ f.commit.root.version
 
 -- an engine with such a store
 abbrev pub IsNewEngine : {D : Type 0} → Ghosts D → Engine D → Type 0

@@ -100,6 +100,6 @@ module _ {D : Type 0} where
   -- an engine reports what is stored, and tells what is durable now
   abbrev pub Reports : Engine D → Reply → Engine D → Type 0
   Reports old (Durable number) new =
-      IsReported old.version old.flusher.stored new.version × (number ≡ new.version.durable) × (new ≡ record old { version = new.version })
+      IsReported old.version old.flusher.commit.root.version new.version × (number ≡ new.version.durable) × (new ≡ record old { version = new.version })
   Reports old (Refused code) new = (code ≡ 40) × (new ≡ old)
   Reports old reply new = ⊥

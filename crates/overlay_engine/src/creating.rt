@@ -2,7 +2,8 @@
 ghost use Rattle.std.specs.Prelude.{◌≡◌, ◌≢◌, ◌↔◌, [], None, IfOk, IfErr, MatchResult};
 ghost use Rattle.disk_model.specs.Disk.{Failed, Fewer};
 ghost use Rattle.overlay_terms.specs.Histories.{empty_version};
-ghost use Rattle.root_store.specs.Creating.{refusal_of_new, Tells};
+ghost use Rattle.disk_model.specs.Moments.{Leaves};
+ghost use Rattle.root_store.specs.Creating.{IsNewFile, refusal_of_new, Tells};
 ghost use Rattle.root_store.specs.Running.{KeepsTo};
 ghost use Rattle.overlay_engine.specs.Start.{from_nothing};
 ghost use Rattle.overlay_engine.specs.Covers.{Covers};
@@ -14,6 +15,7 @@ use disk_model::disk::Disk;
 use flush_core::flusher::Flusher;
 use root_store::creating::create;
 use root_store::open_fault::OpenFault;
+use root_store::phase::Phase;
 use std::alloc::Global;
 use version_core::version::Version;
 
@@ -24,6 +26,9 @@ impl<D: Disk> Engine<D> {
         ensures covers { D.is_honest disk → IfOk result (λ e. Covers D.Disk from_nothing e.flusher e.version []) }
         // The store stands for just the version, and no commit is under way.
         ensures rests { D.is_honest disk → IfOk result (λ e. IsNewEngine D.Disk e) }
+        // The file has three blocks that are zero but for the bodies, the catalog and the first gate, which alone is open.
+        ensures file { D.is_honest disk → IfOk result (λ e. Leaves D.Disk e.flusher.commit.disk IsNewFile) }
+        ensures idle { IfOk result (λ e. e.flusher.commit.phase ≡ Phase.Idle) }
         ensures version { IfOk result (λ e. e.version ≡ empty_version) }
         ensures jobs { IfOk result (λ e. (e.jobs.items ≡ []) × (e.next_job ≡ 0)) }
         ensures limit { IfOk result (λ e. KeepsTo max_blocks e.flusher.commit) }
@@ -36,7 +41,7 @@ impl<D: Disk> Engine<D> {
         match create(alloc, disk, max_blocks) {
             Ok(commit) => Ok(Engine {
                 version: Version::empty(alloc),
-                flusher: Flusher::new(commit, 0),
+                flusher: Flusher::new(commit),
                 jobs: Vec::new(alloc),
                 next_job: 0,
             }),

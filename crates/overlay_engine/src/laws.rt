@@ -1,9 +1,10 @@
 //! Laws over the definitions: each function does nothing, and its contract is the law.
-ghost use Rattle.overlay_engine.specs.Counting.{CommitCounts, DeviceRefusals};
+ghost use Rattle.overlay_engine.specs.Counting.{CommitCounts, CommitTells, DeviceRefusals};
 ghost use Rattle.overlay_engine.specs.Laws.{BegunCovers, CoveredStays, EventsCover, OpenedRecovers, OpeningIsCovered};
 ghost use Rattle.overlay_engine.specs.Lives.{NothingIsLost};
 ghost use Rattle.overlay_engine.specs.Recovery.{RecoveredAnswers};
 ghost use Rattle.overlay_engine.specs.Start.{Start};
+ghost use Rattle.overlay_engine.specs.Telling.{CrashKeepsTold, DurableIsTold, JobsAreNumbered};
 
 use disk_model::disk::Disk;
 
@@ -46,6 +47,26 @@ pub fn device_refusals<D: Disk>()
 /// and six more.
 pub fn commit_counts<D: Disk>()
     ensures { CommitCounts D.Disk }
+{}
+
+/// The step that ends a commit tells the number of the version with which it began.
+pub fn commit_tells<D: Disk>()
+    ensures { CommitTells D.Disk }
+{}
+
+/// No job number is used twice.
+pub fn jobs_are_numbered<D: Disk>()
+    ensures { JobsAreNumbered D.Disk }
+{}
+
+/// The durable number that was told last is the version's.
+pub fn durable_is_told<D: Disk>()
+    ensures { DurableIsTold D.Disk }
+{}
+
+/// It is so as a crash comes: what is recovered is no older than what was told.
+pub fn crash_keeps_told<D: Disk>()
+    ensures { CrashKeepsTold D.Disk }
 {}
 
 /// Through any steps, crashes and recoveries nothing is lost that was durable at some moment.

@@ -4,7 +4,8 @@ ghost use Rattle.disk_model.specs.Moments.{Leaves};
 ghost use Rattle.overlay_terms.specs.Commands.{Command};
 ghost use Rattle.store_terms.specs.Image.{Held};
 ghost use Rattle.store_terms.specs.StandsFor.{reading};
-ghost use Rattle.root_store.specs.Opening.{Tells, FailedBy};
+ghost use Rattle.store_terms.specs.declared.damage.Damage.{Damage};
+ghost use Rattle.root_store.specs.Opening.{Tells, FailedBy, Untouched, Writes, HasRoot};
 ghost use Rattle.root_store.specs.Running.{KeepsTo};
 ghost use Rattle.overlay_engine.specs.Start.{Start};
 ghost use Rattle.overlay_engine.specs.Covers.{version_of, Covered};
@@ -20,6 +21,7 @@ use record_bytes::image::Image;
 use root_store::commit::Commit;
 use root_store::open_fault::OpenFault;
 use root_store::opening::open;
+use root_store::phase::Phase;
 use std::alloc::Global;
 use version_core::fault::VersionFault;
 use version_core::version::Version;
@@ -48,8 +50,17 @@ impl<D: Disk> Engine<D> {
             (λ refused. D.is_honest refused.disk ↔ D.is_honest disk) }
         ensures cause { D.is_honest disk → MatchResult result (λ e. D.faults e.flusher.commit.disk ≡ D.faults disk)
             (λ refused. FailedBy refused.fault (D.faults disk) (D.faults refused.disk)) }
+        // Nothing is written but the body behind a shut gate, and nothing at all of a file that is damaged or no store.
+        ensures writes { D.is_honest disk → MatchResult result (λ e. Writes (D.seen disk) (D.seen e.flusher.commit.disk))
+            (λ refused. Writes (D.seen disk) (D.seen refused.disk)) }
+        ensures untouched { D.is_honest disk → IfErr result (λ refused. (damage : Damage)
+            → refused.fault ≡ StoreFault.Damaged damage → Untouched D.Disk disk refused.disk) }
+        // Memory is asked for only where the slots name a root: what is wrong with them is told as such.
+        ensures memory { D.is_honest disk
+            → IfErr result (λ refused. refused.fault ≡ StoreFault.OutOfMemory → HasRoot (D.seen disk)) }
+        ensures idle { IfOk result (λ e. e.flusher.commit.phase ≡ Phase.Idle) }
         ensures limit { IfOk result (λ e. KeepsTo max_blocks e.flusher.commit) }
-        ensures stored { IfOk result (λ e. e.flusher.stored ≡ e.version.number) }
+        ensures stored { IfOk result (λ e. e.flusher.commit.root.version ≡ e.version.number) }
         ensures jobs { IfOk result (λ e. (e.jobs.items ≡ []) × (e.next_job ≡ 0)) }
     {
         let (commit, image) = match open(alloc, disk, max_blocks) {
@@ -58,10 +69,9 @@ impl<D: Disk> Engine<D> {
         };
         match restored(alloc, image) {
             Ok(version) => {
-                let stored = version.number();
                 Ok(Engine {
                     version,
-                    flusher: Flusher::new(commit, stored),
+                    flusher: Flusher::new(commit),
                     jobs: Vec::new(alloc),
                     next_job: 0,
                 })

@@ -1,15 +1,17 @@
 -- A new file with its first gate open.
-use Rattle.std.proofs.Common.{get_or, ◌≡◌, inl, inr, ℕ, ◌+◌, ◌<◌, ◌/◌, ◌&&◌, nat_le, true, List, length, [], ◌∷◌, Ok, refl, ◌∙◌, ap, arith}
+use Rattle.std.proofs.Common.{get_or, ◌≡◌, ◌⊎◌, inl, inr, ⊎_elim, replicate, ℕ, ◌+◌, ◌<◌, ◌≤◌, ◌/◌, ◌&&◌, nat_le, true, List, length, [], ◌∷◌, Ok, refl, ◌∙◌, ap, arith}
 use Rattle.disk_model.specs.Disk.{Holds, Torn}
-use Rattle.disk_model.proofs.Ranges.{part_same, part_kept, part_written, part_written_front}
+use Rattle.std.proofs.lemmas.List.{get_or-replicate, length-replicate}
+use Rattle.disk_model.proofs.Ranges.{Apart, byte_kept, part_same, part_kept, part_written, part_written_front}
 use Rattle.store_terms.specs.Catalog.{catalog_of_record}
 use Rattle.store_terms.specs.Places.{blocks, is_placed}
 use Rattle.store_terms.specs.Roots.{body_in, body_text}
 use Rattle.store_terms.specs.Image.{listing_of}
+use Rattle.store_terms.specs.StandsFor.{gate, open_gate}
 use Rattle.store_terms.specs.Frame.{listed_extents}
 use Rattle.store_terms.specs.Spelled.{Spells}
 use Rattle.store_terms.proofs.SpelledLemmas.{spelled_is_held, listing_spelled}
-use Rattle.root_store.specs.Creating.{first_root, second_root, nothing_kept, IsBlank, BlankIsAtRest}
+use Rattle.root_store.specs.Creating.{first_root, second_root, nothing_kept, IsUnused, IsBlank, IsFirstWrite, IsNewFile, BlankIsAtRest}
 use Rattle.store_terms.proofs.BodyLemmas.{body_again}
 
 pub blank_is_at_rest : BlankIsAtRest
@@ -47,14 +49,27 @@ blank_is_at_rest file blank opened =
       };
     }
 
--- both bodies and the catalog, put into so many bytes
-pub blank_made : (zero one two three : List ℕ) → length zero ≡ 12288 → Torn 16 48 zero one
+apart : (at n i : ℕ) → (i < at) ⊎ (at + n ≤ i) → Apart at n i 1
+apart at n i (inl below) = inr (omega arith)
+apart at n i (inr above) = inl above
+
+-- both bodies and the catalog, put into so many zeros
+pub blank_made : (zero one two three : List ℕ) → zero ≡ replicate 12288 0 → Torn 16 48 zero one
     → Holds one 16 (body_text first_root) → Torn 4112 48 one two → Holds two 4112 (body_text second_root)
-    → Torn 8192 2 two three → Holds three 8192 (0 ∷ 0 ∷ []) → IsBlank three
-blank_made zero one two three size torn1 held1 torn2 held2 torn3 held3 =
+    → Torn 8192 2 two three → Holds three 8192 (0 ∷ 0 ∷ []) → IsFirstWrite three
+blank_made zero one two three zeros torn1 held1 torn2 held2 torn3 held3 =
+    let size : length zero ≡ 12288 = ap length zeros ∙ length-replicate {A = ℕ} 12288 0 in
     let s1 : length one ≡ 12288 = omega (arith, torn1.no_shorter, torn1.no_longer, size) in
     let s2 : length two ≡ 12288 = omega (arith, torn2.no_shorter, torn2.no_longer, s1) in
-    record {
+    let at_zero : (i : ℕ) → i < 12288 → get_or zero i 0 ≡ 0 =
+    λ i h. ap (λ (l : List ℕ). get_or l i 0) zeros ∙ get_or-replicate 12288 i 0 0 h in
+    let still : (i : ℕ) → i < 12288 → (i < 16) ⊎ (64 ≤ i) → (i < 4112) ⊎ (4160 ≤ i) → (i < 8192) ⊎ (8194 ≤ i)
+    → get_or three i 0 ≡ 0 =
+    λ i h first second catalog.
+    byte_kept two three 8192 2 i torn3 (omega (arith, h, s2)) (apart 8192 2 i catalog)
+    ∙ byte_kept one two 4112 48 i torn2 (omega (arith, h, s1)) (apart 4112 48 i second)
+    ∙ byte_kept zero one 16 48 i torn1 (omega (arith, h, size)) (apart 16 48 i first) ∙ at_zero i h in
+    let blank : IsBlank three = record {
       size = omega (arith, torn3.no_shorter, torn3.no_longer, s2);
       first = part_kept two three 8192 2 16 40 torn3 (omega (arith, s2)) (inr (omega arith))
           ∙ part_kept one two 4112 48 16 40 torn2 (omega (arith, s1)) (inr (omega arith))
@@ -62,7 +77,28 @@ blank_made zero one two three size torn1 held1 torn2 held2 torn3 held3 =
       second = part_kept two three 8192 2 4112 40 torn3 (omega (arith, s2)) (inr (omega arith))
           ∙ part_written_front two 4112 40 (body_text second_root) (omega arith) held2;
       catalog = part_written three 8192 (0 ∷ 0 ∷ []) held3;
+      unused = λ i at. still i at.within at.first at.second at.catalog;
+    } in
+    record {
+      blank = blank;
+      shut = still 0 (omega arith) (inl (omega arith)) (inl (omega arith)) (inl (omega arith));
+      other_shut = still 4096 (omega arith) (inr (omega arith)) (inl (omega arith)) (inl (omega arith));
     }
+
+-- once its first gate is open it is a new store
+pub blank_opened : (file : List ℕ) → IsBlank file → gate file 0 ≡ open_gate → IsNewFile file
+blank_opened file blank opened = record {
+  blank = blank;
+  opened = opened;
+  other_shut = blank.unused 4096
+      (record {
+        within = omega arith;
+        gate = omega arith;
+        first = inr (omega arith);
+        second = inl (omega arith);
+        catalog = inl (omega arith);
+      });
+}
 
 -- a file that a blank was put into, from its start
 pub blank_put : (old new bytes : List ℕ) → length old ≡ 0 → IsBlank bytes → Torn 0 (length bytes) old new
@@ -79,6 +115,7 @@ blank_put old new bytes empty blank torn held =
           (λ i h. same (4112 + i) (omega arith)) ∙ blank.second;
       catalog = part_same bytes new 8192 2 (omega (arith, blank.size)) (omega (arith, size))
           (λ i h. same (8192 + i) (omega arith)) ∙ blank.catalog;
+      unused = λ i at. same i at.within ∙ blank.unused i at;
     }
 
 -- the first gate may be anything
@@ -88,4 +125,6 @@ blank_kept old new blank torn = record {
   first = part_kept old new 0 1 16 40 torn (omega (arith, blank.size)) (inl (omega arith)) ∙ blank.first;
   second = part_kept old new 0 1 4112 40 torn (omega (arith, blank.size)) (inl (omega arith)) ∙ blank.second;
   catalog = part_kept old new 0 1 8192 2 torn (omega (arith, blank.size)) (inl (omega arith)) ∙ blank.catalog;
+  unused = λ i at. byte_kept old new 0 1 i torn (omega (arith, at.within, blank.size)) (inl (omega (arith, at.gate)))
+      ∙ blank.unused i at;
 }

@@ -4,6 +4,7 @@ use Rattle.std.specs.Prelude.{IsErr}
 use Rattle.disk_model.specs.declared.disk.Disk.{Ghosts}
 use Rattle.disk_model.specs.Disk.{Holds, Torn, OneStepOn}
 use Rattle.disk_model.specs.Moments.{Leaves, LeavesOnly}
+use Rattle.store_terms.specs.declared.root.Root.{Root}
 use Rattle.store_terms.specs.Roots.{body_text, sequence_max}
 use Rattle.store_terms.specs.StandsFor.{body_at}
 use Rattle.root_reading.specs.declared.load_fault.LoadFault.{LoadFault}
@@ -13,6 +14,12 @@ use Rattle.root_store.specs.Opening.{Heals}
 use Rattle.root_store.proofs.Healed.{twin_heals}
 use Rattle.commit_plan.proofs.Plan.{body_spares}
 use Rattle.root_store.proofs.Steps.{leaves_torn}
+
+-- a write of that body, whole or in part
+pub twin_torn : (r : Root) (at : ℕ) (bytes : List ℕ) → at ≡ body_at (other r) → bytes ≡ body_text (twin r)
+    → (c d : List ℕ) → Torn at (length bytes) c d → Torn (body_at (other r)) 48 c d
+twin_torn r at bytes there text c d torn =
+    subst (λ (a : ℕ). Torn a 48 c d) there (subst (λ (n : ℕ). Torn at n c d) (ap length text) torn)
 
 module _ {D : Type 0} (g : Ghosts D) (old mid : D) (x : Kept) (at : ℕ) (bytes : List ℕ)
     (there : at ≡ body_at (other x.root)) (text : bytes ≡ body_text (twin x.root)) where

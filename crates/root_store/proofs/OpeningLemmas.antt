@@ -1,23 +1,27 @@
 -- What opening knows once all is read, and what it leaves.
-use Rattle.std.proofs.Common.{◌≡◌, inl, inr, ℕ, ◌≤◌, Bool, true, false, List, Result, Ok, Err, refl, sym, ◌∙◌, ap, subst}
-use Rattle.std.specs.Prelude.{IsErrAnd}
+use Rattle.std.proofs.Common.{◌≡◌, ◌≢◌, inl, inr, ℕ, ◌<◌, ◌≤◌, Bool, true, false, List, Result, Ok, Err, refl, sym, ◌∙◌, ap, subst}
+use Rattle.std.specs.Prelude.{IsErrAnd, IfErr}
 use Rattle.std.proofs.lemmas.Result.{err_from_is_err_and}
 use Rattle.disk_model.specs.declared.disk.Disk.{Ghosts}
+use Rattle.disk_model.specs.Disk.{Torn}
 use Rattle.disk_model.specs.Moments.{Leaves, LeavesOnly}
 use Rattle.disk_model.proofs.Runs.{joined, widened}
 use Rattle.store_terms.specs.declared.damage.Damage.{Damage}
 use Rattle.store_terms.specs.declared.root.Root.{Root}
 use Rattle.store_terms.specs.Roots.{sequence_max}
 use Rattle.store_terms.specs.Image.{◌>>=◌, Held, held_of}
-use Rattle.store_terms.specs.StandsFor.{root_of, reading}
+use Rattle.store_terms.specs.StandsFor.{root_of, reading, body_at}
+use Rattle.root_store.specs.Finding.{has_shut_gate}
 use Rattle.root_reading.specs.declared.load_fault.LoadFault.{LoadFault}
 use Rattle.commit_plan.specs.declared.loading.Loaded.{Loaded}
-use Rattle.commit_plan.specs.Kept.{Kept, Live, Rest, Shut, Calm}
+use Rattle.commit_plan.specs.Kept.{Kept, other, Live, Rest, Shut, Calm}
 use Rattle.commit_plan.specs.Loading.{held_in}
 use Rattle.root_store.specs.Healing.{kept_of}
 use Rattle.root_reading.specs.Looking.{Refuses, Causes}
-use Rattle.root_store.specs.Opening.{Heals, IsRead, Opened, Loads, fault_of, Tells, FailedBy}
+use Rattle.root_store.specs.Opening.{Heals, IsRead, Opened, Loads, Untouched, Writes, WritesBody, HasRoot, fault_of, Tells, FailedBy}
 use Rattle.commit_plan.specs.declared.fault.StoreFault.{StoreFault}
+use Rattle.commit_plan.specs.declared.fault.StoreFault.TheVariants as stores
+use Rattle.root_reading.proofs.Looked.{if_err}
 use Rattle.root_reading.specs.declared.load_fault.LoadFault.TheVariants.{Device, Damaged, OutOfMemory}
 use Rattle.commit_plan.proofs.Reading.{shut_stands}
 use Rattle.root_store.proofs.Healed.{taken_is_live}
@@ -27,6 +31,16 @@ use Rattle.root_store.proofs.TakenLemmas.{root_found, other_shut, other_harmless
 -- what opening gives of a file with a root
 pub reading_root : (file : List ℕ) (r : Root) → root_of file ≡ Ok r → reading file ≡ held_of file r
 reading_root file r root = ap (λ (x : Result Root Damage). x >>= λ q. held_of file q) root
+
+-- a file that is read has a root
+pub root_read : (file : List ℕ) (x : Held) → reading file ≡ Ok x → HasRoot file
+root_read file x is = found (root_of file) refl
+  where
+    found : (o : Result Root Damage) → root_of file ≡ o → HasRoot file
+    found (Ok r) root = (r, root)
+    found (Err damage) root =
+        let none : reading file ≡ Err damage = ap (λ (o : Result Root Damage). o >>= λ q. held_of file q) root in
+        absurd (cc (none, is))
 
 module _ {D : Type 0} (g : Ghosts D) (old mid : D) (x : Loaded) (is_alone : Bool)
     (run : LeavesOnly g old mid (g.may_leave old)) (read : IsRead g old mid x is_alone)
@@ -127,6 +141,45 @@ module _ {D : Type 0} (g : Ghosts D) (old mid : D) (x : Loaded) (is_alone : Bool
           err =
               λ f left. same_stands f (still f left);
         })
+
+-- a file of which one gate is shut, once the body behind it is written
+pub body_writes : (file now new : List ℕ) (r : Root) → root_of file ≡ Ok r → has_shut_gate file ≡ true → now ≡ file
+    → r.sequence < sequence_max → Torn (body_at (other r)) 48 now new → Writes file new
+body_writes file now new r is alone same below torn =
+    inr
+    (record {
+      root = r;
+      is = is;
+      shut = other_shut file r (root_found file r is).taken alone;
+      below = below;
+      torn = subst (λ (f : List ℕ). Torn (body_at (other r)) 48 f new) same torn;
+    })
+
+-- a fault of a file that was only read
+pub untouched_err : {D : Type 0} (g : Ghosts D) (old new : D) (fault : LoadFault) (answer : Result Loaded LoadFault)
+    → IsErrAnd answer (λ e. e ≡ fault) → g.seen new ≡ g.seen old
+    → ((c : List ℕ) → g.may_leave new c → g.may_leave old c)
+    → IfErr answer (λ e. e ≢ Device → Untouched g old new)
+untouched_err g old new fault answer is seen fewer =
+    if_err answer fault (λ (e : LoadFault). e ≢ Device → Untouched g old new) is
+    (λ other. record { seen = seen; fewer = fewer })
+
+-- the device's own fault
+pub device_err : (P : Type 0) (fault : LoadFault) (answer : Result Loaded LoadFault) → IsErrAnd answer (λ e. e ≡ fault)
+    → fault ≡ Device → IfErr answer (λ e. e ≢ Device → P)
+device_err P fault answer is device =
+    if_err answer fault (λ (e : LoadFault). e ≢ Device → P) is (λ other. absurd (other device))
+
+pub device_or_memory : (P : Type 0) (fault : LoadFault) (answer : Result Loaded LoadFault)
+    → IsErrAnd answer (λ e. e ≡ fault) → fault ≡ Device → IfErr answer (λ e. e ≡ OutOfMemory → P)
+device_or_memory P fault answer is device =
+    if_err answer fault (λ (e : LoadFault). e ≡ OutOfMemory → P) is (λ memory. absurd (cc (memory, device)))
+
+-- want of memory, as the store tells it
+pub memory_of : (fault : LoadFault) → fault_of fault ≡ stores.OutOfMemory → fault ≡ OutOfMemory
+memory_of Device is = absurd (cc is)
+memory_of OutOfMemory is = refl
+memory_of (Damaged damage) is = absurd (cc is)
 
 -- nothing is read
 pub unread_loads : {D : Type 0} (g : Ghosts D) (old new : D) (fault : LoadFault) (answer : Result Loaded LoadFault)

@@ -1,9 +1,12 @@
 -- Why a commit is not begun.
-use Rattle.std.proofs.Common.{◌≡◌, ◌⊎◌, inl, inr, Result, Ok, Err, IfErr, IsErrAnd, sym, ap, subst}
+use Rattle.std.proofs.Common.{◌≡◌, ◌⊎◌, false, inl, inr, refl, Result, Ok, Err, IfErr, IsErrAnd, sym, ap, subst}
 use Rattle.store_terms.specs.declared.root.Root.{Root}
 use Rattle.commit_plan.specs.declared.fault.StoreFault.{StoreFault}
 use Rattle.commit_plan.specs.declared.fault.StoreFault.TheVariants.{Device, Full, Damaged, NotEmpty, Failed, SequenceLimit, OutOfMemory}
 use Rattle.root_store.specs.declared.phase.Phase.{Phase}
+use Rattle.root_store.specs.declared.phase.Phase.TheVariants as phases
+use Rattle.root_store.specs.Running.{is_busy}
+use Rattle.std.proofs.lemmas.Bool.{false≢true}
 use Rattle.root_store.specs.Beginning.{IsRefusal, IsReason}
 use Rattle.commit_plan.proofs.Drafts.{error_in}
 
@@ -33,6 +36,16 @@ pub reason_of : {T : Type 0} (r : Result T StoreFault) (phase : Phase) (root : R
     → IfErr r (IsReason phase root A) → IfErr r (IsReason phase root B)
 reason_of (Ok x) phase root A B more is = tt
 reason_of (Err fault) phase root A B more is = wider phase root A B more fault is
+
+-- where no commit is under way and no call has failed, the store rests
+pub idle_of : (p : Phase) → is_busy p ≡ false → (p ≡ phases.Failed → ⊥) → p ≡ phases.Idle
+idle_of phases.Idle busy well = refl
+idle_of phases.Failed busy well = absurd (well refl)
+idle_of phases.Close busy well = absurd (false≢true (sym busy))
+idle_of phases.Settle busy well = absurd (false≢true (sym busy))
+idle_of phases.Put busy well = absurd (false≢true (sym busy))
+idle_of phases.Open busy well = absurd (false≢true (sym busy))
+idle_of phases.Finish busy well = absurd (false≢true (sym busy))
 
 -- the fault that `?` passes on has what the one that was met has
 pub passed_on : {T : Type 0} (P : StoreFault → Type 0) (r : Result T StoreFault) (x : StoreFault)

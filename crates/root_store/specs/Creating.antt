@@ -1,5 +1,5 @@
 -- A new file.
-use Rattle.std.specs.Prelude.{◌≡◌, ℕ, List, [], ◌∷◌, length, take, ◌==◌, nat_lt, not, if◌then◌else◌, Option, Some, None}
+use Rattle.std.specs.Prelude.{◌≡◌, ◌⊎◌, ℕ, ◌<◌, ◌≤◌, slice_index, List, [], ◌∷◌, length, take, ◌==◌, nat_lt, not, if◌then◌else◌, Option, Some, None}
 use Rattle.disk_model.specs.Disk.{part}
 use Rattle.store_terms.specs.declared.root.Root.{Root}
 use Rattle.store_terms.specs.Roots.{body_text}
@@ -22,12 +22,33 @@ nothing_kept = record {
   held = record { number = 0; layers = []; tiles = [] };
 }
 
--- three blocks with both bodies and an empty catalog, whatever the gates
+-- a place in three blocks that is not the first gate's, and in no body and not in the catalog
+pub record IsUnused (i : ℕ) : Type 0 where
+  pub within : i < 12288
+  pub gate : 0 < i
+  pub first : (i < 16) ⊎ (64 ≤ i)
+  pub second : (i < 4112) ⊎ (4160 ≤ i)
+  pub catalog : (i < 8192) ⊎ (8194 ≤ i)
+
+-- three blocks with both bodies and an empty catalog, and zeros elsewhere, whatever the first gate
 pub record IsBlank (file : List ℕ) : Type 0 where
   pub size : length file ≡ 12288
   pub first : part file (body_at 0) 40 ≡ take 40 (body_text first_root)
   pub second : part file (body_at 1) 40 ≡ take 40 (body_text second_root)
   pub catalog : part file 8192 2 ≡ 0 ∷ 0 ∷ []
+  pub unused : (i : ℕ) → IsUnused i → slice_index file i ≡ 0
+
+-- what is written first: both gates are shut
+pub record IsFirstWrite (file : List ℕ) : Type 0 where
+  pub blank : IsBlank file
+  pub shut : gate file 0 ≡ 0
+  pub other_shut : gate file 1 ≡ 0
+
+-- a new store: its first gate is open, and the other one is shut
+pub record IsNewFile (file : List ℕ) : Type 0 where
+  pub blank : IsBlank file
+  pub opened : gate file 0 ≡ open_gate
+  pub other_shut : gate file 1 ≡ 0
 
 -- with its first gate open it is a store that holds nothing
 abbrev pub BlankIsAtRest : Type 0
@@ -38,10 +59,10 @@ abbrev pub refusal_of_new : List ℕ → ℕ → Option StoreFault
 refusal_of_new file max_blocks =
     if not (length file == 0) then Some NotEmpty else if nat_lt max_blocks 3 then Some Full else None
 
--- a fault tells the reason, unless the device failed or memory ran out
+-- a fault tells the reason, unless the device failed; memory is asked for only where there is none
 abbrev pub Tells : StoreFault → Option StoreFault → Type 0
 Tells Device reason = Unit {0}
-Tells OutOfMemory reason = Unit {0}
+Tells OutOfMemory reason = reason ≡ None
 Tells Full reason = reason ≡ Some Full
 Tells NotEmpty reason = reason ≡ Some NotEmpty
 Tells (Damaged damage) reason = ⊥

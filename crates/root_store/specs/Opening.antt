@@ -1,19 +1,21 @@
 -- What opening makes of a disk.
-use Rattle.std.specs.Prelude.{◌≡◌, ◌⊎◌, Bool, List, ℕ, ◌≤◌, Result, Ok, Err, IfOk, OnOk, OnErr}
+use Rattle.std.specs.Prelude.{◌≡◌, ◌≢◌, ◌⊎◌, ◌<◌, Bool, List, ℕ, ◌≤◌, Result, Ok, Err, IfOk, OnOk, OnErr}
 use Rattle.disk_model.specs.declared.disk.Disk.{Ghosts}
-use Rattle.disk_model.specs.Disk.{Only, Failed}
+use Rattle.disk_model.specs.Disk.{Only, Failed, Fewer, Torn}
 use Rattle.disk_model.specs.Moments.{Leaves, LeavesOnly}
 use Rattle.extent_map.specs.Taken.{taken_of}
 use Rattle.store_terms.specs.Image.{Held}
 use Rattle.store_terms.specs.Frame.{extents_of}
-use Rattle.store_terms.specs.StandsFor.{root_of, reading}
+use Rattle.store_terms.specs.StandsFor.{root_of, reading, gate, open_gate, body_at}
+use Rattle.store_terms.specs.declared.root.Root.{Root}
+use Rattle.store_terms.specs.Roots.{sequence_max}
 use Rattle.store_terms.specs.declared.damage.Damage.{Damage}
 use Rattle.commit_plan.specs.declared.fault.StoreFault.{StoreFault}
 use Rattle.commit_plan.specs.declared.fault.StoreFault.TheVariants as stores
 use Rattle.root_reading.specs.declared.load_fault.LoadFault.{LoadFault}
 use Rattle.root_reading.specs.declared.load_fault.LoadFault.TheVariants.{Device, Damaged, OutOfMemory}
 use Rattle.commit_plan.specs.declared.loading.Loaded.{Loaded}
-use Rattle.commit_plan.specs.Kept.{Kept, Rest, Shut, Calm}
+use Rattle.commit_plan.specs.Kept.{Kept, other, Rest, Shut, Calm}
 use Rattle.commit_plan.specs.Loading.{held_in}
 use Rattle.root_reading.specs.Taking.{IsMapOf}
 use Rattle.root_reading.specs.Looking.{Gives}
@@ -48,6 +50,27 @@ pub record Loads {D : Type 0} (g : Ghosts D) (old new : D) (result : Result Load
       (λ x. (k : Kept) × (k.root ≡ x.root) × (k.held ≡ held_in x) × IsMapOf k.extents (taken_of x.room.map)
       × Leaves g new (Calm k))
   pub err : OnErr result (Leaves g new (Opened g old))
+
+-- a file is not touched: it is seen as before, and a crash leaves nothing that it might not have left before
+pub record Untouched {D : Type 0} (g : Ghosts D) (old new : D) : Type 0 where
+  pub seen : g.seen new ≡ g.seen old
+  pub fewer : Fewer (g.may_leave old) (g.may_leave new)
+
+-- only the body of the slot that the root is not in is written, whole or in part, behind a gate that is shut
+pub record WritesBody (old new : List ℕ) : Type 0 where
+  pub root : Root
+  pub is : root_of old ≡ Ok root
+  pub shut : gate old (other root) ≢ open_gate
+  pub below : root.sequence < sequence_max
+  pub torn : Torn (body_at (other root)) 48 old new
+
+-- what opening writes of a file: nothing but that body, if anything
+abbrev pub Writes : List ℕ → List ℕ → Type 0
+Writes old new = (new ≡ old) ⊎ WritesBody old new
+
+-- a file whose slots name a root
+abbrev pub HasRoot : List ℕ → Type 0
+HasRoot file = (r : Root) × (root_of file ≡ Ok r)
 
 -- a fault of opening, as one of the store
 abbrev pub fault_of : LoadFault → StoreFault

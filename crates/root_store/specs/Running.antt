@@ -62,6 +62,18 @@ module _ {D : Type 0} (g : Ghosts D) where
     -- open the disk again
     pub err : OnErr result (Leaves g new.disk (Either x y) × (new.phase ≡ Failed))
 
+-- the live root and the next one stay as they are
+abbrev pub KeepsRoots : {D : Type 0} → Commit D → Commit D → Type 0
+KeepsRoots old new = (new.root ≡ old.root) × (new.next_root ≡ old.next_root)
+
+-- what a step makes of the roots: Done tells the number of the root that the commit leads to, which is live from then
+-- on; any other answer leaves both
+abbrev pub Turns : {D : Type 0} → Progress → Commit D → Commit D → Type 0
+Turns progress.Idle old new = KeepsRoots old new
+Turns progress.Going old new = KeepsRoots old new
+Turns (progress.Done number) old new =
+    (number ≡ old.next_root.version) × (new.root ≡ old.next_root) × (new.next_root ≡ old.next_root)
+
 -- the file may have at most so many blocks: that is the limit of the live root's room, and of the room after a commit
 abbrev pub KeepsTo : {D : Type 0} → ℕ → Commit D → Type 0
 KeepsTo limit s = (limit_of s.room.map ≡ limit) × (limit_of s.next_room.map ≡ limit)

@@ -1,5 +1,5 @@
 //! Beginning a commit.
-ghost use Rattle.std.specs.Prelude.{◌≡◌, ◌+◌, ◌<◌, ◌≤◌, ℕ, true, false, length, Some, IfErr, IfSome, IfNone, OnOk, OnErr};
+ghost use Rattle.std.specs.Prelude.{◌≡◌, ◌≢◌, ◌+◌, ◌<◌, ◌≤◌, ℕ, true, false, length, Some, IfErr, IfSome, IfNone, OnOk, OnErr};
 ghost use Rattle.extent_map.specs.Taken.{limit_of};
 ghost use Rattle.store_terms.specs.Image.{Held};
 ghost use Rattle.store_terms.specs.Roots.{sequence_max};
@@ -27,6 +27,7 @@ impl<D: Disk> Commit<D> {
             → IsNext x held next → (y : Kept) × (y.held ≡ held) × Runs D.Disk self.new x y }
         ensures disk { self.new.disk ≡ self.old.disk }
         ensures root { self.new.next_root ≡ next.root }
+        ensures live { self.new.root ≡ self.old.root }
         ensures blocks { (limit : ℕ) → limit_of self.old.room.map ≡ limit → limit_of next.room.map ≡ limit
             → KeepsTo limit self.new }
         ensures busy { is_busy self.new.phase ≡ true }
@@ -49,6 +50,7 @@ impl<D: Disk> Commit<D> {
             → result ≡ Some StoreFault.SequenceLimit }
         ensures reason { IfSome result (λ fault. IsRefusal self.now.phase self.now.root fault) }
         ensures none { IfNone result (self.now.root.sequence < sequence_max) }
+        ensures well { IfNone result (self.now.phase ≢ Phase.Failed) }
     {
         if matches!(self.phase, Phase::Failed) {
             return Some(StoreFault::Failed);
@@ -65,6 +67,11 @@ impl<D: Disk> Commit<D> {
         // From the content that the store stands for to that of the image.
         ensures begun { (x : Kept) → Stands D.Disk self.old x
             → OnOk result ((y : Kept) × (y.held ≡ image) × Runs D.Disk self.new x y) }
+        // One begins only where none is under way, the device did not fail, and there is a number for it.
+        ensures idle { OnOk result (self.old.phase ≡ Phase.Idle) }
+        ensures below { OnOk result (self.old.root.sequence < sequence_max) }
+        // The live root stays until Done.
+        ensures root { self.new.root ≡ self.old.root }
         // The root that it leads to has the image's number, and the first call shuts the other slot's gate.
         ensures number { OnOk result (self.new.next_root.version ≡ image.number) }
         ensures begins { OnOk result (self.new.phase ≡ Phase.Close) }

@@ -2,7 +2,7 @@
 ghost use Rattle.std.specs.Prelude.{◌≡◌, ◌↔◌, ℕ, IfOk, OnErr, IsErrOf, IfErr};
 ghost use Rattle.disk_model.specs.Disk.{Failed};
 ghost use Rattle.commit_plan.specs.Kept.{Kept};
-ghost use Rattle.root_store.specs.Running.{Runs, KeepsTo, Stepped, Counts, calls_left, is_busy, fault_in};
+ghost use Rattle.root_store.specs.Running.{Runs, KeepsTo, Stepped, Counts, Turns, KeepsRoots, calls_left, is_busy, fault_in};
 
 use crate::finding::GATE_OPEN;
 use crate::phase::{Phase, Progress};
@@ -42,6 +42,13 @@ impl<D: Disk> Commit<D> {
         !matches!(self.phase, Phase::Idle | Phase::Failed)
     }
 
+    /// The number of the version that is stored: that of the live root.
+    pub fn version(&self) -> u64
+        ensures { result ≡ self.now.root.version }
+    {
+        self.root.version
+    }
+
     /// The disk, as the calls have left it.
     pub fn into_disk(self) -> D
         ensures { result ≡ self.disk }
@@ -56,6 +63,10 @@ impl<D: Disk> Commit<D> {
         ensures honest { D.is_honest self.new.disk ↔ D.is_honest self.old.disk }
         // One device call fewer is left, until Done.
         ensures counted { IfOk result (λ p. Counts p (calls_left self.old) (calls_left self.new)) }
+        // Done n: n is the number of the root that the commit leads to, and that root is live. Any other answer leaves
+        // the live root and the next one.
+        ensures roots { IfOk result (λ p. Turns p self.old self.new) }
+        ensures same_roots { OnErr result (KeepsRoots self.old self.new) }
         ensures idle { self.old.phase ≡ Phase.Idle → (result ≡ Ok Progress.Idle) × (self.new ≡ self.old) }
         ensures stuck { self.old.phase ≡ Phase.Failed → (result ≡ Err StoreFault.Failed) × (self.new ≡ self.old) }
         // The blocks that the file may have stay as many.

@@ -1,12 +1,12 @@
 //! Making a store of an empty file.
-ghost use Rattle.std.specs.Prelude.{◌≡◌, ◌≢◌, ◌↔◌, ◌+◌, ◌≤◌, length, None, OnOk, IfOk, IfErr, IsErrOf, MatchResult};
+ghost use Rattle.std.specs.Prelude.{◌≡◌, ◌≢◌, ◌↔◌, ◌+◌, ◌≤◌, length, None, replicate, OnOk, IfOk, IfErr, IsErrOf, MatchResult};
 ghost use Rattle.disk_model.specs.Disk.{Holds, Torn, Fewer, Failed, CountsFailure};
 ghost use Rattle.disk_model.specs.Moments.{Leaves};
 ghost use Rattle.extent_map.specs.Taken.{taken_of, limit_of};
 ghost use Rattle.commit_plan.specs.Kept.{Rest};
 ghost use Rattle.root_store.specs.Running.{Stands, KeepsTo};
 ghost use Rattle.root_reading.specs.Taking.{IsMapOf};
-ghost use Rattle.root_store.specs.Creating.{nothing_kept, IsBlank, refusal_of_new, Tells};
+ghost use Rattle.root_store.specs.Creating.{nothing_kept, first_root, IsFirstWrite, IsNewFile, refusal_of_new, Tells};
 
 use crate::commit::Commit;
 use crate::finding::GATE_OPEN;
@@ -48,14 +48,14 @@ fn put(file: &mut Vec<u8>, at: usize, bytes: &[u8])
 }
 
 fn zeros(alloc: Global, size: usize) -> Result<Vec<u8>, AllocError>
-    ensures { IfOk result (λ v. length v.items ≡ size) }
+    ensures { IfOk result (λ v. v.items ≡ replicate size 0) }
 {
     vec![in alloc; 0; size]
 }
 
-/// Three blocks: two slots with shut gates, and an empty catalog.
+/// Three blocks: two slots with shut gates, and an empty catalog; zeros elsewhere.
 fn blank(alloc: Global) -> Result<Vec<u8>, AllocError>
-    ensures { IfOk result (λ v. IsBlank v.items) }
+    ensures { IfOk result (λ v. IsFirstWrite v.items) }
 {
     let mut file = zeros(alloc, 12288)?;
     put(&mut file, 16, &write_body(FIRST));
@@ -87,10 +87,11 @@ fn check<D: Disk>(disk: &mut D, max_blocks: u32) -> Result<(), StoreFault>
 
 /// Writes a new store into an empty file, and then opens its gate.
 fn format<D: Disk>(disk: &mut D, bytes: &[u8]) -> Result<(), DiskFault>
-    requires { IsBlank bytes.now }
+    requires { IsFirstWrite bytes.now }
     ensures honest { D.is_honest disk.new ↔ D.is_honest disk.old }
     ensures ready { D.is_honest disk.old → length (D.seen disk.old) ≡ 0
         → OnOk result (Leaves D.Disk disk.new (Rest nothing_kept)) }
+    ensures file { D.is_honest disk.old → length (D.seen disk.old) ≡ 0 → OnOk result (Leaves D.Disk disk.new IsNewFile) }
     ensures cause { D.is_honest disk.old → CountsFailure result (D.faults disk.old) (D.faults disk.new) }
 {
     disk.write_at(0, bytes)?;
@@ -122,6 +123,7 @@ fn prepare<D: Disk>(
 ) -> Result<(Room, Room), StoreFault>
     ensures honest { D.is_honest disk.new ↔ D.is_honest disk.old }
     ensures ready { D.is_honest disk.old → IfOk result (λ rooms. Leaves D.Disk disk.new (Rest nothing_kept)) }
+    ensures file { D.is_honest disk.old → IfOk result (λ rooms. Leaves D.Disk disk.new IsNewFile) }
     ensures room { IfOk result (λ rooms. IsMapOf nothing_kept.extents (taken_of rooms.0.map)) }
     ensures limit { IfOk result (λ rooms. limit_of rooms.0.map ≡ max_blocks) }
     ensures next_limit { IfOk result (λ rooms. limit_of rooms.1.map ≡ max_blocks) }
@@ -148,6 +150,11 @@ pub fn create<D: Disk>(
     max_blocks: u32,
 ) -> Result<Commit<D>, OpenFault<D>>
     ensures ok { D.is_honest disk → IfOk result (λ store. Stands D.Disk store nothing_kept) }
+    // Three blocks that are zero but for the bodies, the catalog and the first gate, which alone is open.
+    ensures file { D.is_honest disk → IfOk result (λ store. Leaves D.Disk store.disk IsNewFile) }
+    // No commit is under way.
+    ensures idle { IfOk result (λ store. store.phase ≡ Phase.Idle) }
+    ensures root { IfOk result (λ store. store.root ≡ first_root) }
     ensures limit { IfOk result (λ store. KeepsTo max_blocks store) }
     ensures answer { D.is_honest disk
         → MatchResult result (λ _. refusal_of_new (D.seen disk) max_blocks ≡ None)

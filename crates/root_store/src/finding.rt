@@ -1,5 +1,5 @@
 //! The root of a file.
-ghost use Rattle.std.specs.Prelude.{◌≡◌, ◌↔◌, ◌==◌, ◌&&◌, ◌*◌, ◌^◌, ◌<◌, ◌≤◌, ℕ, List, length, not, IfSome, IfOk, IfErr};
+ghost use Rattle.std.specs.Prelude.{◌≡◌, ◌≢◌, ◌↔◌, ◌==◌, ◌&&◌, ◌*◌, ◌^◌, ◌<◌, ◌≤◌, ℕ, List, length, not, IfSome, IfOk, IfErr};
 ghost use Rattle.overlay_terms.specs.Commands.{version_max};
 ghost use Rattle.store_terms.specs.Places.{block_size};
 ghost use Rattle.store_terms.specs.StandsFor.{gate, slot, newer_root, root_of, is_foreign, open_gate};
@@ -118,6 +118,7 @@ pub fn find_root<D: Disk>(disk: &mut D) -> Result<(Root, bool), LoadFault>
     ensures numbered { IfOk result (λ x. x.0.version ≤ version_max) }
     ensures small { D.is_honest disk.old → IfOk result (λ x. length (D.seen disk.old) < 2 ^ 64) }
     ensures alone { D.is_honest disk.old → IfOk result (λ x. x.1 ≡ has_shut_gate (D.seen disk.old)) }
+    ensures memory { IfErr result (λ e. e ≢ LoadFault.OutOfMemory) }
     ensures cause { D.is_honest disk.old → Causes result (D.faults disk.old) (D.faults disk.new) }
 {
     if disk.length()? < 2 * BLOCK {

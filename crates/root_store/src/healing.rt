@@ -1,7 +1,9 @@
 //! The completing write of opening a store.
 ghost use Rattle.std.specs.Prelude.{◌≡◌, ◌↔◌, ◌<◌, ◌^◌, IfErr};
+ghost use Rattle.disk_model.specs.Disk.{Torn};
 ghost use Rattle.disk_model.specs.Moments.{Leaves};
-ghost use Rattle.commit_plan.specs.Kept.{Kept, Shut};
+ghost use Rattle.store_terms.specs.StandsFor.{body_at};
+ghost use Rattle.commit_plan.specs.Kept.{Kept, other, Shut};
 ghost use Rattle.root_reading.specs.Looking.{Causes};
 ghost use Rattle.root_store.specs.Opening.{Heals};
 
@@ -20,6 +22,9 @@ pub(crate) fn heal<D: Disk>(disk: &mut D, root: Root) -> Result<(), LoadFault>
     ensures cause { D.is_honest disk.old → Causes result (D.faults disk.old) (D.faults disk.new) }
     ensures heals { D.is_honest disk.old → (x : Kept) → x.root ≡ root → Leaves D.Disk disk.old (Shut x)
         → Heals D.Disk disk.old disk.new result x }
+    // Nothing else is written.
+    ensures torn { D.is_honest disk.old
+        → Torn (body_at (other root)) 48 (D.seen disk.old) (D.seen disk.new) }
 {
     let twin = Root {
         sequence: root.sequence + 1,

@@ -1,5 +1,5 @@
 //! Opening a store.
-ghost use Rattle.std.specs.Prelude.{◌≡◌, ◌↔◌, ◌≤◌, map, Ok, IfOk, IfErr, OnOk, MatchResult};
+ghost use Rattle.std.specs.Prelude.{◌≡◌, ◌≢◌, ◌↔◌, ◌≤◌, map, Ok, IfOk, IfErr, OnOk, MatchResult};
 ghost use Rattle.disk_model.specs.Disk.{Fewer, Only};
 ghost use Rattle.disk_model.specs.Moments.{Leaves, LeavesOnly};
 ghost use Rattle.overlay_terms.specs.Commands.{version_max};
@@ -11,7 +11,7 @@ ghost use Rattle.commit_plan.specs.Kept.{Kept};
 ghost use Rattle.commit_plan.specs.Loading.{held_in};
 ghost use Rattle.root_store.specs.Running.{Stands, KeepsTo};
 ghost use Rattle.root_reading.specs.Looking.{Gives, Looks, Causes};
-ghost use Rattle.root_store.specs.Opening.{IsRead, Loads, Opened, Tells, FailedBy, fault_of};
+ghost use Rattle.root_store.specs.Opening.{IsRead, Loads, Opened, Untouched, Writes, HasRoot, Tells, FailedBy, fault_of};
 
 use crate::commit::Commit;
 use crate::finding::{NUMBER_MAX, find_root};
@@ -52,6 +52,9 @@ fn read_store<D: Disk>(
     ensures next_limit { IfOk result (λ x. limit_of x.0.next_room.map ≡ max_blocks) }
     ensures stored { IfOk result (λ x. AreStored x.0.content.layers (map finished_of x.0.content.tiles.items)) }
     ensures numbered { IfOk result (λ x. x.0.root.version ≤ version_max) }
+    ensures seen { D.is_honest disk.old → D.seen disk.new ≡ D.seen disk.old }
+    ensures memory { D.is_honest disk.old
+        → IfErr result (λ fault. fault ≡ LoadFault.OutOfMemory → HasRoot (D.seen disk.old)) }
     ensures cause { D.is_honest disk.old → Causes result (D.faults disk.old) (D.faults disk.new) }
 {
     settle(disk)?;
@@ -72,6 +75,11 @@ pub(crate) fn load<D: Disk>(
     ensures next_limit { IfOk result (λ x. limit_of x.next_room.map ≡ max_blocks) }
     ensures stored { IfOk result (λ x. AreStored x.content.layers (map finished_of x.content.tiles.items)) }
     ensures numbered { IfOk result (λ x. x.root.version ≤ version_max) }
+    ensures writes { D.is_honest disk.old → Writes (D.seen disk.old) (D.seen disk.new) }
+    ensures untouched { D.is_honest disk.old
+        → IfErr result (λ fault. fault ≢ LoadFault.Device → Untouched D.Disk disk.old disk.new) }
+    ensures memory { D.is_honest disk.old
+        → IfErr result (λ fault. fault ≡ LoadFault.OutOfMemory → HasRoot (D.seen disk.old)) }
     ensures cause { D.is_honest disk.old → Causes result (D.faults disk.old) (D.faults disk.new) }
 {
     let (loaded, is_alone) = read_store(alloc, disk, max_blocks)?;
@@ -117,6 +125,18 @@ pub fn open<D: Disk>(
         × LeavesOnly D.Disk disk refused.disk (Opened D.Disk disk)) }
     ensures honest { MatchResult result (λ x. D.is_honest x.0.disk ↔ D.is_honest disk)
         (λ refused. D.is_honest refused.disk ↔ D.is_honest disk) }
+    // Nothing is written but the body behind a shut gate, and nothing at all of a file that is refused.
+    ensures writes { D.is_honest disk
+        → MatchResult result (λ x. Writes (D.seen disk) (D.seen x.0.disk))
+        (λ refused. Writes (D.seen disk) (D.seen refused.disk)) }
+    ensures untouched { D.is_honest disk
+        → IfErr result (λ refused. refused.fault ≢ StoreFault.Device → Untouched D.Disk disk refused.disk) }
+    // Memory is asked for only where the slots name a root: what is wrong with them is told as such.
+    ensures memory { D.is_honest disk
+        → IfErr result (λ refused. refused.fault ≡ StoreFault.OutOfMemory → HasRoot (D.seen disk)) }
+    // No commit is under way, and the live root has the number that was read.
+    ensures idle { IfOk result (λ x. x.0.phase ≡ Phase.Idle) }
+    ensures number { IfOk result (λ x. x.1.number ≡ x.0.root.version) }
     ensures limit { IfOk result (λ x. KeepsTo max_blocks x.0) }
     ensures cause { D.is_honest disk
         → MatchResult result (λ x. D.faults x.0.disk ≡ D.faults disk)

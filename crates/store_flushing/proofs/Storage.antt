@@ -54,14 +54,14 @@ module _ {D : Type 0} (g : Ghosts D) where
   before_leaves Finish s x y before = both_either g x y s.disk before.0
   before_leaves Failed s x y before = before
 
-  either_among : (h : History) (s : Flusher D) (way : Goes g h s) (c : List ℕ) → Either way.x way.y c → IsFileIn h s.stored c
+  either_among : (h : History) (s : Flusher D) (way : Goes g h s) (c : List ℕ) → Either way.x way.y c → IsFileIn h s.commit.root.version c
   either_among h s way c (inl old) = record { held = way.x.held; among = way.held; no_less = omega (arith, way.number); stands = old }
   either_among h s way c (inr new) = record { held = way.y.held; among = way.next; no_less = way.later; stands = new }
 
-  way_leaves : (h : History) (s : Flusher D) → Goes g h s → Leaves g s.commit.disk (IsFileIn h s.stored)
+  way_leaves : (h : History) (s : Flusher D) → Goes g h s → Leaves g s.commit.disk (IsFileIn h s.commit.root.version)
   way_leaves h s way c left = either_among h s way c (before_leaves s.commit.phase s.commit way.x way.y way.runs.before c left)
 
-  in_leaves : (h : History) (p : Phase) (s : Flusher D) → IsStoreAt g h p s → Leaves g s.commit.disk (IsFileIn h s.stored)
+  in_leaves : (h : History) (p : Phase) (s : Flusher D) → IsStoreAt g h p s → Leaves g s.commit.disk (IsFileIn h s.commit.root.version)
   in_leaves h Idle s rest c left = record { held = rest.x.held; among = rest.held; no_less = omega (arith, rest.number); stands = calm_stands rest.x c (rest.stands.leaves c left) }
   in_leaves h Close s way c left = way_leaves h s way c left
   in_leaves h Settle s way c left = way_leaves h s way c left
@@ -71,12 +71,12 @@ module _ {D : Type 0} (g : Ghosts D) where
   in_leaves h Failed s store c left = store c left
 
   -- whatever the phase, each outcome stands for a version of the history
-  pub store_leaves : (h : History) (s : Flusher D) → IsStoreOf g h s → Leaves g s.commit.disk (IsFileIn h s.stored)
+  pub store_leaves : (h : History) (s : Flusher D) → IsStoreOf g h s → Leaves g s.commit.disk (IsFileIn h s.commit.root.version)
   store_leaves h s is = in_leaves h s.commit.phase s is.store
 
   -- a store that stands for a version is one of the history that begins with it
-  pub store_begins : (version : Version) (f : Flusher D) (x : Kept) → Stands g f.commit x → IsImageOf version x.held → f.stored ≡ version.number
-      → version.durable ≤ f.stored → IsStoreOf g (record { start = version; entries = [] }) f
+  pub store_begins : (version : Version) (f : Flusher D) (x : Kept) → Stands g f.commit x → IsImageOf version x.held → f.commit.root.version ≡ version.number
+      → version.durable ≤ f.commit.root.version → IsStoreOf g (record { start = version; entries = [] }) f
   store_begins version f x stands image stored reported = record {
     honest = stands.honest;
     reported = reported;
@@ -110,9 +110,9 @@ module _ {D : Type 0} (g : Ghosts D) where
   in_more was now Put s longer way = way_more was now s longer way
   in_more was now Open s longer way = way_more was now s longer way
   in_more was now Finish s longer way = way_more was now s longer way
-  in_more was now Failed s longer store = λ c left. file_more was now s.stored s.stored c longer (omega arith) (store c left)
+  in_more was now Failed s longer store = λ c left. file_more was now s.commit.root.version s.commit.root.version c longer (omega arith) (store c left)
 
-  pub store_more : (was now : History) (s : Flusher D) → BeginsWith now was → (newest now).durable ≤ s.stored → IsStoreOf g was s → IsStoreOf g now s
+  pub store_more : (was now : History) (s : Flusher D) → BeginsWith now was → (newest now).durable ≤ s.commit.root.version → IsStoreOf g was s → IsStoreOf g now s
   store_more was now s longer reported is = record { honest = is.honest; reported = reported; store = in_more was now s.commit.phase s longer is.store }
 
   -- ---- stretches of a run
@@ -123,7 +123,7 @@ module _ {D : Type 0} (g : Ghosts D) where
     store = is;
     no_less = omega arith;
     reports = λ all. all;
-    moments = started g s.commit.disk (IsFileIn h s.stored) (λ c left. store_leaves h s is c (now c left));
+    moments = started g s.commit.disk (IsFileIn h s.commit.root.version) (λ c left. store_leaves h s is c (now c left));
   }
 
   pub then : (a b c : History) (s t u : Flusher D) → Flushes g a s b t → Flushes g b t c u → Flushes g a s c u
@@ -132,9 +132,9 @@ module _ {D : Type 0} (g : Ghosts D) where
     store = second.store;
     no_less = omega (arith, first.no_less, second.no_less);
     reports = λ all. second.reports (first.reports all);
-    moments = joined g s.commit.disk t.commit.disk u.commit.disk (IsFileIn c s.stored) (IsFileIn c t.stored)
-        (λ file is. file_more c c t.stored s.stored file (begins_self c) first.no_less is)
-        (widened g s.commit.disk t.commit.disk (IsFileIn b s.stored) (IsFileIn c s.stored) (λ file is. file_more b c s.stored s.stored file second.goes_on (omega arith) is) first.moments)
+    moments = joined g s.commit.disk t.commit.disk u.commit.disk (IsFileIn c s.commit.root.version) (IsFileIn c t.commit.root.version)
+        (λ file is. file_more c c t.commit.root.version s.commit.root.version file (begins_self c) first.no_less is)
+        (widened g s.commit.disk t.commit.disk (IsFileIn b s.commit.root.version) (IsFileIn c s.commit.root.version) (λ file is. file_more b c s.commit.root.version s.commit.root.version file second.goes_on (omega arith) is) first.moments)
         second.moments;
   }
 
@@ -148,13 +148,13 @@ module _ {D : Type 0} (g : Ghosts D) where
         store = store;
         no_less = omega arith;
         reports = λ all. same ∙ all;
-        moments = started g s.commit.disk (IsFileIn now s.stored) (λ c left. store_leaves now s store c (at c left));
+        moments = started g s.commit.disk (IsFileIn now s.commit.root.version) (λ c left. store_leaves now s store c (at c left));
       }
 
   -- ---- begin
 
   begin_in : (h : History) (p : Phase) (s new : Flusher D) (v : Version) → p ≡ s.commit.phase → is_busy p ≡ false → (s.commit.phase ≡ Failed → ⊥) → IsHistory h → v ≡ newest h
-      → ((x : Kept) → Stands g s.commit x → (y : Kept) × IsCommitOf v y × Runs g new.commit x y) → new.stored ≡ s.stored → new.commit.phase ≡ Close
+      → ((x : Kept) → Stands g s.commit x → (y : Kept) × IsCommitOf v y × Runs g new.commit x y) → new.commit.root.version ≡ s.commit.root.version → new.commit.phase ≡ Close
       → IsStoreAt g h p s → IsStoreAt g h new.commit.phase new
   begin_in h Idle s new v at idle well history latest begins stored busy rest =
       let next = begins rest.x rest.stands in
@@ -180,7 +180,7 @@ module _ {D : Type 0} (g : Ghosts D) where
 
   -- a commit of the newest version begins
   pub commit_begins : (h : History) (s new : Flusher D) (v : Version) → is_busy s.commit.phase ≡ false → (s.commit.phase ≡ Failed → ⊥) → IsHistory h → v ≡ newest h
-      → ((x : Kept) → Stands g s.commit x → (y : Kept) × IsCommitOf v y × Runs g new.commit x y) → new.stored ≡ s.stored → new.commit.phase ≡ Close → new.commit.disk ≡ s.commit.disk
+      → ((x : Kept) → Stands g s.commit x → (y : Kept) × IsCommitOf v y × Runs g new.commit x y) → new.commit.root.version ≡ s.commit.root.version → new.commit.phase ≡ Close → new.commit.disk ≡ s.commit.disk
       → OnlyNow s
       → IsStoreOf g h s → Flushes g h s h new
   commit_begins h s new v idle well history latest begins stored busy disk at is =
@@ -190,7 +190,7 @@ module _ {D : Type 0} (g : Ghosts D) where
         store = record { honest = subst g.is_honest (sym disk) is.honest; reported = omega (arith, is.reported, stored); store = store };
         no_less = omega (arith, stored);
         reports = λ all. all ∙ sym stored;
-        moments = subst (λ (d : D). LeavesOnly g s.commit.disk d (IsFileIn h s.stored)) (sym disk) (started g s.commit.disk (IsFileIn h s.stored) (λ c left. store_leaves h s is c (at c left)));
+        moments = subst (λ (d : D). LeavesOnly g s.commit.disk d (IsFileIn h s.commit.root.version)) (sym disk) (started g s.commit.disk (IsFileIn h s.commit.root.version) (λ c left. store_leaves h s is c (at c left)));
       }
 
   -- ---- step
@@ -217,15 +217,15 @@ module _ {D : Type 0} (g : Ghosts D) where
   -- a device call: the store stays one of the history, and a crash within the call leaves a version of it
   pub record Moves (h : History) (s new : Flusher D) : Type 0 where
     pub store : IsStoreOf g h new
-    pub no_less : s.stored ≤ new.stored
-    pub moments : LeavesOnly g s.commit.disk new.commit.disk (IsFileIn h s.stored)
+    pub no_less : s.commit.root.version ≤ new.commit.root.version
+    pub moments : LeavesOnly g s.commit.disk new.commit.disk (IsFileIn h s.commit.root.version)
 
   module _ (h : History) (s new : Flusher D) (is : IsStoreOf g h s) (honest : g.is_honest s.commit.disk → g.is_honest new.commit.disk) where
     module _ (way : Goes g h s) where
-      moments_of : LeavesOnly g s.commit.disk new.commit.disk (Either way.x way.y) → LeavesOnly g s.commit.disk new.commit.disk (IsFileIn h s.stored)
-      moments_of run = widened g s.commit.disk new.commit.disk (Either way.x way.y) (IsFileIn h s.stored) (either_among h s way) run
+      moments_of : LeavesOnly g s.commit.disk new.commit.disk (Either way.x way.y) → LeavesOnly g s.commit.disk new.commit.disk (IsFileIn h s.commit.root.version)
+      moments_of run = widened g s.commit.disk new.commit.disk (Either way.x way.y) (IsFileIn h s.commit.root.version) (either_among h s way) run
 
-      goes : new.stored ≡ s.stored → Stepped g s.commit new.commit (Ok progress.Going) way.x way.y → Moves h s new
+      goes : new.commit.root.version ≡ s.commit.root.version → Stepped g s.commit new.commit (Ok progress.Going) way.x way.y → Moves h s new
       goes stored step = record {
         store = record {
           honest = honest is.honest;
@@ -245,10 +245,10 @@ module _ {D : Type 0} (g : Ghosts D) where
         moments = moments_of step.moments;
       }
 
-      is_done : (number : ℕ) → new.stored ≡ number → Stepped g s.commit new.commit (Ok (progress.Done number)) way.x way.y → Moves h s new
+      is_done : (number : ℕ) → new.commit.root.version ≡ number → Stepped g s.commit new.commit (Ok (progress.Done number)) way.x way.y → Moves h s new
       is_done number stored step =
           let stands = step.ok.0 in
-          let here : way.y.held.number ≡ new.stored = way.next_number ∙ sym step.ok.1 ∙ sym stored in
+          let here : way.y.held.number ≡ new.commit.root.version = way.next_number ∙ sym step.ok.1 ∙ sym stored in
           record {
             store = record {
               honest = honest is.honest;
@@ -259,7 +259,7 @@ module _ {D : Type 0} (g : Ghosts D) where
             moments = moments_of step.moments;
           }
 
-      fails : (why : StoreFault) → new.stored ≡ s.stored → Stepped g s.commit new.commit (Err why) way.x way.y → Moves h s new
+      fails : (why : StoreFault) → new.commit.root.version ≡ s.commit.root.version → Stepped g s.commit new.commit (Err why) way.x way.y → Moves h s new
       fails why stored step = record {
         store = record {
           honest = honest is.honest;
@@ -271,18 +271,18 @@ module _ {D : Type 0} (g : Ghosts D) where
         moments = moments_of step.moments;
       }
 
-      stepped : (r : Result Progress StoreFault) → new.stored ≡ stored_after r s.stored → Stepped g s.commit new.commit r way.x way.y → Moves h s new
+      stepped : (r : Result Progress StoreFault) → new.commit.root.version ≡ stored_after r s.commit.root.version → Stepped g s.commit new.commit r way.x way.y → Moves h s new
       stepped (Ok progress.Idle) stored step = absurd step.ok
       stepped (Ok progress.Going) stored step = goes stored step
       stepped (Ok (progress.Done number)) stored step = is_done number stored step
       stepped (Err why) stored step = fails why stored step
 
   module _ (h : History) (s new : Flusher D) (r : Result Progress StoreFault) (now : OnlyNow s)
-      (moves : (x y : Kept) → Runs g s.commit x y → Stepped g s.commit new.commit r x y) (stored : new.stored ≡ stored_after r s.stored) (honest : g.is_honest s.commit.disk → g.is_honest new.commit.disk)
+      (moves : (x y : Kept) → Runs g s.commit x y → Stepped g s.commit new.commit r x y) (stored : new.commit.root.version ≡ stored_after r s.commit.root.version) (honest : g.is_honest s.commit.disk → g.is_honest new.commit.disk)
       (idle : s.commit.phase ≡ Idle → (r ≡ Ok progress.Idle) × (new ≡ s)) (stuck : s.commit.phase ≡ Failed → (r ≡ Err fault.Failed) × (new ≡ s)) (is : IsStoreOf g h s) where
     stays : new ≡ s → Moves h s new
     stays same =
-        subst (Moves h s) (sym same) (record { store = is; no_less = omega arith; moments = started g s.commit.disk (IsFileIn h s.stored) (λ c left. store_leaves h s is c (now c left)) })
+        subst (Moves h s) (sym same) (record { store = is; no_less = omega arith; moments = started g s.commit.disk (IsFileIn h s.commit.root.version) (λ c left. store_leaves h s is c (now c left)) })
 
     -- a device call, if one is made
     pub steps : Moves h s new
@@ -292,7 +292,7 @@ module _ {D : Type 0} (g : Ghosts D) where
         (ways h s.commit.phase s refl is.store)
 
     -- one that ends no commit
-    pub steps_on : stored_after r s.stored ≡ s.stored → Flushes g h s h new
+    pub steps_on : stored_after r s.commit.root.version ≡ s.commit.root.version → Flushes g h s h new
     steps_on same = record {
       goes_on = begins_self h;
       store = steps.store;
@@ -314,16 +314,16 @@ module _ {D : Type 0} (g : Ghosts D) where
         (ways h s.commit.phase s refl is.store)
 
   -- a commit that is done, and is reported
-  pub reported : (h n : History) (s new : Flusher D) (number : ℕ) → Moves h s new → new.stored ≡ number → number ≤ (newest h).number → BeginsWith n h
+  pub reported : (h n : History) (s new : Flusher D) (number : ℕ) → Moves h s new → new.commit.root.version ≡ number → number ≤ (newest h).number → BeginsWith n h
       → (number ≤ (newest h).number → number ≤ (newest n).durable) → ((newest n).durable ≡ number) ⊎ ((newest n).durable ≡ (newest h).durable) → Flushes g h s n new
   reported h n s new number moved done level on reached told =
-      let less : (newest n).durable ≤ new.stored = ⊎_elim (λ to. omega (arith, to, done)) (λ stays. omega (arith, stays, moved.store.reported)) told in
+      let less : (newest n).durable ≤ new.commit.root.version = ⊎_elim (λ to. omega (arith, to, done)) (λ stays. omega (arith, stays, moved.store.reported)) told in
       record {
         goes_on = on;
         store = store_more h n new on less moved.store;
         no_less = moved.no_less;
         reports = λ all. omega (arith, less, reached level, done);
-        moments = widened g s.commit.disk new.commit.disk (IsFileIn h s.stored) (IsFileIn n s.stored) (λ file is. file_more h n s.stored s.stored file on (omega arith) is) moved.moments;
+        moments = widened g s.commit.disk new.commit.disk (IsFileIn h s.commit.root.version) (IsFileIn n s.commit.root.version) (λ file is. file_more h n s.commit.root.version s.commit.root.version file on (omega arith) is) moved.moments;
       }
 
 Succeeds : {A B : Type 0} → Result A B → Type 0

@@ -15,10 +15,10 @@ use Rattle.store_flushing.specs.Storing.{IsStoreOf}
 abbrev pub StoreBegins : {D : Type 0} → Ghosts D → Type 0
 StoreBegins {D = D} g =
     (version : Version) (f : Flusher D) (x : Kept) → Stands g f.commit x → IsImageOf version x.held
-    → f.stored ≡ version.number → version.durable ≤ f.stored → IsStoreOf g (record { start = version; entries = [] }) f
+    → f.commit.root.version ≡ version.number → version.durable ≤ f.commit.root.version → IsStoreOf g (record { start = version; entries = [] }) f
 
 -- every file that a crash may leave of a store of a history stands for one of its versions, no older than what is
 -- stored
 abbrev pub StoreLeaves : {D : Type 0} → Ghosts D → Type 0
 StoreLeaves {D = D} g =
-    (history : History) (f : Flusher D) → IsStoreOf g history f → Leaves g f.commit.disk (IsFileIn history f.stored)
+    (history : History) (f : Flusher D) → IsStoreOf g history f → Leaves g f.commit.disk (IsFileIn history f.commit.root.version)

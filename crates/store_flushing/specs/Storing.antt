@@ -16,7 +16,7 @@ module _ {D : Type 0} (g : Ghosts D) (history : History) where
   pub record Rests (f : Flusher D) : Type 0 where
     pub x : Kept
     pub held : IsHeldIn history x.held
-    pub number : x.held.number ≡ f.stored
+    pub number : x.held.number ≡ f.commit.root.version
     pub stands : Stands g f.commit x
 
   -- a commit is under way, from the version that is stored to one that is no older
@@ -24,16 +24,16 @@ module _ {D : Type 0} (g : Ghosts D) (history : History) where
     pub x : Kept
     pub y : Kept
     pub held : IsHeldIn history x.held
-    pub number : x.held.number ≡ f.stored
+    pub number : x.held.number ≡ f.commit.root.version
     pub next : IsHeldIn history y.held
     pub next_number : y.held.number ≡ y.root.version
-    pub later : f.stored ≤ y.held.number
+    pub later : f.commit.root.version ≤ y.held.number
     pub runs : Runs g f.commit x y
 
   -- what is known of a store, by where its commit stands
   abbrev pub IsStoreAt : Phase → Flusher D → Type 0
   IsStoreAt Idle f = Rests f
-  IsStoreAt Failed f = Leaves g f.commit.disk (IsFileIn history f.stored)
+  IsStoreAt Failed f = Leaves g f.commit.disk (IsFileIn history f.commit.root.version)
   IsStoreAt Close f = Goes f
   IsStoreAt Settle f = Goes f
   IsStoreAt Put f = Goes f
@@ -44,12 +44,12 @@ module _ {D : Type 0} (g : Ghosts D) (history : History) where
   -- versions
   pub record IsStoreOf (f : Flusher D) : Type 0 where
     pub honest : g.is_honest f.commit.disk
-    pub reported : (newest history).durable ≤ f.stored
+    pub reported : (newest history).durable ≤ f.commit.root.version
     pub store : IsStoreAt f.commit.phase f
 
 -- what is stored is reported durable
 abbrev pub AllReported : {D : Type 0} → History → Flusher D → Type 0
-AllReported history f = (newest history).durable ≡ f.stored
+AllReported history f = (newest history).durable ≡ f.commit.root.version
 
 -- a run of the flusher: the history goes on, the store is one of it, what it stores it reports, and a crash at any
 -- moment leaves a version of the history that is no older than what was stored as the run began
@@ -57,6 +57,6 @@ pub record Flushes {D : Type 0} (g : Ghosts D) (was : History) (old : Flusher D)
     : Type 0 where
   pub goes_on : BeginsWith now was
   pub store : IsStoreOf g now new
-  pub no_less : old.stored ≤ new.stored
+  pub no_less : old.commit.root.version ≤ new.commit.root.version
   pub reports : AllReported was old → AllReported now new
-  pub moments : LeavesOnly g old.commit.disk new.commit.disk (IsFileIn now old.stored)
+  pub moments : LeavesOnly g old.commit.disk new.commit.disk (IsFileIn now old.commit.root.version)

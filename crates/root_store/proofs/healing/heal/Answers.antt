@@ -3,10 +3,11 @@ use Rattle.disk_model.proofs.Runs.{goes_on}
 use Rattle.store_terms.specs.declared.root.Root.{Root}
 use Rattle.store_terms.specs.Roots.{body_text, sequence_max}
 use Rattle.store_terms.specs.StandsFor.{body_at}
+use Rattle.disk_model.specs.Disk.{Torn}
 use Rattle.commit_plan.specs.Kept.{other, Shut, Rest}
 use Rattle.root_store.specs.Healing.{twin}
 use Rattle.root_store.proofs.Steps.{one_call, leaves_fewer, leaves_synced}
-use Rattle.root_store.proofs.HealingLemmas.{still_shut, at_rest, healing_failed}
+use Rattle.root_store.proofs.HealingLemmas.{still_shut, at_rest, healing_failed, twin_torn}
 use Rattle.root_store.proofs.healing.heal.Goals as goal
 
 pub returns-in_err-write_at-clause-heals : goal.returns-in_err-write_at-clause-heals
@@ -68,3 +69,27 @@ returns-clause-heals g c honest x is all =
       ok = leaves_synced k new (k.seen mid) (Rest x) (c.in_ok-sync.ensures.durable on) rest;
       err = tt;
     }
+
+pub returns-in_err-write_at-clause-torn : goal.returns-in_err-write_at-clause-torn
+returns-in_err-write_at-clause-torn g c honest =
+    let k = g.D.Disk in
+    twin_torn c.args.root c.other_body.result c.write_body-body.result c.other_body.ensures c.write_body-body.ensures.spelled
+    (k.seen c.args.disk.now) (k.seen c.write_at.new.self) (c.write_at.ensures.others honest)
+
+pub returns-in_err-sync-clause-torn : goal.returns-in_err-sync-clause-torn
+returns-in_err-sync-clause-torn g c honest =
+    let k = g.D.Disk in
+    let old = k.seen c.args.disk.now in
+    let there = body_at (other c.args.root) in
+    let torn = twin_torn c.args.root c.other_body.result c.write_body-body.result c.other_body.ensures
+    c.write_body-body.ensures.spelled old (k.seen c.write_at.new.self) (c.write_at.ensures.others honest) in
+    subst (λ (f : List ℕ). Torn there 48 old f) (sym (c.sync.ensures.seen (c.write_at.ensures.honest.1 honest))) torn
+
+pub returns-clause-torn : goal.returns-clause-torn
+returns-clause-torn g c honest =
+    let k = g.D.Disk in
+    let old = k.seen c.args.disk.now in
+    let there = body_at (other c.args.root) in
+    let torn = twin_torn c.args.root c.other_body.result c.write_body-body.result c.other_body.ensures
+    c.write_body-body.ensures.spelled old (k.seen c.write_at.new.self) (c.write_at.ensures.others honest) in
+    subst (λ (f : List ℕ). Torn there 48 old f) (sym (c.sync.ensures.seen (c.write_at.ensures.honest.1 honest))) torn

@@ -1,9 +1,13 @@
-use Rattle.std.proofs.Common.{◌≡◌, true, refl, rules, arith}
+use Rattle.std.proofs.Common.{◌≡◌, ◌<◌, true, inl, refl, sym, ◌∙◌, rules, arith}
 use Rattle.store_terms.specs.StandsFor.{reading}
 use Rattle.root_store.specs.Healing.{kept_of}
+use Rattle.store_terms.specs.Roots.{sequence_max}
 use Rattle.commit_plan.specs.Loading.{held_in}
-use Rattle.root_reading.proofs.Looked.{refuses_device}
-use Rattle.root_store.proofs.OpeningLemmas.{shuts, both_loads, last_loads, healed_loads, failed_loads, unread_loads}
+use Rattle.root_reading.specs.declared.load_fault.LoadFault.{LoadFault}
+use Rattle.root_reading.specs.declared.load_fault.LoadFault.TheVariants.{OutOfMemory}
+use Rattle.root_store.specs.Opening.{HasRoot, Untouched}
+use Rattle.root_reading.proofs.Looked.{refuses_device, if_err}
+use Rattle.root_store.proofs.OpeningLemmas.{shuts, both_loads, last_loads, healed_loads, failed_loads, unread_loads, body_writes, untouched_err, device_err, device_or_memory}
 use Rattle.root_store.proofs.opening.load.Goals as goal
 
 pub returns-in_err-loaded-clause-loads : goal.returns-in_err-loaded-clause-loads
@@ -54,3 +58,54 @@ returns-clause-loads g c honest =
     (kept_of (k.seen old) x.root (held_in x)) refl settled).ok in
     healed_loads k old mid x c.in_ok-loaded.is_alone (r.run honest) (r.read honest)
     (r.gives honest) c.heal.new.disk c.heal.result heals rest
+
+pub returns-in_err-loaded-clause-writes : goal.returns-in_err-loaded-clause-writes
+returns-in_err-loaded-clause-writes g c honest = inl (c.read_store.ensures.seen honest)
+
+pub returns-then-not-is_alone-clause-writes : goal.returns-then-not-is_alone-clause-writes
+returns-then-not-is_alone-clause-writes g c honest = inl (c.read_store.ensures.seen honest)
+
+pub returns-then-loaded-ge-NUMBER_MAX-clause-writes : goal.returns-then-loaded-ge-NUMBER_MAX-clause-writes
+returns-then-loaded-ge-NUMBER_MAX-clause-writes g c honest = inl (c.read_store.ensures.seen honest)
+
+pub returns-in_err-heal-clause-writes : goal.returns-in_err-heal-clause-writes
+returns-in_err-heal-clause-writes g c honest =
+    let k = g.D.Disk in
+    let r = c.in_ok-loaded.ensures in
+    let alone : c.in_ok-loaded.is_alone ≡ true = search rules in
+    let below : c.in_ok-loaded.loaded.root.sequence < sequence_max = omega arith in
+    body_writes (k.seen c.args.disk.now) (k.seen c.read_store.new.disk) (k.seen c.heal.new.disk) c.in_ok-loaded.loaded.root
+    (r.read honest).root (sym (r.read honest).alone ∙ alone) (r.seen honest) below
+    (c.heal.ensures.torn (r.honest.1 honest))
+
+pub returns-clause-writes : goal.returns-clause-writes
+returns-clause-writes g c honest =
+    let k = g.D.Disk in
+    let r = c.in_ok-loaded.ensures in
+    let alone : c.in_ok-loaded.is_alone ≡ true = search rules in
+    let below : c.in_ok-loaded.loaded.root.sequence < sequence_max = omega arith in
+    body_writes (k.seen c.args.disk.now) (k.seen c.read_store.new.disk) (k.seen c.heal.new.disk) c.in_ok-loaded.loaded.root
+    (r.read honest).root (sym (r.read honest).alone ∙ alone) (r.seen honest) below
+    (c.heal.ensures.torn (r.honest.1 honest))
+
+pub returns-in_err-loaded-clause-untouched : goal.returns-in_err-loaded-clause-untouched
+returns-in_err-loaded-clause-untouched g c honest =
+    let r = c.read_store.ensures in
+    untouched_err g.D.Disk c.args.disk.now c.read_store.new.disk c.in_err-loaded.field-0.0 c.from_residual.result
+    c.from_residual.ensures.1 (r.seen honest) (r.fewer honest)
+
+pub returns-in_err-heal-clause-untouched : goal.returns-in_err-heal-clause-untouched
+returns-in_err-heal-clause-untouched g c honest =
+    device_err (Untouched g.D.Disk c.args.disk.now c.heal.new.disk) c.in_err-heal.field-0.0 c.from_residual-in_err-heal.result c.from_residual-in_err-heal.ensures.1
+    c.in_err-heal.ensures.err
+
+pub returns-in_err-loaded-clause-memory : goal.returns-in_err-loaded-clause-memory
+returns-in_err-loaded-clause-memory g c honest =
+    let file = g.D.Disk.seen c.args.disk.now in
+    if_err c.from_residual.result c.in_err-loaded.field-0.0 (λ (e : LoadFault). e ≡ OutOfMemory → HasRoot file)
+    c.from_residual.ensures.1 (c.in_err-loaded.ensures.memory honest)
+
+pub returns-in_err-heal-clause-memory : goal.returns-in_err-heal-clause-memory
+returns-in_err-heal-clause-memory g c honest =
+    device_or_memory (HasRoot (g.D.Disk.seen c.args.disk.now)) c.in_err-heal.field-0.0 c.from_residual-in_err-heal.result c.from_residual-in_err-heal.ensures.1
+    c.in_err-heal.ensures.err

@@ -1,6 +1,8 @@
 use Rattle.std.proofs.Common.{refl, sym, ◌∙◌, ap, Ok}
 use Rattle.store_terms.specs.StandsFor.{reading}
-use Rattle.root_store.proofs.OpeningLemmas.{tells_of, failed_of}
+use Rattle.store_terms.specs.Image.{Held}
+use Rattle.root_store.proofs.OpeningLemmas.{tells_of, failed_of, memory_of}
+use Rattle.root_store.specs.Opening.{fault_of}
 use Rattle.root_store.proofs.opening.open.Goals as goal
 
 pub returns-in-Ok-clause-gives : goal.returns-in-Ok-clause-gives
@@ -35,3 +37,20 @@ pub returns-in-Err-clause-cause : goal.returns-in-Err-clause-cause
 returns-in-Err-clause-cause g c honest =
     failed_of c.in-Err.fault c.told.result (g.D.Disk.faults c.args.disk)
     (g.D.Disk.faults c.load.new.disk) c.told.ensures (c.in-Err.ensures.cause honest)
+
+pub returns-in-Err-clause-untouched : goal.returns-in-Err-clause-untouched
+returns-in-Err-clause-untouched g c honest other =
+    c.in-Err.ensures.untouched honest (λ is. other (c.told.ensures ∙ ap fault_of is))
+
+pub returns-in-Err-clause-memory : goal.returns-in-Err-clause-memory
+returns-in-Err-clause-memory g c honest memory =
+    c.in-Err.ensures.memory honest (memory_of c.in-Err.fault (sym c.told.ensures ∙ memory))
+
+pub returns-in-Ok-clause-writes : goal.returns-in-Ok-clause-writes
+returns-in-Ok-clause-writes g c honest = c.load.ensures.writes honest
+
+pub returns-in-Err-clause-writes : goal.returns-in-Err-clause-writes
+returns-in-Err-clause-writes g c honest = c.load.ensures.writes honest
+
+pub returns-in-Ok-clause-number : goal.returns-in-Ok-clause-number
+returns-in-Ok-clause-number g c = ap (λ (h : Held). h.number) c.new-image.ensures

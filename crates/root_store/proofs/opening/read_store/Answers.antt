@@ -5,8 +5,11 @@ use Rattle.store_terms.specs.Frame.{extents_of}
 use Rattle.extent_map.specs.Taken.{taken_of}
 use Rattle.root_store.specs.Finding.{has_shut_gate}
 use Rattle.root_reading.specs.Looking.{Refuses}
+use Rattle.root_reading.specs.declared.load_fault.LoadFault.{LoadFault}
+use Rattle.root_reading.specs.declared.load_fault.LoadFault.TheVariants.{OutOfMemory}
+use Rattle.root_store.specs.Opening.{HasRoot}
 use Rattle.root_reading.specs.Taking.{IsMapOf}
-use Rattle.root_reading.proofs.Looked.{gives_err, refuses_bound, refuses_device, looks_on}
+use Rattle.root_reading.proofs.Looked.{gives_err, refuses_bound, refuses_device, looks_on, if_err}
 use Rattle.commit_plan.specs.Loading.{held_in}
 use Rattle.root_store.proofs.OpeningLemmas.{reading_root}
 use Rattle.root_store.proofs.opening.read_store.Goals as goal
@@ -114,3 +117,46 @@ returns-clause-read g c honest =
           (subst (λ (f : List ℕ). IsMapOf (extents_of f first) (taken_of x.room.map)) looks2.seen
           (c.in_ok-loaded.ensures.room looks2.honest short));
     }
+
+pub returns-in_err-root-clause-seen : goal.returns-in_err-root-clause-seen
+returns-in_err-root-clause-seen g c honest =
+    let looks1 = c.settle.ensures.looks honest in (c.find_root.ensures.looks looks1.honest).seen ∙ looks1.seen
+
+pub returns-in_err-loaded-clause-seen : goal.returns-in_err-loaded-clause-seen
+returns-in_err-loaded-clause-seen g c honest =
+    let looks1 = c.settle.ensures.looks honest in
+    let looks2 = looks_on g.D.Disk c.args.disk.now c.settle.new.disk c.find_root.new.disk looks1
+    (c.find_root.ensures.looks looks1.honest) in
+    (c.read_root.ensures.looks looks2.honest).seen ∙ looks2.seen
+
+pub returns-clause-seen : goal.returns-clause-seen
+returns-clause-seen g c honest =
+    let looks1 = c.settle.ensures.looks honest in
+    let looks2 = looks_on g.D.Disk c.args.disk.now c.settle.new.disk c.find_root.new.disk looks1
+    (c.find_root.ensures.looks looks1.honest) in
+    (c.read_root.ensures.looks looks2.honest).seen ∙ looks2.seen
+
+pub returns-in_err-settle-clause-memory : goal.returns-in_err-settle-clause-memory
+returns-in_err-settle-clause-memory g c honest =
+    let file = g.D.Disk.seen c.args.disk.now in
+    let fault = c.in_err-settle.field-0.0 in
+    if_err c.from_residual.result fault (λ (e : LoadFault). e ≡ OutOfMemory → HasRoot file) c.from_residual.ensures.1
+    (λ memory. absurd (cc (memory, c.in_err-settle.ensures.err)))
+
+pub returns-in_err-root-clause-memory : goal.returns-in_err-root-clause-memory
+returns-in_err-root-clause-memory g c honest =
+    let file = g.D.Disk.seen c.args.disk.now in
+    let fault = c.in_err-root.field-0.0 in
+    if_err c.from_residual-in_err-root.result fault (λ (e : LoadFault). e ≡ OutOfMemory → HasRoot file)
+    c.from_residual-in_err-root.ensures.1 (λ memory. absurd (c.in_err-root.ensures.memory memory))
+
+pub returns-in_err-loaded-clause-memory : goal.returns-in_err-loaded-clause-memory
+returns-in_err-loaded-clause-memory g c honest =
+    let file = g.D.Disk.seen c.args.disk.now in
+    let first = c.in_ok-root.root in
+    let looks1 = c.settle.ensures.looks honest in
+    let root : root_of file ≡ Ok first =
+    subst (λ (f : List ℕ). root_of f ≡ Ok first) looks1.seen (c.in_ok-root.ensures.gives looks1.honest) in
+    if_err c.from_residual-in_err-loaded.result c.in_err-loaded.field-0.0
+    (λ (e : LoadFault). e ≡ OutOfMemory → HasRoot file) c.from_residual-in_err-loaded.ensures.1
+    (λ memory. (first, root))

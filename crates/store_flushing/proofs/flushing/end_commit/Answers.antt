@@ -24,7 +24,7 @@ calls-preserved g c = (
       let was = c.calls.invariant.1 is in
       let e = c.step.ensures in
       let at : OnlyNow d t = λ f left. g.met.D.Disk.only_now t.commit.disk f was.store.honest left in
-      let same = ap (λ r. stored_after r t.stored) (c.in-Ok-Going.is ∙ ap Ok c.in-Ok-Going.field-0-is) in
+      let same = ap (λ r. stored_after r t.commit.root.version) (c.in-Ok-Going.is ∙ ap Ok c.in-Ok-Going.field-0-is) in
       then d (history_of c.args.me.now.log) m m c.args.flusher.now t u was
       (steps_on d m t u c.step.result at e.moves e.stored e.honest.1 e.idle e.stuck was.store same),
 )
@@ -38,7 +38,7 @@ returns-in-Ok-Idle-clause-flushes g c is =
     let was = c.calls.invariant.1 is in
     let e = c.step.ensures in
     let at : OnlyNow d t = λ f left. g.met.D.Disk.only_now t.commit.disk f was.store.honest left in
-    let same = ap (λ r. stored_after r t.stored) (c.in-Ok-Idle.is ∙ ap Ok c.in-Ok-Idle.field-0-is) in
+    let same = ap (λ r. stored_after r t.commit.root.version) (c.in-Ok-Idle.is ∙ ap Ok c.in-Ok-Idle.field-0-is) in
     then d (history_of c.args.me.now.log) m m c.args.flusher.now t u was
     (steps_on d m t u c.step.result at e.moves e.stored e.honest.1 e.idle e.stuck was.store same)
 
@@ -57,7 +57,7 @@ returns-in-Ok-Done-clause-flushes g c is =
     let done : c.step.result ≡ Ok (progress.Done number) = c.in-Ok-Done.is ∙ ap Ok c.in-Ok-Done.field-0-is in
     let level = done_level d m t u c.step.result at e.moves e.stored e.honest.1 e.idle e.stuck was.store number f.history done in
     let moved = steps d m t u c.step.result at e.moves e.stored e.honest.1 e.idle e.stuck was.store in
-    let stored = e.stored ∙ ap (λ r. stored_after r t.stored) done in
+    let stored = e.stored ∙ ap (λ r. stored_after r t.commit.root.version) done in
     then d (history_of c.args.me.now.log) m n c.args.flusher.now t u was (reported d m n t u number moved stored level f.goes_on f.reached f.reported)
 
 pub returns-in-Err-clause-flushes : goal.returns-in-Err-clause-flushes
@@ -70,7 +70,7 @@ returns-in-Err-clause-flushes g c is =
     let was = c.calls.invariant.1 is in
     let e = c.step.ensures in
     let at : OnlyNow d t = λ f left. g.met.D.Disk.only_now t.commit.disk f was.store.honest left in
-    let same = ap (λ r. stored_after r t.stored) c.in-Err.is in
+    let same = ap (λ r. stored_after r t.commit.root.version) c.in-Err.is in
     let moved = steps_on d m t u c.step.result at e.moves e.stored e.honest.1 e.idle e.stuck was.store same in
     subst (λ (k : History). Flushes d h c.args.flusher.now k u) (ap (λ (k : Heard). history_of k.log) (sym c.tell.ensures.nothing))
     (then d h m m c.args.flusher.now t u was moved)

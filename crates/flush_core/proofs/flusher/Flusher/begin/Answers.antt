@@ -26,6 +26,6 @@ pub returns-clause-calls : goal.returns-clause-calls
 returns-clause-calls g c =
     subst (λ (x : Held). OnOk c.begin.result (calls_left c.begin.new.self ≡ length x.layers + length x.tiles + 7)) c.in_ok-image.ensures.value c.begin.ensures.calls
 
--- found by search alone: it stands here so that a wrong body is refused without working out what to write
-pub returns-in_err-image-clause-stored : goal.returns-in_err-image-clause-stored
-returns-in_err-image-clause-stored g c = search rules
+pub returns-clause-number : goal.returns-clause-number
+returns-clause-number g c =
+    subst (λ (x : Held). OnOk c.begin.result (c.begin.new.self.next_root.version ≡ x.number)) c.in_ok-image.ensures.value c.begin.ensures.number

@@ -1,6 +1,6 @@
-use Rattle.std.proofs.Common.{rules}
+use Rattle.flush_core.proofs.StepLemmas.{stored_is}
 use Rattle.flush_core.proofs.flusher.Flusher.step.Goals as goal
 
--- found by search alone: it stands here so that a wrong body is refused without working out what to write
-pub returns-in-Done-clause-stored : goal.returns-in-Done-clause-stored
-returns-in-Done-clause-stored g c = search rules
+pub returns-clause-stored : goal.returns-clause-stored
+returns-clause-stored g c =
+    stored_is c.args.self.now.commit c.step.new.self c.step.result c.step.ensures.roots c.step.ensures.same_roots

@@ -9,7 +9,7 @@ returns-in-Ok-clause-device g c =
     inr (inl (
       sym c.busy.ensures ∙ c.if-busy.false,
       record e { flusher = c.begin.new.self },
-      record { began = c.in-Ok.ensures.begins; room = c.in-Ok.ensures.room; calls = c.in-Ok.ensures.calls; stored = c.begin.ensures.stored; disk = c.begin.ensures.disk; rest = refl },
+      record { idle = c.in-Ok.ensures.idle; below = c.in-Ok.ensures.below; began = c.in-Ok.ensures.begins; number = c.in-Ok.ensures.number; room = c.in-Ok.ensures.room; calls = c.in-Ok.ensures.calls; stored = c.begin.ensures.stored; disk = c.begin.ensures.disk; rest = refl },
       c.call-in-Ok.ensures.calls,
     ))
 

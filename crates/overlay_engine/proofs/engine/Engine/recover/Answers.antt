@@ -1,9 +1,13 @@
-use Rattle.std.proofs.Common.{◌++◌, sym, subst}
+use Rattle.std.proofs.Common.{◌++◌, sym, ◌∙◌, ap, subst}
 use Rattle.commit_plan.specs.declared.fault.StoreFault.TheVariants.{OutOfMemory}
+use Rattle.overlay_terms.specs.Histories.{Version}
+use Rattle.flush_core.specs.declared.flusher.Flusher.{Flusher}
+use Rattle.root_store.specs.Opening.{Writes}
+use Rattle.root_store.proofs.OpeningLemmas.{root_read}
 use Rattle.overlay_engine.specs.Recovery.{Refused}
 use Rattle.overlay_engine.specs.Runs.{accepted_in}
 use Rattle.overlay_engine.proofs.Running.{crash_covered}
-use Rattle.overlay_engine.proofs.Opened.{recovered_with, rests_as, refused_as, given_up}
+use Rattle.overlay_engine.proofs.Opened.{recovered_with, rests_as, refused_as, given_up, writes_of}
 use Rattle.overlay_engine.proofs.engine.Engine.recover.Goals as goal
 
 pub returns-in-Ok-restored-clause-ok : goal.returns-in-Ok-restored-clause-ok
@@ -12,14 +16,14 @@ returns-in-Ok-restored-clause-ok g c honest start least commands all =
     let opened = c.in-Ok.ensures.ok honest in
     recovered_with g.D.Disk start disk least commands all (g.met.D.Disk.seen_may_stay disk honest)
     (record { version = c.in-Ok-restored.version; flusher = c.new.result; jobs = c.new-in-Ok-restored.result; next_job = 0 })
-    c.in-Ok.opened.0 c.number-stored.result opened.0 c.in-Ok.opened.1 c.new.ensures c.number-stored.ensures.value c.in-Ok-restored.ensures
+    c.in-Ok.opened.0 opened.0 c.in-Ok.opened.1 c.new.ensures (sym c.in-Ok.ensures.number ∙ sym (ap (λ (v : Version). v.number) c.in-Ok-restored.ensures)) c.in-Ok-restored.ensures
     (c.in-Ok.ensures.gives honest) opened.1 opened.2 opened.3
 
 pub returns-in-Ok-restored-clause-rests : goal.returns-in-Ok-restored-clause-rests
 returns-in-Ok-restored-clause-rests g c honest =
     let opened = c.in-Ok.ensures.ok honest in
-    rests_as g.D.Disk c.in-Ok-restored.version c.new.result c.in-Ok.opened.0 c.number-stored.result opened.0 c.in-Ok.opened.1
-    c.new.ensures c.number-stored.ensures.value c.in-Ok-restored.ensures opened.1 opened.2
+    rests_as g.D.Disk c.in-Ok-restored.version c.new.result c.in-Ok.opened.0 opened.0 c.in-Ok.opened.1
+    c.new.ensures (sym c.in-Ok.ensures.number ∙ sym (ap (λ (v : Version). v.number) c.in-Ok-restored.ensures)) c.in-Ok-restored.ensures opened.1 opened.2
 
 pub returns-in-Err-restored-clause-err : goal.returns-in-Err-restored-clause-err
 returns-in-Err-restored-clause-err g c honest start least commands all =
@@ -45,3 +49,26 @@ returns-in-Err-clause-crashed g c honest start commands run each crash =
     let left = c.in-Err.ensures.err honest in
     refused_as g.D.Disk start disk crash.made.old.version.durable (commands ++ accepted_in crash.before) (crash_covered g.D.Disk start commands run disk crash each)
     (g.met.D.Disk.seen_may_stay disk honest) c.in-Err.refused (c.in-Err.ensures.gives honest) left.0 left.1 left.2
+
+pub returns-in-Ok-restored-clause-stored : goal.returns-in-Ok-restored-clause-stored
+returns-in-Ok-restored-clause-stored g c =
+    ap (λ (f : Flusher g.row.D.Denot). f.commit.root.version) c.new.ensures
+    ∙ sym c.in-Ok.ensures.number ∙ sym (ap (λ (v : Version). v.number) c.in-Ok-restored.ensures)
+
+pub returns-in-Ok-restored-clause-writes : goal.returns-in-Ok-restored-clause-writes
+returns-in-Ok-restored-clause-writes g c honest =
+    writes_of g.D.Disk (g.D.Disk.seen c.args.disk) c.new.result c.in-Ok.opened.0 c.new.ensures (c.in-Ok.ensures.writes honest)
+
+pub returns-in-Err-restored-clause-writes : goal.returns-in-Err-restored-clause-writes
+returns-in-Err-restored-clause-writes g c honest =
+    subst (λ (d : g.row.D.Denot). Writes (g.D.Disk.seen c.args.disk) (g.D.Disk.seen d)) (sym c.into_disk.ensures) (c.in-Ok.ensures.writes honest)
+
+pub returns-in-Err-clause-untouched : goal.returns-in-Err-clause-untouched
+returns-in-Err-clause-untouched g c honest damage is = c.in-Err.ensures.untouched honest (λ device. absurd (cc (is, device)))
+
+pub returns-in-Err-restored-clause-untouched : goal.returns-in-Err-restored-clause-untouched
+returns-in-Err-restored-clause-untouched g c honest damage is = absurd (cc is)
+
+pub returns-in-Err-restored-clause-memory : goal.returns-in-Err-restored-clause-memory
+returns-in-Err-restored-clause-memory g c honest memory =
+    root_read (g.D.Disk.seen c.args.disk) c.in-Ok.opened.1 (c.in-Ok.ensures.gives honest)

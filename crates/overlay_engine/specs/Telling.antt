@@ -1,0 +1,44 @@
+-- What the answers of a run tell: the numbers of jobs, and what is durable.
+use Rattle.std.specs.Prelude.{◌≡◌, ℕ, ◌+◌, List, [], ◌∷◌}
+use Rattle.disk_model.specs.declared.disk.Disk.{Ghosts}
+use Rattle.overlay_engine.specs.declared.engine.Engine.{Engine}
+use Rattle.overlay_engine.specs.declared.step.Reply.{Reply}
+use Rattle.overlay_engine.specs.declared.step.Reply.TheVariants.{Taken, Durable}
+use Rattle.overlay_engine.specs.Runs.{Made, Leads, CrashesIn}
+
+-- a job that is handed out has this number
+abbrev pub HasNumber : ℕ → Reply → Type 0
+HasNumber next (Taken number) = number ≡ next
+HasNumber next reply = Unit {0}
+
+-- the number of the next job
+abbrev pub next_after : ℕ → Reply → ℕ
+next_after next (Taken number) = number + 1
+next_after next reply = next
+
+-- the jobs that a run hands out have the numbers from this one on, each of them once
+abbrev pub Numbered : {D : Type 0} → ℕ → List (Made D) → Type 0
+Numbered next [] = Unit {0}
+Numbered next (made ∷ run) = HasNumber next made.reply × Numbered (next_after next made.reply) run
+
+-- the durable number that is told last, by one reply and by those of a run; where none is told, the one before
+abbrev pub told_after : ℕ → Reply → ℕ
+told_after number (Durable told) = told
+told_after number reply = number
+
+abbrev pub told_in : {D : Type 0} → ℕ → List (Made D) → ℕ
+told_in number [] = number
+told_in number (made ∷ run) = told_in (told_after number made.reply) run
+
+module _ {D : Type 0} (g : Ghosts D) where
+  -- no job number is used twice
+  abbrev pub JobsAreNumbered : Type 0
+  JobsAreNumbered = (old : Engine D) (run : List (Made D)) (new : Engine D) → Leads g old run new → Numbered old.next_job run
+
+  -- the durable number that was told last is the version's, in the end and as a crash comes
+  abbrev pub DurableIsTold : Type 0
+  DurableIsTold = (old : Engine D) (run : List (Made D)) (new : Engine D) → Leads g old run new → new.version.durable ≡ told_in old.version.durable run
+
+  abbrev pub CrashKeepsTold : Type 0
+  CrashKeepsTold = (old : Engine D) (run : List (Made D)) (new : Engine D) (disk : D) → Leads g old run new
+      → (crash : CrashesIn g run disk) → crash.made.old.version.durable ≡ told_in old.version.durable crash.before
