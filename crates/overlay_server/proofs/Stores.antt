@@ -63,9 +63,9 @@ module _ {D : Type 0} (g : Ghosts D) where
   pub record Closes (now : Heard) (store : Option (Flusher D)) (closed : Closed D) : Type 0 where
     pub on : BeginsWith (history_of closed.trace.log) (history_of now.log)
     pub none : IfNone store ((closed.stored ≡ 0) × (closed.disk ≡ None))
-    pub disk : IfSome store (λ (f : Flusher D). (closed.stored ≡ f.stored) × (closed.disk ≡ Some f.commit.disk))
-    pub reported : IfSome store (λ (f : Flusher D). (newest_in now.log).durable ≤ f.stored → All (λ (e : Entry). e.version.durable ≤ closed.stored) closed.trace.log)
-    pub files : IfSome store (λ (f : Flusher D). Leaves g f.commit.disk (IsFileIn (history_of now.log) f.stored)
+    pub disk : IfSome store (λ (f : Flusher D). (closed.stored ≡ f.commit.root.version) × (closed.disk ≡ Some f.commit.disk))
+    pub reported : IfSome store (λ (f : Flusher D). (newest_in now.log).durable ≤ f.commit.root.version → All (λ (e : Entry). e.version.durable ≤ closed.stored) closed.trace.log)
+    pub files : IfSome store (λ (f : Flusher D). Leaves g f.commit.disk (IsFileIn (history_of now.log) f.commit.root.version)
         → IfSome closed.disk (λ (d : D). Leaves g d (IsFileIn (history_of closed.trace.log) closed.stored)))
     pub exactly : IfSome store (λ (f : Flusher D). IsStoreOf g (history_of now.log) f → f.commit.phase ≡ Idle
         → IfSome closed.disk (λ (d : D). Leaves g d (IsFileExactlyIn (history_of closed.trace.log) closed.stored)))
@@ -85,11 +85,11 @@ module _ {D : Type 0} (g : Ghosts D) where
         let log = closed.trace.log in
         record {
           no_less = run.no_less;
-          moments = moments_on (history_of now.log) (history_of log) f.stored f.commit.disk l.commit.disk closes.on run.moments;
+          moments = moments_on (history_of now.log) (history_of log) f.commit.root.version f.commit.disk l.commit.disk closes.on run.moments;
           reported = subst (λ (n : ℕ). All (λ (e : Entry). e.version.durable ≤ n) log) closes.disk.0 (closes.reported run.store.reported);
-          files = at_disk (IsFileIn (history_of log)) closed.disk l.commit.disk closed.stored l.stored closes.disk.1 closes.disk.0
+          files = at_disk (IsFileIn (history_of log)) closed.disk l.commit.disk closed.stored l.commit.root.version closes.disk.1 closes.disk.0
               (closes.files (store_leaves g (history_of now.log) l run.store));
-          exactly = λ idle. at_disk (IsFileExactlyIn (history_of log)) closed.disk l.commit.disk closed.stored l.stored closes.disk.1 closes.disk.0
+          exactly = λ idle. at_disk (IsFileExactlyIn (history_of log)) closed.disk l.commit.disk closed.stored l.commit.root.version closes.disk.1 closes.disk.0
               (closes.exactly run.store idle);
         };
   }

@@ -70,17 +70,17 @@ module _ {D : Type 0} (g : Ghosts D) where
   -- run ended with, no older than what was stored at first, and from then on no older than what is stored; that is no
   -- older than what was reported durable; and just it where no device call has failed
   pub record IsLeftBy (log : List Entry) (old last : Flusher D) : Type 0 where
-    pub no_less : old.stored ≤ last.stored
-    pub moments : LeavesOnly g old.commit.disk last.commit.disk (IsFileIn (history_of log) old.stored)
-    pub reported : All (λ (e : Entry). e.version.durable ≤ last.stored) log
-    pub files : Leaves g last.commit.disk (IsFileIn (history_of log) last.stored)
-    pub exactly : last.commit.phase ≡ Idle → Leaves g last.commit.disk (IsFileExactlyIn (history_of log) last.stored)
+    pub no_less : old.commit.root.version ≤ last.commit.root.version
+    pub moments : LeavesOnly g old.commit.disk last.commit.disk (IsFileIn (history_of log) old.commit.root.version)
+    pub reported : All (λ (e : Entry). e.version.durable ≤ last.commit.root.version) log
+    pub files : Leaves g last.commit.disk (IsFileIn (history_of log) last.commit.root.version)
+    pub exactly : last.commit.phase ≡ Idle → Leaves g last.commit.disk (IsFileExactlyIn (history_of log) last.commit.root.version)
 
   -- what is left of a store of the first version: its disk, with no commit under way
   pub record IsLeft (start : Version) (old : Flusher D) (closed : Closed D) : Type 0 where
     pub last : Flusher D
     pub disk : closed.disk ≡ Some last.commit.disk
-    pub stored : closed.stored ≡ last.stored
+    pub stored : closed.stored ≡ last.commit.root.version
     pub rests : is_busy last.commit.phase ≡ false
     pub left : IsStoreOf g (history_of (first_log start)) old → IsLeftBy closed.trace.log old last
 
@@ -95,7 +95,7 @@ module _ {D : Type 0} (g : Ghosts D) where
     pub log : List Entry
     pub valid : IsLog log
     pub begins : (history_of log).start ≡ start
-    pub moments : LeavesOnly g old.commit.disk disk (IsFileIn (history_of log) old.stored)
+    pub moments : LeavesOnly g old.commit.disk disk (IsFileIn (history_of log) old.commit.root.version)
 
   -- the disk comes back
   pub record IsStopped (start : Version) (old : Flusher D) (back : Option D) : Type 0 where
