@@ -19,7 +19,7 @@ use Rattle.overlay_server.specs.declared.outcome.Outcome.{Outcome}
 abbrev beginner : Book → Version → ℕ → Known
 beginner book start n = record { book = book; session = n; log = first_log start; made = [] }
 
-parts_of : {R : Type 0} → List (Script R) → List (Ended R) → List (Part R)
+abbrev parts_of : {R : Type 0} → List (Script R) → List (Ended R) → List (Part R)
 parts_of [] ended = []
 parts_of (s ∷ ss) [] = []
 parts_of (s ∷ ss) (e ∷ es) = record { session = s.session; reader = s.reader; outcome = outcome_of e } ∷ parts_of ss es

@@ -133,7 +133,13 @@ fn start_session<
         of: PhantomData,
     };
     scope
-        .spawn_with(promise, move || run_script(rt, alloc, shared, script))
+        .spawn_with(
+            promise,
+            move || -> Ended<R>
+                requires { script.session.book ≡ J.book }
+                ensures { IsRunOf J.book (has_store shared.entry.now) R.remaining script result }
+            { run_script(rt, alloc, shared, script) },
+        )
         .ok()
 }
 

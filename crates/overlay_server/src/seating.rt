@@ -1,6 +1,6 @@
 //! Which session runs which reader's script, and what the sessions leave.
 ghost use Rattle.std.specs.Prelude.{◌≡◌, length, map, IfSome};
-ghost use Rattle.overlay_server.specs.Rooms.{HasParts, HasRooms};
+ghost use Rattle.overlay_server.specs.Rooms.{HasParts, HasRoom, HasRooms};
 ghost use Rattle.overlay_server.specs.Seats.{ended_session, outcome_of, reader_of, session_of};
 
 use crate::outcome::Outcome;
@@ -39,20 +39,39 @@ pub fn seated<J: Naming, R: Read + Drop>(
     ensures parts { IfSome result (λ seats. HasParts seats.parts (length readers.items)) }
 {
     let count = readers.len();
-    let rooms = Rooms {
-        running: Vec::with_capacity(alloc, count).ok()?,
-        ended: Vec::with_capacity(alloc, count).ok()?,
-    };
-    let parts = Parts {
-        sessions: Vec::with_capacity(alloc, count).ok()?,
-        outcomes: Vec::with_capacity(alloc, count).ok()?,
-    };
+    let rooms = rooms(alloc, count)?;
+    let parts = room_for_parts(alloc, count)?;
     let scripts = scripts(alloc, sessions, readers)?;
     Some(Seats {
         scripts,
         rooms,
         parts,
     })
+}
+
+/// Room for the threads of so many sessions.
+fn rooms<J: Naming, R: Read + Drop>(alloc: Global, count: usize) -> Option<Rooms<J, R>>
+    ensures { IfSome result (λ rooms. HasRooms rooms count) }
+{
+    let running = room(alloc, count)?;
+    let ended = room(alloc, count)?;
+    Some(Rooms { running, ended })
+}
+
+/// Room for so many sessions and outcomes.
+fn room_for_parts(alloc: Global, count: usize) -> Option<Parts>
+    ensures { IfSome result (λ parts. HasParts parts count) }
+{
+    let sessions = room(alloc, count)?;
+    let outcomes = room(alloc, count)?;
+    Some(Parts { sessions, outcomes })
+}
+
+/// An empty list with room for so many.
+fn room<T>(alloc: Global, count: usize) -> Option<Vec<T>>
+    ensures { IfSome result (λ list. HasRoom list count) }
+{
+    Vec::with_capacity(alloc, count).ok()
 }
 
 /// The readers' scripts, each with its session, in their order.

@@ -56,7 +56,14 @@ pub fn start_store<
         begun: Snapshot::of(&store),
         of: PhantomData,
     };
-    match scope.spawn_with(promise, move || keep_store(rt, alloc, shared, store)) {
+    let started = scope.spawn_with(
+        promise,
+        move || -> Store<D>
+            requires { store.reporter.book ≡ J.book }
+            ensures { IsKept J.book D.Disk store result }
+        { keep_store(rt, alloc, shared, store) },
+    );
+    match started {
         Ok(handle) => Ok(handle),
         Err(refused) => {
             // In a book that closes the closure waits for nobody.

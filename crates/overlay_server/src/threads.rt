@@ -58,7 +58,7 @@ pub fn run_threads<
             requires { (store.reporter.book ≡ J.book)
                 × All (λ script. script.session.book ≡ J.book) scripts.items × HasRooms rooms (length scripts.items) }
             ensures { IsKept J.book D.Disk store result.store
-                × IfSome result.ended (λ list. AllZip (λ script ended. IsRunOf J.book (has_store shared.now) R.remaining script ended) scripts.items list.items) }
+                × IfSome result.ended (λ list. AllZip (λ script ended. IsRunOf J.book (has_store shared.entry.now) R.remaining script ended) scripts.items list.items) }
         {
             run_in(
                 scope, rt, alloc, gate, shared, workers, store, scripts, rooms,

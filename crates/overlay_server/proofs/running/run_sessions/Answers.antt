@@ -1,13 +1,22 @@
-use Rattle.std.proofs.Common.{rules, ◌≡◌, sym, subst}
+use Rattle.std.proofs.Common.{rules, ◌≡◌, sym, subst, length}
 use Rattle.std.specs.List.{AllZip}
 use Rattle.version_book.specs.Store.{has_store}
+use Rattle.overlay_server.specs.Rooms.{HasRoom}
 use Rattle.overlay_server.specs.Running.{IsRunOf}
-use Rattle.overlay_server.proofs.Lists.{beside_through}
+use Rattle.overlay_server.proofs.Lists.{beside_length, beside_through}
 use Rattle.overlay_server.proofs.running.run_sessions.Goals as goal
+
+pub join_sessions-requires : goal.join_sessions-requires
+join_sessions-requires g c =
+    let running = c.in_ok-running.running in
+    let stored = has_store c.args.shared.now in
+    let begun : AllZip (λ script h. (h.promise.begun.value ≡ script) × (h.promise.stored ≡ stored)) c.args.scripts.items running.items = search rules in
+    subst (λ n. HasRoom c.args.rooms.ended n)
+    (beside_length (λ script h. (h.promise.begun.value ≡ script) × (h.promise.stored ≡ stored)) c.args.scripts.items running.items begun) c.requires.rooms.ended
 
 pub returns : goal.returns
 returns g c =
-    let running = c.in_ok-running.field-0 in
+    let running = c.in_ok-running.running in
     let stored = has_store c.args.shared.now in
     let begun : AllZip (λ script h. (h.promise.begun.value ≡ script) × (h.promise.stored ≡ stored)) c.args.scripts.items running.items = search rules in
     beside_through (λ script h. (h.promise.begun.value ≡ script) × (h.promise.stored ≡ stored))

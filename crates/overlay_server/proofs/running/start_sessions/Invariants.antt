@@ -12,5 +12,5 @@ invariant-loop-script g l = record {
   left : into_iter_len l.script-iterator ≡ length (into_iter_items l.script-iterator);
   grown : vec_len l.list ≡ length l.yielded;
   room : length (into_iter_items l.initial.script-iterator) ≤ vec_capacity l.list;
-  begun : AllZip (λ script h. (h.promise.begun.value ≡ script) × (h.promise.stored ≡ has_store l.shared.now)) l.yielded l.list.items;
+  begun : AllZip (λ script h. (h.promise.begun.value ≡ script) × (h.promise.stored ≡ has_store l.shared)) l.yielded l.list.items;
 }
