@@ -1,0 +1,6 @@
+pub mod Durable
+pub mod Lists
+pub mod Parts
+pub mod Sent
+pub mod Served
+pub mod Stores

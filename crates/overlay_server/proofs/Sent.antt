@@ -1,0 +1,34 @@
+-- What the threads of a server take with them, and give back, may go from thread to thread.
+use mathlib.Core.List.{[], ◌∷◌}
+use mir.Syntax.{Lifetime, Sym}
+use base.Fml.{Lft}
+use denote.RattleType.{RattleType}
+use denote.Ref.{ShrRef}
+use denote.Struct.Declared.{shape}
+use denote.Struct.Tuple.{TupleAt, type_at}
+use denote.Param.Send.{IsSend, IsSync, recorded_send, shr_send, struct_send, sendable}
+use Rattle.std.proofs.Crossing.{crosses}
+use Rattle.std.specs.contracts.alloc.Global as global
+use Rattle.version_book.proofs.SentBook.{shared_sync}
+use Rattle.version_book.specs.contracts.shared.Shared as shared
+use Rattle.book_history.specs.declared.seen_log.Naming as naming
+
+pub heap_send : IsSend global.the_row
+heap_send = search (sendable, crosses)
+
+module _ (J S Q : RattleType) (g : naming.Ghosts J.Denot) (j : IsSend J) (s : IsSend S) (q : IsSync Q) where
+  -- a worker's closure: the runtime, the allocator, the gate and the book
+  pub worker_send : (G : RattleType) → IsSync G → (ν : Sym) (a b c : Lifetime) (a' b' c' : Lft)
+      → IsSend (TupleAt ν (ShrRef a a' Q ∷ global.the_row ∷ ShrRef b b' G ∷ ShrRef c c' (shared.the_row J S g) ∷ []))
+  worker_send G h ν a b c a' b' c' =
+      let O = type_at ν (ShrRef a a' Q ∷ global.the_row ∷ ShrRef b b' G ∷ ShrRef c c' (shared.the_row J S g) ∷ []) in
+      let book = shared_sync J S g j s in
+      recorded_send _ _ _ O.to_one (struct_send (shape O) (shr_send a a' Q q, (heap_send, (shr_send b b' G h, (shr_send c c' _ book, tt)))))
+
+  -- a closure that takes the runtime, the allocator, the book and one thing more
+  pub taking_send : (T : RattleType) → IsSend T → (ν : Sym) (a b : Lifetime) (a' b' : Lft)
+      → IsSend (TupleAt ν (ShrRef a a' Q ∷ global.the_row ∷ ShrRef b b' (shared.the_row J S g) ∷ T ∷ []))
+  taking_send T t ν a b a' b' =
+      let O = type_at ν (ShrRef a a' Q ∷ global.the_row ∷ ShrRef b b' (shared.the_row J S g) ∷ T ∷ []) in
+      let book = shared_sync J S g j s in
+      recorded_send _ _ _ O.to_one (struct_send (shape O) (shr_send a a' Q q, (heap_send, (shr_send b b' _ book, (t, tt)))))

@@ -1,0 +1,99 @@
+//! The store in a thread of its own.
+ghost use Rattle.std.specs.Prelude.{◌≡◌, MatchResult};
+ghost use Rattle.overlay_server.specs.Keeping.{IsKept};
+
+use disk_model::disk::Disk;
+use flush_core::flusher::Flusher;
+use std::alloc::Global;
+use std::marker::PhantomData;
+use std::snapshot::Snapshot;
+use std::sync::Wait;
+use std::thread::{Promise, PromisedHandle, Scope, Threads};
+use store_flushing::flushing::flusher_loop;
+use version_book::reporter::Reporter;
+use version_book::seen_log::Naming;
+use version_book::shared::Shared;
+
+/// Who reports durable numbers, and the store that versions are written to, where there is one.
+#[derive(Drop)]
+pub struct Store<D: Disk> {
+    pub reporter: Reporter,
+    pub flusher: Option<Flusher<D>>,
+}
+
+/// What the store's thread promises: it committed versions of the book alone.
+#[derive(Drop)]
+pub struct KeepsStore<J: Naming, D: Disk> {
+    begun: Snapshot<Store<D>>,
+    of: PhantomData<J>,
+}
+
+impl<J: Naming, D: Disk> Promise<Store<D>> for KeepsStore<J, D> {
+    ghost use Rattle.overlay_server.specs.Keeping.{IsKept};
+
+    ghost kept_by = { λ p r. IsKept J.book D.Disk p.begun.value r };
+}
+
+/// Starts the thread of the store. Where it is refused the book closes, and the store comes back.
+pub fn start_store<
+    's,
+    E,
+    J: Naming + Send + Sync,
+    S: Wait + Drop + Send + 's,
+    Q: Threads + Wait + Sync,
+    D: Disk + Send + Drop + 's,
+>(
+    scope: &'s Scope<'s, E>,
+    rt: &'s Q,
+    alloc: Global,
+    shared: &'s Shared<J, S>,
+    store: Store<D>,
+) -> Result<PromisedHandle<Store<D>, KeepsStore<J, D>>, Store<D>>
+    requires { store.reporter.book ≡ J.book }
+    ensures { MatchResult result (λ h. h.promise.begun.value ≡ store) (λ after. IsKept J.book D.Disk store after) }
+{
+    let promise = KeepsStore {
+        begun: Snapshot::of(&store),
+        of: PhantomData,
+    };
+    let started = scope.spawn_with(
+        promise,
+        move || -> Store<D>
+            requires { store.reporter.book ≡ J.book }
+            ensures { IsKept J.book D.Disk store result }
+        { keep_store(rt, alloc, shared, store) },
+    );
+    match started {
+        Ok(handle) => Ok(handle),
+        Err(refused) => {
+            // In a book that closes the closure waits for nobody.
+            shared.begin_close(rt);
+            Err((refused.value)())
+        }
+    }
+}
+
+/// Commits what the book gives until it closes.
+pub fn keep_store<J: Naming, S: Wait + Drop, Q: Wait, D: Disk>(
+    rt: &Q,
+    alloc: Global,
+    shared: &Shared<J, S>,
+    store: Store<D>,
+) -> Store<D>
+    requires { store.reporter.book ≡ J.book }
+    ensures { IsKept J.book D.Disk store result }
+{
+    let Store {
+        mut reporter,
+        flusher,
+    } = store;
+    let flusher = match flusher {
+        Some(mut flusher) => {
+            flusher_loop(rt, alloc, shared, &mut reporter, &mut flusher);
+            Some(flusher)
+        }
+        None => None,
+    };
+    let _given = reporter.given();
+    Store { reporter, flusher }
+}

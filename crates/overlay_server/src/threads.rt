@@ -1,0 +1,136 @@
+//! The threads of a server: workers, the store, and a session for each reader.
+ghost use Rattle.std.specs.Prelude.{◌≡◌, All, length, IfSome};
+ghost use Rattle.std.specs.List.{AllZip};
+ghost use Rattle.overlay_server.specs.Rooms.{HasRooms};
+ghost use Rattle.overlay_server.specs.Running.{IsRunOf};
+ghost use Rattle.overlay_server.specs.Keeping.{IsKept};
+ghost use Rattle.version_book.specs.Store.{has_store};
+
+use crate::running::{Ended, Rooms, Script, run_sessions};
+use crate::storing::{Store, start_store};
+use disk_model::disk::Disk;
+use std::alloc::Global;
+use std::io::Read;
+use std::sync::Wait;
+use std::thread;
+use std::thread::{Scope, Threads};
+use tile_workers::gate::Gate;
+use tile_workers::worker::worker_loop;
+use version_book::seen_log::Naming;
+use version_book::shared::Shared;
+
+/// What the threads gave back: the store, and the sessions that have ended, where each thread could start.
+#[derive(Drop)]
+pub struct Returned<R, D: Disk> {
+    pub store: Store<D>,
+    pub ended: Option<Vec<Ended<R>>>,
+}
+
+/// Runs workers, the store and a session for each script in threads of their own, and takes them in. Where a thread is
+/// refused, the book closes, and the others end.
+pub fn run_threads<
+    J: Naming + Send + Sync,
+    S: Wait + Drop + Send,
+    G: Gate + Sync,
+    Q: Threads + Wait + Sync,
+    R: Read + Send + Drop,
+    D: Disk + Send + Drop,
+>(
+    rt: &Q,
+    alloc: Global,
+    gate: &G,
+    shared: &Shared<J, S>,
+    workers: usize,
+    store: Store<D>,
+    scripts: Vec<Script<R>>,
+    rooms: Rooms<J, R>,
+) -> Returned<R, D>
+    requires store { store.reporter.book ≡ J.book }
+    requires scripts { All (λ script. script.session.book ≡ J.book) scripts.items }
+    requires rooms { HasRooms rooms (length scripts.items) }
+    ensures store { IsKept J.book D.Disk store result.store }
+    ensures ended { IfSome result.ended (λ list. AllZip (λ script ended. IsRunOf J.book (has_store shared.now) R.remaining script ended) scripts.items list.items) }
+{
+    thread::scope(
+        thread::scope_env(),
+        rt,
+        |scope| -> Returned<R, D>
+            requires { (store.reporter.book ≡ J.book)
+                × All (λ script. script.session.book ≡ J.book) scripts.items × HasRooms rooms (length scripts.items) }
+            ensures { IsKept J.book D.Disk store result.store
+                × IfSome result.ended (λ list. AllZip (λ script ended. IsRunOf J.book (has_store shared.entry.now) R.remaining script ended) scripts.items list.items) }
+        {
+            run_in(
+                scope, rt, alloc, gate, shared, workers, store, scripts, rooms,
+            )
+        },
+    )
+}
+
+/// The same in a scope.
+fn run_in<
+    's,
+    E,
+    J: Naming + Send + Sync,
+    S: Wait + Drop + Send + 's,
+    G: Gate + Sync,
+    Q: Threads + Wait + Sync,
+    R: Read + Send + Drop + 's,
+    D: Disk + Send + Drop + 's,
+>(
+    scope: &'s Scope<'s, E>,
+    rt: &'s Q,
+    alloc: Global,
+    gate: &'s G,
+    shared: &'s Shared<J, S>,
+    workers: usize,
+    store: Store<D>,
+    scripts: Vec<Script<R>>,
+    rooms: Rooms<J, R>,
+) -> Returned<R, D>
+    requires store { store.reporter.book ≡ J.book }
+    requires scripts { All (λ script. script.session.book ≡ J.book) scripts.items }
+    requires rooms { HasRooms rooms (length scripts.items) }
+    ensures store { IsKept J.book D.Disk store result.store }
+    ensures ended { IfSome result.ended (λ list. AllZip (λ script ended. IsRunOf J.book (has_store shared.now) R.remaining script ended) scripts.items list.items) }
+{
+    let working = start_workers(scope, rt, alloc, gate, shared, workers);
+    let keeping = start_store(scope, rt, alloc, shared, store);
+    let mut ended = None;
+    if working && keeping.is_ok() {
+        ended = run_sessions(scope, rt, alloc, shared, scripts, rooms);
+    }
+    shared.begin_close(rt);
+    let store = match keeping {
+        Ok(handle) => handle.join(rt),
+        Err(store) => store,
+    };
+    Returned { store, ended }
+}
+
+/// Starts so many workers, and says whether each has its thread.
+fn start_workers<
+    's,
+    E,
+    J: Naming + Send + Sync,
+    S: Wait + Drop + Send + 's,
+    G: Gate + Sync,
+    Q: Threads + Wait + Sync,
+>(
+    scope: &'s Scope<'s, E>,
+    rt: &'s Q,
+    alloc: Global,
+    gate: &'s G,
+    shared: &'s Shared<J, S>,
+    workers: usize,
+) -> bool {
+    for _ in 0..workers {
+        if scope
+            .spawn(move || worker_loop(rt, alloc, gate, shared))
+            .is_err()
+        {
+            return false;
+        }
+    }
+    true
+}
