@@ -1,0 +1,49 @@
+//! The scripts that the program runs.
+use crate::fault::ProgramFault;
+use std::fs;
+use std::fs::File;
+use std::io;
+use std::io::{ErrorKind, Read, Stdin};
+use std::rt::Files;
+
+/// A script: standard input, or a file.
+#[derive(Drop)]
+pub enum Script {
+    Input(Stdin),
+    File(File),
+}
+
+impl Read for Script {
+    fn read(&mut self, buf: &mut [u8]) -> io::Result<usize> {
+        match self {
+            Script::Input(input) => input.read(buf),
+            Script::File(file) => file.read(buf),
+        }
+    }
+}
+
+/// Opens the scripts at these paths, in their order; without one there is the input alone. The fault is `Script` where
+/// one can't be opened for another reason than want of memory.
+pub fn open_scripts<Q: Files<File = File> + AllocGlobal>(
+    rt: &Q,
+    input: Stdin,
+    paths: &[String],
+) -> Result<Vec<Script>, ProgramFault> {
+    let mut scripts = Vec::new(rt.alloc());
+    if paths.is_empty() {
+        scripts.push(Script::Input(input))?;
+    }
+    for path in paths {
+        let file = open_script(rt, path)?;
+        scripts.push(Script::File(file))?;
+    }
+    Ok(scripts)
+}
+
+fn open_script<Q: Files<File = File>>(rt: &Q, path: &str) -> Result<File, ProgramFault> {
+    match fs::open(rt, path) {
+        Ok(file) => Ok(file),
+        Err(error) if error.kind() == ErrorKind::OutOfMemory => Err(ProgramFault::OutOfMemory),
+        Err(_) => Err(ProgramFault::Script),
+    }
+}
