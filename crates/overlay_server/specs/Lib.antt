@@ -1,0 +1,4 @@
+pub mod Keeping
+pub mod Running
+pub mod Seats
+pub mod Serving

@@ -1,0 +1,37 @@
+//! What a server is run with, and what it leaves.
+ghost use Rattle.std.specs.Prelude.{◌≤◌};
+
+use book_closing::closing::Closed;
+use script_form::SessionEnd;
+
+/// What a server is run with.
+#[derive(Clone, Copy, Debug, Drop)]
+pub struct ServeOptions {
+    /// How many threads build tiles: 1 to 8.
+    pub workers: usize,
+    pub ghost some: { 1 ≤ workers },
+    pub ghost few: { workers ≤ 8 },
+}
+
+/// What a session wrote, and how it ended.
+#[derive(Drop)]
+pub struct Outcome {
+    pub bytes: Vec<u8>,
+    pub end: SessionEnd,
+}
+
+/// What a server leaves: what each session wrote, in the order of the readers, and what is left of the book and its
+/// store.
+#[derive(Drop)]
+pub struct Served<D> {
+    pub sessions: Vec<Outcome>,
+    pub closed: Closed<D>,
+}
+
+/// Why a server could not run: 40 where memory or a thread was refused, 44 where the book gives no places.
+#[derive(Drop)]
+pub struct ServerFault<D> {
+    pub code: u8,
+    /// The disk, as the server left it. None without a store, or where the store's thread could not start.
+    pub disk: Option<D>,
+}

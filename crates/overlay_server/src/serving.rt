@@ -1,0 +1,190 @@
+//! A server: from readers and an engine to what the sessions wrote, and what is left of the book and its store.
+ghost use Rattle.std.specs.Prelude.{◌≡◌, ◌⊎◌, ◌<◌, ◌≤◌, ◌∷◌, [], All, length, IfOk, IfErr, IfSome};
+ghost use Rattle.book_history.specs.Logs.{entry, no_event};
+ghost use Rattle.overlay_terms.specs.Histories.{Version as Numbered};
+ghost use Rattle.book_history.specs.Rules.{head_of};
+ghost use Rattle.book_lock.specs.Steps.{beginners};
+ghost use Rattle.overlay_server.specs.Serving.{IsServedFrom, IsRefusedFrom, first_log, flusher_of, start_of};
+
+use crate::outcome::{ServeOptions, Served, ServerFault};
+use crate::seating::{parted, seated};
+use crate::storing::{Store, keep_store};
+use crate::threads::{Returned, run_threads};
+use book_closing::closing::close;
+use disk_model::disk::Disk;
+use flush_core::flusher::Flusher;
+use overlay_engine::engine::Engine;
+use std::alloc::Global;
+use std::io::Read;
+use std::marker::Brand;
+use std::sync::Wait;
+use std::thread::Threads;
+use tile_workers::gate::Gate;
+use version_book::seen_log::{Head, Naming, SeenLog, open};
+use version_book::session::Session;
+use version_book::shared::Shared;
+use version_core::version::Version;
+
+/// A book that is to be opened: the history of one version, and the store that it was read from.
+struct Opened<D: Disk> {
+    head: Head,
+    trace: SeenLog,
+    version: Version,
+    flusher: Option<Flusher<D>>,
+    ghost head_is: { head ≡ head_of trace.book },
+    ghost begun: { trace.log ≡ entry no_event version ∷ [] },
+}
+
+/// Runs workers, the store and one session a reader, each in a thread of its own, until all scripts have ended. Before
+/// it returns, every tile that was finished is in the store, unless a device call failed or the store is full.
+pub fn serve<
+    D: Disk + Send + Drop,
+    R: Read + Send + Drop,
+    G: Gate + Sync,
+    Q: Threads + Wait + Sync,
+>(
+    rt: &Q,
+    alloc: Global,
+    options: ServeOptions,
+    gate: &G,
+    engine: Option<Engine<D>>,
+    readers: Vec<R>,
+) -> Result<Served<D>, ServerFault<D>>
+    requires readers { (0 < length readers.items) × (length readers.items ≤ 4) }
+    ensures served { IfOk result (IsServedFrom R.remaining D.Disk (start_of engine) (flusher_of engine) readers.items) }
+    ensures refused { IfErr result (IsRefusedFrom D.Disk (start_of engine) (flusher_of engine)) }
+{
+    let opened = opened(alloc, engine);
+    serve_in::<Brand, D, R, G, Q>(rt, alloc, options, gate, opened, readers)
+}
+
+/// The book of an engine, or of no command where there is none, before it is opened.
+fn opened<D: Disk>(alloc: Global, engine: Option<Engine<D>>) -> Opened<D>
+    ensures version { result.version ≡ start_of engine }
+    ensures flusher { result.flusher ≡ flusher_of engine }
+{
+    let (version, flusher) = match engine {
+        Some(engine) => {
+            let (version, flusher) = engine.into_parts();
+            (version, Some(flusher))
+        }
+        None => (Version::empty(alloc), None),
+    };
+    let (head, trace) = open(&version);
+    Opened {
+        head,
+        trace,
+        version,
+        flusher,
+    }
+}
+
+/// The server of a book that is named by its history.
+fn serve_in<
+    J: Naming + Send + Sync,
+    D: Disk + Send + Drop,
+    R: Read + Send + Drop,
+    G: Gate + Sync,
+    Q: Threads + Wait + Sync,
+>(
+    rt: &Q,
+    alloc: Global,
+    options: ServeOptions,
+    gate: &G,
+    opened: Opened<D>,
+    readers: Vec<R>,
+) -> Result<Served<D>, ServerFault<D>>
+    requires book { opened.trace.book ≡ J.book }
+    requires readers { (0 < length readers.items) × (length readers.items ≤ 4) }
+    ensures served { IfOk result (IsServedFrom R.remaining D.Disk opened.version opened.flusher readers.items) }
+    ensures refused { IfErr result (IsRefusedFrom D.Disk opened.version opened.flusher) }
+{
+    let Opened {
+        head,
+        trace,
+        version,
+        flusher,
+    } = opened;
+    let store = flusher.is_some();
+    let sessions = readers.len();
+    match Shared::<J, &Q>::start(rt, alloc, head, trace, version, store, sessions) {
+        Ok((shared, reporter, sessions)) => {
+            let store = Store { reporter, flusher };
+            run_book(rt, alloc, options, gate, shared, store, sessions, readers)
+        }
+        Err(fault) => Err(ServerFault {
+            code: fault.code(),
+            disk: disk_of(flusher),
+        }),
+    }
+}
+
+/// The server of a book that was just opened.
+fn run_book<
+    J: Naming + Send + Sync,
+    D: Disk + Send + Drop,
+    R: Read + Send + Drop,
+    G: Gate + Sync,
+    Q: Threads + Wait + Sync,
+>(
+    rt: &Q,
+    alloc: Global,
+    options: ServeOptions,
+    gate: &G,
+    shared: Shared<J, &Q>,
+    store: Store<D>,
+    sessions: Vec<Session>,
+    readers: Vec<R>,
+) -> Result<Served<D>, ServerFault<D>>
+    ghost start: { Numbered }
+    requires reporter { (store.reporter.book ≡ J.book) × (store.reporter.log ≡ first_log start) }
+    requires sessions { sessions.items ≡ beginners (record { book = J.book; log = first_log start }) (length readers.items) }
+    ensures served { IfOk result (IsServedFrom R.remaining D.Disk start store.flusher readers.items) }
+    ensures refused { IfErr result (IsRefusedFrom D.Disk start store.flusher) }
+{
+    let Some(scripts) = seated(alloc, sessions, readers) else {
+        return Err(refused(store.flusher));
+    };
+    let Returned { store, ended } = run_threads(
+        rt,
+        alloc,
+        gate,
+        &shared,
+        options.workers,
+        store,
+        scripts,
+    );
+    let Some(store) = store else {
+        return Err(refused(None));
+    };
+    // What was finished after the last commit is committed now that the workers have returned.
+    let Store { reporter, flusher } = keep_store(rt, alloc, &shared, store);
+    let Some(ended) = ended else {
+        return Err(refused(flusher));
+    };
+    let Some((sessions, outcomes)) = parted(alloc, ended) else {
+        return Err(refused(flusher));
+    };
+    let closed = close(rt, shared, reporter, flusher, sessions);
+    Ok(Served {
+        sessions: outcomes,
+        closed,
+    })
+}
+
+/// No memory, or no thread: the disk comes back.
+fn refused<D: Disk>(flusher: Option<Flusher<D>>) -> ServerFault<D> {
+    ServerFault {
+        code: 40,
+        disk: disk_of(flusher),
+    }
+}
+
+fn disk_of<D: Disk>(flusher: Option<Flusher<D>>) -> Option<D>
+    ensures { MatchOption flusher (result ≡ None) (λ f. result ≡ Some f.commit.disk) }
+{
+    match flusher {
+        Some(flusher) => Some(flusher.into_disk()),
+        None => None,
+    }
+}
