@@ -4,8 +4,8 @@ use Rattle.std.specs.List.{list_all}
 use Rattle.std.proofs.lemmas.Bool.{and_parts, or_from, or_left, or_right, not-true, cond-true, cond-false, true≢false, lt-leb, ne_eqb}
 use Rattle.overlay_terms.specs.Blank.{is_blank}
 use Rattle.script_form.specs.Lines.{line_max, is_gap, is_too_long, begins_comment}
-use Rattle.script_form.specs.Requests.{Request, nothing, too_long, malformed, put, define, remove, locate, list_layers, edges, wait, verify, sync, is_word_byte, is_name_side, is_empty, begins, number_of, skip_while, words_of, behind_first_word, by_words, put_of, define_of, behind_sign, located, edges_at, verify_at, numbered, request_of}
-use Rattle.script_form.specs.Shapes.{IsShort, AreGaps, ArePartingGaps, AreSome, IsWord, IsBlankOrComment, IsPutLine, IsDefineLine, IsDropLine, IsWholePointLine, IsPointLine, IsLocateLine, IsLayersLine, IsWaitLine, IsSyncLine, IsColumnLine, IsShapeOf}
+use Rattle.script_form.specs.Requests.{Request, nothing, too_long, malformed, put, define, remove, locate, grid, list_layers, edges, wait, verify, sync, is_word_byte, is_name_side, is_empty, begins, number_of, skip_while, words_of, behind_first_word, by_words, put_of, define_of, behind_sign, located, gridded, edges_at, verify_at, numbered, request_of}
+use Rattle.script_form.specs.Shapes.{IsShort, AreGaps, ArePartingGaps, AreSome, IsWord, IsBlankOrComment, IsPutLine, IsDefineLine, IsDropLine, IsWholePointLine, IsPointLine, IsLocateLine, IsGridLine, IsLayersLine, IsWaitLine, IsSyncLine, IsColumnLine, IsShapeOf}
 use Rattle.script_form.specs.Laws as laws
 use Rattle.script_form.proofs.ShapeLemmas.{skip_front, take_front, begins_some, begins_gap, begins_word, some_bytes, words_of-gaps, words_of-word, begins_no_comment, asked, asked_line, line_words, skipped}
 use Rattle.script_form.proofs.ShapeFrom.{made_of, Asks, tells}
@@ -36,6 +36,15 @@ point_read name x y w line short is =
 locate_read : (name : List ℕ) (x y w : ℤ) (line : List ℕ) → IsShort line → IsLocateLine name x y w line → request_of line ≡ locate name x y w
 locate_read name x y w line short (inl (is, one)) = whole_read name x y line short is ∙ ap (locate name x y) (sym one)
 locate_read name x y w line short (inr is) = point_read name x y w line short is
+
+grid_read : (name : List ℕ) (x y step nx ny : ℤ) (line : List ℕ) → IsShort line → IsGridLine name x y step nx ny line → request_of line ≡ grid name x y step nx ny
+grid_read name x y step nx ny line short is =
+    asked_line line (codes "GRID") (name ∷ is.across ∷ is.up ∷ is.pace ∷ is.wide ∷ is.high ∷ []) short is.words refl
+    ∙ ap (λ o. gridded name o (number_of is.up) (number_of is.pace) (number_of is.wide) (number_of is.high)) is.x_is
+    ∙ ap (λ o. gridded name (Some x) o (number_of is.pace) (number_of is.wide) (number_of is.high)) is.y_is
+    ∙ ap (λ o. gridded name (Some x) (Some y) o (number_of is.wide) (number_of is.high)) is.step_is
+    ∙ ap (λ o. gridded name (Some x) (Some y) (Some step) o (number_of is.high)) is.nx_is
+    ∙ ap (λ o. gridded name (Some x) (Some y) (Some step) (Some nx) o) is.ny_is
 
 layers_read : (line : List ℕ) → IsShort line → IsLayersLine line → request_of line ≡ list_layers
 layers_read line short is = asked_line line (codes "LAYERS") [] short is refl
@@ -173,6 +182,9 @@ drop_line name line = (λ h. drop_read name line h.0 h.1, back line (remove name
 pub locate_line : laws.LocateLine
 locate_line name x y w line = (λ h. locate_read name x y w line h.0 h.1, back line (locate name x y w))
 
+pub grid_line : laws.GridLine
+grid_line name x y step nx ny line = (λ h. grid_read name x y step nx ny line h.0 h.1, back line (grid name x y step nx ny))
+
 pub layers_line : laws.LayersLine
 layers_line line = (λ h. layers_read line h.0 h.1, back line list_layers)
 
@@ -199,6 +211,7 @@ shaped line (put name text) short is = put_read name text line short is
 shaped line (define name text) short is = define_read name text line short is
 shaped line (remove name) short is = drop_read name line short is
 shaped line (locate name x y w) short is = locate_read name x y w line short is
+shaped line (grid name x y step nx ny) short is = grid_read name x y step nx ny line short is
 shaped line list_layers short is = layers_read line short is
 shaped line (edges name column) short is = edges_read name column line short is
 shaped line (wait name) short is = wait_read name line short is
@@ -213,6 +226,7 @@ is_malformed (put name text) = false
 is_malformed (define name text) = false
 is_malformed (remove name) = false
 is_malformed (locate name x y w) = false
+is_malformed (grid name x y step nx ny) = false
 is_malformed list_layers = false
 is_malformed (edges name column) = false
 is_malformed (wait name) = false
@@ -228,6 +242,7 @@ well_formed line (put name text) is = refl
 well_formed line (define name text) is = refl
 well_formed line (remove name) is = refl
 well_formed line (locate name x y w) is = refl
+well_formed line (grid name x y step nx ny) is = refl
 well_formed line list_layers is = refl
 well_formed line (edges name column) is = refl
 well_formed line (wait name) is = refl
@@ -247,6 +262,7 @@ none_else line (put name text) short none asks = absurd (none (put name text) as
 none_else line (define name text) short none asks = absurd (none (define name text) asks.1)
 none_else line (remove name) short none asks = absurd (none (remove name) asks.1)
 none_else line (locate name x y w) short none asks = absurd (none (locate name x y w) asks.1)
+none_else line (grid name x y step nx ny) short none asks = absurd (none (grid name x y step nx ny) asks.1)
 none_else line list_layers short none asks = absurd (none list_layers asks.1)
 none_else line (edges name column) short none asks = absurd (none (edges name column) asks.1)
 none_else line (wait name) short none asks = absurd (none (wait name) asks.1)

@@ -1,7 +1,7 @@
 -- What worked lines ask for, and the lines of worked scripts.
 use Rattle.std.proofs.Common.{◌≡◌, pos, negsuc, Some, None, [], ◌∷◌, refl, codes}
 use Rattle.script_form.specs.Lines.{ended_lines, whole_lines}
-use Rattle.script_form.specs.Requests.{nothing, malformed, put, define, remove, locate, list_layers, edges, wait, verify, sync, number_of, request_of}
+use Rattle.script_form.specs.Requests.{nothing, malformed, put, define, remove, locate, grid, list_layers, edges, wait, verify, sync, number_of, request_of}
 
 a_text_runs_to_the_end_of_its_line : request_of (codes "PUT A POLYGON  EMPTY ") ≡ put (codes "A") (codes "POLYGON  EMPTY ")
 a_text_runs_to_the_end_of_its_line = refl
@@ -44,6 +44,18 @@ a_point_has_no_fourth_number = refl
 
 a_point_has_two_numbers : request_of (codes "LOCATE I 1") ≡ malformed
 a_point_has_two_numbers = refl
+
+a_grid_has_five_numbers : request_of (codes "GRID I 0 -2 2 4 4") ≡ grid (codes "I") (pos 0) (negsuc 1) (pos 2) (pos 4) (pos 4)
+a_grid_has_five_numbers = refl
+
+a_grid_has_no_sixth_number : request_of (codes "GRID I 0 0 2 4 4 4") ≡ malformed
+a_grid_has_no_sixth_number = refl
+
+a_grid_has_no_four_numbers : request_of (codes "GRID I 0 0 2 4") ≡ malformed
+a_grid_has_no_four_numbers = refl
+
+a_grid_is_of_numbers_alone : request_of (codes "GRID I 0 0 2 4 high") ≡ malformed
+a_grid_is_of_numbers_alone = refl
 
 layers_stands_alone : request_of (codes "LAYERS") ≡ list_layers
 layers_stands_alone = refl

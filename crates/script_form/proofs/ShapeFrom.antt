@@ -7,8 +7,8 @@ use Rattle.std.proofs.lemmas.List.{take-append-drop}
 use Rattle.overlay_terms.specs.Blank.{is_blank}
 use Rattle.overlay_terms.proofs.NameLemmas.{same_name}
 use Rattle.script_form.specs.Lines.{line_max, is_gap, is_too_long, is_skipped, begins_comment}
-use Rattle.script_form.specs.Requests.{Request, nothing, too_long, malformed, put, define, remove, locate, list_layers, edges, wait, verify, sync, is_word_byte, is_name_side, is_empty, begins, number_of, skip_while, words_of, behind_first_word, by_words, put_of, define_of, behind_sign, located, locate_of, remove_of, list_of, wait_of, sync_of, numbered, name_and_number, edges_at, verify_at, about_tiles, request_of}
-use Rattle.script_form.specs.Shapes.{IsShort, AreGaps, ArePartingGaps, IsWord, IsLineOf, IsBlankOrComment, IsPutLine, IsDefineLine, IsDropLine, IsLocateLine, IsLayersLine, IsWaitLine, IsSyncLine, IsColumnLine}
+use Rattle.script_form.specs.Requests.{Request, nothing, too_long, malformed, put, define, remove, locate, grid, list_layers, edges, wait, verify, sync, is_word_byte, is_name_side, is_empty, begins, number_of, skip_while, words_of, behind_first_word, by_words, put_of, define_of, behind_sign, located, locate_of, gridded, grid_of, remove_of, list_of, wait_of, sync_of, numbered, name_and_number, edges_at, verify_at, about_tiles, request_of}
+use Rattle.script_form.specs.Shapes.{IsShort, AreGaps, ArePartingGaps, IsWord, IsLineOf, IsBlankOrComment, IsPutLine, IsDefineLine, IsDropLine, IsLocateLine, IsGridLine, IsLayersLine, IsWaitLine, IsSyncLine, IsColumnLine}
 use Rattle.script_form.proofs.WordLemmas.{prefix_more, prefix_none, no_word, some_word}
 use Rattle.script_form.proofs.ShapeLemmas.{take_front}
 
@@ -164,6 +164,7 @@ Asks (put name text) line = IsShort line × IsPutLine name text line
 Asks (define name text) line = IsShort line × IsDefineLine name text line
 Asks (remove name) line = IsShort line × IsDropLine name line
 Asks (locate name x y w) line = IsShort line × IsLocateLine name x y w line
+Asks (grid name x y step nx ny) line = IsShort line × IsGridLine name x y step nx ny line
 Asks list_layers line = IsShort line × IsLayersLine line
 Asks (edges name column) line = IsShort line × IsColumnLine (codes "EDGES") name column line
 Asks (wait name) line = IsShort line × IsWaitLine name line
@@ -296,6 +297,28 @@ module _ (line : List ℕ) (short : IsShort line) where
   locate_tells (name ∷ x ∷ y ∷ w ∷ []) is = point_tells name x y w is (number_of x) (number_of y) (number_of w) refl refl refl
   locate_tells (name ∷ x ∷ y ∷ w ∷ next ∷ words) is = short
 
+  -- a grid's numbers
+  gridded_tells : (name x y step nx ny : List ℕ) → IsLineOf (codes "GRID" ∷ name ∷ x ∷ y ∷ step ∷ nx ∷ ny ∷ []) line → (a b c d e : Option ℤ)
+      → number_of x ≡ a → number_of y ≡ b → number_of step ≡ c → number_of nx ≡ d → number_of ny ≡ e → Asks (gridded name a b c d e) line
+  gridded_tells name x y step nx ny is (Some a) (Some b) (Some c) (Some d) (Some e) p q r s t =
+      (short, record { across = x; up = y; pace = step; wide = nx; high = ny; words = is; x_is = p; y_is = q; step_is = r; nx_is = s; ny_is = t })
+  gridded_tells name x y step nx ny is (Some a) (Some b) (Some c) (Some d) None p q r s t = short
+  gridded_tells name x y step nx ny is (Some a) (Some b) (Some c) None e p q r s t = short
+  gridded_tells name x y step nx ny is (Some a) (Some b) None d e p q r s t = short
+  gridded_tells name x y step nx ny is (Some a) None c d e p q r s t = short
+  gridded_tells name x y step nx ny is None b c d e p q r s t = short
+
+  grid_tells : (words : List (List ℕ)) → IsLineOf (codes "GRID" ∷ words) line → Asks (grid_of words) line
+  grid_tells [] is = short
+  grid_tells (name ∷ []) is = short
+  grid_tells (name ∷ x ∷ []) is = short
+  grid_tells (name ∷ x ∷ y ∷ []) is = short
+  grid_tells (name ∷ x ∷ y ∷ step ∷ []) is = short
+  grid_tells (name ∷ x ∷ y ∷ step ∷ nx ∷ []) is = short
+  grid_tells (name ∷ x ∷ y ∷ step ∷ nx ∷ ny ∷ []) is =
+      gridded_tells name x y step nx ny is (number_of x) (number_of y) (number_of step) (number_of nx) (number_of ny) refl refl refl refl refl
+  grid_tells (name ∷ x ∷ y ∷ step ∷ nx ∷ ny ∷ next ∷ words) is = short
+
   edges_tells : (words : List (List ℕ)) → IsLineOf (codes "EDGES" ∷ words) line → Asks (edges_at (name_and_number words)) line
   edges_tells [] is = short
   edges_tells (name ∷ []) is = short
@@ -335,8 +358,9 @@ module _ (line : List ℕ) (short : IsShort line) where
       (λ _. either (λ r. Asks r line) (bytes_eq word (codes "DEFINE")) _ _ (λ e. define_tells (begun_by word (codes "DEFINE") words is e))
       (λ _. either (λ r. Asks r line) (bytes_eq word (codes "DROP")) _ _ (λ e. drop_tells words (of_command word (codes "DROP") words is e))
       (λ _. either (λ r. Asks r line) (bytes_eq word (codes "LOCATE")) _ _ (λ e. locate_tells words (of_command word (codes "LOCATE") words is e))
+      (λ _. either (λ r. Asks r line) (bytes_eq word (codes "GRID")) _ _ (λ e. grid_tells words (of_command word (codes "GRID") words is e))
       (λ _. either (λ r. Asks r line) (bytes_eq word (codes "LAYERS")) _ _ (λ e. layers_tells words (of_command word (codes "LAYERS") words is e))
-      (λ _. tiles_tell word words is)))))
+      (λ _. tiles_tell word words is))))))
 
 -- a line that begins with `#` is a comment
 comment_is : (line : List ℕ) → begins_comment line ≡ true → (text : List ℕ) × (line ≡ 35 ∷ text)

@@ -4,6 +4,9 @@ use Rattle.wkt_form.specs.Fault as wkt
 use Rattle.layer_expr.specs.Fault as expr
 use Rattle.exact_point.specs.Fault as point
 use Rattle.version_core.specs.Fault as version
+use Rattle.version_core.specs.declared.fault.VersionFault.TheVariants.{Layer}
+use Rattle.overlay_grid.specs.declared.fault.GridFault.{GridFault}
+use Rattle.overlay_grid.specs.declared.fault.GridFault.TheVariants as picture
 use Rattle.script_form.specs.declared.fault.CommandFault.{CommandFault}
 use Rattle.script_form.specs.declared.fault.CommandFault.TheVariants.{Wkt, Expression, Query, Version, Device, Full, StoreFailed, SequenceLimit, OutOfMemory, CommandSyntax, LineTooLong, Closing, Gone, GridSize, NoStore, ReadLimit, Read, Write}
 
@@ -48,3 +51,9 @@ text_of NoStore = codes "no store"
 text_of ReadLimit = codes "read limit"
 text_of Read = codes "read"
 text_of Write = codes "write"
+
+-- the fault of a picture, as a reply tells it
+abbrev pub of_grid : GridFault → CommandFault
+of_grid picture.GridSize = GridSize
+of_grid (picture.Layer fault) = Version (Layer fault)
+of_grid (picture.Point fault) = Query fault

@@ -2,8 +2,8 @@
 use Rattle.std.specs.Prelude.{◌≡◌, ℕ, ℤ, ◌<◌, ◌==◌, ◌↔◌, not, IsTrue, List, [], ◌∷◌, ◌++◌, length, codes}
 use Rattle.std.specs.List.{list_all}
 use Rattle.script_form.specs.Lines.{line_max, pieces_of}
-use Rattle.script_form.specs.Requests.{Request, nothing, too_long, malformed, put, define, remove, locate, list_layers, edges, wait, verify, sync, words_of, request_of}
-use Rattle.script_form.specs.Shapes.{IsShort, IsLineOf, IsBlankOrComment, IsPutLine, IsDefineLine, IsDropLine, IsLocateLine, IsLayersLine, IsWaitLine, IsSyncLine, IsColumnLine, IsShapeOf}
+use Rattle.script_form.specs.Requests.{Request, nothing, too_long, malformed, put, define, remove, locate, grid, list_layers, edges, wait, verify, sync, words_of, request_of}
+use Rattle.script_form.specs.Shapes.{IsShort, IsLineOf, IsBlankOrComment, IsPutLine, IsDefineLine, IsDropLine, IsLocateLine, IsGridLine, IsLayersLine, IsWaitLine, IsSyncLine, IsColumnLine, IsShapeOf}
 
 -- pieces, with a line feed between each two
 abbrev pub joined : List (List ℕ) → List ℕ
@@ -43,6 +43,10 @@ DropLine = (name line : List ℕ) → (IsShort line × IsDropLine name line) ↔
 
 abbrev pub LocateLine : Type 0
 LocateLine = (name : List ℕ) (x y w : ℤ) (line : List ℕ) → (IsShort line × IsLocateLine name x y w line) ↔ (request_of line ≡ locate name x y w)
+
+abbrev pub GridLine : Type 0
+GridLine =
+    (name : List ℕ) (x y step nx ny : ℤ) (line : List ℕ) → (IsShort line × IsGridLine name x y step nx ny line) ↔ (request_of line ≡ grid name x y step nx ny)
 
 abbrev pub LayersLine : Type 0
 LayersLine = (line : List ℕ) → (IsShort line × IsLayersLine line) ↔ (request_of line ≡ list_layers)

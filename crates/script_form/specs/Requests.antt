@@ -5,7 +5,7 @@ use Rattle.std.specs.Char.{is_ascii_digit}
 use Rattle.overlay_terms.specs.Blank.{is_blank}
 use Rattle.script_form.specs.Lines.{is_gap, is_skipped, is_too_long}
 
--- a request: a name and a text, a name, a point with its denominator, a name and a column's number, or no more than its word
+-- a request: a name and a text, a name, a point with its denominator, a grid, a name and a column's number, or no more than its word
 pub data Request : Type 0 where
   nothing : Request
   too_long : Request
@@ -14,6 +14,7 @@ pub data Request : Type 0 where
   define : List ℕ → List ℕ → Request
   remove : List ℕ → Request
   locate : List ℕ → ℤ → ℤ → ℤ → Request
+  grid : List ℕ → ℤ → ℤ → ℤ → ℤ → ℤ → Request
   list_layers : Request
   edges : List ℕ → ℤ → Request
   wait : List ℕ → Request
@@ -106,6 +107,19 @@ locate_of (name ∷ x ∷ y ∷ []) = located name (number_of x) (number_of y) (
 locate_of (name ∷ x ∷ y ∷ w ∷ []) = located name (number_of x) (number_of y) (number_of w)
 locate_of other = malformed
 
+-- GRID: a name, x and y of the first point, the step, and how many points stand in a row and in a column
+abbrev pub gridded : List ℕ → Option ℤ → Option ℤ → Option ℤ → Option ℤ → Option ℤ → Request
+gridded name (Some x) (Some y) (Some step) (Some nx) (Some ny) = grid name x y step nx ny
+gridded name (Some x) (Some y) (Some step) (Some nx) None = malformed
+gridded name (Some x) (Some y) (Some step) None ny = malformed
+gridded name (Some x) (Some y) None nx ny = malformed
+gridded name (Some x) None step nx ny = malformed
+gridded name None y step nx ny = malformed
+
+abbrev pub grid_of : List (List ℕ) → Request
+grid_of (name ∷ x ∷ y ∷ step ∷ nx ∷ ny ∷ []) = gridded name (number_of x) (number_of y) (number_of step) (number_of nx) (number_of ny)
+grid_of other = malformed
+
 abbrev pub remove_of : List (List ℕ) → Request
 remove_of (name ∷ []) = remove name
 remove_of other = malformed
@@ -155,7 +169,8 @@ by_words (word ∷ words) rest =
     else (if bytes_eq word (codes "DEFINE") then define_of rest
     else (if bytes_eq word (codes "DROP") then remove_of words
     else (if bytes_eq word (codes "LOCATE") then locate_of words
-    else (if bytes_eq word (codes "LAYERS") then list_of words else about_tiles word words))))
+    else (if bytes_eq word (codes "GRID") then grid_of words
+    else (if bytes_eq word (codes "LAYERS") then list_of words else about_tiles word words)))))
 
 abbrev pub request_of : List ℕ → Request
 request_of line =

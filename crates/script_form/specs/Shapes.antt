@@ -3,7 +3,7 @@ use Rattle.std.specs.Prelude.{◌≡◌, ℕ, ℤ, pos, ◌<◌, ◌≤◌, ◌�
 use Rattle.std.specs.List.{list_all}
 use Rattle.overlay_terms.specs.Blank.{is_blank}
 use Rattle.script_form.specs.Lines.{line_max, is_gap}
-use Rattle.script_form.specs.Requests.{Request, nothing, too_long, malformed, put, define, remove, locate, list_layers, edges, wait, verify, sync, is_word_byte, is_name_side, number_of, begins}
+use Rattle.script_form.specs.Requests.{Request, nothing, too_long, malformed, put, define, remove, locate, grid, list_layers, edges, wait, verify, sync, is_word_byte, is_name_side, number_of, begins}
 
 -- not too long
 abbrev pub IsShort : List ℕ → Type 0
@@ -98,6 +98,20 @@ pub record IsPointLine (name : List ℕ) (x y w : ℤ) (line : List ℕ) : Type 
 abbrev pub IsLocateLine : List ℕ → ℤ → ℤ → ℤ → List ℕ → Type 0
 IsLocateLine name x y w line = (IsWholePointLine name x y line × (w ≡ pos 1)) ⊎ IsPointLine name x y w line
 
+-- GRID, a name and five numbers: the first point, the step, and how many points stand in a row and in a column
+pub record IsGridLine (name : List ℕ) (x y step nx ny : ℤ) (line : List ℕ) : Type 0 where
+  pub across : List ℕ
+  pub up : List ℕ
+  pub pace : List ℕ
+  pub wide : List ℕ
+  pub high : List ℕ
+  pub words : IsLineOf (codes "GRID" ∷ name ∷ across ∷ up ∷ pace ∷ wide ∷ high ∷ []) line
+  pub x_is : number_of across ≡ Some x
+  pub y_is : number_of up ≡ Some y
+  pub step_is : number_of pace ≡ Some step
+  pub nx_is : number_of wide ≡ Some nx
+  pub ny_is : number_of high ≡ Some ny
+
 -- LAYERS alone
 abbrev pub IsLayersLine : List ℕ → Type 0
 IsLayersLine line = IsLineOf (codes "LAYERS" ∷ []) line
@@ -125,6 +139,7 @@ IsShapeOf (put name text) line = IsPutLine name text line
 IsShapeOf (define name text) line = IsDefineLine name text line
 IsShapeOf (remove name) line = IsDropLine name line
 IsShapeOf (locate name x y w) line = IsLocateLine name x y w line
+IsShapeOf (grid name x y step nx ny) line = IsGridLine name x y step nx ny line
 IsShapeOf list_layers line = IsLayersLine line
 IsShapeOf (edges name column) line = IsColumnLine (codes "EDGES") name column line
 IsShapeOf (wait name) line = IsWaitLine name line

@@ -1,11 +1,12 @@
 //! Why a line is refused, or a session ends early.
 ghost use Rattle.std.specs.Prelude.{◌≡◌, Some};
-ghost use Rattle.script_form.specs.Fault.{code_of, text_of};
+ghost use Rattle.script_form.specs.Fault.{code_of, of_grid, text_of};
 ghost use Rattle.script_form.specs.declared.fault.CommandFault.TheVariants.{Wkt, Expression, Query, Version, OutOfMemory};
 
 use crate::fault_text::{FaultText, fault_text};
 use exact_point::PointFault;
 use layer_expr::fault::ExprFault;
+use overlay_grid::GridFault;
 use std::alloc::AllocError;
 use std::fmt;
 use thiserror::Error;
@@ -110,6 +111,18 @@ impl From<VersionFault> for CommandFault {
 
     fn from(fault: VersionFault) -> CommandFault {
         CommandFault::Version(fault)
+    }
+}
+
+impl From<GridFault> for CommandFault {
+    ghost from_gives = { λ fault e. e ≡ of_grid fault };
+
+    fn from(fault: GridFault) -> CommandFault {
+        match fault {
+            GridFault::GridSize => CommandFault::GridSize,
+            GridFault::Layer(fault) => CommandFault::Version(VersionFault::Layer(fault)),
+            GridFault::Point(fault) => CommandFault::Query(fault),
+        }
     }
 }
 

@@ -1,5 +1,5 @@
 //! Laws of lines, and of what they ask for.
-ghost use Rattle.script_form.specs.Laws.{PiecesJoinToTheBytes, NoPieceHasALineFeed, WordsAreRead, LongLine, SkippedLine, PutLine, DefineLine, DropLine, LocateLine, LayersLine, WaitLine, SyncLine, EdgesLine, VerifyLine, MalformedLine};
+ghost use Rattle.script_form.specs.Laws.{PiecesJoinToTheBytes, NoPieceHasALineFeed, WordsAreRead, LongLine, SkippedLine, PutLine, DefineLine, DropLine, LocateLine, GridLine, LayersLine, WaitLine, SyncLine, EdgesLine, VerifyLine, MalformedLine};
 
 /// The pieces of a script, joined by line feeds, are its bytes, and none of them has a line feed.
 pub fn pieces_law()
@@ -40,6 +40,11 @@ pub fn drop_law()
 /// What LOCATE asks for, by two numbers and by three, and that no other line asks for it.
 pub fn locate_law()
     ensures { LocateLine }
+{}
+
+/// What GRID asks for, and that no other line asks for it.
+pub fn grid_law()
+    ensures { GridLine }
 {}
 
 /// What LAYERS asks for, and that no other line asks for it.

@@ -2,7 +2,7 @@
 ghost use Rattle.std.specs.Prelude.{◌≡◌, bytes_eq, option_map};
 ghost use Rattle.std.specs.List.{list_all};
 ghost use Rattle.script_form.specs.Lines.{is_skipped, begins_comment, is_gap};
-ghost use Rattle.script_form.specs.Requests.{request_of, by_words, words_of, behind_first_word, put_of, define_of, behind_sign, remove_of, locate_of, list_of, located, about_tiles, edges_at, verify_at, name_and_number, wait_of, sync_of};
+ghost use Rattle.script_form.specs.Requests.{request_of, by_words, words_of, behind_first_word, put_of, define_of, behind_sign, remove_of, locate_of, list_of, located, grid_of, gridded, about_tiles, edges_at, verify_at, name_and_number, wait_of, sync_of};
 ghost use Rattle.script_form.specs.Request.{request};
 
 use crate::number::number_of;
@@ -25,6 +25,8 @@ pub enum Request<'a> {
     Remove(&'a [u8]),
     /// A name, and x, y and w of a point.
     Locate(&'a [u8], i64, i64, i64),
+    /// A name, x and y of a grid's first point, its step, and how many points stand in a row and in a column.
+    Grid(&'a [u8], i64, i64, i64, i64, i64),
     ListLayers,
     /// A name and the number of a column.
     Edges(&'a [u8], i64),
@@ -87,6 +89,9 @@ fn by_words(line: &[u8]) -> Request<'_>
     }
     if is_word(word, b"LOCATE") {
         return locate_of(rest);
+    }
+    if is_word(word, b"GRID") {
+        return grid_of(rest);
     }
     if is_word(word, b"LAYERS") {
         return list_of(rest);
@@ -243,6 +248,52 @@ fn located(name: &[u8], x: Option<i64>, y: Option<i64>, w: Option<i64>) -> Reque
 {
     match (x, y, w) {
         (Some(x), Some(y), Some(w)) => Request::Locate(name, x, y, w),
+        _ => Request::Malformed,
+    }
+}
+
+fn grid_of(rest: &[u8]) -> Request<'_>
+    ensures { request result ≡ grid_of (words_of rest.now) }
+{
+    let Some((name, rest)) = first_word(rest) else {
+        return Request::Malformed;
+    };
+    let Some((x, rest)) = first_word(rest) else {
+        return Request::Malformed;
+    };
+    let Some((y, rest)) = first_word(rest) else {
+        return Request::Malformed;
+    };
+    let Some((step, rest)) = first_word(rest) else {
+        return Request::Malformed;
+    };
+    let Some((nx, rest)) = first_word(rest) else {
+        return Request::Malformed;
+    };
+    let Some((ny, rest)) = first_word(rest) else {
+        return Request::Malformed;
+    };
+    if first_word(rest).is_some() {
+        return Request::Malformed;
+    }
+    let (x, y, step) = (number_of(x), number_of(y), number_of(step));
+    gridded(name, x, y, step, number_of(nx), number_of(ny))
+}
+
+fn gridded(
+    name: &[u8],
+    x: Option<i64>,
+    y: Option<i64>,
+    step: Option<i64>,
+    nx: Option<i64>,
+    ny: Option<i64>,
+) -> Request<'_>
+    ensures { request result ≡ gridded name.now x y step nx ny }
+{
+    match (x, y, step, nx, ny) {
+        (Some(x), Some(y), Some(step), Some(nx), Some(ny)) => {
+            Request::Grid(name, x, y, step, nx, ny)
+        }
         _ => Request::Malformed,
     }
 }

@@ -1,38 +1,42 @@
 -- What is answered to each request, from what its name and text are read as and what the book makes of it.
-use Rattle.std.proofs.Common.{◌≡◌, ℕ, ℤ, true, false, Bool, IsTrue, List, [], ◌∷◌, ◌++◌, Option, Some, None, refl, sym, ap, subst, ◌∙◌, ◌⊎◌, inl, inr, append-nil}
+use Rattle.std.proofs.Common.{◌≡◌, ℕ, ℤ, Bool, true, false, IsTrue, List, [], ◌∷◌, ◌++◌, Option, Some, None, refl, sym, ap, subst, ◌∙◌, ◌⊎◌, inl, inr, append-nil}
 use Rattle.std.specs.Option.{option_map}
 use Rattle.std.proofs.lemmas.Bool.{false≢true}
 use Rattle.overlay_terms.specs.Plane.{Point}
 use Rattle.overlay_terms.specs.Layers.{Location, answer_at}
 use Rattle.overlay_terms.specs.Commands.{Command, Refusal, refusal_at, stands}
-use Rattle.overlay_terms.specs.Histories.{BeginsWith, IsHistory, newest}
+use Rattle.overlay_terms.specs.Histories.{BeginsWith, newest}
 use Rattle.overlay_terms.specs.Histories as versions
-use Rattle.overlay_terms.specs.KeptLaws.{IsExact, TilesAreExact}
+use Rattle.overlay_terms.specs.KeptLaws.{TilesAreExact}
 use Rattle.exact_point.specs.Query.{IsQuery}
 use Rattle.exact_point.specs.declared.fault.PointFault.TheVariants.{PointRange}
 use Rattle.layer_expr.specs.Name.{is_name}
 use Rattle.layer_expr.specs.declared.fault.ExprFault.TheVariants.{BadName}
-use Rattle.layer_book.specs.Fault.{fault_of}
+use Rattle.layer_book.specs.Fault.{RefusedBy, fault_of}
 use Rattle.layer_book.specs.Listing.{layers_text}
 use Rattle.layer_book.specs.declared.fault.LayerFault.TheVariants as layer_fault
 use Rattle.version_core.specs.Fault as version_fault
 use Rattle.version_core.specs.declared.fault.VersionFault.{VersionFault}
 use Rattle.version_core.specs.declared.fault.VersionFault.TheVariants.{Layer}
+use Rattle.overlay_grid.specs.Grid.{Grid, IsGridSize, grid_of, grid_refusal, grid_text}
+use Rattle.overlay_grid.specs.declared.fault.GridFault.{GridFault}
+use Rattle.overlay_grid.specs.declared.fault.GridFault.TheVariants as picture
 use Rattle.book_history.specs.Fault.{IfGone, IsRefused as IsRefusedBy}
 use Rattle.book_history.specs.Known.{Known, seen, IsOwn}
 use Rattle.book_history.specs.Logs.{IsAccepted}
 use Rattle.book_history.specs.declared.fault.BookFault.{BookFault}
 use Rattle.book_history.specs.declared.fault.BookFault.TheVariants as book
 use Rattle.script_form.specs.declared.fault.CommandFault.{CommandFault}
-use Rattle.script_form.specs.declared.fault.CommandFault.TheVariants.{Expression, Query, Version, CommandSyntax, OutOfMemory, Closing, Gone}
+use Rattle.script_form.specs.declared.fault.CommandFault.TheVariants.{Expression, Query, Version, CommandSyntax, OutOfMemory, Closing, Gone, GridSize}
+use Rattle.script_form.specs.Fault.{of_grid}
 use Rattle.script_form.specs.Reading.{IsMemory, IsNoName, IsPut, IsPutRefused, IsDefine, IsDefineRefused, IsRemove}
 use Rattle.script_form.specs.Replies.{ok_line, error_line, location_line}
-use Rattle.script_form.specs.Requests.{Request, put, define, remove, locate, list_layers, request_of}
-use Rattle.script_form.specs.Transcript.{IsRefused, IsSubmitted, IsAnswered, IsOutOfMemory, WithName}
+use Rattle.script_form.specs.Requests.{Request, put, define, remove, locate, grid, list_layers, request_of}
+use Rattle.script_form.specs.Transcript.{IsRefused, IsSubmitted, IsAnswered, IsOutOfMemory, IsTold, Drawn, WithName}
 use Rattle.server_session.specs.Answering.{Answers, Submits}
 use Rattle.server_session.specs.Fault.{fault_told}
 use Rattle.server_session.specs.Turn.{Stays, TakesTurn}
-use Rattle.server_session.proofs.Turns.{stays_self, exact_seen}
+use Rattle.server_session.proofs.Turns.{stays_self}
 
 -- ==== A session that makes nothing
 
@@ -40,14 +44,14 @@ module _ (was now : Known) (stays : Stays was now) (made : now.made ≡ was.made
   pub makes_nothing : now.made ≡ was.made ++ []
   makes_nothing = made ∙ sym (append-nil was.made)
 
-  pub answers_so : (request : Request) (reply : List ℕ)
-      → (IsExact (seen was).start → IsOutOfMemory request [] reply ⊎ IsAnswered true was.session (seen was) request (seen now) [] reply) → Answers was request now reply
-  answers_so request reply answered = record { stays = stays; answered = λ exact. record { made = []; answered = answered exact; only = makes_nothing } }
+  pub answers_so : (stored : Bool) (request : Request) (reply : List ℕ)
+      → IsOutOfMemory request [] reply ⊎ IsAnswered stored was.session (seen was) request (seen now) [] reply → Answers stored was request now reply
+  answers_so stored request reply answered = record { stays = stays; answered = record { made = []; answered = answered; only = makes_nothing } }
 
 -- a session that was asked nothing of its book
-pub answers_there : (me : Known) (request : Request) (reply : List ℕ)
-    → IsOutOfMemory request [] reply ⊎ IsAnswered true me.session (seen me) request (seen me) [] reply → Answers me request me reply
-answers_there me request reply answered = answers_so me me (stays_self me) refl request reply (λ _. answered)
+pub answers_there : (stored : Bool) (me : Known) (request : Request) (reply : List ℕ)
+    → IsOutOfMemory request [] reply ⊎ IsAnswered stored me.session (seen me) request (seen me) [] reply → Answers stored me request me reply
+answers_there stored me request reply answered = answers_so me me (stays_self me) refl stored request reply answered
 
 -- a fault, and a fault that is told as another
 pub refused_so : (fault : CommandFault) → IsRefused fault [] (error_line fault)
@@ -96,13 +100,13 @@ made_none book.NoStore was now other = other.0
 made_none (book.Store refused) was now other = other.0
 
 submit_refused : (was now : Known) (command : Command) (fault : BookFault) → IsRefusedBy true (newest (seen now)) command fault
-    → IsRefused OutOfMemory [] (error_line (fault_told fault)) ⊎ IsSubmitted true was.session (seen was) command (seen now) [] (error_line (fault_told fault))
+    → IsRefused OutOfMemory [] (error_line (fault_told fault)) ⊎ IsSubmitted was.session (seen was) command (seen now) [] (error_line (fault_told fault))
 submit_refused was now command (book.Version wrong) (inl memory) = inl (record { nothing_made = refl; told = ap (λ w. error_line (Version w)) memory.0 })
 submit_refused was now command (book.Version wrong) (inr by) =
     let r = reported (refusal_at (newest (seen now)).number (newest (seen now)).layers command) wrong by in
     inr (inr (inr (inl (r.0, r.1, record { nothing_made = refl; told = ap (λ w. error_line (Version w)) r.2 }))))
-submit_refused was now command book.Closing refused = inr (inl (refl, refused_so Closing))
-submit_refused was now command book.Gone refused = inr (inr (inl (refl, refused_so Gone)))
+submit_refused was now command book.Closing refused = inr (inl (refused_so Closing))
+submit_refused was now command book.Gone refused = inr (inr (inl (refused_so Gone)))
 submit_refused was now command book.NoStore refused = absurd refused
 submit_refused was now command (book.Store fault) refused = absurd refused
 
@@ -120,54 +124,54 @@ submits_refused was now command fault on same unchanged refused told is =
 
 -- ==== PUT, DEFINE, DROP
 
-pub answers_put : (was now : Known) (name text : List ℕ) (command : Command) (reply : List ℕ)
-    → IsPut name text command → Submits was command now reply → Answers was (put name text) now reply
-answers_put was now name text command reply is s = record {
+pub answers_put : (stored : Bool) (was now : Known) (name text : List ℕ) (command : Command) (reply : List ℕ)
+    → IsPut name text command → Submits was command now reply → Answers stored was (put name text) now reply
+answers_put stored was now name text command reply is s = record {
   stays = s.stays;
-  answered = λ _. record {
+  answered = record {
     made = s.made;
     answered =
         elim s.submitted [
           | inl memory ↦ inl (is.named, memory)
-          | inr by ↦ inr (inr (is.named, inr (is.rings, is.read, subst (λ (c : Command). IsSubmitted true was.session (seen was) c (seen now) s.made reply) is.command_is by)))
+          | inr by ↦ inr (inr (is.named, inr (is.rings, is.read, subst (λ (c : Command). IsSubmitted was.session (seen was) c (seen now) s.made reply) is.command_is by)))
         ];
     only = s.only;
   };
 }
 
-pub answers_define : (was now : Known) (name text : List ℕ) (command : Command) (reply : List ℕ)
-    → IsDefine name text command → Submits was command now reply → Answers was (define name text) now reply
-answers_define was now name text command reply is s = record {
+pub answers_define : (stored : Bool) (was now : Known) (name text : List ℕ) (command : Command) (reply : List ℕ)
+    → IsDefine name text command → Submits was command now reply → Answers stored was (define name text) now reply
+answers_define stored was now name text command reply is s = record {
   stays = s.stays;
-  answered = λ _. record {
+  answered = record {
     made = s.made;
     answered =
         elim s.submitted [
           | inl memory ↦ inl (is.named, memory)
-          | inr by ↦ inr (inr (is.named, inr (is.tree, is.read, subst (λ (c : Command). IsSubmitted true was.session (seen was) c (seen now) s.made reply) is.command_is by)))
+          | inr by ↦ inr (inr (is.named, inr (is.tree, is.read, subst (λ (c : Command). IsSubmitted was.session (seen was) c (seen now) s.made reply) is.command_is by)))
         ];
     only = s.only;
   };
 }
 
-pub answers_remove : (was now : Known) (name : List ℕ) (command : Command) (reply : List ℕ)
-    → IsRemove name command → Submits was command now reply → Answers was (remove name) now reply
-answers_remove was now name command reply is s = record {
+pub answers_remove : (stored : Bool) (was now : Known) (name : List ℕ) (command : Command) (reply : List ℕ)
+    → IsRemove name command → Submits was command now reply → Answers stored was (remove name) now reply
+answers_remove stored was now name command reply is s = record {
   stays = s.stays;
-  answered = λ _. record {
+  answered = record {
     made = s.made;
     answered =
         elim s.submitted [
           | inl memory ↦ inl (is.named, memory)
-          | inr by ↦ inr (inr (is.named, subst (λ (c : Command). IsSubmitted true was.session (seen was) c (seen now) s.made reply) is.command_is by))
+          | inr by ↦ inr (inr (is.named, subst (λ (c : Command). IsSubmitted was.session (seen was) c (seen now) s.made reply) is.command_is by))
         ];
     only = s.only;
   };
 }
 
-pub put_refused : (me : Known) (name text : List ℕ) (fault : CommandFault) → IsMemory name fault ⊎ IsPutRefused name text fault → Answers me (put name text) me (error_line fault)
-put_refused me name text fault refused =
-    answers_there me (put name text) (error_line fault)
+pub put_refused : (stored : Bool) (me : Known) (name text : List ℕ) (fault : CommandFault) → IsMemory name fault ⊎ IsPutRefused name text fault → Answers stored me (put name text) me (error_line fault)
+put_refused stored me name text fault refused =
+    answers_there stored me (put name text) (error_line fault)
     (elim refused [
       | inl memory ↦ inl (memory.0, record { nothing_made = refl; told = memory.1 })
       | inr by ↦
@@ -177,9 +181,9 @@ put_refused me name text fault refused =
           ])
     ])
 
-pub define_refused : (me : Known) (name text : List ℕ) (fault : CommandFault) → IsMemory name fault ⊎ IsDefineRefused name text fault → Answers me (define name text) me (error_line fault)
-define_refused me name text fault refused =
-    answers_there me (define name text) (error_line fault)
+pub define_refused : (stored : Bool) (me : Known) (name text : List ℕ) (fault : CommandFault) → IsMemory name fault ⊎ IsDefineRefused name text fault → Answers stored me (define name text) me (error_line fault)
+define_refused stored me name text fault refused =
+    answers_there stored me (define name text) (error_line fault)
     (elim refused [
       | inl memory ↦ inl (memory.0, record { nothing_made = refl; told = memory.1 })
       | inr by ↦
@@ -189,8 +193,8 @@ define_refused me name text fault refused =
           ])
     ])
 
-pub remove_refused : (me : Known) (name : List ℕ) (fault : CommandFault) → IsMemory name fault ⊎ IsNoName name fault → Answers me (remove name) me (error_line fault)
-remove_refused me name fault refused = answers_there me (remove name) (error_line fault) (unnamed name fault _ refused)
+pub remove_refused : (stored : Bool) (me : Known) (name : List ℕ) (fault : CommandFault) → IsMemory name fault ⊎ IsNoName name fault → Answers stored me (remove name) me (error_line fault)
+remove_refused stored me name fault refused = answers_there stored me (remove name) (error_line fault) (unnamed name fault _ refused)
 
 -- ==== LOCATE
 
@@ -204,76 +208,127 @@ point_read x y w x' y' w' p ex ey ew is =
     let P : ℤ → ℤ → ℤ → Type 0 = λ a b c. p ≡ record { x = a; y = b; w = c } in
     subst (λ (v : ℤ). P v y w) ex (subst (λ (v : ℤ). P x' v w) ey (subst (λ (v : ℤ). P x' y' v) ew is))
 
-pub locate_unnamed : (me : Known) (name : List ℕ) (x y w : ℤ) (fault : CommandFault) → IsMemory name fault ⊎ IsNoName name fault → Answers me (locate name x y w) me (error_line fault)
-locate_unnamed me name x y w fault refused = answers_there me (locate name x y w) (error_line fault) (unnamed name fault _ refused)
+pub locate_unnamed : (stored : Bool) (me : Known) (name : List ℕ) (x y w : ℤ) (fault : CommandFault) → IsMemory name fault ⊎ IsNoName name fault → Answers stored me (locate name x y w) me (error_line fault)
+locate_unnamed stored me name x y w fault refused = answers_there stored me (locate name x y w) (error_line fault) (unnamed name fault _ refused)
 
-pub locate_out_of_range : (me : Known) (name : List ℕ) (x y w : ℤ) → IsTrue (is_name name) → ¬ (IsQuery x y w) → Answers me (locate name x y w) me (error_line (Query PointRange))
-locate_out_of_range me name x y w named out =
-    answers_there me (locate name x y w) (error_line (Query PointRange)) (inr (inr (named, inl (out, refused_so (Query PointRange)))))
+pub locate_out_of_range : (stored : Bool) (me : Known) (name : List ℕ) (x y w : ℤ) → IsTrue (is_name name) → ¬ (IsQuery x y w) → Answers stored me (locate name x y w) me (error_line (Query PointRange))
+locate_out_of_range stored me name x y w named out =
+    answers_there stored me (locate name x y w) (error_line (Query PointRange)) (inr (inr (named, inl (out, refused_so (Query PointRange)))))
 
 -- a test that cannot hold
 pub unknown_stands : (b : Bool) → (b ≡ true → false ≡ true) → b ≡ false
 unknown_stands true never = absurd (false≢true (never refl))
 unknown_stands false never = refl
 
-module _ (was now : Known) (stays : Stays was now) (made : now.made ≡ was.made) where
-  pub locate_gone : (name : List ℕ) (x y w : ℤ) (fault : CommandFault) → IsTrue (is_name name) → IsQuery x y w → fault ≡ Gone → Answers was (locate name x y w) now (error_line fault)
-  locate_gone name x y w fault named query gone =
-      answers_so was now stays made (locate name x y w) (error_line fault) (λ _. inr (inr (named, inr (inl (query, (refl, refused_as fault Gone gone))))))
+pub grid_unnamed : (stored : Bool) (me : Known) (name : List ℕ) (x y step nx ny : ℤ) (fault : CommandFault) → IsMemory name fault ⊎ IsNoName name fault
+    → Answers stored me (grid name x y step nx ny) me (error_line fault)
+grid_unnamed stored me name x y step nx ny fault refused = answers_there stored me (grid name x y step nx ny) (error_line fault) (unnamed name fault _ refused)
 
-  pub locate_refused : (name known : List ℕ) (x y w : ℤ) (version : versions.Version) (wrong : VersionFault) → version ≡ newest (seen now)
+pub grid_of_no_size : (stored : Bool) (me : Known) (name : List ℕ) (x y step nx ny : ℤ) → IsTrue (is_name name) → ¬ (IsGridSize step nx ny)
+    → Answers stored me (grid name x y step nx ny) me (error_line GridSize)
+grid_of_no_size stored me name x y step nx ny named out =
+    answers_there stored me (grid name x y step nx ny) (error_line GridSize) (inr (inr (named, inl (out, refused_so GridSize))))
+
+-- a picture that is refused, and one that is not
+drawn_some : (o : Option GridFault) (wrong : GridFault) (text : List ℕ) → o ≡ Some wrong → Drawn o text [] (error_line (of_grid wrong))
+drawn_some o wrong text is = subst (λ r. Drawn r text [] (error_line (of_grid wrong))) (sym is) (record { nothing_made = refl; told = refl })
+
+drawn_none : (o : Option GridFault) (text reply : List ℕ) → o ≡ None → IsTold text [] reply → Drawn o text [] reply
+drawn_none o text reply is told = subst (λ r. Drawn r text [] reply) (sym is) told
+
+-- what holds of a version, a name and a grid holds of the newest version, of the name as it was read and of the grid as it was asked for
+pictured : (P : versions.Version → List ℕ → Grid → Type 0) (version new : versions.Version) (known name : List ℕ) (g points : Grid)
+    → version ≡ new → known ≡ name → g ≡ points → P version known g → P new name points
+pictured P version new known name g points is same asked h =
+    subst (λ v. P v name points) is (subst (λ m. P version m points) same (subst (λ p. P version known p) asked h))
+
+module _ (was now : Known) (stays : Stays was now) (made : now.made ≡ was.made) where
+  pub locate_gone : (stored : Bool) (name : List ℕ) (x y w : ℤ) (fault : CommandFault) → IsTrue (is_name name) → IsQuery x y w → fault ≡ Gone → Answers stored was (locate name x y w) now (error_line fault)
+  locate_gone stored name x y w fault named query gone =
+      answers_so was now stays made stored (locate name x y w) (error_line fault) (inr (inr (named, inr (inl (query, refused_as fault Gone gone)))))
+
+  pub locate_refused : (stored : Bool) (name known : List ℕ) (x y w : ℤ) (version : versions.Version) (wrong : VersionFault) → version ≡ newest (seen now)
       → known ≡ name → IsTrue (is_name name) → IsQuery x y w → (wrong ≡ Layer layer_fault.UnknownLayer) × (stands version.layers known ≡ false)
-      → Answers was (locate name x y w) now (error_line (Version wrong))
-  locate_refused name known x y w version wrong is same named query unknown =
+      → Answers stored was (locate name x y w) now (error_line (Version wrong))
+  locate_refused stored name known x y w version wrong is same named query unknown =
       let there : stands (newest (seen now)).layers name ≡ false =
       ap (λ (v : versions.Version). stands v.layers name) (sym is) ∙ ap (stands version.layers) (sym same) ∙ unknown.1 in
-      answers_so was now stays made (locate name x y w) (error_line (Version wrong))
-      (λ _. inr (inr (named, inr (inr (inl (query, there, record { nothing_made = refl; told = ap (λ f. error_line (Version f)) unknown.0 }))))))
+      answers_so was now stays made stored (locate name x y w) (error_line (Version wrong))
+      (inr (inr (named, inr (inr (inl (query, there, record { nothing_made = refl; told = ap (λ f. error_line (Version f)) unknown.0 }))))))
 
-  pub locate_told : (name known : List ℕ) (x y w : ℤ) (p : Point) (version : versions.Version) (place : Location) → version ≡ newest (seen now) → IsHistory (seen now)
+  pub locate_told : (stored : Bool) (name known : List ℕ) (x y w : ℤ) (p : Point) (version : versions.Version) (place : Location) → version ≡ newest (seen now)
       → known ≡ name → p ≡ record { x = x; y = y; w = w } → IsTrue (is_name name) → IsQuery x y w → IsTrue (stands version.layers known)
-      → (TilesAreExact version → place ≡ answer_at version.layers known p) → Answers was (locate name x y w) now (location_line place)
-  locate_told name known x y w p version place is history same point named query stood right =
+      → (TilesAreExact version → place ≡ answer_at version.layers known p) → Answers stored was (locate name x y w) now (location_line place)
+  locate_told stored name known x y w p version place is same point named query stood right =
       let there : stands (newest (seen now)).layers name ≡ true =
       ap (λ (v : versions.Version). stands v.layers name) (sym is) ∙ ap (stands version.layers) (sym same) ∙ stood in
-      answers_so was now stays made (locate name x y w) (location_line place)
-      (λ exact.
-      let tiles : TilesAreExact version = subst (λ (v : versions.Version). TilesAreExact v) (sym is) (exact_seen was now stays history exact) in
-      let told : place ≡ answer_at (newest (seen now)).layers name (record { x = x; y = y; w = w }) =
-      right tiles ∙ ap (λ n. answer_at version.layers n p) same ∙ ap (answer_at version.layers name) point
+      let told : TilesAreExact (newest (seen now)) → place ≡ answer_at (newest (seen now)).layers name (record { x = x; y = y; w = w }) =
+      λ exact. right (subst (λ (v : versions.Version). TilesAreExact v) (sym is) exact)
+      ∙ ap (λ n. answer_at version.layers n p) same ∙ ap (answer_at version.layers name) point
       ∙ ap (λ (v : versions.Version). answer_at v.layers name (record { x = x; y = y; w = w })) is in
-      inr (inr (named, inr (inr (inr (query, there, record { nothing_made = refl; told = ap location_line told }))))))
+      answers_so was now stays made stored (locate name x y w) (location_line place)
+      (inr (inr (named, inr (inr (inr (query, there, record { nothing_made = refl; place = place; right = told; told = refl }))))))
+
+  -- ==== GRID
+
+  pub grid_gone : (stored : Bool) (name : List ℕ) (x y step nx ny : ℤ) (fault : CommandFault) → IsTrue (is_name name) → IsGridSize step nx ny → fault ≡ Gone
+      → Answers stored was (grid name x y step nx ny) now (error_line fault)
+  grid_gone stored name x y step nx ny fault named size gone =
+      answers_so was now stays made stored (grid name x y step nx ny) (error_line fault) (inr (inr (named, inr (inl (size, refused_as fault Gone gone)))))
+
+  pub grid_refused : (stored : Bool) (name known : List ℕ) (x y step nx ny : ℤ) (g : Grid) (version : versions.Version) (wrong : GridFault) → version ≡ newest (seen now)
+      → known ≡ name → g ≡ grid_of x y step nx ny → IsTrue (is_name name) → IsGridSize step nx ny
+      → RefusedBy (picture.Layer layer_fault.OutOfMemory) (grid_refusal version.layers known g) wrong
+      → Answers stored was (grid name x y step nx ny) now (error_line (of_grid wrong))
+  grid_refused stored name known x y step nx ny g version wrong is same points named size refused =
+      answers_so was now stays made stored (grid name x y step nx ny) (error_line (of_grid wrong))
+      (elim refused [
+        | inl memory ↦ inl (named, record { nothing_made = refl; told = ap (λ f. error_line (of_grid f)) memory.0 })
+        | inr by ↦
+            inr (inr (named, inr (inr (size, drawn_some _ wrong _
+            (pictured (λ v m p. grid_refusal v.layers m p ≡ Some wrong) version (newest (seen now)) known name g (grid_of x y step nx ny) is same points by)))))
+      ])
+
+  pub grid_told : (stored : Bool) (name known : List ℕ) (x y step nx ny : ℤ) (g : Grid) (version : versions.Version) (text : List ℕ) → version ≡ newest (seen now)
+      → known ≡ name → g ≡ grid_of x y step nx ny → IsTrue (is_name name) → IsGridSize step nx ny → grid_refusal version.layers known g ≡ None
+      → text ≡ grid_text version.layers known g → Answers stored was (grid name x y step nx ny) now text
+  grid_told stored name known x y step nx ny g version text is same points named size free told =
+      let there = pictured (λ v m p. grid_refusal v.layers m p ≡ None) version (newest (seen now)) known name g (grid_of x y step nx ny) is same points free in
+      let drawn = pictured (λ v m p. text ≡ grid_text v.layers m p) version (newest (seen now)) known name g (grid_of x y step nx ny) is same points told in
+      answers_so was now stays made stored (grid name x y step nx ny) text
+      (inr (inr (named, inr (inr (size, drawn_none _ _ text there (record { nothing_made = refl; told = drawn }))))))
 
   -- ==== LAYERS
 
-  pub list_gone : (fault : CommandFault) → fault ≡ Gone → Answers was list_layers now (error_line fault)
-  list_gone fault gone = answers_so was now stays made list_layers (error_line fault) (λ _. inr (inl (refl, refused_as fault Gone gone)))
+  pub list_gone : (stored : Bool) (fault : CommandFault) → fault ≡ Gone → Answers stored was list_layers now (error_line fault)
+  list_gone stored fault gone = answers_so was now stays made stored list_layers (error_line fault) (inr (inl (refused_as fault Gone gone)))
 
-  pub list_no_memory : Answers was list_layers now (error_line OutOfMemory)
-  list_no_memory = answers_so was now stays made list_layers (error_line OutOfMemory) (λ _. inl (refl, refused_so OutOfMemory))
+  pub list_no_memory : (stored : Bool) → Answers stored was list_layers now (error_line OutOfMemory)
+  list_no_memory stored = answers_so was now stays made stored list_layers (error_line OutOfMemory) (inl (refl, refused_so OutOfMemory))
 
-  pub list_told : (version : versions.Version) (text : List ℕ) → version ≡ newest (seen now) → text ≡ layers_text version.layers → Answers was list_layers now text
-  list_told version text is told =
-      answers_so was now stays made list_layers text
-      (λ _. inr (inr (record { nothing_made = refl; told = told ∙ ap (λ (v : versions.Version). layers_text v.layers) is })))
+  pub list_told : (stored : Bool) (version : versions.Version) (text : List ℕ) → version ≡ newest (seen now) → text ≡ layers_text version.layers → Answers stored was list_layers now text
+  list_told stored version text is told =
+      answers_so was now stays made stored list_layers text
+      (inr (inr (record { nothing_made = refl; told = told ∙ ap (λ (v : versions.Version). layers_text v.layers) is })))
 
 -- ==== Lines
 
 -- a line is answered as what it asks for
-pub takes_turn : (was now : Known) (line : List ℕ) (request : Request) (reply : List ℕ) → request ≡ request_of line → Answers was request now reply → TakesTurn was line now reply
-takes_turn was now line request reply asked answers = record {
-  stays = answers.stays;
-  answered = λ exact.
-      let a = answers.answered exact in
-      record {
+pub takes_turn : (stored : Bool) (was now : Known) (line : List ℕ) (request : Request) (reply : List ℕ) → request ≡ request_of line → Answers stored was request now reply
+    → TakesTurn stored was line now reply
+takes_turn stored was now line request reply asked answers =
+    let a = answers.answered in
+    record {
+      stays = answers.stays;
+      answered = record {
         made = a.made;
         turn = record {
           goes_on = answers.stays.goes_on;
           answered = elim a.answered [
             | inl memory ↦ inl (subst (λ (r : Request). IsOutOfMemory r a.made reply) asked memory)
-            | inr by ↦ inr (subst (λ (r : Request). IsAnswered true was.session (seen was) r (seen now) a.made reply) asked by)
+            | inr by ↦ inr (subst (λ (r : Request). IsAnswered stored was.session (seen was) r (seen now) a.made reply) asked by)
           ];
         };
         only = a.only;
       };
-}
+    }

@@ -1,12 +1,11 @@
 -- How a session ends, from where it stands.
-use Rattle.std.proofs.Common.{◌≡◌, ℕ, zero, suc, ◌+◌, ◌-◌, ◌<◌, ◌≤◌, min, ◌⊎◌, inl, inr, true, false, Option, Result, Ok, Err, MatchResult, List, [], ◌∷◌, ◌++◌, length, take, lit<, refl, sym, ap, ◌∙◌, subst, append_assoc, append-nil, arith}
+use Rattle.std.proofs.Common.{◌≡◌, ℕ, zero, suc, ◌+◌, ◌-◌, ◌<◌, ◌≤◌, min, ◌⊎◌, inl, inr, Bool, true, false, Option, Result, Ok, Err, MatchResult, List, [], ◌∷◌, ◌++◌, length, take, lit<, refl, sym, ap, ◌∙◌, subst, append_assoc, append-nil, arith}
 use Rattle.std.proofs.lemmas.List.{take_all, take-take, length-take, length-append}
 use Rattle.std.proofs.lemmas.Bool.{cases_lt, false≢true, true≢false}
 use Rattle.std.specs.Result.{is_err}
 use Rattle.std.specs.Io.KnownBytes.{Appends, Consumes, Keeps, IsAtEnd}
 use Rattle.std.proofs.KnownBytes.{Appends-nil, Appends-trans, Consumes-nil, Consumes-trans, Consumes-kept}
-use Rattle.overlay_terms.specs.KeptLaws.{IsExact}
-use Rattle.book_history.specs.Known.{Known, seen}
+use Rattle.book_history.specs.Known.{Known}
 use Rattle.script_form.specs.declared.session_end.SessionEnd.{SessionEnd}
 use Rattle.script_form.specs.declared.session_end.SessionEnd.TheVariants.{End, Failed}
 use Rattle.script_form.specs.declared.fault.CommandFault.TheVariants.{ReadLimit, Read}
@@ -20,7 +19,7 @@ use Rattle.server_session.specs.Turn.{Stays, TakesTurn}
 use Rattle.server_session.specs.Loop.{Stands, IsStopped, TakesAll, Finishes, EndsBy}
 use Rattle.server_session.proofs.Runs.{run-push, takes_turn-same}
 use Rattle.server_session.proofs.Steps.{cut_run}
-use Rattle.server_session.proofs.Turns.{exact_start, stays_self}
+use Rattle.server_session.proofs.Turns.{stays_self}
 
 -- nothing is kept where nothing stands behind the last line feed
 some_room : 0 < line_room
@@ -43,52 +42,52 @@ last_line-is [] some = absurd (omega arith)
 last_line-is (b ∷ rest) some = refl
 
 -- the script ends behind a line feed
-pub finishes-empty : (me : Known) (line : List ℕ) (output : Option (List ℕ)) → length line ≡ 0 → Finishes End me line me output output
-finishes-empty me line output none = λ was taken replies stands. (
+pub finishes-empty : (stored : Bool) (me : Known) (line : List ℕ) (output : Option (List ℕ)) → length line ≡ 0 → Finishes stored End me line me output output
+finishes-empty stored me line output none = λ was taken replies stands. (
   [],
   Appends-nil output,
-  subst (IsSharedRun was (whole_lines taken) me) (sym (append-nil replies))
-      (subst (λ l. IsSharedRun was l me replies) (sym (no_last_line taken (no_rest (unended taken) (sym (ap length stands.rest) ∙ none)))) stands.told),
+  subst (IsSharedRun stored was (whole_lines taken) me) (sym (append-nil replies))
+      (subst (λ l. IsSharedRun stored was l me replies) (sym (no_last_line taken (no_rest (unended taken) (sym (ap length stands.rest) ∙ none)))) stands.told),
 )
 
 -- the last line, and its run
-last_run : (was : Known) (taken replies line : List ℕ) (old new : Known) (reply : List ℕ) → 0 < length line → Stands was taken replies line old → TakesTurn old line new reply
-    → IsSharedRun was (whole_lines taken) new (replies ++ reply)
-last_run was taken replies line old new reply some stands takes =
+last_run : (stored : Bool) (was : Known) (taken replies line : List ℕ) (old new : Known) (reply : List ℕ) → 0 < length line → Stands stored was taken replies line old → TakesTurn stored old line new reply
+    → IsSharedRun stored was (whole_lines taken) new (replies ++ reply)
+last_run stored was taken replies line old new reply some stands takes =
     let long : length line ≤ length (unended taken) = omega (arith, ap length stands.rest, length-take line_room (unended taken)) in
-    let turn = takes_turn-same line (unended taken) (ap request_of stands.rest ∙ request_of-cut (unended taken)) old new reply takes in
-    subst (λ l. IsSharedRun was (ended_lines taken ++ l) new (replies ++ reply)) (sym (last_line-is (unended taken) (omega arith)))
-    (run-push was old new (ended_lines taken) replies (unended taken) reply stands.stays stands.told (turn.answered (exact_start was old stands.stays stands.exact)))
+    let turn = takes_turn-same stored line (unended taken) (ap request_of stands.rest ∙ request_of-cut (unended taken)) old new reply takes in
+    subst (λ l. IsSharedRun stored was (ended_lines taken ++ l) new (replies ++ reply)) (sym (last_line-is (unended taken) (omega arith)))
+    (run-push stored was old new (ended_lines taken) replies (unended taken) reply stands.stays stands.told turn.answered)
 
-pub finishes-told : (old new : Known) (line bytes : List ℕ) (output all : Option (List ℕ)) → bytes ≡ line → 0 < length line
-    → ((reply : List ℕ) × TakesTurn old bytes new reply × Appends output all reply) → Finishes End old line new output all
-finishes-told old new line bytes output all is some (reply, takes, appended) = λ was taken replies stands.
-    (reply, appended, last_run was taken replies line old new reply some stands (subst (λ l. TakesTurn old l new reply) is takes))
+pub finishes-told : (stored : Bool) (old new : Known) (line bytes : List ℕ) (output all : Option (List ℕ)) → bytes ≡ line → 0 < length line
+    → ((reply : List ℕ) × TakesTurn stored old bytes new reply × Appends output all reply) → Finishes stored End old line new output all
+finishes-told stored old new line bytes output all is some (reply, takes, appended) = λ was taken replies stands.
+    (reply, appended, last_run stored was taken replies line old new reply some stands (subst (λ l. TakesTurn stored old l new reply) is takes))
 
-pub finishes-cut : (old new : Known) (line bytes : List ℕ) (output all : Option (List ℕ)) → bytes ≡ line → 0 < length line
-    → ((reply : List ℕ) × TakesTurn old bytes new reply × ((front : List ℕ) × IsCutShort reply front × Appends output all front)) → Finishes (Failed 49) old line new output all
-finishes-cut old new line bytes output all is some (reply, takes, (front, short, appended)) = λ was taken replies stands.
-    let run = last_run was taken replies line old new reply some stands (subst (λ l. TakesTurn old l new reply) is takes) in
-    (front, appended, (refl, cut_run was new (whole_lines taken) replies reply front run short))
+pub finishes-cut : (stored : Bool) (old new : Known) (line bytes : List ℕ) (output all : Option (List ℕ)) → bytes ≡ line → 0 < length line
+    → ((reply : List ℕ) × TakesTurn stored old bytes new reply × ((front : List ℕ) × IsCutShort reply front × Appends output all front)) → Finishes stored (Failed 49) old line new output all
+finishes-cut stored old new line bytes output all is some (reply, takes, (front, short, appended)) = λ was taken replies stands.
+    let run = last_run stored was taken replies line old new reply some stands (subst (λ l. TakesTurn stored old l new reply) is takes) in
+    (front, appended, (refl, cut_run stored was new (whole_lines taken) replies reply front run short))
 
 -- a session under way: what it took and wrote, and where it stands, a byte too many left out
-pub record IsUnderWay (was : Known) (input left output all : Option (List ℕ)) (count : ℕ) (line : List ℕ) (now : Known) : Type 0 where
+pub record IsUnderWay (stored : Bool) (was : Known) (input left output all : Option (List ℕ)) (count : ℕ) (line : List ℕ) (now : Known) : Type 0 where
   pub taken : List ℕ
   pub as_many : length taken ≡ count
   pub reads : Consumes input left taken
   pub written : List ℕ
   pub writes : Appends output all written
-  pub stands : Stands was (take script_max taken) written line now
+  pub stands : Stands stored was (take script_max taken) written line now
 
 -- the front of a script that is not too long is the whole of it
 in_limit : (taken : List ℕ) → length taken ≤ script_max → take script_max taken ≡ taken
 in_limit taken short = take_all script_max taken short
 
 -- at the end of the script
-pub ends-finished : (was : Known) (end : SessionEnd) (input left left_after output mid all : Option (List ℕ)) (count : ℕ) (line : List ℕ) (old new : Known)
-    → IsUnderWay was input left output mid count line old → count ≤ script_max → Consumes left left_after [] → IsAtEnd left_after
-    → Finishes end old line new mid all → IsSharedSession end was new input left_after output all
-ends-finished was End input left left_after output mid all count line old new way within reads at_end finishes =
+pub ends-finished : (stored : Bool) (was : Known) (end : SessionEnd) (input left left_after output mid all : Option (List ℕ)) (count : ℕ) (line : List ℕ) (old new : Known)
+    → IsUnderWay stored was input left output mid count line old → count ≤ script_max → Consumes left left_after [] → IsAtEnd left_after
+    → Finishes stored end old line new mid all → IsSharedSession stored end was new input left_after output all
+ends-finished stored was End input left left_after output mid all count line old new way within reads at_end finishes =
     let (more, appended, told) = finishes was (take script_max way.taken) way.written way.stands in
     record {
       taken = way.taken;
@@ -98,10 +97,10 @@ ends-finished was End input left left_after output mid all count line old new wa
       ended = record {
         all_taken = at_end;
         short = subst (λ n. n ≤ script_max) (sym way.as_many) within;
-        told = subst (λ t. IsSharedRun was (whole_lines t) new (way.written ++ more)) (in_limit way.taken (subst (λ n. n ≤ script_max) (sym way.as_many) within)) told;
+        told = subst (λ t. IsSharedRun stored was (whole_lines t) new (way.written ++ more)) (in_limit way.taken (subst (λ n. n ≤ script_max) (sym way.as_many) within)) told;
       };
     }
-ends-finished was (Failed code) input left left_after output mid all count line old new way within reads at_end finishes =
+ends-finished stored was (Failed code) input left left_after output mid all count line old new way within reads at_end finishes =
     let (more, appended, (is, cut)) = finishes was (take script_max way.taken) way.written way.stands in
     let short = subst (λ n. n ≤ script_max) (sym way.as_many) within in
     record {
@@ -109,7 +108,7 @@ ends-finished was (Failed code) input left left_after output mid all count line 
       written = way.written ++ more;
       reads = subst (Consumes input left_after) (append-nil way.taken) (Consumes-trans input left left_after way.taken [] way.reads reads);
       writes = Appends-trans output mid all way.written more way.writes appended;
-      ended = inr (inr (inl (is, inr (inl (at_end, short, subst (λ t. IsCutOff was new (whole_lines t) (way.written ++ more)) (in_limit way.taken short) cut)))));
+      ended = inr (inr (inl (is, inr (inl (at_end, short, subst (λ t. IsCutOff stored was new (whole_lines t) (way.written ++ more)) (in_limit way.taken short) cut)))));
     }
 
 -- what a session wrote and took, with a fault's line
@@ -128,55 +127,55 @@ cut_line written line front short = record {
 }
 
 -- a read failed
-pub ends-at_read : (was : Known) (end : SessionEnd) (input left left_after output mid all : Option (List ℕ)) (count : ℕ) (line : List ℕ) (now : Known) (text : List ℕ)
-    → IsUnderWay was input left output mid count line now → count ≤ script_max → Keeps left left_after → text ≡ error_line Read → EndsBy end 48 text mid all
-    → IsSharedSession end was now input left_after output all
-ends-at_read was end input left left_after output mid all count line now text way within kept is ends =
+pub ends-at_read : (stored : Bool) (was : Known) (end : SessionEnd) (input left left_after output mid all : Option (List ℕ)) (count : ℕ) (line : List ℕ) (now : Known) (text : List ℕ)
+    → IsUnderWay stored was input left output mid count line now → count ≤ script_max → Keeps left left_after → text ≡ error_line Read → EndsBy end 48 text mid all
+    → IsSharedSession stored end was now input left_after output all
+ends-at_read stored was end input left left_after output mid all count line now text way within kept is ends =
     let short = subst (λ n. n ≤ script_max) (sym way.as_many) within in
-    let told = subst (λ t. IsSharedRun was (ended_lines t) now way.written) (in_limit way.taken short) way.stands.told in
-    let fault : IsReadFault was now way.taken (way.written ++ text) = record { short = short; replies = way.written; told = told; fault = ap (λ l. way.written ++ l) is } in
+    let told = subst (λ t. IsSharedRun stored was (ended_lines t) now way.written) (in_limit way.taken short) way.stands.told in
+    let fault : IsReadFault stored was now way.taken (way.written ++ text) = record { short = short; replies = way.written; told = told; fault = ap (λ l. way.written ++ l) is } in
     let reads = Consumes-kept input left left_after way.taken way.reads kept in
     by_line (fault_line end 48 text mid all ends) short fault reads where
       by_line : ((end ≡ Failed 48) × Appends mid all text) ⊎ ((end ≡ Failed 49) × ((front : List ℕ) × IsCutShort text front × Appends mid all front))
-          → length way.taken ≤ script_max → IsReadFault was now way.taken (way.written ++ text) → Consumes input left_after way.taken → IsSharedSession end was now input left_after output all
+          → length way.taken ≤ script_max → IsReadFault stored was now way.taken (way.written ++ text) → Consumes input left_after way.taken → IsSharedSession stored end was now input left_after output all
       by_line (inl (same, appended)) short fault reads = record {
         taken = way.taken;
         written = way.written ++ text;
         reads = reads;
         writes = Appends-trans output mid all way.written text way.writes appended;
-        ended = subst (λ e. EndsSo e was now way.taken left_after (way.written ++ text)) (sym same) (inr (inl (refl, fault)));
+        ended = subst (λ e. EndsSo stored e was now way.taken left_after (way.written ++ text)) (sym same) (inr (inl (refl, fault)));
       }
       by_line (inr (same, (front, cut, appended))) short fault reads = record {
         taken = way.taken;
         written = way.written ++ front;
         reads = reads;
         writes = Appends-trans output mid all way.written front way.writes appended;
-        ended = subst (λ e. EndsSo e was now way.taken left_after (way.written ++ front)) (sym same)
+        ended = subst (λ e. EndsSo stored e was now way.taken left_after (way.written ++ front)) (sym same)
             (inr (inr (inl (refl, inr (inr (way.written ++ text, inr fault, cut_line way.written text front cut))))));
       }
 
 -- a byte too many was read
-pub ends-past_limit : (was : Known) (end : SessionEnd) (input left output mid all : Option (List ℕ)) (count : ℕ) (line : List ℕ) (now : Known) (text : List ℕ)
-    → IsUnderWay was input left output mid count line now → count ≡ script_max + 1 → text ≡ error_line ReadLimit → EndsBy end 47 text mid all
-    → IsSharedSession end was now input left output all
-ends-past_limit was end input left output mid all count line now text way past is ends =
-    let fault : IsPastLimit was now way.taken (way.written ++ text) = record { one_more = way.as_many ∙ past; replies = way.written; told = way.stands.told; fault = ap (λ l. way.written ++ l) is } in
+pub ends-past_limit : (stored : Bool) (was : Known) (end : SessionEnd) (input left output mid all : Option (List ℕ)) (count : ℕ) (line : List ℕ) (now : Known) (text : List ℕ)
+    → IsUnderWay stored was input left output mid count line now → count ≡ script_max + 1 → text ≡ error_line ReadLimit → EndsBy end 47 text mid all
+    → IsSharedSession stored end was now input left output all
+ends-past_limit stored was end input left output mid all count line now text way past is ends =
+    let fault : IsPastLimit stored was now way.taken (way.written ++ text) = record { one_more = way.as_many ∙ past; replies = way.written; told = way.stands.told; fault = ap (λ l. way.written ++ l) is } in
     by_line (fault_line end 47 text mid all ends) fault where
       by_line : ((end ≡ Failed 47) × Appends mid all text) ⊎ ((end ≡ Failed 49) × ((front : List ℕ) × IsCutShort text front × Appends mid all front))
-          → IsPastLimit was now way.taken (way.written ++ text) → IsSharedSession end was now input left output all
+          → IsPastLimit stored was now way.taken (way.written ++ text) → IsSharedSession stored end was now input left output all
       by_line (inl (same, appended)) fault = record {
         taken = way.taken;
         written = way.written ++ text;
         reads = way.reads;
         writes = Appends-trans output mid all way.written text way.writes appended;
-        ended = subst (λ e. EndsSo e was now way.taken left (way.written ++ text)) (sym same) (inl (refl, fault));
+        ended = subst (λ e. EndsSo stored e was now way.taken left (way.written ++ text)) (sym same) (inl (refl, fault));
       }
       by_line (inr (same, (front, cut, appended))) fault = record {
         taken = way.taken;
         written = way.written ++ front;
         reads = way.reads;
         writes = Appends-trans output mid all way.written front way.writes appended;
-        ended = subst (λ e. EndsSo e was now way.taken left (way.written ++ front)) (sym same)
+        ended = subst (λ e. EndsSo stored e was now way.taken left (way.written ++ front)) (sym same)
             (inr (inr (inl (refl, inr (inr (way.written ++ text, inl fault, cut_line way.written text front cut))))));
       }
 
@@ -204,11 +203,11 @@ let_in taken chunk count allowed short is =
     ∙ sym (take_of_append script_max taken (take count chunk) short)
 
 -- bytes are read and taken
-pub goes_on : (was : Known) (input left left_after output mid all : Option (List ℕ)) (count more allowed : ℕ) (line line_after chunk : List ℕ) (old new : Known)
-    → IsUnderWay was input left output mid count line old → count ≤ script_max → more ≤ length chunk → allowed ≡ min more (script_max - count)
-    → Consumes left left_after (take more chunk) → TakesAll old line (take allowed chunk) new line_after mid all
-    → IsUnderWay was input left_after output all (count + more) line_after new
-goes_on was input left left_after output mid all count more allowed line line_after chunk old new way within room is reads takes =
+pub goes_on : (stored : Bool) (was : Known) (input left left_after output mid all : Option (List ℕ)) (count more allowed : ℕ) (line line_after chunk : List ℕ) (old new : Known)
+    → IsUnderWay stored was input left output mid count line old → count ≤ script_max → more ≤ length chunk → allowed ≡ min more (script_max - count)
+    → Consumes left left_after (take more chunk) → TakesAll stored old line (take allowed chunk) new line_after mid all
+    → IsUnderWay stored was input left_after output all (count + more) line_after new
+goes_on stored was input left left_after output mid all count more allowed line line_after chunk old new way within room is reads takes =
     let short = subst (λ n. n ≤ script_max) (sym way.as_many) within in
     let (written, appended, stands) = takes was (take script_max way.taken) way.written way.stands in
     record {
@@ -217,16 +216,16 @@ goes_on was input left left_after output mid all count more allowed line line_af
       reads = Consumes-trans input left left_after way.taken (take more chunk) way.reads reads;
       written = way.written ++ written;
       writes = Appends-trans output mid all way.written written way.writes appended;
-      stands = subst (λ t. Stands was t (way.written ++ written) line_after new)
+      stands = subst (λ t. Stands stored was t (way.written ++ written) line_after new)
           (let_in way.taken chunk more allowed short (is ∙ ap (λ n. min more (script_max - n)) (sym way.as_many))) stands;
     }
 
 -- bytes are read, and a write failed
-pub ends-stopped : (was : Known) (input left left_after output mid all : Option (List ℕ)) (count more allowed : ℕ) (line chunk : List ℕ) (old new : Known)
-    → IsUnderWay was input left output mid count line old → count ≤ script_max → allowed ≡ min more (script_max - count)
-    → Consumes left left_after (take more chunk) → IsStopped old line (take allowed chunk) new mid all
-    → IsSharedSession (Failed 49) was new input left_after output all
-ends-stopped was input left left_after output mid all count more allowed line chunk old new way within is reads stopped =
+pub ends-stopped : (stored : Bool) (was : Known) (input left left_after output mid all : Option (List ℕ)) (count more allowed : ℕ) (line chunk : List ℕ) (old new : Known)
+    → IsUnderWay stored was input left output mid count line old → count ≤ script_max → allowed ≡ min more (script_max - count)
+    → Consumes left left_after (take more chunk) → IsStopped stored old line (take allowed chunk) new mid all
+    → IsSharedSession stored (Failed 49) was new input left_after output all
+ends-stopped stored was input left left_after output mid all count more allowed line chunk old new way within is reads stopped =
     let short = subst (λ n. n ≤ script_max) (sym way.as_many) within in
     let (written, appended, cut) = stopped was (take script_max way.taken) way.written way.stands in
     record {
@@ -236,21 +235,20 @@ ends-stopped was input left left_after output mid all count more allowed line ch
       writes = Appends-trans output mid all way.written written way.writes appended;
       ended = inr (inr (inl (
         refl,
-        inl (subst (λ t. IsCutOff was new (ended_lines t) (way.written ++ written))
+        inl (subst (λ t. IsCutOff stored was new (ended_lines t) (way.written ++ written))
             (let_in way.taken chunk more allowed short (is ∙ ap (λ n. min more (script_max - n)) (sym way.as_many))) cut),
       )));
     }
 
 -- a session begins with nothing taken and nothing written
-pub begins : (was : Known) (input output : Option (List ℕ)) (line : List ℕ) → line ≡ [] → IsExact (seen was).start → IsUnderWay was input input output output 0 line was
-begins was input output line empty exact = record {
+pub begins : (stored : Bool) (was : Known) (input output : Option (List ℕ)) (line : List ℕ) → line ≡ [] → IsUnderWay stored was input input output output 0 line was
+begins stored was input output line empty = record {
   taken = [];
   as_many = refl;
   reads = Consumes-nil input;
   written = [];
   writes = Appends-nil output;
-  stands = subst (λ t. Stands was t [] line was) (sym (take-nil script_max)) (record {
-    exact = exact;
+  stands = subst (λ t. Stands stored was t [] line was) (sym (take-nil script_max)) (record {
     stays = stays_self was;
     told = record { made = []; told = (refl, refl, refl); only = sym (append-nil was.made) };
     rest = empty ∙ sym (take-nil line_room);
@@ -258,8 +256,8 @@ begins was input output line empty exact = record {
 }
 
 -- a session that finds no memory for itself
-pub begins_not : (was : Known) (input output : Option (List ℕ)) → IsSharedSession (Failed 40) was was input input output output
-begins_not was input output = record {
+pub begins_not : (stored : Bool) (was : Known) (input output : Option (List ℕ)) → IsSharedSession stored (Failed 40) was was input input output output
+begins_not stored was input output = record {
   taken = [];
   written = [];
   reads = Consumes-nil input;

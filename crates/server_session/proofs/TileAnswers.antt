@@ -1,5 +1,6 @@
 -- What is answered to questions about tiles and about the store.
-use Rattle.std.proofs.Common.{◌≡◌, ◌≤◌, ◌<◌, ℕ, ℤ, true, IsTrue, List, [], Option, Some, None, refl, sym, ap, subst, ◌∙◌, ◌⊎◌, inl, inr}
+use Rattle.std.specs.Prelude.{IsErrAnd}
+use Rattle.std.proofs.Common.{◌≡◌, ◌≤◌, ◌<◌, ℕ, ℤ, Bool, true, false, IsTrue, List, [], Option, Some, None, Result, Ok, Err, refl, sym, ap, subst, ◌∙◌, ◌⊎◌, inl, inr, ⊎_elim}
 use Rattle.overlay_terms.specs.Commands.{Command}
 use Rattle.overlay_terms.specs.Histories as versions
 use Rattle.overlay_terms.specs.Histories.{BeginsWith, newest}
@@ -44,37 +45,37 @@ moved P version new known name n k is same number h =
 
 -- ==== Lines whose name is none, or finds no memory
 
-pub edges_unnamed : (me : Known) (name : List ℕ) (k : ℤ) (fault : CommandFault) → IsMemory name fault ⊎ IsNoName name fault → Answers me (edges name k) me (error_line fault)
-edges_unnamed me name k fault refused = answers_there me (edges name k) (error_line fault) (unnamed name fault _ refused)
+pub edges_unnamed : (stored : Bool) (me : Known) (name : List ℕ) (k : ℤ) (fault : CommandFault) → IsMemory name fault ⊎ IsNoName name fault → Answers stored me (edges name k) me (error_line fault)
+edges_unnamed stored me name k fault refused = answers_there stored me (edges name k) (error_line fault) (unnamed name fault _ refused)
 
-pub verify_unnamed : (me : Known) (name : List ℕ) (k : ℤ) (fault : CommandFault) → IsMemory name fault ⊎ IsNoName name fault → Answers me (verify name k) me (error_line fault)
-verify_unnamed me name k fault refused = answers_there me (verify name k) (error_line fault) (unnamed name fault _ refused)
+pub verify_unnamed : (stored : Bool) (me : Known) (name : List ℕ) (k : ℤ) (fault : CommandFault) → IsMemory name fault ⊎ IsNoName name fault → Answers stored me (verify name k) me (error_line fault)
+verify_unnamed stored me name k fault refused = answers_there stored me (verify name k) (error_line fault) (unnamed name fault _ refused)
 
-pub wait_unnamed : (me : Known) (name : List ℕ) (fault : CommandFault) → IsMemory name fault ⊎ IsNoName name fault → Answers me (wait name) me (error_line fault)
-wait_unnamed me name fault refused = answers_there me (wait name) (error_line fault) (unnamed name fault _ refused)
+pub wait_unnamed : (stored : Bool) (me : Known) (name : List ℕ) (fault : CommandFault) → IsMemory name fault ⊎ IsNoName name fault → Answers stored me (wait name) me (error_line fault)
+wait_unnamed stored me name fault refused = answers_there stored me (wait name) (error_line fault) (unnamed name fault _ refused)
 
 module _ (was now : Known) (stays : Stays was now) (made : now.made ≡ was.made) where
   -- ==== EDGES
 
-  pub edges_gone : (name : List ℕ) (k : ℤ) (fault : CommandFault) → IsTrue (is_name name) → fault ≡ Gone → Answers was (edges name k) now (error_line fault)
-  edges_gone name k fault named gone = answers_so was now stays made (edges name k) (error_line fault) (λ _. inr (inr (named, inl (refl, refused_as fault Gone gone))))
+  pub edges_gone : (stored : Bool) (name : List ℕ) (k : ℤ) (fault : CommandFault) → IsTrue (is_name name) → fault ≡ Gone → Answers stored was (edges name k) now (error_line fault)
+  edges_gone stored name k fault named gone = answers_so was now stays made stored (edges name k) (error_line fault) (inr (inr (named, inl (refused_as fault Gone gone))))
 
-  pub edges_refused : (name known : List ℕ) (k : ℤ) (n : Option ℕ) (version : versions.Version) (wrong : VersionFault) → version ≡ newest (seen now)
+  pub edges_refused : (stored : Bool) (name known : List ℕ) (k : ℤ) (n : Option ℕ) (version : versions.Version) (wrong : VersionFault) → version ≡ newest (seen now)
       → known ≡ name → n ≡ asked_column k → IsTrue (is_name name) → RefusedBy (Layer layer_fault.OutOfMemory) (edges_refusal version known n) wrong
-      → Answers was (edges name k) now (error_line (Version wrong))
-  edges_refused name known k n version wrong is same number named refused =
-      answers_so was now stays made (edges name k) (error_line (Version wrong))
-      (λ _. elim refused [
+      → Answers stored was (edges name k) now (error_line (Version wrong))
+  edges_refused stored name known k n version wrong is same number named refused =
+      answers_so was now stays made stored (edges name k) (error_line (Version wrong))
+      (elim refused [
         | inl memory ↦ inl (named, record { nothing_made = refl; told = ap (λ f. error_line (Version f)) memory.0 })
         | inr by ↦
             inr (inr (named, inr (asked_some _ wrong _ (moved (λ v m c. edges_refusal v m c ≡ Some wrong) version (newest (seen now)) known name n (asked_column k) is same number by))))
       ])
 
-  pub edges_told : (name known : List ℕ) (k : ℤ) (n : Option ℕ) (version : versions.Version) (reply : List ℕ) → version ≡ newest (seen now)
-      → known ≡ name → n ≡ asked_column k → IsTrue (is_name name) → edges_refusal version known n ≡ None → AreEdges version known n reply → Answers was (edges name k) now reply
-  edges_told name known k n version reply is same number named free told =
-      answers_so was now stays made (edges name k) reply
-      (λ _. inr (inr (
+  pub edges_told : (stored : Bool) (name known : List ℕ) (k : ℤ) (n : Option ℕ) (version : versions.Version) (reply : List ℕ) → version ≡ newest (seen now)
+      → known ≡ name → n ≡ asked_column k → IsTrue (is_name name) → edges_refusal version known n ≡ None → AreEdges version known n reply → Answers stored was (edges name k) now reply
+  edges_told stored name known k n version reply is same number named free told =
+      answers_so was now stays made stored (edges name k) reply
+      (inr (inr (
         named,
         inr (asked_none _ [] reply _ (moved (λ v m c. edges_refusal v m c ≡ None) version (newest (seen now)) known name n (asked_column k) is same number free)
             (record { nothing_made = refl; told = moved (λ v m c. AreEdges v m c reply) version (newest (seen now)) known name n (asked_column k) is same number told })),
@@ -82,26 +83,26 @@ module _ (was now : Known) (stays : Stays was now) (made : now.made ≡ was.made
 
   -- ==== VERIFY
 
-  pub verify_gone : (name : List ℕ) (k : ℤ) (fault : CommandFault) → IsTrue (is_name name) → fault ≡ Gone → Answers was (verify name k) now (error_line fault)
-  verify_gone name k fault named gone = answers_so was now stays made (verify name k) (error_line fault) (λ _. inr (inr (named, inl (refl, refused_as fault Gone gone))))
+  pub verify_gone : (stored : Bool) (name : List ℕ) (k : ℤ) (fault : CommandFault) → IsTrue (is_name name) → fault ≡ Gone → Answers stored was (verify name k) now (error_line fault)
+  verify_gone stored name k fault named gone = answers_so was now stays made stored (verify name k) (error_line fault) (inr (inr (named, inl (refused_as fault Gone gone))))
 
-  pub verify_refused : (name known : List ℕ) (k : ℤ) (n : Option ℕ) (version : versions.Version) (wrong : VersionFault) → version ≡ newest (seen now)
+  pub verify_refused : (stored : Bool) (name known : List ℕ) (k : ℤ) (n : Option ℕ) (version : versions.Version) (wrong : VersionFault) → version ≡ newest (seen now)
       → known ≡ name → n ≡ asked_column k → IsTrue (is_name name) → RefusedBy (Layer layer_fault.OutOfMemory) (finished_refusal version known n) wrong
-      → Answers was (verify name k) now (error_line (Version wrong))
-  verify_refused name known k n version wrong is same number named refused =
-      answers_so was now stays made (verify name k) (error_line (Version wrong))
-      (λ _. elim refused [
+      → Answers stored was (verify name k) now (error_line (Version wrong))
+  verify_refused stored name known k n version wrong is same number named refused =
+      answers_so was now stays made stored (verify name k) (error_line (Version wrong))
+      (elim refused [
         | inl memory ↦ inl (named, record { nothing_made = refl; told = ap (λ f. error_line (Version f)) memory.0 })
         | inr by ↦
             inr (inr (named, inr (asked_some _ wrong _ (moved (λ v m c. finished_refusal v m c ≡ Some wrong) version (newest (seen now)) known name n (asked_column k) is same number by))))
       ])
 
-  pub verify_told : (name known : List ℕ) (k : ℤ) (n : Option ℕ) (version : versions.Version) (verdict : Verdict) → version ≡ newest (seen now)
+  pub verify_told : (stored : Bool) (name known : List ℕ) (k : ℤ) (n : Option ℕ) (version : versions.Version) (verdict : Verdict) → version ≡ newest (seen now)
       → known ≡ name → n ≡ asked_column k → IsTrue (is_name name) → finished_refusal version known n ≡ None → IsVerdict version known n verdict
-      → Answers was (verify name k) now (verdict_line verdict)
-  verify_told name known k n version verdict is same number named free right =
-      answers_so was now stays made (verify name k) (verdict_line verdict)
-      (λ _. inr (inr (
+      → Answers stored was (verify name k) now (verdict_line verdict)
+  verify_told stored name known k n version verdict is same number named free right =
+      answers_so was now stays made stored (verify name k) (verdict_line verdict)
+      (inr (inr (
         named,
         inr (asked_none _ [] (verdict_line verdict) _ (moved (λ v m c. finished_refusal v m c ≡ None) version (newest (seen now)) known name n (asked_column k) is same number free)
             (record {
@@ -121,29 +122,29 @@ Waited was now = (now.book ≡ was.book) × (now.session ≡ was.session) × (no
 pub waited_stays : (was now : Known) → BeginsWith (seen now) (seen was) → Waited was now → Stays was now
 waited_stays was now on same = record { book = same.0; session = same.1; goes_on = on }
 
-wait_refused_so : (was now : Known) (name : List ℕ) (fault : BookFault) → IsTrue (is_name name) → IsWaitRefused true (newest (seen now)) name fault
-    → IsOutOfMemory (wait name) [] (error_line (fault_told fault)) ⊎ IsAnswered true was.session (seen was) (wait name) (seen now) [] (error_line (fault_told fault))
-wait_refused_so was now name (book.Version wrong) named (inl by) = inr (inr (named, inr (asked_some _ wrong _ by)))
-wait_refused_so was now name (book.Version wrong) named (inr memory) = inl (named, record { nothing_made = refl; told = ap (λ f. error_line (Version f)) memory.0 })
-wait_refused_so was now name book.Closing named refused =
-    inr (inr (named, inr (asked_none _ [] _ _ refused.1 (inr (record { pending = refused.2; closing = (refl, refused_so Closing) })))))
-wait_refused_so was now name book.Gone named refused = inr (inr (named, inl (refl, refused_so Gone)))
-wait_refused_so was now name book.NoStore named refused = absurd refused
-wait_refused_so was now name (book.Store fault) named refused = absurd refused
+wait_refused_so : (stored : Bool) (was now : Known) (name : List ℕ) (fault : BookFault) → IsTrue (is_name name) → IsWaitRefused true (newest (seen now)) name fault
+    → IsOutOfMemory (wait name) [] (error_line (fault_told fault)) ⊎ IsAnswered stored was.session (seen was) (wait name) (seen now) [] (error_line (fault_told fault))
+wait_refused_so stored was now name (book.Version wrong) named (inl by) = inr (inr (named, inr (asked_some _ wrong _ by)))
+wait_refused_so stored was now name (book.Version wrong) named (inr memory) = inl (named, record { nothing_made = refl; told = ap (λ f. error_line (Version f)) memory.0 })
+wait_refused_so stored was now name book.Closing named refused =
+    inr (inr (named, inr (asked_none _ [] _ _ refused.1 (inr (record { pending = refused.2; closing = refused_so Closing })))))
+wait_refused_so stored was now name book.Gone named refused = inr (inr (named, inl (refused_so Gone)))
+wait_refused_so stored was now name book.NoStore named refused = absurd refused
+wait_refused_so stored was now name (book.Store fault) named refused = absurd refused
 
-pub wait_refused : (was now : Known) (name known : List ℕ) (fault : BookFault) → BeginsWith (seen now) (seen was) → Waited was now → known ≡ name → IsTrue (is_name name)
-    → IsWaitRefused true (newest (seen now)) known fault → (told : CommandFault) → told ≡ fault_told fault → Answers was (wait name) now (error_line told)
-wait_refused was now name known fault on same is named refused told same_told =
-    subst (λ (f : CommandFault). Answers was (wait name) now (error_line f)) (sym same_told)
-    (answers_so was now (waited_stays was now on same) same.2 (wait name) (error_line (fault_told fault))
-    (λ _. wait_refused_so was now name fault named (subst (λ n. IsWaitRefused true (newest (seen now)) n fault) is refused)))
+pub wait_refused : (stored : Bool) (was now : Known) (name known : List ℕ) (fault : BookFault) → BeginsWith (seen now) (seen was) → Waited was now → known ≡ name → IsTrue (is_name name)
+    → IsWaitRefused true (newest (seen now)) known fault → (told : CommandFault) → told ≡ fault_told fault → Answers stored was (wait name) now (error_line told)
+wait_refused stored was now name known fault on same is named refused told same_told =
+    subst (λ (f : CommandFault). Answers stored was (wait name) now (error_line f)) (sym same_told)
+    (answers_so was now (waited_stays was now on same) same.2 stored (wait name) (error_line (fault_told fault))
+    (wait_refused_so stored was now name fault named (subst (λ n. IsWaitRefused true (newest (seen now)) n fault) is refused)))
 
-pub wait_told : (was now : Known) (name known : List ℕ) (number : ℕ) → BeginsWith (seen now) (seen was) → Waited was now → known ≡ name → IsTrue (is_name name)
-    → IsBuiltAt (newest (seen now)) known number → Answers was (wait name) now (built_line number)
-wait_told was now name known number on same is named built =
+pub wait_told : (stored : Bool) (was now : Known) (name known : List ℕ) (number : ℕ) → BeginsWith (seen now) (seen was) → Waited was now → known ≡ name → IsTrue (is_name name)
+    → IsBuiltAt (newest (seen now)) known number → Answers stored was (wait name) now (built_line number)
+wait_told stored was now name known number on same is named built =
     let there = subst (λ n. IsBuiltAt (newest (seen now)) n number) is built in
-    answers_so was now (waited_stays was now on same) same.2 (wait name) (built_line number)
-    (λ _. inr (inr (named, inr (asked_none _ [] (built_line number) _ there.derived (inl (record { nothing_made = refl; built = there.built; told = ap built_line (sym there.numbered) }))))))
+    answers_so was now (waited_stays was now on same) same.2 stored (wait name) (built_line number)
+    (inr (inr (named, inr (asked_none _ [] (built_line number) _ there.derived (inl (record { nothing_made = refl; built = there.built; told = ap built_line (sym there.numbered) }))))))
 
 -- ==== SYNC
 
@@ -154,28 +155,45 @@ of_store store.Failed = inr (inr (inl refl))
 of_store store.SequenceLimit = inr (inr (inr (inl refl)))
 of_store store.OutOfMemory = inr (inr (inr (inr (inl refl))))
 
-sync_refused_so : (was now : Known) (fault : BookFault) → IsSyncRefused (newest (seen was)).number (newest (seen now)) fault
-    → IsOutOfMemory sync [] (error_line (fault_told fault)) ⊎ IsAnswered true was.session (seen was) sync (seen now) [] (error_line (fault_told fault))
-sync_refused_so was now (book.Version wrong) refused = absurd refused
-sync_refused_so was now book.Closing refused =
+-- why a wait for a durable number is refused, and what that says of the store
+sync_refused_so : (stored : Bool) (was now : Known) (fault : BookFault) → IsSyncRefused (newest (seen was)).number (newest (seen now)) fault
+    → (fault ≡ book.NoStore → stored ≡ false) → (stored ≡ false → (fault ≡ book.NoStore) ⊎ (fault ≡ book.Gone))
+    → IsOutOfMemory sync [] (error_line (fault_told fault)) ⊎ IsAnswered stored was.session (seen was) sync (seen now) [] (error_line (fault_told fault))
+sync_refused_so stored was now (book.Version wrong) refused only without = absurd refused
+sync_refused_so true was now book.Closing refused only without =
     inr (inr (inr (inr (refl, record { behind = refused; fault = Closing; of_store = inr (inr (inr (inr (inr refl)))); refused = refused_so Closing }))))
-sync_refused_so was now book.Gone refused = inr (inr (inl (refl, refused_so Gone)))
-sync_refused_so was now book.NoStore refused = inr (inl (refused_so NoStore))
-sync_refused_so was now (book.Store fault) refused =
+sync_refused_so false was now book.Closing refused only without = absurd (⊎_elim (λ e. absurd (cc)) (λ e. absurd (cc)) (without refl))
+sync_refused_so stored was now book.Gone refused only without = inr (inr (inl (refused_so Gone)))
+sync_refused_so stored was now book.NoStore refused only without = inr (inl (only refl, refused_so NoStore))
+sync_refused_so true was now (book.Store fault) refused only without =
     inr (inr (inr (inr (refl, record { behind = refused; fault = store_told fault; of_store = of_store fault; refused = refused_so (store_told fault) }))))
+sync_refused_so false was now (book.Store fault) refused only without = absurd (⊎_elim (λ e. absurd (cc)) (λ e. absurd (cc)) (without refl))
 
-pub sync_refused : (was now : Known) (fault : BookFault) → BeginsWith (seen now) (seen was) → Waited was now
-    → IsSyncRefused (newest (seen was)).number (newest (seen now)) fault → (told : CommandFault) → told ≡ fault_told fault → Answers was sync now (error_line told)
-sync_refused was now fault on same refused told same_told =
-    subst (λ (f : CommandFault). Answers was sync now (error_line f)) (sym same_told)
-    (answers_so was now (waited_stays was now on same) same.2 sync (error_line (fault_told fault)) (λ _. sync_refused_so was now fault refused))
+pub sync_refused : (stored : Bool) (was now : Known) (result : Result ℕ BookFault) (fault : BookFault) → result ≡ Err fault → BeginsWith (seen now) (seen was) → Waited was now
+    → IsSyncRefused (newest (seen was)).number (newest (seen now)) fault → (result ≡ Err book.NoStore → stored ≡ false)
+    → (stored ≡ false → IsErrAnd result (λ f. (f ≡ book.NoStore) ⊎ (f ≡ book.Gone)))
+    → (told : CommandFault) → told ≡ fault_told fault → Answers stored was sync now (error_line told)
+sync_refused stored was now result fault is on same refused only without told same_told =
+    let P : BookFault → Type 0 = λ f. (f ≡ book.NoStore) ⊎ (f ≡ book.Gone) in
+    subst (λ (f : CommandFault). Answers stored was sync now (error_line f)) (sym same_told)
+    (answers_so was now (waited_stays was now on same) same.2 stored sync (error_line (fault_told fault))
+    (sync_refused_so stored was now fault refused (λ e. only (is ∙ ap Err e)) (λ none. subst (λ (r : Result ℕ BookFault). IsErrAnd r P) is (without none))))
 
-pub sync_told : (was now : Known) (number : ℕ) → BeginsWith (seen now) (seen was) → Waited was now
-    → ((newest (seen now)).durable ≡ number) × ((newest (seen was)).number ≤ number) → Answers was sync now (durable_line number)
-sync_told was now number on same reached =
-    answers_so was now (waited_stays was now on same) same.2 sync (durable_line number)
-    (λ _. inr (inr (inr (inl (
-      refl,
+-- a book that tells a durable number has a store
+has_one : (stored : Bool) (result : Result ℕ BookFault) (number : ℕ) → result ≡ Ok number
+    → (stored ≡ false → IsErrAnd result (λ f. (f ≡ book.NoStore) ⊎ (f ≡ book.Gone))) → IsTrue stored
+has_one true result number is without = refl
+has_one false result number is without =
+    let P : BookFault → Type 0 = λ f. (f ≡ book.NoStore) ⊎ (f ≡ book.Gone) in
+    absurd (subst (λ (r : Result ℕ BookFault). IsErrAnd r P) is (without refl))
+
+pub sync_told : (stored : Bool) (was now : Known) (result : Result ℕ BookFault) (number : ℕ) → result ≡ Ok number → BeginsWith (seen now) (seen was) → Waited was now
+    → (stored ≡ false → IsErrAnd result (λ f. (f ≡ book.NoStore) ⊎ (f ≡ book.Gone)))
+    → ((newest (seen now)).durable ≡ number) × ((newest (seen was)).number ≤ number) → Answers stored was sync now (durable_line number)
+sync_told stored was now result number is on same without reached =
+    answers_so was now (waited_stays was now on same) same.2 stored sync (durable_line number)
+    (inr (inr (inr (inl (
+      has_one stored result number is without,
       record {
         nothing_made = refl;
         reached = subst (λ n. (newest (seen was)).number ≤ n) (sym reached.0) reached.1;

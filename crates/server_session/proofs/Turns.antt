@@ -1,8 +1,6 @@
 -- What a session keeps, whatever it is asked.
-use Rattle.std.proofs.Common.{List, [], ◌++◌, refl, sym, ap, ◌∙◌, subst, append_assoc, append-nil}
-use Rattle.overlay_terms.specs.Histories.{Entry, History, BeginsWith, IsHistory, newest}
-use Rattle.overlay_terms.specs.KeptLaws.{IsExact, TilesAreExact}
-use Rattle.overlay_terms.proofs.KeptHistories.{history_is_exact}
+use Rattle.std.proofs.Common.{List, [], ◌++◌, refl, sym, ap, ◌∙◌, append_assoc, append-nil}
+use Rattle.overlay_terms.specs.Histories.{Entry, History, BeginsWith}
 use Rattle.book_history.specs.Known.{Known, seen}
 use Rattle.server_session.specs.Turn.{Stays}
 
@@ -25,11 +23,3 @@ stays_trans was mid now one two = record {
   session = two.session ∙ one.session;
   goes_on = begins_trans (seen was) (seen mid) (seen now) one.goes_on two.goes_on;
 }
-
--- a history begins with what it began with
-pub exact_start : (was now : Known) → Stays was now → IsExact (seen was).start → IsExact (seen now).start
-exact_start was now stays exact = subst IsExact (sym (ap (λ (h : History). h.start) stays.goes_on.1)) exact
-
--- the tiles of the newest version that is seen are right, where those of the first were
-pub exact_seen : (was now : Known) → Stays was now → IsHistory (seen now) → IsExact (seen was).start → TilesAreExact (newest (seen now))
-exact_seen was now stays history exact = (history_is_exact (seen now) history (exact_start was now stays exact)).exact

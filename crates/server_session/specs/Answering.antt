@@ -1,7 +1,6 @@
 -- What a request, and a command, make of a session.
-use Rattle.std.specs.Prelude.{◌≡◌, ℕ, ◌⊎◌, true, List, ◌++◌, Result, Ok, Err}
+use Rattle.std.specs.Prelude.{◌≡◌, ℕ, ◌⊎◌, Bool, List, ◌++◌, Result, Ok, Err}
 use Rattle.overlay_terms.specs.Commands.{Command}
-use Rattle.overlay_terms.specs.KeptLaws.{IsExact}
 use Rattle.book_history.specs.Known.{Known, seen}
 use Rattle.script_form.specs.declared.fault.CommandFault.{CommandFault}
 use Rattle.script_form.specs.declared.fault.CommandFault.TheVariants.{OutOfMemory}
@@ -17,19 +16,19 @@ abbrev pub result_text : Result LineReply CommandFault → List ℕ
 result_text (Ok reply) = reply_text reply
 result_text (Err fault) = error_line fault
 
--- a request is answered, or memory ran out for it
-pub record IsAnswerOf (was : Known) (request : Request) (now : Known) (reply : List ℕ) : Type 0 where
+-- a request is answered, or memory ran out for it; `stored` says whether the book has a store
+pub record IsAnswerOf (stored : Bool) (was : Known) (request : Request) (now : Known) (reply : List ℕ) : Type 0 where
   pub made : List Command
-  pub answered : IsOutOfMemory request made reply ⊎ IsAnswered true was.session (seen was) request (seen now) made reply
+  pub answered : IsOutOfMemory request made reply ⊎ IsAnswered stored was.session (seen was) request (seen now) made reply
   pub only : now.made ≡ was.made ++ made
 
-pub record Answers (was : Known) (request : Request) (now : Known) (reply : List ℕ) : Type 0 where
+pub record Answers (stored : Bool) (was : Known) (request : Request) (now : Known) (reply : List ℕ) : Type 0 where
   pub stays : Stays was now
-  pub answered : IsExact (seen was).start → IsAnswerOf was request now reply
+  pub answered : IsAnswerOf stored was request now reply
 
 -- a command is submitted, or memory ran out
 pub record Submits (was : Known) (command : Command) (now : Known) (reply : List ℕ) : Type 0 where
   pub stays : Stays was now
   pub made : List Command
-  pub submitted : IsRefused OutOfMemory made reply ⊎ IsSubmitted true was.session (seen was) command (seen now) made reply
+  pub submitted : IsRefused OutOfMemory made reply ⊎ IsSubmitted was.session (seen was) command (seen now) made reply
   pub only : now.made ≡ was.made ++ made

@@ -1,5 +1,6 @@
 -- A session of a book that threads share: what it writes for what it reads, until its script ends or a fault ends it.
-use Rattle.std.specs.Prelude.{◌≡◌, ℕ, ◌+◌, ◌≤◌, ◌⊎◌, true, List, [], ◌++◌, take, length, Option}
+-- `stored` says whether the book has a store.
+use Rattle.std.specs.Prelude.{◌≡◌, ℕ, ◌+◌, ◌≤◌, ◌⊎◌, Bool, List, [], ◌++◌, take, length, Option}
 use Rattle.std.specs.Io.KnownBytes.{Appends, Consumes, IsAtEnd}
 use Rattle.overlay_terms.specs.Commands.{Command}
 use Rattle.book_history.specs.Known.{Known, seen}
@@ -12,49 +13,49 @@ use Rattle.script_form.specs.Writing.{IsCutShort}
 use Rattle.script_form.specs.Transcript.{IsTranscript}
 
 -- the replies to these lines, by histories from what the session had seen to what it has seen then; it made just what they made
-pub record IsSharedRun (was : Known) (lines : List (List ℕ)) (now : Known) (replies : List ℕ) : Type 0 where
+pub record IsSharedRun (stored : Bool) (was : Known) (lines : List (List ℕ)) (now : Known) (replies : List ℕ) : Type 0 where
   pub made : List Command
-  pub told : IsTranscript true was.session (seen was) lines (seen now) made replies
+  pub told : IsTranscript stored was.session (seen was) lines (seen now) made replies
   pub only : now.made ≡ was.made ++ made
 
 -- how a session ended, by what it had known and knows then, the bytes that it took, what the reader has left, and the
 -- bytes that it wrote
 -- its script ended: each line has its reply
-pub record IsEnded (was now : Known) (taken : List ℕ) (left : Option (List ℕ)) (written : List ℕ) : Type 0 where
+pub record IsEnded (stored : Bool) (was now : Known) (taken : List ℕ) (left : Option (List ℕ)) (written : List ℕ) : Type 0 where
   pub all_taken : IsAtEnd left
   pub short : length taken ≤ script_max
-  pub told : IsSharedRun was (whole_lines taken) now written
+  pub told : IsSharedRun stored was (whole_lines taken) now written
 
 -- a byte too many came: the lines that were ended before it have their replies, and the fault is the last line
-pub record IsPastLimit (was now : Known) (taken written : List ℕ) : Type 0 where
+pub record IsPastLimit (stored : Bool) (was now : Known) (taken written : List ℕ) : Type 0 where
   pub one_more : length taken ≡ script_max + 1
   pub replies : List ℕ
-  pub told : IsSharedRun was (ended_lines (take script_max taken)) now replies
+  pub told : IsSharedRun stored was (ended_lines (take script_max taken)) now replies
   pub fault : written ≡ replies ++ error_line ReadLimit
 
 -- a read failed: the lines that were ended by then have their replies, and the fault is the last line
-pub record IsReadFault (was now : Known) (taken written : List ℕ) : Type 0 where
+pub record IsReadFault (stored : Bool) (was now : Known) (taken written : List ℕ) : Type 0 where
   pub short : length taken ≤ script_max
   pub replies : List ℕ
-  pub told : IsSharedRun was (ended_lines taken) now replies
+  pub told : IsSharedRun stored was (ended_lines taken) now replies
   pub fault : written ≡ replies ++ error_line Read
 
 -- a front of what tells the first of some lines
-pub record IsCutOff (was now : Known) (lines : List (List ℕ)) (written : List ℕ) : Type 0 where
+pub record IsCutOff (stored : Bool) (was now : Known) (lines : List (List ℕ)) (written : List ℕ) : Type 0 where
   pub answered : List (List ℕ)
   pub later : List (List ℕ)
   pub read : lines ≡ answered ++ later
   pub replies : List ℕ
-  pub told : IsSharedRun was answered now replies
+  pub told : IsSharedRun stored was answered now replies
   pub front : IsCutShort replies written
 
 -- a write failed: what is written is a front of the replies to the first of the lines that were ended within the limit,
 -- of the whole script's where it was read to its end, or of all that another fault's session writes
-abbrev pub IsWriteFault : Known → Known → List ℕ → Option (List ℕ) → List ℕ → Type 0
-IsWriteFault was now taken left written =
-    IsCutOff was now (ended_lines (take script_max taken)) written
-    ⊎ (IsAtEnd left × (length taken ≤ script_max) × IsCutOff was now (whole_lines taken) written)
-    ⊎ ((text : List ℕ) × (IsPastLimit was now taken text ⊎ IsReadFault was now taken text) × IsCutShort text written)
+abbrev pub IsWriteFault : Bool → Known → Known → List ℕ → Option (List ℕ) → List ℕ → Type 0
+IsWriteFault stored was now taken left written =
+    IsCutOff stored was now (ended_lines (take script_max taken)) written
+    ⊎ (IsAtEnd left × (length taken ≤ script_max) × IsCutOff stored was now (whole_lines taken) written)
+    ⊎ ((text : List ℕ) × (IsPastLimit stored was now taken text ⊎ IsReadFault stored was now taken text) × IsCutShort text written)
 
 -- no memory for the session itself: it read and wrote nothing, and saw and made nothing
 pub record IsNotBegun (was now : Known) (taken written : List ℕ) : Type 0 where
@@ -62,16 +63,16 @@ pub record IsNotBegun (was now : Known) (taken written : List ℕ) : Type 0 wher
   pub nothing_written : written ≡ []
   pub nothing_seen : now ≡ was
 
-abbrev pub EndsSo : SessionEnd → Known → Known → List ℕ → Option (List ℕ) → List ℕ → Type 0
-EndsSo End was now taken left written = IsEnded was now taken left written
-EndsSo (Failed code) was now taken left written =
-    ((code ≡ 47) × IsPastLimit was now taken written) ⊎ ((code ≡ 48) × IsReadFault was now taken written)
-    ⊎ ((code ≡ 49) × IsWriteFault was now taken left written) ⊎ ((code ≡ 40) × IsNotBegun was now taken written)
+abbrev pub EndsSo : Bool → SessionEnd → Known → Known → List ℕ → Option (List ℕ) → List ℕ → Type 0
+EndsSo stored End was now taken left written = IsEnded stored was now taken left written
+EndsSo stored (Failed code) was now taken left written =
+    ((code ≡ 47) × IsPastLimit stored was now taken written) ⊎ ((code ≡ 48) × IsReadFault stored was now taken written)
+    ⊎ ((code ≡ 49) × IsWriteFault stored was now taken left written) ⊎ ((code ≡ 40) × IsNotBegun was now taken written)
 
 -- what was taken from the reader, what was appended to the writer, and how the session ended
-pub record IsSharedSession (end : SessionEnd) (was now : Known) (input left output all : Option (List ℕ)) : Type 0 where
+pub record IsSharedSession (stored : Bool) (end : SessionEnd) (was now : Known) (input left output all : Option (List ℕ)) : Type 0 where
   pub taken : List ℕ
   pub written : List ℕ
   pub reads : Consumes input left taken
   pub writes : Appends output all written
-  pub ended : EndsSo end was now taken left written
+  pub ended : EndsSo stored end was now taken left written

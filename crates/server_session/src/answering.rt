@@ -1,25 +1,28 @@
 //! The answer to one line.
-ghost use Rattle.std.specs.Prelude.{◌≡◌, IfOk, IfErr};
+ghost use Rattle.std.specs.Prelude.{◌≡◌, Bool, IfOk, IfErr};
 ghost use Rattle.std.specs.Arc.{arc_value};
 ghost use Rattle.overlay_terms.specs.Histories.{newest, IsHistory};
 ghost use Rattle.book_history.specs.Known.{seen};
 ghost use Rattle.layer_book.specs.Command.{command};
 ghost use Rattle.script_form.specs.LineReply.{reply_text};
 ghost use Rattle.script_form.specs.Request.{request};
-ghost use Rattle.script_form.specs.Requests.{put, define, remove, locate, list_layers, edges, wait, verify, sync};
+ghost use Rattle.script_form.specs.Requests.{put, define, remove, locate, grid, list_layers, edges, wait, verify, sync};
 ghost use Rattle.script_form.specs.Transcript.{asked_column};
 ghost use Rattle.server_session.specs.Answering.{Answers, Submits, result_text};
 ghost use Rattle.server_session.specs.Turn.{Stays, TakesTurn};
+ghost use Rattle.version_book.specs.Store.{has_store};
 
 use crate::fault::command_fault;
 use exact_point::QueryPoint;
 use layer_book::command::Command;
+use overlay_grid::{GridSpec, grid};
 use plane_base::Column;
 use script_form::{
     CommandFault, LineReply, Request, read_define, read_name, read_put, read_remove, request_of,
 };
 use std::alloc::Global;
 use std::sync::{Arc, Wait};
+use std::thread::Threads;
 use version_book::seen_log::Naming;
 use version_book::session::Session;
 use version_book::shared::Shared;
@@ -27,7 +30,7 @@ use version_core::version::Version;
 
 /// What a line makes of the book and the session, and the reply. A line that is too long may be handed in cut off
 /// behind its first 65,537 bytes.
-pub fn answer<J: Naming, S: Wait + Drop, Q: Wait>(
+pub fn answer<J: Naming, S: Wait + Drop, Q: Wait + Threads + Sync>(
     rt: &Q,
     alloc: Global,
     shared: &Shared<J, S>,
@@ -35,7 +38,7 @@ pub fn answer<J: Naming, S: Wait + Drop, Q: Wait>(
     line: &[u8],
 ) -> LineReply
     requires { me.old.book ≡ J.book }
-    ensures { TakesTurn me.old line.now me.new (reply_text result) }
+    ensures { TakesTurn (has_store shared.now) me.old line.now me.new (reply_text result) }
 {
     match answer_request(rt, alloc, shared, me, request_of(line)) {
         Ok(reply) => reply,
@@ -43,7 +46,7 @@ pub fn answer<J: Naming, S: Wait + Drop, Q: Wait>(
     }
 }
 
-fn answer_request<J: Naming, S: Wait + Drop, Q: Wait>(
+fn answer_request<J: Naming, S: Wait + Drop, Q: Wait + Threads + Sync>(
     rt: &Q,
     alloc: Global,
     shared: &Shared<J, S>,
@@ -51,7 +54,7 @@ fn answer_request<J: Naming, S: Wait + Drop, Q: Wait>(
     asked: Request<'_>,
 ) -> Result<LineReply, CommandFault>
     requires { me.old.book ≡ J.book }
-    ensures { Answers me.old (request asked.entry) me.new (result_text result) }
+    ensures { Answers (has_store shared.now) me.old (request asked.entry) me.new (result_text result) }
 {
     match asked {
         Request::Nothing => Ok(LineReply::Nothing),
@@ -61,6 +64,9 @@ fn answer_request<J: Naming, S: Wait + Drop, Q: Wait>(
         Request::Define(name, text) => answer_define(rt, alloc, shared, me, name, text),
         Request::Remove(name) => answer_remove(rt, alloc, shared, me, name),
         Request::Locate(name, x, y, w) => answer_locate(alloc, me, name, x, y, w),
+        Request::Grid(name, x, y, step, nx, ny) => {
+            answer_grid(rt, alloc, me, name, x, y, step, nx, ny)
+        }
         Request::ListLayers => answer_list(alloc, me),
         Request::Edges(name, number) => answer_edges(alloc, me, name, number),
         Request::Wait(name) => answer_wait(rt, alloc, shared, me, name),
@@ -78,7 +84,7 @@ fn answer_put<J: Naming, S: Wait + Drop, Q: Wait>(
     text: &[u8],
 ) -> Result<LineReply, CommandFault>
     requires { me.old.book ≡ J.book }
-    ensures { Answers me.old (put name.now text.now) me.new (result_text result) }
+    ensures { Answers (has_store shared.now) me.old (put name.now text.now) me.new (result_text result) }
 {
     let change = read_put(alloc, name, text)?;
     submit(rt, alloc, shared, me, &change)
@@ -93,7 +99,7 @@ fn answer_define<J: Naming, S: Wait + Drop, Q: Wait>(
     text: &[u8],
 ) -> Result<LineReply, CommandFault>
     requires { me.old.book ≡ J.book }
-    ensures { Answers me.old (define name.now text.now) me.new (result_text result) }
+    ensures { Answers (has_store shared.now) me.old (define name.now text.now) me.new (result_text result) }
 {
     let change = read_define(alloc, name, text)?;
     submit(rt, alloc, shared, me, &change)
@@ -107,7 +113,7 @@ fn answer_remove<J: Naming, S: Wait + Drop, Q: Wait>(
     name: &[u8],
 ) -> Result<LineReply, CommandFault>
     requires { me.old.book ≡ J.book }
-    ensures { Answers me.old (remove name.now) me.new (result_text result) }
+    ensures { Answers (has_store shared.now) me.old (remove name.now) me.new (result_text result) }
 {
     let change = read_remove(alloc, name)?;
     submit(rt, alloc, shared, me, &change)
@@ -153,7 +159,7 @@ fn answer_locate(
     y: i64,
     w: i64,
 ) -> Result<LineReply, CommandFault>
-    ensures { Answers me.old (locate name.now x y w) me.new (result_text result) }
+    ensures { (stored : Bool) → Answers stored me.old (locate name.now x y w) me.new (result_text result) }
 {
     let name = read_name(alloc, name)?;
     let query = QueryPoint::new(x, y, w)?;
@@ -162,8 +168,29 @@ fn answer_locate(
     Ok(LineReply::Located(place))
 }
 
+/// The picture of a layer, by as many threads as there are.
+fn answer_grid<Q: Threads + Sync>(
+    rt: &Q,
+    alloc: Global,
+    me: &mut Session,
+    name: &[u8],
+    x: i64,
+    y: i64,
+    step: i64,
+    nx: i64,
+    ny: i64,
+) -> Result<LineReply, CommandFault>
+    ensures { (stored : Bool) → Answers stored me.old (grid name.now x y step nx ny) me.new (result_text result) }
+{
+    let name = read_name(alloc, name)?;
+    let points = GridSpec::new(x, y, step, nx, ny)?;
+    let version = look(me)?;
+    let picture = grid(rt, alloc, &version, &name, &points)?;
+    Ok(LineReply::Lines(picture))
+}
+
 fn answer_list(alloc: Global, me: &mut Session) -> Result<LineReply, CommandFault>
-    ensures { Answers me.old list_layers me.new (result_text result) }
+    ensures { (stored : Bool) → Answers stored me.old list_layers me.new (result_text result) }
 {
     let version = look(me)?;
     Ok(LineReply::Lines(version.layers().list(alloc)?))
@@ -176,7 +203,7 @@ fn answer_edges(
     name: &[u8],
     number: i64,
 ) -> Result<LineReply, CommandFault>
-    ensures { Answers me.old (edges name.now number) me.new (result_text result) }
+    ensures { (stored : Bool) → Answers stored me.old (edges name.now number) me.new (result_text result) }
 {
     let name = read_name(alloc, name)?;
     let version = look(me)?;
@@ -193,7 +220,7 @@ fn answer_wait<J: Naming, S: Wait + Drop, Q: Wait>(
     name: &[u8],
 ) -> Result<LineReply, CommandFault>
     requires { me.old.book ≡ J.book }
-    ensures { Answers me.old (wait name.now) me.new (result_text result) }
+    ensures { Answers (has_store shared.now) me.old (wait name.now) me.new (result_text result) }
 {
     let name = read_name(alloc, name)?;
     match shared.wait_built(rt, me, &name) {
@@ -209,7 +236,7 @@ fn answer_verify(
     name: &[u8],
     number: i64,
 ) -> Result<LineReply, CommandFault>
-    ensures { Answers me.old (verify name.now number) me.new (result_text result) }
+    ensures { (stored : Bool) → Answers stored me.old (verify name.now number) me.new (result_text result) }
 {
     let name = read_name(alloc, name)?;
     let version = look(me)?;
@@ -224,7 +251,7 @@ fn answer_sync<J: Naming, S: Wait + Drop, Q: Wait>(
     me: &mut Session,
 ) -> Result<LineReply, CommandFault>
     requires { me.old.book ≡ J.book }
-    ensures { Answers me.old sync me.new (result_text result) }
+    ensures { Answers (has_store shared.now) me.old sync me.new (result_text result) }
 {
     match shared.wait_durable(rt, me) {
         Ok(number) => Ok(LineReply::Durable(number)),

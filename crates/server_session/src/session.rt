@@ -1,8 +1,8 @@
 //! A session of a book that threads share, from the bytes of a script to the bytes of its replies.
 ghost use Rattle.std.specs.Prelude.{◌≡◌, ◌<◌, ◌∷◌, [], length, IfOk};
 ghost use Rattle.overlay_terms.specs.Histories.{BeginsWith};
-ghost use Rattle.overlay_terms.specs.KeptLaws.{IsExact};
 ghost use Rattle.book_history.specs.Known.{seen};
+ghost use Rattle.version_book.specs.Store.{has_store};
 ghost use Rattle.server_session.specs.Session.{IsSharedSession};
 ghost use Rattle.server_session.specs.Loop.{AnswersLine, TakesBytes, Finishes, EndsBy};
 ghost use Rattle.server_session.specs.Turn.{Stays};
@@ -12,6 +12,7 @@ use script_form::{LineBuffer, SCRIPT_MAX, SessionEnd, read_chunk, write_reply, w
 use std::alloc::{AllocError, Global};
 use std::io::{Read, Write};
 use std::sync::Wait;
+use std::thread::Threads;
 use version_book::seen_log::Naming;
 use version_book::session::Session;
 use version_book::shared::Shared;
@@ -26,7 +27,7 @@ struct WriteFailed;
 /// Runs a script in a book that other threads may change: reads its lines, and writes the reply to each before it asks
 /// for more bytes. The room for its lines is had first, and a fault's line takes none: where there is none it fails with
 /// 40, and from then on no want of memory ends it.
-pub fn session_run<J: Naming, S: Wait + Drop, Q: Wait, R: Read, W: Write>(
+pub fn session_run<J: Naming, S: Wait + Drop, Q: Wait + Threads + Sync, R: Read, W: Write>(
     rt: &Q,
     alloc: Global,
     shared: &Shared<J, S>,
@@ -35,7 +36,7 @@ pub fn session_run<J: Naming, S: Wait + Drop, Q: Wait, R: Read, W: Write>(
     writer: &mut W,
 ) -> SessionEnd
     requires { me.old.book ≡ J.book }
-    ensures run { IsExact (seen me.old).start → IsSharedSession result me.old me.new (R.remaining reader.old)
+    ensures run { IsSharedSession (has_store shared.now) result me.old me.new (R.remaining reader.old)
         (R.remaining reader.new) (W.contents writer.old) (W.contents writer.new) }
     ensures goes_on { BeginsWith (seen me.new) (seen me.old) }
     ensures same { (me.new.book ≡ me.old.book) × (me.new.session ≡ me.old.session) }
@@ -65,7 +66,7 @@ fn buffers(alloc: Global) -> Result<(LineBuffer, Vec<u8>), AllocError>
     Ok((line, chunk))
 }
 
-fn run<J: Naming, S: Wait + Drop, Q: Wait, R: Read, W: Write>(
+fn run<J: Naming, S: Wait + Drop, Q: Wait + Threads + Sync, R: Read, W: Write>(
     rt: &Q,
     alloc: Global,
     shared: &Shared<J, S>,
@@ -78,7 +79,7 @@ fn run<J: Naming, S: Wait + Drop, Q: Wait, R: Read, W: Write>(
     requires book { me.old.book ≡ J.book }
     requires empty { line.old ≡ [] }
     requires room { 0 < length chunk.old }
-    ensures run { IsExact (seen me.old).start → IsSharedSession result me.old me.new (R.remaining reader.old)
+    ensures run { IsSharedSession (has_store shared.now) result me.old me.new (R.remaining reader.old)
         (R.remaining reader.new) (W.contents writer.old) (W.contents writer.new) }
     ensures stays { Stays me.old me.new }
 {
@@ -100,7 +101,7 @@ fn run<J: Naming, S: Wait + Drop, Q: Wait, R: Read, W: Write>(
 }
 
 /// Takes bytes of the script, and answers each line that they end.
-fn take_bytes<J: Naming, S: Wait + Drop, Q: Wait, W: Write>(
+fn take_bytes<J: Naming, S: Wait + Drop, Q: Wait + Threads + Sync, W: Write>(
     rt: &Q,
     alloc: Global,
     shared: &Shared<J, S>,
@@ -110,7 +111,8 @@ fn take_bytes<J: Naming, S: Wait + Drop, Q: Wait, W: Write>(
     writer: &mut W,
 ) -> Result<(), WriteFailed>
     requires { me.old.book ≡ J.book }
-    ensures takes { TakesBytes result me.old line.old bytes.now me.new line.new (W.contents writer.old) (W.contents writer.new) }
+    ensures takes { TakesBytes (has_store shared.now) result me.old line.old bytes.now me.new line.new
+        (W.contents writer.old) (W.contents writer.new) }
     ensures stays { Stays me.old me.new }
 {
     for byte in bytes {
@@ -119,7 +121,7 @@ fn take_bytes<J: Naming, S: Wait + Drop, Q: Wait, W: Write>(
     Ok(())
 }
 
-fn take_byte<J: Naming, S: Wait + Drop, Q: Wait, W: Write>(
+fn take_byte<J: Naming, S: Wait + Drop, Q: Wait + Threads + Sync, W: Write>(
     rt: &Q,
     alloc: Global,
     shared: &Shared<J, S>,
@@ -129,7 +131,8 @@ fn take_byte<J: Naming, S: Wait + Drop, Q: Wait, W: Write>(
     writer: &mut W,
 ) -> Result<(), WriteFailed>
     requires { me.old.book ≡ J.book }
-    ensures takes { TakesBytes result me.old line.old (byte ∷ []) me.new line.new (W.contents writer.old) (W.contents writer.new) }
+    ensures takes { TakesBytes (has_store shared.now) result me.old line.old (byte ∷ []) me.new line.new
+        (W.contents writer.old) (W.contents writer.new) }
     ensures stays { Stays me.old me.new }
 {
     if byte != b'\n' {
@@ -141,7 +144,7 @@ fn take_byte<J: Naming, S: Wait + Drop, Q: Wait, W: Write>(
     Ok(())
 }
 
-fn answer_line<J: Naming, S: Wait + Drop, Q: Wait, W: Write>(
+fn answer_line<J: Naming, S: Wait + Drop, Q: Wait + Threads + Sync, W: Write>(
     rt: &Q,
     alloc: Global,
     shared: &Shared<J, S>,
@@ -150,7 +153,8 @@ fn answer_line<J: Naming, S: Wait + Drop, Q: Wait, W: Write>(
     writer: &mut W,
 ) -> Result<(), WriteFailed>
     requires { me.old.book ≡ J.book }
-    ensures { AnswersLine result me.old line.now me.new (W.contents writer.old) (W.contents writer.new) }
+    ensures { AnswersLine (has_store shared.now) result me.old line.now me.new
+        (W.contents writer.old) (W.contents writer.new) }
 {
     let reply = answer(rt, alloc, shared, me, line);
     match write_reply(writer, &reply) {
@@ -160,7 +164,7 @@ fn answer_line<J: Naming, S: Wait + Drop, Q: Wait, W: Write>(
 }
 
 /// At the end of the script: answers a last line that lacks its line feed.
-fn finish<J: Naming, S: Wait + Drop, Q: Wait, W: Write>(
+fn finish<J: Naming, S: Wait + Drop, Q: Wait + Threads + Sync, W: Write>(
     rt: &Q,
     alloc: Global,
     shared: &Shared<J, S>,
@@ -169,7 +173,8 @@ fn finish<J: Naming, S: Wait + Drop, Q: Wait, W: Write>(
     writer: &mut W,
 ) -> SessionEnd
     requires { me.old.book ≡ J.book }
-    ensures finishes { Finishes result me.old line.now me.new (W.contents writer.old) (W.contents writer.new) }
+    ensures finishes { Finishes (has_store shared.now) result me.old line.now me.new
+        (W.contents writer.old) (W.contents writer.new) }
     ensures stays { Stays me.old me.new }
 {
     let bytes = line.bytes();

@@ -5,18 +5,18 @@ use Rattle.server_session.proofs.AnswerLemmas.{list_gone, list_no_memory, list_t
 use Rattle.server_session.proofs.answering.answer_list.Goals as goal
 
 pub returns-in_err-version : goal.returns-in_err-version
-returns-in_err-version c =
+returns-in_err-version c stored =
     let p = err_from_is_err_and c.from_residual.result c.from_residual.ensures.1 in
     let e = c.look.ensures in
-    rw (p.1, p.2) (list_gone c.args.me.now c.look.new.me e.stays e.made _ c.in_err-version.ensures.err)
+    rw (p.1, p.2) (list_gone c.args.me.now c.look.new.me e.stays e.made stored _ c.in_err-version.ensures.err)
 
 pub returns-in_err-list : goal.returns-in_err-list
-returns-in_err-list c =
+returns-in_err-list c stored =
     let p = err_from_is_err_and c.from_residual-in_err-list.result c.from_residual-in_err-list.ensures.1 in
     let e = c.look.ensures in
-    rw (p.1, p.2) (list_no_memory c.args.me.now c.look.new.me e.stays e.made)
+    rw (p.1, p.2) (list_no_memory c.args.me.now c.look.new.me e.stays e.made stored)
 
 pub returns : goal.returns
-returns c =
+returns c stored =
     let e = c.look.ensures in
-    list_told c.args.me.now c.look.new.me e.stays e.made _ _ (c.deref.ensures ∙ c.in_ok-version.ensures.newest) (c.in_ok-list.ensures ∙ ap layers_text c.layers.ensures.value)
+    list_told c.args.me.now c.look.new.me e.stays e.made stored _ _ (c.deref.ensures ∙ c.in_ok-version.ensures.newest) (c.in_ok-list.ensures ∙ ap layers_text c.layers.ensures.value)

@@ -3,10 +3,25 @@ use Rattle.server_session.proofs.AnswerLemmas.{answers_there, refused_so}
 use Rattle.server_session.proofs.answering.answer_request.Goals as goal
 
 pub returns-in-Nothing : goal.returns-in-Nothing
-returns-in-Nothing g c = rw c.in-Nothing.is (answers_there c.args.me.now _ _ (inr (record { nothing_made = refl; told = refl })))
+returns-in-Nothing g c = rw c.in-Nothing.is (answers_there _ c.args.me.now _ _ (inr (record { nothing_made = refl; told = refl })))
 
 pub returns-in-TooLong : goal.returns-in-TooLong
-returns-in-TooLong g c = rw c.in-TooLong.is (answers_there c.args.me.now _ _ (inr (refused_so _)))
+returns-in-TooLong g c = rw c.in-TooLong.is (answers_there _ c.args.me.now _ _ (inr (refused_so _)))
 
 pub returns-in-Malformed : goal.returns-in-Malformed
-returns-in-Malformed g c = rw c.in-Malformed.is (answers_there c.args.me.now _ _ (inr (refused_so _)))
+returns-in-Malformed g c = rw c.in-Malformed.is (answers_there _ c.args.me.now _ _ (inr (refused_so _)))
+
+pub returns-in-Locate : goal.returns-in-Locate
+returns-in-Locate g c = rw c.in-Locate.is (c.answer_locate.ensures _)
+
+pub returns-in-Grid : goal.returns-in-Grid
+returns-in-Grid g c = rw c.in-Grid.is (c.answer_grid.ensures _)
+
+pub returns-in-ListLayers : goal.returns-in-ListLayers
+returns-in-ListLayers g c = rw c.in-ListLayers.is (c.answer_list.ensures _)
+
+pub returns-in-Edges : goal.returns-in-Edges
+returns-in-Edges g c = rw c.in-Edges.is (c.answer_edges.ensures _)
+
+pub returns-in-Verify : goal.returns-in-Verify
+returns-in-Verify g c = rw c.in-Verify.is (c.answer_verify.ensures _)

@@ -4,9 +4,10 @@ use Rattle.server_session.proofs.answering.answer_sync.Goals as goal
 pub returns-in-Ok : goal.returns-in-Ok
 returns-in-Ok g c =
     let e = c.wait_durable.ensures in
-    sync_told c.args.me.now c.wait_durable.new.me c.in-Ok.number e.goes_on e.same c.in-Ok.ensures.ok
+    sync_told _ c.args.me.now c.wait_durable.new.me _ c.in-Ok.number c.in-Ok.is e.goes_on e.same e.without c.in-Ok.ensures.ok
 
 pub returns-in-Err : goal.returns-in-Err
 returns-in-Err g c =
     let e = c.wait_durable.ensures in
-    sync_refused c.args.me.now c.wait_durable.new.me c.in-Err.fault e.goes_on e.same c.in-Err.ensures.refused _ c.command_fault.ensures
+    sync_refused _ c.args.me.now c.wait_durable.new.me _ c.in-Err.fault c.in-Err.is e.goes_on e.same c.in-Err.ensures.refused e.only_without e.without _
+    c.command_fault.ensures

@@ -1,7 +1,6 @@
 -- The session is under way.
 use Rattle.std.proofs.Common.{◌≡◌, ◌-◌, ◌≤◌, length}
-use Rattle.overlay_terms.specs.KeptLaws.{IsExact}
-use Rattle.book_history.specs.Known.{seen}
+use Rattle.version_book.specs.Store.{has_store}
 use Rattle.server_session.specs.Turn.{Stays}
 use Rattle.server_session.proofs.Endings.{IsUnderWay}
 use Rattle.server_session.proofs.session.run.Given as goal
@@ -11,8 +10,7 @@ invariant-loop-taken g l = record {
   limited : l.taken ≤ 16777217;
   room : length l.chunk ≡ length l.initial.chunk;
   stays : Stays l.initial.me l.me;
-  way : IsExact (seen l.initial.me).start
-      → IsUnderWay l.initial.me (g.R.Read.remaining l.initial.reader) (g.R.Read.remaining l.reader) (g.W.Write.contents l.initial.writer) (g.W.Write.contents l.writer) l.taken l.line l.me;
+  way : IsUnderWay (has_store l.shared) l.initial.me (g.R.Read.remaining l.initial.reader) (g.R.Read.remaining l.reader) (g.W.Write.contents l.initial.writer) (g.W.Write.contents l.writer) l.taken l.line l.me;
 }
 
 abbrev pub decreases-loop-taken : goal.decreases-loop-taken

@@ -9,7 +9,7 @@ pub returns-in-Ok-clause-same : goal.returns-in-Ok-clause-same
 returns-in-Ok-clause-same g c = (c.run.ensures.stays.book, c.run.ensures.stays.session)
 
 pub returns-in-Err-clause-run : goal.returns-in-Err-clause-run
-returns-in-Err-clause-run g c exact = begins_not c.args.me.now _ _
+returns-in-Err-clause-run g c = begins_not _ c.args.me.now _ _
 
 pub returns-in-Err-clause-goes_on : goal.returns-in-Err-clause-goes_on
 returns-in-Err-clause-goes_on g c = (stays_self c.args.me.now).goes_on

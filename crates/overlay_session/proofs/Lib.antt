@@ -1,7 +1,0 @@
-pub mod Runs
-pub mod Steps
-pub mod Endings
-pub mod HistoryLemmas
-pub mod AnswerLemmas
-pub mod TileAnswers
-pub mod BuildLemmas

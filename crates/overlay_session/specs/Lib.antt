@@ -1,5 +1,0 @@
-pub mod Session
-pub mod Building
-pub mod Turn
-pub mod Loop
-pub mod Answering
