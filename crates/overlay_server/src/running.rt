@@ -47,7 +47,7 @@ impl<J: Naming, R: Read> Promise<Ended<R>> for RunsScript<J, R> {
 /// A thread that runs a script.
 pub type Running<J, R> = PromisedHandle<Ended<R>, RunsScript<J, R>>;
 
-fn run_script<J: Naming, S: Wait + Drop, Q: Wait, R: Read>(
+fn run_script<J: Naming, S: Wait + Drop, Q: Threads + Wait + Sync, R: Read>(
     rt: &Q,
     alloc: Global,
     shared: &Shared<J, S>,
