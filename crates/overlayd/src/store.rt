@@ -5,6 +5,7 @@ use file_disk::file_disk::FileDisk;
 use overlay_engine::engine::Engine;
 use program_words::plan::Plan;
 use std::fs::File;
+use std::io::ErrorKind;
 use std::rt::Files;
 
 /// Makes or opens the store that the words name. None comes where they name none.
@@ -15,9 +16,7 @@ pub fn open_store<Q: Files<File = File> + AllocGlobal>(
     let Some(path) = &plan.store else {
         return Ok(None);
     };
-    let Ok(disk) = FileDisk::at(rt, path.as_str(), plan.create) else {
-        return Err(ProgramFault::Store(StoreFault::Device));
-    };
+    let disk = open_disk(rt, path, plan.create)?;
     let opened = if plan.create {
         Engine::create(rt.alloc(), disk, plan.max_blocks)
     } else {
@@ -26,5 +25,17 @@ pub fn open_store<Q: Files<File = File> + AllocGlobal>(
     match opened {
         Ok(engine) => Ok(Some(engine)),
         Err(refused) => Err(ProgramFault::Store(refused.fault)),
+    }
+}
+
+fn open_disk<Q: Files<File = File> + AllocGlobal>(
+    rt: &Q,
+    path: &str,
+    make: bool,
+) -> Result<FileDisk, ProgramFault> {
+    match FileDisk::at(rt, path, make) {
+        Ok(disk) => Ok(disk),
+        Err(error) if error.kind() == ErrorKind::OutOfMemory => Err(ProgramFault::OutOfMemory),
+        Err(_) => Err(ProgramFault::Store(StoreFault::Device)),
     }
 }
