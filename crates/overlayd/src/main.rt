@@ -7,7 +7,7 @@ mod running;
 mod script;
 mod store;
 
-use crate::fault::{ProgramFault, Text};
+use crate::fault::Text;
 use crate::running::run;
 use std::process::ExitCode;
 
@@ -17,10 +17,7 @@ fn main(rt: HostRuntime) -> ExitCode {
         Ok(false) => ExitCode::FAILURE,
         Err(fault) => {
             let _printed = eprintln!(rt; "error {} {}", fault.code(), Text(fault));
-            match fault {
-                ProgramFault::Words => ExitCode::from(2),
-                _ => ExitCode::FAILURE,
-            }
+            ExitCode::from(fault.status())
         }
     }
 }

@@ -1,4 +1,7 @@
 //! What the words ask for, from the scripts to what is printed.
+ghost use Rattle.std.specs.Prelude.{◌≡◌, true};
+ghost use Rattle.overlayd.specs.Ending.{IsWhole};
+
 use crate::fault::ProgramFault;
 use crate::printing::print_all;
 use crate::script::open_scripts;
@@ -40,7 +43,10 @@ pub fn run<Q: Env + Files<File = File> + Threads + Wait + Sync + AllocGlobal>(
 }
 
 /// Whether every script was read to its end, and the newest version is stored where there is a store.
-fn is_whole<D>(served: &Served<D>, has_store: bool) -> bool {
+fn is_whole<D>(served: &Served<D>, has_store: bool) -> bool
+    ensures yes { result ≡ true → IsWhole has_store served.now }
+    ensures no { IsWhole has_store served.now → result ≡ true }
+{
     let ended = served.sessions.iter().all(|session| session.end == SessionEnd::End);
     ended && (!has_store || served.closed.stored >= served.closed.version.number())
 }
