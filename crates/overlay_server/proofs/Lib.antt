@@ -1,2 +1,4 @@
+pub mod Durable
 pub mod Lists
 pub mod Parts
+pub mod Stores

@@ -1,84 +1,147 @@
 -- The sessions of a server, their readers, and what they left, side by side.
-use Rattle.std.proofs.Common.{◌≡◌, ◌++◌, ◌∷◌, [], ℕ, zero, suc, ◌<◌, ◌+◌, List, Option, Some, None, length, map, refl, ap, sym, ◌∙◌, subst, omega, arith}
+use Rattle.std.proofs.Common.{◌≡◌, ◌++◌, ◌∷◌, [], ℕ, zero, suc, Bool, ◌<◌, ◌+◌, List, Option, Some, None, length, map, refl, ap, sym, ◌∙◌, subst, arith}
 use Rattle.std.specs.List.{All, AllZip, AllByRecursion}
 use Rattle.std.proofs.lemmas.List.Elements.{All-append, All-cons, All-nil, All-head, All-tail}
 use Rattle.logbook.specs.Pages.{Book}
-use Rattle.overlay_terms.specs.Histories.{Version, Entry}
-use Rattle.overlay_terms.specs.KeptLaws.{IsExact}
+use Rattle.overlay_terms.specs.Histories.{Version, Entry, History, BeginsWith}
 use Rattle.book_history.specs.Known.{Known, seen}
+use Rattle.book_history.specs.Logs.{history_of}
+use Rattle.book_history.proofs.Chains.{begins_with}
 use Rattle.book_lock.specs.Steps.{beginners, HasAllOf}
-use Rattle.book_history.specs.Trails.{Trail}
 use Rattle.overlay_server.specs.Running.{IsRunOf}
-use Rattle.overlay_server.specs.Seats.{session_of, reader_of, outcome_of}
-use Rattle.overlay_server.specs.Serving.{IsServed, Part, first_log}
+use Rattle.overlay_server.specs.Seats.{session_of, reader_of, ended_session, outcome_of}
+use Rattle.overlay_server.specs.Serving.{AreServed, IsServed, Part, first_log}
 use Rattle.overlay_server.specs.declared.running.Script.{Script}
 use Rattle.overlay_server.specs.declared.running.Ended.{Ended}
 use Rattle.overlay_server.specs.declared.outcome.Outcome.{Outcome}
 
-pub parts_of : {R : Type 0} → List (Script R) → List (Ended R) → List (Part R)
+-- a session that a book begins with: it has seen the first version alone
+abbrev beginner : Book → Version → ℕ → Known
+beginner book start n = record { book = book; session = n; log = first_log start; made = [] }
+
+parts_of : {R : Type 0} → List (Script R) → List (Ended R) → List (Part R)
 parts_of [] ended = []
 parts_of (s ∷ ss) [] = []
 parts_of (s ∷ ss) (e ∷ es) = record { session = s.session; reader = s.reader; outcome = outcome_of e } ∷ parts_of ss es
 
 module _ {R : Type 0} (P : Script R → Ended R → Type 0) where
-  pub sessions_are : (ss : List (Script R)) (es : List (Ended R)) → AllZip P ss es → map (λ (p : Part R). p.session) (parts_of ss es) ≡ map session_of ss
+  sessions_are : (ss : List (Script R)) (es : List (Ended R)) → AllZip P ss es → map (λ (p : Part R). p.session) (parts_of ss es) ≡ map session_of ss
   sessions_are [] [] h = refl
   sessions_are [] (e ∷ es) h = absurd h
   sessions_are (s ∷ ss) [] h = absurd h
-  sessions_are (s ∷ ss) (e ∷ es) h = ap (λ (ks : List Known). s.session ∷ ks) (sessions_are ss es h.1)
+  sessions_are (s ∷ ss) (e ∷ es) h = ap (λ (ks : List Known). session_of s ∷ ks) (sessions_are ss es h.1)
 
-  pub readers_are : (ss : List (Script R)) (es : List (Ended R)) → AllZip P ss es → map (λ (p : Part R). p.reader) (parts_of ss es) ≡ map reader_of ss
+  readers_are : (ss : List (Script R)) (es : List (Ended R)) → AllZip P ss es → map (λ (p : Part R). p.reader) (parts_of ss es) ≡ map reader_of ss
   readers_are [] [] h = refl
   readers_are [] (e ∷ es) h = absurd h
   readers_are (s ∷ ss) [] h = absurd h
   readers_are (s ∷ ss) (e ∷ es) h = ap (λ (rs : List R). s.reader ∷ rs) (readers_are ss es h.1)
 
-  pub outcomes_are : (ss : List (Script R)) (es : List (Ended R)) → AllZip P ss es → map (λ (p : Part R). p.outcome) (parts_of ss es) ≡ map outcome_of es
+  outcomes_are : (ss : List (Script R)) (es : List (Ended R)) → AllZip P ss es → map (λ (p : Part R). p.outcome) (parts_of ss es) ≡ map outcome_of es
   outcomes_are [] [] h = refl
   outcomes_are [] (e ∷ es) h = absurd h
   outcomes_are (s ∷ ss) [] h = absurd h
   outcomes_are (s ∷ ss) (e ∷ es) h = ap (λ (os : List Outcome). outcome_of e ∷ os) (outcomes_are ss es h.1)
 
--- each session that ran from this version was served, where the log has all of it
-pub served : {R : Type 0} (book : Book) (remaining : R → Option (List ℕ)) (start : Version) (log : List Entry) (ss : List (Script R)) (es : List (Ended R))
-    → AllZip (IsRunOf book remaining) ss es → AllByRecursion (λ (s : Script R). (seen s.session).start ≡ start) ss
-    → All (HasAllOf log) (map (λ (e : Ended R). e.session) es) → AllByRecursion (IsServed remaining start log) (parts_of ss es)
-served book remaining start log [] es ran begun own = tt
-served book remaining start log (s ∷ ss) [] ran begun own = absurd ran
-served book remaining start log (s ∷ ss) (e ∷ es) ran begun own = (
-  record {
-    now = e.session;
-    left = remaining e.reader;
-    same = ran.0.same;
-    ran = λ exact. ran.0.ran (subst IsExact (sym begun.0) exact);
-    own = All-head (HasAllOf log) e.session (map (λ (x : Ended R). x.session) es) own;
-  },
-  served book remaining start log ss es ran.1 begun.1 (All-tail (HasAllOf log) e.session (map (λ (x : Ended R). x.session) es) own),
-)
+-- ---- what holds of all sessions
 
--- the sessions that a book begins with are of it, and have seen its first version alone
-pub all_begin : (book : Book) (start : Version) (P : Known → Type 0) → ((n : ℕ) → P (record { book = book; session = n; log = first_log start; made = [] }))
+-- the sessions that a book begins with
+pub all_begin : (book : Book) (start : Version) (P : Known → Type 0) → ((n : ℕ) → P (beginner book start n))
     → (n : ℕ) → All P (beginners (record { book = book; log = first_log start }) n)
 all_begin book start P each zero = All-nil P
 all_begin book start P each (suc n) =
-    All-append P (beginners (record { book = book; log = first_log start }) n) (record { book = book; session = n; log = first_log start; made = [] } ∷ [])
-    (all_begin book start P each n) (All-cons P (record { book = book; session = n; log = first_log start; made = [] }) [] (each n) (All-nil P))
+    All-append P (beginners (record { book = book; log = first_log start }) n) (beginner book start n ∷ [])
+    (all_begin book start P each n) (All-cons P (beginner book start n) [] (each n) (All-nil P))
 
--- what holds of all scripts' sessions
-pub of_scripts : {R : Type 0} (P : Known → Type 0) (ss : List (Script R)) → All P (map session_of ss) → All (λ (s : Script R). P s.session) ss
-of_scripts P [] h = All-nil (λ s. P s.session)
+-- of all scripts' sessions
+pub of_scripts : {R : Type 0} (P : Known → Type 0) (ss : List (Script R)) → All P (map session_of ss) → All (λ (s : Script R). P (session_of s)) ss
+of_scripts P [] h = All-nil (λ s. P (session_of s))
 of_scripts P (s ∷ ss) h =
-    All-cons (λ s. P s.session) s ss (All-head P s.session (map session_of ss) h) (of_scripts P ss (All-tail P s.session (map session_of ss) h))
+    All-cons (λ s. P (session_of s)) s ss (All-head P (session_of s) (map session_of ss) h) (of_scripts P ss (All-tail P (session_of s) (map session_of ss) h))
 
-pub each_script : {R : Type 0} (P : Script R → Type 0) (ss : List (Script R)) → All P ss → AllByRecursion P ss
+each_script : {R : Type 0} (P : Script R → Type 0) (ss : List (Script R)) → All P ss → AllByRecursion P ss
 each_script P [] h = tt
 each_script P (s ∷ ss) h = (All-head P s ss h, each_script P ss (All-tail P s ss h))
 
--- what holds of each session that has ended holds of the sessions
-pub of_ended : {R : Type 0} (book : Book) (remaining : R → Option (List ℕ)) (ss : List (Script R)) (es : List (Ended R))
-    → AllZip (IsRunOf book remaining) ss es → All (λ (k : Known). k.book ≡ book) (map (λ (e : Ended R). e.session) es)
-of_ended book remaining [] [] h = All-nil (λ (k : Known). k.book ≡ book)
-of_ended book remaining [] (e ∷ es) h = absurd h
-of_ended book remaining (s ∷ ss) [] h = absurd h
-of_ended book remaining (s ∷ ss) (e ∷ es) h =
-    All-cons (λ (k : Known). k.book ≡ book) e.session (map (λ (x : Ended R). x.session) es) h.0.of (of_ended book remaining ss es h.1)
+-- of all sessions that have ended
+pub of_ended : {R : Type 0} (book : Book) (stored : Bool) (remaining : R → Option (List ℕ)) (ss : List (Script R)) (es : List (Ended R))
+    → AllZip (IsRunOf book stored remaining) ss es → All (λ (k : Known). k.book ≡ book) (map ended_session es)
+of_ended book stored remaining [] [] h = All-nil (λ (k : Known). k.book ≡ book)
+of_ended book stored remaining [] (e ∷ es) h = absurd h
+of_ended book stored remaining (s ∷ ss) [] h = absurd h
+of_ended book stored remaining (s ∷ ss) (e ∷ es) h =
+    All-cons (λ (k : Known). k.book ≡ book) (ended_session e) (map ended_session es) h.0.of (of_ended book stored remaining ss es h.1)
+
+-- ---- what a server owes
+
+-- each session that ran was served, where the log has all of it
+served : {R : Type 0} (book : Book) (stored : Bool) (remaining : R → Option (List ℕ)) (log : List Entry) (ss : List (Script R)) (es : List (Ended R))
+    → AllZip (IsRunOf book stored remaining) ss es → All (HasAllOf log) (map ended_session es) → AllByRecursion (IsServed stored remaining log) (parts_of ss es)
+served book stored remaining log [] es ran own = tt
+served book stored remaining log (s ∷ ss) [] ran own = absurd ran
+served book stored remaining log (s ∷ ss) (e ∷ es) ran own = (
+  record {
+    now = ended_session e;
+    left = remaining e.reader;
+    same = ran.0.same;
+    goes_on = ran.0.goes_on;
+    ran = ran.0.ran;
+    own = All-head (HasAllOf log) (ended_session e) (map ended_session es) own;
+  },
+  served book stored remaining log ss es ran.1 (All-tail (HasAllOf log) (ended_session e) (map ended_session es) own),
+)
+
+-- the first session's history shows where the log begins
+begins_there : {R : Type 0} (book : Book) (stored : Bool) (remaining : R → Option (List ℕ)) (start : Version) (log : List Entry) (ss : List (Script R)) (es : List (Ended R))
+    → AllZip (IsRunOf book stored remaining) ss es → AllByRecursion (λ (s : Script R). (seen s.session).start ≡ start) ss
+    → All (HasAllOf log) (map ended_session es) → 0 < length ss → (history_of log).start ≡ start
+begins_there book stored remaining start log [] es ran begun own some = absurd (omega (arith, some))
+begins_there book stored remaining start log (s ∷ ss) [] ran begun own some = absurd ran
+begins_there book stored remaining start log (s ∷ ss) (e ∷ es) ran begun own some =
+    let first = All-head (HasAllOf log) (ended_session e) (map ended_session es) own in
+    let on = begins_with e.session.log log ran.0.begun first.longer in
+    ap (λ (h : History). h.start) on.1 ∙ ap (λ (h : History). h.start) ran.0.goes_on.1 ∙ begun.0
+
+-- the scripts of a server whose sessions its book began with
+pub record AreSeated {R : Type 0} (book : Book) (start : Version) (readers : List R) (scripts : List (Script R)) : Type 0 where
+  pub sessions : map session_of scripts ≡ beginners (record { book = book; log = first_log start }) (length readers)
+  pub readers_are : map reader_of scripts ≡ readers
+
+pub all_of_book : {R : Type 0} (book : Book) (start : Version) (readers : List R) (scripts : List (Script R)) → AreSeated book start readers scripts
+    → All (λ (s : Script R). s.session.book ≡ book) scripts
+all_of_book book start readers scripts seated =
+    of_scripts (λ (k : Known). k.book ≡ book) scripts
+    (subst (All (λ (k : Known). k.book ≡ book)) (sym seated.sessions) (all_begin book start (λ (k : Known). k.book ≡ book) (λ n. refl) (length readers)))
+
+starts_there : {R : Type 0} (book : Book) (start : Version) (readers : List R) (scripts : List (Script R)) → AreSeated book start readers scripts
+    → AllByRecursion (λ (s : Script R). (seen s.session).start ≡ start) scripts
+starts_there book start readers scripts seated =
+    let P : Known → Type 0 = λ k. (seen k).start ≡ start in
+    each_script (λ s. P (session_of s)) scripts
+    (of_scripts P scripts (subst (All P) (sym seated.sessions) (all_begin book start P (λ n. refl) (length readers))))
+
+length-map_reader : {R : Type 0} (ss : List (Script R)) → length (map reader_of ss) ≡ length ss
+length-map_reader [] = refl
+length-map_reader (s ∷ ss) = ap suc (length-map_reader ss)
+
+-- there are as many scripts as readers
+pub as_many : {R : Type 0} (book : Book) (start : Version) (readers : List R) (scripts : List (Script R)) → AreSeated book start readers scripts
+    → length scripts ≡ length readers
+as_many book start readers scripts seated = sym (length-map_reader scripts) ∙ ap (λ (rs : List _). length rs) seated.readers_are
+
+module _ {R : Type 0} (book : Book) (stored : Bool) (remaining : R → Option (List ℕ)) (start : Version) (readers : List R) (scripts : List (Script R)) (seated : AreSeated book start readers scripts)
+    (ended : List (Ended R)) (ran : AllZip (IsRunOf book stored remaining) scripts ended) (log : List Entry) (own : All (HasAllOf log) (map ended_session ended)) where
+  pub are_served : AreServed stored remaining start log readers (map outcome_of ended)
+  are_served = record {
+    book = book;
+    parts = parts_of scripts ended;
+    sessions = sessions_are (IsRunOf book stored remaining) scripts ended ran ∙ seated.sessions;
+    readers_are = readers_are (IsRunOf book stored remaining) scripts ended ran ∙ seated.readers_are;
+    outcomes_are = outcomes_are (IsRunOf book stored remaining) scripts ended ran;
+    served = served book stored remaining log scripts ended ran own;
+  }
+
+  pub begins_first : 0 < length readers → (history_of log).start ≡ start
+  begins_first some =
+      begins_there book stored remaining start log scripts ended ran (starts_there book start readers scripts seated) own
+      (omega (arith, some, as_many book start readers scripts seated))

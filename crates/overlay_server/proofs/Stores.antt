@@ -1,41 +1,130 @@
 -- The store of a server through its runs, and what is left of it at the end.
-use Rattle.std.proofs.Common.{◌≡◌, ℕ, ◌≤◌, ◌<◌, List, [], ◌∷◌, length, Option, Some, None, refl, sym, ◌∙◌, ap, subst, arith}
-use mathlib.Core.List.{IsPrefix}
+use Rattle.std.proofs.Common.{◌≡◌, ℕ, ◌≤◌, List, [], ◌∷◌, Option, Some, None, IfSome, IfNone, MatchOption, All, refl, sym, ◌∙◌, ap, subst, arith}
 use Rattle.logbook.specs.Pages.{Book}
 use Rattle.disk_model.specs.declared.disk.Disk.{Ghosts}
 use Rattle.disk_model.specs.Moments.{Leaves, LeavesOnly}
 use Rattle.disk_model.proofs.Runs.{widened}
 use Rattle.overlay_terms.specs.Histories.{Entry, History, Version, BeginsWith}
+use Rattle.root_store.specs.declared.phase.Phase.TheVariants.{Idle}
 use Rattle.flush_core.specs.declared.flusher.Flusher.{Flusher}
+use Rattle.book_history.specs.Logs.{history_of, newest_in, IsLog}
 use Rattle.version_book.specs.Heard.{Heard}
-use Rattle.book_history.specs.Logs.{history_of}
 use Rattle.store_flushing.specs.Among.{IsFileIn}
 use Rattle.store_flushing.specs.Storing.{IsStoreOf, Flushes}
 use Rattle.store_flushing.proofs.Histories.{file_more, begins_self}
-use Rattle.store_flushing.proofs.Storage.{then, begun, store_leaves}
-use Rattle.overlay_server.specs.Keeping.{AreFlushed, IsKept}
-use Rattle.overlay_server.specs.Serving.{IsStopped, first_log}
+use Rattle.store_flushing.proofs.Storage.{OnlyNow, begun, store_leaves, then}
+use Rattle.book_closing.specs.Files.{IsFileExactlyIn}
+use Rattle.book_closing.specs.declared.closing.Closed.{Closed}
+use Rattle.overlay_server.specs.Keeping.{AreFlushed, IsFlushed, IsKept}
+use Rattle.overlay_server.specs.Serving.{AreLeft, AreStopped, IsLeftBy, IsStoppedBy, first_log}
 use Rattle.overlay_server.specs.declared.storing.Store.{Store}
 
 module _ {D : Type 0} (g : Ghosts D) where
+  -- since now there is no other moment
+  abbrev pub AtNow : D → Type 0
+  AtNow disk = g.is_honest disk → (c : List ℕ) → g.left_since disk (g.moment disk) c → g.may_leave disk c
+
+  -- ---- two runs in a row
+
   flushed_twice : (a b c : Heard) (f h k : Option (Flusher D)) → AreFlushed g a f b h → AreFlushed g b h c k → AreFlushed g a f c k
   flushed_twice a b c None None None first second = second ∙ first
   flushed_twice a b c None None (Some w) first second = absurd second
   flushed_twice a b c None (Some v) k first second = absurd first
   flushed_twice a b c (Some u) None k first second = absurd first
   flushed_twice a b c (Some u) (Some v) None first second = absurd second
-  flushed_twice a b c (Some u) (Some v) (Some w) first second = λ is.
-      let one = first is in
-      then g (history_of a.log) (history_of b.log) (history_of c.log) u v w one (second one.store)
+  flushed_twice a b c (Some u) (Some v) (Some w) first second = record {
+    flushes = λ is. let one = first.flushes is in
+        then g (history_of a.log) (history_of b.log) (history_of c.log) u v w one (second.flushes one.store);
+    rests = second.rests;
+  }
 
-  -- two runs of the store in a row
   pub kept_twice : (book : Book) (a b c : Store D) → IsKept book g a b → IsKept book g b c → IsKept book g a c
   kept_twice book a b c first second = record {
     of = second.of;
+    valid = second.valid;
+    begun = second.begun;
     flushed = flushed_twice a.reporter b.reporter c.reporter a.flusher b.flusher c.flusher first.flushed second.flushed;
   }
 
+  -- ---- at the end of a book
+
   -- what a run leaves, told of a longer history
-  pub moments_on : (was now : History) (least : ℕ) (old new : D) → BeginsWith now was → LeavesOnly g old new (IsFileIn was least) → LeavesOnly g old new (IsFileIn now least)
+  moments_on : (was now : History) (least : ℕ) (old new : D) → BeginsWith now was → LeavesOnly g old new (IsFileIn was least) → LeavesOnly g old new (IsFileIn now least)
   moments_on was now least old new on run =
       widened g old new (IsFileIn was least) (IsFileIn now least) (λ c file. file_more was now least least c on (omega arith) file) run
+
+  -- what is said of the number and the disk that are left
+  at_disk : (P : ℕ → List ℕ → Type 0) (back : Option D) (disk : D) (stored number : ℕ) → back ≡ Some disk → stored ≡ number
+      → IfSome back (λ (d : D). Leaves g d (P stored)) → Leaves g disk (P number)
+  at_disk P back disk stored number is same left =
+      subst (λ (n : ℕ). Leaves g disk (P n)) same (subst (λ (o : Option D). IfSome o (λ (d : D). Leaves g d (P stored))) is left)
+
+  -- what `close` tells of a store, where the log goes on from what its reporter has seen
+  pub record Closes (now : Heard) (store : Option (Flusher D)) (closed : Closed D) : Type 0 where
+    pub on : BeginsWith (history_of closed.trace.log) (history_of now.log)
+    pub none : IfNone store ((closed.stored ≡ 0) × (closed.disk ≡ None))
+    pub disk : IfSome store (λ (f : Flusher D). (closed.stored ≡ f.stored) × (closed.disk ≡ Some f.commit.disk))
+    pub reported : IfSome store (λ (f : Flusher D). (newest_in now.log).durable ≤ f.stored → All (λ (e : Entry). e.version.durable ≤ closed.stored) closed.trace.log)
+    pub files : IfSome store (λ (f : Flusher D). Leaves g f.commit.disk (IsFileIn (history_of now.log) f.stored)
+        → IfSome closed.disk (λ (d : D). Leaves g d (IsFileIn (history_of closed.trace.log) closed.stored)))
+    pub exactly : IfSome store (λ (f : Flusher D). IsStoreOf g (history_of now.log) f → f.commit.phase ≡ Idle
+        → IfSome closed.disk (λ (d : D). Leaves g d (IsFileExactlyIn (history_of closed.trace.log) closed.stored)))
+
+  pub left_by : (start : Version) (was now : Heard) (old new : Option (Flusher D)) (closed : Closed D) → was.log ≡ first_log start
+      → AreFlushed g was old now new → Closes now new closed → AreLeft g start old closed
+  left_by start was now None None closed first flushed closes = closes.none
+  left_by start was now None (Some l) closed first flushed closes = absurd flushed
+  left_by start was now (Some f) None closed first flushed closes = absurd flushed
+  left_by start was now (Some f) (Some l) closed first flushed closes = record {
+    last = l;
+    disk = closes.disk.1;
+    stored = closes.disk.0;
+    rests = flushed.rests;
+    left = λ is.
+        let run = flushed.flushes (subst (λ (log : List Entry). IsStoreOf g (history_of log) f) (sym first) is) in
+        let log = closed.trace.log in
+        record {
+          no_less = run.no_less;
+          moments = moments_on (history_of now.log) (history_of log) f.stored f.commit.disk l.commit.disk closes.on run.moments;
+          reported = subst (λ (n : ℕ). All (λ (e : Entry). e.version.durable ≤ n) log) closes.disk.0 (closes.reported run.store.reported);
+          files = at_disk (IsFileIn (history_of log)) closed.disk l.commit.disk closed.stored l.stored closes.disk.1 closes.disk.0
+              (closes.files (store_leaves g (history_of now.log) l run.store));
+          exactly = λ idle. at_disk (IsFileExactlyIn (history_of log)) closed.disk l.commit.disk closed.stored l.stored closes.disk.1 closes.disk.0
+              (closes.exactly run.store idle);
+        };
+  }
+
+  -- ---- where a server could not run
+
+  pub stopped_by : (start : Version) (was now : Heard) (old new : Option (Flusher D)) (back : Option D) → was.log ≡ first_log start → IsLog now.log
+      → AreFlushed g was old now new → MatchOption new (back ≡ None) (λ (f : Flusher D). back ≡ Some f.commit.disk) → AreStopped g start old back
+  stopped_by start was now None None back first valid flushed is = is
+  stopped_by start was now None (Some l) back first valid flushed is = absurd flushed
+  stopped_by start was now (Some f) None back first valid flushed is = absurd flushed
+  stopped_by start was now (Some f) (Some l) back first valid flushed is = record {
+    disk = l.commit.disk;
+    there = is;
+    stopped = λ store.
+        let run = flushed.flushes (subst (λ (log : List Entry). IsStoreOf g (history_of log) f) (sym first) store) in
+        record {
+          log = now.log;
+          valid = valid;
+          begins = ap (λ (h : History). h.start) run.goes_on.1 ∙ ap (λ (log : List Entry). (history_of log).start) first;
+          moments = run.moments;
+        };
+  }
+
+  -- before any thread ran
+  pub stopped_at_once : (start : Version) (old : Option (Flusher D)) (back : Option D) → ((disk : D) → AtNow disk)
+      → MatchOption old (back ≡ None) (λ (f : Flusher D). back ≡ Some f.commit.disk) → AreStopped g start old back
+  stopped_at_once start None back now is = is
+  stopped_at_once start (Some f) back now is = record {
+    disk = f.commit.disk;
+    there = is;
+    stopped = λ store. record {
+      log = first_log start;
+      valid = (refl, tt);
+      begins = refl;
+      moments = (begun g (history_of (first_log start)) f (now f.commit.disk store.honest) store).moments;
+    };
+  }

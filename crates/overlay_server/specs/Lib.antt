@@ -1,4 +1,6 @@
+pub mod Durability
 pub mod Keeping
+pub mod Rooms
 pub mod Running
 pub mod Seats
 pub mod Serving

@@ -1,15 +1,18 @@
 -- How a session ran in its thread.
-use Rattle.std.specs.Prelude.{◌≡◌, ℕ, List, [], Option, Some}
+use Rattle.std.specs.Prelude.{◌≡◌, ◌<◌, ℕ, Bool, List, [], length, Option, Some}
 use Rattle.logbook.specs.Pages.{Book}
-use Rattle.overlay_terms.specs.KeptLaws.{IsExact}
+use Rattle.overlay_terms.specs.Histories.{BeginsWith}
 use Rattle.book_history.specs.Known.{seen}
 use Rattle.server_session.specs.Session.{IsSharedSession}
 use Rattle.overlay_server.specs.declared.running.Script.{Script}
 use Rattle.overlay_server.specs.declared.running.Ended.{Ended}
 
--- a session of this book ran its script: what it wrote are the replies, from what it had seen to what it has seen then
-pub record IsRunOf {R : Type 0} (book : Book) (remaining : R → Option (List ℕ)) (script : Script R) (ended : Ended R) : Type 0 where
+-- a session of this book ran its script: what it wrote are the replies, from what it had seen to what it has seen then;
+-- `stored` says whether the book has a store
+pub record IsRunOf {R : Type 0} (book : Book) (stored : Bool) (remaining : R → Option (List ℕ)) (script : Script R) (ended : Ended R) : Type 0 where
   pub of : ended.session.book ≡ book
   pub same : ended.session.session ≡ script.session.session
-  pub ran : IsExact (seen script.session).start → IsSharedSession ended.end script.session ended.session
+  pub begun : 0 < length ended.session.log
+  pub goes_on : BeginsWith (seen ended.session) (seen script.session)
+  pub ran : IsSharedSession stored ended.end script.session ended.session
       (remaining script.reader) (remaining ended.reader) (Some []) (Some ended.bytes.items)

@@ -1,20 +1,22 @@
 -- What a server leaves: its sessions' replies, and its store.
-use Rattle.std.specs.Prelude.{◌≡◌, ◌⊎◌, ◌∷◌, ℕ, List, [], length, map, Option, Some, None, IsSome, IfSome}
+use Rattle.std.specs.Prelude.{◌≡◌, ◌⊎◌, ◌∷◌, ◌≤◌, ℕ, Bool, false, is_some, List, [], length, map, All, Option, Some, None}
 use Rattle.std.specs.Arc.{arc_value}
-use Rattle.std.specs.List.{AllZip, AllByRecursion}
+use Rattle.std.specs.List.{AllByRecursion}
 use Rattle.logbook.specs.Pages.{Book}
 use Rattle.disk_model.specs.declared.disk.Disk.{Ghosts}
 use Rattle.disk_model.specs.Moments.{Leaves, LeavesOnly}
-use Rattle.overlay_terms.specs.Histories.{Version, Entry, empty_version}
-use Rattle.overlay_terms.specs.KeptLaws.{IsExact}
+use Rattle.overlay_terms.specs.Histories.{Version, Entry, BeginsWith, empty_version}
+use Rattle.root_store.specs.Running.{is_busy}
+use Rattle.root_store.specs.declared.phase.Phase.TheVariants.{Idle}
 use Rattle.flush_core.specs.declared.flusher.Flusher.{Flusher}
 use Rattle.overlay_engine.specs.declared.engine.Engine.{Engine}
-use Rattle.book_history.specs.Known.{Known}
+use Rattle.book_history.specs.Known.{Known, seen}
 use Rattle.book_history.specs.Logs.{entry, no_event, history_of, newest_in, IsLog}
 use Rattle.book_lock.specs.Steps.{beginners, HasAllOf}
 use Rattle.server_session.specs.Session.{IsSharedSession}
 use Rattle.store_flushing.specs.Among.{IsFileIn}
 use Rattle.store_flushing.specs.Storing.{IsStoreOf}
+use Rattle.book_closing.specs.Files.{IsFileExactlyIn}
 use Rattle.book_closing.specs.declared.closing.Closed.{Closed}
 use Rattle.overlay_server.specs.declared.outcome.Outcome.{Outcome}
 use Rattle.overlay_server.specs.declared.outcome.Served.{Served}
@@ -34,57 +36,89 @@ flusher_of (Some engine) = Some engine.flusher
 abbrev pub first_log : Version → List Entry
 first_log start = entry no_event start ∷ []
 
+-- ---- sessions
+
 -- a session's part in a server: what it had seen at first, its reader, and what it left
 pub record Part (R : Type 0) : Type 0 where
   pub session : Known
   pub reader : R
   pub outcome : Outcome
 
--- a session was served: what it wrote are the replies to its reader's lines, by chains that the last version's chain goes
--- on from, which has just the commands that the session made
-pub record IsServed {R : Type 0} (remaining : R → Option (List ℕ)) (start : Version) (log : List Entry) (part : Part R) : Type 0 where
+-- a session was served: what it wrote are the replies to its reader's lines, by histories that it has seen then; the log
+-- has all of that, and of the session's commands just those that it made; `stored` says whether there is a store
+pub record IsServed {R : Type 0} (stored : Bool) (remaining : R → Option (List ℕ)) (log : List Entry) (part : Part R) : Type 0 where
   pub now : Known
   pub left : Option (List ℕ)
   pub same : now.session ≡ part.session.session
-  pub ran : IsExact start → IsSharedSession part.outcome.end part.session now (remaining part.reader) left (Some []) (Some part.outcome.bytes.items)
+  pub goes_on : BeginsWith (seen now) (seen part.session)
+  pub ran : IsSharedSession stored part.outcome.end part.session now (remaining part.reader) left (Some []) (Some part.outcome.bytes.items)
   pub own : HasAllOf log now
 
--- each reader has a session of the book that begins with a version, which was served
-pub record AreServed {R : Type 0} (remaining : R → Option (List ℕ)) (start : Version) (log : List Entry) (readers : List R) (outcomes : List Outcome) : Type 0 where
+-- each reader has a session of the book that begins with a version, by their order, and was served
+pub record AreServed {R : Type 0} (stored : Bool) (remaining : R → Option (List ℕ)) (start : Version) (log : List Entry) (readers : List R) (outcomes : List Outcome) : Type 0 where
   pub book : Book
   pub parts : List (Part R)
-  pub sessions : map (λ part. part.session) parts ≡ beginners (record { book = book; log = first_log start }) (length readers)
-  pub readers_are : map (λ part. part.reader) parts ≡ readers
-  pub outcomes_are : map (λ part. part.outcome) parts ≡ outcomes
-  pub served : AllByRecursion (IsServed remaining start log) parts
+  pub sessions : map (λ (part : Part R). part.session) parts ≡ beginners (record { book = book; log = first_log start }) (length readers)
+  pub readers_are : map (λ (part : Part R). part.reader) parts ≡ readers
+  pub outcomes_are : map (λ (part : Part R). part.outcome) parts ≡ outcomes
+  pub served : AllByRecursion (IsServed stored remaining log) parts
 
--- what is left of a store of the first version: a crash at any moment of the run leaves a file that stands for a version of
--- the history that has ended, no older than what was stored at first, and from then on no older than what is stored
-pub record IsLeft {D : Type 0} (g : Ghosts D) (start : Version) (old : Flusher D) (closed : Closed D) : Type 0 where
-  pub disk : D
-  pub there : closed.disk ≡ Some disk
-  pub moments : IsStoreOf g (history_of (first_log start)) old
-      → LeavesOnly g old.commit.disk disk (IsFileIn (history_of closed.trace.log) old.stored)
-  pub files : IsStoreOf g (history_of (first_log start)) old
-      → Leaves g disk (IsFileIn (history_of closed.trace.log) closed.stored)
+-- ---- the store
 
--- a server that could not run: a crash at any moment left a file that stands for a version of a history that went on from
--- the first version
-pub record IsStopped {D : Type 0} (g : Ghosts D) (start : Version) (old : Flusher D) (disk : D) : Type 0 where
-  pub log : List Entry
-  pub begins : (history_of log).start ≡ start
-  pub moments : IsStoreOf g (history_of (first_log start)) old
-      → LeavesOnly g old.commit.disk disk (IsFileIn (history_of log) old.stored)
+module _ {D : Type 0} (g : Ghosts D) where
+  -- what a run leaves of a store: a crash at any moment of it leaves a file that stands for a version of the log that the
+  -- run ended with, no older than what was stored at first, and from then on no older than what is stored; that is no
+  -- older than what was reported durable; and just it where no device call has failed
+  pub record IsLeftBy (log : List Entry) (old last : Flusher D) : Type 0 where
+    pub no_less : old.stored ≤ last.stored
+    pub moments : LeavesOnly g old.commit.disk last.commit.disk (IsFileIn (history_of log) old.stored)
+    pub reported : All (λ (e : Entry). e.version.durable ≤ last.stored) log
+    pub files : Leaves g last.commit.disk (IsFileIn (history_of log) last.stored)
+    pub exactly : last.commit.phase ≡ Idle → Leaves g last.commit.disk (IsFileExactlyIn (history_of log) last.stored)
+
+  -- what is left of a store of the first version: its disk, with no commit under way
+  pub record IsLeft (start : Version) (old : Flusher D) (closed : Closed D) : Type 0 where
+    pub last : Flusher D
+    pub disk : closed.disk ≡ Some last.commit.disk
+    pub stored : closed.stored ≡ last.stored
+    pub rests : is_busy last.commit.phase ≡ false
+    pub left : IsStoreOf g (history_of (first_log start)) old → IsLeftBy closed.trace.log old last
+
+  -- the same where there was one
+  abbrev pub AreLeft : Version → Option (Flusher D) → Closed D → Type 0
+  AreLeft start None closed = (closed.stored ≡ 0) × (closed.disk ≡ None)
+  AreLeft start (Some old) closed = IsLeft start old closed
+
+  -- a server that could not run left a store: a crash at any moment left a file that stands for a version of a log that
+  -- begins with the first version
+  pub record IsStoppedBy (start : Version) (old : Flusher D) (disk : D) : Type 0 where
+    pub log : List Entry
+    pub valid : IsLog log
+    pub begins : (history_of log).start ≡ start
+    pub moments : LeavesOnly g old.commit.disk disk (IsFileIn (history_of log) old.stored)
+
+  -- the disk comes back
+  pub record IsStopped (start : Version) (old : Flusher D) (back : Option D) : Type 0 where
+    pub disk : D
+    pub there : back ≡ Some disk
+    pub stopped : IsStoreOf g (history_of (first_log start)) old → IsStoppedBy start old disk
+
+  -- the same where there was one
+  abbrev pub AreStopped : Version → Option (Flusher D) → Option D → Type 0
+  AreStopped start None back = back ≡ None
+  AreStopped start (Some old) back = IsStopped start old back
+
+-- ---- the server
 
 -- a server ran: from a version and its store to the end of its book
 pub record IsServedFrom {R D : Type 0} (remaining : R → Option (List ℕ)) (g : Ghosts D) (start : Version) (store : Option (Flusher D)) (readers : List R) (served : Served D) : Type 0 where
   pub version : arc_value served.closed.version ≡ newest_in served.closed.trace.log
   pub log : IsLog served.closed.trace.log
   pub begins : (history_of served.closed.trace.log).start ≡ start
-  pub sessions : AreServed remaining start served.closed.trace.log readers served.sessions.items
-  pub disk : IfSome store (λ old. IsLeft g start old served.closed)
+  pub sessions : AreServed (is_some store) remaining start served.closed.trace.log readers served.sessions.items
+  pub store : AreLeft g start store served.closed
 
--- a server could not run: for want of memory or of a thread, or of places in the book
+-- a server could not run: for want of memory or of a thread, or of places in the book; the disk comes back
 pub record IsRefusedFrom {D : Type 0} (g : Ghosts D) (start : Version) (store : Option (Flusher D)) (fault : ServerFault D) : Type 0 where
   pub code : (fault.code ≡ 40) ⊎ (fault.code ≡ 44)
-  pub disk : IfSome store (λ old. IfSome fault.disk (λ disk. IsStopped g start old disk))
+  pub store : AreStopped g start store fault.disk

@@ -28,10 +28,11 @@ pub struct Served<D> {
     pub closed: Closed<D>,
 }
 
-/// Why a server could not run: 40 where memory or a thread was refused, 44 where the book gives no places.
+/// Why a server could not run: 40 where memory or a thread was refused, 44 where the book gives no places. Memory is
+/// refused before the first thread starts.
 #[derive(Drop)]
 pub struct ServerFault<D> {
     pub code: u8,
-    /// The disk, as the server left it. None without a store, or where the store's thread could not start.
+    /// The disk, as the server left it. None without an engine.
     pub disk: Option<D>,
 }

@@ -1,7 +1,9 @@
 //! Sessions in threads of their own, one for each reader.
-ghost use Rattle.std.specs.Prelude.{◌≡◌, All, IfSome};
+ghost use Rattle.std.specs.Prelude.{◌≡◌, All, length, IfSome};
 ghost use Rattle.std.specs.List.{AllZip};
+ghost use Rattle.overlay_server.specs.Rooms.{HasRoom, HasRooms};
 ghost use Rattle.overlay_server.specs.Running.{IsRunOf};
+ghost use Rattle.version_book.specs.Store.{has_store};
 
 use script_form::SessionEnd;
 use server_session::session::session_run;
@@ -35,39 +37,76 @@ pub struct Ended<R> {
 #[derive(Drop)]
 pub struct RunsScript<J: Naming, R> {
     begun: Snapshot<Script<R>>,
+    /// Whether the book has a store.
+    stored: bool,
     of: PhantomData<J>,
 }
 
 impl<J: Naming, R: Read> Promise<Ended<R>> for RunsScript<J, R> {
     ghost use Rattle.overlay_server.specs.Running.{IsRunOf};
 
-    ghost kept_by = { λ p r. IsRunOf J.book R.remaining p.begun.value r };
+    ghost kept_by = { λ p r. IsRunOf J.book p.stored R.remaining p.begun.value r };
 }
 
 /// A thread that runs a script.
 pub type Running<J, R> = PromisedHandle<Ended<R>, RunsScript<J, R>>;
 
-fn run_script<J: Naming, S: Wait + Drop, Q: Threads + Wait + Sync, R: Read>(
-    rt: &Q,
+/// Room for the threads of sessions, and for what they leave.
+#[derive(Drop)]
+pub struct Rooms<J: Naming, R: Read> {
+    pub running: Vec<Running<J, R>>,
+    pub ended: Vec<Ended<R>>,
+}
+
+/// Runs a thread for each script, and takes them in. None comes where a thread is refused.
+pub fn run_sessions<
+    's,
+    E,
+    J: Naming + Send + Sync,
+    S: Wait + Drop + Send + 's,
+    Q: Threads + Wait + Sync,
+    R: Read + Send + Drop + 's,
+>(
+    scope: &'s Scope<'s, E>,
+    rt: &'s Q,
     alloc: Global,
-    shared: &Shared<J, S>,
-    script: Script<R>,
-) -> Ended<R>
-    requires { script.session.book ≡ J.book }
-    ensures { IsRunOf J.book R.remaining script result }
+    shared: &'s Shared<J, S>,
+    scripts: Vec<Script<R>>,
+    rooms: Rooms<J, R>,
+) -> Option<Vec<Ended<R>>>
+    requires scripts { All (λ script. script.session.book ≡ J.book) scripts.items }
+    requires rooms { HasRooms rooms (length scripts.items) }
+    ensures { IfSome result (λ list. AllZip (λ script ended. IsRunOf J.book (has_store shared.now) R.remaining script ended) scripts.items list.items) }
 {
-    let Script {
-        mut session,
-        mut reader,
-    } = script;
-    let mut bytes = Vec::new(alloc);
-    let end = session_run(rt, alloc, shared, &mut session, &mut reader, &mut bytes);
-    Ended {
-        session,
-        reader,
-        bytes,
-        end,
+    let Rooms { running, ended } = rooms;
+    let running = start_sessions(scope, rt, alloc, shared, scripts, running)?;
+    Some(join_sessions(rt, running, ended))
+}
+
+/// Starts a thread for each script, in their order. None comes where one is refused.
+fn start_sessions<
+    's,
+    E,
+    J: Naming + Send + Sync,
+    S: Wait + Drop + Send + 's,
+    Q: Threads + Wait + Sync,
+    R: Read + Send + Drop + 's,
+>(
+    scope: &'s Scope<'s, E>,
+    rt: &'s Q,
+    alloc: Global,
+    shared: &'s Shared<J, S>,
+    scripts: Vec<Script<R>>,
+    mut list: Vec<Running<J, R>>,
+) -> Option<Vec<Running<J, R>>>
+    requires scripts { All (λ script. script.session.book ≡ J.book) scripts.items }
+    requires room { HasRoom list (length scripts.items) }
+    ensures begun { IfSome result (λ list. AllZip (λ script h. (h.promise.begun.value ≡ script) × (h.promise.stored ≡ has_store shared.now)) scripts.items list.items) }
+{
+    for script in scripts {
+        list.push_reserved(start_session(scope, rt, alloc, shared, script)?);
     }
+    Some(list)
 }
 
 /// Starts a thread for a script.
@@ -86,10 +125,11 @@ fn start_session<
     script: Script<R>,
 ) -> Option<Running<J, R>>
     requires { script.session.book ≡ J.book }
-    ensures { IfSome result (λ h. h.promise.begun.value ≡ script) }
+    ensures { IfSome result (λ h. (h.promise.begun.value ≡ script) × (h.promise.stored ≡ has_store shared.now)) }
 {
     let promise = RunsScript {
         begun: Snapshot::of(&script),
+        stored: shared.has_store(),
         of: PhantomData,
     };
     scope
@@ -97,43 +137,42 @@ fn start_session<
         .ok()
 }
 
-/// Starts a thread for each script, in their order. None comes where one is refused.
-pub fn start_sessions<
-    's,
-    E,
-    J: Naming + Send + Sync,
-    S: Wait + Drop + Send + 's,
-    Q: Threads + Wait + Sync,
-    R: Read + Send + Drop + 's,
->(
-    scope: &'s Scope<'s, E>,
-    rt: &'s Q,
-    alloc: Global,
-    shared: &'s Shared<J, S>,
-    scripts: Vec<Script<R>>,
-) -> Option<Vec<Running<J, R>>>
-    requires { All (λ script. script.session.book ≡ J.book) scripts.items }
-    ensures { IfSome result (λ list. AllZip (λ script h. h.promise.begun.value ≡ script) scripts.items list.items) }
+/// Takes the threads of the scripts in, in their order.
+fn join_sessions<J: Naming, Q: Threads, R: Read + Drop>(
+    rt: &Q,
+    running: Vec<Running<J, R>>,
+    mut list: Vec<Ended<R>>,
+) -> Vec<Ended<R>>
+    requires { HasRoom list (length running.items) }
+    ensures { AllZip (λ h ended. IsRunOf J.book h.promise.stored R.remaining h.promise.begun.value ended) running.items result.items }
 {
-    let mut list = Vec::new(alloc);
-    for script in scripts {
-        list.push(start_session(scope, rt, alloc, shared, script)?)
-            .ok()?;
+    for handle in running {
+        list.push_reserved(handle.join(rt));
     }
-    Some(list)
+    list
 }
 
-/// Takes the threads of the scripts in, in their order. None comes where memory is refused.
-pub fn join_sessions<J: Naming, Q: Threads, R: Read + Drop>(
+/// Runs a script into a list of bytes.
+fn run_script<J: Naming, S: Wait + Drop, Q: Threads + Wait + Sync, R: Read>(
     rt: &Q,
     alloc: Global,
-    running: Vec<Running<J, R>>,
-) -> Option<Vec<Ended<R>>>
-    ensures { IfSome result (λ list. AllZip (λ h ended. IsRunOf J.book R.remaining h.promise.begun.value ended) running.items list.items) }
+    shared: &Shared<J, S>,
+    script: Script<R>,
+) -> Ended<R>
+    requires { script.session.book ≡ J.book }
+    ensures { IsRunOf J.book (has_store shared.now) R.remaining script result }
 {
-    let mut list = Vec::new(alloc);
-    for handle in running {
-        list.push(handle.join(rt)).ok()?;
+    let Script {
+        mut session,
+        mut reader,
+    } = script;
+    let mut bytes = Vec::new(alloc);
+    let end = session_run(rt, alloc, shared, &mut session, &mut reader, &mut bytes);
+    let _number = session.number();
+    Ended {
+        session,
+        reader,
+        bytes,
+        end,
     }
-    Some(list)
 }

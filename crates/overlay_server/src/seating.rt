@@ -1,14 +1,62 @@
 //! Which session runs which reader's script, and what the sessions leave.
 ghost use Rattle.std.specs.Prelude.{◌≡◌, length, map, IfSome};
-ghost use Rattle.overlay_server.specs.Seats.{outcome_of, reader_of, session_of};
+ghost use Rattle.overlay_server.specs.Rooms.{HasParts, HasRooms};
+ghost use Rattle.overlay_server.specs.Seats.{ended_session, outcome_of, reader_of, session_of};
 
 use crate::outcome::Outcome;
-use crate::running::{Ended, Script};
+use crate::running::{Ended, Rooms, Script};
 use std::alloc::Global;
+use std::io::Read;
+use version_book::seen_log::Naming;
 use version_book::session::Session;
 
-/// The readers' scripts, each with the session that runs it, in their order. None comes where memory is refused.
-pub fn seated<R: Drop>(
+/// What ended sessions leave, in two lists, or room for that.
+#[derive(Drop)]
+pub struct Parts {
+    pub sessions: Vec<Session>,
+    pub outcomes: Vec<Outcome>,
+}
+
+/// The scripts, each with the session that runs it, and room for all that these leave.
+#[derive(Drop)]
+pub struct Seats<J: Naming, R: Read> {
+    pub scripts: Vec<Script<R>>,
+    pub rooms: Rooms<J, R>,
+    pub parts: Parts,
+}
+
+/// Gives each reader's script the session of its place, and takes the memory for the lists that are filled later. None
+/// comes where memory is refused.
+pub fn seated<J: Naming, R: Read + Drop>(
+    alloc: Global,
+    sessions: Vec<Session>,
+    readers: Vec<R>,
+) -> Option<Seats<J, R>>
+    requires { length sessions.items ≡ length readers.items }
+    ensures sessions { IfSome result (λ seats. map session_of seats.scripts.items ≡ sessions.items) }
+    ensures readers { IfSome result (λ seats. map reader_of seats.scripts.items ≡ readers.items) }
+    ensures rooms { IfSome result (λ seats. HasRooms seats.rooms (length readers.items)) }
+    ensures parts { IfSome result (λ seats. HasParts seats.parts (length readers.items)) }
+{
+    let count = readers.len();
+    let rooms = Rooms {
+        running: Vec::with_capacity(alloc, count).ok()?,
+        ended: Vec::with_capacity(alloc, count).ok()?,
+    };
+    let parts = Parts {
+        sessions: Vec::with_capacity(alloc, count).ok()?,
+        outcomes: Vec::with_capacity(alloc, count).ok()?,
+    };
+    let scripts = scripts(alloc, sessions, readers)?;
+    Some(Seats {
+        scripts,
+        rooms,
+        parts,
+    })
+}
+
+/// The readers' scripts, each with its session, in their order.
+fn scripts<R: Drop>(
     alloc: Global,
     sessions: Vec<Session>,
     readers: Vec<R>,
@@ -18,19 +66,26 @@ pub fn seated<R: Drop>(
     ensures readers { IfSome result (λ list. map reader_of list.items ≡ readers.items) }
 {
     let mut list = Vec::new(alloc);
-    for (session, reader) in sessions.into_iter().zip(readers) {
+    let mut readers = readers.into_iter();
+    for session in sessions {
+        let Some(reader) = readers.next() else {
+            unreachable!()
+        };
         list.push(Script { session, reader }).ok()?;
     }
     Some(list)
 }
 
-/// The sessions that have ended, and what they wrote, each in their order. None comes where memory is refused.
-pub fn parted<R: Drop>(alloc: Global, ended: Vec<Ended<R>>) -> Option<(Vec<Session>, Vec<Outcome>)>
-    ensures sessions { IfSome result (λ r. r.0.items ≡ map (λ e. e.session) ended.items) }
-    ensures outcomes { IfSome result (λ r. r.1.items ≡ map outcome_of ended.items) }
+/// The sessions that have ended, and what they wrote, each in their order.
+pub fn parted<R: Drop>(ended: Vec<Ended<R>>, parts: Parts) -> Parts
+    requires { HasParts parts (length ended.items) }
+    ensures sessions { result.sessions.items ≡ map ended_session ended.items }
+    ensures outcomes { result.outcomes.items ≡ map outcome_of ended.items }
 {
-    let mut sessions = Vec::new(alloc);
-    let mut outcomes = Vec::new(alloc);
+    let Parts {
+        mut sessions,
+        mut outcomes,
+    } = parts;
     for one in ended {
         let Ended {
             session,
@@ -38,8 +93,8 @@ pub fn parted<R: Drop>(alloc: Global, ended: Vec<Ended<R>>) -> Option<(Vec<Sessi
             bytes,
             end,
         } = one;
-        sessions.push(session).ok()?;
-        outcomes.push(Outcome { bytes, end }).ok()?;
+        sessions.push_reserved(session);
+        outcomes.push_reserved(Outcome { bytes, end });
     }
-    Some((sessions, outcomes))
+    Parts { sessions, outcomes }
 }

@@ -1,13 +1,14 @@
 //! A server: from readers and an engine to what the sessions wrote, and what is left of the book and its store.
-ghost use Rattle.std.specs.Prelude.{◌≡◌, ◌⊎◌, ◌<◌, ◌≤◌, ◌∷◌, [], All, length, IfOk, IfErr, IfSome};
+ghost use Rattle.std.specs.Prelude.{◌≡◌, ◌⊎◌, ◌<◌, ◌≤◌, ◌∷◌, [], All, None, Some, length, IfOk, IfErr, MatchOption, is_some};
 ghost use Rattle.book_history.specs.Logs.{entry, no_event};
 ghost use Rattle.overlay_terms.specs.Histories.{Version as Numbered};
 ghost use Rattle.book_history.specs.Rules.{head_of};
 ghost use Rattle.book_lock.specs.Steps.{beginners};
+ghost use Rattle.version_book.specs.Store.{has_store};
 ghost use Rattle.overlay_server.specs.Serving.{IsServedFrom, IsRefusedFrom, first_log, flusher_of, start_of};
 
 use crate::outcome::{ServeOptions, Served, ServerFault};
-use crate::seating::{parted, seated};
+use crate::seating::{Parts, Seats, parted, seated};
 use crate::storing::{Store, keep_store};
 use crate::threads::{Returned, run_threads};
 use book_closing::closing::close;
@@ -122,6 +123,7 @@ fn serve_in<
 /// The server of a book that was just opened.
 fn run_book<
     J: Naming + Send + Sync,
+    S: Wait + Drop + Send,
     D: Disk + Send + Drop,
     R: Read + Send + Drop,
     G: Gate + Sync,
@@ -131,40 +133,37 @@ fn run_book<
     alloc: Global,
     options: ServeOptions,
     gate: &G,
-    shared: Shared<J, &Q>,
+    shared: Shared<J, S>,
     store: Store<D>,
     sessions: Vec<Session>,
     readers: Vec<R>,
 ) -> Result<Served<D>, ServerFault<D>>
     ghost start: { Numbered }
+    requires readers { 0 < length readers.items }
+    requires stored { has_store shared ≡ is_some store.flusher }
     requires reporter { (store.reporter.book ≡ J.book) × (store.reporter.log ≡ first_log start) }
     requires sessions { sessions.items ≡ beginners (record { book = J.book; log = first_log start }) (length readers.items) }
     ensures served { IfOk result (IsServedFrom R.remaining D.Disk start store.flusher readers.items) }
     ensures refused { IfErr result (IsRefusedFrom D.Disk start store.flusher) }
 {
-    let Some(scripts) = seated(alloc, sessions, readers) else {
+    let Some(seats) = seated::<J, R>(alloc, sessions, readers) else {
         return Err(refused(store.flusher));
     };
-    let Returned { store, ended } = run_threads(
-        rt,
-        alloc,
-        gate,
-        &shared,
-        options.workers,
-        store,
+    let Seats {
         scripts,
+        rooms,
+        parts,
+    } = seats;
+    let workers = options.workers;
+    let Returned { store, ended } = run_threads(
+        rt, alloc, gate, &shared, workers, store, scripts, rooms,
     );
-    let Some(store) = store else {
-        return Err(refused(None));
-    };
     // What was finished after the last commit is committed now that the workers have returned.
     let Store { reporter, flusher } = keep_store(rt, alloc, &shared, store);
     let Some(ended) = ended else {
         return Err(refused(flusher));
     };
-    let Some((sessions, outcomes)) = parted(alloc, ended) else {
-        return Err(refused(flusher));
-    };
+    let Parts { sessions, outcomes } = parted(ended, parts);
     let closed = close(rt, shared, reporter, flusher, sessions);
     Ok(Served {
         sessions: outcomes,
@@ -173,13 +172,17 @@ fn run_book<
 }
 
 /// No memory, or no thread: the disk comes back.
-fn refused<D: Disk>(flusher: Option<Flusher<D>>) -> ServerFault<D> {
+fn refused<D: Disk>(flusher: Option<Flusher<D>>) -> ServerFault<D>
+    ensures code { result.code ≡ 40 }
+    ensures disk { MatchOption flusher (result.disk ≡ None) (λ f. result.disk ≡ Some f.commit.disk) }
+{
     ServerFault {
         code: 40,
         disk: disk_of(flusher),
     }
 }
 
+/// The disk of a store, where there is one.
 fn disk_of<D: Disk>(flusher: Option<Flusher<D>>) -> Option<D>
     ensures { MatchOption flusher (result ≡ None) (λ f. result ≡ Some f.commit.disk) }
 {

@@ -1,5 +1,5 @@
 //! The store in a thread of its own.
-ghost use Rattle.std.specs.Prelude.{◌≡◌, IfSome};
+ghost use Rattle.std.specs.Prelude.{◌≡◌, MatchResult};
 ghost use Rattle.overlay_server.specs.Keeping.{IsKept};
 
 use disk_model::disk::Disk;
@@ -34,6 +34,38 @@ impl<J: Naming, D: Disk> Promise<Store<D>> for KeepsStore<J, D> {
     ghost kept_by = { λ p r. IsKept J.book D.Disk p.begun.value r };
 }
 
+/// Starts the thread of the store. Where it is refused the book closes, and the store comes back.
+pub fn start_store<
+    's,
+    E,
+    J: Naming + Send + Sync,
+    S: Wait + Drop + Send + 's,
+    Q: Threads + Wait + Sync,
+    D: Disk + Send + Drop + 's,
+>(
+    scope: &'s Scope<'s, E>,
+    rt: &'s Q,
+    alloc: Global,
+    shared: &'s Shared<J, S>,
+    store: Store<D>,
+) -> Result<PromisedHandle<Store<D>, KeepsStore<J, D>>, Store<D>>
+    requires { store.reporter.book ≡ J.book }
+    ensures { MatchResult result (λ h. h.promise.begun.value ≡ store) (λ after. IsKept J.book D.Disk store after) }
+{
+    let promise = KeepsStore {
+        begun: Snapshot::of(&store),
+        of: PhantomData,
+    };
+    match scope.spawn_with(promise, move || keep_store(rt, alloc, shared, store)) {
+        Ok(handle) => Ok(handle),
+        Err(refused) => {
+            // In a book that closes the closure waits for nobody.
+            shared.begin_close(rt);
+            Err((refused.value)())
+        }
+    }
+}
+
 /// Commits what the book gives until it closes.
 pub fn keep_store<J: Naming, S: Wait + Drop, Q: Wait, D: Disk>(
     rt: &Q,
@@ -48,42 +80,13 @@ pub fn keep_store<J: Naming, S: Wait + Drop, Q: Wait, D: Disk>(
         mut reporter,
         flusher,
     } = store;
-    let Some(mut flusher) = flusher else {
-        return Store {
-            reporter,
-            flusher: None,
-        };
+    let flusher = match flusher {
+        Some(mut flusher) => {
+            flusher_loop(rt, alloc, shared, &mut reporter, &mut flusher);
+            Some(flusher)
+        }
+        None => None,
     };
-    flusher_loop(rt, alloc, shared, &mut reporter, &mut flusher);
-    Store {
-        reporter,
-        flusher: Some(flusher),
-    }
-}
-
-/// Starts the thread of the store.
-pub fn start_store<
-    's,
-    E,
-    J: Naming + Send + Sync,
-    S: Wait + Drop + Send + 's,
-    Q: Threads + Wait + Sync,
-    D: Disk + Send + Drop + 's,
->(
-    scope: &'s Scope<'s, E>,
-    rt: &'s Q,
-    alloc: Global,
-    shared: &'s Shared<J, S>,
-    store: Store<D>,
-) -> Option<PromisedHandle<Store<D>, KeepsStore<J, D>>>
-    requires { store.reporter.book ≡ J.book }
-    ensures { IfSome result (λ h. h.promise.begun.value ≡ store) }
-{
-    let promise = KeepsStore {
-        begun: Snapshot::of(&store),
-        of: PhantomData,
-    };
-    scope
-        .spawn_with(promise, move || keep_store(rt, alloc, shared, store))
-        .ok()
+    let _given = reporter.given();
+    Store { reporter, flusher }
 }

@@ -1,10 +1,12 @@
 //! The threads of a server: workers, the store, and a session for each reader.
-ghost use Rattle.std.specs.Prelude.{◌≡◌, All, IfSome};
+ghost use Rattle.std.specs.Prelude.{◌≡◌, All, length, IfSome};
 ghost use Rattle.std.specs.List.{AllZip};
+ghost use Rattle.overlay_server.specs.Rooms.{HasRooms};
 ghost use Rattle.overlay_server.specs.Running.{IsRunOf};
 ghost use Rattle.overlay_server.specs.Keeping.{IsKept};
+ghost use Rattle.version_book.specs.Store.{has_store};
 
-use crate::running::{Ended, Script, join_sessions, start_sessions};
+use crate::running::{Ended, Rooms, Script, run_sessions};
 use crate::storing::{Store, start_store};
 use disk_model::disk::Disk;
 use std::alloc::Global;
@@ -17,11 +19,10 @@ use tile_workers::worker::worker_loop;
 use version_book::seen_log::Naming;
 use version_book::shared::Shared;
 
-/// What the threads gave back: the store, where its thread could start, and the sessions that have ended, where every
-/// thread could.
+/// What the threads gave back: the store, and the sessions that have ended, where each thread could start.
 #[derive(Drop)]
 pub struct Returned<R, D: Disk> {
-    pub store: Option<Store<D>>,
+    pub store: Store<D>,
     pub ended: Option<Vec<Ended<R>>>,
 }
 
@@ -29,8 +30,8 @@ pub struct Returned<R, D: Disk> {
 /// refused, the book closes, and the others end.
 pub fn run_threads<
     J: Naming + Send + Sync,
-    G: Gate + Sync,
     S: Wait + Drop + Send,
+    G: Gate + Sync,
     Q: Threads + Wait + Sync,
     R: Read + Send + Drop,
     D: Disk + Send + Drop,
@@ -42,20 +43,27 @@ pub fn run_threads<
     workers: usize,
     store: Store<D>,
     scripts: Vec<Script<R>>,
+    rooms: Rooms<J, R>,
 ) -> Returned<R, D>
     requires store { store.reporter.book ≡ J.book }
     requires scripts { All (λ script. script.session.book ≡ J.book) scripts.items }
-    ensures store { IfSome result.store (λ after. IsKept J.book D.Disk store after) }
-    ensures ended { IfSome result.ended (λ list. AllZip (λ script ended. IsRunOf J.book R.remaining script ended) scripts.items list.items) }
+    requires rooms { HasRooms rooms (length scripts.items) }
+    ensures store { IsKept J.book D.Disk store result.store }
+    ensures ended { IfSome result.ended (λ list. AllZip (λ script ended. IsRunOf J.book (has_store shared.now) R.remaining script ended) scripts.items list.items) }
 {
     thread::scope(
         thread::scope_env(),
         rt,
         |scope| -> Returned<R, D>
-            requires { (store.reporter.book ≡ J.book) × All (λ script. script.session.book ≡ J.book) scripts.items }
-            ensures { IfSome result.store (λ after. IsKept J.book D.Disk store after)
-                × IfSome result.ended (λ list. AllZip (λ script ended. IsRunOf J.book R.remaining script ended) scripts.items list.items) }
-        { run_in(scope, rt, alloc, gate, shared, workers, store, scripts) },
+            requires { (store.reporter.book ≡ J.book)
+                × All (λ script. script.session.book ≡ J.book) scripts.items × HasRooms rooms (length scripts.items) }
+            ensures { IsKept J.book D.Disk store result.store
+                × IfSome result.ended (λ list. AllZip (λ script ended. IsRunOf J.book (has_store shared.now) R.remaining script ended) scripts.items list.items) }
+        {
+            run_in(
+                scope, rt, alloc, gate, shared, workers, store, scripts, rooms,
+            )
+        },
     )
 }
 
@@ -64,8 +72,8 @@ fn run_in<
     's,
     E,
     J: Naming + Send + Sync,
-    G: Gate + Sync,
     S: Wait + Drop + Send + 's,
+    G: Gate + Sync,
     Q: Threads + Wait + Sync,
     R: Read + Send + Drop + 's,
     D: Disk + Send + Drop + 's,
@@ -78,22 +86,24 @@ fn run_in<
     workers: usize,
     store: Store<D>,
     scripts: Vec<Script<R>>,
+    rooms: Rooms<J, R>,
 ) -> Returned<R, D>
     requires store { store.reporter.book ≡ J.book }
     requires scripts { All (λ script. script.session.book ≡ J.book) scripts.items }
-    ensures store { IfSome result.store (λ after. IsKept J.book D.Disk store after) }
-    ensures ended { IfSome result.ended (λ list. AllZip (λ script ended. IsRunOf J.book R.remaining script ended) scripts.items list.items) }
+    requires rooms { HasRooms rooms (length scripts.items) }
+    ensures store { IsKept J.book D.Disk store result.store }
+    ensures ended { IfSome result.ended (λ list. AllZip (λ script ended. IsRunOf J.book (has_store shared.now) R.remaining script ended) scripts.items list.items) }
 {
     let working = start_workers(scope, rt, alloc, gate, shared, workers);
     let keeping = start_store(scope, rt, alloc, shared, store);
     let mut ended = None;
-    if working && keeping.is_some() {
-        ended = run_sessions(scope, rt, alloc, shared, scripts);
+    if working && keeping.is_ok() {
+        ended = run_sessions(scope, rt, alloc, shared, scripts, rooms);
     }
     shared.begin_close(rt);
     let store = match keeping {
-        Some(handle) => Some(handle.join(rt)),
-        None => None,
+        Ok(handle) => handle.join(rt),
+        Err(store) => store,
     };
     Returned { store, ended }
 }
@@ -103,8 +113,8 @@ fn start_workers<
     's,
     E,
     J: Naming + Send + Sync,
-    G: Gate + Sync,
     S: Wait + Drop + Send + 's,
+    G: Gate + Sync,
     Q: Threads + Wait + Sync,
 >(
     scope: &'s Scope<'s, E>,
@@ -123,26 +133,4 @@ fn start_workers<
         }
     }
     true
-}
-
-/// Runs a thread for each script, and takes them in.
-fn run_sessions<
-    's,
-    E,
-    J: Naming + Send + Sync,
-    S: Wait + Drop + Send + 's,
-    Q: Threads + Wait + Sync,
-    R: Read + Send + Drop + 's,
->(
-    scope: &'s Scope<'s, E>,
-    rt: &'s Q,
-    alloc: Global,
-    shared: &'s Shared<J, S>,
-    scripts: Vec<Script<R>>,
-) -> Option<Vec<Ended<R>>>
-    requires { All (λ script. script.session.book ≡ J.book) scripts.items }
-    ensures { IfSome result (λ list. AllZip (λ script ended. IsRunOf J.book R.remaining script ended) scripts.items list.items) }
-{
-    let running = start_sessions(scope, rt, alloc, shared, scripts)?;
-    join_sessions(rt, alloc, running)
 }

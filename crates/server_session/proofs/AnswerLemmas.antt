@@ -220,6 +220,21 @@ pub unknown_stands : (b : Bool) → (b ≡ true → false ≡ true) → b ≡ fa
 unknown_stands true never = absurd (false≢true (never refl))
 unknown_stands false never = refl
 
+-- a grid whose numbers are read back from their bits
+pub size_read : (step nx ny step' nx' ny' : ℤ) → step' ≡ step → nx' ≡ nx → ny' ≡ ny → IsGridSize step' nx' ny' → IsGridSize step nx ny
+size_read step nx ny step' nx' ny' es ex ey size =
+    subst (λ (v : ℤ). IsGridSize v nx ny) es (subst (λ (v : ℤ). IsGridSize step' v ny) ex (subst (λ (v : ℤ). IsGridSize step' nx' v) ey size))
+
+pub points_read : (x y step nx ny x' y' step' nx' ny' : ℤ) (g : Grid) → x' ≡ x → y' ≡ y → step' ≡ step → nx' ≡ nx → ny' ≡ ny
+    → g ≡ grid_of x' y' step' nx' ny' → g ≡ grid_of x y step nx ny
+points_read x y step nx ny x' y' step' nx' ny' g ex ey es ew eh is =
+    let P : ℤ → ℤ → ℤ → ℤ → ℤ → Type 0 = λ a b c d e. g ≡ grid_of a b c d e in
+    subst (λ (v : ℤ). P v y step nx ny) ex
+    (subst (λ (v : ℤ). P x' v step nx ny) ey
+    (subst (λ (v : ℤ). P x' y' v nx ny) es
+    (subst (λ (v : ℤ). P x' y' step' v ny) ew
+    (subst (λ (v : ℤ). P x' y' step' nx' v) eh is))))
+
 pub grid_unnamed : (stored : Bool) (me : Known) (name : List ℕ) (x y step nx ny : ℤ) (fault : CommandFault) → IsMemory name fault ⊎ IsNoName name fault
     → Answers stored me (grid name x y step nx ny) me (error_line fault)
 grid_unnamed stored me name x y step nx ny fault refused = answers_there stored me (grid name x y step nx ny) (error_line fault) (unnamed name fault _ refused)

@@ -1,11 +1,18 @@
-use Rattle.std.proofs.Common.{rules, ◌≡◌, ◌++◌, ◌∷◌, [], sym, subst}
+use Rattle.std.proofs.Common.{rules, ◌≡◌, ◌++◌, ◌∷◌, [], ℕ, ◌+◌, length, length-append, ap, sym, subst, arith, ◌∙◌}
 use Rattle.std.specs.List.{AllZip}
 use Rattle.overlay_server.specs.Running.{IsRunOf}
-use Rattle.overlay_server.proofs.Lists.{beside_push}
+use Rattle.overlay_server.proofs.Lists.{beside_push, one_on}
 use Rattle.overlay_server.proofs.running.join_sessions.Goals as goal
 
 pub loop-handle-preserved : goal.loop-handle-preserved
 loop-handle-preserved g c =
-    let grown : c.push.new.self.items ≡ c.loop-handle.list.items ++ c.join.result ∷ [] = search rules in
-    subst (λ ys. AllZip (λ h ended. IsRunOf g.J.Naming.book g.R.Read.remaining h.promise.begun.value ended) (c.loop-handle.yielded ++ c.in-Some.handle ∷ []) ys) (sym grown)
-    (beside_push (λ h ended. IsRunOf g.J.Naming.book g.R.Read.remaining h.promise.begun.value ended) c.loop-handle.yielded c.loop-handle.list.items c.in-Some.handle c.join.result c.loop-handle.invariant c.join.ensures)
+    let at = c.loop-handle in
+    let handle = c.in-Some.handle in
+    record {
+      all = one_on _ at.yielded _ _ handle at.invariant.all c.in-Some.ensures.steps.0;
+      left = search rules;
+      grown = c.push_reserved.ensures.len ∙ ap (λ (n : ℕ). n + 1) at.invariant.grown ∙ sym (length-append at.yielded (handle ∷ []));
+      room = omega (arith, at.invariant.room, c.push_reserved.ensures.capacity);
+      kept = subst (λ ys. AllZip (λ h ended. IsRunOf g.J.Naming.book h.promise.stored g.R.Read.remaining h.promise.begun.value ended) (at.yielded ++ handle ∷ []) ys) (sym c.push_reserved.ensures.items)
+          (beside_push (λ h ended. IsRunOf g.J.Naming.book h.promise.stored g.R.Read.remaining h.promise.begun.value ended) at.yielded at.list.items handle c.join.result at.invariant.kept c.join.ensures);
+    }

@@ -1,7 +1,16 @@
-use Rattle.std.proofs.Common.{◌≡◌}
+use Rattle.std.proofs.Common.{◌≡◌, ◌++◌, ◌≤◌, length}
 use Rattle.std.specs.List.{AllZip}
+use Rattle.std.specs.Vec.{vec_len, vec_capacity}
+use Rattle.std.specs.Vec.Iter.{into_iter_items, into_iter_len}
+use Rattle.version_book.specs.Store.{has_store}
 use Rattle.overlay_server.proofs.running.start_sessions.Given as goal
 
--- each script so far has its thread
+-- each script so far has its thread, and there is room for those of the others
 abbrev pub invariant-loop-script : goal.invariant-loop-script
-invariant-loop-script g l = AllZip (λ script h. h.promise.begun.value ≡ script) l.yielded l.list.items
+invariant-loop-script g l = record {
+  all : l.yielded ++ into_iter_items l.script-iterator ≡ into_iter_items l.initial.script-iterator;
+  left : into_iter_len l.script-iterator ≡ length (into_iter_items l.script-iterator);
+  grown : vec_len l.list ≡ length l.yielded;
+  room : length (into_iter_items l.initial.script-iterator) ≤ vec_capacity l.list;
+  begun : AllZip (λ script h. (h.promise.begun.value ≡ script) × (h.promise.stored ≡ has_store l.shared.now)) l.yielded l.list.items;
+}

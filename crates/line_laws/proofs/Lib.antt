@@ -1,0 +1,4 @@
+pub mod Asking
+pub mod Entries
+pub mod Views
+pub mod Runs

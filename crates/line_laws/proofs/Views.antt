@@ -1,0 +1,173 @@
+-- What a turn comes to: nothing is made, or the command that its line asks for is accepted.
+use Rattle.std.proofs.Common.{◌≡◌, ℕ, ℤ, ◌⊎◌, inl, inr, Bool, true, false, ◌||◌, IsTrue, List, [], ◌∷◌, ◌++◌, Option, Some, None, refl, sym, ap, ◌∙◌, subst, bytes_eq}
+use Rattle.std.proofs.lemmas.Bool.{true≢false, or_left, or_right}
+use Rattle.overlay_terms.specs.Commands.{Command, Refusal, refusal_at}
+use Rattle.overlay_terms.specs.Commands as terms
+use Rattle.overlay_terms.specs.Histories.{History, Version, newest}
+use Rattle.overlay_terms.proofs.NameLemmas.{name_itself}
+use Rattle.layer_expr.specs.Name.{is_name}
+use Rattle.version_core.specs.declared.fault.VersionFault.{VersionFault}
+use Rattle.overlay_grid.specs.declared.fault.GridFault.{GridFault}
+use Rattle.script_form.specs.declared.fault.CommandFault.{CommandFault}
+use Rattle.script_form.specs.declared.fault.CommandFault.TheVariants.{OutOfMemory, Closing, Gone}
+use Rattle.script_form.specs.Replies.{error_line}
+use Rattle.script_form.specs.Requests.{Request, nothing, too_long, malformed, put, define, remove, locate, grid, list_layers, edges, wait, verify, sync, request_of}
+use Rattle.script_form.specs.Transcript.{IsRefused, IsAcceptedBy, IsSubmitted, IsAnswered, IsOutOfMemory, IsTurn, WithName, Asked, Drawn, IsTold}
+use Rattle.line_laws.specs.Deciding.{is_from_outside}
+use Rattle.line_laws.proofs.Asking.{AsksFor}
+
+-- the layers decide that no command is made: none is asked for, or the version refuses the one that is
+pub record IsDeclined (request : Request) (version : Version) : Type 0 where
+  pub asked : Option Command
+  pub asks : AsksFor request asked
+  pub why : (asked ≡ None) ⊎ ((command : Command) × (refusal : Refusal) × (asked ≡ Some command) × (refusal_at version.number version.layers command ≡ Some refusal))
+
+-- nothing is made: from outside, or as it is declined
+pub record IsUnmade (request : Request) (after : History) (made : List Command) (reply : List ℕ) : Type 0 where
+  pub none : made ≡ []
+  pub declined : is_from_outside reply ≡ false → IsDeclined request (newest after)
+
+-- the command that is asked for is accepted
+pub record IsMade (session : ℕ) (before : History) (request : Request) (after : History) (made : List Command) (reply : List ℕ) : Type 0 where
+  pub command : Command
+  pub asks : AsksFor request (Some command)
+  pub how : IsAcceptedBy session before command after made reply
+
+abbrev pub Comes : ℕ → History → Request → History → List Command → List ℕ → Type 0
+Comes session before request after made reply = IsUnmade request after made reply ⊎ IsMade session before request after made reply
+
+-- ==== Faults from outside
+
+refuses : (fault : CommandFault) (made : List Command) (reply : List ℕ) → IsRefused fault made reply → bytes_eq reply (error_line fault) ≡ true
+refuses fault made reply r = ap (λ (l : List ℕ). bytes_eq l (error_line fault)) r.told ∙ name_itself (error_line fault)
+
+memory_outside : (made : List Command) (reply : List ℕ) → IsRefused OutOfMemory made reply → is_from_outside reply ≡ true
+memory_outside made reply r = or_left (bytes_eq reply (error_line OutOfMemory)) _ (refuses OutOfMemory made reply r)
+
+closing_outside : (made : List Command) (reply : List ℕ) → IsRefused Closing made reply → is_from_outside reply ≡ true
+closing_outside made reply r =
+    or_right (bytes_eq reply (error_line OutOfMemory)) _ (or_left (bytes_eq reply (error_line Closing)) _ (refuses Closing made reply r))
+
+gone_outside : (made : List Command) (reply : List ℕ) → IsRefused Gone made reply → is_from_outside reply ≡ true
+gone_outside made reply r =
+    or_right (bytes_eq reply (error_line OutOfMemory)) _ (or_right (bytes_eq reply (error_line Closing)) _ (refuses Gone made reply r))
+
+outside : (request : Request) (after : History) (made : List Command) (reply : List ℕ) → made ≡ [] → is_from_outside reply ≡ true → IsUnmade request after made reply
+outside request after made reply none is = record { none = none; declined = λ other. absurd (true≢false (sym is ∙ other)) }
+
+-- ==== Commands
+
+-- nothing is asked for
+idle : (request : Request) (after : History) (made : List Command) (reply : List ℕ) → AsksFor request None → made ≡ [] → IsUnmade request after made reply
+idle request after made reply asks none = record { none = none; declined = λ _. record { asked = None; asks = asks; why = inl refl } }
+
+submitted : (session : ℕ) (before : History) (request : Request) (command : Command) (after : History) (made : List Command) (reply : List ℕ)
+    → AsksFor request (Some command) → IsSubmitted session before command after made reply → Comes session before request after made reply
+submitted session before request command after made reply asks (inl closing) =
+    inl (outside request after made reply closing.nothing_made (closing_outside made reply closing))
+submitted session before request command after made reply asks (inr (inl gone)) =
+    inl (outside request after made reply gone.nothing_made (gone_outside made reply gone))
+submitted session before request command after made reply asks (inr (inr (inl (refusal, is, refused)))) =
+    inl (record {
+      none = refused.nothing_made;
+      declined = λ _. record { asked = Some command; asks = asks; why = inr (command, refusal, refl, is) };
+    })
+submitted session before request command after made reply asks (inr (inr (inr by))) = inr (record { command = command; asks = asks; how = by })
+
+-- ==== Questions
+
+named_none : (name : List ℕ) (made : List Command) (reply : List ℕ) (T : Type 0) → WithName name made reply T → (T → made ≡ []) → made ≡ []
+named_none name made reply T (inl (none, refused)) then = refused.nothing_made
+named_none name made reply T (inr (named, answered)) then = then answered
+
+asked_none : (o : Option VersionFault) (made : List Command) (reply : List ℕ) (T : Type 0) → Asked o made reply T → (T → made ≡ []) → made ≡ []
+asked_none (Some fault) made reply T refused then = refused.nothing_made
+asked_none None made reply T answered then = then answered
+
+drawn_none : (o : Option GridFault) (text : List ℕ) (made : List Command) (reply : List ℕ) → Drawn o text made reply → made ≡ []
+drawn_none (Some fault) text made reply refused = refused.nothing_made
+drawn_none None text made reply told = told.nothing_made
+
+-- ==== Each request
+
+module _ (stored : Bool) (session : ℕ) (before after : History) (made : List Command) (reply : List ℕ) where
+  put_comes : (name text : List ℕ) → IsAnswered stored session before (put name text) after made reply → Comes session before (put name text) after made reply
+  put_comes name text (inl (none, refused)) = inl (idle (put name text) after made reply (inl none) refused.nothing_made)
+  put_comes name text (inr (named, inl (fault, wrong, refused))) = inl (idle (put name text) after made reply (inr (fault, wrong)) refused.nothing_made)
+  put_comes name text (inr (named, inr (rings, read, by))) =
+      submitted session before (put name text) (terms.put name rings) after made reply (record { named = named; rings = rings; read = read; is = refl }) by
+
+  define_comes : (name text : List ℕ) → IsAnswered stored session before (define name text) after made reply → Comes session before (define name text) after made reply
+  define_comes name text (inl (none, refused)) = inl (idle (define name text) after made reply (inl none) refused.nothing_made)
+  define_comes name text (inr (named, inl (fault, wrong, refused))) = inl (idle (define name text) after made reply (inr (fault, wrong)) refused.nothing_made)
+  define_comes name text (inr (named, inr (tree, read, by))) =
+      submitted session before (define name text) (terms.define name tree) after made reply (record { named = named; tree = tree; read = read; is = refl }) by
+
+  remove_comes : (name : List ℕ) → IsAnswered stored session before (remove name) after made reply → Comes session before (remove name) after made reply
+  remove_comes name (inl (none, refused)) = inl (idle (remove name) after made reply none refused.nothing_made)
+  remove_comes name (inr (named, by)) = submitted session before (remove name) (terms.remove name) after made reply (named, refl) by
+
+  locate_none : (name : List ℕ) (x y w : ℤ) → IsAnswered stored session before (locate name x y w) after made reply → made ≡ []
+  locate_none name x y w (inl (none, refused)) = refused.nothing_made
+  locate_none name x y w (inr (named, inl (out, refused))) = refused.nothing_made
+  locate_none name x y w (inr (named, inr (inl (query, refused)))) = refused.nothing_made
+  locate_none name x y w (inr (named, inr (inr (inl (query, unknown, refused))))) = refused.nothing_made
+  locate_none name x y w (inr (named, inr (inr (inr (query, there, told))))) = told.nothing_made
+
+  grid_none : (name : List ℕ) (x y step nx ny : ℤ) → IsAnswered stored session before (grid name x y step nx ny) after made reply → made ≡ []
+  grid_none name x y step nx ny (inl (none, refused)) = refused.nothing_made
+  grid_none name x y step nx ny (inr (named, inl (out, refused))) = refused.nothing_made
+  grid_none name x y step nx ny (inr (named, inr (inl (size, refused)))) = refused.nothing_made
+  grid_none name x y step nx ny (inr (named, inr (inr (size, drawn)))) = drawn_none _ _ made reply drawn
+
+  list_none : IsAnswered stored session before list_layers after made reply → made ≡ []
+  list_none (inl refused) = refused.nothing_made
+  list_none (inr told) = told.nothing_made
+
+  edges_none : (name : List ℕ) (k : ℤ) → IsAnswered stored session before (edges name k) after made reply → made ≡ []
+  edges_none name k (inl (none, refused)) = refused.nothing_made
+  edges_none name k (inr (named, inl refused)) = refused.nothing_made
+  edges_none name k (inr (named, inr asked)) = asked_none _ made reply _ asked (λ told. told.nothing_made)
+
+  wait_none : (name : List ℕ) → IsAnswered stored session before (wait name) after made reply → made ≡ []
+  wait_none name (inl (none, refused)) = refused.nothing_made
+  wait_none name (inr (named, inl refused)) = refused.nothing_made
+  wait_none name (inr (named, inr asked)) =
+      asked_none _ made reply _ asked (λ told. elim told [
+        | inl built ↦ built.nothing_made
+        | inr closed ↦ closed.closing.nothing_made
+      ])
+
+  verify_none : (name : List ℕ) (k : ℤ) → IsAnswered stored session before (verify name k) after made reply → made ≡ []
+  verify_none name k (inl (none, refused)) = refused.nothing_made
+  verify_none name k (inr (named, inl refused)) = refused.nothing_made
+  verify_none name k (inr (named, inr asked)) = asked_none _ made reply _ asked (λ told. told.nothing_made)
+
+  sync_none : IsAnswered stored session before sync after made reply → made ≡ []
+  sync_none (inl (none, refused)) = refused.nothing_made
+  sync_none (inr (inl refused)) = refused.nothing_made
+  sync_none (inr (inr (inl (some, told)))) = told.nothing_made
+  sync_none (inr (inr (inr (some, told)))) = told.refused.nothing_made
+
+  answered_comes : (request : Request) → IsAnswered stored session before request after made reply → Comes session before request after made reply
+  answered_comes nothing told = inl (idle nothing after made reply refl told.nothing_made)
+  answered_comes too_long refused = inl (idle too_long after made reply refl refused.nothing_made)
+  answered_comes malformed refused = inl (idle malformed after made reply refl refused.nothing_made)
+  answered_comes (put name text) answered = put_comes name text answered
+  answered_comes (define name text) answered = define_comes name text answered
+  answered_comes (remove name) answered = remove_comes name answered
+  answered_comes (locate name x y w) answered = inl (idle (locate name x y w) after made reply refl (locate_none name x y w answered))
+  answered_comes (grid name x y step nx ny) answered = inl (idle (grid name x y step nx ny) after made reply refl (grid_none name x y step nx ny answered))
+  answered_comes list_layers answered = inl (idle list_layers after made reply refl (list_none answered))
+  answered_comes (edges name k) answered = inl (idle (edges name k) after made reply refl (edges_none name k answered))
+  answered_comes (wait name) answered = inl (idle (wait name) after made reply refl (wait_none name answered))
+  answered_comes (verify name k) answered = inl (idle (verify name k) after made reply refl (verify_none name k answered))
+  answered_comes sync answered = inl (idle sync after made reply refl (sync_none answered))
+
+  -- each turn comes to one of both
+  pub comes : (line : List ℕ) → IsTurn stored session before line after made reply → Comes session before (request_of line) after made reply
+  comes line turn =
+      elim turn.answered [
+        | inl memory ↦ inl (outside (request_of line) after made reply memory.1.nothing_made (memory_outside made reply memory.1))
+        | inr by ↦ answered_comes (request_of line) by
+      ]

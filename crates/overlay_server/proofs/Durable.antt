@@ -1,0 +1,78 @@
+-- What stands for a version of a history is covered for its commands.
+use Rattle.std.proofs.Common.{◌≡◌, ℕ, ◌+◌, ◌-◌, ◌≤◌, List, [], ◌∷◌, ◌++◌, length, map, take, refl, sym, ap, subst, ◌∙◌, length-append, arith}
+use Rattle.overlay_terms.specs.Commands.{Command}
+use Rattle.overlay_terms.specs.Histories.{Version, Event, accepted, kept, durable_to, Entry, History, AllFollow, IsHistory, BeginsWith, newest, accepted_in}
+use Rattle.overlay_terms.specs.KeptLaws.{IsExact}
+use Rattle.overlay_terms.proofs.HistoryFolds.{newest_has_commands}
+use Rattle.overlay_terms.proofs.KeptHistories.{history_is_exact}
+use Rattle.overlay_engine.specs.Start.{layers_from, up_to}
+use Rattle.overlay_engine.proofs.Recovering.{image_exact}
+use Rattle.store_flushing.specs.Among.{IsVersionIn, IsFileIn}
+use Rattle.overlay_server.specs.Durability.{FilesAreCovered, VersionsAreExact, start_of_commands}
+
+-- versions that follow one another, and the first of them
+follow_first : (v : Version) (xs ys : List Entry) → AllFollow v (xs ++ ys) → AllFollow v xs
+follow_first v [] ys f = tt
+follow_first v (x ∷ xs) ys f = (f.0, follow_first x.version xs ys f.1)
+
+-- a history that another one goes on from
+earlier_is_history : (history earlier : History) → BeginsWith history earlier → IsHistory history → IsHistory earlier
+earlier_is_history history earlier on is = follow_first earlier.start earlier.entries on.0 (subst IsHistory on.1 is)
+
+same_start : (history earlier : History) → BeginsWith history earlier → history.start ≡ earlier.start
+same_start history earlier on = ap (λ (h : History). h.start) on.1
+
+accepted_one : (event : Event) (version : Version) (xs ys : List Entry) → accepted_in (xs ++ ys) ≡ accepted_in xs ++ accepted_in ys
+    → accepted_in (record { event = event; version = version } ∷ xs ++ ys) ≡ accepted_in (record { event = event; version = version } ∷ xs) ++ accepted_in ys
+accepted_one (accepted session command) version xs ys is = ap (λ (cs : List Command). command ∷ cs) is
+accepted_one (kept name column tile) version xs ys is = is
+accepted_one (durable_to number) version xs ys is = is
+
+accepted_append : (xs ys : List Entry) → accepted_in (xs ++ ys) ≡ accepted_in xs ++ accepted_in ys
+accepted_append [] ys = refl
+accepted_append (x ∷ xs) ys = accepted_one x.event x.version xs ys (accepted_append xs ys)
+
+take_first : (cs ds : List Command) → take (length cs) (cs ++ ds) ≡ cs
+take_first [] ds = refl
+take_first (c ∷ cs) ds = ap (λ (xs : List Command). c ∷ xs) (take_first cs ds)
+
+-- the commands up to the version that the first of them make
+first_up_to : (start number : ℕ) (cs ds : List Command) → number ≡ start + length cs → take (number - start) (cs ++ ds) ≡ cs
+first_up_to start number cs ds is = ap (λ (n : ℕ). take n (cs ++ ds)) (omega (arith, is)) ∙ take_first cs ds
+
+pub versions_are_exact : VersionsAreExact
+versions_are_exact history version is exact among =
+    let earlier = among.earlier in
+    let first = earlier_is_history history earlier among.begins is in
+    subst IsExact (sym among.newest) (history_is_exact earlier first (subst IsExact (same_start history earlier among.begins) exact))
+
+pub files_are_covered : FilesAreCovered
+files_are_covered history least file is exact stands =
+    let among = stands.among.among in
+    let image = stands.among.image in
+    let earlier = among.earlier in
+    let start = start_of_commands history.start in
+    let begins = same_start history earlier among.begins in
+    let made = newest_has_commands earlier (earlier_is_history history earlier among.begins is) in
+    let first = accepted_in earlier.entries in
+    let later = accepted_in among.begins.0 in
+    let all : accepted_in history.entries ≡ first ++ later =
+    ap (λ (h : History). accepted_in h.entries) among.begins.1 ∙ accepted_append earlier.entries among.begins.0 in
+    let newest_number : (newest earlier).number ≡ start.number + length first = made.number ∙ ap (λ (v : Version). v.number + length first) (sym begins) in
+    let number : stands.held.number ≡ start.number + length first =
+    image.number ∙ ap (λ (v : Version). v.number) among.newest ∙ newest_number in
+    let these : up_to start stands.held.number (accepted_in history.entries) ≡ first =
+    ap (λ (cs : List Command). take (stands.held.number - start.number) cs) all ∙ first_up_to start.number stands.held.number first later number in
+    let count : length (accepted_in history.entries) ≡ length first + length later = ap (λ (cs : List Command). length cs) all ∙ length-append first later in
+    record {
+      held = stands.held;
+      no_less = stands.no_less;
+      stored = record {
+        since = omega (arith, number);
+        no_later = omega (arith, number, count);
+        layers = image.layers ∙ ap (λ (v : Version). v.layers) among.newest ∙ made.layers
+            ∙ ap (λ (v : Version). layers_from (start_of_commands v) first) (sym begins) ∙ ap (λ (cs : List Command). layers_from start cs) (sym these);
+        exact = image_exact stands.among.version stands.held image (versions_are_exact history stands.among.version is exact among);
+      };
+      stands = stands.stands;
+    }

@@ -1,0 +1,18 @@
+use Rattle.std.proofs.Common.{rules, ◌≡◌, sym, subst}
+use Rattle.std.specs.List.{AllZip}
+use Rattle.version_book.specs.Store.{has_store}
+use Rattle.overlay_server.specs.Running.{IsRunOf}
+use Rattle.overlay_server.proofs.Lists.{beside_through}
+use Rattle.overlay_server.proofs.running.run_sessions.Goals as goal
+
+pub returns : goal.returns
+returns g c =
+    let running = c.in_ok-running.field-0 in
+    let stored = has_store c.args.shared.now in
+    let begun : AllZip (λ script h. (h.promise.begun.value ≡ script) × (h.promise.stored ≡ stored)) c.args.scripts.items running.items = search rules in
+    beside_through (λ script h. (h.promise.begun.value ≡ script) × (h.promise.stored ≡ stored))
+    (λ h ended. IsRunOf g.J.Naming.book h.promise.stored g.R.Read.remaining h.promise.begun.value ended)
+    (λ script ended. IsRunOf g.J.Naming.book stored g.R.Read.remaining script ended)
+    (λ script h ended same ran. subst (λ b. IsRunOf g.J.Naming.book b g.R.Read.remaining script ended) same.1
+    (subst (λ s. IsRunOf g.J.Naming.book h.promise.stored g.R.Read.remaining s ended) same.0 ran))
+    c.args.scripts.items running.items c.join_sessions.result.items begun c.join_sessions.ensures
