@@ -1,6 +1,7 @@
 //! The polygon overlay server: it runs scripts over layers that are kept in a file, or in memory.
 #![tactic(auto)]
 
+mod ending;
 mod fault;
 mod printing;
 mod running;

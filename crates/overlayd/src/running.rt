@@ -1,15 +1,12 @@
 //! What the words ask for, from the scripts to what is printed.
-ghost use Rattle.std.specs.Prelude.{◌≡◌, true};
-ghost use Rattle.overlayd.specs.Ending.{IsWhole};
-
+use crate::ending::is_whole;
 use crate::fault::ProgramFault;
 use crate::printing::print_all;
 use crate::script::open_scripts;
 use crate::store::open_store;
-use overlay_server::outcome::{ServeOptions, Served};
+use overlay_server::outcome::ServeOptions;
 use overlay_server::serving::serve;
 use program_words::reading::read_words;
-use script_form::SessionEnd;
 use std::env;
 use std::env::Env;
 use std::fs::File;
@@ -40,15 +37,6 @@ pub fn run<Q: Env + Files<File = File> + Threads + Wait + Sync + AllocGlobal>(
         }
         Err(refused) => Err(ProgramFault::of_server(refused.code)),
     }
-}
-
-/// Whether every script was read to its end, and the newest version is stored where there is a store.
-fn is_whole<D>(served: &Served<D>, has_store: bool) -> bool
-    ensures yes { result ≡ true → IsWhole has_store served.now }
-    ensures no { IsWhole has_store served.now → result ≡ true }
-{
-    let ended = served.sessions.iter().all(|session| session.end == SessionEnd::End);
-    ended && (!has_store || served.closed.stored >= served.closed.version.number())
 }
 
 /// The words behind the program's name.

@@ -1,4 +1,6 @@
 //! The scripts that the program runs.
+ghost use Rattle.std.specs.Prelude.{◌<◌, ◌≤◌, length, IfOk};
+
 use crate::fault::ProgramFault;
 use std::fs;
 use std::fs::File;
@@ -28,12 +30,17 @@ pub fn open_scripts<Q: Files<File = File> + AllocGlobal>(
     rt: &Q,
     input: Stdin,
     paths: &[String],
-) -> Result<Vec<Script>, ProgramFault> {
+) -> Result<Vec<Script>, ProgramFault>
+    requires { length paths.now ≤ 4 }
+    ensures some { IfOk result (λ scripts. 0 < length scripts.items) }
+    ensures few { IfOk result (λ scripts. length scripts.items ≤ 4) }
+{
     let mut scripts = Vec::new(rt.alloc());
     if paths.is_empty() {
         scripts.push(Script::Input(input))?;
+        return Ok(scripts);
     }
-    for path in paths {
+    'paths: for path in paths {
         let file = open_script(rt, path)?;
         scripts.push(Script::File(file))?;
     }
