@@ -3,11 +3,10 @@ ghost use Rattle.std.specs.Prelude.{[]};
 
 use disk_model::disk::Disk;
 use disk_model::fault::DiskFault;
-use std::fs;
 use std::fs::{File, OpenOptions};
-use std::io;
 use std::os::unix::fs::FileExt;
 use std::rt::Files;
+use std::{fs, io};
 
 /// A plain file. That it is honest is claimed nowhere: what it does is shown by tests.
 #[derive(Drop)]

@@ -2,11 +2,10 @@
 ghost use Rattle.std.specs.Prelude.{◌<◌, ◌≤◌, length, IfOk};
 
 use crate::fault::ProgramFault;
-use std::fs;
 use std::fs::File;
-use std::io;
 use std::io::{ErrorKind, Read, Stdin};
 use std::rt::Files;
+use std::{fs, io};
 
 /// A script: standard input, or a file.
 #[derive(Drop)]

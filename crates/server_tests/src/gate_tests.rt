@@ -85,7 +85,9 @@ const LATE: [&str; 3] = [
 // Caught: `late_tile_left_out` (in overlay_server/src/serving.rt `run_book` closes the book without `keep_store` behind
 // the threads): the store's thread has ended before the tile is finished, and the file lacks it.
 #[test]
-fn a_tile_that_is_finished_after_the_last_commit_is_in_the_file(rt: HostRuntime) -> Result<(), Fail> {
+fn a_tile_that_is_finished_after_the_last_commit_is_in_the_file(
+    rt: HostRuntime,
+) -> Result<(), Fail> {
     let watch = Watch::new();
     let gate = Late {
         rt: &rt,
@@ -107,7 +109,11 @@ fn a_tile_that_is_finished_after_the_last_commit_is_in_the_file(rt: HostRuntime)
     let engine = recovered(alloc, served.closed.disk)?;
     for column in 0..17 {
         let in_file = engine.version().tile(&name, column).is_some();
-        assert_eq!(rt; in_file, served.closed.version.tile(&name, column).is_some(), "in column {column}");
+        assert_eq!(rt;
+            in_file,
+            served.closed.version.tile(&name, column).is_some(),
+            "in column {column}"
+        );
     }
     Ok(())
 }

@@ -50,7 +50,12 @@ fn a_layer_is_there_when_the_store_is_opened_again(rt: HostRuntime) -> Result<()
     let first = first_run(&rt, alloc, empty_disk(alloc)?, 200, PUT_A)?;
     expect(&rt, &first, 0, "ok 1\n");
     assert_eq!(rt; first.closed.stored, 1);
-    let next = next_run(&rt, alloc, first.closed.disk, b"LOCATE A 2 2\nLOCATE A 11 2\nSYNC\n")?;
+    let next = next_run(
+        &rt,
+        alloc,
+        first.closed.disk,
+        b"LOCATE A 2 2\nLOCATE A 11 2\nSYNC\n",
+    )?;
     expect(&rt, &next, 0, "in\nout\ndurable 1\n");
     Ok(())
 }

@@ -9,15 +9,14 @@ use overlay_server::outcome::{ServeOptions, Served};
 use overlay_server::serving::serve;
 use script_form::SessionEnd;
 use std::alloc::Global;
-use std::io;
 use std::io::Read;
 use std::process::Abort;
 use std::sync::Wait;
 use std::sync::atomic::{AtomicU64, Ordering};
 use std::test::Fail;
-use std::thread;
 use std::thread::Threads;
 use std::time::{Clock, Duration};
+use std::{io, thread};
 use tile_workers::gate::Gate;
 
 /// How many blocks a store of the tests may have.
@@ -97,7 +96,14 @@ where
     Q: Threads + Wait + Sync + Abort,
     requires { (0 < length readers.items) × (length readers.items ≤ 4) }
 {
-    match serve(rt, alloc, ServeOptions { workers: 2 }, gate, engine, readers) {
+    match serve(
+        rt,
+        alloc,
+        ServeOptions { workers: 2 },
+        gate,
+        engine,
+        readers,
+    ) {
         Ok(served) => served,
         Err(_) => panic!(rt; "no server"),
     }

@@ -12,4 +12,4 @@ pub loop-i-preserved : goal.loop-i-preserved
 loop-i-preserved g c =
     let more = texts_more (nat_lt 1 (length c.args.sessions.now)) replies_of c.args.sessions.now c.loop-i.i c.index-sessions-i.result c.loop-i-test.true c.index-sessions-i.is in
     subst (Appends (g.W.Write.contents c.args.output.now) (g.W.Write.contents c.print_session.new.output)) (sym more)
-        (Appends-trans _ _ _ _ _ c.loop-i.invariant c.in_ok-print_session.ensures)
+    (Appends-trans _ _ _ _ _ c.loop-i.invariant c.in_ok-print_session.ensures)
