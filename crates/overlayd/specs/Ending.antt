@@ -17,4 +17,5 @@ is_stored served = nat_le (arc_value served.closed.version).number served.closed
 
 -- every script was read to its end, and the newest version is stored where there is a store
 abbrev pub is_whole : {D : Type 0} → Bool → Served D → Bool
-is_whole has_store served = list_all (λ session. is_end session.end) served.sessions.items && (not has_store || is_stored served)
+is_whole has_store served =
+    list_all (λ session. is_end session.end) served.sessions.items && (not has_store || is_stored served)

@@ -14,7 +14,8 @@ session_text false number replies = replies
 -- the replies of one session after another, from a number on
 pub texts_from : Bool → ℕ → List (List ℕ) → List ℕ
 texts_from several number [] = []
-texts_from several number (replies ∷ rest) = session_text several number replies ++ texts_from several (suc number) rest
+texts_from several number (replies ∷ rest) =
+    session_text several number replies ++ texts_from several (suc number) rest
 
 -- the replies of all sessions
 abbrev pub printed : List (List ℕ) → List ℕ

@@ -9,7 +9,8 @@ use std::io::Write;
 
 /// Prints what each session wrote, in the order of the scripts, with a line for each before it where there are several.
 pub fn print_all<W: Write>(output: &mut W, sessions: &[Outcome]) -> io::Result<()>
-    ensures { OnOk result (Appends (W.contents output.old) (W.contents output.new) (printed (map replies_of sessions.now))) }
+    ensures { OnOk result
+        (Appends (W.contents output.old) (W.contents output.new) (printed (map replies_of sessions.now))) }
 {
     let several = sessions.len() > 1;
     for (i, session) in sessions.iter().enumerate() {
@@ -25,7 +26,8 @@ fn print_session<W: Write>(
     number: usize,
     session: &Outcome,
 ) -> io::Result<()>
-    ensures { OnOk result (Appends (W.contents output.old) (W.contents output.new) (session_text several number (replies_of session.now))) }
+    ensures { OnOk result
+        (Appends (W.contents output.old) (W.contents output.new) (session_text several number (replies_of session.now))) }
 {
     if several {
         writeln!(output, "# script {number}")?;

@@ -47,7 +47,8 @@ impl Watch {
         self.entered.load(Ordering::SeqCst) >= entered && self.asked.load(Ordering::SeqCst) >= asked
     }
 
-    /// Waits until so many tiles are begun and so many lines asked for. It gives up after 10,000 turns of a millisecond.
+    /// Waits until so many tiles are begun and so many lines asked for. It gives up after 10,000 turns of one
+    /// millisecond.
     pub fn wait_for(&self, rt: &impl Clock, entered: u64, asked: u64) {
         for _ in 0..10_000 {
             if self.has_seen(entered, asked) {
