@@ -47,8 +47,10 @@ fn workers_build_side_by_side_while_a_session_is_answered(rt: HostRuntime) -> Re
         asked: 7,
     };
     let reader = Lines {
-        lines: &MEETING,
+        rt: &rt,
         watch: &watch,
+        lines: &MEETING,
+        entered: 2,
     };
     let readers = Vec::from_array(rt.alloc(), [reader])?;
     let served = served(&rt, rt.alloc(), &gate, None::<Engine<MemDisk>>, readers);
@@ -75,7 +77,7 @@ impl<R: Clock> Gate for Late<'_, R> {
     }
 }
 
-/// Each tile of I is built by then but the one that the gate holds.
+/// What is stored at SYNC lacks the tile that the gate holds.
 const LATE: [&str; 3] = [
     "PUT A POLYGON ((0 0, 10 0, 10 10, 0 10, 0 0))\n",
     "DEFINE I = A\n",
@@ -95,8 +97,10 @@ fn a_tile_that_is_finished_after_the_last_commit_is_in_the_file(
         asked: 4,
     };
     let reader = Lines {
-        lines: &LATE,
+        rt: &rt,
         watch: &watch,
+        lines: &LATE,
+        entered: 1,
     };
     let alloc = rt.alloc();
     let engine = created(alloc, empty_disk(alloc)?, 200)?;
@@ -105,15 +109,14 @@ fn a_tile_that_is_finished_after_the_last_commit_is_in_the_file(
     expect(&rt, &served, 0, "ok 1\nok 2\ndurable 2\n");
     assert_eq!(rt; watch.failed.load(Ordering::SeqCst), 0);
     let name = name_of(alloc, "I")?;
-    assert!(rt; served.closed.version.tile(&name, 0).is_some());
     let engine = recovered(alloc, served.closed.disk)?;
+    let mut has_tiles = false;
     for column in 0..17 {
+        let is_finished = served.closed.version.tile(&name, column).is_some();
         let in_file = engine.version().tile(&name, column).is_some();
-        assert_eq!(rt;
-            in_file,
-            served.closed.version.tile(&name, column).is_some(),
-            "in column {column}"
-        );
+        assert_eq!(rt; in_file, is_finished, "in column {column}");
+        has_tiles |= is_finished;
     }
+    assert!(rt; has_tiles);
     Ok(())
 }

@@ -60,14 +60,16 @@ impl Watch {
     }
 }
 
-/// A reader that gives one line a read, and counts how often it is asked.
+/// A reader that gives one line a read, and counts how often it is asked. It does not end before so many tiles are begun.
 #[derive(Drop)]
-pub struct Lines<'a> {
-    pub lines: &'a [&'a str],
+pub struct Lines<'a, R> {
+    pub rt: &'a R,
     pub watch: &'a Watch,
+    pub lines: &'a [&'a str],
+    pub entered: u64,
 }
 
-impl Read for Lines<'_> {
+impl<R: Clock> Read for Lines<'_, R> {
     fn read(&mut self, buf: &mut [u8]) -> io::Result<usize> {
         self.watch.asked.fetch_add(1, Ordering::SeqCst);
         match self.lines {
@@ -77,7 +79,10 @@ impl Read for Lines<'_> {
                 self.lines = rest;
                 Ok(count)
             }
-            [] => Ok(0),
+            [] => {
+                self.watch.wait_for(self.rt, self.entered, 0);
+                Ok(0)
+            }
         }
     }
 }
