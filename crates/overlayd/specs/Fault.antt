@@ -2,7 +2,7 @@
 use Rattle.std.specs.Prelude.{ℕ, List, codes}
 use Rattle.commit_plan.specs.Fault as stores
 use Rattle.overlayd.specs.declared.fault.ProgramFault.{ProgramFault}
-use Rattle.overlayd.specs.declared.fault.ProgramFault.TheVariants.{Words, Script, Store, OutOfMemory, Gone}
+use Rattle.overlayd.specs.declared.fault.ProgramFault.TheVariants.{Words, Script, Store, OutOfMemory, Gone, Write}
 
 -- the number under which a fault is printed
 abbrev pub code_of : ProgramFault → ℕ
@@ -11,6 +11,7 @@ code_of Script = 48
 code_of (Store fault) = stores.code_of fault
 code_of OutOfMemory = 40
 code_of Gone = 44
+code_of Write = 49
 
 -- the text that is printed behind the number
 abbrev pub text_of : ProgramFault → List ℕ
@@ -19,6 +20,7 @@ text_of Script = codes "read"
 text_of (Store fault) = stores.text_of fault
 text_of OutOfMemory = codes "out of memory"
 text_of Gone = codes "gone"
+text_of Write = codes "write"
 
 -- the exit status behind a fault: wrong words have one of their own
 abbrev pub status_of : ProgramFault → ℕ
@@ -27,3 +29,4 @@ status_of Script = 1
 status_of (Store fault) = 1
 status_of OutOfMemory = 1
 status_of Gone = 1
+status_of Write = 1

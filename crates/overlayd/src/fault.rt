@@ -1,4 +1,4 @@
-//! Why the program runs no script.
+//! The faults of the program's own.
 ghost use Rattle.std.specs.Prelude.{◌≡◌, ◌⊎◌, Some};
 ghost use Rattle.overlayd.specs.Fault.{code_of, status_of, text_of};
 ghost use Rattle.overlayd.specs.declared.fault.ProgramFault.TheVariants as faults;
@@ -9,7 +9,7 @@ use program_words::fault::WordFault;
 use std::alloc::{AllocError, AllocFailed};
 use std::fmt;
 
-/// Why the program runs no script.
+/// Why the program runs no script, or why what it leaves is not all.
 #[derive(Clone, Copy, Debug, PartialEq, Eq)]
 pub enum ProgramFault {
     /// The words are not those of the synopsis.
@@ -22,6 +22,8 @@ pub enum ProgramFault {
     OutOfMemory,
     /// The book of versions gives no places.
     Gone,
+    /// The replies can't be printed, or a session had no memory for them.
+    Write,
 }
 
 impl ProgramFault {
@@ -35,6 +37,7 @@ impl ProgramFault {
             ProgramFault::Store(fault) => fault.code(),
             ProgramFault::OutOfMemory => 40,
             ProgramFault::Gone => 44,
+            ProgramFault::Write => 49,
         }
     }
 
@@ -101,6 +104,7 @@ impl fmt::Display for Text {
             ProgramFault::Store(fault) => return write!(f, "{}", commit_plan::fault::Text(fault)),
             ProgramFault::OutOfMemory => "out of memory",
             ProgramFault::Gone => "gone",
+            ProgramFault::Write => "write",
         })
     }
 }

@@ -1,10 +1,10 @@
 //! What the words ask for, from the scripts to what is printed.
-use crate::ending::is_whole;
+use crate::ending::{have_ended, unsaid};
 use crate::fault::ProgramFault;
 use crate::printing::print_all;
 use crate::script::open_scripts;
-use crate::store::open_store;
-use overlay_server::outcome::ServeOptions;
+use crate::store::{open_store, store_newest};
+use overlay_server::outcome::{ServeOptions, Served};
 use overlay_server::serving::serve;
 use program_words::reading::read_words;
 use std::env;
@@ -17,7 +17,8 @@ use std::thread::Threads;
 use tile_workers::gate::OpenGate;
 
 /// Runs the scripts that the words name, and prints what each session wrote. It says whether every script was read to
-/// its end, all was printed, and the newest version is in the store, where there is one.
+/// its end. The fault is one that no session's replies tell: the newest version is not in the store, where there is
+/// one, the replies can't be printed, or a session had no memory.
 pub fn run<Q: Env + Files<File = File> + Threads + Wait + Sync + AllocGlobal>(
     rt: &Q,
     input: Stdin,
@@ -29,11 +30,17 @@ pub fn run<Q: Env + Files<File = File> + Threads + Wait + Sync + AllocGlobal>(
     let options = ServeOptions {
         workers: plan.workers as usize,
     };
-    let has_store = engine.is_some();
     match serve(rt, rt.alloc(), options, &OpenGate, engine, scripts) {
-        Ok(served) => {
-            let printed = print_all(output, &served.sessions).is_ok();
-            Ok(printed && is_whole(&served, has_store))
+        Ok(Served { sessions, closed }) => {
+            let printed = print_all(output, &sessions);
+            store_newest(rt, &plan, closed)?;
+            if printed.is_err() {
+                return Err(ProgramFault::Write);
+            }
+            match unsaid(&sessions) {
+                Some(fault) => Err(fault),
+                None => Ok(have_ended(&sessions)),
+            }
         }
         Err(refused) => Err(ProgramFault::of_server(refused.code)),
     }
