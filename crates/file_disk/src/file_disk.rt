@@ -4,10 +4,9 @@ ghost use Rattle.std.specs.Prelude.{[]};
 use disk_model::disk::Disk;
 use disk_model::fault::DiskFault;
 use std::fs::{File, OpenOptions};
-use std::io;
 use std::os::unix::fs::FileExt;
-use std::path::Path;
 use std::rt::Files;
+use std::{fs, io};
 
 /// A plain file. That it is honest is claimed nowhere: what it does is shown by tests.
 #[derive(Drop)]
@@ -18,14 +17,16 @@ pub struct FileDisk {
 }
 
 impl FileDisk {
-    /// The file at a path. Where it is absent it is made if `make` says so, and else that is the fault `Device`, as is
-    /// a folder, a device and whatever the system refuses. No byte of a file that is there is changed or cut off.
-    pub fn at<R: Files<File = File>>(
+    /// The file at a path. Where it is absent it is made if `make` says so, and else that is an error, as is a folder, a
+    /// device and whatever the system refuses. Of a link, also of one that leads to no file yet, it is the file that the
+    /// link leads to. No byte of a file that is there is changed or cut off. The error's kind is `OutOfMemory` where
+    /// memory was refused.
+    pub fn at<R: Files<File = File> + AllocGlobal>(
         rt: &R,
         path: &str,
         make: bool,
-    ) -> Result<FileDisk, DiskFault> {
-        let file = told(opened(rt, path, make))?;
+    ) -> io::Result<FileDisk> {
+        let file = opened(rt, path, make)?;
         Ok(FileDisk { file: Some(file) })
     }
 
@@ -36,7 +37,7 @@ impl FileDisk {
 }
 
 /// The plain file at a path. One that may have been made is entered in its folder for good.
-fn opened<R: Files<File = File>>(rt: &R, path: &str, make: bool) -> io::Result<File> {
+fn opened<R: Files<File = File> + AllocGlobal>(rt: &R, path: &str, make: bool) -> io::Result<File> {
     let mut how = OpenOptions::new();
     how.read(true).write(true).create(make);
     let file = how.open(rt, path)?;
@@ -49,11 +50,12 @@ fn opened<R: Files<File = File>>(rt: &R, path: &str, make: bool) -> io::Result<F
     Ok(file)
 }
 
-/// The folder in which a path has its file.
-fn folder_of<R: Files<File = File>>(rt: &R, path: &str) -> io::Result<File> {
-    match Path::new(path).parent() {
-        Some(folder) if !folder.as_str().is_empty() => File::open(rt, folder),
-        _ => File::open(rt, "."),
+/// The folder in which the file at a path lies, whatever links lead to it.
+fn folder_of<R: Files<File = File> + AllocGlobal>(rt: &R, path: &str) -> io::Result<File> {
+    let place = fs::canonicalize(rt, path)?;
+    match place.as_path().parent() {
+        Some(folder) => File::open(rt, folder),
+        None => Err(io::Error::from(io::ErrorKind::InvalidInput)),
     }
 }
 

@@ -1,16 +1,24 @@
-//! The polygon overlay server: a session on standard input and output.
+//! The polygon overlay server: it runs scripts over layers that are kept in a file, or in memory.
 #![tactic(auto)]
 
-#[cfg(test)]
-mod session_tests;
+mod ending;
+mod fault;
+mod printing;
+mod running;
+mod script;
+mod store;
 
-use overlay_session::run_plain;
-use script_form::SessionEnd;
+use crate::fault::Text;
+use crate::running::run;
 use std::process::ExitCode;
 
 fn main(rt: HostRuntime) -> ExitCode {
-    match run_plain(rt.alloc(), &mut rt.stdin(), &mut rt.stdout()) {
-        SessionEnd::End => ExitCode::SUCCESS,
-        SessionEnd::Failed(_) => ExitCode::FAILURE,
+    match run(&rt, rt.stdin(), &mut rt.stdout()) {
+        Ok(true) => ExitCode::SUCCESS,
+        Ok(false) => ExitCode::FAILURE,
+        Err(fault) => {
+            let _printed = eprintln!(rt; "error {} {}", fault.code(), Text(fault));
+            ExitCode::from(fault.status())
+        }
     }
 }

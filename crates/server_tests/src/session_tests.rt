@@ -1,12 +1,14 @@
 //! What no script shows: reads and writes that fail, and the limits of lines and of scripts.
-use overlay_session::run_plain;
+use crate::books::run_script;
 use script_form::SessionEnd;
 use std::alloc::{AllocError, Global};
 use std::cell::Cell;
 use std::io;
 use std::io::{ErrorKind, Read, Write};
 use std::process::Abort;
+use std::sync::Wait;
 use std::test::Fail;
+use std::thread::Threads;
 
 const SYNTAX: &str = "error 41 command syntax\n";
 
@@ -71,7 +73,7 @@ impl Write for Sink {
 
 /// Runs a script to its end or its fault, by reads of so many bytes, and compares what it writes.
 fn expect(
-    rt: &(impl Abort + AllocGlobal),
+    rt: &(impl Abort + AllocGlobal + Threads + Wait + Sync),
     script: &[u8],
     step: usize,
     fault: Option<ErrorKind>,
@@ -84,7 +86,7 @@ fn expect(
         failed: 0,
     };
     let mut writer = Vec::new(rt.alloc());
-    let end = run_plain(rt.alloc(), &mut reader, &mut writer);
+    let end = run_script(rt, rt.alloc(), &mut reader, &mut writer);
     let wanted = match fault {
         Some(_) => SessionEnd::Failed(48),
         None => SessionEnd::End,
@@ -151,7 +153,11 @@ fn a_read_fault_is_told_behind_a_read_that_failed(rt: HostRuntime) {
 }
 
 /// Runs two lines and a read fault, by so many writes, and compares what they take and refuse.
-fn expect_writes(rt: &(impl Abort + AllocGlobal), writes: usize, fault: Option<ErrorKind>) {
+fn expect_writes(
+    rt: &(impl Abort + AllocGlobal + Threads + Wait + Sync),
+    writes: usize,
+    fault: Option<ErrorKind>,
+) {
     let text = b"error 41 command syntax\nerror 41 command syntax\nerror 48 read\n";
     let mut reader = Feed {
         rest: b"HELLO\nHELLO\n",
@@ -165,7 +171,7 @@ fn expect_writes(rt: &(impl Abort + AllocGlobal), writes: usize, fault: Option<E
         fault,
         refused: 0,
     };
-    let end = run_plain(rt.alloc(), &mut reader, &mut writer);
+    let end = run_script(rt, rt.alloc(), &mut reader, &mut writer);
     let is_cut = writes < 11;
     assert_eq!(rt; end, SessionEnd::Failed(if is_cut { 49 } else { 48 }));
     assert_eq!(rt; writer.refused, u64::from(is_cut));
@@ -195,7 +201,7 @@ fn a_script_holds_16777216_bytes(rt: HostRuntime) {
     ] {
         let mut reader = io::repeat(b'\n').take(feeds).chain(text);
         let mut writer = Vec::new(rt.alloc());
-        assert_eq!(rt; run_plain(rt.alloc(), &mut reader, &mut writer), end);
+        assert_eq!(rt; run_script(&rt, rt.alloc(), &mut reader, &mut writer), end);
         assert_eq!(rt; writer.as_slice(), replies.as_bytes(), "behind {feeds}");
     }
 }
@@ -249,7 +255,7 @@ fn each_line_is_answered_before_more_is_read(rt: HostRuntime) {
     let mut writer = Counter {
         answered: &answered,
     };
-    let end = run_plain(rt.alloc(), &mut reader, &mut writer);
+    let end = run_script(&rt, rt.alloc(), &mut reader, &mut writer);
     assert_eq!(rt; end, SessionEnd::End);
     assert_eq!(rt; answered.get(), 3);
 }

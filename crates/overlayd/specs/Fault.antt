@@ -1,0 +1,32 @@
+-- The faults of the program: their numbers and their texts.
+use Rattle.std.specs.Prelude.{ℕ, List, codes}
+use Rattle.commit_plan.specs.Fault as stores
+use Rattle.overlayd.specs.declared.fault.ProgramFault.{ProgramFault}
+use Rattle.overlayd.specs.declared.fault.ProgramFault.TheVariants.{Words, Script, Store, OutOfMemory, Gone, Write}
+
+-- the number under which a fault is printed
+abbrev pub code_of : ProgramFault → ℕ
+code_of Words = 50
+code_of Script = 48
+code_of (Store fault) = stores.code_of fault
+code_of OutOfMemory = 40
+code_of Gone = 44
+code_of Write = 49
+
+-- the text that is printed behind the number
+abbrev pub text_of : ProgramFault → List ℕ
+text_of Words = codes "words"
+text_of Script = codes "read"
+text_of (Store fault) = stores.text_of fault
+text_of OutOfMemory = codes "out of memory"
+text_of Gone = codes "gone"
+text_of Write = codes "write"
+
+-- the exit status behind a fault: wrong words have one of their own
+abbrev pub status_of : ProgramFault → ℕ
+status_of Words = 2
+status_of Script = 1
+status_of (Store fault) = 1
+status_of OutOfMemory = 1
+status_of Gone = 1
+status_of Write = 1

@@ -1,0 +1,22 @@
+-- What is printed of sessions.
+use Rattle.std.specs.Prelude.{ℕ, suc, Bool, true, false, List, [], ◌∷◌, ◌++◌, length, codes, decimal, nat_lt}
+use Rattle.overlay_server.specs.declared.outcome.Outcome.{Outcome}
+
+-- what a session wrote
+abbrev pub replies_of : Outcome → List ℕ
+replies_of outcome = outcome.bytes.items
+
+-- the replies of a session, behind a line with its number where there are several
+abbrev pub session_text : Bool → ℕ → List ℕ → List ℕ
+session_text true number replies = codes "# script " ++ decimal number ++ 10 ∷ replies
+session_text false number replies = replies
+
+-- the replies of one session after another, from a number on
+pub texts_from : Bool → ℕ → List (List ℕ) → List ℕ
+texts_from several number [] = []
+texts_from several number (replies ∷ rest) =
+    session_text several number replies ++ texts_from several (suc number) rest
+
+-- the replies of all sessions
+abbrev pub printed : List (List ℕ) → List ℕ
+printed all = texts_from (nat_lt 1 (length all)) 1 all

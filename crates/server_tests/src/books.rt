@@ -1,0 +1,91 @@
+//! A session over a book of its own, without workers and without a store.
+ghost use Rattle.std.specs.Prelude.{◌≡◌, ◌∷◌, []};
+ghost use Rattle.book_history.specs.Logs.{entry, no_event};
+ghost use Rattle.book_history.specs.Rules.{head_of};
+
+use book_closing::closing::close;
+use disk_model::mem_disk::MemDisk;
+use flush_core::flusher::Flusher;
+use script_form::SessionEnd;
+use server_session::session::session_run;
+use std::alloc::Global;
+use std::io::{Read, Write};
+use std::marker::Brand;
+use std::process::Abort;
+use std::sync::Wait;
+use std::thread::Threads;
+use version_book::seen_log::{Head, Naming, SeenLog, open};
+use version_book::shared::Shared;
+use version_core::version::Version;
+
+/// A history of one version, which is no book's yet.
+struct History {
+    head: Head,
+    trace: SeenLog,
+    version: Version,
+    ghost head_is: { head ≡ head_of trace.book },
+    ghost begun: { trace.log ≡ entry no_event version ∷ [] },
+}
+
+fn empty_history(alloc: Global) -> History {
+    let version = Version::empty(alloc);
+    let (head, trace) = open(&version);
+    History {
+        head,
+        trace,
+        version,
+    }
+}
+
+/// Runs a script over an empty book, and says how its session ended.
+pub fn run_script<Q, R, W>(rt: &Q, alloc: Global, reader: &mut R, writer: &mut W) -> SessionEnd
+where
+    Q: Threads + Wait + Sync + Abort,
+    R: Read,
+    W: Write,
+{
+    run_named(rt, alloc, empty_history(alloc), reader, writer)
+}
+
+fn run_named<Q, R, W>(
+    rt: &Q,
+    alloc: Global,
+    history: History,
+    reader: &mut R,
+    writer: &mut W,
+) -> SessionEnd
+where
+    Q: Threads + Wait + Sync + Abort,
+    R: Read,
+    W: Write,
+{
+    run_in::<Brand, Q, R, W>(rt, alloc, history, reader, writer)
+}
+
+fn run_in<J, Q, R, W>(
+    rt: &Q,
+    alloc: Global,
+    history: History,
+    reader: &mut R,
+    writer: &mut W,
+) -> SessionEnd
+where
+    J: Naming,
+    Q: Threads + Wait + Sync + Abort,
+    R: Read,
+    W: Write,
+    requires { history.trace.book ≡ J.book }
+{
+    let History {
+        head,
+        trace,
+        version,
+    } = history;
+    let started = Shared::<J, &Q>::start(rt, alloc, head, trace, version, false, 1);
+    let (shared, reporter, mut sessions) = started.expect(rt, "no book");
+    let mut me = sessions.pop().expect(rt, "no session");
+    let end = session_run(rt, alloc, &shared, &mut me, reader, writer);
+    let sessions = Vec::from_array(alloc, [me]).expect(rt, "no memory");
+    let _closed = close(rt, shared, reporter, None::<Flusher<MemDisk>>, sessions);
+    end
+}

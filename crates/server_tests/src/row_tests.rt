@@ -1,0 +1,120 @@
+//! Scripts and their replies, by a server without a store.
+use crate::testing::{expect, served};
+use disk_model::mem_disk::MemDisk;
+use overlay_engine::engine::Engine;
+use std::test::Fail;
+use tile_workers::gate::OpenGate;
+
+const SQUARES: &[u8] = b"PUT A POLYGON ((0 0, 10 0, 10 10, 0 10, 0 0))
+PUT B POLYGON ((5 5, 15 5, 15 15, 5 15, 5 5))
+DEFINE I = A & B
+LOCATE I 7 7
+LOCATE I 2 2
+LOCATE I 10 2
+LOCATE I 14 14 2
+WAIT I
+EDGES I 8
+VERIFY I 8
+LAYERS
+GRID I 4 4 2 4 4
+SYNC
+";
+
+const SQUARES_ANSWERED: &str = "ok 1
+ok 2
+ok 3
+in
+out
+edge
+in
+built 3
+edges 4
+5 5 1 5 10 1
+5 5 1 10 5 1
+5 10 1 10 10 1
+10 5 1 10 10 1
+same
+layers 3
+A MULTIPOLYGON (((0 0, 10 0, 10 10, 0 10, 0 0)))
+B MULTIPOLYGON (((5 5, 15 5, 15 15, 5 15, 5 5)))
+I = A & B
+grid 4 4
+...+
+.##+
+.##+
+++++
+error 46 no store
+";
+
+const BORDER: &[u8] = b"PUT D POLYGON ((-10 -10, 10 -10, 10 10, -10 10, -10 -10))
+DEFINE E = D
+WAIT E
+EDGES E 7
+EDGES E 8
+";
+
+const BORDER_ANSWERED: &str = "ok 1
+ok 2
+built 2
+edges 3
+-10 -10 1 -10 10 1
+-10 -10 1 0 -10 1
+-10 10 1 0 10 1
+edges 3
+0 -10 1 10 -10 1
+0 10 1 10 10 1
+10 -10 1 10 10 1
+";
+
+const FRACTIONS: &[u8] = b"PUT T POLYGON ((0 0, 3 1, 0 2, 0 0))
+PUT S POLYGON ((1 -1, 2 -1, 2 3, 1 3, 1 -1))
+DEFINE F = T & S
+WAIT F
+EDGES F 8
+";
+
+const FRACTIONS_ANSWERED: &str = "ok 1
+ok 2
+ok 3
+built 3
+edges 4
+3 1 3 3 5 3
+3 1 3 6 2 3
+3 5 3 6 4 3
+6 2 3 6 4 3
+";
+
+// Caught: `never_builds` (in tile_workers/src/worker.rt a job is taken and neither finished nor given back) and
+// `always_gives_up` (each job is given back): WAIT sleeps for ever, or answers 40.
+#[test]
+fn scripts_are_answered(rt: HostRuntime) -> Result<(), Fail> {
+    let alloc = rt.alloc();
+    for &(script, text) in &[
+        (SQUARES, SQUARES_ANSWERED),
+        (BORDER, BORDER_ANSWERED),
+        (FRACTIONS, FRACTIONS_ANSWERED),
+    ] {
+        let readers = Vec::from_array(alloc, [script])?;
+        let served = served(&rt, alloc, &OpenGate, None::<Engine<MemDisk>>, readers);
+        expect(&rt, &served, 0, text);
+        assert_eq!(rt; served.closed.stored, 0);
+        assert!(rt; served.closed.disk.is_none());
+    }
+    Ok(())
+}
+
+// Caught: `outcomes_in_another_order` (in overlay_server/src/running.rt the sessions are taken in from the last to the
+// first).
+#[test]
+fn each_reader_has_its_own_replies(rt: HostRuntime) -> Result<(), Fail> {
+    let alloc = rt.alloc();
+    let first = b"HELLO\n".as_slice();
+    let scripts = [first, b"LOCATE Z 1 1\n", b"", b"DROP Z"];
+    let readers = Vec::from_array(alloc, scripts)?;
+    let served = served(&rt, alloc, &OpenGate, None::<Engine<MemDisk>>, readers);
+    expect(&rt, &served, 0, "error 41 command syntax\n");
+    expect(&rt, &served, 1, "error 10 unknown layer\n");
+    expect(&rt, &served, 2, "");
+    expect(&rt, &served, 3, "error 10 unknown layer\n");
+    Ok(())
+}

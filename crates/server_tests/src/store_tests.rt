@@ -1,0 +1,101 @@
+//! That what sessions have put is in the store when that is opened again, and what they are told where it fails.
+use crate::testing::{created, empty_disk, expect, recovered, served};
+use disk_model::disk::Disk;
+use file_disk::file_disk::FileDisk;
+use overlay_server::outcome::Served;
+use std::alloc::Global;
+use std::fs;
+use std::process::Abort;
+use std::sync::Wait;
+use std::test::Fail;
+use std::thread::Threads;
+use test_disks::fault_disk::FaultDisk;
+use tile_workers::gate::OpenGate;
+
+const PUT_A: &[u8] = b"PUT A POLYGON ((0 0, 10 0, 10 10, 0 10, 0 0))\n";
+
+const PUT_AND_SYNC: &[u8] = b"PUT A POLYGON ((0 0, 10 0, 10 10, 0 10, 0 0))\nSYNC\n";
+
+/// Runs scripts over a new store.
+fn first_run<D: Disk + Send + Drop>(
+    rt: &(impl Threads + Wait + Sync + Abort),
+    alloc: Global,
+    disk: D,
+    blocks: u32,
+    script: &'static [u8],
+) -> Result<Served<D>, Fail>
+    requires some { 1 ≤ blocks }
+    requires few { blocks ≤ 1048576 }
+{
+    let engine = created(alloc, disk, blocks)?;
+    let readers = Vec::from_array(alloc, [script])?;
+    Ok(served(rt, alloc, &OpenGate, Some(engine), readers))
+}
+
+/// Runs a script over what a server has left.
+fn next_run<D: Disk + Send + Drop>(
+    rt: &(impl Threads + Wait + Sync + Abort),
+    alloc: Global,
+    disk: Option<D>,
+    script: &'static [u8],
+) -> Result<Served<D>, Fail> {
+    let engine = recovered(alloc, disk)?;
+    let readers = Vec::from_array(alloc, [script])?;
+    Ok(served(rt, alloc, &OpenGate, Some(engine), readers))
+}
+
+#[test]
+fn a_layer_is_there_when_the_store_is_opened_again(rt: HostRuntime) -> Result<(), Fail> {
+    let alloc = rt.alloc();
+    let first = first_run(&rt, alloc, empty_disk(alloc)?, 200, PUT_A)?;
+    expect(&rt, &first, 0, "ok 1\n");
+    assert_eq!(rt; first.closed.stored, 1);
+    let next = next_run(
+        &rt,
+        alloc,
+        first.closed.disk,
+        b"LOCATE A 2 2\nLOCATE A 11 2\nSYNC\n",
+    )?;
+    expect(&rt, &next, 0, "in\nout\ndurable 1\n");
+    Ok(())
+}
+
+// Caught: `report_not_asked_again` (in store_flushing/src/flushing.rt the number that a commit has reached is not
+// reported, or not asked again where memory was refused): SYNC sleeps for ever.
+#[test]
+fn a_sync_ends_with_a_durable_version(rt: HostRuntime) -> Result<(), Fail> {
+    let alloc = rt.alloc();
+    let served = first_run(&rt, alloc, empty_disk(alloc)?, 200, PUT_AND_SYNC)?;
+    expect(&rt, &served, 0, "ok 1\ndurable 1\n");
+    assert_eq!(rt; served.closed.version.durable(), 1);
+    Ok(())
+}
+
+#[test]
+fn a_sync_is_told_why_nothing_is_stored(rt: HostRuntime) -> Result<(), Fail> {
+    let alloc = rt.alloc();
+    let full = first_run(&rt, alloc, empty_disk(alloc)?, 4, PUT_AND_SYNC)?;
+    expect(&rt, &full, 0, "ok 1\nerror 31 full\n");
+    assert_eq!(rt; full.closed.stored, 0);
+    // Five calls make the store. The third of the commit behind them fails.
+    let disk = FaultDisk::new(empty_disk(alloc)?, 7);
+    let failed = first_run(&rt, alloc, disk, 200, PUT_AND_SYNC)?;
+    expect(&rt, &failed, 0, "ok 1\nerror 30 device\n");
+    let next = next_run(&rt, alloc, failed.closed.disk, b"LAYERS\n")?;
+    expect(&rt, &next, 0, "layers 0\n");
+    Ok(())
+}
+
+#[test]
+fn a_layer_is_there_when_the_file_is_opened_again(rt: HostRuntime) -> Result<(), Fail> {
+    let alloc = rt.alloc();
+    let path = "reopened-store";
+    let _absent = fs::remove_file(&rt, path);
+    let first = first_run(&rt, alloc, FileDisk::at(&rt, path, true)?, 200, PUT_A)?;
+    expect(&rt, &first, 0, "ok 1\n");
+    let disk = Some(FileDisk::at(&rt, path, false)?);
+    let next = next_run(&rt, alloc, disk, b"LOCATE A 2 2\nLOCATE A 11 2\nSYNC\n")?;
+    expect(&rt, &next, 0, "in\nout\ndurable 1\n");
+    fs::remove_file(&rt, path)?;
+    Ok(())
+}
