@@ -449,7 +449,7 @@ def test():
         if found != count:
             print(f"{old!r} as {new!r}: {found} wrong replies, not {count}")
             wrong += 1
-    print(f"{len(CHANGED)} outputs judged, {wrong} of them not as they should be")
+    print(f"{len(CHANGED) - wrong} passed, {wrong} failed")
     return 1 if wrong else 0
 
 

@@ -701,11 +701,17 @@ def split_replies(lines):
     return replies
 
 
+def is_modelled(script):
+    """Whether an example is one session in memory, and soon done."""
+    alone = not script.read_text(errors="replace").startswith("# overlayd ")
+    return alone and script.with_suffix(".expected").exists() and script.name != "dense-grid.txt"
+
+
 def test():
     """Runs the scripts of the examples, and gives the exit status."""
     folder = pathlib.Path(__file__).resolve().parent.parent / "examples"
     count_of = {"replies": 0, "wrong": 0, "pending": 0}
-    for script in sorted(set(folder.glob("*.txt")) - {folder / "dense-grid.txt"}):
+    for script in sorted(filter(is_modelled, folder.glob("*.txt"))):
         wanted = split_replies(script.with_suffix(".expected").read_text().splitlines())
         given = replies_of(script.read_bytes())
         if len(wanted) != len(given):
@@ -718,7 +724,8 @@ def test():
             elif reply != right:
                 print(f"{script.name}: reply {place + 1}: {reply}, not {right}")
                 count_of["wrong"] += 1
-    print(f"{count_of['replies']} replies, {count_of['pending']} of them pending, {count_of['wrong']} wrong")
+    right = count_of["replies"] - count_of["wrong"]
+    print(f"{right} passed, {count_of['wrong']} failed, {count_of['pending']} of the replies pending")
     return 1 if count_of["wrong"] or not count_of["replies"] else 0
 
 

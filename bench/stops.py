@@ -416,7 +416,7 @@ def test():
         ("parts", [len(list(parts_of(0, bytes(n)))) for n in (1, 48, 4096)], [5, 5, 17]),
     ]
     wrong = [name for name, found, right in checks if found != right]
-    print(f"{len(checks)} checks, wrong: {wrong}")
+    print(f"{len(checks) - len(wrong)} passed, {len(wrong)} failed: {wrong}")
     return 1 if wrong else 0
 
 
