@@ -1,5 +1,5 @@
 -- What the answers of a run tell.
-use Rattle.std.proofs.Common.{◌≡◌, inl, inr, ℕ, List, [], ◌∷◌, ◌++◌, refl, sym, ◌∙◌, ap, subst}
+use Rattle.std.proofs.Common.{◌≡◌, inl, inr, ℕ, List, [], ◌∷◌, ◌++◌, sym, ◌∙◌, ap, subst}
 use Rattle.disk_model.specs.declared.disk.Disk.{Ghosts}
 use Rattle.overlay_terms.specs.Histories.{Version}
 use Rattle.overlay_engine.specs.declared.engine.Engine.{Engine}

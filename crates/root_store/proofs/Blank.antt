@@ -1,5 +1,5 @@
 -- A new file with its first gate open.
-use Rattle.std.proofs.Common.{get_or, ◌≡◌, ◌⊎◌, inl, inr, ⊎_elim, replicate, ℕ, ◌+◌, ◌<◌, ◌≤◌, ◌/◌, ◌&&◌, nat_le, true, List, length, [], ◌∷◌, Ok, refl, ◌∙◌, ap, arith}
+use Rattle.std.proofs.Common.{get_or, ◌≡◌, ◌⊎◌, inl, inr, replicate, ℕ, ◌+◌, ◌<◌, ◌≤◌, ◌/◌, ◌&&◌, nat_le, true, List, length, [], ◌∷◌, Ok, refl, ◌∙◌, ap, arith}
 use Rattle.disk_model.specs.Disk.{Holds, Torn}
 use Rattle.std.proofs.lemmas.List.{get_or-replicate, length-replicate}
 use Rattle.disk_model.proofs.Ranges.{Apart, byte_kept, part_same, part_kept, part_written, part_written_front}
@@ -11,7 +11,7 @@ use Rattle.store_terms.specs.StandsFor.{gate, open_gate}
 use Rattle.store_terms.specs.Frame.{listed_extents}
 use Rattle.store_terms.specs.Spelled.{Spells}
 use Rattle.store_terms.proofs.SpelledLemmas.{spelled_is_held, listing_spelled}
-use Rattle.root_store.specs.Creating.{first_root, second_root, nothing_kept, IsUnused, IsBlank, IsFirstWrite, IsNewFile, BlankIsAtRest}
+use Rattle.root_store.specs.Creating.{first_root, second_root, nothing_kept, IsBlank, IsFirstWrite, IsNewFile, BlankIsAtRest}
 use Rattle.store_terms.proofs.BodyLemmas.{body_again}
 
 pub blank_is_at_rest : BlankIsAtRest

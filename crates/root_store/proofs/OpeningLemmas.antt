@@ -18,7 +18,7 @@ use Rattle.commit_plan.specs.Kept.{Kept, other, Live, Rest, Shut, Calm}
 use Rattle.commit_plan.specs.Loading.{held_in}
 use Rattle.root_store.specs.Healing.{kept_of}
 use Rattle.root_reading.specs.Looking.{Refuses, Causes}
-use Rattle.root_store.specs.Opening.{Heals, IsRead, Opened, Loads, Untouched, Writes, WritesBody, fault_of, Tells, FailedBy}
+use Rattle.root_store.specs.Opening.{Heals, IsRead, Opened, Loads, Untouched, Writes, fault_of, Tells, FailedBy}
 use Rattle.commit_plan.specs.declared.fault.StoreFault.{StoreFault}
 use Rattle.commit_plan.specs.declared.fault.StoreFault.TheVariants as stores
 use Rattle.root_reading.proofs.Looked.{if_err}

@@ -1,4 +1,4 @@
-use Rattle.std.proofs.Common.{rules, ◌≡◌, ◌+◌, length, OnOk, IfErr, subst}
+use Rattle.std.proofs.Common.{◌≡◌, ◌+◌, length, OnOk, IfErr, subst}
 use Rattle.store_terms.specs.Image.{Held}
 use Rattle.commit_plan.specs.Fitting.{HasRoom, HasNoRoom}
 use Rattle.root_store.specs.Beginning.{IsReason}
