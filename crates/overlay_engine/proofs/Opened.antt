@@ -1,5 +1,5 @@
 -- What recovery makes of what opening gives.
-use Rattle.std.proofs.Common.{◌≡◌, ◌⊎◌, inl, inr, ℕ, ◌≤◌, List, arith, Result, Ok, refl, sym, ◌∙◌, ap, subst}
+use Rattle.std.proofs.Common.{◌≡◌, ◌⊎◌, inl, inr, ℕ, ◌≤◌, List, arith, Result, Ok, Err, refl, sym, ◌∙◌, ap, subst}
 use Rattle.disk_model.specs.declared.disk.Disk.{Ghosts}
 use Rattle.disk_model.specs.Moments.{Leaves, LeavesOnly}
 use Rattle.disk_model.proofs.Runs.{widened}
@@ -7,8 +7,9 @@ use Rattle.overlay_terms.specs.Layers.{Layer, answer_at}
 use Rattle.overlay_terms.specs.Commands.{Command}
 use Rattle.overlay_terms.specs.Histories.{Version}
 use Rattle.store_terms.specs.declared.damage.Damage.{Damage}
-use Rattle.store_terms.specs.Image.{Held}
-use Rattle.store_terms.specs.StandsFor.{reading}
+use Rattle.store_terms.specs.declared.root.Root.{Root}
+use Rattle.store_terms.specs.Image.{◌>>=◌, Held, held_of}
+use Rattle.store_terms.specs.StandsFor.{root_of, reading}
 use Rattle.commit_plan.specs.declared.fault.StoreFault.{StoreFault}
 use Rattle.commit_plan.specs.declared.fault.StoreFault.TheVariants.{Device, Full, Damaged, NotEmpty, Failed, SequenceLimit, OutOfMemory}
 use Rattle.root_store.specs.declared.open_fault.OpenFault.{OpenFault}
@@ -92,6 +93,16 @@ rests_as g version f s k x flusher number is same stands =
       stored = stored;
       reported = omega (arith, stored, ap (λ (v : Version). v.durable) is, ap (λ (v : Version). v.number) is);
     }
+
+-- a file that is read has a root
+pub root_read : (file : List ℕ) (x : Held) → reading file ≡ Ok x → HasRoot file
+root_read file x is = found (root_of file) refl
+  where
+    found : (o : Result Root Damage) → root_of file ≡ o → HasRoot file
+    found (Ok r) root = (r, root)
+    found (Err damage) root =
+        let none : reading file ≡ Err damage = ap (λ (o : Result Root Damage). o >>= λ q. held_of file q) root in
+        absurd (cc (none, is))
 
 -- the disk of a store that was opened, as an engine or a refusal hands it on
 pub writes_of : {D : Type 0} (g : Ghosts D) (old : List ℕ) (f : Flusher D) (s : Commit D) → f ≡ record { commit = s } → Writes old (g.seen s.disk) → Writes old (g.seen f.commit.disk)

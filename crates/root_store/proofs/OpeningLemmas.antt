@@ -18,7 +18,7 @@ use Rattle.commit_plan.specs.Kept.{Kept, other, Live, Rest, Shut, Calm}
 use Rattle.commit_plan.specs.Loading.{held_in}
 use Rattle.root_store.specs.Healing.{kept_of}
 use Rattle.root_reading.specs.Looking.{Refuses, Causes}
-use Rattle.root_store.specs.Opening.{Heals, IsRead, Opened, Loads, Untouched, Writes, WritesBody, HasRoot, fault_of, Tells, FailedBy}
+use Rattle.root_store.specs.Opening.{Heals, IsRead, Opened, Loads, Untouched, Writes, WritesBody, fault_of, Tells, FailedBy}
 use Rattle.commit_plan.specs.declared.fault.StoreFault.{StoreFault}
 use Rattle.commit_plan.specs.declared.fault.StoreFault.TheVariants as stores
 use Rattle.root_reading.proofs.Looked.{if_err}
@@ -31,16 +31,6 @@ use Rattle.root_store.proofs.TakenLemmas.{root_found, other_shut, other_harmless
 -- what opening gives of a file with a root
 pub reading_root : (file : List ℕ) (r : Root) → root_of file ≡ Ok r → reading file ≡ held_of file r
 reading_root file r root = ap (λ (x : Result Root Damage). x >>= λ q. held_of file q) root
-
--- a file that is read has a root
-pub root_read : (file : List ℕ) (x : Held) → reading file ≡ Ok x → HasRoot file
-root_read file x is = found (root_of file) refl
-  where
-    found : (o : Result Root Damage) → root_of file ≡ o → HasRoot file
-    found (Ok r) root = (r, root)
-    found (Err damage) root =
-        let none : reading file ≡ Err damage = ap (λ (o : Result Root Damage). o >>= λ q. held_of file q) root in
-        absurd (cc (none, is))
 
 module _ {D : Type 0} (g : Ghosts D) (old mid : D) (x : Loaded) (is_alone : Bool)
     (run : LeavesOnly g old mid (g.may_leave old)) (read : IsRead g old mid x is_alone)

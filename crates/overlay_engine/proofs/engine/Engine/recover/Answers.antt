@@ -3,11 +3,10 @@ use Rattle.commit_plan.specs.declared.fault.StoreFault.TheVariants.{OutOfMemory}
 use Rattle.overlay_terms.specs.Histories.{Version}
 use Rattle.flush_core.specs.declared.flusher.Flusher.{Flusher}
 use Rattle.root_store.specs.Opening.{Writes}
-use Rattle.root_store.proofs.OpeningLemmas.{root_read}
 use Rattle.overlay_engine.specs.Recovery.{Refused}
 use Rattle.overlay_engine.specs.Runs.{accepted_in}
 use Rattle.overlay_engine.proofs.Running.{crash_covered}
-use Rattle.overlay_engine.proofs.Opened.{recovered_with, rests_as, refused_as, given_up, writes_of}
+use Rattle.overlay_engine.proofs.Opened.{recovered_with, rests_as, refused_as, given_up, writes_of, root_read}
 use Rattle.overlay_engine.proofs.engine.Engine.recover.Goals as goal
 
 pub returns-in-Ok-restored-clause-ok : goal.returns-in-Ok-restored-clause-ok
