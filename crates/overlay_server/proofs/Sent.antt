@@ -9,12 +9,25 @@ use denote.Struct.Tuple.{TupleAt, type_at}
 use denote.Param.Send.{IsSend, IsSync, recorded_send, shr_send, struct_send, sendable}
 use Rattle.std.proofs.Crossing.{crosses}
 use Rattle.std.specs.contracts.alloc.Global as global
+use Rattle.version_book.proofs.Sent.{session_send}
 use Rattle.version_book.proofs.SentBook.{shared_sync}
 use Rattle.version_book.specs.contracts.shared.Shared as shared
 use Rattle.book_history.specs.declared.seen_log.Naming as naming
+use Rattle.overlay_server.specs.contracts.running.Script as script
+use Rattle.overlay_server.specs.contracts.running.Ended as ended
 
 pub heap_send : IsSend global.the_row
 heap_send = search (sendable, crosses)
+
+pub script_send : (R : RattleType) → IsSend R → IsSend (script.the_row R)
+script_send R r =
+    let O = script.the_type R in
+    recorded_send _ _ _ O.to_one (struct_send (shape O) (session_send, (r, tt)))
+
+pub ended_send : (R : RattleType) → IsSend R → IsSend (ended.the_row R)
+ended_send R r =
+    let O = ended.the_type R in
+    recorded_send _ _ _ O.to_one (struct_send (shape O) (session_send, (r, (search (sendable, crosses), (search (sendable, crosses), tt)))))
 
 module _ (J S Q : RattleType) (g : naming.Ghosts J.Denot) (j : IsSend J) (s : IsSend S) (q : IsSync Q) where
   -- a worker's closure: the runtime, the allocator, the gate and the book

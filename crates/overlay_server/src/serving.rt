@@ -36,8 +36,13 @@ struct Opened<D: Disk> {
     ghost begun: { trace.log ≡ entry no_event version ∷ [] },
 }
 
-/// Runs workers, the store and one session a reader, each in a thread of its own, until all scripts have ended. Before
-/// it returns, every tile that was finished is in the store, unless a device call failed or the store is full.
+/// Runs workers, the store and one session a reader, each in a thread of its own, until all scripts have ended. Session
+/// k runs the k-th reader's script, counted from 0, and the outcomes stand in the readers' order. The book begins with the
+/// engine's version and is committed to its store; without an engine it begins empty, and is kept in memory alone.
+///
+/// Before it returns, every tile that was finished is in the store, unless a device call failed or the store is full.
+/// Where memory or a thread is refused it fails with 40, and where the book gives no places for its sessions with 44;
+/// the disk comes back then. A script that was begun meanwhile ends as in a book that closes.
 pub fn serve<
     D: Disk + Send + Drop,
     R: Read + Send + Drop,
@@ -52,7 +57,9 @@ pub fn serve<
     readers: Vec<R>,
 ) -> Result<Served<D>, ServerFault<D>>
     requires readers { (0 < length readers.items) × (length readers.items ≤ 4) }
+    // Each reader has its replies; what is left of book and store stands for the log that has all that was seen.
     ensures served { IfOk result (IsServedFrom R.remaining D.Disk (start_of engine) (flusher_of engine) readers.items) }
+    // The disk comes back, and a crash at any moment left a file that stands for a version of the book.
     ensures refused { IfErr result (IsRefusedFrom D.Disk (start_of engine) (flusher_of engine)) }
 {
     let opened = opened(alloc, engine);

@@ -1,15 +1,14 @@
 use denote.Exit.{no}
 use denote.Param.{param}
-use denote.Param.Send.{arg_send, param_send, sendable}
-use Rattle.std.proofs.Crossing.{crosses}
-use Rattle.version_book.proofs.Sent.{session_send}
-use Rattle.overlay_server.proofs.Sent.{taking_send}
+use denote.Param.Send.{arg_send, param_send}
+use Rattle.overlay_server.proofs.Sent.{ended_send, script_send, taking_send}
+use Rattle.overlay_server.specs.contracts.running.Script as script
 use Rattle.overlay_server.proofs.running.start_session.Goals as goal
 
 pub spawn_with-requires-send-F : goal.spawn_with-requires-send-F
 spawn_with-requires-send-F g c κs within =
     param_send 2 _ (arg_send _ no _ (taking_send (param 1 g.row.J) (param 2 g.row.S) (param 3 g.row.Q) g.J.Naming c.type_bounds.send-J c.type_bounds.send-S c.type_bounds.sync-Q
-    _ (search (sendable, crosses, session_send) depth 20) _ _ _ _ _))
+        (script.the_row (param 4 g.row.R)) (script_send (param 4 g.row.R) c.type_bounds.send-R) _ _ _ _ _))
 
 pub spawn_with-requires-send-T : goal.spawn_with-requires-send-T
-spawn_with-requires-send-T g c κs within = search (sendable, crosses, session_send) depth 20
+spawn_with-requires-send-T g c κs within = param_send 3 _ (arg_send _ no _ (ended_send (param 4 g.row.R) c.type_bounds.send-R))

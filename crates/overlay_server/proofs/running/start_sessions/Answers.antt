@@ -1,8 +1,18 @@
-use Rattle.std.proofs.Common.{rules, ◌≡◌, ◌++◌, ◌∷◌, [], ℕ, ◌+◌, length, length-append, ap, sym, subst, arith, ◌∙◌}
+use Rattle.std.proofs.Common.{rules, All, ◌≡◌, ◌++◌, ◌∷◌, [], ℕ, ◌+◌, length, length-append, ap, sym, subst, arith, ◌∙◌}
 use Rattle.std.specs.List.{AllZip}
+use Rattle.std.specs.Vec.Iter.{into_iter_items}
+use Rattle.version_core.proofs.Restored.{in_middle}
 use Rattle.version_book.specs.Store.{has_store}
 use Rattle.overlay_server.proofs.Lists.{beside_push, one_on}
 use Rattle.overlay_server.proofs.running.start_sessions.Goals as goal
+
+pub start_session-requires-after_bounds : goal.start_session-requires-after_bounds
+start_session-requires-after_bounds g c κs within =
+    let at = c.loop-script in
+    let rest = into_iter_items c.next.new.self in
+    let parts = ap (λ ss. at.yielded ++ ss) (sym c.in-Some.ensures.steps.0) ∙ at.invariant.all ∙ c.into_iter-script-iterator.ensures.into_iter_gives.0 in
+    in_middle (λ script. script.session.book ≡ g.J.Naming.book) at.yielded c.in-Some.script rest
+    (subst (All (λ script. script.session.book ≡ g.J.Naming.book)) (sym parts) c.requires.scripts)
 
 pub loop-script-preserved : goal.loop-script-preserved
 loop-script-preserved g c =
