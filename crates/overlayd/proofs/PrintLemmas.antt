@@ -1,12 +1,15 @@
 -- Sessions printed one after another.
-use Rattle.std.proofs.Common.{◌≡◌, ◌++◌, ◌∷◌, [], ◌∙◌, ◌<◌, ◌+◌, ℕ, suc, List, Bool, length, map, take, get_or, refl, ap, sym, append_assoc, arith}
+use Rattle.std.proofs.Common.{◌≡◌, ◌++◌, ◌∷◌, [], ◌∙◌, ◌<◌, ◌+◌, ℕ, suc, List, Bool, length, map, take, get_or, ap, sym, append_assoc, arith}
 use Rattle.std.proofs.lemmas.List.{append-nil, length-map, length-take-le, map-append, take_more}
 use Rattle.overlayd.specs.Printing.{session_text, texts_from}
 
 -- the texts from a number on, with one more behind them
 texts_push : (several : Bool) (number : ℕ) (all : List (List ℕ)) (last : List ℕ)
     → texts_from several number (all ++ last ∷ []) ≡ texts_from several number all ++ session_text several (number + length all) last
-texts_push several number [] last = append-nil (session_text several number last)
+unfolding texts_from
+texts_push several number [] last =
+    let same : number ≡ number + 0 = omega arith in
+    append-nil (session_text several number last) ∙ ap (λ n. session_text several n last) same
 texts_push several number (one ∷ all) last =
     let more : texts_from several (suc number) (all ++ last ∷ []) ≡ texts_from several (suc number) all ++ session_text several (suc number + length all) last = texts_push several (suc number) all last in
     let same : suc number + length all ≡ number + suc (length all) = omega arith in

@@ -12,7 +12,7 @@ session_text true number replies = codes "# script " ++ decimal number ++ 10 ∷
 session_text false number replies = replies
 
 -- the replies of one session after another, from a number on
-pub texts_from : Bool → ℕ → List (List ℕ) → List ℕ
+unfoldable pub texts_from : Bool → ℕ → List (List ℕ) → List ℕ
 texts_from several number [] = []
 texts_from several number (replies ∷ rest) =
     session_text several number replies ++ texts_from several (suc number) rest

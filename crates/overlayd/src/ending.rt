@@ -1,5 +1,6 @@
 //! How a run ended.
 ghost use Rattle.std.specs.Prelude.{◌≡◌};
+ghost use Rattle.std.specs.List.{list_all};
 ghost use Rattle.overlayd.specs.Ending.{have_ended, is_end, is_stored, unsaid, was_run, was_written};
 
 use crate::fault::ProgramFault;
@@ -29,13 +30,25 @@ fn has_ended(session: &Outcome) -> bool
 pub fn unsaid(sessions: &[Outcome]) -> Option<ProgramFault>
     ensures { result ≡ unsaid sessions.now }
 {
-    if !sessions.iter().all(was_run) {
-        return Some(ProgramFault::OutOfMemory);
+    match (all_were_run(sessions), all_were_written(sessions)) {
+        (false, _) => Some(ProgramFault::OutOfMemory),
+        (true, false) => Some(ProgramFault::Write),
+        (true, true) => None,
     }
-    if !sessions.iter().all(was_written) {
-        return Some(ProgramFault::Write);
-    }
-    None
+}
+
+/// Whether each session had memory for its lines.
+fn all_were_run(sessions: &[Outcome]) -> bool
+    ensures { result ≡ list_all (λ session. was_run session.end) sessions.now }
+{
+    sessions.iter().all(was_run)
+}
+
+/// Whether each session's replies could be written.
+fn all_were_written(sessions: &[Outcome]) -> bool
+    ensures { result ≡ list_all (λ session. was_written session.end) sessions.now }
+{
+    sessions.iter().all(was_written)
 }
 
 /// Whether a session had memory for its lines.

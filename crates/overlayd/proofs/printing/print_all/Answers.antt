@@ -1,11 +1,12 @@
-use Rattle.std.proofs.Common.{subst, sym, ◌++◌, map, take, nat_lt, length}
+use Rattle.std.proofs.Common.{subst, sym, nat_lt, length}
 use Rattle.std.proofs.KnownBytes.{Appends-nil, Appends-trans}
 use Rattle.std.specs.Io.KnownBytes.{Appends}
-use Rattle.overlayd.specs.Printing.{replies_of}
+use Rattle.overlayd.specs.Printing.{replies_of, texts_from}
 use Rattle.overlayd.proofs.PrintLemmas.{texts_more}
 use Rattle.overlayd.proofs.printing.print_all.Goals as goal
 
 pub loop-i-init : goal.loop-i-init
+unfolding texts_from
 loop-i-init g c = Appends-nil (g.W.Write.contents c.args.output.now)
 
 pub loop-i-preserved : goal.loop-i-preserved

@@ -1,4 +1,4 @@
-use Rattle.std.proofs.Common.{◌≡◌, ◌++◌, map, take}
+use Rattle.std.proofs.Common.{map, take}
 use Rattle.std.specs.Io.KnownBytes.{Appends}
 use Rattle.overlayd.specs.Printing.{texts_from, replies_of}
 use Rattle.overlayd.proofs.printing.print_all.Given as goal
