@@ -7,8 +7,9 @@ before. For each call and input the first growth is refused, then the second and
 is right where it answers what the same call answers with memory, or error 40; after 40 what the call was made on has to be
 as before (a value that it took and hands back, too) and the same call with memory has to give the answer. A call of a disk
 in memory may answer 30 in place of 40, just where the disk counts a failure, and its store has failed from then on.
-A line for each call: its growths, the runs, those that answered 40, 30 and the call's own answer, and those that answered
-anything else, which is to be 0. Ends with status 1 where it is not.
+In the list of steps that is driven at once a single step may meet the refusal: then the numbers of its versions go on
+without a gap. A line for each call: its growths, the runs, those that answered 40, 30, met it inside a list, gave the
+call's own answer, and answered anything else, which is to be 0. Ends with status 1 where it is not.
 """
 
 import pathlib
@@ -28,8 +29,9 @@ def main():
         done = subprocess.run([program], stdout=subprocess.PIPE, text=True)
     print(done.stdout, end="")
     rows = [line.split() for line in done.stdout.splitlines()[1:] if not line.startswith(" ")]
-    growths, runs, out, device, own, other = (sum(int(row[at]) for row in rows) for at in range(-6, 0))
-    print(f"calls {len(rows)}, growths {growths}, runs {runs}: 40 {out}, 30 {device}, its own answer {own}, other {other}")
+    growths, runs, out, device, inside, own, other = (sum(int(row[at]) for row in rows) for at in range(-7, 0))
+    print(f"calls {len(rows)}, growths refused {growths}, runs {runs}: 40 {out}, 30 {device}, inside a list {inside}, its own "
+          f"answer {own}, other {other}")
     return 1 if other or done.returncode else 0
 
 
