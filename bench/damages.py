@@ -1,17 +1,18 @@
 """Stops, failing calls and damaged files: what a store is recovered as after each.
 
-python3 bench/damages.py [PROGRAM]
+python3 bench/damages.py [PROGRAM SESSIONS]
 
-Builds the program of bench/damages over the libraries, unproved (bench/unproved.py; minutes); PROGRAM is one that was
-built before. In memory it makes a store, recovers one and commits to one while the disk stops after each call, or one call
+Builds the programs of bench/damages and bench/sessions over the libraries, unproved (bench/unproved.py; minutes); PROGRAM
+and SESSIONS are such that were built before. In memory it makes a store, recovers one and commits to one while the disk stops after each call, or one call
 fails alone: error 30 has to come exactly where the failing call fell, the disk has to come back, and what it may hold then
 (as it is seen; the bytes that were written since the last sync old, new, or all 0x00, 0x55 or 0xA7) has to be recovered as
 the old or the new content, from within `create` also as no store.
 
 Then files are altered, here, and recovered by the program: a store cut to every length; named alterations with the code
-that each has to give; and each byte of its slots, catalog and records set to 0x00 and to 0xFF: the answer has to be a
-version, 32 or 33, and each finished tile's VERIFY has to return. Each answer is compared with that of bench/read_store.py
-too, which reads the file by itself. Ends with status 1 where anything is wrong.
+that each has to give; and each byte of its slots, catalog and records set to 0x00 and to 0xFF, and each of their bits turned:
+the answer has to be a version, 32 or 33, and each finished tile's VERIFY has to return. Each answer is compared with that of bench/read_store.py
+too, which reads the file by itself. At last sessions whose reader fails behind each byte of a script, whose writer fails at
+each write, and whose script has one byte too many. Ends with status 1 where anything is wrong.
 """
 
 import collections
@@ -26,6 +27,11 @@ import unproved
 
 HERE = pathlib.Path(__file__).resolve().parent
 CRATES = ["overlay_engine", "test_disks", "wkt_form"]
+SESSION_CRATES = ["server_session", "version_book", "script_form"]
+STORES = {
+    "one": "the store of one layer", "two": "the store of two", "tiled": "the tiled square's store",
+    "crossed": "the store of a tile with crossings",
+}
 BLOCK = 4096
 SLOT = 64
 CODES = {"not a store": "32"}
@@ -137,11 +143,16 @@ def alterations(program, folder, files):
     return wrong
 
 
-def each_byte(program, folder, name, data):
-    """Each byte of both slots, the catalog and the records set to 0x00 and to 0xFF."""
+def offsets_of(data):
+    """The places of the bytes of both slots, the catalog and the records."""
     places = [(0, SLOT), (BLOCK, SLOT), *extents_of(data)]
-    offsets = sorted({at + i for at, size in places for i in range(size)})
-    cases = [(len(data), [(at, byte)]) for at in offsets for byte in (0x00, 0xFF)]
+    return sorted({at + i for at, size in places for i in range(size)})
+
+
+def each_byte(program, folder, name, data, changed):
+    """Each byte of both slots, the catalog and the records changed."""
+    offsets = offsets_of(data)
+    cases = [(len(data), [(at, byte)]) for at in offsets for byte in changed(data[at])]
     counts, tiles, wrong = collections.Counter(), [0, 0, 0], 0
     for (_, changes), answer in zip(cases, answers(program, folder, data, cases)):
         told, verified = plain(answer)
@@ -152,29 +163,56 @@ def each_byte(program, folder, name, data):
             print(f"    {changes}: {answer}, by itself {read_by_itself(apply(data, len(data), changes))}")
             wrong += 1
     same, different, refused = tiles
-    print(f"each byte of {name}: bytes {len(offsets)}, cases {len(cases)}: {shown(counts)}; VERIFY same {same}, "
+    print(f"{name}: bytes {len(offsets)}, cases {len(cases)}: {shown(counts)}; VERIFY same {same}, "
           f"different {different}, refused {refused}; wrong {wrong}")
+    return wrong
+
+
+def both_ends(_byte):
+    return (0x00, 0xFF)
+
+
+def turned(byte):
+    return [byte ^ 1 << bit for bit in range(8)]
+
+
+def programs(folder, given):
+    """The two programs, from the words or built."""
+    if given:
+        return [pathlib.Path(word).resolve() for word in given]
+    built = []
+    for name, crates in (("damages", CRATES), ("sessions", SESSION_CRATES)):
+        place = folder / f"made_{name}"
+        place.mkdir()
+        built.append(unproved.built(HERE / name, crates, place))
+    return built
+
+
+def lists(program, files):
+    """Prints what a program tells of its lists, keeps the stores that it shows, and counts what is wrong."""
+    done = subprocess.run([program], stdout=subprocess.PIPE, check=True, text=True)
+    wrong = 0
+    for line in done.stdout.splitlines():
+        if line.split()[0] in STORES:
+            name, data = line.split()
+            files[name] = bytes.fromhex(data)
+        else:
+            print(line)
+            wrong += int(line.split()[-1])
     return wrong
 
 
 def main():
     with tempfile.TemporaryDirectory() as place:
-        folder = pathlib.Path(place)
-        program = pathlib.Path(sys.argv[1]).resolve() if len(sys.argv) > 1 else unproved.built(HERE / "damages", CRATES, folder)
-        done = subprocess.run([program], stdout=subprocess.PIPE, check=True, text=True)
-        wrong, files = 0, {}
-        for line in done.stdout.splitlines():
-            if line.split()[0] in ("one", "two", "tiled"):
-                name, data = line.split()
-                files[name] = bytes.fromhex(data)
-            else:
-                print(line)
-                wrong += int(line.split()[-1])
-        one, two, tiled = (files[name] for name in ("one", "two", "tiled"))
-        wrong += cuts(program, folder, one)
-        wrong += alterations(program, folder, (one, two, tiled))
-        for name, data in (("the store of one layer", one), ("the store of two", two), ("the tiled square's store", tiled)):
-            wrong += each_byte(program, folder, name, data)
+        folder, files = pathlib.Path(place), {}
+        program, sessions = programs(folder, sys.argv[1:])
+        wrong = lists(program, files)
+        wrong += cuts(program, folder, files["one"])
+        wrong += alterations(program, folder, [files[name] for name in ("one", "two", "tiled")])
+        for how, changed in (("each byte set to 0x00 and 0xFF", both_ends), ("each bit turned", turned)):
+            for name, data in files.items():
+                wrong += each_byte(program, folder, f"{STORES[name]}, {how}", data, changed)
+        wrong += lists(sessions, files)
     print(f"wrong {wrong}")
     return 1 if wrong else 0
 
