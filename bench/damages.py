@@ -2,17 +2,19 @@
 
 python3 bench/damages.py [PROGRAM SESSIONS]
 
-Builds the programs of bench/damages and bench/sessions over the libraries, unproved (bench/unproved.py; minutes); PROGRAM
-and SESSIONS are such that were built before. In memory it makes a store, recovers one and commits to one while the disk stops after each call, or one call
-fails alone: error 30 has to come exactly where the failing call fell, the disk has to come back, and what it may hold then
-(as it is seen; the bytes that were written since the last sync old, new, or all 0x00, 0x55 or 0xA7) has to be recovered as
-the old or the new content, from within `create` also as no store.
+Builds the programs of bench/damages and bench/sessions over the libraries, unproved (bench/unproved.py; minutes);
+PROGRAM and SESSIONS are such that were built before. In memory it makes a store, recovers one and commits to one while
+the disk stops after each call, or one call fails alone: error 30 has to come exactly where the failing call fell, the
+disk has to come back, and what it may hold then (as it is seen; the bytes that were written since the last sync old,
+new, or all 0x00, 0x55 or 0xA7) has to be recovered as the old or the new content, from within `create` also as no
+store.
 
-Then files are altered, here, and recovered by the program: a store cut to every length; named alterations with the code
-that each has to give; and each byte of its slots, catalog and records set to 0x00 and to 0xFF, and each of their bits turned:
-the answer has to be a version, 32 or 33, and each finished tile's VERIFY has to return. Each answer is compared with that of bench/read_store.py
-too, which reads the file by itself. At last sessions whose reader fails behind each byte of a script, whose writer fails at
-each write, and whose script has one byte too many. Ends with status 1 where anything is wrong.
+Then files are altered, here, and recovered by the program: a store cut to every length; named alterations with the
+code that each has to give; and each byte of its slots, catalog and records set to 0x00 and to 0xFF, and each of their
+bits turned: the answer has to be a version, 32 or 33, and each finished tile's VERIFY has to return. Each answer is
+compared with that of bench/read_store.py too, which reads the file by itself. At last sessions whose reader fails
+behind each byte of a script, whose writer fails at each write, and whose script has one byte too many. Ends with
+status 1 where anything is wrong.
 """
 
 import collections
@@ -81,8 +83,9 @@ def plain(answer):
 def answers(program, folder, data, cases):
     """The program's answer to each case of a file, a length and changes."""
     (folder / "store").write_bytes(data)
-    lines = [" ".join(map(str, [length, *(number for change in changes for number in change)])) for length, changes in cases]
-    (folder / "cases").write_text("\n".join(lines) + "\n")
+    with open(folder / "cases", "w") as lines:
+        for length, changes in cases:
+            print(length, *(number for change in changes for number in change), file=lines)
     done = subprocess.run([program, folder / "store", folder / "cases"], stdout=subprocess.PIPE, check=True, text=True)
     told = done.stdout.splitlines()
     assert len(told) == len(cases)
