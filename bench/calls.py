@@ -38,7 +38,7 @@ def main():
     print("\n".join(table))
     rows = [line.split() for line in table[1:] if not line.startswith(" ")]
     growths, runs, out, device, inside, own, other = (sum(int(row[at]) for row in rows) for at in range(-7, 0))
-    print(f"calls {len(rows)}, growths refused {growths}, runs {runs}: 40 {out}, 30 {device}, inside a list {inside}, "
+    print(f"lines {len(rows)}, growths refused {growths}, runs {runs}: 40 {out}, 30 {device}, inside a list {inside}, "
           f"its own answer {own}, other {other}")
     is_told = last == WRONG_CALL
     print(f"a call that a refusal changes is told as wrong: {'yes' if is_told else last}")
