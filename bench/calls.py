@@ -6,12 +6,12 @@ Builds the program of bench/calls over the libraries, unproved (bench/unproved.p
 built before. For each call and input the first growth is refused, then the second and so on, until a run meets no
 refusal. A run is right where it answers what the same call answers with memory, or error 40; after 40 what the call
 was made on has to be as before (a value that it took and hands back, too) and the same call with memory has to give
-the answer. A call of a disk in memory may answer 30 in place of 40, just where the disk counts a failure, and its
-store has failed from then on. Where the call is refused with memory too, only one that reads, plans or starts may
-answer 40 before. In the list of steps that is driven at once a single step may meet the refusal: then the numbers of
-its versions go on without a gap. A line for each call: its growths, the runs, those that answered 40, 30, met it
-inside a list, gave the call's own answer, and answered anything else, which is to be 0. Ends with status 1 where it is
-not.
+the answer. A call of a disk in memory may answer 30 in place of 40: where it makes or opens a store, just where the
+disk counts a failure; where it goes on with a commit, if the store has failed from then on. Where the call is refused
+with memory too, only one that reads, plans or starts may answer 40 before. In the list of steps that is driven at once
+a single step may meet the refusal: then the numbers of its versions go on without a gap. A line for each call: its
+growths, the runs, those that answered 40, 30, met it inside a list, gave the call's own answer, and answered anything
+else, which is to be 0. Ends with status 1 where it is not.
 """
 
 import pathlib
