@@ -1,0 +1,48 @@
+"""Makes each call of the libraries while its growths are refused in turn, and prints a table.
+
+python3 bench/calls.py [PROGRAM]
+
+Builds the program of bench/calls over the libraries, unproved (bench/unproved.py; minutes); PROGRAM is one that was
+built before. For each call and input the first growth is refused, then the second and so on, until a run meets no
+refusal. A run is right where it answers what the same call answers with memory, or error 40; after 40 what the call
+was made on has to be as before (a value that it took and hands back, too) and the same call with memory has to give
+the answer. A call of a disk in memory may answer 30 in place of 40: where it makes or opens a store, just where the
+disk counts a failure; where it goes on with a commit, if the store has failed from then on. Where the call is refused
+with memory too, only one that reads, plans or starts may answer 40 before. In the list of steps that is driven at once
+a single step may meet the refusal: then the numbers of its versions go on without a gap. A line for each call: its
+growths, the runs, those that answered 40, 30, met it inside a list, gave the call's own answer, and answered anything
+else, which is to be 0. Ends with status 1 where it is not.
+"""
+
+import pathlib
+import subprocess
+import sys
+import tempfile
+
+import unproved
+
+HERE = pathlib.Path(__file__).resolve().parent
+# A call that is wrong on purpose: its first growth refused is right, its second has changed what it was called on.
+WRONG_CALL = "wrong call 1 1 1"
+CRATES = ["overlay_engine", "version_book", "overlay_grid", "program_words"]
+
+
+def main():
+    with tempfile.TemporaryDirectory() as folder:
+        if len(sys.argv) > 1:
+            program = pathlib.Path(sys.argv[1]).resolve()
+        else:
+            program = unproved.built(HERE / "calls", CRATES, folder)
+        done = subprocess.run([program], stdout=subprocess.PIPE, text=True)
+    *table, last = done.stdout.splitlines()
+    print("\n".join(table))
+    rows = [line.split() for line in table[1:] if not line.startswith(" ")]
+    growths, runs, out, device, inside, own, other = (sum(int(row[at]) for row in rows) for at in range(-7, 0))
+    print(f"lines {len(rows)}, growths refused {growths}, runs {runs}: 40 {out}, 30 {device}, inside a list {inside}, "
+          f"its own answer {own}, other {other}")
+    is_told = last == WRONG_CALL
+    print(f"a call that a refusal changes is told as wrong: {'yes' if is_told else last}")
+    return 1 if other or done.returncode or not is_told else 0
+
+
+sys.exit(main())

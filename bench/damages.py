@@ -1,0 +1,223 @@
+"""Stops, failing calls and damaged files: what a store is recovered as after each.
+
+python3 bench/damages.py [PROGRAM SESSIONS]
+
+Builds the programs of bench/damages and bench/sessions over the libraries, unproved (bench/unproved.py; minutes);
+PROGRAM and SESSIONS are such that were built before. In memory it makes a store, recovers one and commits to one while
+the disk stops after each call, or one call fails alone: error 30 has to come exactly where the failing call fell, the
+disk has to come back, and what it may hold then (as it is seen; the bytes that were written since the last sync old,
+new, or all 0x00, 0x55 or 0xA7) has to be recovered as the old or the new content, from within `create` also as no
+store.
+
+Then files are altered, here, and recovered by the program: a store cut to every length; named alterations with the
+code that each has to give; and each byte of its slots, catalog and records set to 0x00 and to 0xFF, and each of their
+bits turned: the answer has to be a version, 32 or 33, and each finished tile's VERIFY has to return. Each answer is
+compared with that of bench/read_store.py too, which reads the file by itself. At last sessions whose reader fails
+behind each byte of a script, whose writer fails at each write, and whose script has one byte too many. Ends with
+status 1 where anything is wrong.
+"""
+
+import collections
+import pathlib
+import struct
+import subprocess
+import sys
+import tempfile
+
+import read_store
+import unproved
+
+HERE = pathlib.Path(__file__).resolve().parent
+CRATES = ["overlay_engine", "test_disks", "wkt_form"]
+SESSION_CRATES = ["server_session", "version_book", "script_form"]
+STORES = {
+    "one": "the store of one layer", "two": "the store of two", "tiled": "the tiled square's store",
+    "crossed": "the store of a tile with crossings",
+}
+BLOCK = 4096
+SLOT = 64
+CODES = {"not a store": "32"}
+
+
+def root_of(data):
+    """The root's slot, and where its catalog lies."""
+    root = read_store.find_root(data)
+    return root.sequence % 2 * BLOCK, root.catalog
+
+
+def extents_of(data):
+    """The places of the catalog and of all records: offset and length."""
+    _, catalog = root_of(data)
+    listing = read_store.read_catalog(data[catalog.block * BLOCK :][: catalog.size])
+    found = [catalog]
+    for listed in listing:
+        found += [one for one in [listed.record, *(listed.tiles or [])] if one is not None]
+    return [(one.block * BLOCK, one.size) for one in found]
+
+
+def put(at, data):
+    """An alteration: these bytes at an offset."""
+    return [(at + i, byte) for i, byte in enumerate(data)]
+
+
+def apply(data, length, changes):
+    file = bytearray(data[:length])
+    for at, byte in changes:
+        file[at] = byte
+    return bytes(file)
+
+
+def read_by_itself(data):
+    """The answer of the reader that stands by itself: `32`, `33 CODE` or `version N`."""
+    return read_store.told(data)[0]
+
+
+def plain(answer):
+    """An answer of the program in the same words, and its counts of tiles where it is a version."""
+    words = answer.split()
+    if words[0] == "version":
+        return " ".join(words[:2]), [int(word) for word in words[2:]]
+    return ("33 " + words[1], None) if words[0] == "damaged" else (CODES.get(answer, answer), None)
+
+
+def answers(program, folder, data, cases):
+    """The program's answer to each case of a file, a length and changes."""
+    (folder / "store").write_bytes(data)
+    with open(folder / "cases", "w") as lines:
+        for length, changes in cases:
+            print(length, *(number for change in changes for number in change), file=lines)
+    done = subprocess.run([program, folder / "store", folder / "cases"], stdout=subprocess.PIPE, check=True, text=True)
+    told = done.stdout.splitlines()
+    assert len(told) == len(cases)
+    return told
+
+
+def cuts(program, folder, one):
+    """The store of one layer cut to every length."""
+    cases = [(length, []) for length in range(len(one))]
+    counts, wrong = collections.Counter(), 0
+    for (length, _), answer in zip(cases, answers(program, folder, one, cases)):
+        told, _ = plain(answer)
+        counts[told] += 1
+        if told != ("32" if length < 2 * BLOCK else "33 3") or told != read_by_itself(one[:length]):
+            print(f"    cut to {length}: {answer}")
+            wrong += 1
+    print(f"cut to every length below {len(one)}: {shown(counts)}, wrong {wrong}")
+    return wrong
+
+
+def shown(counts):
+    return ", ".join(f"{name} {count}" for name, count in sorted(counts.items()))
+
+
+def named(one, two, tiled):
+    """The named alterations: what each is called, the file, the changes and the wanted answer."""
+    slot, catalog = root_of(one)
+    assert slot == BLOCK
+    at, place = catalog.block * BLOCK, extents_of(one)[1][0]
+    yield "slot 1's gate is 0x00", one, put(slot, b"\0"), "version 0"
+    yield "its first magic byte is 0", one, put(slot + 16, b"\0"), "32"
+    yield "its format is 3", one, put(slot + 24, struct.pack(">I", 3)), "33 1"
+    yield "its sequence is 2", one, put(slot + 28, struct.pack(">Q", 2)), "33 2"
+    yield "its catalog's length is 16", one, put(slot + 52, struct.pack(">I", 16)), "33 4"
+    # count, name length, name, kind, block
+    yield "the catalog's kind byte is 2", one, put(at + 4, b"\2"), "33 4"
+    yield "A's block is 1", one, put(at + 5, struct.pack(">Q", 1)), "33 5"
+    yield "the ring's point count is 4", one, put(place + 2, struct.pack(">H", 4)), "33 6"
+    at = root_of(two)[1].block * BLOCK
+    # an entry of a base layer of one letter has 15 bytes
+    yield "B's name is A", two, put(at + 18, b"A"), "33 7"
+    first = two[at + 5 : at + 17]
+    yield "B's place is A's", two, put(at + 20, first), "33 9"
+    tile = next(place for place, size in extents_of(tiled) if tiled[place : place + 2] == b"\0\7" and size > 6)
+    yield "a tile names another column", tiled, put(tile + 1, b"\10"), "33 8"
+
+
+def alterations(program, folder, files):
+    wrong = 0
+    cases = list(named(*files))
+    for name, data, changes, wanted in cases:
+        told, _ = plain(answers(program, folder, data, [(len(data), changes)])[0])
+        alone = read_by_itself(apply(data, len(data), changes))
+        if told != wanted or alone != wanted:
+            print(f"    {name}: {told}, by itself {alone}, wanted {wanted}")
+            wrong += 1
+    print(f"named alterations {len(cases)}, wrong {wrong}")
+    return wrong
+
+
+def offsets_of(data):
+    """The places of the bytes of both slots, the catalog and the records."""
+    places = [(0, SLOT), (BLOCK, SLOT), *extents_of(data)]
+    return sorted({at + i for at, size in places for i in range(size)})
+
+
+def each_byte(program, folder, name, data, changed):
+    """Each byte of both slots, the catalog and the records changed."""
+    offsets = offsets_of(data)
+    cases = [(len(data), [(at, byte)]) for at in offsets for byte in changed(data[at])]
+    counts, tiles, wrong = collections.Counter(), [0, 0, 0], 0
+    for (_, changes), answer in zip(cases, answers(program, folder, data, cases)):
+        told, verified = plain(answer)
+        is_right = told == read_by_itself(apply(data, len(data), changes))
+        counts["a version" if verified else told] += 1
+        tiles = [one + other for one, other in zip(tiles, verified or [0, 0, 0])]
+        if not is_right or verified and verified[2]:
+            print(f"    {changes}: {answer}, by itself {read_by_itself(apply(data, len(data), changes))}")
+            wrong += 1
+    same, different, refused = tiles
+    print(f"{name}: bytes {len(offsets)}, cases {len(cases)}: {shown(counts)}; VERIFY same {same}, "
+          f"different {different}, refused {refused}; wrong {wrong}")
+    return wrong
+
+
+def both_ends(_byte):
+    return (0x00, 0xFF)
+
+
+def turned(byte):
+    return [byte ^ 1 << bit for bit in range(8)]
+
+
+def programs(folder, given):
+    """The two programs, from the words or built."""
+    if given:
+        return [pathlib.Path(word).resolve() for word in given]
+    built = []
+    for name, crates in (("damages", CRATES), ("sessions", SESSION_CRATES)):
+        place = folder / f"made_{name}"
+        place.mkdir()
+        built.append(unproved.built(HERE / name, crates, place))
+    return built
+
+
+def lists(program, files):
+    """Prints what a program tells of its lists, keeps the stores that it shows, and counts what is wrong."""
+    done = subprocess.run([program], stdout=subprocess.PIPE, check=True, text=True)
+    wrong = 0
+    for line in done.stdout.splitlines():
+        if line.split()[0] in STORES:
+            name, data = line.split()
+            files[name] = bytes.fromhex(data)
+        else:
+            print(line)
+            wrong += int(line.split()[-1])
+    return wrong
+
+
+def main():
+    with tempfile.TemporaryDirectory() as place:
+        folder, files = pathlib.Path(place), {}
+        program, sessions = programs(folder, sys.argv[1:])
+        wrong = lists(program, files)
+        wrong += cuts(program, folder, files["one"])
+        wrong += alterations(program, folder, [files[name] for name in ("one", "two", "tiled")])
+        for how, changed in (("each byte set to 0x00 and 0xFF", both_ends), ("each bit turned", turned)):
+            for name, data in files.items():
+                wrong += each_byte(program, folder, f"{STORES[name]}, {how}", data, changed)
+        wrong += lists(sessions, files)
+    print(f"wrong {wrong}")
+    return 1 if wrong else 0
+
+
+sys.exit(main())
