@@ -300,8 +300,14 @@ module _ (was now : Known) (stays : Stays was now) (made : now.made ≡ was.made
       (elim refused [
         | inl memory ↦ inl (named, record { nothing_made = refl; told = ap (λ f. error_line (of_grid f)) memory.0 })
         | inr by ↦
-            inr (inr (named, inr (inr (size, drawn_some _ wrong _
-            (pictured (λ v m p. grid_refusal v.layers m p ≡ Some wrong) version (newest (seen now)) known name g (grid_of x y step nx ny) is same points by)))))
+            inr (inr (
+              named,
+              inr (inr (
+                size,
+                drawn_some _ wrong _
+                    (pictured (λ v m p. grid_refusal v.layers m p ≡ Some wrong) version (newest (seen now)) known name g (grid_of x y step nx ny) is same points by),
+              )),
+            ))
       ])
 
   pub grid_told : (stored : Bool) (name known : List ℕ) (x y step nx ny : ℤ) (g : Grid) (version : versions.Version) (text : List ℕ) → version ≡ newest (seen now)
