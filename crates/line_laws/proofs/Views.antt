@@ -1,17 +1,19 @@
 -- What a turn comes to: nothing is made, or the command that its line asks for is accepted.
-use Rattle.std.proofs.Common.{◌≡◌, ℕ, ℤ, ◌⊎◌, inl, inr, true, false, List, [], Option, Some, None, refl, sym, ap, ◌∙◌, subst, bytes_eq}
+use Rattle.std.proofs.Common.{◌≡◌, ℕ, ℤ, ◌⊎◌, inl, inr, Bool, true, false, List, [], Option, Some, None, refl, sym, ap, ◌∙◌, subst, bytes_eq}
 use Rattle.std.proofs.lemmas.Bool.{true≢false, or_left, or_right}
 use Rattle.overlay_terms.specs.Commands.{Command, Refusal, refusal_at}
 use Rattle.overlay_terms.specs.Commands as terms
 use Rattle.overlay_terms.specs.Histories.{History, Version, newest}
 use Rattle.overlay_terms.proofs.NameLemmas.{name_itself}
 use Rattle.version_core.specs.declared.fault.VersionFault.{VersionFault}
+use Rattle.version_core.specs.Building.{wait_refusal}
+use Rattle.version_core.specs.Edges.{edges_refusal, finished_refusal}
 use Rattle.overlay_grid.specs.declared.fault.GridFault.{GridFault}
 use Rattle.script_form.specs.declared.fault.CommandFault.{CommandFault}
 use Rattle.script_form.specs.declared.fault.CommandFault.TheVariants.{OutOfMemory, Closing, Gone}
 use Rattle.script_form.specs.Replies.{error_line}
 use Rattle.script_form.specs.Requests.{Request, nothing, too_long, malformed, put, define, remove, locate, grid, list_layers, edges, wait, verify, sync, request_of}
-use Rattle.script_form.specs.Transcript.{IsRefused, IsAcceptedBy, IsSubmitted, IsAnswered, IsOutOfMemory, IsTurn, Asked, Drawn}
+use Rattle.script_form.specs.Transcript.{IsRefused, IsAcceptedBy, IsSubmitted, IsAnswered, IsOutOfMemory, IsTurn, Asked, Drawn, IsEdgesTold, IsVerdictTold, IsBuiltTold, IsWaitClosed, asked_column}
 use Rattle.line_laws.specs.Deciding.{is_from_outside}
 use Rattle.line_laws.proofs.Asking.{AsksFor}
 
@@ -75,9 +77,9 @@ submitted session before request command after made reply asks (inr (inr (inr by
 
 -- ==== Questions
 
-asked_none : (o : Option VersionFault) (made : List Command) (reply : List ℕ) (T : Type 0) → Asked o made reply T → (T → made ≡ []) → made ≡ []
-asked_none (Some fault) made reply T refused then = refused.nothing_made
-asked_none None made reply T answered then = then answered
+asked_none : (o : Option VersionFault) (made : List Command) (reply : List ℕ) (T : Type 0) → (T → made ≡ []) → Asked o made reply T → made ≡ []
+asked_none (Some fault) made reply T then refused = refused.nothing_made
+asked_none None made reply T then answered = then answered
 
 drawn_none : (o : Option GridFault) (text : List ℕ) (made : List Command) (reply : List ℕ) → Drawn o text made reply → made ≡ []
 drawn_none (Some fault) text made reply refused = refused.nothing_made
@@ -122,21 +124,27 @@ module _ (stored : Bool) (session : ℕ) (before after : History) (made : List C
   edges_none : (name : List ℕ) (k : ℤ) → IsAnswered stored session before (edges name k) after made reply → made ≡ []
   edges_none name k (inl (none, refused)) = refused.nothing_made
   edges_none name k (inr (named, inl refused)) = refused.nothing_made
-  edges_none name k (inr (named, inr asked)) = asked_none _ made reply _ asked (λ told. told.nothing_made)
+  edges_none name k (inr (named, inr asked)) =
+      let Told : Type 0 = IsEdgesTold (newest after) name (asked_column k) made reply in
+      asked_none (edges_refusal (newest after) name (asked_column k)) made reply Told (λ (told : Told). told.nothing_made) asked
+
+  built_none : (name : List ℕ) → IsBuiltTold (newest after) name made reply ⊎ IsWaitClosed (newest after) name made reply → made ≡ []
+  built_none name (inl built) = built.nothing_made
+  built_none name (inr closed) = closed.closing.nothing_made
 
   wait_none : (name : List ℕ) → IsAnswered stored session before (wait name) after made reply → made ≡ []
   wait_none name (inl (none, refused)) = refused.nothing_made
   wait_none name (inr (named, inl refused)) = refused.nothing_made
   wait_none name (inr (named, inr asked)) =
-      asked_none _ made reply _ asked (λ told. elim told [
-        | inl built ↦ built.nothing_made
-        | inr closed ↦ closed.closing.nothing_made
-      ])
+      asked_none (wait_refusal (newest after) name) made reply (IsBuiltTold (newest after) name made reply ⊎ IsWaitClosed (newest after) name made reply)
+      (built_none name) asked
 
   verify_none : (name : List ℕ) (k : ℤ) → IsAnswered stored session before (verify name k) after made reply → made ≡ []
   verify_none name k (inl (none, refused)) = refused.nothing_made
   verify_none name k (inr (named, inl refused)) = refused.nothing_made
-  verify_none name k (inr (named, inr asked)) = asked_none _ made reply _ asked (λ told. told.nothing_made)
+  verify_none name k (inr (named, inr asked)) =
+      let Told : Type 0 = IsVerdictTold (newest after) name (asked_column k) made reply in
+      asked_none (finished_refusal (newest after) name (asked_column k)) made reply Told (λ (told : Told). told.nothing_made) asked
 
   sync_none : IsAnswered stored session before sync after made reply → made ≡ []
   sync_none (inl (none, refused)) = refused.nothing_made

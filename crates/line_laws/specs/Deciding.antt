@@ -61,7 +61,7 @@ TranscriptsHaveTurns =
 -- whether a reply refuses a line for what neither lines nor layers decide: memory ran out, the book closes or is behind
 abbrev pub is_from_outside : List ℕ → Bool
 is_from_outside reply =
-    bytes_eq reply (error_line OutOfMemory) || bytes_eq reply (error_line Closing) || bytes_eq reply (error_line Gone)
+    bytes_eq reply (error_line OutOfMemory) || (bytes_eq reply (error_line Closing) || bytes_eq reply (error_line Gone))
 
 -- turns of a session that was alone: they led to a history, and the commands that were accepted meanwhile are just
 -- those that they made

@@ -14,7 +14,7 @@ loop-taken-init g c = record {
 }
 
 pub finish-requires : goal.finish-requires
-finish-requires g c = c.loop-taken.invariant.stays.book ∙ c.requires.book
+finish-requires g c = (c.type_bounds.sync-Q, c.loop-taken.invariant.stays.book ∙ c.requires.book)
 
 pub returns-in-Err-clause-run : goal.returns-in-Err-clause-run
 unfolding script_max

@@ -8,7 +8,7 @@ pub loop-byte-init : goal.loop-byte-init
 loop-byte-init g c = record { takes = takes-nil _ _ _ _; stays = stays_self _ }
 
 pub take_byte-requires : goal.take_byte-requires
-take_byte-requires g c = c.loop-byte.invariant.stays.book ∙ c.requires
+take_byte-requires g c = (c.type_bounds.sync-Q, c.loop-byte.invariant.stays.book ∙ c.requires)
 
 pub loop-byte-preserved : goal.loop-byte-preserved
 loop-byte-preserved g c = record {
