@@ -53,5 +53,5 @@ served_from g book stored remaining start readers store after scripts ended serv
       subst (λ (b : Bool). AreServed b remaining start served.closed.trace.log readers served.sessions.items) ran.stored_is
       (subst (λ (os : List Outcome). AreServed stored remaining start served.closed.trace.log readers os) (sym closed.outcomes)
       (are_served book stored remaining start readers scripts began.seated ended ran.sessions served.closed.trace.log closed.sessions));
-  store = left_by g start store.reporter after.reporter store.flusher after.flusher served.closed began.log ran.kept.flushed closed.store;
+  kept = left_by g start store.reporter after.reporter store.flusher after.flusher served.closed began.log ran.kept.flushed closed.store;
 }

@@ -116,9 +116,9 @@ pub record IsServedFrom {R D : Type 0} (remaining : R → Option (List ℕ)) (g 
   pub log : IsLog served.closed.trace.log
   pub begins : (history_of served.closed.trace.log).start ≡ start
   pub sessions : AreServed (is_some store) remaining start served.closed.trace.log readers served.sessions.items
-  pub store : AreLeft g start store served.closed
+  pub kept : AreLeft g start store served.closed
 
 -- a server could not run: for want of memory or of a thread, or of places in the book; the disk comes back
 pub record IsRefusedFrom {D : Type 0} (g : Ghosts D) (start : Version) (store : Option (Flusher D)) (fault : ServerFault D) : Type 0 where
   pub code : (fault.code ≡ 40) ⊎ (fault.code ≡ 44)
-  pub store : AreStopped g start store fault.disk
+  pub back : AreStopped g start store fault.disk

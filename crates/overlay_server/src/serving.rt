@@ -62,12 +62,12 @@ pub fn serve<
     // The disk comes back, and a crash at any moment left a file that stands for a version of the book.
     ensures refused { IfErr result (IsRefusedFrom D.Disk (start_of engine) (flusher_of engine)) }
 {
-    let opened = opened(alloc, engine);
+    let opened = history_of_engine(alloc, engine);
     serve_in::<Brand, D, R, G, Q>(rt, alloc, options, gate, opened, readers)
 }
 
 /// The book of an engine, or of no command where there is none, before it is opened.
-fn opened<D: Disk>(alloc: Global, engine: Option<Engine<D>>) -> Opened<D>
+fn history_of_engine<D: Disk>(alloc: Global, engine: Option<Engine<D>>) -> Opened<D>
     ensures version { result.version ≡ start_of engine }
     ensures flusher { result.flusher ≡ flusher_of engine }
 {
