@@ -1,0 +1,37 @@
+use mathlib.Core.List.{[], ◌∷◌}
+use mir.Syntax.{Lifetime, Sym}
+use base.Fml.{Lft}
+use denote.RattleType.{RattleType}
+use denote.Ref.{MutRef, ShrRef}
+use denote.Struct.Declared.{shape}
+use denote.Struct.Tuple.{TupleAt, type_at}
+use Rattle.std.proofs.Crossing.{crosses, sync}
+use Rattle.std.specs.contracts.alloc.Global as global
+use Rattle.plane_base.proofs.base_layer.BaseLayer.TheSendSync as bases
+use Rattle.layer_expr.proofs.name.Name.TheSendSync as names
+use Rattle.overlay_tests.specs.contracts.threads.Work as work
+use Rattle.version_book.proofs.Sent.{expr_send, expr_sync, session_send}
+use Rattle.version_book.proofs.SentBook.{shared_sync}
+use Rattle.version_book.specs.contracts.session.Session as session
+use Rattle.version_book.specs.contracts.shared.Shared as shared
+use Rattle.version_book.specs.declared.seen_log.Naming as naming
+use denote.Exit.{no}
+use denote.Param.{param}
+use denote.Param.Send.{IsSend, IsSync, arg_send, mut_send, param_send, recorded_send, shr_send, struct_send, sendable}
+use Rattle.overlay_tests.proofs.threads.wait_beside.Goals as goal
+
+work_sync : IsSync work.the_row
+work_sync = search (sendable, crosses, bases.the_send, bases.the_sync, names.the_sync, expr_send, expr_sync) depth 20
+
+module _ (J R : RattleType) (g : naming.Ghosts J.Denot) (j : IsSend J) (s : IsSync R) where
+  -- what a closure captures that does a work: the runtime, the allocator, the book, its session and its work
+  pub captures_send : (ν : Sym) (a b c d e f : Lifetime) (a' b' c' d' e' f' : Lft)
+      → IsSend (TupleAt ν (ShrRef a a' R ∷ ShrRef b b' global.the_row ∷ ShrRef c c' (shared.the_row J (ShrRef d d' R) g) ∷ MutRef e e' session.the_row ∷ ShrRef f f' work.the_row ∷ []))
+  captures_send ν a b c d e f a' b' c' d' e' f' =
+      let O = type_at ν (ShrRef a a' R ∷ ShrRef b b' global.the_row ∷ ShrRef c c' (shared.the_row J (ShrRef d d' R) g) ∷ MutRef e e' session.the_row ∷ ShrRef f f' work.the_row ∷ []) in
+      let book = shared_sync J (ShrRef d d' R) g j (shr_send d d' R s) in
+      recorded_send _ _ _ O.to_one (struct_send (shape O) (shr_send a a' R s, (shr_send b b' global.the_row sync, (shr_send c c' _ book, (mut_send e e' session.the_row session_send, (shr_send f f' work.the_row work_sync, tt))))))
+
+pub join_mut-requires-send-F : goal.join_mut-requires-send-F
+join_mut-requires-send-F g c κs within =
+    param_send 1 _ (arg_send _ no _ (captures_send (param 0 g.row.J) (param 1 g.row.R) g.J.Naming c.type_bounds.send-J c.type_bounds.sync-R _ _ _ _ _ _ _ _ _ _ _ _ _))
