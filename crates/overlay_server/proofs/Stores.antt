@@ -15,15 +15,12 @@ use Rattle.store_flushing.proofs.Histories.{file_more, begins_self}
 use Rattle.store_flushing.proofs.Storage.{OnlyNow, begun, store_leaves, then}
 use Rattle.book_closing.specs.Files.{IsFileExactlyIn}
 use Rattle.book_closing.specs.declared.closing.Closed.{Closed}
+use Rattle.overlay_server.specs.Moments.{HasOnlyNow}
 use Rattle.overlay_server.specs.Keeping.{AreFlushed, IsFlushed, IsKept}
 use Rattle.overlay_server.specs.Serving.{AreLeft, AreStopped, IsLeftBy, IsStoppedBy, first_log}
 use Rattle.overlay_server.specs.declared.storing.Store.{Store}
 
 module _ {D : Type 0} (g : Ghosts D) where
-  -- since now there is no other moment
-  abbrev pub AtNow : D → Type 0
-  AtNow disk = g.is_honest disk → (c : List ℕ) → g.left_since disk (g.moment disk) c → g.may_leave disk c
-
   -- ---- two runs in a row
 
   flushed_twice : (a b c : Heard) (f h k : Option (Flusher D)) → AreFlushed g a f b h → AreFlushed g b h c k → AreFlushed g a f c k
@@ -115,7 +112,7 @@ module _ {D : Type 0} (g : Ghosts D) where
   }
 
   -- before any thread ran
-  pub stopped_at_once : (start : Version) (old : Option (Flusher D)) (back : Option D) → ((disk : D) → AtNow disk)
+  pub stopped_at_once : (start : Version) (old : Option (Flusher D)) (back : Option D) → HasOnlyNow g
       → MatchOption old (back ≡ None) (λ (f : Flusher D). back ≡ Some f.commit.disk) → AreStopped g start old back
   stopped_at_once start None back now is = is
   stopped_at_once start (Some f) back now is = record {
@@ -125,6 +122,6 @@ module _ {D : Type 0} (g : Ghosts D) where
       log = first_log start;
       valid = (refl, tt);
       begins = refl;
-      moments = (begun g (history_of (first_log start)) f (now f.commit.disk store.honest) store).moments;
+      moments = (begun g (history_of (first_log start)) f (λ c left. now f.commit.disk c store.honest left) store).moments;
     };
   }

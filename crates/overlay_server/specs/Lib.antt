@@ -1,5 +1,6 @@
 pub mod Durability
 pub mod Keeping
+pub mod Moments
 pub mod Rooms
 pub mod Running
 pub mod Seats

@@ -4,6 +4,7 @@ ghost use Rattle.book_history.specs.Logs.{entry, no_event};
 ghost use Rattle.book_history.specs.Rules.{head_of};
 ghost use Rattle.book_lock.specs.Steps.{beginners};
 ghost use Rattle.version_book.specs.Store.{has_store};
+ghost use Rattle.overlay_server.specs.Moments.{HasOnlyNow};
 ghost use Rattle.overlay_server.specs.Serving.{IsServedFrom, IsRefusedFrom, first_log, flusher_of, start_of};
 
 use crate::outcome::{ServeOptions, Served, ServerFault};
@@ -185,6 +186,7 @@ fn run_book<
 fn refused<D: Disk>(flusher: Option<Flusher<D>>) -> ServerFault<D>
     ensures code { result.code ≡ 40 }
     ensures disk { MatchOption flusher (result.disk ≡ None) (λ f. result.disk ≡ Some f.commit.disk) }
+    ensures now { HasOnlyNow D.Disk }
 {
     ServerFault {
         code: 40,
@@ -194,10 +196,17 @@ fn refused<D: Disk>(flusher: Option<Flusher<D>>) -> ServerFault<D>
 
 /// The disk of a store, where there is one.
 fn disk_of<D: Disk>(flusher: Option<Flusher<D>>) -> Option<D>
-    ensures { MatchOption flusher (result ≡ None) (λ f. result ≡ Some f.commit.disk) }
+    ensures disk { MatchOption flusher (result ≡ None) (λ f. result ≡ Some f.commit.disk) }
+    ensures now { HasOnlyNow D.Disk }
 {
+    only_now::<D>();
     match flusher {
         Some(flusher) => Some(flusher.into_disk()),
         None => None,
     }
 }
+
+/// Says that since now there is no other moment; it does nothing.
+fn only_now<D: Disk>()
+    ensures { HasOnlyNow D.Disk }
+{}

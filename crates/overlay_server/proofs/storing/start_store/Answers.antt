@@ -10,4 +10,4 @@ use Rattle.overlay_server.proofs.storing.start_store.Goals as goal
 pub spawn_with-started-requires-send-F : goal.spawn_with-started-requires-send-F
 spawn_with-started-requires-send-F g c κs within =
     param_send 2 _ (arg_send _ no _ (taking_send (param 1 g.row.J) (param 2 g.row.S) (param 3 g.row.Q) g.J.Naming c.type_bounds.send-J c.type_bounds.send-S c.type_bounds.sync-Q
-    (store.the_row (param 4 g.row.D) g.D.Disk) (search (sendable, crosses, stores.the_send) depth 20) _ _ _ _ _))
+    (store.the_row (param 4 g.row.D)) (search (sendable, crosses, stores.the_send) depth 20) _ _ _ _ _))
