@@ -109,10 +109,11 @@ fn a_tile_that_is_finished_after_the_last_commit_is_in_the_file(
     expect(&rt, &served, 0, "ok 1\nok 2\ndurable 2\n");
     assert_eq!(rt; watch.failed.load(Ordering::SeqCst), 0);
     let name = name_of(alloc, "I")?;
-    let engine = recovered(alloc, served.closed.disk)?;
+    let closed = served.closed;
+    let engine = recovered(alloc, closed.disk)?;
     let mut has_tiles = false;
     for column in 0..17 {
-        let is_finished = served.closed.version.tile(&name, column).is_some();
+        let is_finished = closed.version.tile(&name, column).is_some();
         let in_file = engine.version().tile(&name, column).is_some();
         assert_eq!(rt; in_file, is_finished, "in column {column}");
         has_tiles |= is_finished;

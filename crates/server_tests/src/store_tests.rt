@@ -1,4 +1,6 @@
 //! That what sessions have put is in the store when that is opened again, and what they are told where it fails.
+ghost use Rattle.std.specs.Prelude.{◌≤◌};
+
 use crate::testing::{created, empty_disk, expect, recovered, served};
 use disk_model::disk::Disk;
 use file_disk::file_disk::FileDisk;
@@ -49,11 +51,12 @@ fn a_layer_is_there_when_the_store_is_opened_again(rt: HostRuntime) -> Result<()
     let alloc = rt.alloc();
     let first = first_run(&rt, alloc, empty_disk(alloc)?, 200, PUT_A)?;
     expect(&rt, &first, 0, "ok 1\n");
-    assert_eq!(rt; first.closed.stored, 1);
+    let closed = first.closed;
+    assert_eq!(rt; closed.stored, 1);
     let next = next_run(
         &rt,
         alloc,
-        first.closed.disk,
+        closed.disk,
         b"LOCATE A 2 2\nLOCATE A 11 2\nSYNC\n",
     )?;
     expect(&rt, &next, 0, "in\nout\ndurable 1\n");
@@ -81,7 +84,8 @@ fn a_sync_is_told_why_nothing_is_stored(rt: HostRuntime) -> Result<(), Fail> {
     let disk = FaultDisk::new(empty_disk(alloc)?, 7);
     let failed = first_run(&rt, alloc, disk, 200, PUT_AND_SYNC)?;
     expect(&rt, &failed, 0, "ok 1\nerror 30 device\n");
-    let next = next_run(&rt, alloc, failed.closed.disk, b"LAYERS\n")?;
+    let closed = failed.closed;
+    let next = next_run(&rt, alloc, closed.disk, b"LAYERS\n")?;
     expect(&rt, &next, 0, "layers 0\n");
     Ok(())
 }
