@@ -67,7 +67,10 @@ fn commit<Q: Wait + AllocGlobal>(
     flusher
         .begin(rt.alloc(), version)
         .map_err(ProgramFault::Store)?;
-    while flusher.busy() {
+    for _ in 0..u64::MAX {
+        if !flusher.busy() {
+            break;
+        }
         flusher.step().map_err(ProgramFault::Store)?;
     }
     Ok(())
