@@ -11,7 +11,7 @@ and one over a store that is opened. Each has to end by itself with status 0 or 
 model, but that each SYNC of a session may tell 30 from one on, once a call has failed; standard error has the one line
 of 30 where the status is 1. The store that it leaves has to hold a version of the history, no older than what was told
 durable, the last one where the status is 0, with right tiles, and be opened by the program. Prints a table and, at
-last, how many runs were right; ends with status 1 where one was not.
+last, how many of its lines are right; ends with status 1 where one is not.
 """
 
 import argparse
@@ -26,7 +26,7 @@ KINDS = ["nothing done", "half a write", "half a write told, or interrupted", "f
 
 
 def fail(words, folder):
-    """Prints the table, and gives how many runs were right and wrong."""
+    """Prints the table, and gives how many of its lines are right, and how many are not."""
     library = refusing.compiled("faults", folder)
     right = wrong = 0
     print(refusing.HEAD)
@@ -45,8 +45,8 @@ def fail(words, folder):
                 settings = [{"FIRST": number, "REST": rest, "KIND": kind} for number in range(1, calls + 3)]
                 table = refusing.run_all(runner, "FAIL", settings, refusing.device)
                 refusing.print_table(runner, what + (", and all behind" if rest else ""), calls, table)
-                right += table.runs - len(table.wrong)
-                wrong += len(table.wrong)
+                right += not table.wrong
+                wrong += bool(table.wrong)
     return right, wrong
 
 

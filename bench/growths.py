@@ -12,8 +12,8 @@ standard error, with status 1. The store that it leaves has to hold a version of
 told durable, with right tiles, and be opened by the program. --step N refuses only each Nth growth in turn; --every
 also tries each growth refused together with every second, third and hundredth behind it: there 40 may be told any
 number of times, and a run may be without end, as what asks again for memory is refused again and again, and is ended
-then and counted. Prints a table and, at last, how many runs were right; ends with status 1 where one was not. Threads
-draw their order anew in each run, so two tables may differ.
+then and counted. Prints a table and, at last, how many of its lines are right; ends with status 1 where one is not.
+Threads draw their order anew in each run, so two tables may differ.
 
 A program that takes its memory by calls that can't be counted so (built static, or with an allocator of its own) is
 told as such. The stacks of threads, which the C library takes from the system, stand for one growth a thread.
@@ -43,7 +43,7 @@ def tries(calls, step, every):
 
 
 def refuse(words, folder):
-    """Prints the table, and gives how many runs were right and wrong."""
+    """Prints the table, and gives how many of its lines are right, and how many are not."""
     library = refusing.compiled("growths", folder)
     right = wrong = 0
     print(refusing.HEAD)
@@ -59,28 +59,31 @@ def refuse(words, folder):
             is_one = which == "one growth"
             table = refusing.run_all(runner, "REFUSE", settings, one_growth if is_one else many_growths, not is_one)
             refusing.print_table(runner, which, calls, table)
-            right += table.runs - len(table.wrong)
-            wrong += len(table.wrong)
+            right += not table.wrong
+            wrong += bool(table.wrong)
     return right, wrong
 
 
+FOUR = """
+import ctypes, os
+library = ctypes.CDLL(os.environ["LIBRARY"])
+library.malloc.restype = ctypes.c_void_p
+print("".join("1" if library.malloc(8) else "0" for _ in range(4)))
+"""
+
+
 def test():
-    """Looks whether the shim refuses the call that it is told, in a small program, and what refusals may be told."""
-    source = '#include <stdio.h>\n#include <stdlib.h>\nint main(void) { for (int i = 0; i < 4; i++) '
-    source += 'putchar(malloc(8) ? 49 : 48); return 0; }\n'
+    """Looks whether the shim refuses the call that it is told, of four, and what refusals may be told."""
     with tempfile.TemporaryDirectory() as place:
         folder = pathlib.Path(place)
-        library = refusing.compiled("growths", folder)
-        (folder / "four.c").write_text(source)
-        subprocess.run(["gcc", "-O0", "-o", str(folder / "four"), str(folder / "four.c")], check=True)
-        given = {"LD_PRELOAD": str(library), "REFUSE_FIRST": "1", "REFUSE_EACH": "3"}
+        given = {"LIBRARY": str(refusing.compiled("growths", folder)), "REFUSE_FIRST": "1", "REFUSE_EACH": "3"}
         given["REFUSE_COUNTS"] = place + "/counts"
-        done = subprocess.run([str(folder / "four")], env={**os.environ, **given}, capture_output=True, check=True)
+        words = [sys.executable, "-c", FOUR]
+        done = subprocess.run(words, env={**os.environ, **given}, capture_output=True, check=True, text=True)
         counts = (folder / "counts").read_bytes()
         numbers = [int.from_bytes(counts[at : at + 8], "little") for at in (0, 8)]
-    # The output's buffer may be a growth too, the second one.
-    is_right = done.stdout in (b"0110", b"0101") and numbers[0] in (4, 5) and numbers[1] == 2
-    print(f"four growths: {done.stdout.decode()}, counted {numbers}: {'right' if is_right else 'wrong'}")
+    is_right = done.stdout == "0110\n" and numbers == [4, 2]
+    print(f"four growths: {done.stdout.strip()}, counted {numbers}: {'right' if is_right else 'wrong'}")
     passed, failed = refusing.test(one_growth, many_growths)
     return refusing.told(passed + is_right, failed + (not is_right))
 

@@ -11,6 +11,7 @@ import judging
 import model
 import read_store
 import stress
+import unproved
 
 HERE = pathlib.Path(__file__).resolve().parent
 FAULT_LINE = re.compile(r"error (\d+) [a-z #0-9]+\n")
@@ -59,10 +60,11 @@ OPENED = Scenario("one script, a store opened", [AFTER], 2, BEFORE)
 
 
 def compiled(name, folder):
-    """Compiles a source beside this file into something that a program can be made to load."""
-    library = folder / (name + ".so")
-    words = ["gcc", "-O1", "-shared", "-fPIC", "-o", str(library), str(HERE / (name + ".c")), "-ldl"]
-    subprocess.run(words, check=True)
+    """Compiles a source beside this file, by the kit's compiler, into something that a program can be made to load."""
+    library, tools = folder / (name + ".so"), unproved.kit() / "toolchain/bin"
+    words = [tools / "clang", "--target=x86_64-unknown-linux-gnu", "--no-default-config", "-fintegrated-cc1", "-O1"]
+    words += ["-fno-builtin", "-fPIC", "-shared", "-nostdlib", f"--ld-path={tools / 'ld.lld'}"]
+    subprocess.run([*words, "-o", library, HERE / (name + ".c")], check=True)
     return library
 
 
@@ -183,15 +185,15 @@ def replies_behind(session, place, word):
 
 
 def one_growth(outcome, judged):
-    """What one refused growth may do: one line is answered by 40, or the store is told of it, which each SYNC tells until
-    the next accepted command, or the run ends with it.
+    """What one refused growth may do: one line is answered by 40; or the store is told of it, which each SYNC tells
+    until the next accepted command; or the run ends with it.
     """
     lines, syncs, fault = told_outside(outcome, judged)
     only({code for _, _, code in lines + syncs}, {40})
-    # 49: a session had no memory for its replies.
-    only(set() if fault is None else {fault}, {40, 49} if judged and are_cut(judged) else {40})
+    # 49: a session had no memory for a reply, and ended.
+    only(set() if fault is None else {fault}, {40} if judged and not are_cut(judged) else {40, 49})
     if len(lines) + bool(syncs) + (fault is not None) > 1:
-        raise judging.Wrong(f"one growth was refused, and told {len(lines)} times, by {len(syncs)} SYNCs and as {fault}")
+        raise judging.Wrong(f"one growth is told by {len(lines)} lines, {len(syncs)} SYNCs and as {fault} at the end")
     for session, place, _ in syncs:
         for other, behind, _ in syncs:
             if other is session and behind > place and any(
@@ -343,8 +345,10 @@ CASES = {
         ({1: OUT, 2: OUT}, 1, "", False),
         ({1: OUT, 4: OUT}, 1, "", False),
         (None, 1, OUT, True),
+        (None, 1, "error 49 write", True),
         (None, 1, DEVICE, False),
         (None, 0, OUT, False),
+        ({}, 1, "error 49 write", False),
         ({1: OUT}, 1, OUT, False),
     ],
     many_growths: [
