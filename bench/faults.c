@@ -5,6 +5,7 @@
    fails is FAIL_KIND: 0 with EIO and nothing done; 1 with EIO, a write having written half; 2 a write writes half and
    tells so, another call is interrupted (EINTR); 3 with ENOSPC. The first 8 bytes of the file FAIL_COUNTS are how many
    calls there were, the next 8 how many failed. */
+
 /* What the C library and the system have, as it is declared in their headers: those need not be there. */
 typedef unsigned long size_t;
 struct stat;

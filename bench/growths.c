@@ -4,6 +4,7 @@
    the number REFUSE_FIRST is refused, and then each REFUSE_EACH-th behind it (0: no other). What the C library asks of
    the system by itself, as the stack of a thread, is not counted. The first 8 bytes of the file REFUSE_COUNTS
    are how many calls there were, the next 8 how many were refused. */
+
 /* What the C library has, as it is declared in its headers: those need not be there. */
 typedef unsigned long size_t;
 
