@@ -13,7 +13,7 @@ loop-preserved c =
       rest = c.next_block.ensures.left ∙ after_next segs rest i c.loop.invariant.rest;
       count = search (arith, rules, c.loop.invariant.count, c.in_ok-push.ensures.items);
       cover = rw c.in_ok-push.ensures.items (cover_next c.loop.bounds.items c.around.result segs rest i c.block_count-end.result c.loop-test.true c.block_count-end.ensures.none_empty c.loop.invariant.count c.loop.invariant.rest c.loop.invariant.cover
-        (subst (AllByRecursion (Holds c.around.result)) c.next_block.ensures.block c.around.ensures));
+          (subst (AllByRecursion (Holds c.around.result)) c.next_block.ensures.block c.around.ensures));
     }
 
 pub returns : goal.returns
