@@ -23,9 +23,8 @@ mod layers;
 
 use crate::layers::{coast, parcels, square, star};
 use exact_point::HPoint;
-use plane_base::Pt;
+use plane_base::{Blocks, Pt};
 use point_looks::Spot;
-use segment_blocks::Blocks;
 use std::time::Instant;
 
 #[derive(Clone, Copy)]

@@ -8,8 +8,9 @@ use Rattle.overlay_terms.proofs.Difference.{mul_mono}
 use Rattle.overlay_terms.proofs.ClosedRings.{bit, count-cons}
 use Rattle.point_looks.specs.Floor.{IsFloor}
 use Rattle.point_looks.proofs.LookLemmas.{below_behind, on_behind, below_before, on_before, below_lower, on_lower, below_higher, on_higher, past_floor, up_to_floor}
-use Rattle.segment_blocks.specs.Bounds.{Holds, Misses, IsOver, reaches}
-use Rattle.segment_blocks.specs.declared.bounds.Bounds.{Bounds}
+use Rattle.plane_base.specs.Bounds.{Holds}
+use Rattle.plane_base.specs.declared.bounds.Bounds.{Bounds}
+use Rattle.segment_blocks.specs.Outside.{Misses, IsOver, reaches}
 
 of_le : (a b : ℤ) → a ≤ℤ b → int_le a b ≡ true
 of_le a b e = grind (arith, ints)

@@ -1,10 +1,6 @@
-//! Segments in blocks with their ranges: a point is looked at from the blocks whose ranges it lies within.
+//! A point against segments in blocks: only blocks whose ranges it lies within are looked at.
 #![tactic(auto)]
 
-pub mod blocks;
-pub mod bounds;
 pub mod looking;
 
-pub use blocks::{BLOCK, Blocks};
-pub use bounds::Bounds;
 pub use looking::look_at_all;

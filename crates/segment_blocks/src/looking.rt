@@ -4,11 +4,12 @@ ghost use Rattle.std.specs.List.{AllByRecursion};
 ghost use Rattle.overlay_terms.specs.Plane.{is_inside};
 ghost use Rattle.overlay_terms.specs.Laws.{is_on_any};
 ghost use Rattle.point_looks.specs.Spot.{point_of};
-ghost use Rattle.segment_blocks.specs.Bounds.{Cover, Holds, IsOver, Misses, reaches};
+ghost use Rattle.plane_base.specs.Bounds.{Cover, Holds};
+ghost use Rattle.segment_blocks.specs.Outside.{IsOver, Misses, reaches};
 
-use crate::blocks::{Blocks, next_block};
-use crate::bounds::Bounds;
-use plane_base::Seg;
+use plane_base::blocks::{Blocks, next_block};
+use plane_base::bounds::Bounds;
+use plane_base::point::Seg;
 use point_looks::{Seen, Spot};
 
 /// Whether an odd number of segments is below the point, and whether one holds it. Of a block whose ranges the point
@@ -17,7 +18,8 @@ pub fn look_at_all(blocks: &Blocks, spot: &Spot) -> Seen
     ensures inside { result.inside ≡ is_inside blocks.now (point_of spot.now) }
     ensures edge { result.edge ≡ is_on_any blocks.now (point_of spot.now) }
 {
-    look(&blocks.bounds, &blocks.sorted, spot)
+    let (bounds, segs) = blocks.ordered();
+    look(bounds, segs, spot)
 }
 
 /// The same of segments whose blocks have these ranges.
@@ -42,10 +44,10 @@ fn look_at_block(bounds: &Bounds, block: &[Seg], spot: &Spot) -> Seen
     ensures inside { result.inside ≡ is_inside block.now (point_of spot.now) }
     ensures edge { result.edge ≡ is_on_any block.now (point_of spot.now) }
 {
-    if bounds.misses(spot) {
+    if misses(bounds, spot) {
         return Seen::NOTHING;
     }
-    if bounds.is_lower(spot) {
+    if is_lower(bounds, spot) {
         return Seen {
             inside: reach_odd(block, spot.floor_x()),
             edge: false,
@@ -54,26 +56,24 @@ fn look_at_block(bounds: &Bounds, block: &[Seg], spot: &Spot) -> Seen
     point_looks::look_at_all(block, spot)
 }
 
-impl Bounds {
-    /// Whether the point lies left of the ranges, right of them, or below them.
-    fn misses(&self, spot: &Spot) -> bool
-        ensures { result ≡ true → Misses self.now (point_of spot.now) }
-    {
-        if spot.floor_x() < self.low_x {
-            return true;
-        }
-        if self.high_x < spot.ceil_x() {
-            return true;
-        }
-        spot.floor_y() < self.low_y
+/// Whether the point lies left of the ranges, right of them, or below them.
+fn misses(bounds: &Bounds, spot: &Spot) -> bool
+    ensures { result ≡ true → Misses bounds.now (point_of spot.now) }
+{
+    if spot.floor_x() < bounds.low_x {
+        return true;
     }
+    if bounds.high_x < spot.ceil_x() {
+        return true;
+    }
+    spot.floor_y() < bounds.low_y
+}
 
-    /// Whether the point lies above the ranges.
-    fn is_lower(&self, spot: &Spot) -> bool
-        ensures { result ≡ true → IsOver self.now (point_of spot.now) }
-    {
-        self.high_y < spot.ceil_y()
-    }
+/// Whether the point lies above the ranges.
+fn is_lower(bounds: &Bounds, spot: &Spot) -> bool
+    ensures { result ≡ true → IsOver bounds.now (point_of spot.now) }
+{
+    bounds.high_y < spot.ceil_y()
 }
 
 /// Whether an odd number of segments goes from at most this x to more.

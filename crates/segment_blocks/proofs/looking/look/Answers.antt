@@ -3,9 +3,10 @@ use Rattle.std.specs.List.{AllByRecursion}
 use Rattle.overlay_terms.specs.Plane.{is_inside}
 use Rattle.overlay_terms.specs.Laws.{is_on_any}
 use Rattle.point_looks.specs.Spot.{point_of}
-use Rattle.segment_blocks.specs.Bounds.{Holds}
-use Rattle.segment_blocks.specs.declared.bounds.Bounds.{Bounds}
-use Rattle.segment_blocks.proofs.BlockLemmas.{next_ranges, next_cover, all_seen, after_next, up_to_next, more_inside, more_edge}
+use Rattle.plane_base.specs.declared.bounds.Bounds.{Bounds}
+use Rattle.plane_base.specs.Bounds.{Holds}
+use Rattle.plane_base.proofs.BlockLemmas.{after_next, up_to_next}
+use Rattle.segment_blocks.proofs.BlockLemmas.{next_ranges, next_cover, all_seen, more_inside, more_edge}
 use Rattle.segment_blocks.proofs.looking.look.Goals as goal
 
 pub look_at_block-requires : goal.look_at_block-requires

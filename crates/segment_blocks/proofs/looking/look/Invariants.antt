@@ -2,7 +2,7 @@ use Rattle.std.proofs.Common.{◌≡◌, ◌*◌, take, drop}
 use Rattle.overlay_terms.specs.Plane.{is_inside}
 use Rattle.overlay_terms.specs.Laws.{is_on_any}
 use Rattle.point_looks.specs.Spot.{point_of}
-use Rattle.segment_blocks.specs.Bounds.{Cover}
+use Rattle.plane_base.specs.Bounds.{Cover}
 use Rattle.segment_blocks.proofs.looking.look.Given as goal
 
 -- what is seen of the blocks so far

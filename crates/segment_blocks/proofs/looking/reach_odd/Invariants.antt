@@ -1,5 +1,5 @@
 use Rattle.std.proofs.Common.{◌≡◌, ◌%◌, ◌==◌, count_by, take}
-use Rattle.segment_blocks.specs.Bounds.{reaches}
+use Rattle.segment_blocks.specs.Outside.{reaches}
 use Rattle.segment_blocks.proofs.looking.reach_odd.Given as goal
 
 -- how many of the segments so far reach over the x

@@ -1,9 +1,9 @@
 //! The ranges of x and y of some segments.
 ghost use Rattle.std.specs.List.{AllByRecursion};
 ghost use Rattle.overlay_terms.specs.Plane.{Segment};
-ghost use Rattle.segment_blocks.specs.Bounds.{Holds};
+ghost use Rattle.plane_base.specs.Bounds.{Holds};
 
-use plane_base::{COORD_MAX, Seg};
+use crate::point::{COORD_MAX, Seg};
 
 /// Ranges of x and y, whose ends belong to them.
 #[derive(Clone, Copy, Debug)]

@@ -1,6 +1,6 @@
 use Rattle.std.proofs.Common.{length, sym, ◌∙◌, arith}
 use Rattle.std.proofs.lemmas.List.{take_all, drop_all}
-use Rattle.segment_blocks.proofs.blocks.next_block.Goals as goal
+use Rattle.plane_base.proofs.blocks.next_block.Goals as goal
 
 pub returns-then-rest-lt-BLOCK-clause-block : goal.returns-then-rest-lt-BLOCK-clause-block
 returns-then-rest-lt-BLOCK-clause-block c =

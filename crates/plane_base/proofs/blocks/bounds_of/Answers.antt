@@ -1,8 +1,8 @@
 use Rattle.std.proofs.Common.{◌∙◌, arith, ◌*◌, ap, subst, length, sym, rules}
 use Rattle.std.specs.List.{AllByRecursion}
-use Rattle.segment_blocks.specs.Bounds.{Holds}
-use Rattle.segment_blocks.proofs.BlockLemmas.{after_next, cover_next, cover_all}
-use Rattle.segment_blocks.proofs.blocks.bounds_of.Goals as goal
+use Rattle.plane_base.specs.Bounds.{Holds}
+use Rattle.plane_base.proofs.BlockLemmas.{after_next, cover_next, cover_all}
+use Rattle.plane_base.proofs.blocks.bounds_of.Goals as goal
 
 pub loop-preserved : goal.loop-preserved
 loop-preserved c =

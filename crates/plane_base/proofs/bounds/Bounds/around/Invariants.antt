@@ -1,7 +1,7 @@
 use Rattle.std.proofs.Common.{take}
 use Rattle.std.specs.List.{AllByRecursion}
-use Rattle.segment_blocks.specs.Bounds.{Holds}
-use Rattle.segment_blocks.proofs.bounds.Bounds.around.Given as goal
+use Rattle.plane_base.specs.Bounds.{Holds}
+use Rattle.plane_base.proofs.bounds.Bounds.around.Given as goal
 
 -- the segments so far are held
 abbrev pub invariant-loop-seg : goal.invariant-loop-seg

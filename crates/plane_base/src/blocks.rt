@@ -1,9 +1,9 @@
 //! Segments, and the same in blocks.
 ghost use Rattle.std.specs.Prelude.{◌≡◌, ◌≤◌, ◌<◌, ◌+◌, ◌*◌, take, drop, length, IfOk};
-ghost use Rattle.segment_blocks.specs.Bounds.{Cover};
+ghost use Rattle.plane_base.specs.Bounds.{Cover};
 
 use crate::bounds::Bounds;
-use plane_base::Seg;
+use crate::point::Seg;
 use std::alloc::{AllocError, Global};
 use std::marker::Model;
 
@@ -14,16 +14,16 @@ pub const BLOCK: usize = 32;
 /// ranges of x and y.
 #[derive(Debug, Drop)]
 pub struct Blocks {
-    pub(crate) segs: Vec<Seg>,
-    pub(crate) sorted: Vec<Seg>,
-    pub(crate) bounds: Vec<Bounds>,
+    segs: Vec<Seg>,
+    sorted: Vec<Seg>,
+    bounds: Vec<Bounds>,
 }
 
 impl Model for Blocks {
     ghost use Rattle.std.specs.Prelude.{List};
     ghost use Rattle.std.specs.List.Sorted.{IsPermutation};
     ghost use Rattle.overlay_terms.specs.Plane.{Segment};
-    ghost use Rattle.segment_blocks.specs.Bounds.{Cover};
+    ghost use Rattle.plane_base.specs.Bounds.{Cover};
 
     ghost Value = { List Segment };
 
@@ -33,6 +33,8 @@ impl Model for Blocks {
 }
 
 impl Blocks {
+    ghost use Rattle.std.specs.List.Sorted.{IsPermutation};
+
     /// The segments, in blocks too.
     pub fn new(alloc: Global, segs: Vec<Seg>) -> Result<Blocks, AllocError>
         ensures { IfOk result (λ blocks. blocks ≡ segs.items) }
@@ -52,6 +54,14 @@ impl Blocks {
         ensures { result.now ≡ self.now }
     {
         &self.segs
+    }
+
+    /// The same segments by the x of their left ends, behind the ranges of each 32 of them.
+    pub fn ordered(&self) -> (&[Bounds], &[Seg])
+        ensures same { IsPermutation self.now result.1.now }
+        ensures cover { Cover result.0.now result.1.now }
+    {
+        (&self.bounds, &self.sorted)
     }
 }
 
@@ -78,7 +88,7 @@ fn block_count(len: usize) -> usize
 }
 
 /// The first block, and what is left.
-pub(crate) fn next_block(rest: &[Seg]) -> (&[Seg], &[Seg])
+pub fn next_block(rest: &[Seg]) -> (&[Seg], &[Seg])
     ensures block { result.0.now ≡ take 32 rest.now }
     ensures left { result.1.now ≡ drop 32 rest.now }
 {

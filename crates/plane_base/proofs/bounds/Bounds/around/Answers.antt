@@ -1,5 +1,5 @@
-use Rattle.segment_blocks.proofs.BlockLemmas.{held_more}
-use Rattle.segment_blocks.proofs.bounds.Bounds.around.Goals as goal
+use Rattle.plane_base.proofs.BlockLemmas.{held_more}
+use Rattle.plane_base.proofs.bounds.Bounds.around.Goals as goal
 
 pub loop-seg-preserved : goal.loop-seg-preserved
 loop-seg-preserved c =

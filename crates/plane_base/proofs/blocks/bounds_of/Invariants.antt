@@ -1,6 +1,6 @@
 use Rattle.std.proofs.Common.{◌≡◌, ◌*◌, take, drop, length}
-use Rattle.segment_blocks.specs.Bounds.{Cover}
-use Rattle.segment_blocks.proofs.blocks.bounds_of.Given as goal
+use Rattle.plane_base.specs.Bounds.{Cover}
+use Rattle.plane_base.proofs.blocks.bounds_of.Given as goal
 
 -- the ranges of the blocks so far
 abbrev pub invariant-loop : goal.invariant-loop

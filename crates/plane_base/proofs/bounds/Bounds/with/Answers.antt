@@ -1,7 +1,7 @@
 use Rattle.std.proofs.Common.{rules, ◌≡◌, arith, to_z, of_z}
 use Rattle.std.specs.Int.{w64}
 use Rattle.std.proofs.lemmas.Int.{ints, to_z-of_z}
-use Rattle.segment_blocks.proofs.bounds.Bounds.with.Goals as goal
+use Rattle.plane_base.proofs.bounds.Bounds.with.Goals as goal
 
 pub returns-clause-added : goal.returns-clause-added
 returns-clause-added c =
