@@ -27,8 +27,8 @@ pub struct Known {
 }
 
 impl Layers {
-    /// The answers of each layer. One that is not wanted counts as a layer of no rings. Each segment of a wanted
-    /// base layer is looked at once.
+    /// The answers of each layer. One that is not wanted counts as a layer of no rings. Each wanted base layer is looked
+    /// at once, in its blocks of segments.
     pub fn answers(&self, wanted: &[bool; MAX_LAYERS], point: &HPoint) -> Known
         ensures inside { labelled self.now result.inside ≡ answers IsInside (wanted_layers wanted.now self.now) (place point.now) }
         ensures edge { labelled self.now result.edge ≡ answers IsEdge (wanted_layers wanted.now self.now) (place point.now) }
