@@ -591,4 +591,5 @@ def main():
         {"inputs": compare, "times": measure}[word](program, folder)
 
 
-main()
+if __name__ == "__main__":
+    main()
