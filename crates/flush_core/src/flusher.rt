@@ -4,7 +4,7 @@ ghost use Rattle.disk_model.specs.Disk.{Failed};
 ghost use Rattle.store_terms.specs.Roots.{sequence_max};
 ghost use Rattle.root_store.specs.Beginning.{IsReason};
 ghost use Rattle.commit_plan.specs.Kept.{Kept};
-ghost use Rattle.root_store.specs.Running.{Stands, Runs, KeepsTo, Stepped, Counts, Turns, KeepsRoots, calls_left, is_busy, fault_in};
+ghost use Rattle.root_store.specs.Running.{Stands, Runs, KeepsTo, Stepped, FailsByDevice, Counts, Turns, KeepsRoots, calls_left, is_busy, fault_in};
 ghost use Rattle.flush_core.specs.Stored.{stored_after, IsCommitOf, HasRoomFor, HasNoRoomFor, calls_of};
 
 use crate::imaging::image_of;
@@ -101,6 +101,8 @@ impl<D: Disk> Flusher<D> {
         ensures failed { OnErr result (self.new.commit.phase ≡ Phase.Failed) }
         ensures errors { IfErr result (λ fault. fault ≡ fault_in self.old.commit.phase) }
         ensures cause { D.is_honest self.old.commit.disk → IsErrOf result StoreFault.Device → Failed (D.faults self.old.commit.disk) (D.faults self.new.commit.disk) }
+        // It fails where a device call failed, now or before, and only there.
+        ensures by_device { D.is_honest self.old.commit.disk → FailsByDevice D.Disk self.old.commit self.new.commit }
     {
         self.commit.step()
     }

@@ -41,7 +41,8 @@ struct Opened<D: Disk> {
 /// k runs the k-th reader's script, counted from 0, and the outcomes stand in the readers' order. The book begins with the
 /// engine's version and is committed to its store; without an engine it begins empty, and is kept in memory alone.
 ///
-/// Before it returns, every tile that was finished is in the store, unless a device call failed or the store is full.
+/// Before it returns, it commits once more what the workers finished, so that each finished tile is in the store, unless
+/// that commit was refused: by the device (30, 35), for want of blocks (31), of sequence numbers (36) or of memory (40).
 /// Where memory or a thread is refused it fails with 40, and where the book gives no places for its sessions with 44;
 /// the disk comes back then. A script that was begun meanwhile ends as in a book that closes.
 pub fn serve<
