@@ -42,13 +42,17 @@ returns-in-Err-restored-clause-crashed g c honest start commands run each crash 
     returns-in-Err-restored-clause-err g c honest start crash.made.old.version.durable (commands ++ accepted_in crash.before)
     (crash_covered g.D.Disk start commands run c.args.disk crash each)
 
-pub returns-in-Err-clause-crashed : goal.returns-in-Err-clause-crashed
-returns-in-Err-clause-crashed g c honest start commands run each crash =
+pub returns-in-Err-clause-err : goal.returns-in-Err-clause-err
+returns-in-Err-clause-err g c honest start least commands all =
     let disk = c.args.disk in
     let left = c.in-Err.ensures.err honest in
-    refused_as g.D.Disk start disk crash.made.old.version.durable (commands ++ accepted_in crash.before) (crash_covered g.D.Disk start commands run disk crash each)
-    (g.met.D.Disk.seen_may_stay disk honest) c.in-Err.refused (c.in-Err.ensures.gives honest) left.0 left.1 left.2
-    (c.in-Err.ensures.stops honest)
+    refused_as g.D.Disk start disk least commands all (g.met.D.Disk.seen_may_stay disk honest) c.in-Err.refused
+    (c.in-Err.ensures.gives honest) left.0 left.1 left.2 (c.in-Err.ensures.stops honest)
+
+pub returns-in-Err-clause-crashed : goal.returns-in-Err-clause-crashed
+returns-in-Err-clause-crashed g c honest start commands run each crash =
+    returns-in-Err-clause-err g c honest start crash.made.old.version.durable (commands ++ accepted_in crash.before)
+    (crash_covered g.D.Disk start commands run c.args.disk crash each)
 
 pub returns-in-Ok-restored-clause-stored : goal.returns-in-Ok-restored-clause-stored
 returns-in-Ok-restored-clause-stored g c =
