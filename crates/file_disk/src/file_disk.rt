@@ -82,6 +82,8 @@ impl Disk for FileDisk {
 
     ghost faults = { λ _. 0 };
 
+    ghost calls = { λ _. 0 };
+
     ghost counts_now = { none_now };
 
     ghost only_now = { none_only };

@@ -1,6 +1,6 @@
 //! A disk of which one call fails.
 ghost use Rattle.std.specs.Prelude.{◌≡◌, ◌≢◌, ◌↔◌, ◌+◌, ◌≤◌, length, IfOk, OnOk, OnErr, IsErr, Some};
-ghost use Rattle.disk_model.specs.Disk.{part, Holds, Torn, OneStepOn, Fewer, Only, Elapses, CountsFailure};
+ghost use Rattle.disk_model.specs.Disk.{part, Holds, Torn, OneStepOn, Fewer, Only, Elapses, CountsFailure, CountsCall};
 
 use crate::passing::refuse;
 use disk_model::disk::Disk;
@@ -45,6 +45,7 @@ impl<D: Disk> FaultDisk<D> {
         ensures passed { OnOk result (before_of self.old ≢ Some 0) }
         ensures failed { OnErr result (before_of self.old ≡ Some 0) }
         ensures counts { CountsFailure result (refused_of self.old) (refused_of self.new) }
+        ensures by_one { refused_of self.new ≤ refused_of self.old + 1 }
     {
         match self.before {
             Some(0) => {
@@ -73,6 +74,8 @@ impl<D: Disk> Disk for FaultDisk<D> {
 
     ghost faults = { λ d. D.Disk.faults d.disk + d.refused };
 
+    ghost calls = { λ d. D.Disk.calls d.disk + d.refused };
+
     ghost counts_now = { λ d. D.Disk.counts_now d.disk };
 
     ghost only_now = { λ d. D.Disk.only_now d.disk };
@@ -95,6 +98,8 @@ impl<D: Disk> Disk for FaultDisk<D> {
             (D.left_since (below_of self.old)) (D.left_since (below_of self.new)) (D.may_leave (below_of self.new)) }
         ensures cause { D.is_honest (below_of self.old)
             → CountsFailure result (D.faults (below_of self.old) + refused_of self.old) (D.faults (below_of self.new) + refused_of self.new) }
+        ensures calls { D.is_honest (below_of self.old)
+            → CountsCall result (D.calls (below_of self.old) + refused_of self.old) (D.calls (below_of self.new) + refused_of self.new) }
     {
         self.pass()?;
         self.disk.length()
@@ -118,6 +123,8 @@ impl<D: Disk> Disk for FaultDisk<D> {
             (D.left_since (below_of self.old)) (D.left_since (below_of self.new)) (D.may_leave (below_of self.new)) }
         ensures cause { D.is_honest (below_of self.old)
             → CountsFailure result (D.faults (below_of self.old) + refused_of self.old) (D.faults (below_of self.new) + refused_of self.new) }
+        ensures calls { D.is_honest (below_of self.old)
+            → CountsCall result (D.calls (below_of self.old) + refused_of self.old) (D.calls (below_of self.new) + refused_of self.new) }
     {
         self.pass()?;
         self.disk.read(at, buf)
@@ -141,6 +148,8 @@ impl<D: Disk> Disk for FaultDisk<D> {
             (D.left_since (below_of self.old)) (D.left_since (below_of self.new)) (D.may_leave (below_of self.new)) }
         ensures cause { D.is_honest (below_of self.old)
             → CountsFailure result (D.faults (below_of self.old) + refused_of self.old) (D.faults (below_of self.new) + refused_of self.new) }
+        ensures calls { D.is_honest (below_of self.old)
+            → CountsCall result (D.calls (below_of self.old) + refused_of self.old) (D.calls (below_of self.new) + refused_of self.new) }
     {
         self.pass()?;
         self.disk.write_at(at, bytes)
@@ -163,6 +172,8 @@ impl<D: Disk> Disk for FaultDisk<D> {
             (D.left_since (below_of self.old)) (D.left_since (below_of self.new)) (D.may_leave (below_of self.new)) }
         ensures cause { D.is_honest (below_of self.old)
             → CountsFailure result (D.faults (below_of self.old) + refused_of self.old) (D.faults (below_of self.new) + refused_of self.new) }
+        ensures calls { D.is_honest (below_of self.old)
+            → CountsCall result (D.calls (below_of self.old) + refused_of self.old) (D.calls (below_of self.new) + refused_of self.new) }
     {
         self.pass()?;
         self.disk.sync()

@@ -1,6 +1,6 @@
 //! A disk that passes so many calls on, and then fails each.
 ghost use Rattle.std.specs.Prelude.{◌≡◌, ◌↔◌, ◌+◌, ◌-◌, ◌<◌, ◌≤◌, length, IfOk, OnOk, OnErr, IsErr};
-ghost use Rattle.disk_model.specs.Disk.{part, Holds, Torn, OneStepOn, Fewer, Only, Elapses, CountsFailure};
+ghost use Rattle.disk_model.specs.Disk.{part, Holds, Torn, OneStepOn, Fewer, Only, Elapses, CountsFailure, CountsCall};
 
 use crate::passing::refuse;
 use disk_model::disk::Disk;
@@ -44,6 +44,7 @@ impl<D: Disk> StopDisk<D> {
         ensures passed { OnOk result (0 < left_of self.old) }
         ensures stopped { OnErr result (left_of self.old ≡ 0) }
         ensures counts { CountsFailure result (refused_of self.old) (refused_of self.new) }
+        ensures by_one { refused_of self.new ≤ refused_of self.old + 1 }
     {
         if self.left == 0 {
             return Err(refuse(&mut self.refused));
@@ -68,6 +69,8 @@ impl<D: Disk> Disk for StopDisk<D> {
 
     ghost faults = { λ d. D.Disk.faults d.disk + d.refused };
 
+    ghost calls = { λ d. D.Disk.calls d.disk + d.refused };
+
     ghost counts_now = { λ d. D.Disk.counts_now d.disk };
 
     ghost only_now = { λ d. D.Disk.only_now d.disk };
@@ -90,6 +93,8 @@ impl<D: Disk> Disk for StopDisk<D> {
             (D.left_since (below_of self.old)) (D.left_since (below_of self.new)) (D.may_leave (below_of self.new)) }
         ensures cause { D.is_honest (below_of self.old)
             → CountsFailure result (D.faults (below_of self.old) + refused_of self.old) (D.faults (below_of self.new) + refused_of self.new) }
+        ensures calls { D.is_honest (below_of self.old)
+            → CountsCall result (D.calls (below_of self.old) + refused_of self.old) (D.calls (below_of self.new) + refused_of self.new) }
     {
         self.pass()?;
         self.disk.length()
@@ -113,6 +118,8 @@ impl<D: Disk> Disk for StopDisk<D> {
             (D.left_since (below_of self.old)) (D.left_since (below_of self.new)) (D.may_leave (below_of self.new)) }
         ensures cause { D.is_honest (below_of self.old)
             → CountsFailure result (D.faults (below_of self.old) + refused_of self.old) (D.faults (below_of self.new) + refused_of self.new) }
+        ensures calls { D.is_honest (below_of self.old)
+            → CountsCall result (D.calls (below_of self.old) + refused_of self.old) (D.calls (below_of self.new) + refused_of self.new) }
     {
         self.pass()?;
         self.disk.read(at, buf)
@@ -136,6 +143,8 @@ impl<D: Disk> Disk for StopDisk<D> {
             (D.left_since (below_of self.old)) (D.left_since (below_of self.new)) (D.may_leave (below_of self.new)) }
         ensures cause { D.is_honest (below_of self.old)
             → CountsFailure result (D.faults (below_of self.old) + refused_of self.old) (D.faults (below_of self.new) + refused_of self.new) }
+        ensures calls { D.is_honest (below_of self.old)
+            → CountsCall result (D.calls (below_of self.old) + refused_of self.old) (D.calls (below_of self.new) + refused_of self.new) }
     {
         self.pass()?;
         self.disk.write_at(at, bytes)
@@ -158,6 +167,8 @@ impl<D: Disk> Disk for StopDisk<D> {
             (D.left_since (below_of self.old)) (D.left_since (below_of self.new)) (D.may_leave (below_of self.new)) }
         ensures cause { D.is_honest (below_of self.old)
             → CountsFailure result (D.faults (below_of self.old) + refused_of self.old) (D.faults (below_of self.new) + refused_of self.new) }
+        ensures calls { D.is_honest (below_of self.old)
+            → CountsCall result (D.calls (below_of self.old) + refused_of self.old) (D.calls (below_of self.new) + refused_of self.new) }
     {
         self.pass()?;
         self.disk.sync()
