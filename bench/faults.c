@@ -5,16 +5,23 @@
    fails is FAIL_KIND: 0 with EIO and nothing done; 1 with EIO, a write having written half; 2 a write writes half and
    tells so, another call is interrupted (EINTR); 3 with ENOSPC. The first 8 bytes of the file FAIL_COUNTS are how many
    calls there were, the next 8 how many failed. */
-#define _GNU_SOURCE
-#include <dlfcn.h>
-#include <errno.h>
-#include <fcntl.h>
-#include <stdarg.h>
-#include <stdlib.h>
-#include <string.h>
-#include <sys/stat.h>
-#include <sys/syscall.h>
-#include <unistd.h>
+
+/* What the C library and the system have, as it is declared in their headers: those need not be there. */
+typedef unsigned long size_t;
+struct stat;
+struct statx;
+
+enum { EINTR = 4, EIO = 5, ENOSPC = 28, O_RDWR = 2, O_CREAT = 0100, AT_FDCWD = -100 };
+enum {
+    SYS_close = 3, SYS_fstat = 5, SYS_mmap = 9, SYS_pread64 = 17, SYS_pwrite64 = 18, SYS_fsync = 74, SYS_fdatasync = 75,
+    SYS_ftruncate = 77, SYS_openat = 257, SYS_statx = 332
+};
+
+extern int *__errno_location(void);
+extern char *getenv(const char *);
+extern unsigned long strtoul(const char *, char **, int);
+extern int strcmp(const char *, const char *);
+extern long syscall(long, ...);
 
 struct counts {
     unsigned long calls, failed;
@@ -28,7 +35,7 @@ static char watched[1024];
 static unsigned long number_of(const char *name)
 {
     const char *text = getenv(name);
-    return text ? strtoul(text, NULL, 10) : 0;
+    return text ? strtoul(text, 0, 10) : 0;
 }
 
 __attribute__((constructor)) static void begin(void)
@@ -64,7 +71,7 @@ static int fails(void)
     if (first == 0 || number < first || (number > first && !rest))
         return 0;
     __atomic_add_fetch(&counts->failed, 1, __ATOMIC_SEQ_CST);
-    errno = kind == 3 ? ENOSPC : kind == 2 ? EINTR : EIO;
+    *__errno_location() = kind == 3 ? ENOSPC : kind == 2 ? EINTR : EIO;
     return 1;
 }
 
@@ -81,19 +88,19 @@ static int opened(const char *path, int how, unsigned mode)
 
 int open(const char *path, int how, ...)
 {
-    va_list more;
-    va_start(more, how);
-    unsigned mode = how & O_CREAT ? va_arg(more, unsigned) : 0;
-    va_end(more);
+    __builtin_va_list more;
+    __builtin_va_start(more, how);
+    unsigned mode = how & O_CREAT ? __builtin_va_arg(more, unsigned) : 0;
+    __builtin_va_end(more);
     return opened(path, how, mode);
 }
 
 int open64(const char *path, int how, ...)
 {
-    va_list more;
-    va_start(more, how);
-    unsigned mode = how & O_CREAT ? va_arg(more, unsigned) : 0;
-    va_end(more);
+    __builtin_va_list more;
+    __builtin_va_start(more, how);
+    unsigned mode = how & O_CREAT ? __builtin_va_arg(more, unsigned) : 0;
+    __builtin_va_end(more);
     return opened(path, how, mode);
 }
 
@@ -115,17 +122,17 @@ int fstat(int file, struct stat *told)
     return is_watched(file) && fails() ? -1 : (int)syscall(SYS_fstat, file, told);
 }
 
-ssize_t pread(int file, void *to, size_t size, off_t at)
+long pread(int file, void *to, size_t size, long at)
 {
     return is_watched(file) && fails() ? -1 : syscall(SYS_pread64, file, to, size, at);
 }
 
-ssize_t pread64(int file, void *to, size_t size, off_t at)
+long pread64(int file, void *to, size_t size, long at)
 {
     return pread(file, to, size, at);
 }
 
-ssize_t pwrite(int file, const void *from, size_t size, off_t at)
+long pwrite(int file, const void *from, size_t size, long at)
 {
     if (!is_watched(file) || !fails())
         return syscall(SYS_pwrite64, file, from, size, at);
@@ -133,12 +140,12 @@ ssize_t pwrite(int file, const void *from, size_t size, off_t at)
         return size > 1 ? syscall(SYS_pwrite64, file, from, size / 2, at) : -1;
     if (kind == 1 && size > 1) {
         syscall(SYS_pwrite64, file, from, size / 2, at);
-        errno = EIO;
+        *__errno_location() = EIO;
     }
     return -1;
 }
 
-ssize_t pwrite64(int file, const void *from, size_t size, off_t at)
+long pwrite64(int file, const void *from, size_t size, long at)
 {
     return pwrite(file, from, size, at);
 }
@@ -153,7 +160,7 @@ int fsync(int file)
     return is_watched(file) && fails() ? -1 : (int)syscall(SYS_fsync, file);
 }
 
-int ftruncate(int file, off_t size)
+int ftruncate(int file, long size)
 {
     return is_watched(file) && fails() ? -1 : (int)syscall(SYS_ftruncate, file, size);
 }

@@ -4,21 +4,26 @@
    the number REFUSE_FIRST is refused, and then each REFUSE_EACH-th behind it (0: no other). What the C library asks of
    the system by itself, as the stack of a thread, is not counted. The first 8 bytes of the file REFUSE_COUNTS
    are how many calls there were, the next 8 how many were refused. */
-#define _GNU_SOURCE
-#include <dlfcn.h>
-#include <errno.h>
-#include <fcntl.h>
-#include <pthread.h>
-#include <stdlib.h>
-#include <sys/syscall.h>
-#include <unistd.h>
 
+/* What the C library has, as it is declared in its headers: those need not be there. */
+typedef unsigned long size_t;
+
+enum { EAGAIN = 11, ENOMEM = 12, O_RDWR = 2, O_CREAT = 0100, SYS_mmap = 9 };
+
+extern int *__errno_location(void);
+extern char *getenv(const char *);
+extern unsigned long strtoul(const char *, char **, int);
+extern int open(const char *, int, ...);
+extern int ftruncate(int, long);
+extern int close(int);
+extern long syscall(long, ...);
+extern void *dlsym(void *, const char *);
 extern void *__libc_malloc(size_t);
 extern void *__libc_calloc(size_t, size_t);
 extern void *__libc_realloc(void *, size_t);
 extern void *__libc_memalign(size_t, size_t);
 
-typedef int starting(pthread_t *, const pthread_attr_t *, void *(*)(void *), void *);
+typedef int starting(unsigned long *, const void *, void *(*)(void *), void *);
 
 struct counts {
     unsigned long calls, refused;
@@ -32,7 +37,7 @@ static int is_on;
 static unsigned long number_of(const char *name)
 {
     const char *text = getenv(name);
-    return text ? strtoul(text, NULL, 10) : 0;
+    return text ? strtoul(text, 0, 10) : 0;
 }
 
 __attribute__((constructor)) static void begin(void)
@@ -61,28 +66,28 @@ static int refuses(void)
     if (number != first && (each == 0 || (number - first) % each != 0))
         return 0;
     __atomic_add_fetch(&counts->refused, 1, __ATOMIC_SEQ_CST);
-    errno = ENOMEM;
+    *__errno_location() = ENOMEM;
     return 1;
 }
 
 void *malloc(size_t size)
 {
-    return refuses() ? NULL : __libc_malloc(size);
+    return refuses() ? 0 : __libc_malloc(size);
 }
 
 void *calloc(size_t count, size_t size)
 {
-    return refuses() ? NULL : __libc_calloc(count, size);
+    return refuses() ? 0 : __libc_calloc(count, size);
 }
 
 void *realloc(void *old, size_t size)
 {
-    return refuses() ? NULL : __libc_realloc(old, size);
+    return refuses() ? 0 : __libc_realloc(old, size);
 }
 
 void *aligned_alloc(size_t alignment, size_t size)
 {
-    return refuses() ? NULL : __libc_memalign(alignment, size);
+    return refuses() ? 0 : __libc_memalign(alignment, size);
 }
 
 int posix_memalign(void **place, size_t alignment, size_t size)
@@ -93,17 +98,17 @@ int posix_memalign(void **place, size_t alignment, size_t size)
     return *place ? 0 : ENOMEM;
 }
 
-void *mmap(void *at, size_t size, int allowed, int kind, int file, off_t from)
+void *mmap(void *at, size_t size, int allowed, int kind, int file, long from)
 {
     return refuses() ? (void *)-1 : (void *)syscall(SYS_mmap, at, size, allowed, kind, file, from);
 }
 
-int pthread_create(pthread_t *thread, const pthread_attr_t *how, void *(*run)(void *), void *given)
+int pthread_create(unsigned long *thread, const void *how, void *(*run)(void *), void *given)
 {
     static starting *next;
     if (refuses())
         return EAGAIN;
     if (!next)
-        next = (starting *)dlsym(RTLD_NEXT, "pthread_create");
+        next = (starting *)dlsym((void *)-1, /* in what is loaded behind this */ "pthread_create");
     return next(thread, how, run, given);
 }

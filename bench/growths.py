@@ -6,12 +6,14 @@ python3 bench/growths.py --test
 
 The program is made to load bench/growths.c, which counts its calls for memory and for threads and refuses the one with
 a number. Three runs: one script of all commands in memory, two scripts over a new store, and one over a store that is
-opened. Each has to end by itself with status 0 or 1; its replies have to be those of the model, 40 allowed; standard
-error has nothing or one line of a fault; and the store that it leaves has to hold a version of the history, no older
-than what was told durable, with right tiles, and be opened by the program. --step N refuses only each Nth growth in
-turn; --every also tries each growth refused together with every second, third and hundredth behind it: there a run may
-be without end, as what asks again for memory is refused again and again, and is ended then and counted. Prints a table;
-ends with status 1 where anything is wrong. Threads draw their order anew in each run, so two tables may differ.
+opened. Each has to end by itself with status 0 or 1; its replies have to be those of the model, but that a growth that
+was refused may be told once: as 40 by one line, or by each SYNC until the next accepted command, or as the one line of
+standard error, with status 1. The store that it leaves has to hold a version of the history, no older than what was
+told durable, with right tiles, and be opened by the program. --step N refuses only each Nth growth in turn; --every
+also tries each growth refused together with every second, third and hundredth behind it: there 40 may be told any
+number of times, and a run may be without end, as what asks again for memory is refused again and again, and is ended
+then and counted. Prints a table and, at last, how many of its lines are right; ends with status 1 where one is not.
+Threads draw their order anew in each run, so two tables may differ.
 
 A program that takes its memory by calls that can't be counted so (built static, or with an allocator of its own) is
 told as such. The stacks of threads, which the C library takes from the system, stand for one growth a thread.
@@ -25,6 +27,7 @@ import sys
 import tempfile
 
 import refusing
+from refusing import many_growths, one_growth
 
 MARGIN = 20
 
@@ -40,43 +43,49 @@ def tries(calls, step, every):
 
 
 def refuse(words, folder):
-    """Prints the table, and gives how many runs were wrong."""
+    """Prints the table, and gives how many of its lines are right, and how many are not."""
     library = refusing.compiled("growths", folder)
-    wrong = 0
+    right = wrong = 0
     print(refusing.HEAD)
     for scenario in (refusing.MEMORY, refusing.CREATED, refusing.OPENED):
         runner = refusing.Runner(words.program, scenario, library, folder, words.seconds)
         plain = [runner.run({}, "REFUSE") for _ in range(3)]
-        faults = [fault for fault in (refusing.judge(runner, outcome) for outcome in plain) if fault]
+        faults = [fault for fault in (refusing.judge(runner, outcome, one_growth) for outcome in plain) if fault]
         calls = max(outcome.counts[0] for outcome in plain)
         if faults or not calls:
             print(f"{scenario.name}: with nothing refused: {faults or 'no growth was counted: is the program static?'}")
-            return 1
+            return right, wrong + 1
         for which, settings in tries(calls, words.step, words.every):
-            table = refusing.run_all(runner, "REFUSE", settings, which != "one growth")
+            is_one = which == "one growth"
+            table = refusing.run_all(runner, "REFUSE", settings, one_growth if is_one else many_growths, not is_one)
             refusing.print_table(runner, which, calls, table)
-            wrong += len(table.wrong)
-    return wrong
+            right += not table.wrong
+            wrong += bool(table.wrong)
+    return right, wrong
+
+
+FOUR = """
+import ctypes, os
+library = ctypes.CDLL(os.environ["LIBRARY"])
+library.malloc.restype = ctypes.c_void_p
+print("".join("1" if library.malloc(8) else "0" for _ in range(4)))
+"""
 
 
 def test():
-    """Looks whether the shim refuses the call that it is told, in a small program."""
-    source = '#include <stdio.h>\n#include <stdlib.h>\nint main(void) { for (int i = 0; i < 4; i++) '
-    source += 'putchar(malloc(8) ? 49 : 48); return 0; }\n'
+    """Looks whether the shim refuses the call that it is told, of four, and what refusals may be told."""
     with tempfile.TemporaryDirectory() as place:
         folder = pathlib.Path(place)
-        library = refusing.compiled("growths", folder)
-        (folder / "four.c").write_text(source)
-        subprocess.run(["gcc", "-O0", "-o", str(folder / "four"), str(folder / "four.c")], check=True)
-        given = {"LD_PRELOAD": str(library), "REFUSE_FIRST": "1", "REFUSE_EACH": "3"}
+        given = {"LIBRARY": str(refusing.compiled("growths", folder)), "REFUSE_FIRST": "1", "REFUSE_EACH": "3"}
         given["REFUSE_COUNTS"] = place + "/counts"
-        done = subprocess.run([str(folder / "four")], env={**os.environ, **given}, capture_output=True, check=True)
+        words = [sys.executable, "-c", FOUR]
+        done = subprocess.run(words, env={**os.environ, **given}, capture_output=True, check=True, text=True)
         counts = (folder / "counts").read_bytes()
         numbers = [int.from_bytes(counts[at : at + 8], "little") for at in (0, 8)]
-    # The output's buffer may be a growth too, the second one.
-    is_right = done.stdout in (b"0110", b"0101") and numbers[0] in (4, 5) and numbers[1] == 2
-    print(f"four growths: {done.stdout.decode()}, counted {numbers}: {'right' if is_right else 'wrong'}")
-    return 0 if is_right else 1
+    is_right = done.stdout == "0110\n" and numbers == [4, 2]
+    print(f"four growths: {done.stdout.strip()}, counted {numbers}: {'right' if is_right else 'wrong'}")
+    passed, failed = refusing.test(one_growth, many_growths)
+    return refusing.told(passed + is_right, failed + (not is_right))
 
 
 def main():
@@ -90,7 +99,7 @@ def main():
     words = parser.parse_args()
     words.program = os.path.abspath(words.program)
     with tempfile.TemporaryDirectory(prefix="growths") as place:
-        return 1 if refuse(words, pathlib.Path(place)) else 0
+        return refusing.told(*refuse(words, pathlib.Path(place)))
 
 
 if __name__ == "__main__":

@@ -285,6 +285,8 @@ class Judged:
         self.history = history
         self.replies = collections.Counter()
         self.unjudged = collections.Counter()
+        self.outside = []  # the replies that can't be judged: session, place and number of the refusal
+        self.sessions = []
         self.wrong = []
         self.seen = []
         self.durable = 0
@@ -360,6 +362,7 @@ def judge(scripts, output, before=(), has_store=True, is_cut=False):
     take_down_built(history, asked, replies)
     for place, (requests, answers) in enumerate(zip(asked, replies)):
         session = Session(history, requests, answers, len(before), has_store)
+        judged.sessions.append(session)
         judge_session(session, place + 1, judged)
     return judged
 
@@ -383,6 +386,7 @@ def judge_session(session, number, judged):
         try:
             if not session.judge(place):
                 judged.unjudged[kind] += 1
+                judged.outside.append((session, place, code_of(reply)))
         except Wrong as fault:
             asked = request.line() if isinstance(request, model.Refused) else request
             judged.wrong.append(f"script {number}, reply {place + 1}: {reply[:3]}: {fault}; asked {str(asked)[:200]}")

@@ -11,6 +11,7 @@ import judging
 import model
 import read_store
 import stress
+import unproved
 
 HERE = pathlib.Path(__file__).resolve().parent
 FAULT_LINE = re.compile(r"error (\d+) [a-z #0-9]+\n")
@@ -59,10 +60,11 @@ OPENED = Scenario("one script, a store opened", [AFTER], 2, BEFORE)
 
 
 def compiled(name, folder):
-    """Compiles a source beside this file into something that a program can be made to load."""
-    library = folder / (name + ".so")
-    words = ["gcc", "-O1", "-shared", "-fPIC", "-o", str(library), str(HERE / (name + ".c")), "-ldl"]
-    subprocess.run(words, check=True)
+    """Compiles a source beside this file, by the kit's compiler, into something that a program can be made to load."""
+    library, tools = folder / (name + ".so"), unproved.kit() / "toolchain/bin"
+    words = [tools / "clang", "--target=x86_64-unknown-linux-gnu", "--no-default-config", "-fintegrated-cc1", "-O1"]
+    words += ["-fno-builtin", "-fPIC", "-shared", "-nostdlib", f"--ld-path={tools / 'ld.lld'}"]
+    subprocess.run([*words, "-o", library, HERE / (name + ".c")], check=True)
     return library
 
 
@@ -138,18 +140,83 @@ class Runner:
             return replies[0][1:], judging.number_of(replies[1]) - 1
 
 
-def judge_output(scenario, outcome):
+def judge_output(scenario, outcome, allows):
     """Judges the replies; the history and the greatest durable number (None where no session ran)."""
     if not outcome.output:
         if outcome.status != 1 or not FAULT_LINE.fullmatch(outcome.fault):
             raise judging.Wrong(f"no replies, status {outcome.status}, standard error {outcome.fault[:100]!r}")
+        allows(outcome, None)
         return None
     has_store = scenario.before is not None
     is_cut = outcome.status == 1 and outcome.fault != ""
     judged = judging.judge(scenario.scripts, outcome.output, scenario.commands(), has_store, is_cut)
     if judged.wrong:
         raise judging.Wrong(judged.wrong[0])
+    allows(outcome, judged)
     return judged
+
+
+def told_outside(outcome, judged):
+    """The refusals that were told: the lines that no SYNC asked, the SYNCs, and the number on standard error."""
+    if (outcome.status == 0) != (outcome.fault == ""):
+        raise judging.Wrong(f"status {outcome.status}, standard error {outcome.fault[:100]!r}")
+    lines, syncs = [], []
+    for session, place, code in judged.outside if judged else []:
+        is_sync = getattr(session.asked[place], "word", "") == "SYNC"
+        (syncs if is_sync else lines).append((session, place, code))
+    fault = int(FAULT_LINE.fullmatch(outcome.fault)[1]) if outcome.fault else None
+    if outcome.counts[1] == 0 and (lines or syncs or fault is not None):
+        raise judging.Wrong("nothing was refused, and a refusal is told")
+    return lines, syncs, fault
+
+
+def only(codes, allowed):
+    if not set(codes) <= allowed:
+        raise judging.Wrong(f"{sorted(codes)} are told, {sorted(allowed)} may be")
+
+
+def are_cut(judged):
+    """Whether a session ended before all its lines were answered."""
+    return any(len(session.replies) < len(session.asked) for session in judged.sessions)
+
+
+def replies_behind(session, place, word):
+    return [reply for reply in session.replies[place + 1 :] if reply[0].startswith(word)]
+
+
+def one_growth(outcome, judged):
+    """What one refused growth may do: one line is answered by 40; or the store is told of it, which each SYNC tells
+    until the next accepted command; or the run ends with it.
+    """
+    lines, syncs, fault = told_outside(outcome, judged)
+    only({code for _, _, code in lines + syncs}, {40})
+    # 49: a session had no memory for a reply, and ended.
+    only(set() if fault is None else {fault}, {40} if judged and not are_cut(judged) else {40, 49})
+    if len(lines) + bool(syncs) + (fault is not None) > 1:
+        raise judging.Wrong(f"one growth is told by {len(lines)} lines, {len(syncs)} SYNCs and as {fault} at the end")
+    for session, place, _ in syncs:
+        for other, behind, _ in syncs:
+            if other is session and behind > place and any(
+                reply[0].startswith("ok ") for reply in session.replies[place:behind]
+            ):
+                raise judging.Wrong("a SYNC behind an accepted command tells of a growth before it")
+
+
+def many_growths(outcome, judged):
+    """What growths may do that are refused again and again: whatever is told is 40."""
+    lines, syncs, fault = told_outside(outcome, judged)
+    only({code for _, _, code in lines + syncs}, {40})
+    only(set() if fault is None else {fault}, {40, 49})
+
+
+def device(outcome, judged):
+    """What calls of the device may do that fail: each SYNC tells 30 from then on, or the run ends with it."""
+    lines, syncs, fault = told_outside(outcome, judged)
+    only({code for _, _, code in lines}, set())
+    only({code for _, _, code in syncs}, {30})
+    only(set() if fault is None else {fault}, {30})
+    if any(replies_behind(session, place, "durable ") for session, place, _ in syncs):
+        raise judging.Wrong("durable is told behind a SYNC that told 30")
 
 
 def judge_store(runner, outcome, judged):
@@ -183,8 +250,8 @@ def judge_store(runner, outcome, judged):
         raise judging.Wrong("the program opens the store as another version")
 
 
-def judge(runner, outcome):
-    """What is wrong with a run, None where nothing is."""
+def judge(runner, outcome, allows):
+    """What is wrong with a run, None where nothing is; `allows` judges the refusals that were told."""
     if outcome.status is None:
         return f"did not end in {runner.seconds} s"
     if outcome.status not in (0, 1):
@@ -192,7 +259,7 @@ def judge(runner, outcome):
     if outcome.fault and not FAULT_LINE.fullmatch(outcome.fault):
         return f"standard error {outcome.fault[:200]!r}"
     try:
-        judged = judge_output(runner.scenario, outcome)
+        judged = judge_output(runner.scenario, outcome, allows)
         if runner.scenario.before is not None:
             judge_store(runner, outcome, judged)
     except (judging.Wrong, read_store.Damage, subprocess.TimeoutExpired) as fault:
@@ -223,13 +290,13 @@ class Table:
             self.wrong.append(f"{label}: {fault}")
 
 
-def run_all(runner, prefix, settings, may_be_endless=False):
+def run_all(runner, prefix, settings, allows, may_be_endless=False):
     """Runs with each of some settings, a few side by side, and counts."""
     table = Table()
 
     def one(given):
         outcome = runner.run(given, prefix)
-        return given, outcome, judge(runner, outcome)
+        return given, outcome, judge(runner, outcome, allows)
 
     with concurrent.futures.ThreadPoolExecutor(os.cpu_count()) as pool:
         for given, outcome, fault in pool.map(one, settings):
@@ -248,3 +315,84 @@ def print_table(runner, which, calls, table):
     print("| " + " | ".join(map(str, cells)) + " |", flush=True)
     for line in table.wrong[:10]:
         print("    " + line)
+
+
+def told(passed, failed):
+    """Prints the last line, and gives the exit status."""
+    print(f"{passed} passed, {failed} failed")
+    return 1 if failed else 0
+
+
+# ---- self-test
+
+TOLD = Scenario("replies", [[f"PUT A {SQUARE}", "LOCATE A 2 2", "SYNC", f"PUT B {OTHER}", "SYNC"]], 1)
+REPLIES = ["ok 1", "in", "durable 1", "ok 2", "durable 2"]
+OUT = "error 40 out of memory"
+DEVICE = "error 30 device"
+# What may be told by a run of these lines, by what was refused: the replies that differ, by their places, whether
+# something was refused, what is on standard error, and whether that is right.
+CASES = {
+    one_growth: [
+        ({}, 0, "", True),
+        ({}, 1, "", True),
+        ({1: OUT}, 1, "", True),
+        ({1: OUT}, 0, "", False),
+        ({1: DEVICE}, 1, "", False),
+        ({1: "out"}, 1, "", False),
+        ({2: OUT}, 1, "", True),
+        ({2: DEVICE}, 1, "", False),
+        ({2: OUT, 4: OUT}, 1, "", False),
+        ({1: OUT, 2: OUT}, 1, "", False),
+        ({1: OUT, 4: OUT}, 1, "", False),
+        (None, 1, OUT, True),
+        (None, 1, "error 49 write", True),
+        (None, 1, DEVICE, False),
+        (None, 0, OUT, False),
+        ({}, 1, "error 49 write", False),
+        ({1: OUT}, 1, OUT, False),
+    ],
+    many_growths: [
+        ({1: OUT, 2: OUT, 4: OUT}, 2, "", True),
+        ({1: OUT, 2: OUT, 4: OUT}, 0, "", False),
+        ({2: DEVICE}, 2, "", False),
+    ],
+    device: [
+        ({}, 0, "", True),
+        ({}, 1, "", True),
+        ({4: DEVICE}, 1, "", True),
+        ({2: DEVICE, 4: DEVICE}, 1, DEVICE, True),
+        ({4: DEVICE}, 0, "", False),
+        ({2: DEVICE}, 1, "", False),
+        ({1: DEVICE}, 1, "", False),
+        ({1: OUT}, 1, "", False),
+        ({4: OUT}, 1, "", False),
+        (None, 1, DEVICE, True),
+        (None, 1, OUT, False),
+        (None, 0, DEVICE, False),
+    ],
+}
+
+
+def is_right(allows, changed, refused, fault):
+    """Whether a run of the lines above is taken as right."""
+    replies = [] if changed is None else [changed.get(place, reply) for place, reply in enumerate(REPLIES)]
+    output = "".join(reply + "\n" for reply in replies)
+    outcome = Outcome(1 if fault else 0, output, fault + "\n" if fault else "", None, (9, refused))
+    try:
+        judge_output(TOLD, outcome, allows)
+    except judging.Wrong:
+        return False
+    return True
+
+
+def test(*kinds):
+    """Judges the replies above; how many are judged as they have to be, and how many are not."""
+    passed = failed = 0
+    for allows in kinds:
+        for changed, refused, fault, wanted in CASES[allows]:
+            if is_right(allows, changed, refused, fault) == wanted:
+                passed += 1
+            else:
+                print(f"{allows.__name__}: {changed}, {refused} refused, {fault!r}: not {wanted}")
+                failed += 1
+    return passed, failed

@@ -13,10 +13,14 @@ static unsigned char nothing;
 /* The number of the growth that is refused, counted from 1 (0: none), how many there were, how many were refused. */
 static unsigned long chosen, counted, refused;
 
+/* Whether growths are given and not counted. */
+static unsigned long paused;
+
 /* Refuses the k-th growth from here on (0: none). */
 void growths_refuse(unsigned long k)
 {
     chosen = k;
+    paused = 0;
     counted = 0;
     refused = 0;
 }
@@ -28,8 +32,16 @@ unsigned long growths_refused(void)
     return refused;
 }
 
+/* From here on growths are given and not counted, until this is called with 0. */
+void growths_pause(unsigned long is_pause)
+{
+    paused = is_pause;
+}
+
 static int is_refused(void)
 {
+    if (paused)
+        return 0;
     unsigned long number = __atomic_add_fetch(&counted, 1, __ATOMIC_SEQ_CST);
     if (chosen == 0 || number != chosen)
         return 0;

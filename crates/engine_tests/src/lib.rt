@@ -1,8 +1,10 @@
-//! Tests of engines over a disk in memory: lists of steps, and crashes at each of their device calls.
+//! Tests of engines over a disk in memory: lists of steps, crashes at each of their device calls, and one that fails.
 #![tactic(auto)]
 
 #[cfg(test)]
 mod crash_tests;
+#[cfg(test)]
+mod fault_tests;
 #[cfg(test)]
 mod limit_tests;
 #[cfg(test)]

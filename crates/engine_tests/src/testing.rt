@@ -1,4 +1,5 @@
 //! Engines for the tests, and steps by their texts.
+use disk_model::disk::Disk;
 use disk_model::mem_disk::MemDisk;
 use layer_book::command::Command;
 use layer_expr::name::Name;
@@ -66,9 +67,9 @@ fn steps_of(alloc: Global, list: &[Words]) -> Result<Vec<Step>, Fail> {
 }
 
 /// Makes steps, one after the other, and gives the answers.
-pub fn drive(
+pub fn drive<D: Disk>(
     alloc: Global,
-    engine: &mut Engine<MemDisk>,
+    engine: &mut Engine<D>,
     list: &[Words],
 ) -> Result<Vec<Reply>, Fail> {
     let steps = steps_of(alloc, list)?;

@@ -12,6 +12,7 @@ use std::sync::Wait;
 use std::test::Fail;
 use std::thread::Threads;
 use test_disks::fault_disk::FaultDisk;
+use test_disks::stop_disk::StopDisk;
 use tile_workers::gate::OpenGate;
 
 const PUT_A: &[u8] = b"PUT A POLYGON ((0 0, 10 0, 10 10, 0 10, 0 0))\n";
@@ -87,6 +88,34 @@ fn a_sync_is_told_why_nothing_is_stored(rt: HostRuntime) -> Result<(), Fail> {
     let closed = failed.closed;
     let next = next_run(&rt, alloc, closed.disk, b"LAYERS\n")?;
     expect(&rt, &next, 0, "layers 0\n");
+    Ok(())
+}
+
+/// By how many calls the disk passes on before it stops: what a PUT and a SYNC are told, and what is left of the store.
+/// The first five calls make the store, and eight commit a layer, of which the seventh opens the gate.
+const STOPS: &[(u64, &str, &str)] = &[
+    (5, "ok 1\nerror 30 device\n", "layers 0\n"),
+    (11, "ok 1\nerror 30 device\n", "layers 0\n"),
+    (12, "ok 1\nerror 30 device\n", A_LISTED),
+    (13, "ok 1\ndurable 1\n", A_LISTED),
+];
+
+const A_LISTED: &str = "layers 1\nA MULTIPOLYGON (((0 0, 10 0, 10 10, 0 10, 0 0)))\n";
+
+#[test]
+fn a_disk_that_stops_has_what_was_told_durable(rt: HostRuntime) -> Result<(), Fail> {
+    let alloc = rt.alloc();
+    for &(calls, told, left) in STOPS {
+        let disk = StopDisk::new(empty_disk(alloc)?, calls);
+        let stopped = first_run(&rt, alloc, disk, 200, PUT_AND_SYNC)?;
+        expect(&rt, &stopped, 0, told);
+        let below = match stopped.closed.disk {
+            Some(disk) => Some(disk.into_disk()),
+            None => None,
+        };
+        let next = next_run(&rt, alloc, below, b"LAYERS\n")?;
+        expect(&rt, &next, 0, left);
+    }
     Ok(())
 }
 

@@ -1,0 +1,46 @@
+//! What an engine answers where a device call fails.
+use crate::testing::{CREATED, SQUARE, Words, drive, recovered};
+use disk_model::mem_disk::MemDisk;
+use overlay_engine::engine::Engine;
+use overlay_engine::step::Reply;
+use std::alloc::Global;
+use std::test::Fail;
+use test_disks::fault_disk::FaultDisk;
+
+/// A layer, and four device steps of its commit.
+const STEPS: &[Words] = &[
+    Words::Put("A", SQUARE),
+    Words::Device,
+    Words::Device,
+    Words::Device,
+    Words::Device,
+];
+
+/// The third of them fails.
+const ANSWERS: &[Reply] = &[
+    Reply::Accepted(1),
+    Reply::Going,
+    Reply::Going,
+    Reply::Refused(30),
+    Reply::Refused(35),
+];
+
+/// An engine over an empty file on a disk whose third call behind those that make the store fails.
+fn failing(alloc: Global) -> Result<Engine<FaultDisk<MemDisk>>, Fail> {
+    let disk = MemDisk::new(alloc, Vec::new(alloc))?;
+    match Engine::create(alloc, FaultDisk::new(disk, CREATED as u64 + 2), 100) {
+        Ok(engine) => Ok(engine),
+        Err(refused) => Err(Fail::from(refused.fault)),
+    }
+}
+
+#[test]
+fn a_commit_whose_third_call_fails_leaves_the_version_before(rt: HostRuntime) -> Result<(), Fail> {
+    let mut engine = failing(rt.alloc())?;
+    let replies = drive(rt.alloc(), &mut engine, STEPS)?;
+    assert!(rt; replies.as_slice() == ANSWERS);
+    // The disk works again.
+    let left = recovered(rt.alloc(), engine.into_disk().into_disk())?;
+    assert_eq!(rt; left.version().number(), 0);
+    Ok(())
+}
