@@ -16,3 +16,5 @@ pub mod InReach
 pub mod InputReach
 pub mod SameMarks
 pub mod TouchedLemmas
+pub mod Sketches
+pub mod BatchRefusals

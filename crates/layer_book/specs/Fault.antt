@@ -2,7 +2,7 @@
 use Rattle.std.specs.Prelude.{◌≡◌, ◌⊎◌, ℕ, List, codes, Option, Some, None}
 use Rattle.overlay_terms.specs.Commands.{Refusal, unknown_layer, not_base, not_derived, later_layer, in_use, too_many_layers, version_limit}
 use Rattle.layer_book.specs.declared.fault.LayerFault.{LayerFault}
-use Rattle.layer_book.specs.declared.fault.LayerFault.TheVariants.{UnknownLayer, NotBase, NotDerived, LaterLayer, InUse, TooManyLayers, VersionLimit, BadColumn, OutOfMemory}
+use Rattle.layer_book.specs.declared.fault.LayerFault.TheVariants.{UnknownLayer, NotBase, NotDerived, LaterLayer, InUse, TooManyLayers, VersionLimit, BatchSize, BadColumn, OutOfMemory}
 
 -- the number under which a fault is printed
 abbrev pub code_of : LayerFault → ℕ
@@ -13,6 +13,7 @@ code_of LaterLayer = 13
 code_of InUse = 14
 code_of TooManyLayers = 15
 code_of VersionLimit = 16
+code_of BatchSize = 17
 code_of BadColumn = 23
 code_of OutOfMemory = 40
 
@@ -25,6 +26,7 @@ text_of LaterLayer = codes "later layer"
 text_of InUse = codes "in use"
 text_of TooManyLayers = codes "too many layers"
 text_of VersionLimit = codes "version limit"
+text_of BatchSize = codes "batch size"
 text_of BadColumn = codes "bad column"
 text_of OutOfMemory = codes "out of memory"
 

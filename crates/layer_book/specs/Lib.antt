@@ -1,6 +1,8 @@
 pub mod Fault
 pub mod Layer
 pub mod Command
+pub mod BatchFault
+pub mod Sketch
 pub mod Place
 pub mod Listing
 pub mod Question

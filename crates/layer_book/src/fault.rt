@@ -18,6 +18,8 @@ pub enum LayerFault {
     InUse,
     TooManyLayers,
     VersionLimit,
+    /// A batch of no command, or of too many.
+    BatchSize,
     /// No column has the number.
     BadColumn,
     OutOfMemory,
@@ -36,6 +38,7 @@ impl LayerFault {
             LayerFault::InUse => 14,
             LayerFault::TooManyLayers => 15,
             LayerFault::VersionLimit => 16,
+            LayerFault::BatchSize => 17,
             LayerFault::BadColumn => 23,
             LayerFault::OutOfMemory => 40,
         }
@@ -66,6 +69,7 @@ impl fmt::Display for Text {
             LayerFault::InUse => write!(f, "in use"),
             LayerFault::TooManyLayers => write!(f, "too many layers"),
             LayerFault::VersionLimit => write!(f, "version limit"),
+            LayerFault::BatchSize => write!(f, "batch size"),
             LayerFault::BadColumn => write!(f, "bad column"),
             LayerFault::OutOfMemory => write!(f, "out of memory"),
         }

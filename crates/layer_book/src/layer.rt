@@ -68,7 +68,8 @@ impl Layer {
     }
 }
 
-fn node_uses(node: &Node, name: &Name) -> bool
+/// Whether an expression names the name, by its root.
+pub(crate) fn node_uses(node: &Node, name: &Name) -> bool
     ensures { result ≡ list_any (λ used. bytes_eq used name.now) (leaves (tree node.now)) }
 {
     match node {

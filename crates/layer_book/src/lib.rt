@@ -2,6 +2,9 @@
 #![tactic(auto)]
 
 pub mod applying;
+pub mod applying_all;
+pub mod batch;
+pub mod batch_fault;
 pub mod command;
 mod comparing;
 pub mod direct_answer;
@@ -12,9 +15,12 @@ pub mod layers;
 pub mod listing;
 pub mod question;
 pub mod reach;
+mod sketch;
 pub mod touching;
 pub mod wanted_layers;
 
+pub use batch::{BATCH_MAX, Batch};
+pub use batch_fault::BatchFault;
 pub use command::Command;
 pub use direct_answer::Place;
 pub use fault::LayerFault;

@@ -41,6 +41,7 @@ no_layer_fault layer.LaterLayer is = omega (arith, is)
 no_layer_fault layer.InUse is = omega (arith, is)
 no_layer_fault layer.TooManyLayers is = omega (arith, is)
 no_layer_fault layer.VersionLimit is = omega (arith, is)
+no_layer_fault layer.BatchSize is = omega (arith, is)
 no_layer_fault layer.BadColumn is = omega (arith, is)
 no_layer_fault layer.OutOfMemory is = omega (arith, is)
 

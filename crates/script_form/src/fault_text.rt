@@ -101,6 +101,7 @@ fn layer_text(fault: LayerFault) -> FaultText
         LayerFault::InUse => "in use",
         LayerFault::TooManyLayers => "too many layers",
         LayerFault::VersionLimit => "version limit",
+        LayerFault::BatchSize => "batch size",
         LayerFault::BadColumn => "bad column",
         LayerFault::OutOfMemory => "out of memory",
     })

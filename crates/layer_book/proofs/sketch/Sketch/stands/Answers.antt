@@ -1,0 +1,11 @@
+use Rattle.std.proofs.Common.{◌∙◌, ap, bytes_eq}
+use Rattle.std.specs.List.{list_any}
+use Rattle.layer_book.specs.Sketch.{entry_layer}
+use Rattle.layer_book.proofs.Sketches.{any_entry}
+use Rattle.layer_book.proofs.sketch.Sketch.stands.Goals as goal
+
+pub returns : goal.returns
+returns c =
+    let name = c.args.name.now in
+    c.is_any_named.ensures ∙ ap (list_any (λ e. bytes_eq (entry_layer e).name name)) c.as_slice.ensures.value
+    ∙ any_entry (λ layer. bytes_eq layer.name name) c.args.self.now.entries.items
