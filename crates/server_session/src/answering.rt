@@ -6,7 +6,7 @@ ghost use Rattle.book_history.specs.Known.{seen};
 ghost use Rattle.layer_book.specs.Command.{command};
 ghost use Rattle.script_form.specs.LineReply.{reply_text};
 ghost use Rattle.script_form.specs.Request.{request};
-ghost use Rattle.script_form.specs.Requests.{locate, grid, list_layers, edges, wait, verify, sync};
+ghost use Rattle.script_form.specs.Requests.{put, locate, grid, list_layers, edges, wait, verify, sync};
 ghost use Rattle.script_form.specs.Transcript.{asked_column};
 ghost use Rattle.server_session.specs.Answering.{Answers, Submits, result_text};
 ghost use Rattle.server_session.specs.Turn.{Stays, TakesTurn};
@@ -60,10 +60,7 @@ fn answer_request<J: Naming, S: Wait + Drop, Q: Wait + Threads + Sync>(
         Request::Nothing => Ok(LineReply::Nothing),
         Request::TooLong => Err(CommandFault::LineTooLong),
         Request::Malformed => Err(CommandFault::CommandSyntax),
-        Request::Put(name, text) => {
-            let change = read_put(alloc, name, text)?;
-            submit(rt, alloc, shared, me, &change)
-        }
+        Request::Put(name, text) => answer_put(rt, alloc, shared, me, name, text),
         Request::Define(name, text) => {
             let change = read_define(alloc, name, text)?;
             submit(rt, alloc, shared, me, &change)
@@ -82,6 +79,21 @@ fn answer_request<J: Naming, S: Wait + Drop, Q: Wait + Threads + Sync>(
         Request::Verify(name, number) => answer_verify(alloc, me, name, number),
         Request::Sync => answer_sync(rt, shared, me),
     }
+}
+
+fn answer_put<J: Naming, S: Wait + Drop, Q: Wait>(
+    rt: &Q,
+    alloc: Global,
+    shared: &Shared<J, S>,
+    me: &mut Session,
+    name: &[u8],
+    text: &[u8],
+) -> Result<LineReply, CommandFault>
+    requires { me.old.book ≡ J.book }
+    ensures { Answers (has_store shared.now) me.old (put name.now text.now) me.new (result_text result) }
+{
+    let change = read_put(alloc, name, text)?;
+    submit(rt, alloc, shared, me, &change)
 }
 
 /// The reply to a command.
