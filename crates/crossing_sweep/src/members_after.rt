@@ -1,11 +1,10 @@
 //! The members that go on after a place, with those that enter there.
 ghost use Rattle.std.specs.Prelude.{pos, ◌≤ℤ◌, AllPairs, ◌≡◌, ◌++◌, map, filter, IfOk, OnOk};
-ghost use Rattle.overlay_terms.specs.Plane.{point_cmp, whole};
 ghost use Rattle.std.specs.List.{prefix_len};
 ghost use Rattle.std.specs.List.Sorted.{IsPermutation};
 ghost use Rattle.exact_point.specs.Crossing.{turn_of};
 ghost use Rattle.exact_point.specs.Place.{place, same_hpoint};
-ghost use Rattle.crossing_sweep.specs.Member.{units_of, seg_of, segs_of, ends_after};
+ghost use Rattle.crossing_sweep.specs.Member.{units_of, segs_of, ends_after};
 
 use crate::member::{Begin, Member};
 use crate::start::Start;

@@ -1,5 +1,5 @@
 use Rattle.std.proofs.Common.{◌≡◌, ◌≤◌, ◌⊎◌, subst, sym}
-use Rattle.overlay_terms.specs.Histories.{BeginsWith, newest}
+use Rattle.overlay_terms.specs.Histories.{BeginsWith}
 use Rattle.book_history.specs.Logs.{history_of, newest_in}
 use Rattle.book_history.proofs.Chains.{is_history}
 use Rattle.version_book.specs.Heard.{Heard}
