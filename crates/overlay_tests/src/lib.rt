@@ -5,6 +5,8 @@
 #[cfg(test)]
 mod arrangement_tests;
 #[cfg(test)]
+mod batch_tests;
+#[cfg(test)]
 mod book_tests;
 #[cfg(test)]
 mod books;

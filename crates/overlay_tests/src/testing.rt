@@ -95,6 +95,8 @@ pub enum Change {
     Put(&'static str, Corners),
     /// The text of a derived layer.
     Define(&'static str, &'static str),
+    /// A layer that is taken out.
+    Remove(&'static str),
 }
 
 /// The command that makes a change.
@@ -102,6 +104,7 @@ pub fn command(rt: &impl Abort, alloc: Global, change: &Change) -> Command {
     match change {
         Change::Put(name, corners) => put(rt, alloc, name, corners),
         Change::Define(name, text) => define(rt, alloc, name, text),
+        Change::Remove(name) => Command::Remove(name_of(rt, alloc, name)),
     }
 }
 

@@ -1,5 +1,6 @@
 pub mod TileLists
 pub mod NextVersion
+pub mod NextBatch
 pub mod PendingLemmas
 pub mod EdgeLemmas
 pub mod VerdictLemmas

@@ -38,14 +38,14 @@ pub raised : (number top : ℕ) → number ≤ top → number ≢ top → number
 raised number top low other = omega arith
 
 -- the tiles that a command leaves are of derived layers that stand
-fit_kept : (layers : List Layer) (command : Command) (tiles : List Finished) (name : Name) (k : ℕ) (tile : Tile) (b : Bool) → is_touched layers command name k ≡ b → (tile_at tiles name k ≡ Some tile → IsTrue (stands_as_derived layers name) × (k < column_count)) → (if not b then tile_at tiles name k else None) ≡ Some tile → IsTrue (stands_as_derived (applied layers command) name) × (k < column_count)
+pub fit_kept : (layers : List Layer) (command : Command) (tiles : List Finished) (name : Name) (k : ℕ) (tile : Tile) (b : Bool) → is_touched layers command name k ≡ b → (tile_at tiles name k ≡ Some tile → IsTrue (stands_as_derived layers name) × (k < column_count)) → (if not b then tile_at tiles name k else None) ≡ Some tile → IsTrue (stands_as_derived (applied layers command) name) × (k < column_count)
 fit_kept layers command tiles name k tile true touched fit there = absurd (cc)
 fit_kept layers command tiles name k tile false out fit there =
     let old = fit there in
     (((untouched_input_stays layers command name k old.0).0 out).still_derived, old.1)
 
 -- the tiles that a command leaves have their form
-formed_kept : (b : Bool) (before : Option Tile) (tile : Tile) (k : ℕ) → (before ≡ Some tile → IsTrue (is_formed tile k)) → (if not b then before else None) ≡ Some tile → IsTrue (is_formed tile k)
+pub formed_kept : (b : Bool) (before : Option Tile) (tile : Tile) (k : ℕ) → (before ≡ Some tile → IsTrue (is_formed tile k)) → (if not b then before else None) ≡ Some tile → IsTrue (is_formed tile k)
 formed_kept true before tile k valid there = absurd (cc)
 formed_kept false before tile k valid there = valid there
 

@@ -1,8 +1,9 @@
 -- Finished tiles of the code as those of the definitions.
-use Rattle.std.specs.Prelude.{◌≡◌, ℕ, ◌==◌, Bool, false, ◌&&◌, not, IsTrue, List, filter, Some, bytes_eq}
+use Rattle.std.specs.Prelude.{◌≡◌, ℕ, ◌==◌, Bool, false, ◌&&◌, not, IsTrue, List, [], ◌∷◌, filter, Some, bytes_eq}
 use Rattle.std.specs.List.{AllPairs}
 use Rattle.overlay_terms.specs.Layers.{Name, Layer}
-use Rattle.overlay_terms.specs.Commands.{Command}
+use Rattle.overlay_terms.specs.Commands.{Command, applied}
+use Rattle.overlay_terms.specs.Batches.{Batch}
 use Rattle.overlay_terms.specs.Touched.{is_touched}
 use Rattle.overlay_terms.specs.Histories.{Finished, tile_at, is_formed}
 use Rattle.overlay_terms.specs.Histories as terms
@@ -28,3 +29,9 @@ AreFormed tiles = (name : Name) (k : ℕ) (tile : terms.Tile) → tile_at tiles 
 -- the tiles that a command does not touch
 abbrev pub untouched : List Layer → Command → List Finished → List Finished
 untouched layers command tiles = filter (λ f. not (is_touched layers command f.name f.column)) tiles
+
+-- the tiles that no command of a batch touches, each among the layers that it meets
+abbrev pub untouched_all : List Layer → Batch → List Finished → List Finished
+untouched_all layers [] tiles = tiles
+untouched_all layers (command ∷ commands) tiles =
+    untouched_all (applied layers command) commands (untouched layers command tiles)

@@ -10,6 +10,7 @@ pub mod pending_tiles;
 pub mod reporting;
 pub mod restoring;
 pub mod submitting;
+pub mod submitting_all;
 pub mod tiles;
 pub mod verifying;
 pub mod version;

@@ -54,7 +54,7 @@ impl Version {
 }
 
 /// The finished tiles that a command does not touch, in order. They are shared.
-fn untouched(
+pub(crate) fn untouched(
     alloc: Global,
     tiles: &[FinishedTile],
     layers: &Layers,
