@@ -2,168 +2,23 @@
 
 python3 bench/store.py [PROGRAM]
 
-Copies the repository with what it has built, adds a small program over the store's crates and builds it, which proves what
-has no proof yet; PROGRAM is such a program that was built before (it stays nowhere else). The files and records that it is
-given are written here, byte by byte, as docs/FORMAT.md has them. Processor times, the best of five runs less those without
-the work, each on a disk in memory.
+Builds the program of bench/store over the store's crates (bench/proved.py); PROGRAM is such a program that was built
+before (it stays nowhere else). The files and records that it is given are written here, byte by byte, as docs/FORMAT.md
+has them. Processor times, the best of five runs less those without the work, each on a disk in memory.
 """
 
 import pathlib
 import resource
-import shutil
 import struct
 import subprocess
 import sys
 import tempfile
 
-TOP = pathlib.Path(__file__).resolve().parent.parent
+import proved
+
+HERE = pathlib.Path(__file__).resolve().parent
+CRATES = ["overlay_terms", "disk_model", "tile_build", "record_bytes", "record_form", "root_store"]
 BLOCK = 4096
-
-SOURCE = r"""//! Works on the bytes of a record or a file so many times, for bench/store.py.
-#![tactic(auto)]
-ghost use Rattle.std.specs.Prelude.{IsTrue};
-ghost use Rattle.overlay_terms.specs.Histories.{is_formed};
-ghost use Rattle.tile_build.specs.Tile.{tile_of};
-
-use disk_model::mem_disk::{Call, MemDisk};
-use record_form::base_record::{read_base, write_base};
-use record_form::image::Image;
-use record_form::tile_record::{read_tile, write_tile};
-use root_store::commit::Commit;
-use root_store::opening::open;
-use root_store::phase::Progress;
-use std::alloc::Global;
-use std::test::Fail;
-use std::{env, fs};
-use tile_build::Tile;
-
-/// The column of the tiles that are measured.
-const COLUMN: u8 = 8;
-
-/// The store on a disk, and what it holds.
-fn opened(alloc: Global, disk: MemDisk) -> Result<(Commit<MemDisk>, Image), Fail> {
-    match open(alloc, disk, 1048576) {
-        Ok(store) => Ok(store),
-        Err(refused) => Err(Fail::from(refused.fault)),
-    }
-}
-
-/// The disk after a commit of what it holds.
-fn committed(alloc: Global, disk: MemDisk) -> Result<MemDisk, Fail> {
-    let (mut store, image) = opened(alloc, disk)?;
-    if store.busy() {
-        return Err(Fail::new("busy"));
-    }
-    store.begin(alloc, image)?;
-    for _ in 0..u64::MAX {
-        if store.step()? != Progress::Going {
-            break;
-        }
-    }
-    Ok(store.into_disk())
-}
-
-/// Opens a file so many times, or opens it and commits what it holds.
-fn open_often(alloc: Global, file: Vec<u8>, times: u32, commits: bool) -> Result<MemDisk, Fail> {
-    let mut disk = MemDisk::new(alloc, file)?;
-    for _ in 0..times {
-        disk = if commits {
-            committed(alloc, disk)?
-        } else {
-            opened(alloc, disk)?.0.into_disk()
-        };
-    }
-    Ok(disk)
-}
-
-/// How many bytes a call writes.
-fn written(call: &Call) -> usize {
-    match call {
-        Call::Write(_, bytes) => bytes.len(),
-        _ => 0,
-    }
-}
-
-/// Reads a record so many times, and gives a number that depends on it.
-fn read(alloc: Global, is_tile: bool, record: &[u8], times: u32) -> Result<usize, Fail> {
-    let mut sum = 0usize;
-    for _ in 0..times {
-        let size = if is_tile {
-            usize::from(matches!(read_tile(alloc, COLUMN, record)?, Tile::Oversize))
-        } else {
-            read_base(alloc, record)?.rings().len()
-        };
-        sum = sum.wrapping_add(size);
-    }
-    Ok(sum)
-}
-
-/// Writes a tile so many times.
-fn write_often(alloc: Global, tile: &Tile, times: u32) -> Result<usize, Fail>
-    requires { IsTrue (is_formed (tile_of tile.now) 8) }
-{
-    let mut sum = 0usize;
-    for _ in 0..times {
-        sum = sum.wrapping_add(write_tile(alloc, COLUMN, tile)?.len());
-    }
-    Ok(sum)
-}
-
-/// Reads a tile, and writes it so many times.
-#[tactic(auto, using(record_bytes::proofs::StoredLemmas::read_has_form))]
-fn write_tiles(alloc: Global, record: &[u8], times: u32) -> Result<usize, Fail> {
-    let tile = read_tile(alloc, COLUMN, record)?;
-    write_often(alloc, &tile, times)
-}
-
-/// Writes a base layer so many times.
-fn write_bases(alloc: Global, record: &[u8], times: u32) -> Result<usize, Fail> {
-    let layer = read_base(alloc, record)?;
-    let mut sum = 0usize;
-    for _ in 0..times {
-        sum = sum.wrapping_add(write_base(alloc, &layer)?.len());
-    }
-    Ok(sum)
-}
-
-/// The calls of one commit on a disk whose gates were open, and how many bytes they write.
-fn count(disk: &MemDisk) -> (usize, usize) {
-    let mut calls = 0usize;
-    let mut bytes = 0usize;
-    for call in disk.calls() {
-        // Opening makes no write before the commit.
-        if calls > 0 || written(call) > 0 {
-            calls = calls.saturating_add(1);
-            bytes = bytes.saturating_add(written(call));
-        }
-    }
-    (calls, bytes)
-}
-
-fn main(rt: HostRuntime) -> Result<(), Fail> {
-    let mut words = env::args(&rt)?;
-    words.next();
-    let (Some(word), Some(path), Some(times)) = (words.next(), words.next(), words.next()) else {
-        return Err(Fail::new("WORD FILE TIMES"));
-    };
-    let file = fs::read(&rt, path.as_str())?;
-    let times = times.parse::<u32>()?;
-    let (first, second) = match word.as_str() {
-        "read_base" => (read(rt.alloc(), false, &file, times)?, 0),
-        "read_tile" => (read(rt.alloc(), true, &file, times)?, 0),
-        "write_base" => (write_bases(rt.alloc(), &file, times)?, 0),
-        "write_tile" => (write_tiles(rt.alloc(), &file, times)?, 0),
-        "open" => count(&open_often(rt.alloc(), file, times, false)?),
-        _ => count(&open_often(rt.alloc(), file, times, true)?),
-    };
-    println!(rt; "{first} {second}")?;
-    Ok(())
-}
-"""
-
-CRATES = (
-    "store_bench: overlay_terms plane_base layer_expr disk_model extent_map store_terms tile_build layer_book record_bytes record_form root_reading commit_plan root_store\n"
-)
 
 
 def base_record(points):
@@ -225,16 +80,7 @@ def store(layers):
 
 
 def built(folder):
-    copy = pathlib.Path(folder) / "copy"
-    shutil.copytree(TOP, copy, symlinks=True)
-    source = copy / "crates/store_bench/src"
-    source.mkdir(parents=True)
-    (source / "main.rt").write_text(SOURCE)
-    with open(copy / "crates.txt", "a") as crates:
-        crates.write(CRATES)
-    words = ["rt", "run", "--", "read_tile", "/dev/null", "0"]
-    subprocess.run(words, cwd=source.parent, stdin=subprocess.DEVNULL, stdout=subprocess.DEVNULL, check=True)
-    return source.parent / "out/store_bench"
+    return proved.built(HERE / "store", CRATES, folder, ["read_tile", "/dev/null", "0"])
 
 
 def processor():

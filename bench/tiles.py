@@ -3,8 +3,8 @@
 python3 bench/tiles.py inputs [PROGRAM]
 python3 bench/tiles.py times [PROGRAM]
 
-Copies the crates up to tile_build and layer_book with what they have built, adds a small program over their calls and
-builds it, which proves what has no proof yet; PROGRAM is such a program that was built before.
+Builds the program of bench/tiles over tile_build and layer_book (bench/proved.py); PROGRAM is such a program that was
+built before.
 
 inputs: 2,000 inputs from fixed seeds, a quarter of them at full coordinates, most with edges that touch, overlap, stand
 upright or are cut by a border of the column. Of each the tiles of `build` and `build_counted` are compared by their ends
@@ -18,253 +18,25 @@ than two seconds.
 import math
 import pathlib
 import resource
-import shutil
 import subprocess
 import sys
 import tempfile
 
-TOP = pathlib.Path(__file__).resolve().parent.parent
+import proved
+
+HERE = pathlib.Path(__file__).resolve().parent
 COORDINATE_MAX = 2**20
 WIDTH = 2**17
 COLUMNS = 17
 
-MAIN = r"""//! Builds tiles of given inputs by the pass and by all pairs, for bench/tiles.py.
-#![tactic(auto)]
-
-mod building;
-mod comparing;
-mod reading;
-
-use crate::building::build_often;
-use crate::comparing::compare_all;
-use crate::reading::next_input;
-use std::test::Fail;
-use std::{env, fs};
-
-/// The line of a process's status that tells the most memory that it has had.
-fn peak(status: &str) -> &str {
-    for line in status.lines() {
-        if line.starts_with("VmHWM:") {
-            return line;
-        }
-    }
-    ""
-}
-
-fn main(rt: HostRuntime) -> Result<(), Fail> {
-    let mut words = env::args(&rt)?;
-    words.next();
-    let (Some(word), Some(path), Some(cap), Some(times)) = (
-        words.next(),
-        words.next(),
-        words.next(),
-        words.next(),
-    ) else {
-        return Err(Fail::new("WORD FILE CAP TIMES"));
-    };
-    let text = fs::read_to_string(&rt, path.as_str())?;
-    let mut lines = text.lines();
-    if word.as_str() == "compare" {
-        let sums = compare_all(rt.alloc(), &mut lines)?;
-        println!(rt;
-            "{} {} {} {}",
-            sums.inputs, sums.tiles, sums.pieces, sums.differences
-        )?;
-        return Ok(());
-    }
-    let Some(input) = next_input(rt.alloc(), &mut lines)? else {
-        return Err(Fail::new("no input"));
-    };
-    let (cap, times) = (cap.parse::<usize>()?, times.parse::<u32>()?);
-    let size = build_often(rt.alloc(), &input, word.as_str() == "pairs", cap, times)?;
-    let status = fs::read_to_string(&rt, "/proc/self/status")?;
-    println!(rt; "{size} {}", peak(status.as_str()))?;
-    Ok(())
-}
-"""
-
-READING = r"""//! Inputs of tiles from lines of a text.
-use arrange::TileInput;
-use layer_book::command::Command;
-use layer_book::layers::Layers;
-use layer_expr::name::Name;
-use layer_expr::reading::read_expr;
-use std::alloc::Global;
-use std::str::Lines;
-use std::sync::Arc;
-use std::test::Fail;
-use wkt_form::reading::read_wkt;
-
-fn put(alloc: Global, name: &str, text: &str) -> Result<Command, Fail> {
-    let rings = read_wkt(alloc, text.as_bytes())?;
-    Ok(Command::Put(Name::new(alloc, name.as_bytes())?, Arc::new(alloc, rings)?))
-}
-
-fn define(alloc: Global, name: &str, text: &str) -> Result<Command, Fail> {
-    let expression = read_expr(alloc, text.as_bytes())?;
-    Ok(Command::Define(
-        Name::new(alloc, name.as_bytes())?,
-        Arc::new(alloc, expression)?,
-    ))
-}
-
-fn after(alloc: Global, layers: Layers, change: Command) -> Result<Layers, Fail> {
-    Ok(layers.apply(alloc, &change)?)
-}
-
-/// The layers A and B of these texts, and I by a definition.
-fn layers_of(alloc: Global, first: &str, second: &str, definition: &str) -> Result<Layers, Fail> {
-    let one = after(alloc, Layers::new(alloc), put(alloc, "A", first)?)?;
-    let two = after(alloc, one, put(alloc, "B", second)?)?;
-    after(alloc, two, define(alloc, "I", definition)?)
-}
-
-/// The next input: a line with its column, one with a definition, and one for each of the layers A and B.
-pub fn next_input(alloc: Global, lines: &mut Lines<'_>) -> Result<Option<TileInput>, Fail> {
-    let (Some(column), Some(definition), Some(first), Some(second)) = (
-        lines.next(),
-        lines.next(),
-        lines.next(),
-        lines.next(),
-    ) else {
-        return Ok(None);
-    };
-    let layers = layers_of(alloc, first, second, definition)?;
-    let name = Name::new(alloc, b"I")?;
-    Ok(Some(layers.input(alloc, &name, column.parse::<u8>()?)?))
-}
-"""
-
-BUILDING = r"""//! Building one tile again and again.
-use arrange::TileInput;
-use std::alloc::Global;
-use std::test::Fail;
-use tile_build::{Tile, build, build_by_pairs};
-
-/// How many pieces a tile holds.
-pub fn size_of(tile: &Tile) -> usize {
-    match tile {
-        Tile::Pieces(pieces) => pieces.len(),
-        Tile::Oversize => 0,
-    }
-}
-
-/// Builds the tile of an input so many times by one of the bodies, and gives its size.
-pub fn build_often(
-    alloc: Global,
-    input: &TileInput,
-    by_pairs: bool,
-    cap: usize,
-    times: u32,
-) -> Result<usize, Fail> {
-    let mut size = 0;
-    for _ in 0..times {
-        let tile = if by_pairs {
-            build_by_pairs(alloc, input, cap)?
-        } else {
-            build(alloc, input, cap)?
-        };
-        size = size_of(&tile);
-    }
-    Ok(size)
-}
-"""
-
-COMPARING = r"""//! Tiles by the pass beside tiles by all pairs.
-use crate::building::size_of;
-use crate::reading::next_input;
-use arrange::TileInput;
-use std::alloc::Global;
-use std::str::Lines;
-use std::test::Fail;
-use tile_build::{build, build_by_pairs, build_counted};
-
-/// What was compared: inputs, tiles that the pass built for them, pieces of the whole tiles, and tiles of the pass that
-/// differ by their ends from those by all pairs.
-#[derive(Clone, Copy)]
-pub struct Sums {
-    pub inputs: u64,
-    pub tiles: u64,
-    pub pieces: usize,
-    pub differences: u64,
-}
-
-impl Sums {
-    /// One tile more of the pass.
-    fn add(&mut self, is_same: bool) {
-        self.tiles = self.tiles.saturating_add(1);
-        if !is_same {
-            self.differences = self.differences.saturating_add(1);
-        }
-    }
-}
-
-fn compare_at(alloc: Global, input: &TileInput, cap: usize, sums: &mut Sums) -> Result<(), Fail> {
-    let plain = build_by_pairs(alloc, input, cap)?;
-    let counted = build_counted(alloc, input, cap)?;
-    let built = build(alloc, input, cap)?;
-    sums.add(counted.tile.is_same(&plain));
-    sums.add(built.is_same(&plain));
-    Ok(())
-}
-
-fn compare(alloc: Global, input: &TileInput, sums: &mut Sums) -> Result<(), Fail> {
-    let size = size_of(&build_by_pairs(alloc, input, usize::MAX)?);
-    sums.inputs = sums.inputs.saturating_add(1);
-    sums.pieces = sums.pieces.saturating_add(size);
-    for &cap in &[0, size.saturating_sub(1), size] {
-        compare_at(alloc, input, cap, sums)?;
-    }
-    Ok(())
-}
-
-/// Compares the tiles of all inputs of a text.
-pub fn compare_all(alloc: Global, lines: &mut Lines<'_>) -> Result<Sums, Fail> {
-    let mut sums = Sums {
-        inputs: 0,
-        tiles: 0,
-        pieces: 0,
-        differences: 0,
-    };
-    for _ in 0..u64::MAX {
-        let Some(input) = next_input(alloc, lines)? else {
-            break;
-        };
-        compare(alloc, &input, &mut sums)?;
-    }
-    Ok(sums)
-}
-"""
-
-CRATES = ["overlay_terms", "plane_base", "wkt_form", "exact_point", "layer_expr", "arrange", "tile_build", "layer_book"]
+CRATES = ["wkt_form", "layer_expr", "arrange", "tile_build", "layer_book"]
 
 
 # The program
 
 
-def needed(crates):
-    """The lines of crates.txt of these crates and of all below them."""
-    lines = {line.split(":")[0]: line for line in (TOP / "crates.txt").read_text().splitlines()}
-    found = set(crates)
-    for crate in reversed(lines):
-        if crate in found:
-            found.update(lines[crate].split(":")[1].split())
-    return {crate: line for crate, line in lines.items() if crate in found}
-
-
 def built(folder):
-    copy = pathlib.Path(folder) / "copy"
-    lines = needed(CRATES)
-    for crate in lines:
-        shutil.copytree(TOP / "crates" / crate, copy / "crates" / crate)
-    source = copy / "crates/tile_bench/src"
-    source.mkdir(parents=True)
-    for name, text in [("main", MAIN), ("reading", READING), ("building", BUILDING), ("comparing", COMPARING)]:
-        (source / f"{name}.rt").write_text(text)
-    (copy / "crates.txt").write_text("\n".join([*lines.values(), "tile_bench: " + " ".join(CRATES), ""]))
-    words = ["rt", "run", "--", "compare", "/dev/null", "0", "0"]
-    subprocess.run(words, cwd=source.parent, stdin=subprocess.DEVNULL, stdout=subprocess.DEVNULL, check=True)
-    return source.parent / "out/tile_bench"
+    return proved.built(HERE / "tiles", CRATES, folder, ["compare", "/dev/null", "0", "0"])
 
 
 def text_of(layer):
@@ -591,4 +363,5 @@ def main():
         {"inputs": compare, "times": measure}[word](program, folder)
 
 
-main()
+if __name__ == "__main__":
+    main()

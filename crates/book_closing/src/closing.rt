@@ -63,7 +63,8 @@ pub fn close<J: Naming, R: Wait + Drop, D: Disk, W: Wait>(
         → IfSome result.disk (λ disk. Leaves D.Disk disk
         (IsFileExactlyIn (history_of result.trace.log) result.stored))) }
 {
-    let _given = reporter.given();
+    // What the reporter has seen is a log with a first entry: the clauses rest on that.
+    let _ = reporter.given();
     let closed = shared.into_closed(rt, &reporter, &sessions);
     let (stored, disk) = left_of(flusher);
     Closed {

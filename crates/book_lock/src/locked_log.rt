@@ -99,6 +99,7 @@ impl<J: Naming, R: Wait + Drop> LockedLog<J, R> {
         ensures log { IsLog self.now }
     {
         let last = self.publisher.published();
+        // What was seen is a log with a first entry: the clauses rest on that.
         let _ = last.trace.at();
         last
     }
@@ -167,7 +168,8 @@ impl<J: Naming, R: Wait + Drop> LockedLog<J, R> {
         } = self;
         let last = Box::into_inner(publisher.take(&rt));
         let (version, trace) = last.into_parts();
-        let _at = trace.at();
+        // What was seen is a log with a first entry: the clauses rest on that.
+        let _ = trace.at();
         Closed { version, trace }
     }
 

@@ -52,6 +52,7 @@ impl Session {
         requires newest { (newest_in trace.log).number ≡ newest }
         ensures { result ≡ record { book = trace.book; session = number; log = trace.log; made = [] } }
     {
+        // What was seen is a log with a first entry: the clauses rest on that.
         let _ = trace.at();
         Session {
             number,
@@ -145,6 +146,7 @@ impl Session {
                 self.place = Some(reading.leave());
                 match copy {
                     Ok(copy) => {
+                        // What was seen is a log with a first entry: the clauses rest on that.
                         let _ = copy.trace.at();
                         let (version, trace) = copy.into_parts();
                         self.newest = version.number();

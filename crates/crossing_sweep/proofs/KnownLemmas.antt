@@ -87,9 +87,6 @@ module _ (column : ℕ) (names : List PointName) (name : PointName) (old : List 
       complete other p (inl c) hp stands within = are.complete other p c hp stands within
       complete other p (inr c) hp stands within = absurd (nowhere p hp (subst (λ n. IsPlaceOf n p) (sym (one other c)) stands) within)
 
-pub none_offered : (column : ℕ) → AreOffered column [] []
-none_offered column = record { sound = all_of (IsOffered column []) [] (λ e c. absurd (none_in_empty e c)); complete = λ name p c hp stands within. absurd (none_in_empty name c) }
-
 pub has_place : (name : PointName) (p : Point) → pos 0 <ℤ p.w → IsPlaceOf name p → HasPlace name
 has_place (Vertex v) p h k = tt
 has_place (Cross a b) p h k = (p, h, k)

@@ -64,9 +64,6 @@ pub all_of : {X : Type 0} (P : X → Type 0) (xs : List X) → ((x : X) → Cont
 all_of P xs h k d l = h (get_or xs k d) (Contains-get_or xs k d l)
 
 -- parts of a status with those that wait behind it, put in order again
-pub no_list : {X : Type 0} (over w : List X) → Type 0
-no_list over w = (w ≡ []) ⊎ (over ≡ [])
-
 pub regrouped : (under bundle over w1 w2 : List Segment) → (w1 ≡ []) ⊎ (over ≡ []) → (under ++ bundle ++ over) ++ (w1 ++ w2) ≡ under ++ (bundle ++ w1) ++ (over ++ w2)
 regrouped under bundle over w1 w2 (inl e) =
     ap (λ w. (under ++ bundle ++ over) ++ (w ++ w2)) e ∙ append_assoc (under ++ bundle) over w2

@@ -17,7 +17,7 @@ use Rattle.tile_laws.proofs.Ranks.{Told, yes, no, told}
 use Rattle.crossing_sweep.specs.Queue.{IsQueued}
 use Rattle.crossing_sweep.specs.Ahead.{points_of}
 use Rattle.crossing_sweep.specs.Testing.{IsFound, AreTested, IsFoundIn, AreSeamsTested}
-use Rattle.crossing_sweep.specs.declared.testing.Search.{Search}
+use Rattle.crossing_sweep.specs.declared.search.Search.{Search}
 use Rattle.crossing_sweep.proofs.MaskLemmas.{from_map}
 
 only_one : (x y : ℕ) → Contains (x ∷ []) y → x ≡ y

@@ -39,7 +39,7 @@ use Rattle.crossing_sweep.specs.Testing.{IsFoundIn, AreSeamsTested}
 use Rattle.crossing_sweep.specs.Stepping.{segs_to_come, StandsBefore, IsStepped}
 use Rattle.crossing_sweep.specs.declared.member.Member.{Member}
 use Rattle.crossing_sweep.specs.declared.start.Start.{Start}
-use Rattle.crossing_sweep.specs.declared.testing.Search.{Search}
+use Rattle.crossing_sweep.specs.declared.search.Search.{Search}
 use Rattle.crossing_sweep.proofs.Pairs.{pairs_first}
 use Rattle.crossing_sweep.proofs.MaskLemmas.{from_map}
 use Rattle.crossing_sweep.proofs.StretchLemmas.{stretches_cross}

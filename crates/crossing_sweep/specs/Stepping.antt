@@ -21,7 +21,7 @@ use Rattle.crossing_sweep.specs.declared.row.Row.{Row}
 use Rattle.crossing_sweep.specs.Testing.{AreSeamsTested}
 use Rattle.crossing_sweep.specs.declared.member.Member.{Member}
 use Rattle.crossing_sweep.specs.declared.start.Start.{Start}
-use Rattle.crossing_sweep.specs.declared.testing.Search.{Search}
+use Rattle.crossing_sweep.specs.declared.search.Search.{Search}
 
 -- the segments of units to come
 abbrev pub segs_to_come : List Start → List Segment

@@ -11,7 +11,7 @@ use Rattle.exact_point.specs.declared.point_name.PointName.{PointName}
 use Rattle.arrange.specs.Arrangement.{is_in_closed_column}
 use Rattle.crossing_sweep.specs.Queue.{IsQueued}
 use Rattle.crossing_sweep.specs.Ahead.{points_of}
-use Rattle.crossing_sweep.specs.declared.testing.Search.{Search}
+use Rattle.crossing_sweep.specs.declared.search.Search.{Search}
 
 -- two segments cross at a known place, after r and in the closed column; its name stands for it
 pub record IsFound (column : ℕ) (r : Point) (a b : Segment) (e : HPoint × PointName) : Type 0 where

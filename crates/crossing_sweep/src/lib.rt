@@ -2,26 +2,16 @@
 #![tactic(auto)]
 
 pub mod ahead;
+pub mod bundle;
 pub mod known_places;
-pub mod last_node;
-pub mod leaning;
+pub mod laws;
 pub mod member;
-pub mod next_node;
+pub mod members_after;
 pub mod pass;
-pub mod passing;
-pub mod queue;
 pub mod row;
-pub mod rows;
-pub mod sides;
-pub mod splitting;
+pub mod search;
 pub mod start;
-pub mod starting;
-pub mod status;
-pub mod staying;
-pub mod step;
-pub mod stepping;
-pub mod testing;
-pub mod units;
+pub mod starts;
 
 pub use pass::{Crossed, cross};
 pub use row::Row;

@@ -9,7 +9,7 @@ use exact_point::point_name::PointName;
 use std::cmp::Ordering;
 
 /// Where a piece begins: the name of the place, and how many nodes were passed before it.
-#[derive(Clone, Copy)]
+#[derive(Clone, Copy, Debug)]
 pub struct Begin {
     pub name: PointName,
     pub number: u64,
@@ -18,7 +18,7 @@ pub struct Begin {
 /// A unit that goes on after the sweep's place, with the last node on it, a bit for each base layer
 /// that holds just over it, and whether the piece that begins there is one of the boundary. The
 /// order is by direction, the vertical one last.
-#[derive(Clone, Copy)]
+#[derive(Clone, Copy, Debug)]
 pub struct Member {
     pub unit: Unit,
     pub begin: Begin,

@@ -1,16 +1,23 @@
 //! One pass over a column from node to node: crossings are found from neighbours alone, and the
 //! boundary is carried along.
-ghost use Rattle.std.specs.Prelude.{◌≡◌, ◌<◌, ◌+◌, ◌⊎◌, [], true, false, length, IfOk, OnOk};
+ghost use Rattle.std.specs.Prelude.{◌≡◌, ◌<◌, ◌≤◌, ◌+◌, ◌++◌, ◌⊎◌, [], true, false, length, take, drop, IfOk, OnOk};
+ghost use Rattle.overlay_terms.specs.Column.{is_in_column};
+ghost use Rattle.exact_point.specs.Place.{place};
 ghost use Rattle.crossing_sweep.specs.Crossed.{IsCrossed, IsPassing};
+ghost use Rattle.crossing_sweep.specs.Stepping.{IsStepped};
 
+use crate::bundle::bundle_at;
 use crate::known_places::known_places;
 use crate::member::{Begin, Member};
-use crate::row::{Row, sort};
+use crate::members_after::{count_entering, turned};
+use crate::row::{Row, close, label, mask_over, sort};
+use crate::search::Search;
 use crate::start::Start;
-use crate::starting::starts;
-use crate::stepping::step;
-use crate::testing::Search;
+use crate::starts::starts;
 use arrange::tile_input::TileInput;
+use exact_point::point::HPoint;
+use exact_point::side::border_side;
+use plane_base::column::Column;
 use plane_base::point::Seg;
 use std::alloc::{AllocError, Global};
 
@@ -117,19 +124,74 @@ impl Pass {
             name,
             number: self.nodes,
         };
-        let coming = &self.starts[self.entered..];
-        let entered = step(
-            alloc,
-            input,
-            &mut self.status,
-            coming,
-            &mut self.search,
-            &mut self.rows,
-            &at,
-            &begin,
-        )?;
-        self.entered += entered;
+        self.step(alloc, input, &at, &begin)?;
         self.nodes += 1;
         Ok(true)
     }
+
+    /// Passes a node: the pieces of the members that hold it are closed, these give way to those that
+    /// go on or enter there, and the new neighbours are tested.
+    fn step(
+        &mut self,
+        alloc: Global,
+        input: &TileInput,
+        at: &HPoint,
+        begin: &Begin,
+    ) -> Result<(), AllocError>
+        requires { self.old.entered ≤ length self.old.starts.items }
+        ensures few { OnOk result (self.new.entered ≤ length self.new.starts.items) }
+        ensures stepped { OnOk result
+            (IsStepped input.now at.now begin.now self.old.status.items self.new.status.items
+            (drop self.old.entered self.old.starts.items) (drop self.new.entered self.new.starts.items)
+            self.old.search self.new.search self.old.rows.items self.new.rows.items) }
+        ensures nodes { self.new.nodes ≡ self.old.nodes }
+    {
+        let coming = &self.starts[self.entered..];
+        let (low, high) = bundle_at(&self.status, at);
+        close(&mut self.rows, &self.status[low..high], begin)?;
+        let entered = count_entering(coming, at);
+        let mut stay = turned(
+            alloc,
+            &self.status[low..high],
+            &coming[..entered],
+            at,
+            begin,
+        )?;
+        let under = mask_over(&self.status[..low]);
+        label(input, &mut stay, under, begin, is_in(input.column(), at));
+        let top = low + stay.len();
+        replace(&mut self.status, low, high, stay)?;
+        self.search
+            .test_both(input.column(), at, &self.status, low, top)?;
+        self.entered += entered;
+        Ok(())
+    }
+}
+
+/// Whether a place lies in a column.
+fn is_in(column: Column, at: &HPoint) -> bool
+    ensures { result ≡ is_in_column column (place at.now) }
+{
+    if border_side(column, at).is_lt() {
+        return false;
+    }
+    match Column::new(u64::from(column.number()) + 1) {
+        Some(next) => border_side(next, at).is_lt(),
+        None => true,
+    }
+}
+
+/// Puts members in the place of those of a range.
+fn replace(
+    status: &mut Vec<Member>,
+    low: usize,
+    high: usize,
+    stay: Vec<Member>,
+) -> Result<(), AllocError>
+    requires in_order { low ≤ high }
+    requires few { high ≤ length status.old.items }
+    ensures { OnOk result (status.new.items ≡ take low status.old.items ++ stay.items ++ drop high status.old.items) }
+{
+    status.splice(low..high, stay)?;
+    Ok(())
 }

@@ -9,7 +9,7 @@ use plane_base::point::Seg;
 use std::alloc::AllocError;
 
 /// A piece whose sides differ, with the numbers of its ends among the nodes of the closed column.
-#[derive(Clone, Copy)]
+#[derive(Clone, Copy, Debug)]
 pub struct Row {
     pub support: Seg,
     pub from: PointName,

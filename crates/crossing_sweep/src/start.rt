@@ -10,7 +10,7 @@ use std::cmp::Ordering;
 
 /// A unit and the first place of a closed column on it. The order is by that place, then by
 /// direction, the vertical one first.
-#[derive(Clone, Copy)]
+#[derive(Clone, Copy, Debug)]
 pub struct Start {
     pub at: HPoint,
     pub unit: Unit,

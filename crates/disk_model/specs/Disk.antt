@@ -42,3 +42,11 @@ Failed old new = min (old + 1) (2 ^ 64 - 1) ≤ new
 -- the count of failures stays at Ok and rises at Err
 abbrev pub CountsFailure : {T E : Type 0} → Result T E → ℕ → ℕ → Type 0
 CountsFailure result old new = MatchResult result (λ _. new ≡ old) (λ _. Failed old new × (old ≤ new))
+
+-- one call more failed: the count of calls rose by one, unless it is at the top of a u64
+abbrev pub FailedCall : ℕ → ℕ → Type 0
+FailedCall old new = Failed old new × (new ≤ old + 1)
+
+-- one call more was made
+abbrev pub CountsCall : {T E : Type 0} → Result T E → ℕ → ℕ → Type 0
+CountsCall result old new = MatchResult result (λ _. new ≡ old + 1) (λ _. FailedCall old new)

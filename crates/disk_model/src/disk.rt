@@ -1,6 +1,6 @@
 //! The disk as a trait: what its calls promise where the device is honest.
 ghost use Rattle.std.specs.Prelude.{◌≡◌, ◌↔◌, ◌+◌, ◌≤◌, List, ℕ, length, IfOk, OnOk};
-ghost use Rattle.disk_model.specs.Disk.{part, Holds, Torn, OneStepOn, Fewer, Only, Elapses, CountsFailure};
+ghost use Rattle.disk_model.specs.Disk.{part, Holds, Torn, OneStepOn, Fewer, Only, Elapses, CountsFailure, CountsCall};
 
 use crate::fault::DiskFault;
 
@@ -24,6 +24,9 @@ pub trait Disk {
     /// How often the device has failed.
     ghost faults: { Self → ℕ };
 
+    /// How many of the four calls were made, failed ones among them.
+    ghost calls: { Self → ℕ };
+
     /// The number of bytes in the file.
     fn length(&mut self) -> Result<usize, DiskFault>
         ensures honest { is_honest self.new ↔ is_honest self.old }
@@ -31,7 +34,8 @@ pub trait Disk {
         ensures seen { is_honest self.old → seen self.new ≡ seen self.old }
         ensures crash { is_honest self.old → Fewer (may_leave self.old) (may_leave self.new) }
         ensures time { is_honest self.old → Elapses (moment self.old) (moment self.new) (left_since self.old) (left_since self.new) (may_leave self.new) }
-        ensures cause { is_honest self.old → CountsFailure result (faults self.old) (faults self.new) };
+        ensures cause { is_honest self.old → CountsFailure result (faults self.old) (faults self.new) }
+        ensures calls { is_honest self.old → CountsCall result (calls self.old) (calls self.new) };
 
     /// Fills a buffer with the bytes from this offset on.
     fn read(&mut self, at: usize, buf: &mut [u8]) -> Result<(), DiskFault>
@@ -41,7 +45,8 @@ pub trait Disk {
         ensures seen { is_honest self.old → seen self.new ≡ seen self.old }
         ensures crash { is_honest self.old → Fewer (may_leave self.old) (may_leave self.new) }
         ensures time { is_honest self.old → Elapses (moment self.old) (moment self.new) (left_since self.old) (left_since self.new) (may_leave self.new) }
-        ensures cause { is_honest self.old → CountsFailure result (faults self.old) (faults self.new) };
+        ensures cause { is_honest self.old → CountsFailure result (faults self.old) (faults self.new) }
+        ensures calls { is_honest self.old → CountsCall result (calls self.old) (calls self.new) };
 
     /// Writes over what is there, and past the end. Until a sync a crash may leave any bytes in the range, also where the write failed.
     fn write_at(&mut self, at: usize, bytes: &[u8]) -> Result<(), DiskFault>
@@ -50,7 +55,8 @@ pub trait Disk {
         ensures others { is_honest self.old → Torn at (length bytes.now) (seen self.old) (seen self.new) }
         ensures crash { is_honest self.old → OneStepOn (Torn at (length bytes.now)) (may_leave self.old) (may_leave self.new) }
         ensures time { is_honest self.old → Elapses (moment self.old) (moment self.new) (left_since self.old) (left_since self.new) (may_leave self.new) }
-        ensures cause { is_honest self.old → CountsFailure result (faults self.old) (faults self.new) };
+        ensures cause { is_honest self.old → CountsFailure result (faults self.old) (faults self.new) }
+        ensures calls { is_honest self.old → CountsCall result (calls self.old) (calls self.new) };
 
     /// Makes what was written stay: after it a crash leaves what a read gives. A sync that failed makes nothing stay.
     fn sync(&mut self) -> Result<(), DiskFault>
@@ -59,7 +65,8 @@ pub trait Disk {
         ensures seen { is_honest self.old → seen self.new ≡ seen self.old }
         ensures crash { is_honest self.old → Fewer (may_leave self.old) (may_leave self.new) }
         ensures time { is_honest self.old → Elapses (moment self.old) (moment self.new) (left_since self.old) (left_since self.new) (may_leave self.new) }
-        ensures cause { is_honest self.old → CountsFailure result (faults self.old) (faults self.new) };
+        ensures cause { is_honest self.old → CountsFailure result (faults self.old) (faults self.new) }
+        ensures calls { is_honest self.old → CountsCall result (calls self.old) (calls self.new) };
 
     /// This moment is one of those since an earlier one.
     ghost counts_now: { (disk : Self) (t : ℕ) (c : List ℕ) → is_honest disk → t ≤ moment disk → may_leave disk c → left_since disk t c };

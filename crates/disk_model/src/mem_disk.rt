@@ -1,7 +1,7 @@
 //! A disk in memory. It keeps a record of its calls, so that each crash can be played again.
 ghost use Rattle.std.specs.Prelude.{◌≡◌, ◌⊎◌, ◌+◌, ◌∷◌, [], ◌++◌, ◌≤◌, take, length, IfOk, OnOk, OnErr, IsErr};
 ghost use Rattle.disk_model.specs.Replay.{start, over, replay, MayLeave, LeftSince};
-ghost use Rattle.disk_model.specs.Disk.{CountsFailure, Failed};
+ghost use Rattle.disk_model.specs.Disk.{CountsFailure, CountsCall, Failed};
 
 use crate::disk::Disk;
 use crate::fault::DiskFault;
@@ -99,6 +99,7 @@ impl MemDisk {
 fn failed(failures: &mut u64) -> DiskFault
     ensures counts { Failed failures.old failures.new }
     ensures rises { failures.old ≤ failures.new }
+    ensures by_one { failures.new ≤ failures.old + 1 }
 {
     *failures = failures.saturating_add(1);
     DiskFault::Device
@@ -109,6 +110,7 @@ fn count<T: Drop>(outcome: Result<T, AllocError>, failures: &mut u64) -> Result<
     ensures ok { IfOk result (λ x. outcome ≡ Ok x) }
     ensures err { IsErr result → IsErr outcome }
     ensures counts { CountsFailure result failures.old failures.new }
+    ensures by_one { failures.new ≤ failures.old + 1 }
 {
     match outcome {
         Ok(x) => Ok(x),
@@ -122,6 +124,7 @@ fn noted(calls: &mut Vec<Call>, failures: &mut u64, call: Call) -> Result<(), Di
     ensures err { OnErr result (calls.new.items ≡ calls.old.items) }
     ensures either { (calls.new.items ≡ calls.old.items) ⊎ (calls.new.items ≡ calls.old.items ++ call ∷ []) }
     ensures counts { CountsFailure result failures.old failures.new }
+    ensures calls { CountsCall result (length calls.old.items + failures.old) (length calls.new.items + failures.new) }
 {
     if calls.push(call).is_ok() {
         return Ok(());
@@ -165,6 +168,8 @@ impl Disk for MemDisk {
     ghost left_since = { λ m. LeftSince m.first.items m.calls.items };
 
     ghost faults = { λ m. m.failures };
+
+    ghost calls = { λ m. length m.calls.items + m.failures };
 
     ghost counts_now = { λ m t c _. now_is_since m.first.items m.calls.items t c };
 

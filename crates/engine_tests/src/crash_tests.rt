@@ -1,5 +1,5 @@
 //! Crashes at each device call of two commits, and of the recoveries after them.
-use crate::testing::{CREATED, SHIFTED, SQUARE, Words, created, drive, recovered};
+use crate::testing::{CREATED, SHIFTED, SQUARE, Words, created, drive, joined, recovered};
 use disk_model::image::Choice;
 use disk_model::mem_disk::MemDisk;
 use overlay_engine::step::Reply;
@@ -21,50 +21,19 @@ const FIRST: usize = 8;
 const SECOND: usize = 9;
 
 /// A is put, committed and reported, and then B is put and committed.
-const STEPS: &[Words] = &[
-    Words::Put("A", SQUARE),
-    Words::Device,
-    Words::Device,
-    Words::Device,
-    Words::Device,
-    Words::Device,
-    Words::Device,
-    Words::Device,
-    Words::Device,
-    Words::Report,
-    Words::Put("B", SHIFTED),
-    Words::Device,
-    Words::Device,
-    Words::Device,
-    Words::Device,
-    Words::Device,
-    Words::Device,
-    Words::Device,
-    Words::Device,
-    Words::Device,
+const STEPS: &[&[Words]] = &[
+    &[Words::Put("A", SQUARE)],
+    &[Words::Device; FIRST],
+    &[Words::Report, Words::Put("B", SHIFTED)],
+    &[Words::Device; SECOND],
 ];
 
-const ANSWERS: &[Reply] = &[
-    Reply::Accepted(1),
-    Reply::Going,
-    Reply::Going,
-    Reply::Going,
-    Reply::Going,
-    Reply::Going,
-    Reply::Going,
-    Reply::Going,
-    Reply::Done(1),
-    Reply::Durable(1),
-    Reply::Accepted(2),
-    Reply::Going,
-    Reply::Going,
-    Reply::Going,
-    Reply::Going,
-    Reply::Going,
-    Reply::Going,
-    Reply::Going,
-    Reply::Going,
-    Reply::Done(2),
+const ANSWERS: &[&[Reply]] = &[
+    &[Reply::Accepted(1)],
+    &[Reply::Going; FIRST - 1],
+    &[Reply::Done(1), Reply::Durable(1), Reply::Accepted(2)],
+    &[Reply::Going; SECOND - 1],
+    &[Reply::Done(2)],
 ];
 
 /// The layers of the versions 0, 1 and 2.
@@ -123,8 +92,10 @@ fn recovers(alloc: Global, disk: &MemDisk, calls: usize, choice: Choice) -> Resu
 #[test]
 fn a_crash_at_each_call_leaves_the_version_before_or_after(rt: HostRuntime) -> Result<(), Fail> {
     let mut engine = created(rt.alloc(), 100)?;
-    let replies = drive(rt.alloc(), &mut engine, STEPS)?;
-    assert!(rt; replies.as_slice() == ANSWERS);
+    let steps = joined(rt.alloc(), STEPS)?;
+    let replies = drive(rt.alloc(), &mut engine, &steps)?;
+    let answers = joined(rt.alloc(), ANSWERS)?;
+    assert!(rt; replies.as_slice() == answers.as_slice());
     let disk = engine.into_disk();
     assert_eq!(rt; disk.calls().len(), CREATED + FIRST + SECOND);
     for calls in 0..=FIRST + SECOND {

@@ -1,5 +1,5 @@
 //! Limits of blocks and of numbers.
-use crate::testing::{CREATED, SQUARE, Words, created, drive, recovered};
+use crate::testing::{CREATED, SQUARE, Words, created, drive, joined, recovered};
 use disk_model::disk::Disk;
 use disk_model::mem_disk::{Call, MemDisk};
 use overlay_engine::engine::Engine;
@@ -7,17 +7,7 @@ use overlay_engine::step::Reply;
 use std::test::Fail;
 
 /// A layer, and as many device calls as its commit makes.
-const COMMIT: &[Words] = &[
-    Words::Put("A", SQUARE),
-    Words::Device,
-    Words::Device,
-    Words::Device,
-    Words::Device,
-    Words::Device,
-    Words::Device,
-    Words::Device,
-    Words::Device,
-];
+const COMMIT: &[&[Words]] = &[&[Words::Put("A", SQUARE)], &[Words::Device; 8]];
 
 #[test]
 fn two_blocks_make_no_store(rt: HostRuntime) -> Result<(), Fail> {
@@ -38,7 +28,8 @@ fn four_blocks_are_too_few_for_a_layer_and_five_are_enough(rt: HostRuntime) -> R
         (5, Reply::Going, Reply::Done(1), CREATED + 8),
     ] {
         let mut engine = created(rt.alloc(), max_blocks)?;
-        let replies = drive(rt.alloc(), &mut engine, COMMIT)?;
+        let steps = joined(rt.alloc(), COMMIT)?;
+        let replies = drive(rt.alloc(), &mut engine, &steps)?;
         assert!(rt; replies.first().copied() == Some(Reply::Accepted(1)));
         assert!(rt; replies.get(1).copied() == Some(first));
         assert!(rt; replies.last().copied() == Some(last));

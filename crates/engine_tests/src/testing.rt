@@ -66,6 +66,15 @@ fn steps_of(alloc: Global, list: &[Words]) -> Result<Vec<Step>, Fail> {
     Ok(steps)
 }
 
+/// The items of lists, one list behind another.
+pub fn joined<T: Copy>(alloc: Global, lists: &[&[T]]) -> Result<Vec<T>, Fail> {
+    let mut all = Vec::new(alloc);
+    for list in lists {
+        all.extend_from_slice(list)?;
+    }
+    Ok(all)
+}
+
 /// Makes steps, one after the other, and gives the answers.
 pub fn drive<D: Disk>(
     alloc: Global,

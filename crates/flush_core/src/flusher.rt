@@ -1,10 +1,10 @@
 //! A store to which versions are written.
-ghost use Rattle.std.specs.Prelude.{◌≡◌, ◌↔◌, ◌<◌, ◌≤◌, ℕ, false, Err, IfOk, OnOk, OnErr, IsErrOf, IfErr};
-ghost use Rattle.disk_model.specs.Disk.{Failed};
+ghost use Rattle.std.specs.Prelude.{◌≡◌, ◌↔◌, ◌<◌, ◌≤◌, ℕ, true, false, Err, IfOk, OnOk, OnErr, IsErrOf, IfErr};
+ghost use Rattle.disk_model.specs.Disk.{Failed, CountsCall};
 ghost use Rattle.store_terms.specs.Roots.{sequence_max};
 ghost use Rattle.root_store.specs.Beginning.{IsReason};
 ghost use Rattle.commit_plan.specs.Kept.{Kept};
-ghost use Rattle.root_store.specs.Running.{Stands, Runs, KeepsTo, Stepped, Counts, Turns, KeepsRoots, calls_left, is_busy, fault_in};
+ghost use Rattle.root_store.specs.Running.{Stands, Runs, KeepsTo, Stepped, FailsByDevice, Counts, Turns, KeepsRoots, calls_left, is_busy, fault_in};
 ghost use Rattle.flush_core.specs.Stored.{stored_after, IsCommitOf, HasRoomFor, HasNoRoomFor, calls_of};
 
 use crate::imaging::image_of;
@@ -101,6 +101,11 @@ impl<D: Disk> Flusher<D> {
         ensures failed { OnErr result (self.new.commit.phase ≡ Phase.Failed) }
         ensures errors { IfErr result (λ fault. fault ≡ fault_in self.old.commit.phase) }
         ensures cause { D.is_honest self.old.commit.disk → IsErrOf result StoreFault.Device → Failed (D.faults self.old.commit.disk) (D.faults self.new.commit.disk) }
+        // One device call is made where a commit is under way; where none is, nothing changes.
+        ensures calls { D.is_honest self.old.commit.disk → is_busy self.old.commit.phase ≡ true
+            → CountsCall result (D.calls self.old.commit.disk) (D.calls self.new.commit.disk) }
+        // It fails where a device call failed, now or before, and only there.
+        ensures by_device { D.is_honest self.old.commit.disk → FailsByDevice D.Disk self.old.commit self.new.commit }
     {
         self.commit.step()
     }

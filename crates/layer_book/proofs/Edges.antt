@@ -1,5 +1,5 @@
 -- A layer's answer on edges is whether a segment in reach holds the point.
-use Rattle.std.proofs.Common.{◌≡◌, ℕ, ◌+◌, Bool, true, false, cond, ◌||◌, ◌&&◌, List, [], ◌∷◌, ◌++◌, map, filter, fold, filter_map, flat_map, Option, Some, None, IfSome, unwrap_or, refl, ap, sym, ◌∙◌, subst, append_assoc, bytes_eq, if◌then◌else◌}
+use Rattle.std.proofs.Common.{◌≡◌, ℕ, ◌+◌, Bool, true, false, cond, ◌||◌, ◌&&◌, List, [], ◌∷◌, ◌++◌, map, filter, fold, filter_map, flat_map, Some, refl, ap, sym, ◌∙◌, subst, append_assoc, bytes_eq, if◌then◌else◌}
 use Rattle.std.specs.List.{list_any, enumerate_from}
 use Rattle.std.proofs.lemmas.Bool.{or_parts}
 use Rattle.std.proofs.lemmas.List.Folds.{list_any-append}
@@ -181,10 +181,3 @@ pub off_edge : (layers : List Layer) (name : Name) (q : Point) (on within : Bool
     → (if within then inside else outside) ≡ answer_at layers name q
 off_edge layers name q on within is at its =
     ap (λ b. if b then inside else outside) its ∙ ap (λ b. cond b edge (if value_of layers name q then inside else outside)) (sym at ∙ is)
-
--- what is told, or else the answer to the question, is whether the point is inside
-pub told_value : (layers : List Layer) (name : Name) (p q : Point) (told : Option Bool) (within : Bool) → p ≡ q
-    → within ≡ unwrap_or told (named false (answers IsInside layers p) name) → IfSome told (λ w. w ≡ value_of layers name q)
-    → within ≡ value_of layers name q
-told_value layers name p q None within e is t = inside_there layers name p q within e is
-told_value layers name p q (Some w) within e is t = is ∙ t

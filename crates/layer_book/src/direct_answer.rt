@@ -4,7 +4,7 @@ ghost use Rattle.overlay_terms.specs.Layers.{answer_at, named};
 ghost use Rattle.overlay_terms.specs.Commands.{stands};
 ghost use Rattle.exact_point.specs.Place.{place as place_of_point};
 ghost use Rattle.layer_book.specs.Layer.{IsBook};
-ghost use Rattle.layer_book.specs.Place.{location, IsToldOf};
+ghost use Rattle.layer_book.specs.Place.{location};
 ghost use Rattle.layer_book.specs.Question.{IsInside, IsEdge, answers};
 
 use crate::fault::LayerFault;
@@ -23,7 +23,7 @@ pub enum Place {
 
 impl Layers {
     /// Where a point lies for a layer. It takes no memory, finds what the layer reaches once, and looks
-    /// at each segment in reach once.
+    /// at each base layer in reach once.
     pub fn direct(&self, name: &Name, query: &QueryPoint) -> Result<Place, LayerFault>
         ensures ok { IfOk result (λ place. location place ≡ answer_at self.now name.now query.now) }
         ensures known { IsOk result ↔ IsTrue (stands self.now name.now) }
@@ -34,21 +34,19 @@ impl Layers {
         if !self.stands(name) {
             return Err(LayerFault::UnknownLayer);
         }
-        Ok(self.place(name, query, None))
+        Ok(self.place(name, query))
     }
 
-    /// Where a point lies for a layer that stands. What a tile tells of a point on no edge, whether
-    /// it is inside, may be handed in; else the layers in reach are asked.
-    pub fn place(&self, name: &Name, query: &QueryPoint, told: Option<bool>) -> Place
+    /// Where a point lies for a layer that stands.
+    fn place(&self, name: &Name, query: &QueryPoint) -> Place
         requires { stands self.now name.now ≡ true }
-        ensures { IsToldOf self.now name.now query.now told → location result ≡ answer_at self.now name.now query.now }
+        ensures { location result ≡ answer_at self.now name.now query.now }
     {
         let seen = self.seen(name, &query.point());
         if seen.edge {
             return Place::Edge;
         }
-        let inside = told.unwrap_or(seen.inside);
-        if inside {
+        if seen.inside {
             Place::Inside
         } else {
             Place::Outside

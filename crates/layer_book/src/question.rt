@@ -15,7 +15,8 @@ use exact_point::HPoint;
 use layer_expr::MAX_LAYERS;
 use layer_expr::expr::{Node, Operation};
 use layer_expr::name::Name;
-use point_looks::{Seen, Spot, look_at_all};
+use point_looks::{Seen, Spot};
+use segment_blocks::look_at_all;
 
 /// What is known of each layer at a point, by its index: whether it holds the point, and whether a segment that it
 /// reaches does.
@@ -26,8 +27,8 @@ pub struct Known {
 }
 
 impl Layers {
-    /// The answers of each layer. One that is not wanted counts as a layer of no rings. Each segment of a wanted
-    /// base layer is looked at once.
+    /// The answers of each layer. One that is not wanted counts as a layer of no rings. Each wanted base layer is looked
+    /// at once, in its blocks of segments.
     pub fn answers(&self, wanted: &[bool; MAX_LAYERS], point: &HPoint) -> Known
         ensures inside { labelled self.now result.inside ≡ answers IsInside (wanted_layers wanted.now self.now) (place point.now) }
         ensures edge { labelled self.now result.edge ≡ answers IsEdge (wanted_layers wanted.now self.now) (place point.now) }
@@ -64,7 +65,7 @@ impl Layers {
         ensures edge { result.edge ≡ content_answer IsEdge (point_of spot.now) (labelled self.now edge.now) (content layer.now) }
     {
         match layer {
-            Layer::Base(rings) => look_at_all(rings.segs(), spot),
+            Layer::Base(rings) => look_at_all(rings.blocks(), spot),
             Layer::Derived(expression) => Seen {
                 inside: self.node_inside(expression.root(), inside),
                 edge: self.node_edge(expression.root(), edge),

@@ -25,10 +25,10 @@ use Rattle.overlay_engine.specs.declared.step.Step.TheVariants.{Submit, Take, Fi
 use Rattle.overlay_engine.specs.declared.step.Reply.{Reply}
 use Rattle.overlay_engine.specs.declared.step.Reply.TheVariants.{Refused, Going, Done}
 use Rattle.overlay_engine.specs.Steps.{RefusedAs}
-use Rattle.overlay_engine.specs.Devices.{DeviceFailed, Devices}
+use Rattle.overlay_engine.specs.Devices.{CallsOnce, DeviceFailed, Devices}
 use Rattle.overlay_engine.specs.Acts.{Acts}
 use Rattle.overlay_engine.specs.Runs.{Made, Leads}
-use Rattle.overlay_engine.specs.Counting.{calls_asked, calls_asked_in, DeviceRefusals, CommitCounts, CommitTells}
+use Rattle.overlay_engine.specs.Counting.{calls_asked, calls_asked_in, DeviceRefusals, CommitCalls, CommitCounts, CommitTells}
 use Rattle.overlay_engine.proofs.Following.{makes}
 
 -- ---- a refusal by 30
@@ -165,6 +165,84 @@ module _ {D : Type 0} (g : Ghosts D) where
       (as_device last.old last.new (Done whole.number) last.step last.reply whole.ends.0 whole.ends.1 parts.1) in
       ap calls_asked_in whole.parts ∙ omega (arith, asked_push whole.between last, ap calls_asked whole.begins.0, ap calls_asked whole.ends.0, begun.0, on.0, done)
       ∙ ap (λ (e : Engine D). calls_of e.version) joins
+
+  -- ---- how often the disk is called
+
+  abbrev made_by : Engine D → ℕ
+  made_by e = g.calls e.flusher.commit.disk
+
+  once_going : (old new : Engine D) → 0 < left_by old → Devices g old Going new → CallsOnce g old new
+  once_going old new left (inl (busy, calls)) = calls.3
+  once_going old new left (inr (inl (idle, mid, begins, calls))) = absurd (at_rest old idle left)
+  once_going old new left (inr (inr (idle, not_begun))) = absurd (at_rest old idle left)
+
+  once_done : (old new : Engine D) (number : ℕ) → 0 < left_by old → Devices g old (Done number) new → CallsOnce g old new
+  once_done old new number left (inl (busy, calls)) = calls.3
+  once_done old new number left (inr (inl (idle, mid, begins, calls))) = absurd (at_rest old idle left)
+  once_done old new number left (inr (inr (idle, not_begun))) = absurd (at_rest old idle left)
+
+  once_begins : (old new : Engine D) → is_busy old.flusher.commit.phase ≡ false → Devices g old Going new → CallsOnce g old new
+  once_begins old new idle (inl (busy, calls)) = absurd (false≢true (sym idle ∙ busy))
+  once_begins old new idle (inr (inl (rests, mid, begins, calls))) =
+      subst (λ (d : D). g.is_honest d → g.is_honest new.flusher.commit.disk × (made_by new ≡ g.calls d + 1)) begins.disk calls.3
+  once_begins old new idle (inr (inr (rests, not_begun))) = absurd (cc (not_begun.told))
+
+  none_other : (step : Step) (old new : Engine D) → calls_asked step ≡ 0 → new.flusher ≡ old.flusher → g.is_honest old.flusher.commit.disk
+      → g.is_honest new.flusher.commit.disk × (made_by new ≡ made_by old + calls_asked step)
+  none_other step old new none same honest =
+      (subst (λ (f : Flusher D). g.is_honest f.commit.disk) (sym same) honest, omega (arith, none, ap (λ (f : Flusher D). g.calls f.commit.disk) same))
+
+  made_more : (step : Step) (old : Engine D) (reply : Reply) (new : Engine D) → (step ≡ Device → reply ≡ Going) → 0 < left_by old → Acts g step old reply new
+      → g.is_honest old.flusher.commit.disk → g.is_honest new.flusher.commit.disk × (made_by new ≡ made_by old + calls_asked step)
+  made_more Device old reply new goes_on left acts = once_going old new left (subst (λ (r : Reply). Devices g old r new) (goes_on refl) acts)
+  made_more (Submit change) old reply new goes_on left acts = none_other (Submit change) old new refl ((makes g (Submit change) old reply new acts).1 refl)
+  made_more (Take name column) old reply new goes_on left acts = none_other (Take name column) old new refl ((makes g (Take name column) old reply new acts).1 refl)
+  made_more (Finish number) old reply new goes_on left acts = none_other (Finish number) old new refl ((makes g (Finish number) old reply new acts).1 refl)
+  made_more Report old reply new goes_on left acts = none_other Report old new refl ((makes g Report old reply new acts).1 refl)
+
+  made_on : (run : List (Made D)) (old new : Engine D) → Leads g old run new → AllByRecursion (λ (made : Made D). made.step ≡ Device → made.reply ≡ Going) run
+      → 0 < left_by old → g.is_honest old.flusher.commit.disk → g.is_honest new.flusher.commit.disk × (made_by new ≡ made_by old + calls_asked_in run)
+  made_on [] old new same all left honest = (subst (λ (e : Engine D). g.is_honest e.flusher.commit.disk) (sym same) honest, omega (arith, ap made_by same))
+  made_on (made ∷ run) old new (joins, acts, leads) (goes_on, all) left honest =
+      let here : 0 < left_by made.old = omega (arith, ap left_by joins, left) in
+      let kept : g.is_honest made.old.flusher.commit.disk = subst (λ (e : Engine D). g.is_honest e.flusher.commit.disk) (sym joins) honest in
+      let one = one_more made.step made.old made.reply made.new goes_on here acts in
+      let first = made_more made.step made.old made.reply made.new goes_on here acts kept in
+      let more = made_on run made.new new leads all one.1 first.0 in
+      (more.0, omega (arith, ap made_by joins, first.1, more.1))
+
+  leads_to : (run : List (Made D)) (last : Made D) (old new : Engine D) → Leads g old (run ++ last ∷ []) new → new ≡ last.new
+  leads_to [] last old new (joins, acts, ends) = ends
+  leads_to (made ∷ run) last old new (joins, acts, leads) = leads_to run last made.new new leads
+
+  pub commit_calls : CommitCalls g
+  commit_calls old run new whole honest =
+      let first = whole.first in
+      let last = whole.last in
+      let joins = whole.leads.0 in
+      let idle = subst (λ (e : Engine D). is_busy e.flusher.commit.phase ≡ false) (sym joins) whole.idle in
+      let begins = as_device first.old first.new Going first.step first.reply whole.begins.0 whole.begins.1 whole.leads.1 in
+      let begun = device_begins first.old first.new idle begins in
+      let one = once_begins first.old first.new idle begins (subst (λ (e : Engine D). g.is_honest e.flusher.commit.disk) (sym joins) honest) in
+      let parts = leads_between whole.between last first.new new whole.leads.2 in
+      let on = going_on whole.between first.new last.old parts.0 whole.goes_on begun.1 in
+      let more = made_on whole.between first.new last.old parts.0 whole.goes_on begun.1 one.0 in
+      let done = once_done last.old last.new whole.number on.1
+      (as_device last.old last.new (Done whole.number) last.step last.reply whole.ends.0 whole.ends.1 parts.1) more.0 in
+      let asked : calls_asked_in run ≡ calls_of old.version = commit_counts old run new whole in
+      omega (
+        arith,
+        ap made_by (leads_to whole.between last first.new new whole.leads.2),
+        done.1,
+        more.1,
+        one.1,
+        ap made_by joins,
+        asked,
+        ap calls_asked_in whole.parts,
+        asked_push whole.between last,
+        ap calls_asked whole.begins.0,
+        ap calls_asked whole.ends.0,
+      )
 
   -- ---- the number that a commit tells
 

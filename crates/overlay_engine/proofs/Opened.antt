@@ -16,7 +16,7 @@ use Rattle.root_store.specs.declared.open_fault.OpenFault.{OpenFault}
 use Rattle.root_store.specs.declared.commit.Commit.{Commit}
 use Rattle.commit_plan.specs.Kept.{Kept}
 use Rattle.root_store.specs.Running.{Stands}
-use Rattle.root_store.specs.Opening.{Opened, Writes, HasRoot, Tells}
+use Rattle.root_store.specs.Opening.{Opened, InPhases, Stops, Writes, HasRoot, Tells}
 use Rattle.commit_plan.proofs.Reading.{calm_stands}
 use Rattle.flush_core.specs.declared.flusher.Flusher.{Flusher}
 use Rattle.flush_core.specs.Stored.{IsImageOf}
@@ -41,8 +41,8 @@ module _ {D : Type 0} (g : Ghosts D) (start : Start) (disk : D) (least : ℕ) (c
   covered c opened = opening_is_covered g start disk least commands all stays c opened
 
   recovered : (e : Engine D) (k : Kept) (x : Held) → reading (g.seen disk) ≡ Ok x → k.held ≡ x → Stands g e.flusher.commit k → e.flusher.commit.root.version ≡ x.number → e.version ≡ version_of x
-      → LeavesOnly g disk e.flusher.commit.disk (Opened g disk) → Recovered g start disk e least commands
-  recovered e k x reads same stands stored version moments =
+      → LeavesOnly g disk e.flusher.commit.disk (Opened g disk) → InPhases g disk e.flusher.commit.disk → Recovered g start disk e least commands
+  recovered e k x reads same stands stored version moments phases =
       let is : e.version ≡ version_of k.held = version ∙ ap version_of (sym same) in
       let found = opened_recovers g start disk e.flusher k least commands all
       (record { stays = stays; reads = reads ∙ ap Ok (sym same); stands = stands; stored = stored ∙ ap (λ (h : Held). h.number) (sym same) }) in
@@ -52,31 +52,35 @@ module _ {D : Type 0} (g : Ghosts D) (start : Start) (disk : D) (least : ℕ) (c
         durable = subst (λ (v : Version). v.durable ≡ v.number) (sym is) refl;
         covers = subst (λ (v : Version). Covers g start e.flusher v (up_to start v.number commands)) (sym is) found.covers;
         moments = widened g disk e.flusher.commit.disk (Opened g disk) (Covered start least commands) covered moments;
+        phases = phases;
       }
 
   pub recovered_with : (e : Engine D) (s : Commit D) (k : Kept) (x : Held) → e.flusher ≡ record { commit = s } → s.root.version ≡ e.version.number → e.version ≡ version_of x
-      → reading (g.seen disk) ≡ Ok x → k.held ≡ x → Stands g s k → LeavesOnly g disk s.disk (Opened g disk) → Recovered g start disk e least commands
-  recovered_with e s k x flusher number version reads same stands moments =
+      → reading (g.seen disk) ≡ Ok x → k.held ≡ x → Stands g s k → LeavesOnly g disk s.disk (Opened g disk) → InPhases g disk s.disk → Recovered g start disk e least commands
+  recovered_with e s k x flusher number version reads same stands moments phases =
       recovered e k x reads same (subst (λ (f : Flusher D). Stands g f.commit k) (sym flusher) stands)
       (ap (λ (f : Flusher D). f.commit.root.version) flusher ∙ number ∙ ap (λ (v : Version). v.number) version) version
       (subst (λ (f : Flusher D). LeavesOnly g disk f.commit.disk (Opened g disk)) (sym flusher) moments)
+      (subst (λ (f : Flusher D). InPhases g disk f.commit.disk) (sym flusher) phases)
 
   pub refused_as : (refused : OpenFault D) → Tells refused.fault (reading (g.seen disk)) → g.is_honest refused.disk → Leaves g refused.disk (Opened g disk)
-      → LeavesOnly g disk refused.disk (Opened g disk) → Refused g start disk refused least commands
-  refused_as refused tells honest leaves moments = record {
+      → LeavesOnly g disk refused.disk (Opened g disk) → Stops g disk (refused.fault ≡ Device) refused.disk → Refused g start disk refused least commands
+  refused_as refused tells honest leaves moments stops = record {
     honest = honest;
     leaves = λ c left. covered c (leaves c left);
     moments = widened g disk refused.disk (Opened g disk) (Covered start least commands) covered moments;
+    stops = stops;
     cause = let here = all (g.seen disk) stays in only_failing refused.fault (reading (g.seen disk)) here.held here.stands tells;
   }
 
   -- memory runs out once the store is opened
   pub given_up : (s : Commit D) (k : Kept) (x : Held) → reading (g.seen disk) ≡ Ok x → k.held ≡ x → Stands g s k → LeavesOnly g disk s.disk (Opened g disk)
-      → Refused g start disk (record { fault = OutOfMemory; disk = s.disk }) least commands
-  given_up s k x reads same stands moments = record {
+      → InPhases g disk s.disk → Refused g start disk (record { fault = OutOfMemory; disk = s.disk }) least commands
+  given_up s k x reads same stands moments phases = record {
     honest = stands.honest;
     leaves = λ c left. covered c (inr (calm_stands k c (stands.leaves c left) ∙ ap Ok same ∙ sym reads));
     moments = widened g disk s.disk (Opened g disk) (Covered start least commands) covered moments;
+    stops = inr phases;
     cause = inr refl;
   }
 

@@ -1,5 +1,5 @@
 -- The device step of an engine.
-use Rattle.std.specs.Prelude.{◌≡◌, ◌⊎◌, ◌<◌, ◌≤◌, true, false}
+use Rattle.std.specs.Prelude.{◌≡◌, ◌⊎◌, ◌+◌, ◌<◌, ◌≤◌, true, false}
 use Rattle.disk_model.specs.declared.disk.Disk.{Ghosts}
 use Rattle.disk_model.specs.Disk as disks
 use Rattle.store_terms.specs.Roots.{sequence_max}
@@ -43,14 +43,24 @@ module _ {D : Type 0} (g : Ghosts D) where
   DeviceFailed old new =
       g.is_honest old.flusher.commit.disk → disks.Failed (g.faults old.flusher.commit.disk) (g.faults new.flusher.commit.disk)
 
+  -- the disk was called once, without a fault
+  abbrev pub CallsOnce : Engine D → Engine D → Type 0
+  CallsOnce old new = g.is_honest old.flusher.commit.disk
+      → g.is_honest new.flusher.commit.disk × (g.calls new.flusher.commit.disk ≡ g.calls old.flusher.commit.disk + 1)
+
+  -- or once, and it failed
+  abbrev pub FailsOnce : Engine D → Engine D → Type 0
+  FailsOnce old new = g.is_honest old.flusher.commit.disk
+      → g.is_honest new.flusher.commit.disk × disks.FailedCall (g.calls old.flusher.commit.disk) (g.calls new.flusher.commit.disk)
+
   -- one device call of the commit under way: a call fewer is left; or it was the last, and what is stored is the root that the commit leads to, with the number that is told; or the device failed in it, and no commit is under way any more
   abbrev pub Calls : Engine D → Reply → Engine D → Type 0
   Calls old Going new =
-      Counts progress.Going (calls_left old.flusher.commit) (calls_left new.flusher.commit) × KeepsRoots old.flusher.commit new.flusher.commit × (new ≡ record old { flusher = new.flusher })
+      Counts progress.Going (calls_left old.flusher.commit) (calls_left new.flusher.commit) × KeepsRoots old.flusher.commit new.flusher.commit × (new ≡ record old { flusher = new.flusher }) × CallsOnce old new
   Calls old (Done number) new =
-      Counts (progress.Done number) (calls_left old.flusher.commit) (calls_left new.flusher.commit) × Turns (progress.Done number) old.flusher.commit new.flusher.commit × (new ≡ record old { flusher = new.flusher })
+      Counts (progress.Done number) (calls_left old.flusher.commit) (calls_left new.flusher.commit) × Turns (progress.Done number) old.flusher.commit new.flusher.commit × (new ≡ record old { flusher = new.flusher }) × CallsOnce old new
   Calls old (Refused code) new =
-      (code ≡ 30) × DeviceFailed old new × (new.flusher.commit.phase ≡ Failed) × KeepsRoots old.flusher.commit new.flusher.commit × (new ≡ record old { flusher = new.flusher })
+      (code ≡ 30) × DeviceFailed old new × (new.flusher.commit.phase ≡ Failed) × KeepsRoots old.flusher.commit new.flusher.commit × (new ≡ record old { flusher = new.flusher }) × FailsOnce old new
   Calls old reply new = ⊥
 
   -- where a commit is under way, one call of it; else the first call of the commit of the newest version, or a refusal of that

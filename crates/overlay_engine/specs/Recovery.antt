@@ -11,6 +11,7 @@ use Rattle.layer_book.specs.Place.{location}
 use Rattle.commit_plan.specs.declared.fault.StoreFault.TheVariants.{Device, OutOfMemory}
 use Rattle.root_store.specs.declared.open_fault.OpenFault.{OpenFault}
 use Rattle.overlay_engine.specs.declared.engine.Engine.{Engine}
+use Rattle.root_store.specs.Opening.{InPhases, Stops}
 use Rattle.overlay_engine.specs.Start.{Start, layers_from, up_to}
 use Rattle.overlay_engine.specs.Covers.{Covered, Covers}
 
@@ -22,12 +23,16 @@ module _ {D : Type 0} (g : Ghosts D) (start : Start) (disk : D) where
     pub durable : e.version.durable ≡ e.version.number
     pub covers : Covers g start e.flusher e.version (up_to start e.version.number commands)
     pub moments : LeavesOnly g disk e.flusher.commit.disk (Covered start least commands)
+    -- what might have been left before is left until the first sync has succeeded, and from then on what stands for the same
+    pub phases : InPhases g disk e.flusher.commit.disk
 
   -- a recovery is refused: for the device or for memory, and what is left recovers as well
   pub record Refused (refused : OpenFault D) (least : ℕ) (commands : List Command) : Type 0 where
     pub honest : g.is_honest refused.disk
     pub leaves : Leaves g refused.disk (Covered start least commands)
     pub moments : LeavesOnly g disk refused.disk (Covered start least commands)
+    -- so it is here, unless the device failed in that sync
+    pub stops : Stops g disk (refused.fault ≡ Device) refused.disk
     pub cause : (refused.fault ≡ Device) ⊎ (refused.fault ≡ OutOfMemory)
 
 -- where a point lies for a layer of a recovered version: what `locate` tells, under the premise that the tiles are right, is right; the premise holds

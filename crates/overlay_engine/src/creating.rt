@@ -1,9 +1,9 @@
 //! New engines.
-ghost use Rattle.std.specs.Prelude.{◌≡◌, ◌≢◌, ◌↔◌, [], None, IfOk, IfErr, MatchResult};
+ghost use Rattle.std.specs.Prelude.{◌≡◌, ◌≢◌, ◌↔◌, ◌+◌, [], None, IfOk, IfErr, MatchResult};
 ghost use Rattle.disk_model.specs.Disk.{Failed, Fewer};
 ghost use Rattle.overlay_terms.specs.Histories.{empty_version};
 ghost use Rattle.disk_model.specs.Moments.{Leaves};
-ghost use Rattle.root_store.specs.Creating.{IsNewFile, refusal_of_new, Tells};
+ghost use Rattle.root_store.specs.Creating.{IsNewFile, refusal_of_new, Tells, CallsBehind};
 ghost use Rattle.root_store.specs.Running.{KeepsTo};
 ghost use Rattle.overlay_engine.specs.Start.{from_nothing};
 ghost use Rattle.overlay_engine.specs.Covers.{Covers};
@@ -37,6 +37,9 @@ impl<D: Disk> Engine<D> {
         // A file that is refused stays as it is.
         ensures unchanged { D.is_honest disk → refusal_of_new (D.seen disk) max_blocks ≢ None → IfErr result (λ refused. (D.seen refused.disk ≡ D.seen disk) × Fewer (D.may_leave disk) (D.may_leave refused.disk)) }
         ensures cause { D.is_honest disk → IfErr result (λ refused. refused.fault ≡ StoreFault.Device → Failed (D.faults disk) (D.faults refused.disk)) }
+        // Five device calls are made; of a file that is refused, or without memory, the length alone is asked for.
+        ensures calls { D.is_honest disk → MatchResult result (λ e. D.calls e.flusher.commit.disk ≡ D.calls disk + 5)
+            (λ refused. CallsBehind refused.fault (D.calls disk) (D.calls refused.disk)) }
     {
         match create(alloc, disk, max_blocks) {
             Ok(commit) => Ok(Engine {

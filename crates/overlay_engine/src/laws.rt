@@ -1,5 +1,5 @@
 //! Laws over the definitions: each function does nothing, and its contract is the law.
-ghost use Rattle.overlay_engine.specs.Counting.{CommitCounts, CommitTells, DeviceRefusals};
+ghost use Rattle.overlay_engine.specs.Counting.{CommitCalls, CommitCounts, CommitTells, DeviceRefusals};
 ghost use Rattle.overlay_engine.specs.Laws.{BegunCovers, CoveredStays, EventsCover, OpenedRecovers, OpeningIsCovered};
 ghost use Rattle.overlay_engine.specs.Lives.{NothingIsLost};
 ghost use Rattle.overlay_engine.specs.Recovery.{RecoveredAnswers};
@@ -47,6 +47,11 @@ pub fn device_refusals<D: Disk>()
 /// and six more.
 pub fn commit_counts<D: Disk>()
     ensures { CommitCounts D.Disk }
+{}
+
+/// On an honest disk it makes just so many: the disk's own count rises by that number.
+pub fn commit_calls<D: Disk>()
+    ensures { CommitCalls D.Disk }
 {}
 
 /// The step that ends a commit tells the number of the version with which it began.

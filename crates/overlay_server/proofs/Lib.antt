@@ -2,5 +2,5 @@ pub mod Durable
 pub mod Lists
 pub mod Parts
 pub mod Sent
-pub mod Served
+pub mod ServedParts
 pub mod Stores

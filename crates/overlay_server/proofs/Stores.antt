@@ -1,11 +1,14 @@
 -- The store of a server through its runs, and what is left of it at the end.
-use Rattle.std.proofs.Common.{◌≡◌, ℕ, ◌≤◌, List, [], ◌∷◌, Option, Some, None, IfSome, IfNone, MatchOption, All, refl, sym, ◌∙◌, ap, subst, arith}
+use Rattle.std.proofs.Common.{◌≡◌, ◌⊎◌, inl, inr, ⊎_elim, false, ℕ, ◌≤◌, List, [], ◌∷◌, Option, Some, None, IfSome, IfNone, MatchOption, All, refl, sym, ◌∙◌, ap, subst, arith}
 use Rattle.logbook.specs.Pages.{Book}
 use Rattle.disk_model.specs.declared.disk.Disk.{Ghosts}
 use Rattle.disk_model.specs.Moments.{Leaves, LeavesOnly}
 use Rattle.disk_model.proofs.Runs.{widened}
 use Rattle.overlay_terms.specs.Histories.{Entry, History, Version, BeginsWith}
-use Rattle.root_store.specs.declared.phase.Phase.TheVariants.{Idle}
+use Rattle.std.proofs.lemmas.Bool.{false≢true}
+use Rattle.root_store.specs.declared.phase.Phase.{Phase}
+use Rattle.root_store.specs.declared.phase.Phase.TheVariants.{Idle, Close, Settle, Put, Open, Finish, Failed}
+use Rattle.root_store.specs.Running.{is_busy}
 use Rattle.flush_core.specs.declared.flusher.Flusher.{Flusher}
 use Rattle.book_history.specs.Logs.{history_of, newest_in, IsLog}
 use Rattle.version_book.specs.Heard.{Heard}
@@ -19,6 +22,16 @@ use Rattle.overlay_server.specs.Moments.{HasOnlyNow}
 use Rattle.overlay_server.specs.Keeping.{AreFlushed, IsFlushed, IsKept}
 use Rattle.overlay_server.specs.Serving.{AreLeft, AreStopped, IsLeftBy, IsStoppedBy, first_log}
 use Rattle.overlay_server.specs.declared.storing.Store.{Store}
+
+-- no commit is under way
+at_rest : (p : Phase) → is_busy p ≡ false → (p ≡ Idle) ⊎ (p ≡ Failed)
+at_rest Idle rests = inl refl
+at_rest Close rests = absurd (false≢true (sym rests))
+at_rest Settle rests = absurd (false≢true (sym rests))
+at_rest Put rests = absurd (false≢true (sym rests))
+at_rest Open rests = absurd (false≢true (sym rests))
+at_rest Finish rests = absurd (false≢true (sym rests))
+at_rest Failed rests = inr refl
 
 module _ {D : Type 0} (g : Ghosts D) where
   -- ---- two runs in a row
@@ -86,8 +99,11 @@ module _ {D : Type 0} (g : Ghosts D) where
           reported = subst (λ (n : ℕ). All (λ (e : Entry). e.version.durable ≤ n) log) closes.disk.0 (closes.reported run.store.reported);
           files = at_disk (IsFileIn (history_of log)) closed.disk l.commit.disk closed.stored l.commit.root.version closes.disk.1 closes.disk.0
               (closes.files (store_leaves g (history_of now.log) l run.store));
-          exactly = λ idle. at_disk (IsFileExactlyIn (history_of log)) closed.disk l.commit.disk closed.stored l.commit.root.version closes.disk.1 closes.disk.0
-              (closes.exactly run.store idle);
+          exactly = ⊎_elim
+              (λ idle. inr (inr (at_disk (IsFileExactlyIn (history_of log)) closed.disk l.commit.disk closed.stored l.commit.root.version closes.disk.1 closes.disk.0
+              (closes.exactly run.store idle))))
+              (λ failed. ⊎_elim inl (λ rose. inr (inl rose)) (run.by_device.failed failed))
+              (at_rest l.commit.phase flushed.rests);
         };
   }
 

@@ -1,10 +1,21 @@
--- From what a server leaves back to what the engine calls durable.
+-- From what an engine has at first to what a server asks of it, and from what a server leaves back to what the engine
+-- calls durable.
 use Rattle.std.specs.Prelude.{ℕ, List}
+use Rattle.disk_model.specs.declared.disk.Disk.{Ghosts}
 use Rattle.overlay_terms.specs.Histories.{Version, History, IsHistory, accepted_in}
 use Rattle.overlay_terms.specs.KeptLaws.{IsExact}
+use Rattle.overlay_engine.specs.declared.engine.Engine.{Engine}
+use Rattle.overlay_engine.specs.NewEngine.{IsNewEngine}
 use Rattle.overlay_engine.specs.Start.{Start}
 use Rattle.overlay_engine.specs.Covers.{Covered}
+use Rattle.book_history.specs.Logs.{history_of}
 use Rattle.store_flushing.specs.Among.{IsVersionIn, IsFileIn}
+use Rattle.store_flushing.specs.Storing.{IsStoreOf}
+use Rattle.overlay_server.specs.Serving.{first_log}
+
+-- what a server asks of its store is what an engine has that was just made or recovered
+abbrev pub NewEnginesAreStores : {D : Type 0} → Ghosts D → Type 0
+NewEnginesAreStores {D = D} g = (e : Engine D) → IsNewEngine g e → IsStoreOf g (history_of (first_log e.version)) e.flusher
 
 -- where the commands of a history begin
 abbrev pub start_of_commands : Version → Start

@@ -4,10 +4,11 @@ use Rattle.std.specs.Arc.{arc_value}
 use Rattle.std.specs.List.{AllByRecursion}
 use Rattle.logbook.specs.Pages.{Book}
 use Rattle.disk_model.specs.declared.disk.Disk.{Ghosts}
+use Rattle.disk_model.specs.Disk as device
 use Rattle.disk_model.specs.Moments.{Leaves, LeavesOnly}
 use Rattle.overlay_terms.specs.Histories.{Version, Entry, BeginsWith, empty_version}
 use Rattle.root_store.specs.Running.{is_busy}
-use Rattle.root_store.specs.declared.phase.Phase.TheVariants.{Idle}
+use Rattle.root_store.specs.declared.phase.Phase.TheVariants.{Failed}
 use Rattle.flush_core.specs.declared.flusher.Flusher.{Flusher}
 use Rattle.overlay_engine.specs.declared.engine.Engine.{Engine}
 use Rattle.book_history.specs.Known.{Known, seen}
@@ -68,13 +69,14 @@ pub record AreServed {R : Type 0} (stored : Bool) (remaining : R → Option (Lis
 module _ {D : Type 0} (g : Ghosts D) where
   -- what a run leaves of a store: a crash at any moment of it leaves a file that stands for a version of the log that the
   -- run ended with, no older than what was stored at first, and from then on no older than what is stored; that is no
-  -- older than what was reported durable; and just it where no device call has failed
+  -- older than what was reported durable; and just it, unless a device call failed, before the run or within it
   pub record IsLeftBy (log : List Entry) (old last : Flusher D) : Type 0 where
     pub no_less : old.commit.root.version ≤ last.commit.root.version
     pub moments : LeavesOnly g old.commit.disk last.commit.disk (IsFileIn (history_of log) old.commit.root.version)
     pub reported : All (λ (e : Entry). e.version.durable ≤ last.commit.root.version) log
     pub files : Leaves g last.commit.disk (IsFileIn (history_of log) last.commit.root.version)
-    pub exactly : last.commit.phase ≡ Idle → Leaves g last.commit.disk (IsFileExactlyIn (history_of log) last.commit.root.version)
+    pub exactly : (old.commit.phase ≡ Failed) ⊎ (device.Failed (g.faults old.commit.disk) (g.faults last.commit.disk)
+        ⊎ Leaves g last.commit.disk (IsFileExactlyIn (history_of log) last.commit.root.version))
 
   -- what is left of a store of the first version: its disk, with no commit under way
   pub record IsLeft (start : Version) (old : Flusher D) (closed : Closed D) : Type 0 where

@@ -1,5 +1,12 @@
 //! Laws over the definitions: each function does nothing, and its contract is the law.
-ghost use Rattle.overlay_server.specs.Durability.{FilesAreCovered, VersionsAreExact};
+ghost use Rattle.overlay_server.specs.Durability.{FilesAreCovered, NewEnginesAreStores, VersionsAreExact};
+
+use disk_model::disk::Disk;
+
+/// An engine that was just made or recovered has the store of which the clauses on a server's files speak.
+pub fn new_engines_are_stores<D: Disk>()
+    ensures { NewEnginesAreStores D.Disk }
+{}
 
 /// What a server leaves recovers: a file that stands for a version of a history is one that a recovery takes, for the
 /// commands that were accepted in the history, where the tiles of its first version are right.

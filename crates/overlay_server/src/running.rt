@@ -59,14 +59,7 @@ pub struct Rooms<J: Naming, R: Read> {
 }
 
 /// Runs a thread for each script, and takes them in. None comes where a thread is refused.
-pub fn run_sessions<
-    's,
-    E,
-    J: Naming + Send + Sync,
-    S: Wait + Drop + Send + 's,
-    Q: Threads + Wait + Sync,
-    R: Read + Send + Drop + 's,
->(
+pub fn run_sessions<'s, E, J, S, Q, R>(
     scope: &'s Scope<'s, E>,
     rt: &'s Q,
     alloc: Global,
@@ -74,6 +67,11 @@ pub fn run_sessions<
     scripts: Vec<Script<R>>,
     rooms: Rooms<J, R>,
 ) -> Option<Vec<Ended<R>>>
+where
+    J: Naming + Send + Sync,
+    S: Wait + Drop + Send + 's,
+    Q: Threads + Wait + Sync,
+    R: Read + Send + Drop + 's,
     requires scripts { All (λ script. script.session.book ≡ J.book) scripts.items }
     requires rooms { HasRooms rooms (length scripts.items) }
     ensures { IfSome result (λ list. AllZip (λ script ended. IsRunOf J.book (has_store shared.now) R.remaining script ended) scripts.items list.items) }
@@ -84,14 +82,7 @@ pub fn run_sessions<
 }
 
 /// Starts a thread for each script, in their order. None comes where one is refused.
-fn start_sessions<
-    's,
-    E,
-    J: Naming + Send + Sync,
-    S: Wait + Drop + Send + 's,
-    Q: Threads + Wait + Sync,
-    R: Read + Send + Drop + 's,
->(
+fn start_sessions<'s, E, J, S, Q, R>(
     scope: &'s Scope<'s, E>,
     rt: &'s Q,
     alloc: Global,
@@ -99,6 +90,11 @@ fn start_sessions<
     scripts: Vec<Script<R>>,
     mut list: Vec<Running<J, R>>,
 ) -> Option<Vec<Running<J, R>>>
+where
+    J: Naming + Send + Sync,
+    S: Wait + Drop + Send + 's,
+    Q: Threads + Wait + Sync,
+    R: Read + Send + Drop + 's,
     requires scripts { All (λ script. script.session.book ≡ J.book) scripts.items }
     requires room { HasRoom list (length scripts.items) }
     ensures begun { IfSome result (λ list. AllZip (λ script h. (h.promise.begun.value ≡ script) × (h.promise.stored ≡ has_store shared.now)) scripts.items list.items) }
@@ -110,20 +106,18 @@ fn start_sessions<
 }
 
 /// Starts a thread for a script.
-fn start_session<
-    's,
-    E,
-    J: Naming + Send + Sync,
-    S: Wait + Drop + Send + 's,
-    Q: Threads + Wait + Sync,
-    R: Read + Send + Drop + 's,
->(
+fn start_session<'s, E, J, S, Q, R>(
     scope: &'s Scope<'s, E>,
     rt: &'s Q,
     alloc: Global,
     shared: &'s Shared<J, S>,
     script: Script<R>,
 ) -> Option<Running<J, R>>
+where
+    J: Naming + Send + Sync,
+    S: Wait + Drop + Send + 's,
+    Q: Threads + Wait + Sync,
+    R: Read + Send + Drop + 's,
     requires { script.session.book ≡ J.book }
     ensures { IfSome result (λ h. (h.promise.begun.value ≡ script) × (h.promise.stored ≡ has_store shared.now)) }
 {
@@ -174,7 +168,8 @@ fn run_script<J: Naming, S: Wait + Drop, Q: Threads + Wait + Sync, R: Read>(
     } = script;
     let mut bytes = Vec::new(alloc);
     let end = session_run(rt, alloc, shared, &mut session, &mut reader, &mut bytes);
-    let _number = session.number();
+    // It has seen some version: the clauses rest on that.
+    let _ = session.number();
     Ended {
         session,
         reader,

@@ -41,15 +41,11 @@ struct Opened<D: Disk> {
 /// k runs the k-th reader's script, counted from 0, and the outcomes stand in the readers' order. The book begins with the
 /// engine's version and is committed to its store; without an engine it begins empty, and is kept in memory alone.
 ///
-/// Before it returns, every tile that was finished is in the store, unless a device call failed or the store is full.
+/// Before it returns, it commits once more what the workers finished, so that each finished tile is in the store, unless
+/// that commit was refused: by the device (30, 35), for want of blocks (31), of sequence numbers (36) or of memory (40).
 /// Where memory or a thread is refused it fails with 40, and where the book gives no places for its sessions with 44;
 /// the disk comes back then. A script that was begun meanwhile ends as in a book that closes.
-pub fn serve<
-    D: Disk + Send + Drop,
-    R: Read + Send + Drop,
-    G: Gate + Sync,
-    Q: Threads + Wait + Sync,
->(
+pub fn serve<D, R, G, Q>(
     rt: &Q,
     alloc: Global,
     options: ServeOptions,
@@ -57,6 +53,11 @@ pub fn serve<
     engine: Option<Engine<D>>,
     readers: Vec<R>,
 ) -> Result<Served<D>, ServerFault<D>>
+where
+    D: Disk + Send + Drop,
+    R: Read + Send + Drop,
+    G: Gate + Sync,
+    Q: Threads + Wait + Sync,
     requires readers { (0 < length readers.items) × (length readers.items ≤ 4) }
     // Each reader has its replies; what is left of book and store stands for the log that has all that was seen.
     ensures served { IfOk result (IsServedFrom R.remaining D.Disk (start_of engine) (flusher_of engine) readers.items) }
@@ -89,13 +90,7 @@ fn history_of_engine<D: Disk>(alloc: Global, engine: Option<Engine<D>>) -> Opene
 }
 
 /// The server of a book that is named by its history.
-fn serve_in<
-    J: Naming + Send + Sync,
-    D: Disk + Send + Drop,
-    R: Read + Send + Drop,
-    G: Gate + Sync,
-    Q: Threads + Wait + Sync,
->(
+fn serve_in<J, D, R, G, Q>(
     rt: &Q,
     alloc: Global,
     options: ServeOptions,
@@ -103,6 +98,12 @@ fn serve_in<
     opened: Opened<D>,
     readers: Vec<R>,
 ) -> Result<Served<D>, ServerFault<D>>
+where
+    J: Naming + Send + Sync,
+    D: Disk + Send + Drop,
+    R: Read + Send + Drop,
+    G: Gate + Sync,
+    Q: Threads + Wait + Sync,
     requires book { opened.trace.book ≡ J.book }
     requires readers { (0 < length readers.items) × (length readers.items ≤ 4) }
     ensures served { IfOk result (IsServedFrom R.remaining D.Disk opened.version opened.flusher readers.items) }
@@ -132,14 +133,7 @@ fn serve_in<
 }
 
 /// The server of a book that was just opened.
-fn run_book<
-    J: Naming + Send + Sync,
-    S: Wait + Drop + Send,
-    D: Disk + Send + Drop,
-    R: Read + Send + Drop,
-    G: Gate + Sync,
-    Q: Threads + Wait + Sync,
->(
+fn run_book<J, S, D, R, G, Q>(
     rt: &Q,
     alloc: Global,
     options: ServeOptions,
@@ -150,6 +144,13 @@ fn run_book<
     sessions: Vec<Session>,
     readers: Vec<R>,
 ) -> Result<Served<D>, ServerFault<D>>
+where
+    J: Naming + Send + Sync,
+    S: Wait + Drop + Send,
+    D: Disk + Send + Drop,
+    R: Read + Send + Drop,
+    G: Gate + Sync,
+    Q: Threads + Wait + Sync,
     requires readers { 0 < length readers.items }
     requires stored { has_store shared ≡ is_some store.flusher }
     requires reporter { (store.reporter.book ≡ J.book) × (store.reporter.log ≡ first_log start.value) }

@@ -35,20 +35,18 @@ impl<J: Naming, D: Disk> Promise<Store<D>> for KeepsStore<J, D> {
 }
 
 /// Starts the thread of the store. Where it is refused the book closes, and the store comes back.
-pub fn start_store<
-    's,
-    E,
-    J: Naming + Send + Sync,
-    S: Wait + Drop + Send + 's,
-    Q: Threads + Wait + Sync,
-    D: Disk + Send + Drop + 's,
->(
+pub fn start_store<'s, E, J, S, Q, D>(
     scope: &'s Scope<'s, E>,
     rt: &'s Q,
     alloc: Global,
     shared: &'s Shared<J, S>,
     store: Store<D>,
 ) -> Result<PromisedHandle<Store<D>, KeepsStore<J, D>>, Store<D>>
+where
+    J: Naming + Send + Sync,
+    S: Wait + Drop + Send + 's,
+    Q: Threads + Wait + Sync,
+    D: Disk + Send + Drop + 's,
     requires { store.reporter.book ≡ J.book }
     ensures { MatchResult result (λ h. h.promise.begun.value ≡ store) (λ after. IsKept J.book D.Disk store after) }
 {
@@ -94,6 +92,7 @@ pub fn keep_store<J: Naming, S: Wait + Drop, Q: Wait, D: Disk>(
         }
         None => None,
     };
-    let _given = reporter.given();
+    // What the reporter has seen is a log with a first entry: the clauses rest on that.
+    let _ = reporter.given();
     Store { reporter, flusher }
 }

@@ -28,14 +28,7 @@ pub struct Returned<R, D: Disk> {
 
 /// Runs workers, the store and a session for each script in threads of their own, and takes them in. Where a thread is
 /// refused, the book closes, and the others end.
-pub fn run_threads<
-    J: Naming + Send + Sync,
-    S: Wait + Drop + Send,
-    G: Gate + Sync,
-    Q: Threads + Wait + Sync,
-    R: Read + Send + Drop,
-    D: Disk + Send + Drop,
->(
+pub fn run_threads<J, S, G, Q, R, D>(
     rt: &Q,
     alloc: Global,
     gate: &G,
@@ -45,6 +38,13 @@ pub fn run_threads<
     scripts: Vec<Script<R>>,
     rooms: Rooms<J, R>,
 ) -> Returned<R, D>
+where
+    S: Wait + Drop + Send,
+    J: Naming + Send + Sync,
+    G: Gate + Sync,
+    Q: Threads + Wait + Sync,
+    R: Read + Send + Drop,
+    D: Disk + Send + Drop,
     requires store { store.reporter.book ≡ J.book }
     requires scripts { All (λ script. script.session.book ≡ J.book) scripts.items }
     requires rooms { HasRooms rooms (length scripts.items) }
@@ -68,16 +68,7 @@ pub fn run_threads<
 }
 
 /// The same in a scope.
-fn run_in<
-    's,
-    E,
-    J: Naming + Send + Sync,
-    S: Wait + Drop + Send + 's,
-    G: Gate + Sync,
-    Q: Threads + Wait + Sync,
-    R: Read + Send + Drop + 's,
-    D: Disk + Send + Drop + 's,
->(
+fn run_in<'s, E, J, S, G, Q, R, D>(
     scope: &'s Scope<'s, E>,
     rt: &'s Q,
     alloc: Global,
@@ -88,6 +79,13 @@ fn run_in<
     scripts: Vec<Script<R>>,
     rooms: Rooms<J, R>,
 ) -> Returned<R, D>
+where
+    S: Wait + Drop + Send + 's,
+    J: Naming + Send + Sync,
+    G: Gate + Sync,
+    Q: Threads + Wait + Sync,
+    R: Read + Send + Drop + 's,
+    D: Disk + Send + Drop + 's,
     requires store { store.reporter.book ≡ J.book }
     requires scripts { All (λ script. script.session.book ≡ J.book) scripts.items }
     requires rooms { HasRooms rooms (length scripts.items) }

@@ -16,17 +16,17 @@ use Rattle.overlay_terms.proofs.Options.{both_absent}
 use Rattle.overlay_terms.proofs.KeptCommands.{untouched_input_stays}
 
 -- what a tile of a layer and column must be: its layer is derived, its column is there, and it is that of its input
-record IsRight (layers : List Layer) (name : Name) (k : ℕ) (tile : Tile) : Type 0 where
+pub record IsRight (layers : List Layer) (name : Name) (k : ℕ) (tile : Tile) : Type 0 where
   pub derived_layer : IsTrue (stands_as_derived layers name)
   pub known_column : k < column_count
   pub exact : IsTileAt pieces_max (input_of layers name k) tile
 
 -- each tile of some is as it must be
-abbrev AreRight : List Layer → List Finished → Type 0
+abbrev pub AreRight : List Layer → List Finished → Type 0
 AreRight layers tiles = (name : Name) (k : ℕ) (tile : Tile) → tile_at tiles name k ≡ Some tile → IsRight layers name k tile
 
 -- tiles that have their place and are exact are as they must be
-are_right : (version : Version) → TilesFit version → TilesAreExact version → AreRight version.layers version.tiles
+pub are_right : (version : Version) → TilesFit version → TilesAreExact version → AreRight version.layers version.tiles
 are_right version fit exact name k tile e =
     record { derived_layer = (fit name k tile e).0; known_column = (fit name k tile e).1; exact = exact name k tile e }
 
@@ -35,7 +35,7 @@ pub accepted_by_layers : (old : Version) (command : Command) → refusal_at old.
 accepted_by_layers old command e = (both_absent (refusal_of old.layers command) (when (old.number == version_max) version_limit) e).first
 
 -- a tile after a command was there before it, and is untouched
-right_after_command : (layers : List Layer) (command : Command) (name : Name) (k : ℕ) (tile : Tile) (b : Bool) (before : Option Tile) → is_touched layers command name k ≡ b → (before ≡ Some tile → IsRight layers name k tile) → (if b then None else before) ≡ Some tile → IsRight (applied layers command) name k tile
+pub right_after_command : (layers : List Layer) (command : Command) (name : Name) (k : ℕ) (tile : Tile) (b : Bool) (before : Option Tile) → is_touched layers command name k ≡ b → (before ≡ Some tile → IsRight layers name k tile) → (if b then None else before) ≡ Some tile → IsRight (applied layers command) name k tile
 right_after_command layers command name k tile true before touched right there = absurd (cc)
 right_after_command layers command name k tile false before untouched right there =
     let old = right there in

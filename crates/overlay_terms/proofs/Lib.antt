@@ -37,3 +37,4 @@ pub mod KeptHistories
 pub mod BuildingLemmas
 pub mod FormLemmas
 pub mod HistoryFolds
+pub mod BatchLemmas

@@ -14,9 +14,12 @@ pub mod Histories
 pub mod TileLaws
 pub mod LayerCode
 pub mod InputCode
+pub mod CommandCode
 pub mod Laws
 pub mod InputLaws
 pub mod KeptLaws
 pub mod LayerParity
 pub mod HistoryLaws
+pub mod Batches
+pub mod BatchLaws
 pub mod StoredTiles

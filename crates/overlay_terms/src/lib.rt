@@ -1,6 +1,7 @@
 //! The definitions that the contracts of the overlay cite, laws over them, and the white space of texts.
 #![tactic(auto)]
 
+pub mod batch_law;
 pub mod blank;
 pub mod history_law;
 pub mod input_law;

@@ -121,14 +121,14 @@ fn late<J: Naming, R: Wait + Clock + Abort>(
     alloc: Global,
     shared: &Shared<J, &R>,
     reporter: &mut Reporter,
-    me: &mut Session,
+    other: &mut Session,
     asked: &Call,
 ) -> Answer
-    requires { (reporter.old.book ≡ J.book) × (me.old.book ≡ J.book) }
-    ensures { (reporter.new.book ≡ reporter.old.book) × (me.new.book ≡ me.old.book) }
+    requires { (reporter.old.book ≡ J.book) × (other.old.book ≡ J.book) }
+    ensures { (reporter.new.book ≡ reporter.old.book) × (other.new.book ≡ other.old.book) }
 {
     sleep(rt, Duration::from_millis(100));
-    answer(rt, alloc, shared, reporter, me, asked)
+    answer(rt, alloc, shared, reporter, other, asked)
 }
 
 /// Asserts that two lists of fifty numbers have the hundred behind one between them, and so each once.

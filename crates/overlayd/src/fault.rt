@@ -16,7 +16,7 @@ pub enum ProgramFault {
     Words,
     /// A script can't be opened.
     Script,
-    /// The store is not made, or not opened.
+    /// The store is not made, is not opened, or refuses the newest version.
     Store(StoreFault),
     /// No memory, or no thread.
     OutOfMemory,

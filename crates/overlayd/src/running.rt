@@ -3,7 +3,7 @@ use crate::ending::{have_ended, unsaid};
 use crate::fault::ProgramFault;
 use crate::printing::print_all;
 use crate::script::open_scripts;
-use crate::store::{open_store, store_newest};
+use crate::store::{has_stored, open_store};
 use overlay_server::outcome::{ServeOptions, Served};
 use overlay_server::serving::serve;
 use program_words::reading::read_words;
@@ -17,8 +17,8 @@ use std::thread::Threads;
 use tile_workers::gate::OpenGate;
 
 /// Runs the scripts that the words name, and prints what each session wrote. It says whether every script was read to
-/// its end. The fault is one that no session's replies tell: the newest version is not in the store, where there is
-/// one, the replies can't be printed, or a session had no memory.
+/// its end and the newest version is in the store, where there is one. The fault is one that no session's replies tell:
+/// the store refuses the newest version, the replies can't be printed, or a session had no memory.
 pub fn run<Q: Env + Files<File = File> + Threads + Wait + Sync + AllocGlobal>(
     rt: &Q,
     input: Stdin,
@@ -33,13 +33,13 @@ pub fn run<Q: Env + Files<File = File> + Threads + Wait + Sync + AllocGlobal>(
     match serve(rt, rt.alloc(), options, &OpenGate, engine, scripts) {
         Ok(Served { sessions, closed }) => {
             let printed = print_all(output, &sessions);
-            store_newest(rt, &plan, closed)?;
+            let stored = has_stored(rt, &plan, closed)?;
             if printed.is_err() {
                 return Err(ProgramFault::Write);
             }
             match unsaid(&sessions) {
                 Some(fault) => Err(fault),
-                None => Ok(have_ended(&sessions)),
+                None => Ok(stored && have_ended(&sessions)),
             }
         }
         Err(refused) => Err(ProgramFault::of_server(refused.code)),

@@ -1,7 +1,4 @@
 //! The store that the program keeps its layers in.
-ghost use Rattle.std.specs.Prelude.{◌≡◌, false};
-ghost use Rattle.root_store.specs.Running.{is_busy};
-
 use crate::ending::is_stored;
 use crate::fault::ProgramFault;
 use book_closing::closing::Closed;
@@ -13,7 +10,6 @@ use std::fs::File;
 use std::io::ErrorKind;
 use std::rt::Files;
 use std::sync::Wait;
-use version_core::version::Version;
 
 /// Makes or opens the store that the words name. None comes where they name none.
 pub fn open_store<Q: Files<File = File> + AllocGlobal>(
@@ -35,45 +31,30 @@ pub fn open_store<Q: Files<File = File> + AllocGlobal>(
     }
 }
 
-/// Commits the newest version where it is not in the store at the end of a run, as where the store was full: the store
-/// is opened once more, and what refuses it is the fault.
-pub fn store_newest<Q: Wait + AllocGlobal>(
+/// Whether the newest version is stored at the end of a run. Where it is not, the store is opened once more to learn why:
+/// what refuses to begin the commit is the fault. Nothing is committed.
+pub fn has_stored<Q: Wait + AllocGlobal>(
     rt: &Q,
     plan: &Plan,
     closed: Closed<FileDisk>,
-) -> Result<(), ProgramFault> {
+) -> Result<bool, ProgramFault> {
     if is_stored(&closed) {
-        return Ok(());
+        return Ok(true);
     }
     let Closed { version, disk, .. } = closed;
     let Some(disk) = disk else {
-        return Ok(());
+        return Ok(true);
     };
     match Engine::recover(rt.alloc(), disk, plan.max_blocks) {
-        Ok(engine) => commit(rt, engine, &version),
+        Ok(engine) => {
+            let (_, mut flusher) = engine.into_parts();
+            flusher
+                .begin(rt.alloc(), &version)
+                .map_err(ProgramFault::Store)?;
+            Ok(false)
+        }
         Err(refused) => Err(ProgramFault::Store(refused.fault)),
     }
-}
-
-/// Commits a version to a store that was just opened.
-fn commit<Q: Wait + AllocGlobal>(
-    rt: &Q,
-    engine: Engine<FileDisk>,
-    version: &Version,
-) -> Result<(), ProgramFault>
-    requires { is_busy engine.flusher.commit.phase ≡ false }
-{
-    let (_, mut flusher) = engine.into_parts();
-    flusher
-        .begin(rt.alloc(), version)
-        .map_err(ProgramFault::Store)?;
-    for _ in 0..u64::MAX {
-        if !flusher.busy() {
-            break;
-        }
-        flusher.step().map_err(ProgramFault::Store)?;
-    }
-    Ok(())
 }
 
 fn open_disk<Q: Files<File = File> + AllocGlobal>(

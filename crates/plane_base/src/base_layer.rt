@@ -4,6 +4,7 @@ ghost use Rattle.overlay_terms.specs.Plane.{WholePoint, Segment, segments_of, ri
 ghost use Rattle.overlay_terms.specs.InputLaws.{IsRing};
 ghost use Rattle.plane_base.specs.BaseLayer.{rings_fault, ring_fault, first_ring_fault, PointsInRange};
 
+use crate::blocks::Blocks;
 use crate::fault::PlaneFault;
 use crate::point::{Pt, Seg};
 use std::alloc::{AllocError, Global};
@@ -102,11 +103,11 @@ fn is_within_limit(rings: &[Ring]) -> bool
     true
 }
 
-/// Closed rings and their segments.
+/// Closed rings and their segments, which stand in blocks too.
 #[derive(Debug, Drop)]
 pub struct BaseLayer {
     rings: Vec<Ring>,
-    segs: Vec<Seg>,
+    blocks: Blocks,
 }
 
 impl Model for BaseLayer {
@@ -114,7 +115,7 @@ impl Model for BaseLayer {
 
     ghost view = { λ b. b.rings.items };
 
-    ghost invariant = { λ b. (rings_fault b.rings.items ≡ None) × (b.segs.items ≡ segments_of b.rings.items) × All IsRing b.rings.items };
+    ghost invariant = { λ b. (rings_fault b.rings.items ≡ None) × (b.blocks ≡ segments_of b.rings.items) × All IsRing b.rings.items };
 }
 
 impl BaseLayer {
@@ -135,7 +136,8 @@ impl BaseLayer {
         for ring in &rings {
             add_segments(&mut segs, ring.points())?;
         }
-        Ok(BaseLayer { rings, segs })
+        let blocks = Blocks::new(alloc, segs)?;
+        Ok(BaseLayer { rings, blocks })
     }
 
     pub fn rings(&self) -> &[Ring]
@@ -151,6 +153,13 @@ impl BaseLayer {
         ensures value { result.now ≡ segments_of self.now }
         ensures valid { rings_fault self.now ≡ None }
     {
-        &self.segs
+        self.blocks.segs()
+    }
+
+    /// The segments in blocks.
+    pub fn blocks(&self) -> &Blocks
+        ensures { result.now ≡ segments_of self.now }
+    {
+        &self.blocks
     }
 }

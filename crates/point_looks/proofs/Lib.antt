@@ -1,2 +1,2 @@
 mod FloorLemmas
-mod LookLemmas
+pub mod LookLemmas

@@ -35,4 +35,32 @@ impl Spot {
             ceil_y: ceil(at.y, at.w),
         }
     }
+
+    /// The greatest whole number that is at most the point's x.
+    pub fn floor_x(&self) -> i64
+        ensures { IsFloor result (point_of self.now).x (point_of self.now).w }
+    {
+        self.floor_x
+    }
+
+    /// The least whole number that is at least the point's x.
+    pub fn ceil_x(&self) -> i64
+        ensures { IsCeil result (point_of self.now).x (point_of self.now).w }
+    {
+        self.ceil_x
+    }
+
+    /// The greatest whole number that is at most the point's y.
+    pub fn floor_y(&self) -> i64
+        ensures { IsFloor result (point_of self.now).y (point_of self.now).w }
+    {
+        self.floor_y
+    }
+
+    /// The least whole number that is at least the point's y.
+    pub fn ceil_y(&self) -> i64
+        ensures { IsCeil result (point_of self.now).y (point_of self.now).w }
+    {
+        self.ceil_y
+    }
 }

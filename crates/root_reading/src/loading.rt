@@ -40,11 +40,11 @@ fn with_base<D: Disk>(
     name: &[u8],
     extent: RecordExtent,
 ) -> Result<Layers, LoadFault>
+    ensures stored { (tiles : List Finished) → AreStored layers.now tiles → IfOk result (λ l. AreStored l tiles) }
     ensures honest { D.is_honest disk.new ↔ D.is_honest disk.old }
     ensures looks { D.is_honest disk.old → Looks D.Disk disk.old disk.new }
     ensures gives { D.is_honest disk.old
         → Gives (λ l. l) result (layers_with_base (D.seen disk.old) layers.now name.now extent) }
-    ensures stored { (tiles : List Finished) → AreStored layers.now tiles → IfOk result (λ l. AreStored l tiles) }
     ensures cause { D.is_honest disk.old → Causes result (D.faults disk.old) (D.faults disk.new) }
 {
     let rings = base_at(alloc, disk, extent)?;

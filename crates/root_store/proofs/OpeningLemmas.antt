@@ -3,7 +3,7 @@ use Rattle.std.proofs.Common.{◌≡◌, ◌≢◌, inl, inr, ℕ, ◌<◌, ◌�
 use Rattle.std.specs.Prelude.{IsErrAnd, IfErr}
 use Rattle.std.proofs.lemmas.Result.{err_from_is_err_and}
 use Rattle.disk_model.specs.declared.disk.Disk.{Ghosts}
-use Rattle.disk_model.specs.Disk.{Torn}
+use Rattle.disk_model.specs.Disk.{Torn, Only}
 use Rattle.disk_model.specs.Moments.{Leaves, LeavesOnly}
 use Rattle.disk_model.proofs.Runs.{joined, widened}
 use Rattle.store_terms.specs.declared.damage.Damage.{Damage}
@@ -17,8 +17,8 @@ use Rattle.commit_plan.specs.declared.loading.Loaded.{Loaded}
 use Rattle.commit_plan.specs.Kept.{Kept, other, Live, Rest, Shut, Calm}
 use Rattle.commit_plan.specs.Loading.{held_in}
 use Rattle.root_store.specs.Healing.{kept_of}
-use Rattle.root_reading.specs.Looking.{Refuses, Causes}
-use Rattle.root_store.specs.Opening.{Heals, IsRead, Opened, Loads, Untouched, Writes, fault_of, Tells, FailedBy}
+use Rattle.root_reading.specs.Looking.{Looks, Refuses, Causes}
+use Rattle.root_store.specs.Opening.{Heals, IsRead, Opened, Loads, InPhases, Stops, Untouched, Writes, fault_of, Tells, FailedBy}
 use Rattle.commit_plan.specs.declared.fault.StoreFault.{StoreFault}
 use Rattle.commit_plan.specs.declared.fault.StoreFault.TheVariants as stores
 use Rattle.root_reading.proofs.Looked.{if_err}
@@ -131,6 +131,36 @@ module _ {D : Type 0} (g : Ghosts D) (old mid : D) (x : Loaded) (is_alone : Bool
           err =
               λ f left. same_stands f (still f left);
         })
+
+-- after the first sync all is only read
+pub phases_read : {D : Type 0} (g : Ghosts D) (old mid new : D) → Looks g old mid
+    → Only (g.seen old) (g.may_leave mid) → Looks g mid new → InPhases g old new
+phases_read g old mid new first only rest = record {
+  synced = mid;
+  before = first.run;
+  only = only;
+  after = widened g mid new (g.may_leave mid) (λ file. reading file ≡ reading (g.seen old))
+      (λ c left. ap reading (only c left)) rest.run;
+}
+
+-- and then a body is made whole
+pub phases_healed : {D : Type 0} (g : Ghosts D) (old mid new : D) (r : Root) (held : Held)
+    → reading (g.seen old) ≡ Ok held → InPhases g old mid
+    → LeavesOnly g mid new (Shut (kept_of (g.seen old) r held)) → InPhases g old new
+phases_healed g old mid new r held reads phases run = record {
+  synced = phases.synced;
+  before = phases.before;
+  only = phases.only;
+  after = joined g phases.synced mid new (λ file. reading file ≡ reading (g.seen old))
+      (Shut (kept_of (g.seen old) r held))
+      (λ c shut. shut_stands (kept_of (g.seen old) r held) c shut ∙ sym reads) phases.after run;
+}
+
+-- why opening ended early, as the store tells it
+pub stops_told : {D : Type 0} (g : Ghosts D) (old new : D) (fault : LoadFault) (told : StoreFault)
+    → told ≡ fault_of fault → Stops g old (fault ≡ Device) new → Stops g old (told ≡ stores.Device) new
+stops_told g old new fault told is (inl (failed, run)) = inl (is ∙ ap fault_of failed, run)
+stops_told g old new fault told is (inr phases) = inr phases
 
 -- a file of which one gate is shut, once the body behind it is written
 pub body_writes : (file now new : List ℕ) (r : Root) → root_of file ≡ Ok r → has_shut_gate file ≡ true → now ≡ file

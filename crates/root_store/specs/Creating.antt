@@ -1,5 +1,5 @@
 -- A new file.
-use Rattle.std.specs.Prelude.{◌≡◌, ◌⊎◌, ℕ, ◌<◌, ◌≤◌, slice_index, List, [], ◌∷◌, length, take, ◌==◌, nat_lt, not, if◌then◌else◌, Option, Some, None}
+use Rattle.std.specs.Prelude.{◌≡◌, ◌⊎◌, ℕ, ◌+◌, ◌<◌, ◌≤◌, slice_index, List, [], ◌∷◌, length, take, ◌==◌, nat_lt, not, if◌then◌else◌, Option, Some, None}
 use Rattle.disk_model.specs.Disk.{part}
 use Rattle.store_terms.specs.declared.root.Root.{Root}
 use Rattle.store_terms.specs.Roots.{body_text}
@@ -58,6 +58,11 @@ BlankIsAtRest = (file : List ℕ) → IsBlank file → gate file 0 ≡ open_gate
 abbrev pub refusal_of_new : List ℕ → ℕ → Option StoreFault
 refusal_of_new file max_blocks =
     if not (length file == 0) then Some NotEmpty else if nat_lt max_blocks 3 then Some Full else None
+
+-- what is known of the calls behind a refusal: the length alone was asked for, or the device failed in one of the five
+abbrev pub CallsBehind : StoreFault → ℕ → ℕ → Type 0
+CallsBehind Device old new = new ≤ old + 5
+CallsBehind fault old new = new ≡ old + 1
 
 -- a fault tells the reason, unless the device failed; memory is asked for only where there is none
 abbrev pub Tells : StoreFault → Option StoreFault → Type 0

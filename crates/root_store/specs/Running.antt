@@ -1,6 +1,7 @@
 -- What is known of a store between the calls of its disk.
-use Rattle.std.specs.Prelude.{◌≡◌, ℕ, ◌+◌, ◌-◌, ◌<◌, Bool, true, false, List, length, drop, Result, IfOk, OnErr}
+use Rattle.std.specs.Prelude.{◌≡◌, ◌⊎◌, ℕ, ◌+◌, ◌-◌, ◌<◌, ◌≤◌, Bool, true, false, List, length, drop, Result, IfOk, OnErr}
 use Rattle.disk_model.specs.declared.disk.Disk.{Ghosts}
+use Rattle.disk_model.specs.Disk as device
 use Rattle.disk_model.specs.Moments.{Leaves, LeavesOnly}
 use Rattle.extent_map.specs.Taken.{taken_of, limit_of}
 use Rattle.store_terms.specs.StandsFor.{gate, open_gate}
@@ -61,6 +62,11 @@ module _ {D : Type 0} (g : Ghosts D) where
     pub ok : IfOk result (λ p. Outcome new p x y)
     -- open the disk again
     pub err : OnErr result (Leaves g new.disk (Either x y) × (new.phase ≡ Failed))
+
+  -- a store fails by its device alone: the count of failed calls never sinks, and it rose where the store failed
+  pub record FailsByDevice (old new : Commit D) : Type 0 where
+    pub no_less : g.faults old.disk ≤ g.faults new.disk
+    pub failed : new.phase ≡ Failed → (old.phase ≡ Failed) ⊎ device.Failed (g.faults old.disk) (g.faults new.disk)
 
 -- the live root and the next one stay as they are
 abbrev pub KeepsRoots : {D : Type 0} → Commit D → Commit D → Type 0

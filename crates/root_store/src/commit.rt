@@ -1,8 +1,8 @@
 //! A store, and a commit of it, one device call a step.
-ghost use Rattle.std.specs.Prelude.{◌≡◌, ◌↔◌, ℕ, IfOk, OnErr, IsErrOf, IfErr};
-ghost use Rattle.disk_model.specs.Disk.{Failed};
+ghost use Rattle.std.specs.Prelude.{◌≡◌, ◌↔◌, ℕ, true, IfOk, OnErr, IsErrOf, IfErr};
+ghost use Rattle.disk_model.specs.Disk.{Failed, CountsCall};
 ghost use Rattle.commit_plan.specs.Kept.{Kept};
-ghost use Rattle.root_store.specs.Running.{Runs, KeepsTo, Stepped, Counts, Turns, KeepsRoots, calls_left, is_busy, fault_in};
+ghost use Rattle.root_store.specs.Running.{Runs, KeepsTo, Stepped, FailsByDevice, Counts, Turns, KeepsRoots, calls_left, is_busy, fault_in};
 
 use crate::finding::GATE_OPEN;
 use crate::phase::{Phase, Progress};
@@ -75,6 +75,11 @@ impl<D: Disk> Commit<D> {
         ensures errors { IfErr result (λ fault. fault ≡ fault_in self.old.phase) }
         ensures cause { D.is_honest self.old.disk → IsErrOf result StoreFault.Device
             → Failed (D.faults self.old.disk) (D.faults self.new.disk) }
+        // One device call is made where a commit is under way; where none is, nothing changes.
+        ensures calls { D.is_honest self.old.disk → is_busy self.old.phase ≡ true
+            → CountsCall result (D.calls self.old.disk) (D.calls self.new.disk) }
+        // It fails where a device call failed, now or before, and only there.
+        ensures by_device { D.is_honest self.old.disk → FailsByDevice D.Disk self.old self.new }
     {
         match self.phase {
             Phase::Idle => Ok(Progress::Idle),

@@ -6,7 +6,7 @@ ghost use Rattle.extent_map.specs.Taken.{taken_of, limit_of};
 ghost use Rattle.commit_plan.specs.Kept.{Rest};
 ghost use Rattle.root_store.specs.Running.{Stands, KeepsTo};
 ghost use Rattle.root_reading.specs.Taking.{IsMapOf};
-ghost use Rattle.root_store.specs.Creating.{nothing_kept, first_root, IsFirstWrite, IsNewFile, refusal_of_new, Tells};
+ghost use Rattle.root_store.specs.Creating.{nothing_kept, first_root, IsFirstWrite, IsNewFile, refusal_of_new, Tells, CallsBehind};
 
 use crate::commit::Commit;
 use crate::finding::GATE_OPEN;
@@ -75,6 +75,8 @@ fn check<D: Disk>(disk: &mut D, max_blocks: u32) -> Result<(), StoreFault>
     ensures cause { D.is_honest disk.old → IsErrOf result StoreFault.Device
         → Failed (D.faults disk.old) (D.faults disk.new) }
     ensures count { D.is_honest disk.old → OnOk result (D.faults disk.new ≡ D.faults disk.old) }
+    ensures calls { D.is_honest disk.old → MatchResult result (λ _. D.calls disk.new ≡ D.calls disk.old + 1)
+        (λ fault. CallsBehind fault (D.calls disk.old) (D.calls disk.new)) }
 {
     if disk.length()? != 0 {
         return Err(StoreFault::NotEmpty);
@@ -93,6 +95,8 @@ fn format<D: Disk>(disk: &mut D, bytes: &[u8]) -> Result<(), DiskFault>
         → OnOk result (Leaves D.Disk disk.new (Rest nothing_kept)) }
     ensures file { D.is_honest disk.old → length (D.seen disk.old) ≡ 0 → OnOk result (Leaves D.Disk disk.new IsNewFile) }
     ensures cause { D.is_honest disk.old → CountsFailure result (D.faults disk.old) (D.faults disk.new) }
+    ensures calls { D.is_honest disk.old → MatchResult result (λ _. D.calls disk.new ≡ D.calls disk.old + 4)
+        (λ _. D.calls disk.new ≤ D.calls disk.old + 4) }
 {
     disk.write_at(0, bytes)?;
     disk.sync()?;
@@ -134,6 +138,8 @@ fn prepare<D: Disk>(
         → (D.seen disk.new ≡ D.seen disk.old) × Fewer (D.may_leave disk.old) (D.may_leave disk.new) }
     ensures cause { D.is_honest disk.old → IsErrOf result StoreFault.Device
         → Failed (D.faults disk.old) (D.faults disk.new) }
+    ensures calls { D.is_honest disk.old → MatchResult result (λ _. D.calls disk.new ≡ D.calls disk.old + 5)
+        (λ fault. CallsBehind fault (D.calls disk.old) (D.calls disk.new)) }
 {
     check(disk, max_blocks)?;
     let bytes = blank(alloc)?;
@@ -167,6 +173,9 @@ pub fn create<D: Disk>(
         (λ refused. (D.seen refused.disk ≡ D.seen disk) × Fewer (D.may_leave disk) (D.may_leave refused.disk)) }
     ensures cause { D.is_honest disk
         → IfErr result (λ refused. refused.fault ≡ StoreFault.Device → Failed (D.faults disk) (D.faults refused.disk)) }
+    // Five device calls are made; of a file that is refused, or without memory, the length alone is asked for.
+    ensures calls { D.is_honest disk → MatchResult result (λ store. D.calls store.disk ≡ D.calls disk + 5)
+        (λ refused. CallsBehind refused.fault (D.calls disk) (D.calls refused.disk)) }
 {
     match prepare(alloc, &mut disk, max_blocks) {
         Ok((room, next_room)) => Ok(Commit {

@@ -11,7 +11,7 @@ ghost use Rattle.commit_plan.specs.Kept.{Kept};
 ghost use Rattle.commit_plan.specs.Loading.{held_in};
 ghost use Rattle.root_store.specs.Running.{Stands, KeepsTo};
 ghost use Rattle.root_reading.specs.Looking.{Gives, Looks, Causes};
-ghost use Rattle.root_store.specs.Opening.{IsRead, Loads, Opened, Untouched, Writes, HasRoot, Tells, FailedBy, fault_of};
+ghost use Rattle.root_store.specs.Opening.{IsRead, Loads, Opened, Untouched, Writes, HasRoot, Tells, FailedBy, InPhases, Stops, fault_of};
 
 use crate::commit::Commit;
 use crate::finding::{NUMBER_MAX, find_root};
@@ -46,6 +46,9 @@ fn read_store<D: Disk>(
     ensures honest { D.is_honest disk.new ↔ D.is_honest disk.old }
     ensures fewer { D.is_honest disk.old → Fewer (D.may_leave disk.old) (D.may_leave disk.new) }
     ensures run { D.is_honest disk.old → LeavesOnly D.Disk disk.old disk.new (D.may_leave disk.old) }
+    ensures phases { D.is_honest disk.old → OnOk result (InPhases D.Disk disk.old disk.new) }
+    ensures stops { D.is_honest disk.old
+        → IfErr result (λ fault. Stops D.Disk disk.old (fault ≡ LoadFault.Device) disk.new) }
     ensures gives { D.is_honest disk.old → Gives (λ x. held_in x.0) result (reading (D.seen disk.old)) }
     ensures read { D.is_honest disk.old → IfOk result (λ x. IsRead D.Disk disk.old disk.new x.0 x.1) }
     ensures limit { IfOk result (λ x. limit_of x.0.room.map ≡ max_blocks) }
@@ -71,6 +74,9 @@ pub(crate) fn load<D: Disk>(
 ) -> Result<Loaded, LoadFault>
     ensures honest { D.is_honest disk.new ↔ D.is_honest disk.old }
     ensures loads { D.is_honest disk.old → Loads D.Disk disk.old disk.new result }
+    ensures phases { D.is_honest disk.old → OnOk result (InPhases D.Disk disk.old disk.new) }
+    ensures stops { D.is_honest disk.old
+        → IfErr result (λ fault. Stops D.Disk disk.old (fault ≡ LoadFault.Device) disk.new) }
     ensures limit { IfOk result (λ x. limit_of x.room.map ≡ max_blocks) }
     ensures next_limit { IfOk result (λ x. limit_of x.next_room.map ≡ max_blocks) }
     ensures stored { IfOk result (λ x. AreStored x.content.layers (map finished_of x.content.tiles.items)) }
@@ -123,6 +129,10 @@ pub fn open<D: Disk>(
         → IfErr result
         (λ refused. D.is_honest refused.disk × Leaves D.Disk refused.disk (Opened D.Disk disk)
         × LeavesOnly D.Disk disk refused.disk (Opened D.Disk disk)) }
+    // What might have been left before is left until the first sync has succeeded, and no longer.
+    ensures phases { D.is_honest disk → IfOk result (λ x. InPhases D.Disk disk x.0.disk) }
+    ensures stops { D.is_honest disk
+        → IfErr result (λ refused. Stops D.Disk disk (refused.fault ≡ StoreFault.Device) refused.disk) }
     ensures honest { MatchResult result (λ x. D.is_honest x.0.disk ↔ D.is_honest disk)
         (λ refused. D.is_honest refused.disk ↔ D.is_honest disk) }
     // Nothing is written but the body behind a shut gate, and nothing at all of a file that is refused.

@@ -6,7 +6,7 @@ ghost use Rattle.book_history.specs.Known.{seen};
 ghost use Rattle.layer_book.specs.Command.{command};
 ghost use Rattle.script_form.specs.LineReply.{reply_text};
 ghost use Rattle.script_form.specs.Request.{request};
-ghost use Rattle.script_form.specs.Requests.{put, define, remove, locate, grid, list_layers, edges, wait, verify, sync};
+ghost use Rattle.script_form.specs.Requests.{locate, grid, list_layers, edges, wait, verify, sync};
 ghost use Rattle.script_form.specs.Transcript.{asked_column};
 ghost use Rattle.server_session.specs.Answering.{Answers, Submits, result_text};
 ghost use Rattle.server_session.specs.Turn.{Stays, TakesTurn};
@@ -60,9 +60,18 @@ fn answer_request<J: Naming, S: Wait + Drop, Q: Wait + Threads + Sync>(
         Request::Nothing => Ok(LineReply::Nothing),
         Request::TooLong => Err(CommandFault::LineTooLong),
         Request::Malformed => Err(CommandFault::CommandSyntax),
-        Request::Put(name, text) => answer_put(rt, alloc, shared, me, name, text),
-        Request::Define(name, text) => answer_define(rt, alloc, shared, me, name, text),
-        Request::Remove(name) => answer_remove(rt, alloc, shared, me, name),
+        Request::Put(name, text) => {
+            let change = read_put(alloc, name, text)?;
+            submit(rt, alloc, shared, me, &change)
+        }
+        Request::Define(name, text) => {
+            let change = read_define(alloc, name, text)?;
+            submit(rt, alloc, shared, me, &change)
+        }
+        Request::Remove(name) => {
+            let change = read_remove(alloc, name)?;
+            submit(rt, alloc, shared, me, &change)
+        }
         Request::Locate(name, x, y, w) => answer_locate(alloc, me, name, x, y, w),
         Request::Grid(name, x, y, step, nx, ny) => {
             answer_grid(rt, alloc, me, name, x, y, step, nx, ny)
@@ -73,50 +82,6 @@ fn answer_request<J: Naming, S: Wait + Drop, Q: Wait + Threads + Sync>(
         Request::Verify(name, number) => answer_verify(alloc, me, name, number),
         Request::Sync => answer_sync(rt, shared, me),
     }
-}
-
-fn answer_put<J: Naming, S: Wait + Drop, Q: Wait>(
-    rt: &Q,
-    alloc: Global,
-    shared: &Shared<J, S>,
-    me: &mut Session,
-    name: &[u8],
-    text: &[u8],
-) -> Result<LineReply, CommandFault>
-    requires { me.old.book ≡ J.book }
-    ensures { Answers (has_store shared.now) me.old (put name.now text.now) me.new (result_text result) }
-{
-    let change = read_put(alloc, name, text)?;
-    submit(rt, alloc, shared, me, &change)
-}
-
-fn answer_define<J: Naming, S: Wait + Drop, Q: Wait>(
-    rt: &Q,
-    alloc: Global,
-    shared: &Shared<J, S>,
-    me: &mut Session,
-    name: &[u8],
-    text: &[u8],
-) -> Result<LineReply, CommandFault>
-    requires { me.old.book ≡ J.book }
-    ensures { Answers (has_store shared.now) me.old (define name.now text.now) me.new (result_text result) }
-{
-    let change = read_define(alloc, name, text)?;
-    submit(rt, alloc, shared, me, &change)
-}
-
-fn answer_remove<J: Naming, S: Wait + Drop, Q: Wait>(
-    rt: &Q,
-    alloc: Global,
-    shared: &Shared<J, S>,
-    me: &mut Session,
-    name: &[u8],
-) -> Result<LineReply, CommandFault>
-    requires { me.old.book ≡ J.book }
-    ensures { Answers (has_store shared.now) me.old (remove name.now) me.new (result_text result) }
-{
-    let change = read_remove(alloc, name)?;
-    submit(rt, alloc, shared, me, &change)
 }
 
 /// The reply to a command.

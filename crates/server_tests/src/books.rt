@@ -44,21 +44,7 @@ where
     R: Read,
     W: Write,
 {
-    run_named(rt, alloc, empty_history(alloc), reader, writer)
-}
-
-fn run_named<Q, R, W>(
-    rt: &Q,
-    alloc: Global,
-    history: History,
-    reader: &mut R,
-    writer: &mut W,
-) -> SessionEnd
-where
-    Q: Threads + Wait + Sync + Abort,
-    R: Read,
-    W: Write,
-{
+    let history = empty_history(alloc);
     run_in::<Brand, Q, R, W>(rt, alloc, history, reader, writer)
 }
 

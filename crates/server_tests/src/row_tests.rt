@@ -1,5 +1,5 @@
 //! Scripts and their replies, by a server without a store.
-use crate::testing::{expect, served};
+use crate::testing::{expect, served, written};
 use disk_model::mem_disk::MemDisk;
 use overlay_engine::engine::Engine;
 use std::test::Fail;
@@ -116,5 +116,19 @@ fn each_reader_has_its_own_replies(rt: HostRuntime) -> Result<(), Fail> {
     expect(&rt, &served, 1, "error 10 unknown layer\n");
     expect(&rt, &served, 2, "");
     expect(&rt, &served, 3, "error 10 unknown layer\n");
+    Ok(())
+}
+
+#[test]
+fn versions_are_numbered_over_all_sessions(rt: HostRuntime) -> Result<(), Fail> {
+    let alloc = rt.alloc();
+    let first = b"PUT A POLYGON ((0 0, 10 0, 10 10, 0 10, 0 0))\n".as_slice();
+    let second = b"PUT B POLYGON ((5 5, 15 5, 15 15, 5 15, 5 5))\n".as_slice();
+    let readers = Vec::from_array(alloc, [first, second])?;
+    let served = served(&rt, alloc, &OpenGate, None::<Engine<MemDisk>>, readers);
+    let earlier = usize::from(written(&served, 0) != b"ok 1\n".as_slice());
+    expect(&rt, &served, earlier, "ok 1\n");
+    expect(&rt, &served, 1 - earlier, "ok 2\n");
+    assert_eq!(rt; served.closed.version.number(), 2);
     Ok(())
 }

@@ -115,6 +115,14 @@ where
     }
 }
 
+/// What a session wrote.
+pub fn written<D>(served: &Served<D>, session: usize) -> &[u8] {
+    match served.sessions.get(session) {
+        Some(outcome) => &outcome.bytes,
+        None => &[],
+    }
+}
+
 /// Compares what a session wrote, which was read to its end.
 pub fn expect<D: Drop>(rt: &impl Abort, served: &Served<D>, session: usize, text: &str) {
     let Some(outcome) = served.sessions.get(session) else {

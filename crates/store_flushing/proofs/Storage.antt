@@ -2,6 +2,7 @@
 use Rattle.std.proofs.Common.{◌≡◌, ◌⊎◌, inl, inr, ℕ, ◌≤◌, true, false, List, [], Result, Ok, Err, OnOk, OnErr, IfOk, ⊎_elim, refl, sym, ap, ◌∙◌, subst, arith}
 use Rattle.std.proofs.lemmas.Bool.{false≢true}
 use Rattle.disk_model.specs.declared.disk.Disk.{Ghosts}
+use Rattle.disk_model.specs.Disk as device
 use Rattle.disk_model.specs.Moments.{Leaves, LeavesOnly}
 use Rattle.disk_model.proofs.Runs.{started, joined, widened}
 use Rattle.overlay_terms.specs.Histories.{Version, History, IsHistory, BeginsWith, newest}
@@ -14,7 +15,7 @@ use Rattle.root_store.specs.declared.phase.Phase.TheVariants.{Idle, Close, Settl
 use Rattle.root_store.specs.declared.phase.Progress.{Progress}
 use Rattle.root_store.specs.declared.phase.Progress.TheVariants as progress
 use Rattle.root_store.specs.declared.commit.Commit.{Commit}
-use Rattle.root_store.specs.Running.{Before, Outcome, Stands, Runs, Stepped, calls_in, is_busy}
+use Rattle.root_store.specs.Running.{Before, Outcome, Stands, Runs, Stepped, FailsByDevice, calls_in, is_busy}
 use Rattle.root_store.proofs.Steps.{rest_either, shut_either, both_either}
 use Rattle.flush_core.specs.declared.flusher.Flusher.{Flusher}
 use Rattle.flush_core.specs.Stored.{stored_after, IsCommitOf, IsImageOf}
@@ -115,6 +116,33 @@ module _ {D : Type 0} (g : Ghosts D) where
   pub store_more : (was now : History) (s : Flusher D) → BeginsWith now was → (newest now).durable ≤ s.commit.root.version → IsStoreOf g was s → IsStoreOf g now s
   store_more was now s longer reported is = record { honest = is.honest; reported = reported; store = in_more was now s.commit.phase s longer is.store }
 
+  -- ---- a store fails by its device alone
+
+  fails_not : (s : Commit D) → FailsByDevice g s s
+  fails_not s = record { no_less = omega arith; failed = inl }
+
+  rose_before : (a b c : ℕ) → device.Failed a b → b ≤ c → device.Failed a c
+  rose_before a b c rose on = omega (arith, rose, on)
+
+  rose_after : (a b c : ℕ) → a ≤ b → device.Failed b c → device.Failed a c
+  rose_after a b c on rose = omega (arith, on, rose)
+
+  fails_twice : (s t u : Commit D) → FailsByDevice g s t → FailsByDevice g t u → FailsByDevice g s u
+  fails_twice s t u first second = record {
+    no_less = omega (arith, first.no_less, second.no_less);
+    failed = λ at. ⊎_elim
+        (λ then. ⊎_elim inl (λ rose. inr (rose_before (g.faults s.disk) (g.faults t.disk) (g.faults u.disk) rose second.no_less)) (first.failed then))
+        (λ rose. inr (rose_after (g.faults s.disk) (g.faults t.disk) (g.faults u.disk) first.no_less rose))
+        (second.failed at);
+  }
+
+  -- no device call was made, and a commit begins
+  fails_begun : (s new : Commit D) → new.disk ≡ s.disk → new.phase ≡ Close → FailsByDevice g s new
+  fails_begun s new disk busy = record {
+    no_less = omega (arith, ap g.faults disk);
+    failed = λ at. absurd (false≢true (ap is_busy (sym at ∙ busy)));
+  }
+
   -- ---- stretches of a run
 
   pub begun : (h : History) (s : Flusher D) → OnlyNow s → IsStoreOf g h s → Flushes g h s h s
@@ -124,6 +152,7 @@ module _ {D : Type 0} (g : Ghosts D) where
     no_less = omega arith;
     reports = λ all. all;
     moments = started g s.commit.disk (IsFileIn h s.commit.root.version) (λ c left. store_leaves h s is c (now c left));
+    by_device = fails_not s.commit;
   }
 
   pub then : (a b c : History) (s t u : Flusher D) → Flushes g a s b t → Flushes g b t c u → Flushes g a s c u
@@ -136,6 +165,7 @@ module _ {D : Type 0} (g : Ghosts D) where
         (λ file is. file_more c c t.commit.root.version s.commit.root.version file (begins_self c) first.no_less is)
         (widened g s.commit.disk t.commit.disk (IsFileIn b s.commit.root.version) (IsFileIn c s.commit.root.version) (λ file is. file_more b c s.commit.root.version s.commit.root.version file second.goes_on (omega arith) is) first.moments)
         second.moments;
+    by_device = fails_twice s.commit t.commit u.commit first.by_device second.by_device;
   }
 
   -- the history goes on where as much is durable, and the store stays
@@ -149,6 +179,7 @@ module _ {D : Type 0} (g : Ghosts D) where
         no_less = omega arith;
         reports = λ all. same ∙ all;
         moments = started g s.commit.disk (IsFileIn now s.commit.root.version) (λ c left. store_leaves now s store c (at c left));
+        by_device = fails_not s.commit;
       }
 
   -- ---- begin
@@ -191,6 +222,7 @@ module _ {D : Type 0} (g : Ghosts D) where
         no_less = omega (arith, stored);
         reports = λ all. all ∙ sym stored;
         moments = subst (λ (d : D). LeavesOnly g s.commit.disk d (IsFileIn h s.commit.root.version)) (sym disk) (started g s.commit.disk (IsFileIn h s.commit.root.version) (λ c left. store_leaves h s is c (at c left)));
+        by_device = fails_begun s.commit new.commit disk busy;
       }
 
   -- ---- step
@@ -292,13 +324,14 @@ module _ {D : Type 0} (g : Ghosts D) where
         (ways h s.commit.phase s refl is.store)
 
     -- one that ends no commit
-    pub steps_on : stored_after r s.commit.root.version ≡ s.commit.root.version → Flushes g h s h new
-    steps_on same = record {
+    pub steps_on : (g.is_honest s.commit.disk → FailsByDevice g s.commit new.commit) → stored_after r s.commit.root.version ≡ s.commit.root.version → Flushes g h s h new
+    steps_on fails same = record {
       goes_on = begins_self h;
       store = steps.store;
       no_less = steps.no_less;
       reports = λ all. all ∙ sym (stored ∙ same);
       moments = steps.moments;
+      by_device = fails is.honest;
     }
 
     done_way : (number : ℕ) → IsHistory h → r ≡ Ok (progress.Done number) → Goes g h s → number ≤ (newest h).number
@@ -314,9 +347,9 @@ module _ {D : Type 0} (g : Ghosts D) where
         (ways h s.commit.phase s refl is.store)
 
   -- a commit that is done, and is reported
-  pub reported : (h n : History) (s new : Flusher D) (number : ℕ) → Moves h s new → new.commit.root.version ≡ number → number ≤ (newest h).number → BeginsWith n h
+  pub reported : (h n : History) (s new : Flusher D) (number : ℕ) → Moves h s new → FailsByDevice g s.commit new.commit → new.commit.root.version ≡ number → number ≤ (newest h).number → BeginsWith n h
       → (number ≤ (newest h).number → number ≤ (newest n).durable) → ((newest n).durable ≡ number) ⊎ ((newest n).durable ≡ (newest h).durable) → Flushes g h s n new
-  reported h n s new number moved done level on reached told =
+  reported h n s new number moved fails done level on reached told =
       let less : (newest n).durable ≤ new.commit.root.version = ⊎_elim (λ to. omega (arith, to, done)) (λ stays. omega (arith, stays, moved.store.reported)) told in
       record {
         goes_on = on;
@@ -324,6 +357,7 @@ module _ {D : Type 0} (g : Ghosts D) where
         no_less = moved.no_less;
         reports = λ all. omega (arith, less, reached level, done);
         moments = widened g s.commit.disk new.commit.disk (IsFileIn h s.commit.root.version) (IsFileIn n s.commit.root.version) (λ file is. file_more h n s.commit.root.version s.commit.root.version file on (omega arith) is) moved.moments;
+        by_device = fails;
       }
 
 Succeeds : {A B : Type 0} → Result A B → Type 0

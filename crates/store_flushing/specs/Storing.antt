@@ -7,7 +7,7 @@ use Rattle.overlay_terms.specs.Histories.{History, BeginsWith, newest}
 use Rattle.root_store.specs.declared.phase.Phase.{Phase}
 use Rattle.root_store.specs.declared.phase.Phase.TheVariants.{Idle, Close, Settle, Put, Open, Finish, Failed}
 use Rattle.commit_plan.specs.Kept.{Kept}
-use Rattle.root_store.specs.Running.{Stands, Runs}
+use Rattle.root_store.specs.Running.{Stands, Runs, FailsByDevice}
 use Rattle.flush_core.specs.declared.flusher.Flusher.{Flusher}
 use Rattle.store_flushing.specs.Among.{IsHeldIn, IsFileIn}
 
@@ -52,7 +52,8 @@ abbrev pub AllReported : {D : Type 0} → History → Flusher D → Type 0
 AllReported history f = (newest history).durable ≡ f.commit.root.version
 
 -- a run of the flusher: the history goes on, the store is one of it, what it stores it reports, and a crash at any
--- moment leaves a version of the history that is no older than what was stored as the run began
+-- moment leaves a version of the history that is no older than what was stored as the run began; it fails by its device
+-- alone
 pub record Flushes {D : Type 0} (g : Ghosts D) (was : History) (old : Flusher D) (now : History) (new : Flusher D)
     : Type 0 where
   pub goes_on : BeginsWith now was
@@ -60,3 +61,4 @@ pub record Flushes {D : Type 0} (g : Ghosts D) (was : History) (old : Flusher D)
   pub no_less : old.commit.root.version ≤ new.commit.root.version
   pub reports : AllReported was old → AllReported now new
   pub moments : LeavesOnly g old.commit.disk new.commit.disk (IsFileIn now old.commit.root.version)
+  pub by_device : FailsByDevice g old.commit new.commit

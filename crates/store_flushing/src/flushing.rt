@@ -114,7 +114,7 @@ fn end_commit<J: Naming, R: Wait + Drop, D: Disk, W: Wait>(
     me: &mut Reporter,
     flusher: &mut Flusher<D>,
 ) -> bool
-    requires { me.old.book ≡ J.book }
+    requires book { me.old.book ≡ J.book }
     ensures flushes { IsStoreOf D.Disk (history_of me.old.log) flusher.old
         → Flushes D.Disk (history_of me.old.log) flusher.old (history_of me.new.log) flusher.new }
     ensures rests { is_busy flusher.new.commit.phase ≡ false }

@@ -32,7 +32,8 @@ pub(crate) fn report<J: Naming, R: Wait + Drop, W: Wait>(
         ⊎ ((newest (history_of me.new.log)).durable ≡ (newest (history_of me.old.log)).durable) }
     ensures same { me.new.book ≡ me.old.book }
 {
-    let _given = me.given();
+    // What the reporter has seen is a log with a first entry: the clauses rest on that.
+    let _ = me.given();
     'tries: for _ in rt.forever() {
         match shared.report(rt, alloc, me, number) {
             Ok(_) => return,

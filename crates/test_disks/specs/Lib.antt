@@ -1,2 +1,3 @@
 pub mod FaultDisk
+pub mod PlannedDisk
 pub mod StopDisk

@@ -1,15 +1,17 @@
--- What a disk that stops is made of.
-use Rattle.std.specs.Prelude.{ℕ}
-use Rattle.test_disks.specs.declared.stop_disk.StopDisk.{StopDisk}
-
--- the disk below
-abbrev pub below_of : {D : Type 0} → StopDisk D → D
-below_of d = d.disk
+-- A disk that stops: which calls it passes on.
+use Rattle.std.specs.Prelude.{ℕ, zero, suc, ◌-◌, Bool, true, false}
+use Rattle.test_disks.specs.declared.planned_disk.PlannedDisk.{PlannedDisk}
+use Rattle.test_disks.specs.declared.stop_disk.StopPlan.{StopPlan}
 
 -- how many calls it passes on before it stops
-abbrev pub left_of : {D : Type 0} → StopDisk D → ℕ
-left_of d = d.left
+abbrev pub left_of : {D : Type 0} → PlannedDisk D StopPlan → ℕ
+left_of d = d.plan.left
 
--- how many calls it has refused, up to the top of a u64
-abbrev pub refused_of : {D : Type 0} → StopDisk D → ℕ
-refused_of d = d.refused
+-- where some are left the next call is passed on
+abbrev pub passes : ℕ → Bool
+passes zero = false
+passes (suc n) = true
+
+-- one fewer is left behind each
+abbrev pub next : StopPlan → StopPlan
+next plan = record { left = plan.left - 1 }

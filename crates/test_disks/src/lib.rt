@@ -2,5 +2,6 @@
 #![tactic(auto)]
 
 pub mod fault_disk;
-mod passing;
+pub mod plan;
+pub mod planned_disk;
 pub mod stop_disk;

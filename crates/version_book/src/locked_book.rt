@@ -44,7 +44,7 @@ impl<J: Naming, R: Wait + Drop> LockedBook<J, R> {
         me: &mut Session,
         change: &Command,
     ) -> Result<u64, BookFault>
-        requires book { me.old.book ≡ J.book }
+        requires { me.old.book ≡ J.book }
         ensures ok { IfOk result (λ n. IsAcceptedIn self.old.log me.old.session (command change.now) self.new.log n) }
         ensures accepted { IfOk result (λ _. IsAfterCommand self.old.standing self.new.standing) }
         ensures seen { IfOk result (λ _. IsPrefix me.old.log self.old.log × (me.new.log ≡ self.new.log)) }

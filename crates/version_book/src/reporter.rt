@@ -49,6 +49,7 @@ impl Reporter {
         ensures valid { IsLog self.now.log }
         ensures begun { 0 < length self.now.log }
     {
+        // What was seen is a log with a first entry: the clauses rest on that.
         let _ = self.trace.at();
         self.given
     }

@@ -98,7 +98,8 @@ impl<J: Naming, R: Wait + Drop> Shared<J, R> {
         ensures refused { IfErr result (λ fault. IsRefused true (newest (seen me.new)) (command change.now) fault) }
         ensures same { (me.new.book ≡ me.old.book) × (me.new.session ≡ me.old.session) }
     {
-        let _number = me.number();
+        // It has seen some version: the clauses rest on that.
+        let _ = me.number();
         let mut turn = self.turns.next(rt);
         turn.book.submit(alloc, me, change)
     }
@@ -183,7 +184,8 @@ impl<J: Naming, R: Wait + Drop> Shared<J, R> {
         ensures refused { IfErr result (λ fault. IsWaitRefused true (newest (seen me.new)) name.now fault) }
         ensures same { (me.new.book ≡ me.old.book) × (me.new.session ≡ me.old.session) × (me.new.made ≡ me.old.made) }
     {
-        let _number = me.number();
+        // It has seen some version: the clauses rest on that.
+        let _ = me.number();
         let mut turn = self.turns.behind(rt, &Awaited::Built(name));
         tell_built(&mut turn.book, me, name)
     }
@@ -203,7 +205,8 @@ impl<J: Naming, R: Wait + Drop> Shared<J, R> {
             → IsErrAnd result (λ fault. (fault ≡ BookFault.NoStore) ⊎ (fault ≡ BookFault.Gone)) }
         ensures same { (me.new.book ≡ me.old.book) × (me.new.session ≡ me.old.session) × (me.new.made ≡ me.old.made) }
     {
-        let _number = me.number();
+        // It has seen some version: the clauses rest on that.
+        let _ = me.number();
         let number = me.newest();
         if !self.store {
             let turn = self.turns.next(rt);
@@ -253,7 +256,8 @@ impl<J: Naming, R: Wait + Drop> Shared<J, R> {
         ensures err { IfErr result (λ fault. (me.new ≡ me.old) × ((fault ≡ no_memory) ⊎ (fault ≡ BookFault.Gone))) }
         ensures same { (me.new.book ≡ me.old.book) × (me.new.given ≡ me.old.given) }
     {
-        let _given = me.given();
+        // What the reporter has seen is a log with a first entry: the clauses rest on that.
+        let _ = me.given();
         let mut turn = self.turns.next(rt);
         report(&mut turn.book, alloc, me, number)
     }
@@ -263,7 +267,8 @@ impl<J: Naming, R: Wait + Drop> Shared<J, R> {
         requires { me.old.book ≡ J.book }
         ensures { me.new ≡ me.old }
     {
-        let _given = me.given();
+        // What the reporter has seen is a log with a first entry: the clauses rest on that.
+        let _ = me.given();
         let mut turn = self.turns.next(rt);
         store_failed(&mut turn.book, fault);
     }

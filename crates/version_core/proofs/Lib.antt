@@ -3,5 +3,4 @@ pub mod NextVersion
 pub mod PendingLemmas
 pub mod EdgeLemmas
 pub mod VerdictLemmas
-pub mod LocateByTile
 pub mod Restored

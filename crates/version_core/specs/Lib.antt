@@ -7,4 +7,3 @@ pub mod Pending
 pub mod Building
 pub mod Edges
 pub mod Verdict
-pub mod Locating

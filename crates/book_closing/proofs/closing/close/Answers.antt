@@ -19,12 +19,12 @@ pub returns-clause-files : goal.returns-clause-files
 returns-clause-files g c =
     let was = c.args.reporter.log in
     let now = c.into_closed-closed.result.trace.log in
-    let on = begins_with was now c.given-given.ensures.begun c.into_closed-closed.ensures.reporter.longer in
+    let on = begins_with was now c.given.ensures.begun c.into_closed-closed.ensures.reporter.longer in
     files_left g.D.Disk (history_of was) (history_of now) on c.args.flusher c.left_of-stored.result.0 c.left_of-stored.result.1 c.left_of-stored.ensures.some
 
 pub returns-clause-exactly : goal.returns-clause-exactly
 returns-clause-exactly g c =
     let was = c.args.reporter.log in
     let now = c.into_closed-closed.result.trace.log in
-    let on = begins_with was now c.given-given.ensures.begun c.into_closed-closed.ensures.reporter.longer in
+    let on = begins_with was now c.given.ensures.begun c.into_closed-closed.ensures.reporter.longer in
     exactly_left g.D.Disk (history_of was) (history_of now) on c.args.flusher c.left_of-stored.result.0 c.left_of-stored.result.1 c.left_of-stored.ensures.some

@@ -12,7 +12,7 @@ use Rattle.overlay_server.specs.Serving.{first_log}
 use Rattle.overlay_server.proofs.Lists.{beside_length}
 use Rattle.overlay_server.proofs.Parts.{AreSeated, all_of_book, as_many, of_ended}
 use Rattle.overlay_server.proofs.Stores.{kept_twice, stopped_at_once, stopped_by}
-use Rattle.overlay_server.proofs.Served.{served_from}
+use Rattle.overlay_server.proofs.ServedParts.{served_from}
 use Rattle.overlay_server.proofs.serving.run_book.Goals as goal
 
 pub seated-requires : goal.seated-requires

@@ -1,13 +1,13 @@
-use Rattle.std.proofs.Common.{◌≡◌, ◌<◌, true, inl, refl, sym, ◌∙◌, rules, arith}
+use Rattle.std.proofs.Common.{◌≡◌, ◌<◌, true, inl, inr, refl, sym, ◌∙◌, rules, arith}
 use Rattle.store_terms.specs.StandsFor.{reading}
 use Rattle.root_store.specs.Healing.{kept_of}
 use Rattle.store_terms.specs.Roots.{sequence_max}
 use Rattle.commit_plan.specs.Loading.{held_in}
 use Rattle.root_reading.specs.declared.load_fault.LoadFault.{LoadFault}
-use Rattle.root_reading.specs.declared.load_fault.LoadFault.TheVariants.{OutOfMemory}
-use Rattle.root_store.specs.Opening.{HasRoot, Untouched}
+use Rattle.root_reading.specs.declared.load_fault.LoadFault.TheVariants.{Device, OutOfMemory}
+use Rattle.root_store.specs.Opening.{HasRoot, Stops, Untouched}
 use Rattle.root_reading.proofs.Looked.{refuses_device, if_err}
-use Rattle.root_store.proofs.OpeningLemmas.{shuts, both_loads, last_loads, healed_loads, failed_loads, unread_loads, body_writes, untouched_err, device_err, device_or_memory}
+use Rattle.root_store.proofs.OpeningLemmas.{phases_healed, shuts, both_loads, last_loads, healed_loads, failed_loads, unread_loads, body_writes, untouched_err, device_err, device_or_memory}
 use Rattle.root_store.proofs.opening.load.Goals as goal
 
 pub returns-in_err-loaded-clause-loads : goal.returns-in_err-loaded-clause-loads
@@ -109,3 +109,38 @@ pub returns-in_err-heal-clause-memory : goal.returns-in_err-heal-clause-memory
 returns-in_err-heal-clause-memory g c honest =
     device_or_memory (HasRoot (g.D.Disk.seen c.args.disk.now)) c.in_err-heal.field-0.0 c.from_residual-in_err-heal.result c.from_residual-in_err-heal.ensures.1
     c.in_err-heal.ensures.err
+
+pub returns-in_err-loaded-clause-stops : goal.returns-in_err-loaded-clause-stops
+returns-in_err-loaded-clause-stops g c honest =
+    let k = g.D.Disk in
+    let old = c.args.disk.now in
+    if_err c.from_residual.result c.in_err-loaded.field-0.0
+    (λ (e : LoadFault). Stops k old (e ≡ Device) c.read_store.new.disk) c.from_residual.ensures.1
+    (c.in_err-loaded.ensures.stops honest)
+
+pub returns-in_err-heal-clause-stops : goal.returns-in_err-heal-clause-stops
+returns-in_err-heal-clause-stops g c honest =
+    let k = g.D.Disk in
+    let old = c.args.disk.now in
+    let mid = c.read_store.new.disk in
+    let new = c.heal.new.disk in
+    let r = c.in_ok-loaded.ensures in
+    let x = c.in_ok-loaded.loaded in
+    let alone : c.in_ok-loaded.is_alone ≡ true = search rules in
+    let settled = shuts k old mid x c.in_ok-loaded.is_alone (r.run honest) (r.read honest) (r.gives honest) alone in
+    let heals = c.heal.ensures.heals (r.honest.1 honest) (kept_of (k.seen old) x.root (held_in x)) refl settled in
+    if_err c.from_residual-in_err-heal.result c.in_err-heal.field-0.0
+    (λ (e : LoadFault). Stops k old (e ≡ Device) new) c.from_residual-in_err-heal.ensures.1
+    (inr (phases_healed k old mid new x.root (held_in x) (r.gives honest) (r.phases honest) heals.run))
+
+pub returns-clause-phases : goal.returns-clause-phases
+returns-clause-phases g c honest =
+    let k = g.D.Disk in
+    let old = c.args.disk.now in
+    let mid = c.read_store.new.disk in
+    let r = c.in_ok-loaded.ensures in
+    let x = c.in_ok-loaded.loaded in
+    let alone : c.in_ok-loaded.is_alone ≡ true = search rules in
+    let settled = shuts k old mid x c.in_ok-loaded.is_alone (r.run honest) (r.read honest) (r.gives honest) alone in
+    let heals = c.heal.ensures.heals (r.honest.1 honest) (kept_of (k.seen old) x.root (held_in x)) refl settled in
+    phases_healed k old mid c.heal.new.disk x.root (held_in x) (r.gives honest) (r.phases honest) heals.run

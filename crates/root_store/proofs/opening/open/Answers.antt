@@ -1,7 +1,7 @@
 use Rattle.std.proofs.Common.{refl, sym, ◌∙◌, ap, Ok}
 use Rattle.store_terms.specs.StandsFor.{reading}
 use Rattle.store_terms.specs.Image.{Held}
-use Rattle.root_store.proofs.OpeningLemmas.{tells_of, failed_of, memory_of}
+use Rattle.root_store.proofs.OpeningLemmas.{stops_told, tells_of, failed_of, memory_of}
 use Rattle.root_store.specs.Opening.{fault_of}
 use Rattle.root_store.proofs.opening.open.Goals as goal
 
@@ -54,3 +54,11 @@ returns-in-Err-clause-writes g c honest = c.load.ensures.writes honest
 
 pub returns-in-Ok-clause-number : goal.returns-in-Ok-clause-number
 returns-in-Ok-clause-number g c = ap (λ (h : Held). h.number) c.new-image.ensures
+
+pub returns-in-Ok-clause-phases : goal.returns-in-Ok-clause-phases
+returns-in-Ok-clause-phases g c honest = c.in-Ok.ensures.phases honest
+
+pub returns-in-Err-clause-stops : goal.returns-in-Err-clause-stops
+returns-in-Err-clause-stops g c honest =
+    stops_told g.D.Disk c.args.disk c.load.new.disk c.in-Err.fault c.told.result c.told.ensures
+    (c.in-Err.ensures.stops honest)

@@ -1,4 +1,4 @@
-use Rattle.std.proofs.Common.{◌≡◌, ◌<◌, ◌^◌, length, List, ℕ, Ok, sym, ◌∙◌, ap, subst}
+use Rattle.std.proofs.Common.{inl, inr, ◌≡◌, ◌<◌, ◌^◌, length, List, ℕ, Ok, sym, ◌∙◌, ap, subst}
 use Rattle.store_terms.specs.StandsFor.{root_of, reading}
 use Rattle.store_terms.specs.Image.{held_of}
 use Rattle.store_terms.specs.Frame.{extents_of}
@@ -6,12 +6,12 @@ use Rattle.extent_map.specs.Taken.{taken_of}
 use Rattle.root_store.specs.Finding.{has_shut_gate}
 use Rattle.root_reading.specs.Looking.{Refuses}
 use Rattle.root_reading.specs.declared.load_fault.LoadFault.{LoadFault}
-use Rattle.root_reading.specs.declared.load_fault.LoadFault.TheVariants.{OutOfMemory}
-use Rattle.root_store.specs.Opening.{HasRoot}
+use Rattle.root_reading.specs.declared.load_fault.LoadFault.TheVariants.{Device, OutOfMemory}
+use Rattle.root_store.specs.Opening.{HasRoot, Stops}
 use Rattle.root_reading.specs.Taking.{IsMapOf}
 use Rattle.root_reading.proofs.Looked.{gives_err, refuses_bound, refuses_device, looks_on, if_err}
 use Rattle.commit_plan.specs.Loading.{held_in}
-use Rattle.root_store.proofs.OpeningLemmas.{reading_root}
+use Rattle.root_store.proofs.OpeningLemmas.{reading_root, phases_read}
 use Rattle.root_store.proofs.opening.read_store.Goals as goal
 
 pub returns-in_err-settle-clause-gives : goal.returns-in_err-settle-clause-gives
@@ -160,3 +160,44 @@ returns-in_err-loaded-clause-memory g c honest =
     if_err c.from_residual-in_err-loaded.result c.in_err-loaded.field-0.0
     (λ (e : LoadFault). e ≡ OutOfMemory → HasRoot file) c.from_residual-in_err-loaded.ensures.1
     (λ memory. (first, root))
+
+pub returns-in_err-settle-clause-stops : goal.returns-in_err-settle-clause-stops
+returns-in_err-settle-clause-stops g c honest =
+    let k = g.D.Disk in
+    let old = c.args.disk.now in
+    let mid = c.settle.new.disk in
+    if_err c.from_residual.result c.in_err-settle.field-0.0 (λ (e : LoadFault). Stops k old (e ≡ Device) mid)
+    c.from_residual.ensures.1 (inl (c.in_err-settle.ensures.err, (c.settle.ensures.looks honest).run))
+
+pub returns-in_err-root-clause-stops : goal.returns-in_err-root-clause-stops
+returns-in_err-root-clause-stops g c honest =
+    let k = g.D.Disk in
+    let old = c.args.disk.now in
+    let new = c.find_root.new.disk in
+    let looks1 = c.settle.ensures.looks honest in
+    if_err c.from_residual-in_err-root.result c.in_err-root.field-0.0 (λ (e : LoadFault). Stops k old (e ≡ Device) new)
+    c.from_residual-in_err-root.ensures.1
+    (inr (phases_read k old c.settle.new.disk new looks1 (c.in_ok-settle.ensures.only honest)
+    (c.find_root.ensures.looks looks1.honest)))
+
+pub returns-in_err-loaded-clause-stops : goal.returns-in_err-loaded-clause-stops
+returns-in_err-loaded-clause-stops g c honest =
+    let k = g.D.Disk in
+    let old = c.args.disk.now in
+    let mid = c.settle.new.disk in
+    let new = c.read_root.new.disk in
+    let looks1 = c.settle.ensures.looks honest in
+    let looks2 = c.find_root.ensures.looks looks1.honest in
+    if_err c.from_residual-in_err-loaded.result c.in_err-loaded.field-0.0
+    (λ (e : LoadFault). Stops k old (e ≡ Device) new) c.from_residual-in_err-loaded.ensures.1
+    (inr (phases_read k old mid new looks1 (c.in_ok-settle.ensures.only honest)
+    (looks_on k mid c.find_root.new.disk new looks2 (c.read_root.ensures.looks looks2.honest))))
+
+pub returns-clause-phases : goal.returns-clause-phases
+returns-clause-phases g c honest =
+    let k = g.D.Disk in
+    let mid = c.settle.new.disk in
+    let looks1 = c.settle.ensures.looks honest in
+    let looks2 = c.find_root.ensures.looks looks1.honest in
+    phases_read k c.args.disk.now mid c.read_root.new.disk looks1 (c.in_ok-settle.ensures.only honest)
+    (looks_on k mid c.find_root.new.disk c.read_root.new.disk looks2 (c.read_root.ensures.looks looks2.honest))

@@ -1,7 +1,8 @@
 use Rattle.std.proofs.Common.{refl, inr, rules}
 use Rattle.std.proofs.lemmas.Int.{to_z-of_z}
+use Rattle.std.proofs.lemmas.Result.{err_from_is_err_and}
 use Rattle.version_book.specs.Store.{has_store}
-use Rattle.server_session.proofs.AnswerLemmas.{answers_there, refused_so}
+use Rattle.server_session.proofs.AnswerLemmas.{answers_define, answers_put, answers_remove, answers_there, define_refused, put_refused, refused_so, remove_refused}
 use Rattle.server_session.proofs.answering.answer_request.Goals as goal
 
 pub returns-in-Nothing : goal.returns-in-Nothing
@@ -12,6 +13,33 @@ returns-in-TooLong g c = rw c.in-TooLong.is (answers_there _ c.args.me.now _ _ (
 
 pub returns-in-Malformed : goal.returns-in-Malformed
 returns-in-Malformed g c = rw c.in-Malformed.is (answers_there _ c.args.me.now _ _ (inr (refused_so _)))
+
+pub returns-in_err-change-in-Put : goal.returns-in_err-change-in-Put
+returns-in_err-change-in-Put g c =
+    let p = err_from_is_err_and c.from_residual.result c.from_residual.ensures.1 in
+    rw (c.in-Put.is, p.1, p.2) (put_refused _ c.args.me.now c.in-Put.name.now c.in-Put.text.now _ c.in_err-change-in-Put.ensures.refused)
+
+pub returns-in_ok-change-in-Put : goal.returns-in_ok-change-in-Put
+returns-in_ok-change-in-Put g c =
+    rw c.in-Put.is (answers_put _ c.args.me.now c.submit.new.me c.in-Put.name.now c.in-Put.text.now _ _ c.in_ok-change-in-Put.ensures.ok c.submit.ensures)
+
+pub returns-in_err-change-in-Define : goal.returns-in_err-change-in-Define
+returns-in_err-change-in-Define g c =
+    let p = err_from_is_err_and c.from_residual-in_err-change-in-Define.result c.from_residual-in_err-change-in-Define.ensures.1 in
+    rw (c.in-Define.is, p.1, p.2) (define_refused _ c.args.me.now c.in-Define.name.now c.in-Define.text.now _ c.in_err-change-in-Define.ensures.refused)
+
+pub returns-in_ok-change-in-Define : goal.returns-in_ok-change-in-Define
+returns-in_ok-change-in-Define g c =
+    rw c.in-Define.is (answers_define _ c.args.me.now c.submit-in-Define.new.me c.in-Define.name.now c.in-Define.text.now _ _ c.in_ok-change-in-Define.ensures.ok c.submit-in-Define.ensures)
+
+pub returns-in_err-change-in-Remove : goal.returns-in_err-change-in-Remove
+returns-in_err-change-in-Remove g c =
+    let p = err_from_is_err_and c.from_residual-in_err-change-in-Remove.result c.from_residual-in_err-change-in-Remove.ensures.1 in
+    rw (c.in-Remove.is, p.1, p.2) (remove_refused _ c.args.me.now c.in-Remove.name.now _ c.in_err-change-in-Remove.ensures.refused)
+
+pub returns-in_ok-change-in-Remove : goal.returns-in_ok-change-in-Remove
+returns-in_ok-change-in-Remove g c =
+    rw c.in-Remove.is (answers_remove _ c.args.me.now c.submit-in-Remove.new.me c.in-Remove.name.now _ _ c.in_ok-change-in-Remove.ensures.ok c.submit-in-Remove.ensures)
 
 pub returns-in-Locate : goal.returns-in-Locate
 returns-in-Locate g c = rw c.in-Locate.is (search (rules, to_z-of_z, c.answer_locate.ensures (has_store c.args.shared.now)))

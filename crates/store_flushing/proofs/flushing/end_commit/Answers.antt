@@ -26,7 +26,7 @@ calls-preserved g c = (
       let at : OnlyNow d t = λ f left. g.met.D.Disk.only_now t.commit.disk f was.store.honest left in
       let same = ap (λ r. stored_after r t.commit.root.version) (c.in-Ok-Going.is ∙ ap Ok c.in-Ok-Going.field-0-is) in
       then d (history_of c.args.me.now.log) m m c.args.flusher.now t u was
-      (steps_on d m t u c.step.result at e.moves e.stored e.honest.1 e.idle e.stuck was.store same),
+      (steps_on d m t u c.step.result at e.moves e.stored e.honest.1 e.idle e.stuck was.store e.by_device same),
 )
 
 pub returns-in-Ok-Idle-clause-flushes : goal.returns-in-Ok-Idle-clause-flushes
@@ -40,7 +40,7 @@ returns-in-Ok-Idle-clause-flushes g c is =
     let at : OnlyNow d t = λ f left. g.met.D.Disk.only_now t.commit.disk f was.store.honest left in
     let same = ap (λ r. stored_after r t.commit.root.version) (c.in-Ok-Idle.is ∙ ap Ok c.in-Ok-Idle.field-0-is) in
     then d (history_of c.args.me.now.log) m m c.args.flusher.now t u was
-    (steps_on d m t u c.step.result at e.moves e.stored e.honest.1 e.idle e.stuck was.store same)
+    (steps_on d m t u c.step.result at e.moves e.stored e.honest.1 e.idle e.stuck was.store e.by_device same)
 
 pub returns-in-Ok-Done-clause-flushes : goal.returns-in-Ok-Done-clause-flushes
 returns-in-Ok-Done-clause-flushes g c is =
@@ -58,7 +58,7 @@ returns-in-Ok-Done-clause-flushes g c is =
     let level = done_level d m t u c.step.result at e.moves e.stored e.honest.1 e.idle e.stuck was.store number f.history done in
     let moved = steps d m t u c.step.result at e.moves e.stored e.honest.1 e.idle e.stuck was.store in
     let stored = e.stored ∙ ap (λ r. stored_after r t.commit.root.version) done in
-    then d (history_of c.args.me.now.log) m n c.args.flusher.now t u was (reported d m n t u number moved stored level f.goes_on f.reached f.reported)
+    then d (history_of c.args.me.now.log) m n c.args.flusher.now t u was (reported d m n t u number moved (e.by_device was.store.honest) stored level f.goes_on f.reached f.reported)
 
 pub returns-in-Err-clause-flushes : goal.returns-in-Err-clause-flushes
 returns-in-Err-clause-flushes g c is =
@@ -71,6 +71,6 @@ returns-in-Err-clause-flushes g c is =
     let e = c.step.ensures in
     let at : OnlyNow d t = λ f left. g.met.D.Disk.only_now t.commit.disk f was.store.honest left in
     let same = ap (λ r. stored_after r t.commit.root.version) c.in-Err.is in
-    let moved = steps_on d m t u c.step.result at e.moves e.stored e.honest.1 e.idle e.stuck was.store same in
+    let moved = steps_on d m t u c.step.result at e.moves e.stored e.honest.1 e.idle e.stuck was.store e.by_device same in
     subst (λ (k : History). Flushes d h c.args.flusher.now k u) (ap (λ (k : Heard). history_of k.log) (sym c.tell.ensures.nothing))
     (then d h m m c.args.flusher.now t u was moved)

@@ -11,7 +11,7 @@ returns-in-Ok-clause-goes_on g c =
     subst (λ (h : Heard). BeginsWith (history_of c.report.new.me.log) (history_of h.log)) c.tries.invariant c.report.ensures.goes_on
 
 pub returns-in-Ok-clause-history : goal.returns-in-Ok-clause-history
-returns-in-Ok-clause-history g c = is_history c.args.me.now.log c.given-given.ensures.valid
+returns-in-Ok-clause-history g c = is_history c.args.me.now.log c.given.ensures.valid
 
 pub returns-in-Ok-clause-reached : goal.returns-in-Ok-clause-reached
 returns-in-Ok-clause-reached g c level =

@@ -7,6 +7,6 @@ returns g c =
     let trace = c.into_parts-version.ensures.1 ∙ ap (λ p. p.trace) (c.into_inner-last.ensures ∙ c.take.ensures) ∙ (λ i. record { book = c.self.invariant.1 i; log = c.self.view_is i }) in
     record {
       version = c.into_parts-version.ensures.0;
-      log = (trace, c.at-at.ensures.chain);
-      durable = newest_durable c.into_parts-version.result.1.log c.at-at.ensures.chain;
+      log = (trace, c.at.ensures.chain);
+      durable = newest_durable c.into_parts-version.result.1.log c.at.ensures.chain;
     }

@@ -12,11 +12,11 @@ returns g c =
     let r = s.result in
     let e = s.ensures in
     record {
-      goes_on = report_goes me new log after n r _ _ c.given-given.ensures.begun e.ok e.seen e.err;
+      goes_on = report_goes me new log after n r _ _ c.given.ensures.begun e.ok e.seen e.err;
       ok = report_ok me new log after n r _ _ _ e.ok e.seen;
       history = report_history me new log after n r _ e.seen;
       reported = report_by me new log after n r _ _ e.ok e.seen;
-      reached = report_reached me new log after n r _ c.given-given.ensures.begun e.ok e.seen;
+      reached = report_reached me new log after n r _ c.given.ensures.begun e.ok e.seen;
       err = report_err me new log after n r _ _ e.err;
       same = report_same me new log after n r _ _ _ _ e.seen e.err;
     }

@@ -1,0 +1,97 @@
+#!/usr/bin/env python3
+"""How long a LOCATE takes: by a pending tile and by a finished one, and as a line of a script.
+
+python3 bench/locating.py [--program PROGRAM].. [--built PROGRAM]..
+
+- LOCATE of a layer over two layers of so many edges each (stars, parcels, combs of bench/tiles.py), all in one column:
+  the call alone, while the column's tile is pending and when it is finished. By the program of bench/locating, which is
+  built over the libraries, unproved (bench/unproved.py; minutes); --built names ones that were built before.
+- Lines of LOCATE with their replies over a layer of 4 and of 2,000 segments, by each PROGRAM: processor times of two
+  scripts that differ by these lines.
+
+Where several programs are given they run in turns, five times each, and the least time is taken.
+"""
+
+import argparse
+import pathlib
+import subprocess
+import tempfile
+
+import serving
+import tiles
+import unproved
+
+HERE = pathlib.Path(__file__).resolve().parent
+CRATES = ["version_core", "wkt_form"]
+POINTS = 20000
+LINES = 200000
+ROUNDS = 5
+
+
+def cases():
+    """The text that the program of bench/locating reads."""
+    for shape in (tiles.stars, tiles.parcels, tiles.combs):
+        for edges in (64, 256, 1024, 2048):
+            layers = shape(edges)
+            span = 1 + max(max(point) for layer in layers for ring in layer for point in ring)
+            lines = [f"{shape.__name__}-{edges}", span, POINTS, *map(tiles.text_of, layers)]
+            yield "\n".join(map(str, lines)) + "\n"
+
+
+def calls(programs, folder):
+    """Times of the call: by program, case and state of the tile."""
+    file = folder / "cases"
+    file.write_text("".join(cases()))
+    least, seen = {}, {}
+    for _ in range(ROUNDS):
+        for at, program in enumerate(programs):
+            done = subprocess.run([program, file], stdout=subprocess.PIPE, check=True, text=True)
+            for line in done.stdout.splitlines():
+                case, state, points, pieces, insides, edges, taken = line.split()
+                found = (pieces, insides, edges)
+                if seen.setdefault(case, found) != found:
+                    raise SystemExit(f"{case}: {found} and {seen[case]}")
+                each = int(taken) / int(points)
+                least[at, case, state] = min(each, least.get((at, case, state), each))
+    for case, (pieces, insides, edges) in seen.items():
+        rows = []
+        for at in range(len(programs)):
+            pending, finished = least[at, case, "pending"], least[at, case, "finished"]
+            rows.append(f"{pending:.3f} us pending, {finished:.3f} us finished, {finished / pending:.2f} times")
+        print(f"{case}, {pieces} pieces, {insides} inside, {edges} on an edge: " + "; ".join(rows), flush=True)
+
+
+def script(steps, count):
+    """A layer of so many steps round the origin, and so many points all over the plane."""
+    lines = [f"PUT A {serving.ring(steps, 0, 0, 1000000)}"]
+    return lines + [f"LOCATE A {serving.spread(7919 * n)} {serving.spread(104729 * n)}" for n in range(count)]
+
+
+def lines(programs, folder):
+    """Processor times of a line, by program and layer."""
+    for steps in (4, 2000):
+        least = {}
+        for _ in range(ROUNDS):
+            for at, program in enumerate(programs):
+                whole, none = (serving.Runs(program, folder).best([script(steps, n)], 1, False)[1] for n in (LINES, 0))
+                each = 1e6 * (whole - none) / LINES
+                least[at] = min(each, least.get(at, each))
+        rows = "; ".join(f"{least[at]:.2f} us" for at in range(len(programs)))
+        print(f"a line of LOCATE over {steps} segments: {rows}", flush=True)
+
+
+def main():
+    parser = argparse.ArgumentParser()
+    parser.add_argument("--program", type=pathlib.Path, action="append", default=[])
+    parser.add_argument("--built", type=pathlib.Path, action="append", default=[])
+    words = parser.parse_args()
+    with tempfile.TemporaryDirectory() as place:
+        folder = pathlib.Path(place)
+        if words.program:
+            lines([program.resolve() for program in words.program], folder)
+        (folder / "built").mkdir()
+        built = [program.resolve() for program in words.built]
+        calls(built or [unproved.built(HERE / "locating", CRATES, folder / "built")], folder)
+
+
+main()

@@ -1,0 +1,42 @@
+"""Times a snapshot of a book, beside what it costs to take a counted value from behind a lock in C.
+
+python3 bench/snapshots.py [PROGRAM]
+
+Builds the program of bench/snapshots over the libraries, unproved (bench/unproved.py; minutes); PROGRAM is one that was
+built before. It has a book of 32 layers and takes a million snapshots of it, by itself and while another session puts
+20,000 layers; prints the nanoseconds of one by the clock (the best of three runs). Beside it stands bench/lock.c: a
+mutex is taken, a count raised, the mutex given back and the count lowered again.
+"""
+
+import pathlib
+import subprocess
+import sys
+import tempfile
+
+import unproved
+
+HERE = pathlib.Path(__file__).resolve().parent
+
+
+def best(words):
+    """The least numbers of three runs, column by column."""
+    runs = [subprocess.run(words, stdout=subprocess.PIPE, text=True, check=True).stdout.split() for _ in range(3)]
+    return [min(int(number) for number in column) for column in zip(*runs)]
+
+
+def main():
+    with tempfile.TemporaryDirectory() as folder:
+        if len(sys.argv) > 1:
+            program = pathlib.Path(sys.argv[1]).resolve()
+        else:
+            program = unproved.built(HERE / "snapshots", ["server_session"], folder)
+        lock = pathlib.Path(folder) / "lock"
+        subprocess.run(["gcc", "-O2", "-pthread", "-o", lock, HERE / "lock.c"], check=True)
+        alone, beside = best([program])
+        counted, crowded = best([lock])
+    print(f"a snapshot: {alone} ns, {beside} ns while another session puts layers")
+    print(f"a counted value behind a mutex in C: {counted} ns, {crowded} ns while another thread changes it")
+    return 0
+
+
+sys.exit(main())

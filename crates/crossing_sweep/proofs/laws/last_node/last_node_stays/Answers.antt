@@ -1,0 +1,5 @@
+use Rattle.crossing_sweep.proofs.LastNodeLemmas.{last_node_stays}
+use Rattle.crossing_sweep.proofs.laws.last_node.last_node_stays.Goals as goal
+
+pub returns : goal.returns
+returns c = last_node_stays

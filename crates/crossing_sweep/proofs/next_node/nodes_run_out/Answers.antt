@@ -1,5 +1,0 @@
-use Rattle.crossing_sweep.proofs.NextNode.{nodes_run_out}
-use Rattle.crossing_sweep.proofs.next_node.nodes_run_out.Goals as goal
-
-pub returns : goal.returns
-returns c = nodes_run_out

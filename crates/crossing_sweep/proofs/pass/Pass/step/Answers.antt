@@ -1,0 +1,61 @@
+use Rattle.std.proofs.Common.{rules, ◌≡◌, ℕ, ◌+◌, ◌-◌, ◌≤◌, Bool, List, [], ◌∷◌, ◌++◌, map, length, take, drop, subst, ap, ◌∙◌}
+use Rattle.std.proofs.Math.Seq.{take-append_seam}
+use Rattle.std.proofs.lemmas.List.{drop-drop, take_rest}
+use Rattle.std.specs.Prelude.{filter}
+use Rattle.std.specs.List.{slice_range}
+use Rattle.std.specs.List.Sorted.{IsPermutation}
+use Rattle.overlay_terms.specs.Plane.{Point}
+use Rattle.overlay_terms.specs.Column.{is_in_column}
+use Rattle.exact_point.specs.Place.{place}
+use Rattle.crossing_sweep.specs.Status.{SidesFallAlong}
+use Rattle.crossing_sweep.specs.Step.{IsSplitAt}
+use Rattle.crossing_sweep.specs.Member.{units_of, segs_of}
+use Rattle.crossing_sweep.specs.Rows.{AreBegun, mask_over, rows_of}
+use Rattle.crossing_sweep.specs.Stepping.{IsStepped}
+use Rattle.crossing_sweep.specs.Testing.{AreSeamsTested}
+use Rattle.crossing_sweep.specs.declared.member.Member.{Member}
+use Rattle.crossing_sweep.specs.declared.row.Row.{Row}
+use Rattle.crossing_sweep.specs.declared.start.Start.{Start}
+use Rattle.crossing_sweep.proofs.TurnedLemmas.{unit_after}
+use Rattle.crossing_sweep.proofs.TakenLemmas.{stepped}
+use Rattle.crossing_sweep.proofs.pass.Pass.step.Goals as goal
+
+pub returns-clause-stepped : goal.returns-clause-stepped
+returns-clause-stepped c =
+    let self = c.args.self.now in
+    let items : List Start = c.deref.result.now in
+    let value : items ≡ self.starts.items = c.deref.ensures.value in
+    let behind : take (length items - self.entered) (drop self.entered items) ≡ drop self.entered self.starts.items = take_rest items self.entered ∙ ap (λ (l : List Start). drop self.entered l) value in
+    let entered : ℕ = c.count_entering-entered.result in
+    let onward : drop entered (drop self.entered self.starts.items) ≡ drop (self.entered + entered) self.starts.items = drop-drop entered self.entered self.starts.items in
+    let r : Point = place c.args.at.now in
+    let k : ℕ = c.args.input.now.column in
+    let ms : List Member = self.status.items in
+    let after : List Member = c.replace.new.status.items in
+    let turned : List Member = c.in_ok-stay.stay.items in
+    let stay : List Member = c.label.new.stay in
+    let coming : List Start = take (length items - self.entered) (drop self.entered items) in
+    let low : ℕ = c.bundle_at-low.result.0 in
+    let high : ℕ = c.bundle_at-low.result.1 in
+    let len : ℕ = c.len.result in
+    let rows : List Row = self.rows.items in
+    let Splits : List Member → Type 0 = λ xs. SidesFallAlong r (segs_of xs) → IsSplitAt r (segs_of (take low xs)) (segs_of (slice_range xs low high)) (segs_of (drop high xs)) in
+    let Moved : List Member → Type 0 = λ xs. IsPermutation (filter (unit_after r) (units_of (slice_range xs low high) ++ map (λ (s : Start). s.unit) (take entered coming))) (units_of turned) in
+    let Tested : ℕ → List Member → Type 0 = λ j xs. AreSeamsTested j r (segs_of xs) (low ∷ (low + len) ∷ []) self.search c.test_both.new.self in
+    let Begun : ℕ → Bool → Type 0 = λ mask within. AreBegun c.args.input.now.steps mask c.args.begin.now within stay in
+    let Closed : List Member → Type 0 = λ xs. c.close.new.rows.items ≡ rows ++ rows_of c.args.begin.now (slice_range xs low high) in
+    let long : len ≡ length stay = search rules in
+    let few = subst (λ (xs : List Member). high ≤ length xs) c.deref-2.ensures.value c.bundle_at-low.ensures.few in
+    let tested = subst (λ j. Tested j after) c.column-2.ensures.value (subst (Tested c.column-2.result) c.deref-6.ensures.value c.in_ok-test_both.ensures) in
+    let labelled : units_of stay ≡ units_of turned = search rules in
+    let under : c.mask_over-under.result ≡ mask_over 0 (take low ms) = search rules in
+    let within : c.is_in.result ≡ is_in_column k r = c.is_in.ensures ∙ ap (λ j. is_in_column j r) c.column.ensures.value in
+    let begun : Begun (mask_over 0 (take low ms)) (is_in_column k r) = subst (Begun (mask_over 0 (take low ms))) within (subst (λ m. Begun m c.is_in.result) under c.label.ensures.begun) in
+    let size : c.in_ok-stay.stay.len ≡ length stay = search rules in
+    let whole : take c.in_ok-stay.stay.len (stay ++ drop (length stay) turned) ≡ stay = ap (λ j. take j (stay ++ drop (length stay) turned)) size ∙ take-append_seam stay (drop (length stay) turned) in
+    let put = c.in_ok-replace.ensures ∙ ap (λ (xs : List Member). take low ms ++ xs ++ drop high ms) whole in
+    let done = stepped c.args.input.now c.args.at.now c.args.begin.now ms after turned stay low high len entered coming self.search c.test_both.new.self rows c.close.new.rows.items c.bundle_at-low.ensures.in_order few
+    (subst Splits c.deref-2.ensures.value c.bundle_at-low.ensures.split) c.count_entering-entered.ensures (subst Moved c.deref-4.ensures.value c.in_ok-stay.ensures.moved) c.in_ok-stay.ensures.turned labelled begun
+    (subst Closed c.deref-3.ensures.value c.in_ok-close.ensures) put long tested in
+    let Stepped : List Start → List Start → Type 0 = λ l m. IsStepped c.args.input.now c.args.at.now c.args.begin.now ms after l m self.search c.test_both.new.self rows c.close.new.rows.items in
+    subst (Stepped (drop self.entered self.starts.items)) onward (subst (λ (l : List Start). Stepped l (drop entered l)) behind done)

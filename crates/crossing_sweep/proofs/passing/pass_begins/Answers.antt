@@ -1,5 +1,0 @@
-use Rattle.crossing_sweep.proofs.BeginLemmas.{pass_begins}
-use Rattle.crossing_sweep.proofs.passing.pass_begins.Goals as goal
-
-pub returns : goal.returns
-returns c = pass_begins

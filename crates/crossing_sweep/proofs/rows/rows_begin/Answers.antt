@@ -1,5 +1,0 @@
-use Rattle.crossing_sweep.proofs.RowOrder.{rows_begin}
-use Rattle.crossing_sweep.proofs.rows.rows_begin.Goals as goal
-
-pub returns : goal.returns
-returns c = rows_begin

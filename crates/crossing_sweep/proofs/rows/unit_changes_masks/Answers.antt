@@ -1,5 +1,0 @@
-use Rattle.crossing_sweep.proofs.UnitBits.{unit_changes_masks}
-use Rattle.crossing_sweep.proofs.rows.unit_changes_masks.Goals as goal
-
-pub returns : goal.returns
-returns c = unit_changes_masks

@@ -1,5 +1,0 @@
-use Rattle.crossing_sweep.proofs.KeptLemmas.{masks_are_kept}
-use Rattle.crossing_sweep.proofs.sides.masks_are_kept.Goals as goal
-
-pub returns : goal.returns
-returns c = masks_are_kept

@@ -1,5 +1,0 @@
-use Rattle.crossing_sweep.proofs.ClosedLemmas.{stretch_is_closed}
-use Rattle.crossing_sweep.proofs.sides.stretch_is_closed.Goals as goal
-
-pub returns : goal.returns
-returns c = stretch_is_closed

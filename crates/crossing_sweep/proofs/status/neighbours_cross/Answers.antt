@@ -1,5 +1,0 @@
-use Rattle.crossing_sweep.proofs.StatusLemmas.{neighbours_cross}
-use Rattle.crossing_sweep.proofs.status.neighbours_cross.Goals as goal
-
-pub returns : goal.returns
-returns c = neighbours_cross

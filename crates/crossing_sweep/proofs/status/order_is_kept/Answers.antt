@@ -1,5 +1,0 @@
-use Rattle.crossing_sweep.proofs.StatusLemmas.{order_is_kept}
-use Rattle.crossing_sweep.proofs.status.order_is_kept.Goals as goal
-
-pub returns : goal.returns
-returns c = order_is_kept

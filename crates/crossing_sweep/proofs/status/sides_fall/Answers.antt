@@ -1,5 +1,0 @@
-use Rattle.crossing_sweep.proofs.StatusLemmas.{sides_fall}
-use Rattle.crossing_sweep.proofs.status.sides_fall.Goals as goal
-
-pub returns : goal.returns
-returns c = sides_fall

@@ -1,5 +1,0 @@
-use Rattle.crossing_sweep.proofs.StepLemmas.{queue_goes_on}
-use Rattle.crossing_sweep.proofs.step.queue_goes_on.Goals as goal
-
-pub returns : goal.returns
-returns c = queue_goes_on

@@ -1,5 +1,0 @@
-use Rattle.crossing_sweep.proofs.StepLemmas.{status_goes_on}
-use Rattle.crossing_sweep.proofs.step.status_goes_on.Goals as goal
-
-pub returns : goal.returns
-returns c = status_goes_on

@@ -1,0 +1,99 @@
+//! Segments, and the same in blocks.
+ghost use Rattle.std.specs.Prelude.{◌≡◌, ◌≤◌, ◌<◌, ◌+◌, ◌*◌, take, drop, length, IfOk};
+ghost use Rattle.plane_base.specs.Bounds.{Cover};
+
+use crate::bounds::Bounds;
+use crate::point::Seg;
+use std::alloc::{AllocError, Global};
+use std::marker::Model;
+
+/// How many segments a block has; the last one may have fewer.
+pub const BLOCK: usize = 32;
+
+/// A list of segments. Beside it stand the same segments by the x of their left ends, in blocks of 32 with their
+/// ranges of x and y.
+#[derive(Debug, Drop)]
+pub struct Blocks {
+    segs: Vec<Seg>,
+    sorted: Vec<Seg>,
+    bounds: Vec<Bounds>,
+}
+
+impl Model for Blocks {
+    ghost use Rattle.std.specs.Prelude.{List};
+    ghost use Rattle.std.specs.List.Sorted.{IsPermutation};
+    ghost use Rattle.overlay_terms.specs.Plane.{Segment};
+    ghost use Rattle.plane_base.specs.Bounds.{Cover};
+
+    ghost Value = { List Segment };
+
+    ghost view = { λ b. b.segs.items };
+
+    ghost invariant = { λ b. IsPermutation b.segs.items b.sorted.items × Cover b.bounds.items b.sorted.items };
+}
+
+impl Blocks {
+    ghost use Rattle.std.specs.List.Sorted.{IsPermutation};
+
+    /// The segments, in blocks too.
+    pub fn new(alloc: Global, segs: Vec<Seg>) -> Result<Blocks, AllocError>
+        ensures { IfOk result (λ blocks. blocks ≡ segs.items) }
+    {
+        let mut sorted = segs.clone()?;
+        sorted.sort_unstable_by_key(|seg| seg.left().x());
+        let bounds = bounds_of(alloc, &sorted)?;
+        Ok(Blocks {
+            segs,
+            sorted,
+            bounds,
+        })
+    }
+
+    /// The segments in the order in which they were given.
+    pub fn segs(&self) -> &[Seg]
+        ensures { result.now ≡ self.now }
+    {
+        &self.segs
+    }
+
+    /// The same segments by the x of their left ends, behind the ranges of each 32 of them.
+    pub fn ordered(&self) -> (&[Bounds], &[Seg])
+        ensures same { IsPermutation self.now result.1.now }
+        ensures cover { Cover result.0.now result.1.now }
+    {
+        (&self.bounds, &self.sorted)
+    }
+}
+
+/// The ranges of each block.
+fn bounds_of(alloc: Global, segs: &[Seg]) -> Result<Vec<Bounds>, AllocError>
+    ensures { IfOk result (λ bounds. Cover bounds.items segs.now) }
+{
+    let mut bounds = Vec::new(alloc);
+    let mut rest = segs;
+    for _ in 0..block_count(segs.len()) {
+        let (block, after) = next_block(rest);
+        bounds.push(Bounds::around(block))?;
+        rest = after;
+    }
+    Ok(bounds)
+}
+
+/// How many blocks so many segments fill.
+fn block_count(len: usize) -> usize
+    ensures enough { len ≤ 32 * result }
+    ensures none_empty { 32 * result < len + 32 }
+{
+    len.div_ceil(BLOCK)
+}
+
+/// The first block, and what is left.
+pub fn next_block(rest: &[Seg]) -> (&[Seg], &[Seg])
+    ensures block { result.0.now ≡ take 32 rest.now }
+    ensures left { result.1.now ≡ drop 32 rest.now }
+{
+    if rest.len() < BLOCK {
+        return rest.split_at(rest.len());
+    }
+    rest.split_at(BLOCK)
+}

@@ -1,0 +1,2 @@
+mod BoundLemmas
+mod BlockLemmas

@@ -1,5 +1,0 @@
--- The book is named by the history that was just opened.
-use Rattle.server_tests.proofs.books.run_named.Given as goal
-
-abbrev pub ghosts-run_in : goal.ghosts-run_in
-ghosts-run_in g a = record { book = a.history.trace.book }
