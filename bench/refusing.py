@@ -156,16 +156,27 @@ def judge_output(scenario, outcome, allows):
     return judged
 
 
+def is_silent(outcome):
+    return outcome.status == 1 and outcome.fault == ""
+
+
+def has_store(judged):
+    return judged is not None and judged.sessions[0].has_store
+
+
 def told_outside(outcome, judged):
-    """The refusals that were told: the lines that no SYNC asked, the SYNCs, and the number on standard error."""
-    if (outcome.status == 0) != (outcome.fault == ""):
+    """The refusals that were told: the lines that no SYNC asked, the SYNCs, and the number on standard error.
+
+    Status 1 without a line tells that the store has not the newest version, as `judge_store` sees.
+    """
+    if outcome.status == 0 and outcome.fault or not outcome.fault and is_silent(outcome) and not has_store(judged):
         raise judging.Wrong(f"status {outcome.status}, standard error {outcome.fault[:100]!r}")
     lines, syncs = [], []
     for session, place, code in judged.outside if judged else []:
         is_sync = getattr(session.asked[place], "word", "") == "SYNC"
         (syncs if is_sync else lines).append((session, place, code))
     fault = int(FAULT_LINE.fullmatch(outcome.fault)[1]) if outcome.fault else None
-    if outcome.counts[1] == 0 and (lines or syncs or fault is not None):
+    if outcome.counts[1] == 0 and (lines or syncs or outcome.status == 1):
         raise judging.Wrong("nothing was refused, and a refusal is told")
     return lines, syncs, fault
 
@@ -186,13 +197,14 @@ def replies_behind(session, place, word):
 
 def one_growth(outcome, judged):
     """What one refused growth may do: one line is answered by 40; or the store is told of it, which each SYNC tells
-    until the next accepted command; or the run ends with it.
+    until the next accepted command, and status 1 where none comes; or the run ends with it.
     """
     lines, syncs, fault = told_outside(outcome, judged)
     only({code for _, _, code in lines + syncs}, {40})
     # 49: a session had no memory for a reply, and ended.
     only(set() if fault is None else {fault}, {40} if judged and not are_cut(judged) else {40, 49})
-    if len(lines) + bool(syncs) + (fault is not None) > 1:
+    is_store = bool(syncs) or is_silent(outcome)
+    if len(lines) + is_store + (fault is not None) > 1:
         raise judging.Wrong(f"one growth is told by {len(lines)} lines, {len(syncs)} SYNCs and as {fault} at the end")
     for session, place, _ in syncs:
         for other, behind, _ in syncs:
@@ -240,6 +252,8 @@ def judge_store(runner, outcome, judged):
         raise judging.Wrong(f"the store has version {number}; {least} was durable, {history.last()} the last")
     if judged and outcome.status == 0 and number != history.last():
         raise judging.Wrong(f"status 0, and the store has version {number} of {history.last()}")
+    if is_silent(outcome) and number == history.last():
+        raise judging.Wrong("status 1 without a line, and the store has the newest version")
     right = history.versions[number].lines()
     if [line[len("layer ") :] for line in lines if line.startswith("layer ")] != right:
         raise judging.Wrong(f"the store has other layers than those of version {number}")
@@ -330,7 +344,7 @@ REPLIES = ["ok 1", "in", "durable 1", "ok 2", "durable 2"]
 OUT = "error 40 out of memory"
 DEVICE = "error 30 device"
 # What may be told by a run of these lines, by what was refused: the replies that differ, by their places, whether
-# something was refused, what is on standard error, and whether that is right.
+# something was refused, what is on standard error (None: nothing, with status 1), and whether that is right.
 CASES = {
     one_growth: [
         ({}, 0, "", True),
@@ -349,6 +363,10 @@ CASES = {
         (None, 1, DEVICE, False),
         (None, 0, OUT, False),
         ({}, 1, "error 49 write", False),
+        ({4: OUT}, 1, None, True),
+        ({}, 1, None, True),
+        ({}, 0, None, False),
+        ({1: OUT}, 1, None, False),
         ({1: OUT}, 1, OUT, False),
     ],
     many_growths: [
@@ -377,7 +395,7 @@ def is_right(allows, changed, refused, fault):
     """Whether a run of the lines above is taken as right."""
     replies = [] if changed is None else [changed.get(place, reply) for place, reply in enumerate(REPLIES)]
     output = "".join(reply + "\n" for reply in replies)
-    outcome = Outcome(1 if fault else 0, output, fault + "\n" if fault else "", None, (9, refused))
+    outcome = Outcome(0 if fault == "" else 1, output, fault + "\n" if fault else "", None, (9, refused))
     try:
         judge_output(TOLD, outcome, allows)
     except judging.Wrong:

@@ -3,6 +3,7 @@ ghost use Rattle.std.specs.Prelude.{◌≤◌};
 
 use crate::testing::{created, empty_disk, expect, recovered, served};
 use disk_model::disk::Disk;
+use disk_model::mem_disk::MemDisk;
 use file_disk::file_disk::FileDisk;
 use overlay_server::outcome::Served;
 use std::alloc::Global;
@@ -91,6 +92,14 @@ fn a_sync_is_told_why_nothing_is_stored(rt: HostRuntime) -> Result<(), Fail> {
     Ok(())
 }
 
+/// The disk below one that has stopped.
+fn works_again(disk: Option<StopDisk<MemDisk>>) -> Result<MemDisk, Fail> {
+    match disk {
+        Some(disk) => Ok(disk.into_disk()),
+        None => Err(Fail::from("no disk")),
+    }
+}
+
 /// By how many calls the disk passes on before it stops: what a PUT and a SYNC are told, and what is left of the store.
 /// The first five calls make the store, and eight commit a layer, of which the seventh opens the gate.
 const STOPS: &[(u64, &str, &str)] = &[
@@ -109,11 +118,9 @@ fn a_disk_that_stops_has_what_was_told_durable(rt: HostRuntime) -> Result<(), Fa
         let disk = StopDisk::new(empty_disk(alloc)?, calls);
         let stopped = first_run(&rt, alloc, disk, 200, PUT_AND_SYNC)?;
         expect(&rt, &stopped, 0, told);
-        let below = match stopped.closed.disk {
-            Some(disk) => Some(disk.into_disk()),
-            None => None,
-        };
-        let next = next_run(&rt, alloc, below, b"LAYERS\n")?;
+        let closed = stopped.closed;
+        let below = works_again(closed.disk)?;
+        let next = next_run(&rt, alloc, Some(below), b"LAYERS\n")?;
         expect(&rt, &next, 0, left);
     }
     Ok(())
