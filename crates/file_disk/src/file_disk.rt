@@ -11,8 +11,8 @@ use std::{fs, io};
 /// A plain file. That it is honest is claimed nowhere: what it does is shown by tests.
 #[derive(Drop)]
 pub struct FileDisk {
-    /// None once a sync has failed. What was written may be gone then although the system takes the next sync as
-    /// done, so each call fails until the file is opened anew.
+    /// None once a write or a sync has failed: each call fails then until the file is opened anew. After a sync that
+    /// failed, what was written may be gone although the system takes the next sync as done.
     file: Option<File>,
 }
 
@@ -30,9 +30,17 @@ impl FileDisk {
         Ok(FileDisk { file: Some(file) })
     }
 
-    /// The file, as long as no sync has failed.
+    /// The file, as long as no write or sync has failed.
     fn file(&self) -> Result<&File, DiskFault> {
         self.file.as_ref().ok_or(DiskFault::Device)
+    }
+
+    /// The answer of a write or a sync. Where it failed, each later call fails.
+    fn after(&mut self, answer: Result<(), DiskFault>) -> Result<(), DiskFault> {
+        if answer.is_err() {
+            self.file = None;
+        }
+        answer
     }
 }
 
@@ -100,14 +108,12 @@ impl Disk for FileDisk {
     }
 
     fn write_at(&mut self, at: usize, bytes: &[u8]) -> Result<(), DiskFault> {
-        told(self.file()?.write_all_at(bytes, at as u64))
+        let answer = told(self.file()?.write_all_at(bytes, at as u64));
+        self.after(answer)
     }
 
     fn sync(&mut self) -> Result<(), DiskFault> {
         let answer = told(self.file()?.sync_data());
-        if answer.is_err() {
-            self.file = None;
-        }
-        answer
+        self.after(answer)
     }
 }

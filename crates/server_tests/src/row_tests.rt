@@ -126,7 +126,7 @@ fn versions_are_numbered_over_all_sessions(rt: HostRuntime) -> Result<(), Fail> 
     let second = b"PUT B POLYGON ((5 5, 15 5, 15 15, 5 15, 5 5))\n".as_slice();
     let readers = Vec::from_array(alloc, [first, second])?;
     let served = served(&rt, alloc, &OpenGate, None::<Engine<MemDisk>>, readers);
-    let earlier = usize::from(written(&served, 0) != b"ok 1\n");
+    let earlier = usize::from(written(&served, 0) != b"ok 1\n".as_slice());
     expect(&rt, &served, earlier, "ok 1\n");
     expect(&rt, &served, 1 - earlier, "ok 2\n");
     assert_eq!(rt; served.closed.version.number(), 2);
