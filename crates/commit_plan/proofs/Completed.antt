@@ -15,7 +15,7 @@ use Rattle.store_terms.specs.Image.{Held}
 use Rattle.commit_plan.specs.declared.write.Write.{Write}
 use Rattle.commit_plan.specs.declared.draft.Draft.{Draft}
 use Rattle.commit_plan.specs.declared.next.Next.{Next}
-use Rattle.commit_plan.specs.Kept.{Kept, other}
+use Rattle.commit_plan.specs.Kept.{Kept, extents_in, other}
 use Rattle.commit_plan.specs.Planning.{IsPlan, Plans}
 use Rattle.commit_plan.specs.Filing.{Filed, FiledLayer, listed_of, filed_of, Files}
 use Rattle.root_reading.specs.Taking.{AreRunsOf, IsMapOf}
@@ -42,10 +42,10 @@ pub record IsCompleted (x : Kept) (held : Held) (listing : List Listed) (catalog
 
 module _ (x : Kept) (given : List runs.Extent) (limit : ℕ) (layers : List FiledLayer) (held : Held)
     (listing : List Listed) (catalog : Filed) (b : Write) (d : Draft) (next : Next)
-    (room : IsMapOf x.extents given) (draft : IsDraft given limit (flat_map filed_of layers ++ catalog ∷ []) d)
+    (room : IsMapOf (extents_in x) given) (draft : IsDraft given limit (flat_map filed_of layers ++ catalog ∷ []) d)
     (spell : Spell layers listing held) (c : IsCompleted x held listing catalog b d next) where
   abbrev y : Kept
-  y = record { root = next.root; extents = next.root.catalog ∷ extents_listed (map listed_of layers); held = held }
+  y = record { root = next.root; listing = map listed_of layers; held = held }
 
   are : AreRunsOf (extents_listed (map listed_of layers) ++ catalog.extent ∷ []) d.runs.items
   are = subst (λ (l : List RecordExtent). AreRunsOf l d.runs.items)
@@ -59,7 +59,7 @@ module _ (x : Kept) (given : List runs.Extent) (limit : ℕ) (layers : List File
     catalog = c.read ∙ ap Some (sym spell.listed);
     there = c.catalog_is;
     number = c.version;
-    extents = refl;
+    lists = refl;
     apart = subst (λ (e : RecordExtent). all_apart (e ∷ extents_listed (map listed_of layers)) ≡ true) (sym c.catalog_is)
         (extents_apart (extents_listed (map listed_of layers)) catalog.extent d.runs.items
         (planned_apart given limit _ d.runs.items draft.placed.planned) are);

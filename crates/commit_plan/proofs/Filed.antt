@@ -15,7 +15,7 @@ use Rattle.store_terms.specs.declared.root.RecordExtent.{RecordExtent}
 use Rattle.store_terms.specs.Catalog.{Listed, catalog_of_record}
 use Rattle.store_terms.specs.Places.{blocks, bytes_of, is_placed}
 use Rattle.store_terms.specs.Image.{listing_of, held_of}
-use Rattle.store_terms.specs.Frame.{extents_of, listed_extents}
+use Rattle.commit_plan.proofs.Kept.{extents_are}
 use Rattle.store_terms.specs.Spelled.{Spells, TilesAre, LayerIs, LayersAre}
 use Rattle.store_terms.proofs.SpelledLemmas.{spelled_is_held, listing_spelled}
 use Rattle.store_terms.proofs.RecordLemmas.{held_is_placed}
@@ -127,11 +127,10 @@ filing_makes y layers listing ws file files writes puts =
     }) in
     let read : listing_of file y.root ≡ Ok (map listed_of layers) =
     listing_spelled file y.root (map listed_of layers) catalog_spells in
-    let extents : extents_of file y.root ≡ y.extents =
-    ap (λ (l : Result (List Listed) Damage). y.root.catalog ∷ listed_extents l) read ∙ sym files.extents in
+    let listing_is : listing_of file y.root ≡ Ok y.listing = read ∙ ap (λ (l : List Listed). Ok l) (sym files.lists) in
     record {
-      extents = extents;
-      placed = subst (λ (es : List RecordExtent). AllByRecursion (λ e. is_placed file e ≡ true) es) extents
+      listing = listing_is;
+      placed = subst (λ (es : List RecordExtent). AllByRecursion (λ e. is_placed file e ≡ true) es) (extents_are y file listing_is)
           (held_is_placed file y.root y.held holds);
       holds = holds;
     }

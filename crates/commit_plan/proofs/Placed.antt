@@ -11,7 +11,7 @@ use Rattle.extent_map.specs.FirstFit.{IsPlanned}
 use Rattle.store_terms.specs.declared.root.RecordExtent.{RecordExtent}
 use Rattle.store_terms.specs.Places.{blocks, are_apart, is_apart_from, all_apart, some_extents, extents_of_records, extents_listed}
 use Rattle.commit_plan.specs.declared.write.Write.{Write}
-use Rattle.commit_plan.specs.Kept.{Kept}
+use Rattle.commit_plan.specs.Kept.{Kept, extents_in}
 use Rattle.commit_plan.specs.Planning.{IsOff, AreApart, AllApart}
 use Rattle.commit_plan.specs.Filing.{Filed, FiledLayer, a_base, a_definition, listed_of, filed_tiles, filed_of, IsWriteOf, AreWritesOf}
 use Rattle.root_reading.specs.Taking.{AreRunsOf, IsMapOf}
@@ -80,18 +80,18 @@ off_extents w block need (e ∷ es) at size free = (
   off_extents w block need es at size free.1,
 )
 
-off_root : (x : Kept) (given : List runs.Extent) (f : Filed) (w : Write) (r : runs.Extent) → IsMapOf x.extents given
+off_root : (x : Kept) (given : List runs.Extent) (f : Filed) (w : Write) (r : runs.Extent) → IsMapOf (extents_in x) given
     → IsNew given r → r.block ≡ f.extent.block → r.blocks ≡ blocks f.extent.size → IsWriteOf f w → IsOff x w
 off_root x given f w r room new block size is =
-    let free : AreFreeOf r.block r.blocks x.extents = room.there r.block r.blocks new.free in
+    let free : AreFreeOf r.block r.blocks (extents_in x) = room.there r.block r.blocks new.free in
     record {
       behind = omega (arith, is.there, is.behind);
-      apart = off_extents w r.block r.blocks x.extents (omega (arith, is.there, block))
+      apart = off_extents w r.block r.blocks (extents_in x) (omega (arith, is.there, block))
           (is.blocks ∙ ap (λ (n : ℕ). 4096 * n) (sym size)) free;
     }
 
 pub all_off : (x : Kept) (given : List runs.Extent) (fs : List Filed) (ws : List Write) (rs : List runs.Extent)
-    → IsMapOf x.extents given → AllByRecursion (IsNew given) rs → AreRunsOf (extents_of_filed fs) rs
+    → IsMapOf (extents_in x) given → AllByRecursion (IsNew given) rs → AreRunsOf (extents_of_filed fs) rs
     → AreWritesOf fs ws → AllByRecursion (IsOff x) ws
 all_off x given [] [] rs room new are writes = tt
 all_off x given [] (w ∷ ws) rs room new are writes = absurd writes

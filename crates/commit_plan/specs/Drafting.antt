@@ -14,7 +14,7 @@ use Rattle.store_terms.specs.Spelled.{MayBeStored}
 use Rattle.commit_plan.specs.declared.write.Write.{Write}
 use Rattle.commit_plan.specs.declared.draft.Draft.{Draft}
 use Rattle.commit_plan.specs.declared.next.Next.{Next}
-use Rattle.commit_plan.specs.Kept.{Kept}
+use Rattle.commit_plan.specs.Kept.{Kept, extents_in}
 use Rattle.commit_plan.specs.Planning.{Plans}
 use Rattle.commit_plan.specs.Filing.{Filed, FiledLayer, listed_of, filed_of, SpellLayers, AreWritesOf}
 use Rattle.root_reading.specs.Taking.{AreRunsOf, IsMapOf}
@@ -71,5 +71,5 @@ pub record IsNext (x : Kept) (held : Held) (next : Next) : Type 0 where
   pub kept : Kept
   pub holds : kept.held ≡ held
   pub root : next.root ≡ kept.root
-  pub room : IsMapOf kept.extents (taken_of next.room.map)
+  pub room : IsMapOf (extents_in kept) (taken_of next.room.map)
   pub plans : Plans x kept next.plan.items

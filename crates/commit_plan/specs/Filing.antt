@@ -89,7 +89,7 @@ pub record Files (y : Kept) (layers : List FiledLayer) (listing : Filed) : Type 
   pub catalog : catalog_of_record listing.bytes ≡ Some (map listed_of layers)
   pub there : y.root.catalog ≡ listing.extent
   pub number : y.root.version ≡ y.held.number
-  pub extents : y.extents ≡ y.root.catalog ∷ extents_listed (map listed_of layers)
+  pub lists : y.listing ≡ map listed_of layers
   pub apart : all_apart (y.root.catalog ∷ extents_listed (map listed_of layers)) ≡ true
 
 -- where all of them are put, the file holds what the root names

@@ -9,7 +9,7 @@ ghost use Rattle.store_terms.specs.Catalog.{catalog};
 ghost use Rattle.store_terms.specs.Image.{Held};
 ghost use Rattle.store_terms.specs.Roots.{sequence_max};
 ghost use Rattle.store_terms.specs.StandsFor.{body_at};
-ghost use Rattle.commit_plan.specs.Kept.{Kept, other};
+ghost use Rattle.commit_plan.specs.Kept.{Kept, extents_in, other};
 ghost use Rattle.commit_plan.specs.Filing.{Filed, FiledLayer, filed_of};
 ghost use Rattle.root_reading.specs.Taking.{IsMapOf};
 ghost use Rattle.commit_plan.specs.Drafting.{ArePlanned, ArePlaced, IsDraft, IsLaidOut, Spell, IsNext};
@@ -39,7 +39,7 @@ pub(crate) fn completed(
     requires listable { All IsListable listing.now }
     requires below { root.sequence < sequence_max }
     ensures ok { (x : Kept) (given : List runs.Extent) (limit : ℕ) (layers : List FiledLayer) (held : Held)
-        → x.root ≡ root → body ≡ body_at (other root) → IsMapOf x.extents given
+        → x.root ≡ root → body ≡ body_at (other root) → IsMapOf (extents_in x) given
         → IsDraft given limit (flat_map filed_of layers) draft → Spell layers (listing_of listing.now) held
         → held.number ≡ number → IfOk result (λ next. IsNext x held next) }
     ensures laid { (given : List runs.Extent) (limit : ℕ) (layers : List FiledLayer) (held : Held)

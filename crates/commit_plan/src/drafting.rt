@@ -4,7 +4,7 @@ ghost use Rattle.extent_map.specs.Taken.{taken_of, limit_of};
 ghost use Rattle.store_terms.specs.Roots.{sequence_max};
 ghost use Rattle.store_terms.specs.StandsFor.{body_at};
 ghost use Rattle.root_reading.specs.Taking.{IsMapOf};
-ghost use Rattle.commit_plan.specs.Kept.{Kept, other};
+ghost use Rattle.commit_plan.specs.Kept.{Kept, extents_in, other};
 ghost use Rattle.commit_plan.specs.Drafting.{IsLaidOut, IsNext};
 ghost use Rattle.commit_plan.specs.Fitting.{HasRoom, HasNoRoom};
 
@@ -28,7 +28,7 @@ pub fn drafted(
     body: usize,
 ) -> Result<Next, StoreFault>
     requires { root.sequence < sequence_max }
-    ensures ok { (x : Kept) → x.root ≡ root → body ≡ body_at (other root) → IsMapOf x.extents (taken_of room.now.map)
+    ensures ok { (x : Kept) → x.root ≡ root → body ≡ body_at (other root) → IsMapOf (extents_in x) (taken_of room.now.map)
         → IfOk result (λ next. IsNext x image.now next) }
     // The records, the catalog and the body, in this order; each record and the catalog in the lowest free run, in
     // whole blocks.

@@ -1,17 +1,20 @@
 //! What a root of a file holds, and the blocks that it takes.
-ghost use Rattle.std.specs.Prelude.{◌≡◌, ◌↔◌, ◌^◌, ◌<◌, length, map, IfOk, IfErr};
+ghost use Rattle.std.specs.Prelude.{◌≡◌, ◌↔◌, ◌^◌, ◌<◌, length, map, Ok, IfOk, IfErr};
 ghost use Rattle.overlay_terms.specs.StoredTiles.{AreStored};
 ghost use Rattle.extent_map.specs.Taken.{taken_of, limit_of};
 ghost use Rattle.tile_build.specs.Tile.{finished_of};
 ghost use Rattle.store_terms.specs.Image.{held_of};
-ghost use Rattle.store_terms.specs.Frame.{extents_of};
+ghost use Rattle.store_terms.specs.Image as terms;
+ghost use Rattle.record_bytes.specs.Listing.{listing_of};
 ghost use Rattle.root_reading.specs.Taking.{IsMapOf};
 ghost use Rattle.root_reading.specs.Looking.{Gives, Looks, Causes};
-ghost use Rattle.commit_plan.specs.Loading.{held_in};
+ghost use Rattle.commit_plan.specs.Loading.{held_in, kept_in};
+ghost use Rattle.commit_plan.specs.Kept.{extents_in};
 
 use crate::room::Room;
 use crate::taking::room_of;
 use disk_model::disk::Disk;
+use record_bytes::catalog::Listed;
 use root_reading::load_fault::LoadFault;
 use root_reading::loading::{Content, content_of};
 use root_reading::records::listing_at;
@@ -22,6 +25,8 @@ use store_terms::root::Root;
 #[derive(Drop)]
 pub struct Loaded {
     pub root: Root,
+    /// What its catalog lists.
+    pub listing: Vec<Listed>,
     pub content: Content,
     pub room: Room,
     /// Room in which nothing is taken, for the commit to come.
@@ -50,8 +55,10 @@ pub fn read_root<D: Disk>(
     ensures looks { D.is_honest disk.old → Looks D.Disk disk.old disk.new }
     ensures gives { D.is_honest disk.old → length (D.seen disk.old) < 2 ^ 64
         → Gives held_in result (held_of (D.seen disk.old) root) }
+    ensures listing { D.is_honest disk.old
+        → IfOk result (λ x. terms.listing_of (D.seen disk.old) root ≡ Ok (listing_of x.listing.items)) }
     ensures room { D.is_honest disk.old → length (D.seen disk.old) < 2 ^ 64
-        → IfOk result (λ x. IsMapOf (extents_of (D.seen disk.old) root) (taken_of x.room.map)) }
+        → IfOk result (λ x. IsMapOf (extents_in (kept_in x)) (taken_of x.room.map)) }
     ensures root { IfOk result (λ x. x.root ≡ root) }
     ensures limit { IfOk result (λ x. limit_of x.room.map ≡ max_blocks) }
     ensures next_limit { IfOk result (λ x. limit_of x.next_room.map ≡ max_blocks) }
@@ -65,6 +72,7 @@ pub fn read_root<D: Disk>(
     let next_room = no_room(alloc, max_blocks)?;
     Ok(Loaded {
         root,
+        listing,
         content,
         room,
         next_room,

@@ -12,7 +12,7 @@ use Rattle.root_store.specs.declared.phase.Progress.{Progress}
 use Rattle.root_store.specs.declared.phase.Progress.TheVariants as progress
 use Rattle.root_store.specs.declared.commit.Commit.{Commit}
 use Rattle.root_reading.specs.Taking.{IsMapOf}
-use Rattle.commit_plan.specs.Kept.{Kept, other, Rest, Shut, Calm, Ready, Either}
+use Rattle.commit_plan.specs.Kept.{Kept, extents_in, other, Rest, Shut, Calm, Ready, Either}
 use Rattle.commit_plan.specs.Planning.{Leads, Spare}
 
 module _ {D : Type 0} (g : Ghosts D) where
@@ -21,7 +21,7 @@ module _ {D : Type 0} (g : Ghosts D) where
     pub honest : g.is_honest s.disk
     pub idle : s.phase ≡ Idle
     pub root : s.root ≡ x.root
-    pub room : IsMapOf x.extents (taken_of s.room.map)
+    pub room : IsMapOf (extents_in x) (taken_of s.room.map)
     pub leaves : Leaves g s.disk (Calm x)
 
   -- what is known before the call that a phase is named for
@@ -46,7 +46,7 @@ module _ {D : Type 0} (g : Ghosts D) where
     pub honest : g.is_honest s.disk
     pub root : s.root ≡ x.root
     pub next_root : s.next_root ≡ y.root
-    pub next_room : IsMapOf y.extents (taken_of s.next_room.map)
+    pub next_room : IsMapOf (extents_in y) (taken_of s.next_room.map)
     pub before : Before s.phase s x y
 
   -- what a step answers, and where it leaves the store

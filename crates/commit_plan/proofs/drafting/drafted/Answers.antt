@@ -1,3 +1,4 @@
+use Rattle.commit_plan.specs.Kept.{extents_in}
 use Rattle.std.proofs.Common.{◌≡◌, ◌+◌, [], ◌∷◌, ◌++◌, ℕ, List, length, ap, map, sym, ◌∙◌, subst, arith}
 use Rattle.std.specs.List.{flat_map}
 use Rattle.overlay_terms.specs.Layers.{Layer}
@@ -50,8 +51,8 @@ returns-clause-ok c x root there room =
     let spell = spell_of image given copy.max_blocks ls d c.number-number.ensures.valid book filed in
     let listed : Spell filed.filed (listing_of c.deref.result.now) image =
     subst (λ (l : List code.Listed). Spell filed.filed (listing_of l) image) (sym c.deref.ensures.value) spell in
-    let mapped : IsMapOf x.extents given =
-    subst (λ (l : List runs.Extent). IsMapOf x.extents l) (sym c.in_ok-try_copy.ensures.taken) room in
+    let mapped : IsMapOf (extents_in x) given =
+    subst (λ (l : List runs.Extent). IsMapOf (extents_in x) l) (sym c.in_ok-try_copy.ensures.taken) room in
     c.completed.ensures.ok x given copy.max_blocks filed.filed image root there mapped filed.draft listed
     (sym c.number-number.ensures.value)
 

@@ -8,7 +8,6 @@ use Rattle.store_terms.specs.declared.damage.Damage.{Damage}
 use Rattle.store_terms.specs.Catalog.{Listed}
 use Rattle.store_terms.specs.Places.{extents_listed}
 use Rattle.store_terms.specs.Image.{Held, listing_of, layers_of, held_of}
-use Rattle.store_terms.specs.Frame.{listed_extents}
 use Rattle.root_reading.specs.Looking.{Refuses}
 use Rattle.commit_plan.specs.Loading.{held_in}
 use Rattle.root_reading.specs.Taking.{IsMapOf}
@@ -81,8 +80,8 @@ returns-clause-room g c honest short =
     subst (λ (f : List ℕ). layers_of f [] ls ≡ Ok x) looks1.seen (c.in_ok-content.ensures.gives looks1.honest) in
     let near : AllNear (root.catalog ∷ extents_listed ls) =
     (near_catalog file short root ls listing, near_layers file short [] ls x layers) in
-    subst (λ (l : Result (List Listed) Damage). IsMapOf (root.catalog ∷ listed_extents l)
-    (taken_of c.in_ok-room.room.map)) (sym listing) (c.in_ok-room.ensures.taken near)
+    subst (λ l. IsMapOf (root.catalog ∷ extents_listed (listings.listing_of l)) (taken_of c.in_ok-room.room.map))
+    c.as_slice-listed.ensures.value (c.in_ok-room.ensures.taken near)
 
 pub returns-in_err-content-clause-looks : goal.returns-in_err-content-clause-looks
 returns-in_err-content-clause-looks g c honest =
@@ -107,3 +106,6 @@ returns-clause-looks g c honest =
     let k = g.D.Disk in
     let looks1 = c.listing_at.ensures.looks honest in
     looks_on k c.args.disk.now c.listing_at.new.disk c.content_of.new.disk looks1 (c.content_of.ensures.looks looks1.honest)
+
+pub returns-clause-listing : goal.returns-clause-listing
+returns-clause-listing g c honest = c.in_ok-listing.ensures.gives honest

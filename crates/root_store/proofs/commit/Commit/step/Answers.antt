@@ -2,7 +2,7 @@ use Rattle.std.proofs.Common.{◌≡◌, length, drop, List, [], ◌∷◌, ℕ,
 use Rattle.disk_model.specs.Disk.{Torn, Holds, OneStepOn}
 use Rattle.root_store.specs.declared.phase.Phase.{Phase}
 use Rattle.store_terms.specs.StandsFor.{gate_at}
-use Rattle.commit_plan.specs.Kept.{other, Either, Rest, Shut, Ready}
+use Rattle.commit_plan.specs.Kept.{extents_in, other, Either, Rest, Shut, Ready}
 use Rattle.root_store.specs.Running.{Before}
 use Rattle.root_reading.specs.Taking.{IsMapOf}
 use Rattle.commit_plan.specs.declared.room.Room.{Room}
@@ -306,8 +306,8 @@ returns-in_ok-sync-in-Finish-clause-moves g c x y runs =
     let stop = w.crash runs.honest in
     let now : (f : List ℕ) → k.left_since s.disk (k.moment s.disk) f → k.may_leave s.disk f =
     λ f left. g.met.D.Disk.only_now s.disk f runs.honest left in
-    let room : IsMapOf y.extents (taken_of c.swap.new.x.map) =
-    subst (λ (r : Room). IsMapOf y.extents (taken_of r.map)) (sym c.swap.ensures.x_after) runs.next_room in
+    let room : IsMapOf (extents_in y) (taken_of c.swap.new.x.map) =
+    subst (λ (r : Room). IsMapOf (extents_in y) (taken_of r.map)) (sym c.swap.ensures.x_after) runs.next_room in
     let ready = b.0 (k.seen s.disk) (g.met.D.Disk.seen_may_stay s.disk runs.honest) in
     let here = opened_rest x y (k.seen s.disk) ready b.1 in
     let all = leaves_synced k new (k.seen s.disk) (Rest y) (c.in_ok-sync-in-Finish.ensures.durable runs.honest) here in
