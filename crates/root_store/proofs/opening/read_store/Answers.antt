@@ -2,13 +2,11 @@ use Rattle.std.proofs.Common.{◌≡◌, ◌<◌, ◌^◌, length, List, ℕ, Ok
 use Rattle.store_terms.specs.StandsFor.{root_of, reading}
 use Rattle.store_terms.specs.Image.{listing_of, held_of}
 use Rattle.record_bytes.specs.Listing as listings
-use Rattle.extent_map.specs.Taken.{taken_of}
 use Rattle.root_store.specs.Finding.{has_shut_gate}
 use Rattle.root_reading.specs.Looking.{Refuses}
 use Rattle.root_reading.specs.declared.load_fault.LoadFault.{LoadFault}
 use Rattle.root_reading.specs.declared.load_fault.LoadFault.TheVariants.{OutOfMemory}
 use Rattle.root_store.specs.Opening.{HasRoot}
-use Rattle.root_reading.specs.Taking.{IsMapOf}
 use Rattle.root_reading.proofs.Looked.{gives_err, refuses_bound, refuses_device, looks_on, if_err}
 use Rattle.commit_plan.specs.Loading.{held_in}
 use Rattle.root_store.proofs.OpeningLemmas.{reading_root}
