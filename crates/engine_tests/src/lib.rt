@@ -4,6 +4,7 @@
 #[cfg(test)]
 mod crash_tests;
 #[cfg(test)]
+mod keeping_tests;
 mod limit_tests;
 #[cfg(test)]
 mod step_tests;

@@ -6,7 +6,6 @@ use Rattle.disk_model.specs.Moments.{Leaves, LeavesOnly}
 use Rattle.extent_map.specs.Taken.{taken_of}
 use Rattle.store_terms.specs.Image.{Held}
 use Rattle.store_terms.specs.Image.{listing_of}
-use Rattle.record_bytes.specs.Listing as listings
 use Rattle.store_terms.specs.StandsFor.{root_of, reading, gate, open_gate, body_at}
 use Rattle.store_terms.specs.declared.root.Root.{Root}
 use Rattle.store_terms.specs.Roots.{sequence_max}
@@ -35,9 +34,9 @@ pub record Heals {D : Type 0} (g : Ghosts D) (old new : D) (result : Result (Uni
 pub record IsRead {D : Type 0} (g : Ghosts D) (old new : D) (x : Loaded) (is_alone : Bool) : Type 0 where
   pub only : Only (g.seen old) (g.may_leave new)
   pub root : root_of (g.seen old) ≡ Ok x.root
-  pub listing : listing_of (g.seen old) x.root ≡ Ok (listings.listing_of x.listing.items)
+  pub listing : listing_of (g.seen old) x.root ≡ Ok (kept_in x).listing
   pub alone : is_alone ≡ has_shut_gate (g.seen old)
-  pub room : IsMapOf (extents_in (kept_in x)) (taken_of x.room.map)
+  pub room : IsMapOf (extents_in (kept_in x)) (taken_of x.live.room.map)
 
 -- what a crash may leave while a file is opened: what it might have left before, or what stands for the same
 abbrev pub Opened : {D : Type 0} → Ghosts D → D → List ℕ → Type 0
@@ -49,7 +48,7 @@ pub record Loads {D : Type 0} (g : Ghosts D) (old new : D) (result : Result Load
   pub gives : Gives held_in result (reading (g.seen old))
   pub run : LeavesOnly g old new (Opened g old)
   pub ok : IfOk result
-      (λ x. IsMapOf (extents_in (kept_in x)) (taken_of x.room.map) × Leaves g new (Calm (kept_in x)))
+      (λ x. IsMapOf (extents_in (kept_in x)) (taken_of x.live.room.map) × Leaves g new (Calm (kept_in x)))
   pub err : OnErr result (Leaves g new (Opened g old))
 
 -- a file is not touched: it is seen as before, and a crash leaves nothing that it might not have left before

@@ -13,6 +13,7 @@ use crate::finding::GATE_OPEN;
 use crate::open_fault::OpenFault;
 use crate::phase::Phase;
 use commit_plan::fault::StoreFault;
+use commit_plan::live_records::LiveRecords;
 use commit_plan::room::Room;
 use disk_model::disk::Disk;
 use disk_model::fault::DiskFault;
@@ -172,10 +173,10 @@ pub fn create<D: Disk>(
         Ok((room, next_room)) => Ok(Commit {
             disk,
             root: FIRST,
-            room,
+            live: LiveRecords::empty(alloc, room),
             phase: Phase::Idle,
             next_root: FIRST,
-            next_room,
+            next_live: LiveRecords::empty(alloc, next_room),
             plan: Vec::new(alloc),
             next: 0,
         }),

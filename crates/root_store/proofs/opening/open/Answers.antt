@@ -19,6 +19,7 @@ returns-in-Ok-clause-ok g c honest =
         honest = l.honest;
         idle = refl;
         root = refl;
+        holds = c.in-Ok.ensures.stands;
         room = k.0;
         leaves = k.1;
       },
