@@ -335,7 +335,7 @@ planned_near given limit [] (r ∷ rs) low planned = absurd planned
 planned_near given limit (n ∷ sizes) [] low planned = absurd planned
 planned_near given limit (n ∷ sizes) (r ∷ rs) low planned = (
   (let end : r.block + r.blocks ≤ limit =
-  subst (λ (m : ℕ). r.block + m ≤ limit) (sym planned.0) planned.1.below in omega (arith, end, low)),
+      subst (λ (m : ℕ). r.block + m ≤ limit) (sym planned.0) planned.1.below in omega (arith, end, low)),
   planned_near (r ∷ given) limit sizes rs low planned.2,
 )
 

@@ -70,7 +70,7 @@ tree_decides (combine o l r) (combine p m s) = (
       let parts = and_parts (same_operation o p && same_tree l m) (same_tree r s) h in
       let front = and_parts (same_operation o p) (same_tree l m) parts.0 in
       λ i. combine ((operation_decides o p).0 front.0 i) ((tree_decides l m).0 front.1 i)
-          ((tree_decides r s).0 parts.1 i),
+      ((tree_decides r s).0 parts.1 i),
   λ e. and_from _ _
       (and_from _ _ ((operation_decides o p).1 (ap operation_of e)) ((tree_decides l m).1 (ap left_of e)))
       ((tree_decides r s).1 (ap right_of e)),

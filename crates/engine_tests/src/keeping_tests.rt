@@ -70,7 +70,11 @@ const LISTS: &[Lines] = &[
             &[2],
         ),
         (
-            &[Words::Put("A", SMALLER), Words::Take("I", 8), Words::Finish(2)],
+            &[
+                Words::Put("A", SMALLER),
+                Words::Take("I", 8),
+                Words::Finish(2),
+            ],
             9,
             &[7, 8, 9],
         ),
@@ -156,7 +160,9 @@ fn six_blocks_are_enough_for_a_layer_beside_another(rt: HostRuntime) -> Result<(
 }
 
 #[test]
-fn a_store_that_is_opened_and_committed_writes_its_catalog_alone(rt: HostRuntime) -> Result<(), Fail> {
+fn a_store_that_is_opened_and_committed_writes_its_catalog_alone(
+    rt: HostRuntime,
+) -> Result<(), Fail> {
     let mut engine = created(rt.alloc(), 100)?;
     let line: Line = (&[Words::Put("A", SQUARE), Words::Put("B", SHIFTED)], 9, &[]);
     assert!(rt; is_done(rt.alloc(), &mut engine, &line)?);
