@@ -48,9 +48,8 @@ fn opened(alloc: Global, disk: MemDisk) -> Result<(Commit<MemDisk>, Image), Fail
     }
 }
 
-/// The disk after a commit of what it holds.
-fn committed(alloc: Global, disk: MemDisk) -> Result<MemDisk, Fail> {
-    let (mut store, image) = opened(alloc, disk)?;
+/// The disk after a commit of an image.
+fn with_image(alloc: Global, mut store: Commit<MemDisk>, image: Image) -> Result<MemDisk, Fail> {
     if store.busy() {
         return Err(Fail::new("busy"));
     }
@@ -61,6 +60,19 @@ fn committed(alloc: Global, disk: MemDisk) -> Result<MemDisk, Fail> {
         }
     }
     Ok(store.into_disk())
+}
+
+/// The disk after a commit of what it holds.
+fn committed(alloc: Global, disk: MemDisk) -> Result<MemDisk, Fail> {
+    let (store, image) = opened(alloc, disk)?;
+    with_image(alloc, store, image)
+}
+
+/// The disk of a file after a commit of what another holds.
+fn changed(alloc: Global, file: Vec<u8>, other: Vec<u8>) -> Result<MemDisk, Fail> {
+    let (_, image) = opened(alloc, MemDisk::new(alloc, other)?)?;
+    let (store, _) = opened(alloc, MemDisk::new(alloc, file)?)?;
+    with_image(alloc, store, image)
 }
 
 /// Opens a file so many times, or opens it and commits what it holds.
@@ -154,6 +166,12 @@ fn main(rt: HostRuntime) -> Result<(), Fail> {
         "write_base" => (write_bases(rt.alloc(), &file, times)?, 0),
         "write_tile" => (write_tiles(rt.alloc(), &file, times)?, 0),
         "open" => count(&open_often(rt.alloc(), file, times, false)?),
+        "change" => {
+            let Some(other) = words.next() else {
+                return Err(Fail::new("change FILE TIMES OTHER"));
+            };
+            count(&changed(rt.alloc(), file, fs::read(&rt, other.as_str())?)?)
+        }
         _ => count(&open_often(rt.alloc(), file, times, true)?),
     };
     println!(rt; "{first} {second}")?;
@@ -184,6 +202,14 @@ def whole_piece(column, i):
     return left + right + b"\0" + left + b"\0" + right
 
 
+def short_piece(column, i):
+    # the last column is a line, so its pieces are vertical
+    if column < 16:
+        return whole_piece(column, i)
+    low, high = struct.pack(">ii", 2**20, i), struct.pack(">ii", 2**20, i + 1)
+    return low + high + b"\0" + low + b"\0" + high
+
+
 def crossed_piece(column, i):
     x = column_left(column)
     support = struct.pack(">iiii", x, 4 * i, x + 4, 4 * i)
@@ -205,7 +231,9 @@ def body(sequence, version, block, size):
 
 def store(layers):
     # layers: name, base record or definition record, and tiles by column (None of a base layer)
-    records, catalog, block = [], struct.pack(">H", len(layers)), 3
+    entries = [14 + len(name) + sum(13 if c in tiles else 1 for c in range(17) if tiles is not None) for name, _, tiles in layers]
+    records, catalog = [], struct.pack(">H", len(layers))
+    block = 2 + -(-(2 + sum(entries)) // BLOCK)
 
     def placed(record):
         nonlocal block
@@ -218,7 +246,6 @@ def store(layers):
         catalog += struct.pack(">B", len(name)) + name + struct.pack(">B", tiles is not None) + placed(record)
         for column in range(17) if tiles is not None else []:
             catalog += b"\1" + placed(tiles[column]) if column in tiles else b"\0"
-    assert len(catalog) <= BLOCK
     # both gates are open, so that opening writes nothing
     slots = b"".join((b"\xa7" + bytes(15) + body(s, len(layers), 2, len(catalog))).ljust(BLOCK, b"\0") for s in [0, 1])
     return slots + b"".join(r.ljust(blocks(r) * BLOCK, b"\0") for r in [catalog] + records)
@@ -294,11 +321,33 @@ def files(program, folder):
         )
 
 
+def changes(program, folder):
+    """What a commit writes that leads from one file to another."""
+    base, other, small = zigzag(2048), zigzag(2047), zigzag(4)
+    tile = {c: tile_record(c, 100, short_piece) for c in range(17)}
+    shorter = {**tile, 8: tile_record(8, 99, whole_piece)}
+    layers = [(b"A%d" % i, base, None) for i in range(32)]
+    tiled = [(b"A", small, None)] + [(b"I%d" % i, b"A", tile) for i in range(30)]
+    one, two = folder / "one", folder / "two"
+    kinds = {
+        "32 layers of 2,048 steps, one of them changed": (layers, layers[:8] + [(b"A8", other, None)] + layers[9:]),
+        "510 tiles of 100 pieces, one of them changed": (tiled, tiled[:8] + [(b"I7", b"A", shorter)] + tiled[9:]),
+        "510 tiles of 100 pieces, nothing but the number": (tiled, tiled),
+    }
+    for name, (before, after) in kinds.items():
+        one.write_bytes(store(before))
+        two.write_bytes(store(after))
+        words = [program, "change", one, "1", two]
+        calls, written = subprocess.run(words, stdout=subprocess.PIPE, check=True, text=True).stdout.split()
+        print(f"{name}: a commit makes {calls} device calls and writes {written} bytes")
+
+
 def main():
     with tempfile.TemporaryDirectory() as folder:
         program = pathlib.Path(sys.argv[1]).resolve() if len(sys.argv) > 1 else built(folder)
         records(program, pathlib.Path(folder))
         files(program, pathlib.Path(folder))
+        changes(program, pathlib.Path(folder))
 
 
 main()
