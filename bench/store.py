@@ -39,6 +39,14 @@ def whole_piece(column, i):
     return left + right + b"\0" + left + b"\0" + right
 
 
+def short_piece(column, i):
+    # the last column is a line, so its pieces are vertical
+    if column < 16:
+        return whole_piece(column, i)
+    low, high = struct.pack(">ii", 2**20, i), struct.pack(">ii", 2**20, i + 1)
+    return low + high + b"\0" + low + b"\0" + high
+
+
 def crossed_piece(column, i):
     x = column_left(column)
     support = struct.pack(">iiii", x, 4 * i, x + 4, 4 * i)
@@ -60,7 +68,9 @@ def body(sequence, version, block, size):
 
 def store(layers):
     # layers: name, base record or definition record, and tiles by column (None of a base layer)
-    records, catalog, block = [], struct.pack(">H", len(layers)), 3
+    entries = [14 + len(name) + sum(13 if c in tiles else 1 for c in range(17) if tiles is not None) for name, _, tiles in layers]
+    records, catalog = [], struct.pack(">H", len(layers))
+    block = 2 + -(-(2 + sum(entries)) // BLOCK)
 
     def placed(record):
         nonlocal block
@@ -73,7 +83,6 @@ def store(layers):
         catalog += struct.pack(">B", len(name)) + name + struct.pack(">B", tiles is not None) + placed(record)
         for column in range(17) if tiles is not None else []:
             catalog += b"\1" + placed(tiles[column]) if column in tiles else b"\0"
-    assert len(catalog) <= BLOCK
     # both gates are open, so that opening writes nothing
     slots = b"".join((b"\xa7" + bytes(15) + body(s, len(layers), 2, len(catalog))).ljust(BLOCK, b"\0") for s in [0, 1])
     return slots + b"".join(r.ljust(blocks(r) * BLOCK, b"\0") for r in [catalog] + records)
@@ -140,11 +149,33 @@ def files(program, folder):
         )
 
 
+def changes(program, folder):
+    """What a commit writes that leads from one file to another."""
+    base, other, small = zigzag(2048), zigzag(2047), zigzag(4)
+    tile = {c: tile_record(c, 100, short_piece) for c in range(17)}
+    shorter = {**tile, 8: tile_record(8, 99, whole_piece)}
+    layers = [(b"A%d" % i, base, None) for i in range(32)]
+    tiled = [(b"A", small, None)] + [(b"I%d" % i, b"A", tile) for i in range(30)]
+    one, two = folder / "one", folder / "two"
+    kinds = {
+        "32 layers of 2,048 steps, one of them changed": (layers, layers[:8] + [(b"A8", other, None)] + layers[9:]),
+        "510 tiles of 100 pieces, one of them changed": (tiled, tiled[:8] + [(b"I7", b"A", shorter)] + tiled[9:]),
+        "510 tiles of 100 pieces, nothing but the number": (tiled, tiled),
+    }
+    for name, (before, after) in kinds.items():
+        one.write_bytes(store(before))
+        two.write_bytes(store(after))
+        words = [program, "change", one, "1", two]
+        calls, written = subprocess.run(words, stdout=subprocess.PIPE, check=True, text=True).stdout.split()
+        print(f"{name}: a commit makes {calls} device calls and writes {written} bytes")
+
+
 def main():
     with tempfile.TemporaryDirectory() as folder:
         program = pathlib.Path(sys.argv[1]).resolve() if len(sys.argv) > 1 else built(folder)
         records(program, pathlib.Path(folder))
         files(program, pathlib.Path(folder))
+        changes(program, pathlib.Path(folder))
 
 
 main()

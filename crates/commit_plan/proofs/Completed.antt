@@ -1,9 +1,15 @@
 -- A draft with its catalog and the body that names it.
-use Rattle.std.proofs.Common.{◌≡◌, ℕ, ◌+◌, ◌^◌, ◌<◌, ◌≤◌, true, List, [], ◌∷◌, ◌++◌, map, Some, refl, sym, ◌∙◌, ap, subst, arith}
+use Rattle.std.proofs.Common.{◌≡◌, ◌⊎◌, inl, inr, Ok, Err, Result, ℕ, ◌+◌, ◌^◌, ◌<◌, ◌≤◌, true, List, [], ◌∷◌, ◌++◌, map, Some, refl, sym, ◌∙◌, ap, subst, arith}
 use Rattle.std.specs.List.{flat_map}
+use Rattle.std.proofs.lemmas.Bool.{cond-true}
 use Rattle.overlay_terms.specs.Commands.{version_max}
+use Rattle.store_terms.specs.declared.damage.Damage.TheVariants.{Overlap}
+use Rattle.root_reading.specs.declared.load_fault.LoadFault.{LoadFault}
+use Rattle.root_reading.specs.declared.load_fault.LoadFault.TheVariants as loads
+use Rattle.root_reading.specs.Looking.{Refuses}
+use Rattle.commit_plan.specs.declared.fault.StoreFault.TheVariants.{Full, OutOfMemory}
+use Rattle.commit_plan.specs.Fault.{fault_told}
 use Rattle.extent_map.specs.declared.extent.Extent as runs
-use Rattle.extent_map.specs.Extents.{AreAlike}
 use Rattle.extent_map.specs.Taken.{taken_of}
 use Rattle.store_terms.specs.declared.root.RecordExtent.{RecordExtent}
 use Rattle.store_terms.specs.declared.root.Root.{Root}
@@ -15,17 +21,19 @@ use Rattle.store_terms.specs.Image.{Held}
 use Rattle.commit_plan.specs.declared.write.Write.{Write}
 use Rattle.commit_plan.specs.declared.draft.Draft.{Draft}
 use Rattle.commit_plan.specs.declared.next.Next.{Next}
-use Rattle.commit_plan.specs.Kept.{Kept, other}
+use Rattle.commit_plan.specs.Kept.{Kept, extents_in, other}
 use Rattle.commit_plan.specs.Planning.{IsPlan, Plans}
+use Rattle.commit_plan.specs.Staying.{Standing, standing_of, AreHeldApart}
+use Rattle.commit_plan.specs.Live.{standing}
 use Rattle.commit_plan.specs.Filing.{Filed, FiledLayer, listed_of, filed_of, Files}
-use Rattle.root_reading.specs.Taking.{AreRunsOf, IsMapOf}
+use Rattle.root_reading.specs.Taking.{AllNear, IsMapOf, if_apart}
 use Rattle.commit_plan.specs.Drafting.{IsDraft, IsLaidOut, Spell, IsNext}
 use Rattle.commit_plan.proofs.Filed.{filing_makes}
 use Rattle.commit_plan.proofs.Plan.{plans}
-use Rattle.root_reading.proofs.Rooms.{map_of_runs}
-use Rattle.commit_plan.proofs.Placed.{planned_new, planned_apart, all_off, all_writes_apart, extents_apart, map_turned, extents_both, listed_are}
+use Rattle.commit_plan.proofs.Placed.{planned_new, planned_apart, all_off, all_writes_apart}
+use Rattle.commit_plan.proofs.Apart.{records_apart, records_near}
 
--- what is known of the root, the catalog and the body
+-- what is known of the root, its records and the body
 pub record IsCompleted (x : Kept) (held : Held) (listing : List Listed) (catalog : Filed) (b : Write) (d : Draft)
     (next : Next) : Type 0 where
   pub read : catalog_of_record catalog.bytes ≡ Some listing
@@ -37,32 +45,30 @@ pub record IsCompleted (x : Kept) (held : Held) (listing : List Listed) (catalog
   pub small : next.root.catalog.size < 2 ^ 32
   pub there : b.at ≡ body_at (other x.root)
   pub spelled : b.bytes.items ≡ body_text next.root
-  pub alike : AreAlike d.runs.items (taken_of next.room.map)
+  pub stands : standing next.live ≡ record { listing = listing; layers = held.layers; tiles = held.tiles }
+  pub taken : AllNear (catalog.extent ∷ extents_listed listing)
+      → IsMapOf (catalog.extent ∷ extents_listed listing) (taken_of next.live.room.map)
   pub plan : next.plan.items ≡ d.writes.items ++ b ∷ []
 
 module _ (x : Kept) (given : List runs.Extent) (limit : ℕ) (layers : List FiledLayer) (held : Held)
     (listing : List Listed) (catalog : Filed) (b : Write) (d : Draft) (next : Next)
-    (room : IsMapOf x.extents given) (draft : IsDraft given limit (flat_map filed_of layers ++ catalog ∷ []) d)
-    (spell : Spell layers listing held) (c : IsCompleted x held listing catalog b d next) where
+    (room : IsMapOf (extents_in x) given) (apart : AreHeldApart (extents_listed x.listing) given) (low : limit < 2 ^ 32)
+    (draft : IsDraft given limit (flat_map filed_of layers ++ catalog ∷ []) d)
+    (spell : Spell (standing_of x) layers listing held) (c : IsCompleted x held listing catalog b d next) where
   abbrev y : Kept
-  y = record { root = next.root; extents = next.root.catalog ∷ extents_listed (map listed_of layers); held = held }
+  y = record { root = next.root; listing = listing; held = held }
 
-  are : AreRunsOf (extents_listed (map listed_of layers) ++ catalog.extent ∷ []) d.runs.items
-  are = subst (λ (l : List RecordExtent). AreRunsOf l d.runs.items)
-      (extents_both (flat_map filed_of layers) (catalog ∷ [])
-      ∙ ap (λ (l : List RecordExtent). l ++ catalog.extent ∷ []) (listed_are layers)) draft.runs
-
-  files : Files y layers catalog
+  files : Files x y layers catalog
   files = record {
     spelled = spell.spelled;
     stored = spell.stored;
     catalog = c.read ∙ ap Some (sym spell.listed);
     there = c.catalog_is;
     number = c.version;
-    extents = refl;
+    lists = sym spell.listed;
     apart = subst (λ (e : RecordExtent). all_apart (e ∷ extents_listed (map listed_of layers)) ≡ true) (sym c.catalog_is)
-        (extents_apart (extents_listed (map listed_of layers)) catalog.extent d.runs.items
-        (planned_apart given limit _ d.runs.items draft.placed.planned) are);
+        (records_apart (standing_of x) given limit _ layers catalog held.layers held.tiles d.runs.items apart
+        spell.spelled spell.stored.orderly draft.placed.planned draft.runs);
   }
 
   is_plan : IsPlan x y d.writes.items b
@@ -76,29 +82,32 @@ module _ (x : Kept) (given : List runs.Extent) (limit : ℕ) (layers : List File
         (planned_new given limit _ d.runs.items draft.placed.planned) draft.runs draft.writes;
     apart = all_writes_apart (flat_map filed_of layers ++ catalog ∷ []) d.writes.items d.runs.items
         (planned_apart given limit _ d.runs.items draft.placed.planned) draft.runs draft.writes;
-    makes = λ file shut puts. filing_makes y layers catalog d.writes.items file files draft.writes puts;
+    makes = λ file shut puts. filing_makes x y layers catalog d.writes.items file shut files draft.writes puts;
     there = c.there;
     spelled = c.spelled;
   }
+
+  near : AllNear (catalog.extent ∷ extents_listed listing)
+  near = subst (λ (ls : List Listed). AllNear (catalog.extent ∷ extents_listed ls)) spell.listed
+      (records_near (standing_of x) given limit _ layers catalog held.layers held.tiles d.runs.items apart spell.spelled
+      low draft.placed.planned draft.runs)
 
   pub completes : IsNext x held next
   completes = record {
     kept = y;
     holds = refl;
     root = refl;
-    room = subst (λ (e : RecordExtent). IsMapOf (e ∷ extents_listed (map listed_of layers)) (taken_of next.room.map))
-        (sym c.catalog_is)
-        (map_turned (extents_listed (map listed_of layers)) catalog.extent (taken_of next.room.map)
-        (map_of_runs (extents_listed (map listed_of layers) ++ catalog.extent ∷ []) d.runs.items
-        (taken_of next.room.map) are c.alike));
+    stands = c.stands;
+    room = subst (λ (e : RecordExtent). IsMapOf (e ∷ extents_listed listing) (taken_of next.live.room.map))
+        (sym c.catalog_is) (c.taken near);
     plans = subst (λ (ws : List Write). Plans x y ws) (sym c.plan) (plans x y d.writes.items b is_plan);
   }
 
 -- the writes of a draft with its catalog, and the body behind them
-pub laid_out : (given : List runs.Extent) (limit : ℕ) (layers : List FiledLayer) (held : Held) (listing : List Listed) (catalog : Filed) (b : Write) (body : ℕ) (d : Draft) (root : Root)
-    (plan : List Write) → IsDraft given limit (flat_map filed_of layers ++ catalog ∷ []) d → Spell layers listing held → catalog_of_record catalog.bytes ≡ Some listing
-    → root.catalog ≡ catalog.extent → b.at ≡ body → b.bytes.items ≡ body_text root → plan ≡ d.writes.items ++ b ∷ [] → IsLaidOut given limit held body root plan
-laid_out given limit layers held listing catalog b body d root plan draft spell read named there spelled order = record {
+pub laid_out : (live : Standing) (given : List runs.Extent) (limit : ℕ) (layers : List FiledLayer) (held : Held) (listing : List Listed) (catalog : Filed) (b : Write) (body : ℕ) (d : Draft) (root : Root)
+    (plan : List Write) → IsDraft given limit (flat_map filed_of layers ++ catalog ∷ []) d → Spell live layers listing held → catalog_of_record catalog.bytes ≡ Some listing
+    → root.catalog ≡ catalog.extent → b.at ≡ body → b.bytes.items ≡ body_text root → plan ≡ d.writes.items ++ b ∷ [] → IsLaidOut live given limit held body root plan
+laid_out live given limit layers held listing catalog b body d root plan draft spell read named there spelled order = record {
   layers = layers;
   catalog = catalog;
   places = d.runs.items;
@@ -114,3 +123,19 @@ laid_out given limit layers held listing catalog b body d root plan draft spell 
   there = there;
   spells = spelled;
 }
+
+-- where no two extents share a block, only memory is wanting
+pub only_memory : (fault : LoadFault) (es : List RecordExtent) (held : Held) → all_apart es ≡ true
+    → (fault ≡ loads.OutOfMemory) ⊎ (fault ≡ loads.Damaged Overlap) → Refuses fault (if_apart es held)
+    → fault_told fault ≡ OutOfMemory
+only_memory loads.Device es held apart (inl is) refuses = absurd (cc)
+only_memory loads.Device es held apart (inr is) refuses = absurd (cc)
+only_memory loads.OutOfMemory es held apart errors refuses = refl
+only_memory (loads.Damaged damage) es held apart errors refuses =
+    absurd (cc (cond-true (all_apart es) (Ok held) (Err Overlap) apart, refuses))
+
+-- and it is never told as full
+pub never_full : (fault : LoadFault) → fault_told fault ≡ Full → ⊥
+never_full loads.Device is = absurd (cc)
+never_full (loads.Damaged damage) is = absurd (cc)
+never_full loads.OutOfMemory is = absurd (cc)

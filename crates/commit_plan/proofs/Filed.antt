@@ -4,7 +4,7 @@ use Rattle.std.specs.Option.{option_map}
 use Rattle.std.specs.List.{flat_map, AllByRecursion}
 use Rattle.std.proofs.lemmas.Bool.{and_from, le-leb}
 use Rattle.std.proofs.lemmas.List.{take-take}
-use Rattle.overlay_terms.specs.Layers.{Name, Layer}
+use Rattle.overlay_terms.specs.Layers.{Name, Content, base, derived, Layer}
 use Rattle.overlay_terms.specs.Histories.{Finished}
 use Rattle.disk_model.specs.Disk.{part}
 use Rattle.store_terms.specs.declared.damage.Damage.{Damage}
@@ -15,13 +15,15 @@ use Rattle.store_terms.specs.declared.root.RecordExtent.{RecordExtent}
 use Rattle.store_terms.specs.Catalog.{Listed, catalog_of_record}
 use Rattle.store_terms.specs.Places.{blocks, bytes_of, is_placed}
 use Rattle.store_terms.specs.Image.{listing_of, held_of}
-use Rattle.store_terms.specs.Frame.{extents_of, listed_extents}
+use Rattle.commit_plan.proofs.Kept.{extents_are}
 use Rattle.store_terms.specs.Spelled.{Spells, TilesAre, LayerIs, LayersAre}
 use Rattle.store_terms.proofs.SpelledLemmas.{spelled_is_held, listing_spelled}
 use Rattle.store_terms.proofs.RecordLemmas.{held_is_placed}
 use Rattle.commit_plan.specs.declared.write.Write.{Write}
 use Rattle.commit_plan.specs.Planning.{IsWritten}
-use Rattle.commit_plan.specs.Filing.{Filed, FiledLayer, a_base, a_definition, listed_of, filed_tiles, filed_of, SpellTiles, SpellLayer, SpellLayers, IsWriteOf, AreWritesOf, FilingMakes}
+use Rattle.commit_plan.specs.Staying.{Standing, standing_of, layer_named}
+use Rattle.commit_plan.proofs.Stays.{OwnSpells, StayReads, stay_reads}
+use Rattle.commit_plan.specs.Filing.{Filed, Record, fresh, stays, extent_of, fresh_of, FiledLayer, a_base, a_definition, listed_of, filed_tiles, filed_of, SpellsContent, SaysLayer, SaysTile, SpellTiles, SpellLayer, SpellLayers, IsWriteOf, AreWritesOf, FilingMakes}
 
 -- the bytes of a record stand at its place
 pub record IsFiled (file : List ℕ) (f : Filed) : Type 0 where
@@ -73,45 +75,66 @@ filed_spells : {A : Type 0} (file : List ℕ) (f : Filed) (read : List ℕ → O
     → read f.bytes ≡ Some value → Spells file f.extent read value
 filed_spells file f read value filed is = record { placed = filed.placed; is = ap read filed.bytes ∙ is }
 
-tiles_filed : (file : List ℕ) (name : Name) (k : ℕ) (ts : List (Option Filed)) (tiles : List Finished)
-    → AllByRecursion (IsFiled file) (filed_tiles ts) → SpellTiles name k ts tiles
-    → TilesAre file name k (map (option_map (λ (t : Filed). t.extent)) ts) tiles
-tiles_filed file name k [] tiles filed spell = spell
-tiles_filed file name k (None ∷ ts) tiles filed spell = tiles_filed file name (k + 1) ts tiles filed spell
-tiles_filed file name k (Some f ∷ ts) tiles filed spell = (
-  spell.0,
-  spell.1,
-  spell.2,
-  filed_spells file f (tile_of_record k) spell.0 filed.0 spell.3,
-  tiles_filed file name
-      (k + 1) ts spell.1 filed.1 spell.4,
-)
+module _ (live : Standing) (file : List ℕ) (reads : StayReads live file) where
+  own_filed : (f : Filed) (content : Content) → IsFiled file f → SpellsContent content f.bytes
+      → OwnSpells file f.extent content
+  own_filed f (base rings) filed says = filed_spells file f base_of_record rings filed says
+  own_filed f (derived tree) filed says = filed_spells file f definition_of_record tree filed says
 
-layer_filed : (file : List ℕ) (l : FiledLayer) (layer : Layer) (tiles : List Finished)
-    → AllByRecursion (IsFiled file) (filed_of l) → SpellLayer l layer tiles
-    → LayerIs file (listed_of l).name (listed_of l).records layer tiles
-layer_filed file (a_base name f) layer tiles filed spell =
-    (spell.0, spell.1, spell.2, filed_spells file f base_of_record spell.0 filed.0 spell.3)
-layer_filed file (a_definition name f ts) layer tiles filed spell =
-    (spell.0, spell.1, filed_spells file f definition_of_record spell.0 filed.0 spell.2, tiles_filed file name 0 ts tiles filed.1 spell.3)
+  own_reads : (layer : Layer) (r : Record) → AllByRecursion (IsFiled file) (fresh_of r) → SaysLayer live layer r
+      → OwnSpells file (extent_of r) layer.content
+  own_reads layer (fresh f) filed says = own_filed f layer.content filed.0 says.0
+  own_reads layer (stays e) filed says = reads.own layer e says
 
-layers_filed : (file : List ℕ) (ls : List FiledLayer) (layers : List Layer) (tiles : List Finished)
-    → AllByRecursion (IsFiled file) (flat_map filed_of ls) → SpellLayers ls layers tiles
-    → LayersAre file (map listed_of ls) layers tiles
-layers_filed file [] layers tiles filed spell = spell
-layers_filed file (l ∷ ls) layers tiles filed spell = (
-  spell.0,
-  spell.1,
-  spell.2,
-  spell.3,
-  spell.4,
-  spell.5,
-  layer_filed file l spell.0 spell.2 (front_filed (IsFiled file) (filed_of l) (flat_map filed_of ls) filed) spell.6,
-  layers_filed file ls spell.1 spell.3 (back_filed (IsFiled file) (filed_of l) (flat_map filed_of ls) filed) spell.7,
-)
+  tile_reads : (t : Finished) (r : Record) → AllByRecursion (IsFiled file) (fresh_of r) → SaysTile live t r
+      → Spells file (extent_of r) (tile_of_record t.column) t.tile
+  tile_reads t (fresh f) filed says = filed_spells file f (tile_of_record t.column) t.tile filed.0 says.0
+  tile_reads t (stays e) filed says = reads.tile t e says
+
+  tiles_filed : (name : Name) (k : ℕ) (ts : List (Option Record)) (tiles : List Finished)
+      → AllByRecursion (IsFiled file) (filed_tiles ts) → SpellTiles live name k ts tiles
+      → TilesAre file name k (map (option_map extent_of) ts) tiles
+  tiles_filed name k [] tiles filed spell = spell
+  tiles_filed name k (None ∷ ts) tiles filed spell = tiles_filed name (k + 1) ts tiles filed spell
+  tiles_filed name k (Some r ∷ ts) tiles filed spell = (
+    spell.0,
+    spell.1,
+    spell.2,
+    tile_reads (record { name = name; column = k; tile = spell.0 }) r
+        (front_filed (IsFiled file) (fresh_of r) (filed_tiles ts) filed) spell.3,
+    tiles_filed name (k + 1) ts spell.1 (back_filed (IsFiled file) (fresh_of r) (filed_tiles ts) filed) spell.4,
+  )
+
+  layer_filed : (l : FiledLayer) (layer : Layer) (tiles : List Finished)
+      → AllByRecursion (IsFiled file) (filed_of l) → SpellLayer live l layer tiles
+      → LayerIs file (listed_of l).name (listed_of l).records layer tiles
+  layer_filed (a_base name r) layer tiles filed spell =
+      (spell.0, spell.1, spell.2, own_reads (layer_named name (base spell.0)) r filed spell.3)
+  layer_filed (a_definition name r ts) layer tiles filed spell = (
+    spell.0,
+    spell.1,
+    own_reads (layer_named name (derived spell.0)) r
+        (front_filed (IsFiled file) (fresh_of r) (filed_tiles ts) filed) spell.2,
+    tiles_filed name 0 ts tiles (back_filed (IsFiled file) (fresh_of r) (filed_tiles ts) filed) spell.3,
+  )
+
+  layers_filed : (ls : List FiledLayer) (layers : List Layer) (tiles : List Finished)
+      → AllByRecursion (IsFiled file) (flat_map filed_of ls) → SpellLayers live ls layers tiles
+      → LayersAre file (map listed_of ls) layers tiles
+  layers_filed [] layers tiles filed spell = spell
+  layers_filed (l ∷ ls) layers tiles filed spell = (
+    spell.0,
+    spell.1,
+    spell.2,
+    spell.3,
+    spell.4,
+    spell.5,
+    layer_filed l spell.0 spell.2 (front_filed (IsFiled file) (filed_of l) (flat_map filed_of ls) filed) spell.6,
+    layers_filed ls spell.1 spell.3 (back_filed (IsFiled file) (filed_of l) (flat_map filed_of ls) filed) spell.7,
+  )
 
 pub filing_makes : FilingMakes
-filing_makes y layers listing ws file files writes puts =
+filing_makes x y layers listing ws file shut files writes puts =
     let filed = all_filed file (flat_map filed_of layers ++ listing ∷ []) ws writes puts in
     let records = front_filed (IsFiled file) (flat_map filed_of layers) (listing ∷ []) filed in
     let last = back_filed (IsFiled file) (flat_map filed_of layers) (listing ∷ []) filed in
@@ -121,17 +144,16 @@ filing_makes y layers listing ws file files writes puts =
     let holds : held_of file y.root ≡ Ok y.held = spelled_is_held file y.root y.held files.stored (record {
       listing = map listed_of layers;
       catalog = catalog_spells;
-      layers = layers_filed file layers y.held.layers y.held.tiles records files.spelled;
+      layers = layers_filed (standing_of x) file (stay_reads x file shut) layers y.held.layers y.held.tiles records files.spelled;
       apart = files.apart;
       number = files.number;
     }) in
     let read : listing_of file y.root ≡ Ok (map listed_of layers) =
     listing_spelled file y.root (map listed_of layers) catalog_spells in
-    let extents : extents_of file y.root ≡ y.extents =
-    ap (λ (l : Result (List Listed) Damage). y.root.catalog ∷ listed_extents l) read ∙ sym files.extents in
+    let listing_is : listing_of file y.root ≡ Ok y.listing = read ∙ ap (λ (l : List Listed). Ok l) (sym files.lists) in
     record {
-      extents = extents;
-      placed = subst (λ (es : List RecordExtent). AllByRecursion (λ e. is_placed file e ≡ true) es) extents
+      listing = listing_is;
+      placed = subst (λ (es : List RecordExtent). AllByRecursion (λ e. is_placed file e ≡ true) es) (extents_are y file listing_is)
           (held_is_placed file y.root y.held holds);
       holds = holds;
     }

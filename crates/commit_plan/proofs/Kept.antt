@@ -1,5 +1,5 @@
 -- What torn writes leave of roots.
-use Rattle.std.proofs.Common.{◌≡◌, inl, ℕ, ◌+◌, ◌*◌, ◌/◌, ◌≤◌, nat_le, true, List, [], ◌∷◌, length, get_or, sym, ◌∙◌, ap, subst, arith}
+use Rattle.std.proofs.Common.{◌≡◌, inl, ℕ, ◌+◌, ◌*◌, ◌/◌, ◌≤◌, nat_le, true, List, [], ◌∷◌, length, get_or, Result, Ok, sym, ◌∙◌, ap, subst, arith}
 use Rattle.std.specs.List.{AllByRecursion}
 use Rattle.std.proofs.lemmas.Bool.{and_parts, and_from, leb-true, le-leb}
 use Rattle.disk_model.specs.Disk.{Holds, Torn}
@@ -7,11 +7,15 @@ use Rattle.disk_model.proofs.Ranges.{Apart, byte_kept, part_kept}
 use Rattle.store_terms.specs.declared.root.RecordExtent.{RecordExtent}
 use Rattle.store_terms.specs.Places.{blocks, is_placed}
 use Rattle.store_terms.specs.declared.root.Root.{Root}
-use Rattle.store_terms.specs.Frame.{IsSameAt}
-use Rattle.store_terms.proofs.FrameLemmas.{elsewhere_has_no_meaning}
+use Rattle.store_terms.specs.declared.damage.Damage.{Damage}
+use Rattle.store_terms.specs.Catalog.{Listed}
+use Rattle.store_terms.specs.Image.{listing_of}
+use Rattle.store_terms.specs.Frame.{IsSameAt, listed_extents}
+use Rattle.store_terms.specs.Frame.{extents_of}
+use Rattle.store_terms.proofs.FrameLemmas.{elsewhere_has_no_meaning, same_listing}
 use Rattle.store_terms.specs.StandsFor.{gate, gate_at, body, body_at}
 use Rattle.store_terms.specs.Roots.{body_in}
-use Rattle.commit_plan.specs.Kept.{Kept, own, other, Named, Harmless, Live, Rest, Ready}
+use Rattle.commit_plan.specs.Kept.{Kept, extents_in, own, other, Named, Harmless, Live, Rest, Ready}
 
 -- whole blocks within the file hold their bytes
 bytes_within : (block size len : ℕ) → block + blocks size ≤ len / 4096 → 4096 * block + size ≤ len
@@ -50,6 +54,10 @@ low_apart file at n [] low all = tt
 low_apart file at n (e ∷ es) low all =
     (inl (omega (arith, low, (is_behind file e all.0).behind)), low_apart file at n es low all.1)
 
+-- the extents of a root whose catalog is read
+pub extents_are : (x : Kept) (file : List ℕ) → listing_of file x.root ≡ Ok x.listing → extents_of file x.root ≡ extents_in x
+extents_are x file is = ap (λ (l : Result (List Listed) Damage). x.root.catalog ∷ listed_extents l) is
+
 module _ (old new : List ℕ) (at n : ℕ) (torn : Torn at n old new) where
   same_at : (e : RecordExtent) → is_placed old e ≡ true → Apart at n (4096 * e.block) e.size → IsSameAt old new e
   same_at e placed apart =
@@ -74,25 +82,25 @@ module _ (old new : List ℕ) (at n : ℕ) (torn : Torn at n old new) where
   pub gate_kept : (k : ℕ) → k ≤ 1 → 8192 ≤ length old → Apart at n (gate_at k) 1 → gate new k ≡ gate old k
   gate_kept k small long apart = byte_kept old new at n (gate_at k) torn (omega arith) apart
 
-  pub named_kept : (k : ℕ) (x : Kept) → k ≤ 1 → Apart at n (body_at k) 40 → ApartFrom at n x.extents → Named k x old
+  pub named_kept : (k : ℕ) (x : Kept) → k ≤ 1 → Apart at n (body_at k) 40 → ApartFrom at n (extents_in x) → Named k x old
       → Named k x new
   named_kept k x small off_body off_extents named =
+      let all = all_same (extents_in x) named.placed off_extents in
       let same = elsewhere_has_no_meaning old new x.root
-      (subst (λ (es : List RecordExtent). AllByRecursion (IsSameAt old new) es) (sym named.extents)
-      (all_same x.extents named.placed off_extents)) in
+      (subst (λ (es : List RecordExtent). AllByRecursion (IsSameAt old new) es) (sym (extents_are x old named.listing)) all) in
       record {
         long = omega (arith, named.long, torn.no_shorter);
         spelt = body_kept k small named.long off_body ∙ named.spelt;
         bounded = named.bounded;
         numbered = named.numbered;
         parity = named.parity;
-        extents = same.1 ∙ named.extents;
-        placed = all_placed x.extents named.placed;
+        listing = same_listing old new x.root all.0 ∙ named.listing;
+        placed = all_placed (extents_in x) named.placed;
         holds = same.0 ∙ named.holds;
       }
 
   pub live_kept : (x : Kept) → Apart at n (gate_at (own x.root)) 1 → Apart at n (body_at (own x.root)) 40
-      → ApartFrom at n x.extents → Live x old → Live x new
+      → ApartFrom at n (extents_in x) → Live x old → Live x new
   live_kept x off_gate off_body off_extents live = record {
     opened = gate_kept (own x.root) (omega arith) live.named.long off_gate ∙ live.opened;
     named = named_kept (own x.root) x (omega arith) off_body off_extents live.named;
@@ -124,7 +132,7 @@ rest_kept x old new rest torn =
     let r = x.root in
     record {
       live = live_kept old new (gate_at (other r)) 1 torn x (off_own_gate r) (off_body r (own r) (omega arith))
-          (low_apart old (gate_at (other r)) 1 x.extents (low_gate r) rest.live.named.placed) rest.live;
+          (low_apart old (gate_at (other r)) 1 (extents_in x) (low_gate r) rest.live.named.placed) rest.live;
       harmless = harmless_kept old new (gate_at (other r)) 1 torn (other r) r (omega arith) rest.live.named.long
           (off_body r (other r) (omega arith)) rest.harmless;
     }
@@ -135,10 +143,10 @@ ready_kept x y old new ready torn =
     let r = x.root in
     record {
       live = live_kept old new (gate_at (other r)) 1 torn x (off_own_gate r) (off_body r (own r) (omega arith))
-          (low_apart old (gate_at (other r)) 1 x.extents (low_gate r) ready.live.named.placed) ready.live;
+          (low_apart old (gate_at (other r)) 1 (extents_in x) (low_gate r) ready.live.named.placed) ready.live;
       named = named_kept old new (gate_at (other r)) 1 torn (other r) y (omega arith)
           (off_body r (other r) (omega arith))
-          (low_apart old (gate_at (other r)) 1 y.extents (low_gate r) ready.named.placed) ready.named;
+          (low_apart old (gate_at (other r)) 1 (extents_in y) (low_gate r) ready.named.placed) ready.named;
       after = ready.after;
     }
 

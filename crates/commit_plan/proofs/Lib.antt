@@ -4,7 +4,15 @@ pub mod Plan
 pub mod Filed
 pub mod Drafts
 pub mod Placed
+pub mod EqualityTests
+pub mod HeldApart
+pub mod Sitting
+pub mod Apart
+pub mod Stays
+pub mod Entries
+pub mod Counted
 pub mod Completed
+mod Drafted
 pub mod Walked
 pub mod Imaged
 pub mod Sized

@@ -11,9 +11,9 @@ use Rattle.extent_map.specs.FirstFit.{IsPlanned}
 use Rattle.store_terms.specs.declared.root.RecordExtent.{RecordExtent}
 use Rattle.store_terms.specs.Places.{blocks, are_apart, is_apart_from, all_apart, some_extents, extents_of_records, extents_listed}
 use Rattle.commit_plan.specs.declared.write.Write.{Write}
-use Rattle.commit_plan.specs.Kept.{Kept}
+use Rattle.commit_plan.specs.Kept.{Kept, extents_in}
 use Rattle.commit_plan.specs.Planning.{IsOff, AreApart, AllApart}
-use Rattle.commit_plan.specs.Filing.{Filed, FiledLayer, a_base, a_definition, listed_of, filed_tiles, filed_of, IsWriteOf, AreWritesOf}
+use Rattle.commit_plan.specs.Filing.{Filed, IsWriteOf, AreWritesOf}
 use Rattle.root_reading.specs.Taking.{AreRunsOf, IsMapOf}
 use Rattle.commit_plan.specs.Drafting.{extents_of_filed}
 use Rattle.root_reading.proofs.Rooms.{AreFreeOf}
@@ -80,18 +80,18 @@ off_extents w block need (e ∷ es) at size free = (
   off_extents w block need es at size free.1,
 )
 
-off_root : (x : Kept) (given : List runs.Extent) (f : Filed) (w : Write) (r : runs.Extent) → IsMapOf x.extents given
+off_root : (x : Kept) (given : List runs.Extent) (f : Filed) (w : Write) (r : runs.Extent) → IsMapOf (extents_in x) given
     → IsNew given r → r.block ≡ f.extent.block → r.blocks ≡ blocks f.extent.size → IsWriteOf f w → IsOff x w
 off_root x given f w r room new block size is =
-    let free : AreFreeOf r.block r.blocks x.extents = room.there r.block r.blocks new.free in
+    let free : AreFreeOf r.block r.blocks (extents_in x) = room.there r.block r.blocks new.free in
     record {
       behind = omega (arith, is.there, is.behind);
-      apart = off_extents w r.block r.blocks x.extents (omega (arith, is.there, block))
+      apart = off_extents w r.block r.blocks (extents_in x) (omega (arith, is.there, block))
           (is.blocks ∙ ap (λ (n : ℕ). 4096 * n) (sym size)) free;
     }
 
 pub all_off : (x : Kept) (given : List runs.Extent) (fs : List Filed) (ws : List Write) (rs : List runs.Extent)
-    → IsMapOf x.extents given → AllByRecursion (IsNew given) rs → AreRunsOf (extents_of_filed fs) rs
+    → IsMapOf (extents_in x) given → AllByRecursion (IsNew given) rs → AreRunsOf (extents_of_filed fs) rs
     → AreWritesOf fs ws → AllByRecursion (IsOff x) ws
 all_off x given [] [] rs room new are writes = tt
 all_off x given [] (w ∷ ws) rs room new are writes = absurd writes
@@ -131,7 +131,7 @@ all_writes_apart (g ∷ fs) (v ∷ ws) (q ∷ rs) apart are writes =
 
 -- ---- extents, the catalog's first
 
-abbrev Beside : RecordExtent → RecordExtent → Type 0
+abbrev pub Beside : RecordExtent → RecordExtent → Type 0
 Beside e f = (e.block + blocks e.size ≤ f.block) ⊎ (f.block + blocks f.size ≤ e.block)
 
 beside_runs : (e f : RecordExtent) (r q : runs.Extent) → r.block ≡ e.block → r.blocks ≡ blocks e.size → q.block ≡ f.block
@@ -141,7 +141,7 @@ beside_runs e f r q block size block2 size2 (inl before) =
 beside_runs e f r q block size block2 size2 (inr behind) =
     inr (subst (λ (n : ℕ). f.block + n ≤ e.block) size2 (omega (arith, behind, block, block2)))
 
-beside_turned : (e f : RecordExtent) → Beside e f → Beside f e
+pub beside_turned : (e f : RecordExtent) → Beside e f → Beside f e
 beside_turned e f (inl before) = inr before
 beside_turned e f (inr behind) = inl behind
 
@@ -151,11 +151,11 @@ or_left a b is = search rules
 or_right : (a b : Bool) → b ≡ true → a || b ≡ true
 or_right a b is = search rules
 
-beside_is : (e f : RecordExtent) → Beside e f → are_apart e f ≡ true
+pub beside_is : (e f : RecordExtent) → Beside e f → are_apart e f ≡ true
 beside_is e f (inl before) = or_left _ _ (le-leb _ _ before)
 beside_is e f (inr behind) = or_right (nat_le (e.block + blocks e.size) f.block) _ (le-leb _ _ behind)
 
-abbrev AllBeside : List RecordExtent → Type 0
+abbrev pub AllBeside : List RecordExtent → Type 0
 AllBeside [] = Unit {0}
 AllBeside (e ∷ es) = AllByRecursion (Beside e) es × AllBeside es
 
@@ -166,7 +166,7 @@ beside_all e r (f ∷ es) [] block size free are = absurd are
 beside_all e r (f ∷ es) (q ∷ rs) block size free are =
     (beside_runs e f r q block size are.0 are.1 free.0, beside_all e r es rs block size free.1 are.2)
 
-all_beside : (es : List RecordExtent) (rs : List runs.Extent) → maps.AreApart rs → AreRunsOf es rs → AllBeside es
+pub all_beside : (es : List RecordExtent) (rs : List runs.Extent) → maps.AreApart rs → AreRunsOf es rs → AllBeside es
 all_beside [] rs apart are = tt
 all_beside (e ∷ es) [] apart are = absurd are
 all_beside (e ∷ es) (r ∷ rs) apart are =
@@ -187,11 +187,11 @@ behind_all : (P : RecordExtent → Type 0) (es : List RecordExtent) (c : RecordE
 behind_all P [] c last all = (last, tt)
 behind_all P (e ∷ es) c last all = (all.0, behind_all P es c last all.1)
 
-beside_last : (es : List RecordExtent) (c : RecordExtent) → AllBeside (es ++ c ∷ []) → AllByRecursion (Beside c) es
+pub beside_last : (es : List RecordExtent) (c : RecordExtent) → AllBeside (es ++ c ∷ []) → AllByRecursion (Beside c) es
 beside_last [] c all = tt
 beside_last (e ∷ es) c all = (beside_turned e c (last_of (Beside e) es c all.0), beside_last es c all.1)
 
-beside_front : (es : List RecordExtent) (c : RecordExtent) → AllBeside (es ++ c ∷ []) → AllBeside es
+pub beside_front : (es : List RecordExtent) (c : RecordExtent) → AllBeside (es ++ c ∷ []) → AllBeside es
 beside_front [] c all = tt
 beside_front (e ∷ es) c all = (front_of_all (Beside e) es c all.0, beside_front es c all.1)
 
@@ -200,42 +200,17 @@ apart_from_is e [] all = refl
 apart_from_is e (f ∷ es) all =
     and_from (are_apart e f) (is_apart_from e es) (beside_is e f all.0) (apart_from_is e es all.1)
 
-all_apart_is : (es : List RecordExtent) → AllBeside es → all_apart es ≡ true
+pub all_apart_is : (es : List RecordExtent) → AllBeside es → all_apart es ≡ true
 all_apart_is [] all = refl
 all_apart_is (e ∷ es) all =
     and_from (is_apart_from e es) (all_apart es) (apart_from_is e es all.0) (all_apart_is es all.1)
 
--- extents whose runs are apart, and the last of them first
-pub extents_apart : (es : List RecordExtent) (c : RecordExtent) (rs : List runs.Extent) → maps.AreApart rs
-    → AreRunsOf (es ++ c ∷ []) rs → all_apart (c ∷ es) ≡ true
-extents_apart es c rs apart are =
-    let all = all_beside (es ++ c ∷ []) rs apart are in
-    all_apart_is (c ∷ es) (beside_last es c all, beside_front es c all)
-
--- the map of some extents and one behind them is that of the one and them
-pub map_turned : (es : List RecordExtent) (c : RecordExtent) (taken : List runs.Extent) → IsMapOf (es ++ c ∷ []) taken
-    → IsMapOf (c ∷ es) taken
-map_turned es c taken room = record {
-  there = λ start need free. let all = room.there start need free in (last_of _ es c all, front_of_all _ es c all);
-  back = λ start need all. room.back start need (behind_all _ es c all.0 all.1);
-}
+-- where the last of some extents stands first, no two have a block in common either
+pub last_first : (es : List RecordExtent) (c : RecordExtent) → AllBeside (es ++ c ∷ []) → all_apart (c ∷ es) ≡ true
+last_first es c all = all_apart_is (c ∷ es) (beside_last es c all, beside_front es c all)
 
 -- ---- the extents of records, as the catalog lists them
 
 pub extents_both : (fs gs : List Filed) → extents_of_filed (fs ++ gs) ≡ extents_of_filed fs ++ extents_of_filed gs
 extents_both [] gs = refl
 extents_both (f ∷ fs) gs = ap (λ (l : List RecordExtent). f.extent ∷ l) (extents_both fs gs)
-
-tile_extents : (ts : List (Option Filed))
-    → extents_of_filed (filed_tiles ts) ≡ some_extents (map (option_map (λ (t : Filed). t.extent)) ts)
-tile_extents [] = refl
-tile_extents (None ∷ ts) = tile_extents ts
-tile_extents (Some f ∷ ts) = ap (λ (l : List RecordExtent). f.extent ∷ l) (tile_extents ts)
-
-layer_extents : (l : FiledLayer) → extents_of_filed (filed_of l) ≡ extents_of_records (listed_of l).records
-layer_extents (a_base name f) = refl
-layer_extents (a_definition name f ts) = ap (λ (l : List RecordExtent). f.extent ∷ l) (tile_extents ts)
-
-pub listed_are : (ls : List FiledLayer) → extents_of_filed (flat_map filed_of ls) ≡ extents_listed (map listed_of ls)
-listed_are [] = refl
-listed_are (l ∷ ls) = extents_both (filed_of l) (flat_map filed_of ls) ∙ (λ i. layer_extents l i ++ listed_are ls i)

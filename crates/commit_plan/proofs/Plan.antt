@@ -7,7 +7,7 @@ use Rattle.disk_model.proofs.Ranges.{Apart, part_kept, part_written, part_writte
 use Rattle.store_terms.specs.Roots.{body_text, body_in}
 use Rattle.commit_plan.specs.declared.write.Write.{Write}
 use Rattle.store_terms.specs.StandsFor.{body_at}
-use Rattle.commit_plan.specs.Kept.{Kept, other, Shut, Ready}
+use Rattle.commit_plan.specs.Kept.{Kept, extents_in, other, Shut, Ready}
 use Rattle.commit_plan.specs.Planning.{Leads, Spare, Plans}
 use Rattle.commit_plan.specs.Planning.{IsWritten, IsOff, AreApart, AllApart, IsPlan}
 use Rattle.commit_plan.proofs.Kept.{gate_kept, live_kept, low_apart}
@@ -34,7 +34,7 @@ body_spares x old new shut torn =
       live = live_kept old new (body_at (other x.root)) 48 torn x
           (⊎_elim (λ zero. inr (omega (arith, zero))) (λ one. inl (omega (arith, one))) (own_is x.root))
           (⊎_elim (λ zero. inr (omega (arith, zero))) (λ one. inl (omega (arith, one))) (own_is x.root))
-          (low_apart old (body_at (other x.root)) 48 x.extents (omega arith) shut.live.named.placed) shut.live;
+          (low_apart old (body_at (other x.root)) 48 (extents_in x) (omega arith) shut.live.named.placed) shut.live;
       closed = λ is. shut.closed
           (sym (gate_kept old new (body_at (other x.root)) 48 torn (other x.root) (omega arith) long
           (inr (omega arith))) ∙ is);
@@ -119,7 +119,7 @@ module _ (x y : Kept) (ws : List Write) (b : Write) (plan : IsPlan x y ws b) whe
           bounded = plan.bounded;
           numbered = plan.numbered;
           parity = ap (λ (n : ℕ). n % 2) plan.after;
-          extents = made.extents;
+          listing = made.listing;
           placed = made.placed;
           holds = made.holds;
         };

@@ -4,7 +4,7 @@ use Rattle.std.specs.List.{AllByRecursion, flat_map}
 use Rattle.std.proofs.lemmas.List.{length-append}
 use Rattle.std.proofs.lemmas.Bool.{and_parts, or_cases, ltb-true, ltb-false, cases_lt}
 use Rattle.overlay_terms.proofs.NameLemmas.{same_name}
-use Rattle.overlay_terms.specs.Layers.{Name, base, derived, Layer}
+use Rattle.overlay_terms.specs.Layers.{Name, Content, base, derived, Layer}
 use Rattle.overlay_terms.specs.Commands.{index_of, stands, is_derived, stands_as_derived}
 use Rattle.overlay_terms.specs.Histories.{Finished, is_formed}
 use Rattle.overlay_terms.specs.StoredTiles.{is_tile_before}
@@ -29,21 +29,9 @@ use Rattle.record_bytes.specs.Listing.{listed_of as listed_code, listing_of}
 use Rattle.commit_plan.specs.declared.write.Write.{Write}
 use Rattle.commit_plan.specs.declared.draft.Draft.{Draft}
 use Rattle.commit_plan.specs.Drafting.{IsDraft}
-use Rattle.commit_plan.specs.Filing.{Filed, FiledLayer, a_base, a_definition, listed_of, filed_tiles, filed_of, AreWritesOf, SpellTiles, SpellLayer, SpellLayers}
-use Rattle.commit_plan.specs.Walking.{IsElsewhere, IsHere, Takes, TakesAll, IsFrom, AreFrom, AreLeft, IsTileFiled, AreTilesFiled, IsLayerFiled, AreLayersFiled}
-
-pub takes_more : (layers : List Layer) (place k : ℕ) (os : List (Option Filed)) (o : Option Filed)
-    (ts mid rest : List Finished) → TakesAll layers place k os ts mid
-    → Takes layers place (k + length os) o mid rest → TakesAll layers place k (os ++ o ∷ []) ts rest
-takes_more layers place k [] o ts mid rest so_far last =
-    let here : Takes layers place k o mid rest =
-    subst (λ (n : ℕ). Takes layers place n o mid rest) (let e : k + 0 ≡ k = omega arith in e) last in
-    (rest, subst (λ (l : List Finished). Takes layers place k o l rest) (sym so_far) here, refl)
-takes_more layers place k (p ∷ os) o ts mid rest so_far last =
-    let later : Takes layers place (k + 1 + length os) o mid rest =
-    subst (λ (n : ℕ). Takes layers place n o mid rest)
-    (let e : k + length (p ∷ os) ≡ k + 1 + length os = omega arith in e) last in
-    (so_far.0, so_far.1, takes_more layers place (k + 1) os o so_far.0 mid rest so_far.2 later)
+use Rattle.commit_plan.specs.Staying.{Standing, layer_named}
+use Rattle.commit_plan.specs.Filing.{Filed, Record, extent_of, fresh_of, FiledLayer, a_base, a_definition, listed_of, filed_tiles, filed_of, AreWritesOf, SaysTile, SpellTiles, SpellLayer, SpellLayers}
+use Rattle.commit_plan.specs.Walking.{IsElsewhere, IsHere, Takes, TakesAll, IsFrom, AreFrom, AreLeft, IsOwnFiled, IsTileFiled, AreTilesFiled, IsLayerFiled, AreLayersFiled}
 
 -- what stands behind a tile that is from a column on is from the next one on
 behind : (layers : List Layer) (place k : ℕ) (t u : Finished) → IsFrom layers place k t
@@ -89,67 +77,10 @@ elsewhere_left layers place k (t ∷ ts) elsewhere left = record {
   ordered = left.ordered;
 }
 
-pub column_left : (layers : List Layer) (place k : ℕ) (o : Option Filed) (ts rest : List Finished)
-    → Takes layers place k o ts rest → AreLeft layers place k ts → AreLeft layers place (k + 1) rest
-column_left layers place k None ts rest takes left =
-    subst (λ (l : List Finished). AreLeft layers place (k + 1) l) takes.0
-    (elsewhere_left layers place k ts takes.1 left)
-column_left layers place k (Some f) ts rest takes left =
-    let all : AreLeft layers place k (takes.0 ∷ rest) =
-    subst (λ (l : List Finished). AreLeft layers place k l) takes.1 left in
-    record {
-      derived = all.derived.1;
-      columns = all.columns.1;
-      formed = all.formed.1;
-      ordered = all.ordered.1;
-      from =
-          all_behind layers place k takes.0 rest all.from.0 all.ordered.0;
-    }
-
-pub columns_left : (layers : List Layer) (place k : ℕ) (os : List (Option Filed)) (ts rest : List Finished)
-    → TakesAll layers place k os ts rest → AreLeft layers place k ts → AreLeft layers place (k + length os) rest
-columns_left layers place k [] ts rest takes left =
-    subst (λ (n : ℕ). AreLeft layers place n rest) (let e : k ≡ k + 0 = omega arith in e)
-    (subst (λ (l : List Finished). AreLeft layers place k l) takes left)
-columns_left layers place k (o ∷ os) ts rest takes left =
-    subst (λ (n : ℕ). AreLeft layers place n rest) (let e : k + 1 + length os ≡ k + length (o ∷ os) = omega arith in e)
-    (columns_left layers place (k + 1) os takes.0 rest takes.2 (column_left layers place k o ts takes.0 takes.1 left))
-
--- the tiles that a layer takes, which its records spell
-pub record Spelt (name : Name) (k : ℕ) (os : List (Option Filed)) (ts rest : List Finished) : Type 0 where
-  pub own : List Finished
-  pub split : ts ≡ own ++ rest
-  pub spelled : SpellTiles name k os own
-
 -- a tile of the name and the column
 as_named : (name : Name) (k : ℕ) (t : Finished) → t.name ≡ name → t.column ≡ k
     → t ≡ record { name = name; column = k; tile = t.tile }
 as_named name k t same column = λ i. record { name = same i; column = column i; tile = t.tile }
-
-pub spelt : (layers : List Layer) (place : ℕ) (name : Name) (k : ℕ) (os : List (Option Filed)) (ts rest : List Finished)
-    → ((n : Name) → index_of layers n ≡ place → n ≡ name)
-    → TakesAll layers place k os ts rest → Spelt name k os ts rest
-spelt layers place name k [] ts rest same takes = record { own = []; split = takes; spelled = refl }
-spelt layers place name k (None ∷ os) ts rest same takes =
-    let later = spelt layers place name (k + 1) os takes.0 rest same takes.2 in
-    record { own = later.own; split = takes.1.0 ∙ later.split; spelled = later.spelled }
-spelt layers place name k (Some f ∷ os) ts rest same takes =
-    let later = spelt layers place name (k + 1) os takes.0 rest same takes.2 in
-    let t = takes.1.0 in
-    record {
-      own = t ∷ later.own;
-      split = takes.1.1 ∙ ap (λ (l : List Finished). t ∷ l) later.split;
-      spelled = (
-        t.tile,
-        later.own,
-        ap (λ (u : Finished). u ∷ later.own)
-            (as_named name k t (same t.name takes.1.2) takes.1.3),
-        takes.1.4,
-        later.spelled,
-      );
-    }
-
--- ---- from one layer to the next
 
 pub next_layer : (layers : List Layer) (place k : ℕ) (ts : List Finished) → AllByRecursion (λ t. t.column < k) ts
     → AreFrom layers place k ts → AreFrom layers (place + 1) 0 ts
@@ -175,43 +106,6 @@ pub none_left : (layers : List Layer) (ts : List Finished)
 none_left layers [] known from = refl
 none_left layers (t ∷ ts) known from =
     absurd (⊎_elim (λ later. omega (arith, later, known.0)) (λ here. omega (arith, here.0, known.0)) from.0)
-
--- ---- a layer more
-
-pub spells_more : (ls : List FiledLayer) (l : FiledLayer) (layers : List Layer) (layer : Layer)
-    (tiles own : List Finished) → SpellLayers ls layers tiles → SpellLayer l layer own
-    → SpellLayers (ls ++ l ∷ []) (layers ++ layer ∷ []) (tiles ++ own)
-spells_more [] l layers layer tiles own so_far last = (
-  layer,
-  [],
-  own,
-  [],
-  ap (λ (x : List Layer). x ++ layer ∷ []) so_far.0,
-  ap
-      (λ (x : List Finished). x ++ own) so_far.1 ∙ sym (nothing own),
-  last,
-  (refl, refl),
-)
-  where
-    nothing : (xs : List Finished) → xs ++ [] ≡ xs
-    nothing [] = refl
-    nothing (x ∷ xs) = ap (λ (l : List Finished). x ∷ l) (nothing xs)
-spells_more (m ∷ ls) l layers layer tiles own so_far last = (
-  so_far.0,
-  so_far.1 ++ layer ∷ [],
-  so_far.2,
-  so_far.3 ++ own,
-  ap (λ (x : List Layer). x ++ layer ∷ []) so_far.4,
-  ap (λ (x : List Finished). x ++ own) so_far.5 ∙ grouped so_far.2 so_far.3 own,
-  so_far.6,
-  spells_more ls l so_far.1 layer so_far.3 own so_far.7 last,
-)
-  where
-    grouped : (xs ys zs : List Finished) → (xs ++ ys) ++ zs ≡ xs ++ (ys ++ zs)
-    grouped [] ys zs = refl
-    grouped (x ∷ xs) ys zs = ap (λ (l : List Finished). x ∷ l) (grouped xs ys zs)
-
--- ---- what stands at a place
 
 some_same : {A : Type 0} (x y : A) → Some x ≡ Some y → x ≡ y
 some_same x y is = cc
@@ -249,8 +143,6 @@ base_has_none layers place layer (t ∷ ts) orderly there plain all = (
   base_has_none layers place layer ts orderly there plain all.1,
 )
 
--- ---- tiles of the code
-
 pub elsewhere_at : (layers : List Layer) (place k : ℕ) (ts : List (Name × ℕ × Tile)) (t : Name × ℕ × Tile)
     → t ≡ slice_index_or ts 0 t → (index_of layers t.0 ≡ place → t.1 ≡ k → ⊥)
     → IsElsewhere layers place k (map finished_of ts)
@@ -259,35 +151,11 @@ elsewhere_at layers place k (u ∷ ts) t is away =
     λ index column. away (ap (λ (v : Name × ℕ × Tile). index_of layers v.0) is ∙ index)
     (ap (λ (v : Name × ℕ × Tile). v.1) is ∙ column)
 
--- ---- how many records there are
-
 pub writes_count : (fs : List Filed) (ws : List Write) → AreWritesOf fs ws → length ws ≡ length fs
 writes_count [] [] writes = refl
 writes_count [] (w ∷ ws) writes = absurd writes
 writes_count (f ∷ fs) [] writes = absurd writes
 writes_count (f ∷ fs) (w ∷ ws) writes = omega (arith, writes_count fs ws writes.1)
-
-tiles_count : (name : Name) (k : ℕ) (os : List (Option Filed)) (own : List Finished) → SpellTiles name k os own
-    → length (filed_tiles os) ≡ length own
-tiles_count name k [] own spelled = ap length (sym spelled)
-tiles_count name k (None ∷ os) own spelled = tiles_count name (k + 1) os own spelled
-tiles_count name k (Some f ∷ os) own spelled =
-    omega (arith, tiles_count name (k + 1) os spelled.1 spelled.4, ap length spelled.2)
-
-layer_count : (l : FiledLayer) (layer : Layer) (own : List Finished) → SpellLayer l layer own
-    → length (filed_of l) ≡ length own + 1
-layer_count (a_base name f) layer own spelled = omega (arith, ap length spelled.2)
-layer_count (a_definition name f os) layer own spelled = omega (arith, tiles_count name 0 os own spelled.3)
-
-pub records_count : (ls : List FiledLayer) (layers : List Layer) (tiles : List Finished) → SpellLayers ls layers tiles
-    → length (flat_map filed_of ls) ≡ length layers + length tiles
-records_count [] layers tiles spelled = omega (arith, ap length spelled.0, ap length spelled.1)
-records_count (l ∷ ls) layers tiles spelled =
-    let first = layer_count l spelled.0 spelled.2 spelled.6 in
-    let rest = records_count ls spelled.1 spelled.3 spelled.7 in
-    let one = ap length spelled.4 in
-    let two = ap length spelled.5 ∙ length-append spelled.2 spelled.3 in
-    length-append (filed_of l) (flat_map filed_of ls) ∙ omega (arith, first, rest, one, two)
 
 -- the first of some tiles of the code
 abbrev IsFirst : List (Name × ℕ × Tile) → Name × ℕ × Tile → Type 0
@@ -320,23 +188,12 @@ here_formed layers place k (u ∷ us) t is here left =
     subst (λ (v : Name × ℕ × Tile). IsTrue (is_formed (tile_of v.2) k)) (sym is)
     (subst (λ (n : ℕ). IsTrue (is_formed (tile_of u.2) n)) here.1 left.formed.0)
 
-pub takes_first : (layers : List Layer) (place k : ℕ) (ts : List (Name × ℕ × Tile)) (t : Name × ℕ × Tile) (f : Filed)
-    → t ≡ slice_index_or ts 0 t → IsHere layers place k (map finished_of ts)
-    → tile_of_record k f.bytes ≡ Some (tile_of t.2)
-    → Takes layers place k (Some f) (map finished_of ts) (map finished_of (drop 1 ts))
-takes_first layers place k [] t f is here reads = absurd here
-takes_first layers place k (u ∷ us) t f is here reads = (
-  finished_of u,
-  refl,
-  here.0,
-  here.1,
-  subst
-      (λ (v : Name × ℕ × Tile). tile_of_record k f.bytes ≡ Some (tile_of v.2)) is reads,
-)
+pub here_column : (layers : List Layer) (place k : ℕ) (ts : List (Name × ℕ × Tile)) (t : Name × ℕ × Tile)
+    → t ≡ slice_index_or ts 0 t → IsHere layers place k (map finished_of ts) → t.1 ≡ k
+here_column layers place k [] t is here = absurd here
+here_column layers place k (u ∷ us) t is here = ap (λ (v : Name × ℕ × Tile). v.1) is ∙ here.1
 
--- ---- drafts
-
-append_none : (fs : List Filed) → fs ++ [] ≡ fs
+pub append_none : (fs : List Filed) → fs ++ [] ≡ fs
 append_none [] = refl
 append_none (f ∷ fs) = ap (λ (l : List Filed). f ∷ l) (append_none fs)
 
@@ -344,96 +201,18 @@ append_both : (xs ys zs : List Filed) → (xs ++ ys) ++ zs ≡ xs ++ (ys ++ zs)
 append_both [] ys zs = refl
 append_both (x ∷ xs) ys zs = ap (λ (l : List Filed). x ∷ l) (append_both xs ys zs)
 
-tiles_both : (os ps : List (Option Filed)) → filed_tiles (os ++ ps) ≡ filed_tiles os ++ filed_tiles ps
+tiles_both : (os ps : List (Option Record)) → filed_tiles (os ++ ps) ≡ filed_tiles os ++ filed_tiles ps
 tiles_both [] ps = refl
 tiles_both (None ∷ os) ps = tiles_both os ps
-tiles_both (Some f ∷ os) ps = ap (λ (l : List Filed). f ∷ l) (tiles_both os ps)
+tiles_both (Some r ∷ os) ps =
+    ap (λ (l : List Filed). fresh_of r ++ l) (tiles_both os ps) ∙ sym (append_both (fresh_of r) (filed_tiles os) (filed_tiles ps))
 
-entries_both : (os ps : List (Option Filed))
-    → map (option_map (λ (f : Filed). f.extent)) (os ++ ps)
-    ≡ map (option_map (λ (f : Filed). f.extent)) os ++ map (option_map (λ (f : Filed). f.extent)) ps
+entries_both : (os ps : List (Option Record))
+    → map (option_map extent_of) (os ++ ps)
+    ≡ map (option_map extent_of) os ++ map (option_map extent_of) ps
 entries_both [] ps = refl
 entries_both (o ∷ os) ps =
-    ap (λ (l : List (Option RecordExtent)). option_map (λ (f : Filed). f.extent) o ∷ l) (entries_both os ps)
-
-pub none_filed : (given : List runs.Extent) (limit : ℕ) (fs : List Filed) (layers : List Layer) (place k : ℕ)
-    (ts : List Finished) (d : Draft) → IsDraft given limit fs d → IsElsewhere layers place k ts
-    → IsTileFiled given limit fs layers place k ts ts None d
-none_filed given limit fs layers place k ts d draft elsewhere = record {
-  filed = None;
-  extent = refl;
-  draft = subst (λ (l : List Filed). IsDraft given limit l d) (sym (append_none fs)) draft;
-  takes = (refl, elsewhere);
-}
-
-pub tiles_more : (given : List runs.Extent) (limit : ℕ) (fs : List Filed) (layers : List Layer) (place k : ℕ)
-    (ts mid rest : List Finished) (es all : List (Option RecordExtent)) (e : Option RecordExtent) (old new : Draft)
-    → (so_far : AreTilesFiled given limit fs layers place k ts mid es old)
-    → IsTileFiled given limit (fs ++ filed_tiles so_far.filed) layers place k mid rest e new → all ≡ es ++ e ∷ []
-    → AreTilesFiled given limit fs layers place (k + 1) ts rest all new
-tiles_more given limit fs layers place k ts mid rest es all e old new so_far here are = record {
-  filed = so_far.filed ++ here.filed ∷ [];
-  extents = are ∙ (λ i. so_far.extents i ++ here.extent i ∷ []) ∙ sym (entries_both so_far.filed (here.filed ∷ []));
-  count = length-append so_far.filed (here.filed ∷ []) ∙ ap (λ (n : ℕ). n + 1) so_far.count;
-  draft = subst (λ (l : List Filed). IsDraft given limit l new)
-      (append_both fs (filed_tiles so_far.filed) (filed_tiles (here.filed ∷ []))
-      ∙ ap (λ (l : List Filed). fs ++ l) (sym (tiles_both so_far.filed (here.filed ∷ [])))) here.draft;
-  takes = takes_more layers place 0 so_far.filed here.filed ts mid rest so_far.takes
-      (subst (λ (n : ℕ). Takes layers place n here.filed mid rest)
-      (let e : k ≡ 0 + length so_far.filed = omega (arith, so_far.count) in e) here.takes);
-}
-
-pub no_tiles : (given : List runs.Extent) (limit : ℕ) (fs : List Filed) (layers : List Layer) (place : ℕ)
-    (ts : List Finished) (d : Draft) → IsDraft given limit fs d
-    → AreTilesFiled given limit fs layers place 0 ts ts [] d
-no_tiles given limit fs layers place ts d draft = record {
-  filed = [];
-  extents = refl;
-  count = refl;
-  draft = subst (λ (l : List Filed). IsDraft given limit l d) (sym (append_none fs)) draft;
-  takes = refl;
-}
-
-pub base_filed : (given : List runs.Extent) (limit : ℕ) (fs : List Filed) (layers : List Layer) (place : ℕ)
-    (ts : List Finished) (f : Filed) (name : Name) (rings : List (List WholePoint)) (d : Draft)
-    → IsDraft given limit (fs ++ f ∷ []) d
-    → slice_get layers place ≡ Some (record { name = name; content = base rings }) → base_of_record f.bytes ≡ Some rings
-    → IsLayerFiled given limit fs layers place ts ts (record { name = name; records = inl f.extent }) d
-base_filed given limit fs layers place ts f name rings d draft there reads = record {
-  filed = a_base name f;
-  listed = refl;
-  draft = draft;
-  own = [];
-  split = refl;
-  layer = record { name = name; content = base rings };
-  there = there;
-  spelled = (rings, refl, refl, reads);
-}
-
-pub definition_filed : (given : List runs.Extent) (limit : ℕ) (fs : List Filed) (layers : List Layer) (place k : ℕ)
-    (ts rest : List Finished) (f : Filed) (name : Name) (tree : Tree Name) (es : List (Option RecordExtent)) (d : Draft)
-    → AreTilesFiled given limit (fs ++ f ∷ []) layers place k ts rest es d
-    → slice_get layers place ≡ Some (record { name = name; content = derived tree })
-    → definition_of_record f.bytes ≡ Some tree
-    → IsLayerFiled given limit fs layers place ts rest (record { name = name; records = inr (f.extent, es) }) d
-definition_filed given limit fs layers place k ts rest f name tree es d tiles there reads =
-    let layer : Layer = record { name = name; content = derived tree } in
-    let same : (n : Name) → index_of layers n ≡ place → n ≡ name =
-    λ n index. (at_place layers n layer (subst (λ (i : ℕ). slice_get layers i ≡ Some layer) (sym index) there)).0 in
-    let own = spelt layers place name 0 tiles.filed ts rest same tiles.takes in
-    record {
-      filed = a_definition name f tiles.filed;
-      listed = λ i. record { name = name; records = inr (f.extent, sym tiles.extents i) };
-      draft = subst (λ (l : List Filed). IsDraft given limit l d)
-          (append_both fs (f ∷ []) (filed_tiles tiles.filed)) tiles.draft;
-      own = own.own;
-      split = own.split;
-      layer = layer;
-      there = there;
-      spelled = (tree, refl, reads, own.spelled);
-    }
-
--- ---- layers
+    ap (λ (l : List (Option RecordExtent)). option_map extent_of o ∷ l) (entries_both os ps)
 
 flat_both : (ls ms : List FiledLayer) → flat_map filed_of (ls ++ ms) ≡ flat_map filed_of ls ++ flat_map filed_of ms
 flat_both [] ms = refl
@@ -448,31 +227,6 @@ listed_both (l ∷ ls) ms = ap (λ (x : List Listed). listed_of l ∷ x) (listed
 finished_both : (xs ys zs : List Finished) → (xs ++ ys) ++ zs ≡ xs ++ (ys ++ zs)
 finished_both [] ys zs = refl
 finished_both (x ∷ xs) ys zs = ap (λ (l : List Finished). x ∷ l) (finished_both xs ys zs)
-
-pub no_layers : (given : List runs.Extent) (limit : ℕ) (ts : List Finished) (d : Draft) → IsDraft given limit [] d
-    → AreLayersFiled given limit [] ts ts [] d
-no_layers given limit ts d draft =
-    record { filed = []; listed = refl; draft = draft; own = []; split = refl; spelled = (refl, refl) }
-
-pub layers_more : (given : List runs.Extent) (limit : ℕ) (layers before all : List Layer) (place : ℕ)
-    (ts mid rest : List Finished) (ls more : List Listed) (l : Listed) (old new : Draft)
-    → (so_far : AreLayersFiled given limit before ts mid ls old)
-    → (here : IsLayerFiled given limit (flat_map filed_of so_far.filed) layers place mid rest l new)
-    → more ≡ ls ++ l ∷ []
-    → all ≡ before ++ here.layer ∷ [] → AreLayersFiled given limit all ts rest more new
-layers_more given limit layers before all place ts mid rest ls more l old new so_far here are is = record {
-  filed = so_far.filed ++ here.filed ∷ [];
-  listed = listed_both so_far.filed (here.filed ∷ []) ∙ (λ i. so_far.listed i ++ here.listed i ∷ []) ∙ sym are;
-  draft = subst (λ (x : List Filed). IsDraft given limit x new)
-      (sym (flat_both so_far.filed (here.filed ∷ [])
-      ∙ ap (λ (x : List Filed). flat_map filed_of so_far.filed ++ x)
-      (append_none (filed_of here.filed)))) here.draft;
-  own = so_far.own ++ here.own;
-  split = so_far.split ∙ ap (λ (x : List Finished). so_far.own ++ x) here.split
-      ∙ sym (finished_both so_far.own here.own rest);
-  spelled = subst (λ (x : List Layer). SpellLayers (so_far.filed ++ here.filed ∷ []) x (so_far.own ++ here.own))
-      (sym is) (spells_more so_far.filed here.filed before here.layer so_far.own here.own so_far.spelled here.spelled);
-}
 
 pub none_there : (layers : List Layer) (n : Name) (place : ℕ) → false ≡ stands layers n → place < length layers
     → index_of layers n ≡ place → ⊥
@@ -531,3 +285,240 @@ all_known layers (t ∷ ts) all = (derived_known layers t all.0, all_known layer
 
 pub nothing_left : (layers : List Layer) (ts : List Finished) → AreLeft layers (length layers) 0 ts → ts ≡ []
 nothing_left layers ts left = none_left layers ts (all_known layers ts left.derived) left.from
+
+module _ (live : Standing) where
+  pub takes_more : (layers : List Layer) (place k : ℕ) (os : List (Option Record)) (o : Option Record)
+      (ts mid rest : List Finished) → TakesAll live layers place k os ts mid
+      → Takes live layers place (k + length os) o mid rest → TakesAll live layers place k (os ++ o ∷ []) ts rest
+  takes_more layers place k [] o ts mid rest so_far last =
+      let here : Takes live layers place k o mid rest =
+      subst (λ (n : ℕ). Takes live layers place n o mid rest) (let e : k + 0 ≡ k = omega arith in e) last in
+      (rest, subst (λ (l : List Finished). Takes live layers place k o l rest) (sym so_far) here, refl)
+  takes_more layers place k (p ∷ os) o ts mid rest so_far last =
+      let later : Takes live layers place (k + 1 + length os) o mid rest =
+      subst (λ (n : ℕ). Takes live layers place n o mid rest)
+      (let e : k + length (p ∷ os) ≡ k + 1 + length os = omega arith in e) last in
+      (so_far.0, so_far.1, takes_more layers place (k + 1) os o so_far.0 mid rest so_far.2 later)
+
+  pub column_left : (layers : List Layer) (place k : ℕ) (o : Option Record) (ts rest : List Finished)
+      → Takes live layers place k o ts rest → AreLeft layers place k ts → AreLeft layers place (k + 1) rest
+  column_left layers place k None ts rest takes left =
+      subst (λ (l : List Finished). AreLeft layers place (k + 1) l) takes.0
+      (elsewhere_left layers place k ts takes.1 left)
+  column_left layers place k (Some f) ts rest takes left =
+      let all : AreLeft layers place k (takes.0 ∷ rest) =
+      subst (λ (l : List Finished). AreLeft layers place k l) takes.1 left in
+      record {
+        derived = all.derived.1;
+        columns = all.columns.1;
+        formed = all.formed.1;
+        ordered = all.ordered.1;
+        from =
+            all_behind layers place k takes.0 rest all.from.0 all.ordered.0;
+      }
+
+  pub columns_left : (layers : List Layer) (place k : ℕ) (os : List (Option Record)) (ts rest : List Finished)
+      → TakesAll live layers place k os ts rest → AreLeft layers place k ts → AreLeft layers place (k + length os) rest
+  columns_left layers place k [] ts rest takes left =
+      subst (λ (n : ℕ). AreLeft layers place n rest) (let e : k ≡ k + 0 = omega arith in e)
+      (subst (λ (l : List Finished). AreLeft layers place k l) takes left)
+  columns_left layers place k (o ∷ os) ts rest takes left =
+      subst (λ (n : ℕ). AreLeft layers place n rest) (let e : k + 1 + length os ≡ k + length (o ∷ os) = omega arith in e)
+      (columns_left layers place (k + 1) os takes.0 rest takes.2 (column_left layers place k o ts takes.0 takes.1 left))
+
+  -- the tiles that a layer takes, which its records spell
+  pub record Spelt (name : Name) (k : ℕ) (os : List (Option Record)) (ts rest : List Finished) : Type 0 where
+    pub own : List Finished
+    pub split : ts ≡ own ++ rest
+    pub spelled : SpellTiles live name k os own
+
+  pub spelt : (layers : List Layer) (place : ℕ) (name : Name) (k : ℕ) (os : List (Option Record)) (ts rest : List Finished)
+      → ((n : Name) → index_of layers n ≡ place → n ≡ name)
+      → TakesAll live layers place k os ts rest → Spelt name k os ts rest
+  spelt layers place name k [] ts rest same takes = record { own = []; split = takes; spelled = refl }
+  spelt layers place name k (None ∷ os) ts rest same takes =
+      let later = spelt layers place name (k + 1) os takes.0 rest same takes.2 in
+      record { own = later.own; split = takes.1.0 ∙ later.split; spelled = later.spelled }
+  spelt layers place name k (Some f ∷ os) ts rest same takes =
+      let later = spelt layers place name (k + 1) os takes.0 rest same takes.2 in
+      let t = takes.1.0 in
+      record {
+        own = t ∷ later.own;
+        split = takes.1.1 ∙ ap (λ (l : List Finished). t ∷ l) later.split;
+        spelled = (
+          t.tile,
+          later.own,
+          ap (λ (u : Finished). u ∷ later.own)
+              (as_named name k t (same t.name takes.1.2) takes.1.3),
+          subst (λ (u : Finished). SaysTile live u f) (as_named name k t (same t.name takes.1.2) takes.1.3) takes.1.4,
+          later.spelled,
+        );
+      }
+
+  pub spells_more : (ls : List FiledLayer) (l : FiledLayer) (layers : List Layer) (layer : Layer)
+      (tiles own : List Finished) → SpellLayers live ls layers tiles → SpellLayer live l layer own
+      → SpellLayers live (ls ++ l ∷ []) (layers ++ layer ∷ []) (tiles ++ own)
+  spells_more [] l layers layer tiles own so_far last = (
+    layer,
+    [],
+    own,
+    [],
+    ap (λ (x : List Layer). x ++ layer ∷ []) so_far.0,
+    ap
+        (λ (x : List Finished). x ++ own) so_far.1 ∙ sym (nothing own),
+    last,
+    (refl, refl),
+  )
+    where
+      nothing : (xs : List Finished) → xs ++ [] ≡ xs
+      nothing [] = refl
+      nothing (x ∷ xs) = ap (λ (l : List Finished). x ∷ l) (nothing xs)
+  spells_more (m ∷ ls) l layers layer tiles own so_far last = (
+    so_far.0,
+    so_far.1 ++ layer ∷ [],
+    so_far.2,
+    so_far.3 ++ own,
+    ap (λ (x : List Layer). x ++ layer ∷ []) so_far.4,
+    ap (λ (x : List Finished). x ++ own) so_far.5 ∙ grouped so_far.2 so_far.3 own,
+    so_far.6,
+    spells_more ls l so_far.1 layer so_far.3 own so_far.7 last,
+  )
+    where
+      grouped : (xs ys zs : List Finished) → (xs ++ ys) ++ zs ≡ xs ++ (ys ++ zs)
+      grouped [] ys zs = refl
+      grouped (x ∷ xs) ys zs = ap (λ (l : List Finished). x ∷ l) (grouped xs ys zs)
+
+  pub takes_first : (layers : List Layer) (place k : ℕ) (ts : List (Name × ℕ × Tile)) (t : Name × ℕ × Tile) (r : Record)
+      → t ≡ slice_index_or ts 0 t → IsHere layers place k (map finished_of ts) → SaysTile live (finished_of t) r
+      → Takes live layers place k (Some r) (map finished_of ts) (map finished_of (drop 1 ts))
+  takes_first layers place k [] t r is here says = absurd here
+  takes_first layers place k (u ∷ us) t r is here says = (
+    finished_of u,
+    refl,
+    here.0,
+    here.1,
+    subst (λ (v : Name × ℕ × Tile). SaysTile live (finished_of v) r) is says,
+  )
+
+  pub none_filed : (given : List runs.Extent) (limit : ℕ) (fs : List Filed) (layers : List Layer) (place k : ℕ)
+      (ts : List Finished) (d : Draft) → IsDraft given limit fs d → IsElsewhere layers place k ts
+      → IsTileFiled live given limit fs layers place k ts ts None d
+  none_filed given limit fs layers place k ts d draft elsewhere = record {
+    filed = None;
+    extent = refl;
+    draft = subst (λ (l : List Filed). IsDraft given limit l d) (sym (append_none fs)) draft;
+    takes = (refl, elsewhere);
+  }
+
+  pub tiles_more : (given : List runs.Extent) (limit : ℕ) (fs : List Filed) (layers : List Layer) (place k : ℕ)
+      (ts mid rest : List Finished) (es all : List (Option RecordExtent)) (e : Option RecordExtent) (old new : Draft)
+      → (so_far : AreTilesFiled live given limit fs layers place k ts mid es old)
+      → IsTileFiled live given limit (fs ++ filed_tiles so_far.filed) layers place k mid rest e new → all ≡ es ++ e ∷ []
+      → AreTilesFiled live given limit fs layers place (k + 1) ts rest all new
+  tiles_more given limit fs layers place k ts mid rest es all e old new so_far here are = record {
+    filed = so_far.filed ++ here.filed ∷ [];
+    extents = are ∙ (λ i. so_far.extents i ++ here.extent i ∷ []) ∙ sym (entries_both so_far.filed (here.filed ∷ []));
+    count = length-append so_far.filed (here.filed ∷ []) ∙ ap (λ (n : ℕ). n + 1) so_far.count;
+    draft = subst (λ (l : List Filed). IsDraft given limit l new)
+        (append_both fs (filed_tiles so_far.filed) (filed_tiles (here.filed ∷ []))
+        ∙ ap (λ (l : List Filed). fs ++ l) (sym (tiles_both so_far.filed (here.filed ∷ [])))) here.draft;
+    takes = takes_more layers place 0 so_far.filed here.filed ts mid rest so_far.takes
+        (subst (λ (n : ℕ). Takes live layers place n here.filed mid rest)
+        (let e : k ≡ 0 + length so_far.filed = omega (arith, so_far.count) in e) here.takes);
+  }
+
+  pub no_tiles : (given : List runs.Extent) (limit : ℕ) (fs : List Filed) (layers : List Layer) (place : ℕ)
+      (ts : List Finished) (d : Draft) → IsDraft given limit fs d
+      → AreTilesFiled live given limit fs layers place 0 ts ts [] d
+  no_tiles given limit fs layers place ts d draft = record {
+    filed = [];
+    extents = refl;
+    count = refl;
+    draft = subst (λ (l : List Filed). IsDraft given limit l d) (sym (append_none fs)) draft;
+    takes = refl;
+  }
+
+  pub base_filed : (given : List runs.Extent) (limit : ℕ) (fs : List Filed) (layers : List Layer) (place : ℕ)
+      (ts : List Finished) (name : Name) (rings : List (List WholePoint)) (e : RecordExtent) (d : Draft)
+      → IsOwnFiled live given limit fs (layer_named name (base rings)) e d
+      → slice_get layers place ≡ Some (layer_named name (base rings))
+      → IsLayerFiled live given limit fs layers place ts ts (record { name = name; records = inl e }) d
+  base_filed given limit fs layers place ts name rings e d own there = record {
+    filed = a_base name own.filed;
+    listed = λ i. record { name = name; records = inl (sym own.extent i) };
+    draft = own.draft;
+    own = [];
+    split = refl;
+    layer = layer_named name (base rings);
+    there = there;
+    spelled = (rings, refl, refl, own.says);
+  }
+
+  pub definition_filed : (given : List runs.Extent) (limit : ℕ) (fs : List Filed) (layers : List Layer) (place k : ℕ)
+      (ts rest : List Finished) (name : Name) (tree : Tree Name) (e : RecordExtent) (es : List (Option RecordExtent))
+      (mid d : Draft) → (own : IsOwnFiled live given limit fs (layer_named name (derived tree)) e mid)
+      → AreTilesFiled live given limit (fs ++ fresh_of own.filed) layers place k ts rest es d
+      → slice_get layers place ≡ Some (layer_named name (derived tree))
+      → IsLayerFiled live given limit fs layers place ts rest (record { name = name; records = inr (e, es) }) d
+  definition_filed given limit fs layers place k ts rest name tree e es mid d first tiles there =
+      let layer : Layer = layer_named name (derived tree) in
+      let same : (n : Name) → index_of layers n ≡ place → n ≡ name =
+      λ n index. (at_place layers n layer (subst (λ (i : ℕ). slice_get layers i ≡ Some layer) (sym index) there)).0 in
+      let own = spelt layers place name 0 tiles.filed ts rest same tiles.takes in
+      record {
+        filed = a_definition name first.filed tiles.filed;
+        listed = λ i. record { name = name; records = inr (sym first.extent i, sym tiles.extents i) };
+        draft = subst (λ (l : List Filed). IsDraft given limit l d)
+            (append_both fs (fresh_of first.filed) (filed_tiles tiles.filed)) tiles.draft;
+        own = own.own;
+        split = own.split;
+        layer = layer;
+        there = there;
+        spelled = (tree, refl, first.says, own.spelled);
+      }
+
+  pub no_layers : (given : List runs.Extent) (limit : ℕ) (ts : List Finished) (d : Draft) → IsDraft given limit [] d
+      → AreLayersFiled live given limit [] ts ts [] d
+  no_layers given limit ts d draft =
+      record { filed = []; listed = refl; draft = draft; own = []; split = refl; spelled = (refl, refl) }
+
+  pub plain_filed : (given : List runs.Extent) (limit : ℕ) (fs : List Filed) (layers : List Layer) (place : ℕ)
+      (ts : List Finished) (name : Name) (content : Content) (e : RecordExtent) (d : Draft) → is_derived content ≡ false
+      → IsOwnFiled live given limit fs (layer_named name content) e d
+      → slice_get layers place ≡ Some (layer_named name content)
+      → IsLayerFiled live given limit fs layers place ts ts (record { name = name; records = inl e }) d
+  plain_filed given limit fs layers place ts name (base rings) e d plain own there =
+      base_filed given limit fs layers place ts name rings e d own there
+  plain_filed given limit fs layers place ts name (derived tree) e d plain own there = absurd (cc)
+
+  pub derived_filed : (given : List runs.Extent) (limit : ℕ) (fs : List Filed) (layers : List Layer) (place k : ℕ)
+      (ts rest : List Finished) (name : Name) (content : Content) (e : RecordExtent) (es : List (Option RecordExtent))
+      (mid d : Draft) → is_derived content ≡ true
+      → (own : IsOwnFiled live given limit fs (layer_named name content) e mid)
+      → AreTilesFiled live given limit (fs ++ fresh_of own.filed) layers place k ts rest es d
+      → slice_get layers place ≡ Some (layer_named name content)
+      → IsLayerFiled live given limit fs layers place ts rest (record { name = name; records = inr (e, es) }) d
+  derived_filed given limit fs layers place k ts rest name (base rings) e es mid d derived_so own tiles there =
+      absurd (cc)
+  derived_filed given limit fs layers place k ts rest name (derived tree) e es mid d derived_so own tiles there =
+      definition_filed given limit fs layers place k ts rest name tree e es mid d own tiles there
+
+  pub layers_more : (given : List runs.Extent) (limit : ℕ) (layers before all : List Layer) (place : ℕ)
+      (ts mid rest : List Finished) (ls more : List Listed) (l : Listed) (old new : Draft)
+      → (so_far : AreLayersFiled live given limit before ts mid ls old)
+      → (here : IsLayerFiled live given limit (flat_map filed_of so_far.filed) layers place mid rest l new)
+      → more ≡ ls ++ l ∷ []
+      → all ≡ before ++ here.layer ∷ [] → AreLayersFiled live given limit all ts rest more new
+  layers_more given limit layers before all place ts mid rest ls more l old new so_far here are is = record {
+    filed = so_far.filed ++ here.filed ∷ [];
+    listed = listed_both so_far.filed (here.filed ∷ []) ∙ (λ i. so_far.listed i ++ here.listed i ∷ []) ∙ sym are;
+    draft = subst (λ (x : List Filed). IsDraft given limit x new)
+        (sym (flat_both so_far.filed (here.filed ∷ [])
+        ∙ ap (λ (x : List Filed). flat_map filed_of so_far.filed ++ x)
+        (append_none (filed_of here.filed)))) here.draft;
+    own = so_far.own ++ here.own;
+    split = so_far.split ∙ ap (λ (x : List Finished). so_far.own ++ x) here.split
+        ∙ sym (finished_both so_far.own here.own rest);
+    spelled = subst (λ (x : List Layer). SpellLayers live (so_far.filed ++ here.filed ∷ []) x (so_far.own ++ here.own))
+        (sym is) (spells_more so_far.filed here.filed before here.layer so_far.own here.own so_far.spelled here.spelled);
+  }

@@ -14,9 +14,11 @@ use Rattle.store_terms.specs.Spelled.{MayBeStored}
 use Rattle.commit_plan.specs.declared.write.Write.{Write}
 use Rattle.commit_plan.specs.declared.draft.Draft.{Draft}
 use Rattle.commit_plan.specs.declared.next.Next.{Next}
-use Rattle.commit_plan.specs.Kept.{Kept}
+use Rattle.commit_plan.specs.Kept.{Kept, extents_in}
 use Rattle.commit_plan.specs.Planning.{Plans}
 use Rattle.commit_plan.specs.Filing.{Filed, FiledLayer, listed_of, filed_of, SpellLayers, AreWritesOf}
+use Rattle.commit_plan.specs.Staying.{Standing, standing_of}
+use Rattle.commit_plan.specs.Live.{standing}
 use Rattle.root_reading.specs.Taking.{AreRunsOf, IsMapOf}
 
 abbrev pub lengths_of : List Filed → List ℕ
@@ -41,22 +43,22 @@ pub record IsDraft (given : List runs.Extent) (limit : ℕ) (fs : List Filed) (d
   pub runs : AreRunsOf (extents_of_filed fs) d.runs.items
   pub writes : AreWritesOf fs d.writes.items
 
--- filed layers that a catalog lists, and that spell what a version holds
-pub record Spell (layers : List FiledLayer) (listing : List Listed) (x : Held) : Type 0 where
-  pub spelled : SpellLayers layers x.layers x.tiles
+-- filed layers that a catalog lists, and that say what a version holds
+pub record Spell (live : Standing) (layers : List FiledLayer) (listing : List Listed) (x : Held) : Type 0 where
+  pub spelled : SpellLayers live layers x.layers x.tiles
   pub stored : MayBeStored x.layers
   pub small : x.number ≤ version_max
   pub listed : map listed_of layers ≡ listing
 
--- how the writes of a commit lie: first each record, layer by layer, in the lowest run that is free, in whole blocks of which the rest is zero; behind them the catalog that lists them, likewise; and last the body of the root, where it is to be put
-pub record IsLaidOut (given : List runs.Extent) (limit : ℕ) (held : Held) (body : ℕ) (root : Root)
+-- how the writes of a commit lie: first each new record, layer by layer, in the lowest run that is free, in whole blocks of which the rest is zero; behind them the catalog that lists them, likewise; and last the body of the root, where it is to be put
+pub record IsLaidOut (live : Standing) (given : List runs.Extent) (limit : ℕ) (held : Held) (body : ℕ) (root : Root)
     (plan : List Write) : Type 0 where
   pub layers : List FiledLayer
   pub catalog : Filed
   pub places : List runs.Extent
   pub records : List Write
   pub last : Write
-  pub spelled : SpellLayers layers held.layers held.tiles
+  pub spelled : SpellLayers live layers held.layers held.tiles
   pub lists : catalog_of_record catalog.bytes ≡ Some (map listed_of layers)
   pub names : root.catalog ≡ catalog.extent
   pub planned : IsPlanned given limit (lengths_of (flat_map filed_of layers ++ catalog ∷ [])) places
@@ -71,5 +73,6 @@ pub record IsNext (x : Kept) (held : Held) (next : Next) : Type 0 where
   pub kept : Kept
   pub holds : kept.held ≡ held
   pub root : next.root ≡ kept.root
-  pub room : IsMapOf kept.extents (taken_of next.room.map)
+  pub stands : standing next.live ≡ standing_of kept
+  pub room : IsMapOf (extents_in kept) (taken_of next.live.room.map)
   pub plans : Plans x kept next.plan.items

@@ -4,6 +4,8 @@ use Rattle.extent_map.specs.declared.fault.ExtentFault.{ExtentFault}
 use Rattle.extent_map.specs.declared.fault.ExtentFault.TheVariants as extents
 use Rattle.store_terms.specs.Damage as damages
 use Rattle.store_terms.specs.declared.damage.Damage.TheVariants as damage
+use Rattle.root_reading.specs.declared.load_fault.LoadFault.{LoadFault}
+use Rattle.root_reading.specs.declared.load_fault.LoadFault.TheVariants as loads
 use Rattle.commit_plan.specs.declared.fault.StoreFault.{StoreFault}
 use Rattle.commit_plan.specs.declared.fault.StoreFault.TheVariants.{Device, Full, Damaged, NotEmpty, Failed, SequenceLimit, OutOfMemory}
 
@@ -12,6 +14,12 @@ abbrev pub fault_of_extents : ExtentFault → StoreFault
 fault_of_extents extents.Full = Full
 fault_of_extents extents.Overlap = Damaged damage.Overlap
 fault_of_extents extents.OutOfMemory = OutOfMemory
+
+-- a fault of reading, as one of a store
+abbrev pub fault_told : LoadFault → StoreFault
+fault_told loads.Device = Device
+fault_told (loads.Damaged damage) = Damaged damage
+fault_told loads.OutOfMemory = OutOfMemory
 
 -- the number of what is wrong with a file: one where it is no store, another where its damage has a code
 abbrev pub code_of_damage : Option ℕ → ℕ

@@ -1,20 +1,24 @@
 -- What a root names, and what a file has that stands for it, at rest and while a commit is under way.
-use Rattle.std.specs.Prelude.{◌≡◌, ◌≢◌, ◌⊎◌, ℕ, ◌+◌, ◌*◌, ◌%◌, ◌<◌, ◌≤◌, true, List, length, Ok}
+use Rattle.std.specs.Prelude.{◌≡◌, ◌≢◌, ◌⊎◌, ℕ, ◌+◌, ◌*◌, ◌%◌, ◌<◌, ◌≤◌, true, List, ◌∷◌, length, Ok}
 use Rattle.std.specs.List.{AllByRecursion}
 use Rattle.overlay_terms.specs.Commands.{version_max}
 use Rattle.store_terms.specs.declared.root.RecordExtent.{RecordExtent}
 use Rattle.store_terms.specs.declared.root.Root.{Root}
-use Rattle.store_terms.specs.Places.{block_size, is_placed}
+use Rattle.store_terms.specs.Catalog.{Listed}
+use Rattle.store_terms.specs.Places.{block_size, is_placed, extents_listed}
 use Rattle.store_terms.specs.Roots.{ours, sequence_max}
-use Rattle.store_terms.specs.Image.{Held, held_of}
-use Rattle.store_terms.specs.Frame.{extents_of}
+use Rattle.store_terms.specs.Image.{Held, listing_of, held_of}
 use Rattle.store_terms.specs.StandsFor.{gate, open_gate, body, StandsFor}
 
--- a root with the extents that it names, and what it holds
+-- a root with what its catalog lists, and what it holds
 pub record Kept : Type 0 where
   pub root : Root
-  pub extents : List RecordExtent
+  pub listing : List Listed
   pub held : Held
+
+-- the extents that it names, its catalog's first
+abbrev pub extents_in : Kept → List RecordExtent
+extents_in x = x.root.catalog ∷ extents_listed x.listing
 
 -- the slot of a root, and the other one
 abbrev pub own : Root → ℕ
@@ -30,8 +34,8 @@ pub record Named (k : ℕ) (x : Kept) (file : List ℕ) : Type 0 where
   pub bounded : x.root.sequence ≤ sequence_max
   pub numbered : x.root.version ≤ version_max
   pub parity : x.root.sequence % 2 ≡ k
-  pub extents : extents_of file x.root ≡ x.extents
-  pub placed : AllByRecursion (λ e. is_placed file e ≡ true) x.extents
+  pub listing : listing_of file x.root ≡ Ok x.listing
+  pub placed : AllByRecursion (λ e. is_placed file e ≡ true) (extents_in x)
   pub holds : held_of file x.root ≡ Ok x.held
 
 -- a root whose gate may come open beside r: an older one, or one that names the same

@@ -1,5 +1,8 @@
 pub mod Fault
 pub mod Kept
+pub mod Same
+pub mod Staying
+pub mod Live
 pub mod Planning
 pub mod Filing
 pub mod Drafting

@@ -6,11 +6,10 @@ use Rattle.disk_model.specs.Disk.{part, Holds, Torn}
 use Rattle.disk_model.proofs.Ranges.{Apart}
 use Rattle.store_terms.specs.Places.{block_size, is_placed}
 use Rattle.store_terms.specs.Roots.{body_text, sequence_max}
-use Rattle.store_terms.specs.Image.{held_of}
-use Rattle.store_terms.specs.Frame.{extents_of}
+use Rattle.store_terms.specs.Image.{listing_of, held_of}
 use Rattle.store_terms.specs.StandsFor.{body_at}
 use Rattle.commit_plan.specs.declared.write.Write.{Write}
-use Rattle.commit_plan.specs.Kept.{Kept, other, Shut, Ready}
+use Rattle.commit_plan.specs.Kept.{Kept, extents_in, other, Shut, Ready}
 
 -- after these writes, in order, the file has P
 abbrev pub Leads : (List ℕ → Type 0) → List Write → List ℕ → Type 0
@@ -37,7 +36,7 @@ pub record IsWritten (file : List ℕ) (w : Write) : Type 0 where
 -- a write behind the slots that touches no extent of a root
 pub record IsOff (x : Kept) (w : Write) : Type 0 where
   pub behind : block_size * 2 ≤ w.at
-  pub apart : AllByRecursion (λ e. Apart w.at (length w.bytes.items) (block_size * e.block) e.size) x.extents
+  pub apart : AllByRecursion (λ e. Apart w.at (length w.bytes.items) (block_size * e.block) e.size) (extents_in x)
 
 abbrev pub AreApart : Write → Write → Type 0
 AreApart w v = Apart v.at (length v.bytes.items) w.at (length w.bytes.items)
@@ -49,8 +48,8 @@ AllApart (w ∷ ws) = AllByRecursion (AreApart w) ws × AllApart ws
 
 -- the file holds what a root names
 pub record Makes (y : Kept) (file : List ℕ) : Type 0 where
-  pub extents : extents_of file y.root ≡ y.extents
-  pub placed : AllByRecursion (λ e. is_placed file e ≡ true) y.extents
+  pub listing : listing_of file y.root ≡ Ok y.listing
+  pub placed : AllByRecursion (λ e. is_placed file e ≡ true) (extents_in y)
   pub holds : held_of file y.root ≡ Ok y.held
 
 -- the writes of new extents, and then that of the body, take a store from x to y. An extent of x that y keeps is one

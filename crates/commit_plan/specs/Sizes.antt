@@ -1,5 +1,5 @@
 -- How many bytes the records of a commit have, in the order in which they are written.
-use Rattle.std.specs.Prelude.{◌≡◌, ℕ, ◌+◌, ◌*◌, List, [], ◌∷◌, ◌++◌, length, map, filter, flat_map, sum_by, bytes_eq, if◌then◌else◌}
+use Rattle.std.specs.Prelude.{◌≡◌, ℕ, ◌+◌, ◌*◌, List, [], ◌∷◌, ◌++◌, length, map, filter, flat_map, sum_by, bytes_eq, Option, Some, None, if◌then◌else◌}
 use Rattle.overlay_terms.specs.Column.{column_count}
 use Rattle.overlay_terms.specs.Layers.{Name, Content, base, derived, Layer}
 use Rattle.overlay_terms.specs.Commands.{is_derived}
@@ -7,9 +7,11 @@ use Rattle.layer_expr.specs.Spelling.{expression_text}
 use Rattle.tile_build.specs.declared.tile.Tile.{Tile}
 use Rattle.store_terms.specs.BaseRecord as bases
 use Rattle.store_terms.specs.TileRecord.{named_tile}
+use Rattle.store_terms.specs.declared.root.RecordExtent.{RecordExtent}
 use Rattle.store_terms.specs.Image.{Held}
 use Rattle.tile_build.specs.Tile.{finished_of}
 use Rattle.record_bytes.specs.Tiles.{named_by}
+use Rattle.commit_plan.specs.Staying.{Standing, layer_stays, tile_stays}
 
 -- a layer's own record: its rings, or its expression
 abbrev pub own_record : Content → List ℕ
@@ -24,10 +26,22 @@ NamedTile = Name × ℕ × Tile
 abbrev pub tile_size : NamedTile → ℕ
 tile_size t = length (named_tile.text (named_by t.1 t.2))
 
--- those of a layer's records: its own, then those of its tiles
-abbrev pub sizes_of_layer : List NamedTile → Layer → List ℕ
-sizes_of_layer tiles layer =
-    length (own_record layer.content) ∷ map tile_size (filter (λ t. bytes_eq layer.name t.0) tiles)
+-- so many bytes, of a record that does not stay
+abbrev pub if_new : Option RecordExtent → ℕ → List ℕ
+if_new None n = n ∷ []
+if_new (Some e) n = []
+
+-- those of a layer's own record, if it is new, and of a tile's
+abbrev pub own_sizes : Standing → Layer → List ℕ
+own_sizes live layer = if_new (layer_stays live layer) (length (own_record layer.content))
+
+abbrev pub tile_sizes : Standing → NamedTile → List ℕ
+tile_sizes live t = if_new (tile_stays live (finished_of t)) (tile_size t)
+
+-- those of a layer's new records: its own, then those of its tiles
+abbrev pub sizes_of_layer : Standing → List NamedTile → Layer → List ℕ
+sizes_of_layer live tiles layer =
+    own_sizes live layer ++ flat_map (tile_sizes live) (filter (λ t. bytes_eq layer.name t.0) tiles)
 
 -- those of the catalog's entry of a layer, but for where its finished tiles lie
 abbrev pub entry_size : Layer → ℕ
@@ -37,12 +51,22 @@ entry_size layer = 14 + length layer.name + (if is_derived layer.content then co
 abbrev pub catalog_size : List Layer → ℕ → ℕ
 catalog_size layers finished_of = 2 + sum_by entry_size layers + 12 * finished_of
 
--- the sizes of all records, layer by layer, the catalog last
-abbrev pub record_sizes : List Layer → List NamedTile → List ℕ
-record_sizes layers tiles = flat_map (sizes_of_layer tiles) layers ++ catalog_size layers (length tiles) ∷ []
+-- the sizes of all new records, layer by layer, the catalog last
+abbrev pub record_sizes : Standing → List Layer → List NamedTile → List ℕ
+record_sizes live layers tiles =
+    flat_map (sizes_of_layer live tiles) layers ++ catalog_size layers (length tiles) ∷ []
 
--- the sizes of the records of what is held; which names the ends of its tiles' pieces have is open
-pub record AreSizesOf (x : Held) (sizes : List ℕ) : Type 0 where
+-- the sizes of the new records of what is held; which names the ends of its tiles' pieces have is open
+pub record AreSizesOf (live : Standing) (x : Held) (sizes : List ℕ) : Type 0 where
   pub tiles : List NamedTile
   pub named : map finished_of tiles ≡ x.tiles
-  pub are : sizes ≡ record_sizes x.layers tiles
+  pub are : sizes ≡ record_sizes live x.layers tiles
+
+-- how many records of what is held are new, beside the catalog
+abbrev pub new_count : Option RecordExtent → ℕ
+new_count None = 1
+new_count (Some e) = 0
+
+abbrev pub new_records : Standing → Held → ℕ
+new_records live x =
+    sum_by (λ layer. new_count (layer_stays live layer)) x.layers + sum_by (λ t. new_count (tile_stays live t)) x.tiles

@@ -6,82 +6,97 @@ ghost use Rattle.extent_map.specs.FirstFit.{IsFull};
 ghost use Rattle.extent_map.specs.Taken.{limit_of};
 ghost use Rattle.record_bytes.specs.Listing.{listing_of, IsListable};
 ghost use Rattle.store_terms.specs.Catalog.{catalog};
-ghost use Rattle.store_terms.specs.Image.{Held};
+ghost use Rattle.store_terms.specs.Places.{extents_listed};
 ghost use Rattle.store_terms.specs.Roots.{sequence_max};
 ghost use Rattle.store_terms.specs.StandsFor.{body_at};
-ghost use Rattle.commit_plan.specs.Kept.{Kept, other};
-ghost use Rattle.commit_plan.specs.Filing.{Filed, FiledLayer, filed_of};
+ghost use Rattle.commit_plan.specs.Kept.{Kept, extents_in, other};
+ghost use Rattle.commit_plan.specs.Filing.{FiledLayer, filed_of};
+ghost use Rattle.commit_plan.specs.Staying.{Standing, standing_of, AreHeldApart};
+ghost use Rattle.commit_plan.specs.Fault.{fault_told};
 ghost use Rattle.root_reading.specs.Taking.{IsMapOf};
 ghost use Rattle.commit_plan.specs.Drafting.{ArePlanned, ArePlaced, IsDraft, IsLaidOut, Spell, IsNext};
 
 use crate::draft::Draft;
 use crate::fault::StoreFault;
+use crate::live_records::LiveRecords;
 use crate::next::Next;
-use crate::room::Room;
 use crate::write::Write;
 use record_bytes::catalog::Listed;
 use record_bytes::catalog_writing::write_catalog;
+use record_bytes::image::Image;
 use record_bytes::root_body::write_body;
+use root_reading::load_fault::LoadFault;
 use std::alloc::Global;
 use store_terms::root::Root;
 
-/// Adds the catalog that lists the records of a draft, and the body of the root that comes after one, where it is to be
+/// The fault of records that were read or kept, as one of the store.
+fn told(fault: LoadFault) -> StoreFault
+    ensures { result ≡ fault_told fault }
+{
+    match fault {
+        LoadFault::Device => StoreFault::Device,
+        LoadFault::Damaged(damage) => StoreFault::Damaged(damage),
+        LoadFault::OutOfMemory => StoreFault::OutOfMemory,
+    }
+}
+
+/// Adds the catalog that lists the records of an image, and the body of the root that comes after one, where it is to be
 /// put.
 pub(crate) fn completed(
     alloc: Global,
     mut draft: Draft,
-    listing: &[Listed],
+    listing: Vec<Listed>,
+    image: Image,
     root: Root,
-    number: u64,
     body: usize,
 ) -> Result<Next, StoreFault>
-    requires few { length listing.now < 2 ^ 16 }
-    requires listable { All IsListable listing.now }
+    requires few { length listing.items < 2 ^ 16 }
+    requires listable { All IsListable listing.items }
     requires below { root.sequence < sequence_max }
-    ensures ok { (x : Kept) (given : List runs.Extent) (limit : ℕ) (layers : List FiledLayer) (held : Held)
-        → x.root ≡ root → body ≡ body_at (other root) → IsMapOf x.extents given
-        → IsDraft given limit (flat_map filed_of layers) draft → Spell layers (listing_of listing.now) held
-        → held.number ≡ number → IfOk result (λ next. IsNext x held next) }
-    ensures laid { (given : List runs.Extent) (limit : ℕ) (layers : List FiledLayer) (held : Held)
-        → IsDraft given limit (flat_map filed_of layers) draft → Spell layers (listing_of listing.now) held
-        → IfOk result (λ next. IsLaidOut given limit held body next.root next.plan.items) }
+    ensures ok { (x : Kept) (given : List runs.Extent) (limit : ℕ) (layers : List FiledLayer)
+        → x.root ≡ root → body ≡ body_at (other root) → IsMapOf (extents_in x) given
+        → AreHeldApart (extents_listed x.listing) given → IsDraft given limit (flat_map filed_of layers) draft
+        → Spell (standing_of x) layers (listing_of listing.items) image → IfOk result (λ next. IsNext x image next) }
+    ensures laid { (live : Standing) (given : List runs.Extent) (limit : ℕ) (layers : List FiledLayer)
+        → IsDraft given limit (flat_map filed_of layers) draft → Spell live layers (listing_of listing.items) image
+        → IfOk result (λ next. IsLaidOut live given limit image body next.root next.plan.items) }
     ensures calls { IfOk result (λ next. length next.plan.items ≡ length draft.writes.items + 2) }
-    ensures number { IfOk result (λ next. next.root.version ≡ number) }
+    ensures number { IfOk result (λ next. next.root.version ≡ image.number) }
     ensures placed { (given : List runs.Extent) (limit : ℕ) (sizes : List ℕ) → ArePlaced given limit sizes draft
         → IfOk result
         (λ _. ArePlanned given limit
-        (sizes ++ length ((catalog column_count).text (listing_of listing.now)) ∷ [])) }
+        (sizes ++ length ((catalog column_count).text (listing_of listing.items)) ∷ [])) }
     ensures blocks { (given : List runs.Extent) (limit : ℕ) (sizes : List ℕ) → ArePlaced given limit sizes draft
-        → IfOk result (λ next. limit_of next.room.map ≡ limit) }
+        → IfOk result (λ next. limit_of next.live.room.map ≡ limit) }
     ensures full { (given : List runs.Extent) (limit : ℕ) (sizes : List ℕ) → ArePlaced given limit sizes draft
         → IsErrOf result StoreFault.Full
-        → IsFull given limit (sizes ++ length ((catalog column_count).text (listing_of listing.now)) ∷ []) }
-    ensures err { (given : List runs.Extent) (limit : ℕ) (fs : List Filed) → IsDraft given limit fs draft
+        → IsFull given limit (sizes ++ length ((catalog column_count).text (listing_of listing.items)) ∷ []) }
+    ensures err { (live : Standing) (given : List runs.Extent) (limit : ℕ) (layers : List FiledLayer)
+        → AreHeldApart (extents_listed live.listing) given → IsDraft given limit (flat_map filed_of layers) draft
+        → Spell live layers (listing_of listing.items) image
         → IfErr result (λ fault. (fault ≡ StoreFault.Full) ⊎ (fault ≡ StoreFault.OutOfMemory)) }
 {
-    let bytes = write_catalog(alloc, listing)?;
+    let bytes = write_catalog(alloc, &listing)?;
     let catalog = draft.file(bytes)?;
+    let (number, layers, tiles) = image.into_parts();
     let next = Root {
         sequence: root.sequence + 1,
         version: number,
         catalog,
     };
-    let Draft {
-        room,
-        runs,
-        mut writes,
-    } = draft;
-    let room = match Room::of(alloc, &runs, room.max_blocks) {
-        Ok(room) => room,
-        Err(fault) => return Err(StoreFault::from(fault)),
+    let limit = draft.room.max_blocks;
+    let live = match LiveRecords::new(alloc, catalog, listing, layers, tiles, limit) {
+        Ok(live) => live,
+        Err(fault) => return Err(told(fault)),
     };
+    let mut writes = draft.writes;
     writes.push(Write {
         at: body,
         bytes: Vec::from_slice(alloc, &write_body(next))?,
     })?;
     Ok(Next {
         root: next,
-        room,
+        live,
         plan: writes,
     })
 }

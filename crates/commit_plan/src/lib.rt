@@ -2,12 +2,14 @@
 //! catalog, and the body of the next root.
 #![tactic(auto)]
 
+mod comparing;
 mod completing;
 mod draft;
 pub mod drafting;
 pub mod fault;
 mod filing;
 pub mod laws;
+pub mod live_records;
 pub mod loading;
 pub mod next;
 pub mod room;

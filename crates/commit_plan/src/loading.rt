@@ -1,31 +1,42 @@
 //! What a root of a file holds, and the blocks that it takes.
-ghost use Rattle.std.specs.Prelude.{◌≡◌, ◌↔◌, ◌^◌, ◌<◌, length, map, IfOk, IfErr};
+ghost use Rattle.std.specs.Prelude.{◌≡◌, ◌⊎◌, ◌∷◌, ◌↔◌, ◌^◌, ◌<◌, length, map, Ok, IfOk, IfErr};
 ghost use Rattle.overlay_terms.specs.StoredTiles.{AreStored};
 ghost use Rattle.extent_map.specs.Taken.{taken_of, limit_of};
 ghost use Rattle.tile_build.specs.Tile.{finished_of};
-ghost use Rattle.store_terms.specs.Image.{held_of};
-ghost use Rattle.store_terms.specs.Frame.{extents_of};
-ghost use Rattle.root_reading.specs.Taking.{IsMapOf};
+ghost use Rattle.store_terms.specs.Image.{Held, held_of};
+ghost use Rattle.store_terms.specs.Image as terms;
+ghost use Rattle.record_bytes.specs.Listing.{listing_of};
+ghost use Rattle.root_reading.specs.Taking.{IsMapOf, AllNear, if_apart};
 ghost use Rattle.root_reading.specs.Looking.{Gives, Looks, Causes};
-ghost use Rattle.commit_plan.specs.Loading.{held_in};
+ghost use Rattle.commit_plan.specs.Loading.{held_in, kept_in, standing_in};
+ghost use Rattle.commit_plan.specs.Staying.{standing_of};
+ghost use Rattle.commit_plan.specs.Live.{standing};
+ghost use Rattle.store_terms.specs.Places.{extents_listed};
+ghost use Rattle.store_terms.specs.declared.damage.Damage.TheVariants.{Overlap};
+ghost use Rattle.commit_plan.specs.Kept.{extents_in};
 
+use crate::live_records::LiveRecords;
 use crate::room::Room;
-use crate::taking::room_of;
 use disk_model::disk::Disk;
+use layer_expr::name::Name;
+use record_bytes::catalog::Listed;
 use root_reading::load_fault::LoadFault;
 use root_reading::loading::{Content, content_of};
 use root_reading::records::listing_at;
-use std::alloc::Global;
-use store_terms::root::Root;
+use std::alloc::{AllocError, Global};
+use store_terms::root::{RecordExtent, Root};
+use tile_build::tile::Tile;
 
 /// What is read of a file: its root, what the root holds, and the blocks that it takes.
 #[derive(Drop)]
 pub struct Loaded {
     pub root: Root,
+    /// What it holds, for the version that is opened.
     pub content: Content,
-    pub room: Room,
-    /// Room in which nothing is taken, for the commit to come.
-    pub next_room: Room,
+    /// The same and where it lies, for the store.
+    pub live: LiveRecords,
+    /// Records of nothing, in whose place those of the commit to come are put.
+    pub next_live: LiveRecords,
 }
 
 /// The room in which nothing is taken.
@@ -39,6 +50,48 @@ fn no_room(alloc: Global, max_blocks: u32) -> Result<Room, LoadFault>
     }
 }
 
+/// A tile once more, with its name and column.
+fn copy_of(alloc: Global, tile: &(Name, u8, Tile)) -> Result<(Name, u8, Tile), AllocError>
+    ensures { IfOk result (λ copy. finished_of copy ≡ finished_of tile.now) }
+{
+    let name = tile.0.clone()?;
+    let copy = tile.2.try_copy(alloc)?;
+    Ok((name, tile.1, copy))
+}
+
+/// The tiles once more.
+fn copied(alloc: Global, tiles: &[(Name, u8, Tile)]) -> Result<Vec<(Name, u8, Tile)>, AllocError>
+    ensures { IfOk result (λ copies. map finished_of copies.items ≡ map finished_of tiles.now) }
+{
+    let mut copies = Vec::new(alloc);
+    for tile in tiles {
+        copies.push(copy_of(alloc, tile)?)?;
+    }
+    Ok(copies)
+}
+
+/// The records of a root with a catalog here, which lists those of some layers and tiles.
+fn live_of(
+    alloc: Global,
+    catalog: RecordExtent,
+    listing: Vec<Listed>,
+    content: &Content,
+    max_blocks: u32,
+) -> Result<LiveRecords, LoadFault>
+    ensures stands { IfOk result (λ live. standing live ≡ standing_in (listing_of listing.items) content.now) }
+    ensures taken { AllNear (catalog ∷ extents_listed (listing_of listing.items))
+        → IfOk result
+        (λ live. IsMapOf (catalog ∷ extents_listed (listing_of listing.items)) (taken_of live.room.map)) }
+    ensures reads { AllNear (catalog ∷ extents_listed (listing_of listing.items)) → (held : Held)
+        → Gives (λ live. held) result (if_apart (catalog ∷ extents_listed (listing_of listing.items)) held) }
+    ensures errors { IfErr result (λ e. (e ≡ LoadFault.OutOfMemory) ⊎ (e ≡ LoadFault.Damaged Overlap)) }
+    ensures limit { IfOk result (λ live. limit_of live.room.map ≡ max_blocks) }
+{
+    let layers = content.layers.try_copy(alloc)?;
+    let tiles = copied(alloc, &content.tiles)?;
+    LiveRecords::new(alloc, catalog, listing, layers, tiles, max_blocks)
+}
+
 /// What a root holds, and the blocks that it takes.
 pub fn read_root<D: Disk>(
     alloc: Global,
@@ -50,23 +103,25 @@ pub fn read_root<D: Disk>(
     ensures looks { D.is_honest disk.old → Looks D.Disk disk.old disk.new }
     ensures gives { D.is_honest disk.old → length (D.seen disk.old) < 2 ^ 64
         → Gives held_in result (held_of (D.seen disk.old) root) }
+    ensures listing { D.is_honest disk.old
+        → IfOk result (λ x. terms.listing_of (D.seen disk.old) root ≡ Ok (kept_in x).listing) }
+    ensures stands { IfOk result (λ x. standing x.live ≡ standing_of (kept_in x)) }
     ensures room { D.is_honest disk.old → length (D.seen disk.old) < 2 ^ 64
-        → IfOk result (λ x. IsMapOf (extents_of (D.seen disk.old) root) (taken_of x.room.map)) }
+        → IfOk result (λ x. IsMapOf (extents_in (kept_in x)) (taken_of x.live.room.map)) }
     ensures root { IfOk result (λ x. x.root ≡ root) }
-    ensures limit { IfOk result (λ x. limit_of x.room.map ≡ max_blocks) }
-    ensures next_limit { IfOk result (λ x. limit_of x.next_room.map ≡ max_blocks) }
+    ensures limit { IfOk result (λ x. limit_of x.live.room.map ≡ max_blocks) }
+    ensures next_limit { IfOk result (λ x. limit_of x.next_live.room.map ≡ max_blocks) }
     ensures stored { IfOk result (λ x. AreStored x.content.layers (map finished_of x.content.tiles.items)) }
     ensures cause { D.is_honest disk.old → Causes result (D.faults disk.old) (D.faults disk.new) }
 {
     let listing = listing_at(alloc, disk, root)?;
-    let listed = listing.as_slice();
-    let content = content_of(alloc, disk, listed)?;
-    let room = room_of(alloc, root.catalog, listed, max_blocks)?;
+    let content = content_of(alloc, disk, &listing)?;
+    let live = live_of(alloc, root.catalog, listing, &content, max_blocks)?;
     let next_room = no_room(alloc, max_blocks)?;
     Ok(Loaded {
         root,
         content,
-        room,
-        next_room,
+        live,
+        next_live: LiveRecords::empty(alloc, next_room),
     })
 }

@@ -7,6 +7,7 @@ ghost use Rattle.store_terms.specs.Places.{extents_listed};
 ghost use Rattle.store_terms.specs.declared.damage.Damage.TheVariants.{Overlap};
 ghost use Rattle.root_reading.specs.Looking.{Gives};
 ghost use Rattle.root_reading.specs.Taking.{IsMapOf, AllNear, if_apart};
+ghost use Rattle.commit_plan.specs.Staying.{AreHeldApart};
 
 use crate::room::Room;
 use extent_map::fault::ExtentFault;
@@ -29,6 +30,9 @@ pub fn room_of(
     ensures reads { AllNear (catalog ∷ extents_listed (listing_of listing.now)) → (held : Held)
         → Gives (λ room. held) result (if_apart (catalog ∷ extents_listed (listing_of listing.now)) held) }
     ensures errors { IfErr result (λ e. (e ≡ LoadFault.OutOfMemory) ⊎ (e ≡ LoadFault.Damaged Overlap)) }
+    // No two of the records that are listed have a block in common, but for those that no file has; and what is free in
+    // the room is free of each.
+    ensures apart { IfOk result (λ room. AreHeldApart (extents_listed (listing_of listing.now)) (taken_of room.map)) }
     ensures limit { IfOk result (λ room. limit_of room.map ≡ max_blocks) }
 {
     let runs = runs_of(alloc, catalog, listing)?;

@@ -15,10 +15,10 @@ const CHOICES: [Choice; 5] = [
     Choice::Fill(0xA7),
 ];
 
-/// How many calls the commits of A, and then of A and B, make.
+/// How many calls the commits of A, and then of B beside it, make.
 const FIRST: usize = 8;
 
-const SECOND: usize = 9;
+const SECOND: usize = 8;
 
 /// A is put, committed and reported, and then B is put and committed.
 const STEPS: &[&[Words]] = &[

@@ -25,6 +25,7 @@ pub const CREATED: usize = 5;
 pub enum Words {
     Put(&'static str, &'static str),
     Define(&'static str, &'static str),
+    Drop(&'static str),
     Take(&'static str, u8),
     Finish(u32),
     Device,
@@ -51,6 +52,7 @@ fn step_of(alloc: Global, words: Words) -> Result<Step, Fail> {
     match words {
         Words::Put(name, text) => Ok(Step::Submit(put(alloc, name_of(alloc, name)?, text)?)),
         Words::Define(name, text) => Ok(Step::Submit(define(alloc, name_of(alloc, name)?, text)?)),
+        Words::Drop(name) => Ok(Step::Submit(Command::Remove(name_of(alloc, name)?))),
         Words::Take(name, column) => Ok(Step::Take(name_of(alloc, name)?, column)),
         Words::Finish(number) => Ok(Step::Finish(number)),
         Words::Device => Ok(Step::Device),

@@ -1,15 +1,17 @@
 -- Which version is stored, and what of it.
-use Rattle.std.specs.Prelude.{◌≡◌, ℕ, ◌+◌, length, Result, Ok, Err}
+use Rattle.std.specs.Prelude.{◌≡◌, ℕ, ◌+◌, Result, Ok, Err}
 use Rattle.overlay_terms.specs.Layers.{Name}
 use Rattle.overlay_terms.specs.Histories.{Version, tile_at}
 use Rattle.store_terms.specs.Image.{Held}
 use Rattle.commit_plan.specs.declared.fault.StoreFault.{StoreFault}
 use Rattle.root_store.specs.declared.commit.Commit.{Commit}
+use Rattle.commit_plan.specs.Live.{standing}
+use Rattle.commit_plan.specs.Sizes.{new_records}
 use Rattle.commit_plan.specs.Fitting.{HasRoom, HasNoRoom}
 use Rattle.commit_plan.specs.Kept.{Kept}
 use Rattle.root_store.specs.declared.phase.Progress.{Progress}
 use Rattle.root_store.specs.declared.phase.Progress.TheVariants.{Idle, Going, Done}
-use Rattle.flush_core.specs.Imaging.{tiles_in_order, version_held}
+use Rattle.flush_core.specs.Imaging.{version_held}
 
 -- the number of the version that is stored after a step: only one that answers Done changes it, to the number that it tells
 abbrev pub stored_after : Result Progress StoreFault → ℕ → ℕ
@@ -29,14 +31,15 @@ pub record IsCommitOf (version : Version) (y : Kept) : Type 0 where
   pub root : y.root.version ≡ version.number
   pub image : IsImageOf version y.held
 
--- a store has room for the records of a version among the blocks that are free
+-- a store has room for the new records of a version among the blocks that are free
 abbrev pub HasRoomFor : {D : Type 0} → Commit D → Version → Type 0
-HasRoomFor commit version = HasRoom commit.room (version_held version)
+HasRoomFor commit version = HasRoom commit.live (version_held version)
 
 -- it has none for some record
 abbrev pub HasNoRoomFor : {D : Type 0} → Commit D → Version → Type 0
-HasNoRoomFor commit version = HasNoRoom commit.room (version_held version)
+HasNoRoomFor commit version = HasNoRoom commit.live (version_held version)
 
--- the device calls of the commit of a version: one for each record and the catalog, and six more
-abbrev pub calls_of : Version → ℕ
-calls_of version = length version.layers + length (tiles_in_order version) + 7
+-- the device calls of the commit of a version: one for each record that the store does not hold already, one for the
+-- catalog, and six more
+abbrev pub calls_of : {D : Type 0} → Commit D → Version → ℕ
+calls_of commit version = new_records (standing commit.live) (version_held version) + 7

@@ -58,12 +58,12 @@ impl<D: Disk> Flusher<D> {
         // The blocks that the file may have stay as many.
         ensures blocks { (limit : ℕ) → KeepsTo limit self.old.commit → KeepsTo limit self.new.commit }
         // So many calls lead to Done.
-        ensures calls { OnOk result (calls_left self.new.commit ≡ calls_of version.now) }
+        ensures calls { OnOk result (calls_left self.new.commit ≡ calls_of self.old.commit version.now) }
         ensures disk { self.new.commit.disk ≡ self.old.commit.disk }
         ensures err { OnErr result (self.new ≡ self.old) }
         ensures failed { self.old.commit.phase ≡ Phase.Failed → result ≡ Err StoreFault.Failed }
         ensures limit { self.old.commit.phase ≡ Phase.Idle → sequence_max ≤ self.old.commit.root.sequence → result ≡ Err StoreFault.SequenceLimit }
-        // Where there is room for all its records among the free blocks, by first fit; where there is none, that is the reason.
+        // Where there is room for all its new records among the free blocks, by first fit; where there is none, that is the reason.
         ensures room { OnOk result (HasRoomFor self.old.commit version.now) }
         ensures errors { IfErr result (λ fault. IsReason self.old.commit.phase self.old.commit.root (HasNoRoomFor self.old.commit version.now) fault) }
     {

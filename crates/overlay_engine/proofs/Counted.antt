@@ -116,7 +116,7 @@ module _ {D : Type 0} (g : Ghosts D) where
 
   -- the step that begins a commit makes the first of its calls
   device_begins : (old new : Engine D) → is_busy old.flusher.commit.phase ≡ false → Devices g old Going new
-      → (calls_of old.version ≡ left_by new + 1) × (0 < left_by new)
+      → (calls_of old.flusher.commit old.version ≡ left_by new + 1) × (0 < left_by new)
   device_begins old new idle (inl (busy, calls)) = absurd (false≢true (sym idle ∙ busy))
   device_begins old new idle (inr (inl (rests, mid, begins, calls))) = (sym begins.calls ∙ calls.0.0, calls.0.1)
   device_begins old new idle (inr (inr (rests, not_begun))) = absurd (cc (not_begun.told))
@@ -165,7 +165,7 @@ module _ {D : Type 0} (g : Ghosts D) where
       let done = device_done last.old last.new whole.number on.1
       (as_device last.old last.new (Done whole.number) last.step last.reply whole.ends.0 whole.ends.1 parts.1) in
       ap calls_asked_in whole.parts ∙ omega (arith, asked_push whole.between last, ap calls_asked whole.begins.0, ap calls_asked whole.ends.0, begun.0, on.0, done)
-      ∙ ap (λ (e : Engine D). calls_of e.version) joins
+      ∙ ap (λ (e : Engine D). calls_of e.flusher.commit e.version) joins
 
   -- ---- how often the disk is called
 

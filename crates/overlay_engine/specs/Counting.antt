@@ -43,9 +43,9 @@ module _ {D : Type 0} (g : Ghosts D) where
     pub goes_on : AllByRecursion (λ (made : Made D). made.step ≡ Device → made.reply ≡ Going) between
     pub ends : (last.step ≡ Device) × (last.reply ≡ Done number)
 
-  -- it makes as many calls as are told of the version that it began with
+  -- it makes as many calls as are told of the version and of the store that it began with
   abbrev pub CommitCounts : Type 0
-  CommitCounts = (old : Engine D) (run : List (Made D)) (new : Engine D) → IsWholeCommit old run new → calls_asked_in run ≡ calls_of old.version
+  CommitCounts = (old : Engine D) (run : List (Made D)) (new : Engine D) → IsWholeCommit old run new → calls_asked_in run ≡ calls_of old.flusher.commit old.version
 
   -- and just as often the disk is called, where it is honest
   abbrev pub CommitCalls : Type 0

@@ -23,7 +23,7 @@ module _ {D : Type 0} where
     pub began : mid.flusher.commit.phase ≡ Close
     pub number : mid.flusher.commit.next_root.version ≡ old.version.number
     pub room : HasRoomFor old.flusher.commit old.version
-    pub calls : calls_left mid.flusher.commit ≡ calls_of old.version
+    pub calls : calls_left mid.flusher.commit ≡ calls_of old.flusher.commit old.version
     pub stored : mid.flusher.commit.root.version ≡ old.flusher.commit.root.version
     pub disk : mid.flusher.commit.disk ≡ old.flusher.commit.disk
     pub rest : mid ≡ record old { flusher = mid.flusher }

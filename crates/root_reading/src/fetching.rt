@@ -14,7 +14,7 @@ use store_terms::root::RecordExtent;
 pub const BLOCK: usize = 4096;
 
 /// How many blocks a record of so many bytes takes.
-pub(crate) fn blocks_of(size: u32) -> u64
+pub fn blocks_of(size: u32) -> u64
     ensures { result ≡ blocks size }
 {
     ((u64::from(size) + 4095) / 4096).max(1)

@@ -8,7 +8,6 @@ use Rattle.store_terms.specs.Places.{blocks, is_placed}
 use Rattle.store_terms.specs.Roots.{body_in, body_text}
 use Rattle.store_terms.specs.Image.{listing_of}
 use Rattle.store_terms.specs.StandsFor.{gate, open_gate}
-use Rattle.store_terms.specs.Frame.{listed_extents}
 use Rattle.store_terms.specs.Spelled.{Spells}
 use Rattle.store_terms.proofs.SpelledLemmas.{spelled_is_held, listing_spelled}
 use Rattle.root_store.specs.Creating.{first_root, second_root, nothing_kept, IsBlank, IsFirstWrite, IsNewFile, BlankIsAtRest}
@@ -31,7 +30,7 @@ blank_is_at_rest file blank opened =
           bounded = omega arith;
           numbered = omega arith;
           parity = refl;
-          extents = ap (λ l. first_root.catalog ∷ listed_extents l) read;
+          listing = read;
           placed = (place, tt);
           holds = spelled_is_held file first_root nothing_kept.held
               (record { orderly = refl; few = omega arith; named = tt })

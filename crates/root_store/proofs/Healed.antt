@@ -1,7 +1,11 @@
 -- What opening reads, and the completing write.
-use Rattle.std.proofs.Common.{◌≡◌, inr, take, refl, ◌∙◌, ap, arith}
+use Rattle.std.proofs.Common.{◌≡◌, inr, true, List, subst, take, refl, ◌∙◌, ap, arith}
+use Rattle.std.specs.List.{AllByRecursion}
 use Rattle.disk_model.specs.Disk.{part}
 use Rattle.disk_model.proofs.Ranges.{part_written_front}
+use Rattle.store_terms.specs.declared.root.RecordExtent.{RecordExtent}
+use Rattle.store_terms.specs.Places.{is_placed}
+use Rattle.commit_plan.proofs.Kept.{extents_are}
 use Rattle.store_terms.specs.Roots.{body_text, body_in}
 use Rattle.store_terms.proofs.RecordLemmas.{held_is_placed}
 use Rattle.store_terms.specs.StandsFor.{body_at}
@@ -11,7 +15,7 @@ use Rattle.store_terms.proofs.BodyLemmas.{body_again}
 use Rattle.commit_plan.proofs.Plan.{body_spares}
 
 pub taken_is_live : TakenIsLive
-taken_is_live file r held taken holds = record {
+taken_is_live file x taken listing holds = record {
   opened = taken.opened;
   named = record {
     long = taken.long;
@@ -19,8 +23,9 @@ taken_is_live file r held taken holds = record {
     bounded = taken.bounded;
     numbered = taken.numbered;
     parity = refl;
-    extents = refl;
-    placed = held_is_placed file r held holds;
+    listing = listing;
+    placed = subst (λ (es : List RecordExtent). AllByRecursion (λ e. is_placed file e ≡ true) es) (extents_are x file listing)
+        (held_is_placed file x.root x.held holds);
     holds = holds;
   };
 }

@@ -15,8 +15,7 @@ use Rattle.root_store.specs.Finding.{has_shut_gate}
 use Rattle.root_reading.specs.declared.load_fault.LoadFault.{LoadFault}
 use Rattle.commit_plan.specs.declared.loading.Loaded.{Loaded}
 use Rattle.commit_plan.specs.Kept.{Kept, other, Live, Rest, Shut, Calm}
-use Rattle.commit_plan.specs.Loading.{held_in}
-use Rattle.root_store.specs.Healing.{kept_of}
+use Rattle.commit_plan.specs.Loading.{held_in, kept_in}
 use Rattle.root_reading.specs.Looking.{Looks, Refuses, Causes}
 use Rattle.root_store.specs.Opening.{Heals, IsRead, Opened, Loads, InPhases, Stops, Untouched, Writes, fault_of, Tells, FailedBy}
 use Rattle.commit_plan.specs.declared.fault.StoreFault.{StoreFault}
@@ -36,29 +35,29 @@ module _ {D : Type 0} (g : Ghosts D) (old mid : D) (x : Loaded) (is_alone : Bool
     (run : LeavesOnly g old mid (g.may_leave old)) (read : IsRead g old mid x is_alone)
     (reads : reading (g.seen old) ≡ Ok (held_in x)) where
   kept : Kept
-  kept = kept_of (g.seen old) x.root (held_in x)
+  kept = kept_in x
 
-  live : Live (kept_of (g.seen old) x.root (held_in x)) (g.seen old)
-  live = taken_is_live (g.seen old) x.root (held_in x) (root_found (g.seen old) x.root read.root).taken
+  live : Live (kept_in x) (g.seen old)
+  live = taken_is_live (g.seen old) (kept_in x) (root_found (g.seen old) x.root read.root).taken read.listing
       (sym (reading_root (g.seen old) x.root read.root) ∙ reads)
 
   opened : LeavesOnly g old mid (Opened g old)
   opened = widened g old mid (g.may_leave old) (Opened g old) (λ c left. inl left) run
 
-  shut : is_alone ≡ true → Shut (kept_of (g.seen old) x.root (held_in x)) (g.seen old)
+  shut : is_alone ≡ true → Shut (kept_in x) (g.seen old)
   shut alone = record {
     live = live;
     closed =
         other_shut (g.seen old) x.root (root_found (g.seen old) x.root read.root).taken (sym read.alone ∙ alone);
   }
 
-  pub shuts : is_alone ≡ true → Leaves g mid (Shut (kept_of (g.seen old) x.root (held_in x)))
-  shuts alone = leaves_synced g mid (g.seen old) (Shut (kept_of (g.seen old) x.root (held_in x))) read.only (shut alone)
+  pub shuts : is_alone ≡ true → Leaves g mid (Shut (kept_in x))
+  shuts alone = leaves_synced g mid (g.seen old) (Shut (kept_in x)) read.only (shut alone)
 
   -- no gate is shut
   pub both_loads : g.is_honest mid → is_alone ≡ false → Loads g old mid (Ok x)
   both_loads honest alone =
-      let rest : Rest (kept_of (g.seen old) x.root (held_in x)) (g.seen old) =
+      let rest : Rest (kept_in x) (g.seen old) =
       record {
         live = live;
         harmless =
@@ -69,12 +68,9 @@ module _ {D : Type 0} (g : Ghosts D) (old mid : D) (x : Loaded) (is_alone : Bool
         gives = reads;
         run = opened;
         ok = (
-          kept_of (g.seen old) x.root (held_in x),
-          refl,
-          refl,
           read.room,
           leaves_synced g mid (g.seen old)
-              (Calm (kept_of (g.seen old) x.root (held_in x))) read.only (inl rest),
+              (Calm (kept_in x)) read.only (inl rest),
         );
         err = tt;
       }
@@ -86,38 +82,35 @@ module _ {D : Type 0} (g : Ghosts D) (old mid : D) (x : Loaded) (is_alone : Bool
     gives = reads;
     run = opened;
     ok = (
-      kept_of (g.seen old) x.root (held_in x),
-      refl,
-      refl,
       read.room,
       leaves_synced g mid (g.seen old)
-          (Calm (kept_of (g.seen old) x.root (held_in x))) read.only (inr (shut alone, last)),
+          (Calm (kept_in x)) read.only (inr (shut alone, last)),
     );
     err = tt;
   }
 
-  same_stands : (f : List ℕ) → Shut (kept_of (g.seen old) x.root (held_in x)) f → Opened g old f
-  same_stands f is = inr (shut_stands (kept_of (g.seen old) x.root (held_in x)) f is ∙ sym reads)
+  same_stands : (f : List ℕ) → Shut (kept_in x) f → Opened g old f
+  same_stands f is = inr (shut_stands (kept_in x) f is ∙ sym reads)
 
   module _ (new : D) (result : Result (Unit {0}) LoadFault)
-      (heals : Heals g mid new result (kept_of (g.seen old) x.root (held_in x))) where
+      (heals : Heals g mid new result (kept_in x)) where
     whole : LeavesOnly g old new (Opened g old)
     whole = joined g old mid new (Opened g old)
-        (Shut (kept_of (g.seen old) x.root (held_in x))) same_stands opened heals.run
+        (Shut (kept_in x)) same_stands opened heals.run
 
     -- the body is made whole
-    pub healed_loads : Leaves g new (Rest (kept_of (g.seen old) x.root (held_in x))) → Loads g old new (Ok x)
+    pub healed_loads : Leaves g new (Rest (kept_in x)) → Loads g old new (Ok x)
     healed_loads rest = record {
       honest = heals.honest;
       gives = reads;
       run = whole;
-      ok = (kept_of (g.seen old) x.root (held_in x), refl, refl, read.room, λ f left. inl (rest f left));
+      ok = (read.room, λ f left. inl (rest f left));
       err = tt;
     }
 
     -- or the device failed
     pub failed_loads : (fault : LoadFault) (answer : Result Loaded LoadFault) → IsErrAnd answer (λ e. e ≡ fault)
-        → Refuses fault (reading (g.seen old)) → Leaves g new (Shut (kept_of (g.seen old) x.root (held_in x)))
+        → Refuses fault (reading (g.seen old)) → Leaves g new (Shut (kept_in x))
         → Loads g old new answer
     failed_loads fault answer is refuses still =
         let p = err_from_is_err_and answer is in
@@ -144,16 +137,14 @@ phases_read g old mid new first only rest = record {
 }
 
 -- and then a body is made whole
-pub phases_healed : {D : Type 0} (g : Ghosts D) (old mid new : D) (r : Root) (held : Held)
-    → reading (g.seen old) ≡ Ok held → InPhases g old mid
-    → LeavesOnly g mid new (Shut (kept_of (g.seen old) r held)) → InPhases g old new
-phases_healed g old mid new r held reads phases run = record {
+pub phases_healed : {D : Type 0} (g : Ghosts D) (old mid new : D) (x : Kept)
+    → reading (g.seen old) ≡ Ok x.held → InPhases g old mid → LeavesOnly g mid new (Shut x) → InPhases g old new
+phases_healed g old mid new x reads phases run = record {
   synced = phases.synced;
   before = phases.before;
   only = phases.only;
   after = joined g phases.synced mid new (λ file. reading file ≡ reading (g.seen old))
-      (Shut (kept_of (g.seen old) r held))
-      (λ c shut. shut_stands (kept_of (g.seen old) r held) c shut ∙ sym reads) phases.after run;
+      (Shut x) (λ c shut. shut_stands x c shut ∙ sym reads) phases.after run;
 }
 
 -- why opening ended early, as the store tells it

@@ -18,7 +18,7 @@ second_root = record { sequence = 1; version = 0; catalog = record { block = 2; 
 abbrev pub nothing_kept : Kept
 nothing_kept = record {
   root = first_root;
-  extents = record { block = 2; size = 2 } ∷ [];
+  listing = [];
   held = record { number = 0; layers = []; tiles = [] };
 }
 

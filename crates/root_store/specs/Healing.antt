@@ -5,14 +5,9 @@ use Rattle.disk_model.specs.Disk.{Holds, Torn}
 use Rattle.store_terms.specs.Places.{block_size}
 use Rattle.store_terms.specs.declared.root.Root.{Root}
 use Rattle.store_terms.specs.Roots.{body_text, ours, sequence_max}
-use Rattle.store_terms.specs.Image.{Held, held_of}
-use Rattle.store_terms.specs.Frame.{extents_of}
+use Rattle.store_terms.specs.Image.{listing_of, held_of}
 use Rattle.store_terms.specs.StandsFor.{gate, open_gate, body, body_at}
 use Rattle.commit_plan.specs.Kept.{Kept, own, other, Harmless, Live, Shut, Rest}
-
--- a root with what it names in a file
-abbrev pub kept_of : List ℕ → Root → Held → Kept
-kept_of file r held = record { root = r; extents = extents_of file r; held = held }
 
 -- what opening has read of the root that it takes
 pub record IsTakenRoot (file : List ℕ) (r : Root) : Type 0 where
@@ -27,10 +22,10 @@ pub record Found (file : List ℕ) (r : Root) : Type 0 where
   pub taken : IsTakenRoot file r
   pub beside : (gate file (other r) ≢ open_gate) ⊎ Harmless (other r) r file
 
--- a root that is taken, and what it holds, is live
+-- a root that is taken, with what it lists and holds, is live
 abbrev pub TakenIsLive : Type 0
-TakenIsLive = (file : List ℕ) (r : Root) (held : Held) → IsTakenRoot file r → held_of file r ≡ Ok held
-    → Live (kept_of file r held) file
+TakenIsLive = (file : List ℕ) (x : Kept) → IsTakenRoot file x.root → listing_of file x.root ≡ Ok x.listing
+    → held_of file x.root ≡ Ok x.held → Live x file
 
 -- the twin of a root: the next sequence, and the same version and catalog
 abbrev pub twin : Root → Root

@@ -5,7 +5,7 @@ use Rattle.disk_model.specs.Disk.{Only, Failed, Fewer, Torn}
 use Rattle.disk_model.specs.Moments.{Leaves, LeavesOnly}
 use Rattle.extent_map.specs.Taken.{taken_of}
 use Rattle.store_terms.specs.Image.{Held}
-use Rattle.store_terms.specs.Frame.{extents_of}
+use Rattle.store_terms.specs.Image.{listing_of}
 use Rattle.store_terms.specs.StandsFor.{root_of, reading, gate, open_gate, body_at}
 use Rattle.store_terms.specs.declared.root.Root.{Root}
 use Rattle.store_terms.specs.Roots.{sequence_max}
@@ -15,8 +15,8 @@ use Rattle.commit_plan.specs.declared.fault.StoreFault.TheVariants as stores
 use Rattle.root_reading.specs.declared.load_fault.LoadFault.{LoadFault}
 use Rattle.root_reading.specs.declared.load_fault.LoadFault.TheVariants.{Device, Damaged, OutOfMemory}
 use Rattle.commit_plan.specs.declared.loading.Loaded.{Loaded}
-use Rattle.commit_plan.specs.Kept.{Kept, other, Rest, Shut, Calm}
-use Rattle.commit_plan.specs.Loading.{held_in}
+use Rattle.commit_plan.specs.Kept.{Kept, extents_in, other, Rest, Shut, Calm}
+use Rattle.commit_plan.specs.Loading.{held_in, kept_in}
 use Rattle.root_reading.specs.Taking.{IsMapOf}
 use Rattle.root_reading.specs.Looking.{Gives}
 use Rattle.root_store.specs.Finding.{has_shut_gate}
@@ -34,8 +34,9 @@ pub record Heals {D : Type 0} (g : Ghosts D) (old new : D) (result : Result (Uni
 pub record IsRead {D : Type 0} (g : Ghosts D) (old new : D) (x : Loaded) (is_alone : Bool) : Type 0 where
   pub only : Only (g.seen old) (g.may_leave new)
   pub root : root_of (g.seen old) ≡ Ok x.root
+  pub listing : listing_of (g.seen old) x.root ≡ Ok (kept_in x).listing
   pub alone : is_alone ≡ has_shut_gate (g.seen old)
-  pub room : IsMapOf (extents_of (g.seen old) x.root) (taken_of x.room.map)
+  pub room : IsMapOf (extents_in (kept_in x)) (taken_of x.live.room.map)
 
 -- what a crash may leave while a file is opened: what it might have left before, or what stands for the same
 abbrev pub Opened : {D : Type 0} → Ghosts D → D → List ℕ → Type 0
@@ -60,8 +61,7 @@ pub record Loads {D : Type 0} (g : Ghosts D) (old new : D) (result : Result Load
   pub gives : Gives held_in result (reading (g.seen old))
   pub run : LeavesOnly g old new (Opened g old)
   pub ok : IfOk result
-      (λ x. (k : Kept) × (k.root ≡ x.root) × (k.held ≡ held_in x) × IsMapOf k.extents (taken_of x.room.map)
-      × Leaves g new (Calm k))
+      (λ x. IsMapOf (extents_in (kept_in x)) (taken_of x.live.room.map) × Leaves g new (Calm (kept_in x)))
   pub err : OnErr result (Leaves g new (Opened g old))
 
 -- a file is not touched: it is seen as before, and a crash leaves nothing that it might not have left before

@@ -13,7 +13,9 @@ use Rattle.root_store.specs.declared.phase.Progress.{Progress}
 use Rattle.root_store.specs.declared.phase.Progress.TheVariants as progress
 use Rattle.root_store.specs.declared.commit.Commit.{Commit}
 use Rattle.root_reading.specs.Taking.{IsMapOf}
-use Rattle.commit_plan.specs.Kept.{Kept, other, Rest, Shut, Calm, Ready, Either}
+use Rattle.commit_plan.specs.Staying.{standing_of}
+use Rattle.commit_plan.specs.Live.{standing}
+use Rattle.commit_plan.specs.Kept.{Kept, extents_in, other, Rest, Shut, Calm, Ready, Either}
 use Rattle.commit_plan.specs.Planning.{Leads, Spare}
 
 module _ {D : Type 0} (g : Ghosts D) where
@@ -22,7 +24,8 @@ module _ {D : Type 0} (g : Ghosts D) where
     pub honest : g.is_honest s.disk
     pub idle : s.phase ≡ Idle
     pub root : s.root ≡ x.root
-    pub room : IsMapOf x.extents (taken_of s.room.map)
+    pub holds : standing s.live ≡ standing_of x
+    pub room : IsMapOf (extents_in x) (taken_of s.live.room.map)
     pub leaves : Leaves g s.disk (Calm x)
 
   -- what is known before the call that a phase is named for
@@ -47,7 +50,8 @@ module _ {D : Type 0} (g : Ghosts D) where
     pub honest : g.is_honest s.disk
     pub root : s.root ≡ x.root
     pub next_root : s.next_root ≡ y.root
-    pub next_room : IsMapOf y.extents (taken_of s.next_room.map)
+    pub next_holds : standing s.next_live ≡ standing_of y
+    pub next_room : IsMapOf (extents_in y) (taken_of s.next_live.room.map)
     pub before : Before s.phase s x y
 
   -- what a step answers, and where it leaves the store
@@ -82,7 +86,7 @@ Turns (progress.Done number) old new =
 
 -- the file may have at most so many blocks: that is the limit of the live root's room, and of the room after a commit
 abbrev pub KeepsTo : {D : Type 0} → ℕ → Commit D → Type 0
-KeepsTo limit s = (limit_of s.room.map ≡ limit) × (limit_of s.next_room.map ≡ limit)
+KeepsTo limit s = (limit_of s.live.room.map ≡ limit) × (limit_of s.next_live.room.map ≡ limit)
 
 -- whether a commit is under way
 abbrev pub is_busy : Phase → Bool

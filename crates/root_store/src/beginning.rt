@@ -7,6 +7,8 @@ ghost use Rattle.commit_plan.specs.Kept.{Kept};
 ghost use Rattle.root_store.specs.Running.{Stands, Runs, KeepsTo, calls_left, is_busy};
 ghost use Rattle.commit_plan.specs.Drafting.{IsNext};
 ghost use Rattle.commit_plan.specs.Fitting.{HasRoom, HasNoRoom};
+ghost use Rattle.commit_plan.specs.Live.{standing};
+ghost use Rattle.commit_plan.specs.Sizes.{new_records};
 ghost use Rattle.root_store.specs.Beginning.{IsRefusal, IsReason};
 
 use crate::commit::Commit;
@@ -28,7 +30,7 @@ impl<D: Disk> Commit<D> {
         ensures disk { self.new.disk ≡ self.old.disk }
         ensures root { self.new.next_root ≡ next.root }
         ensures live { self.new.root ≡ self.old.root }
-        ensures blocks { (limit : ℕ) → limit_of self.old.room.map ≡ limit → limit_of next.room.map ≡ limit
+        ensures blocks { (limit : ℕ) → limit_of self.old.live.room.map ≡ limit → limit_of next.live.room.map ≡ limit
             → KeepsTo limit self.new }
         ensures busy { is_busy self.new.phase ≡ true }
         ensures begins { self.new.phase ≡ Phase.Close }
@@ -36,7 +38,7 @@ impl<D: Disk> Commit<D> {
         ensures calls { calls_left self.new ≡ length next.plan.items + 5 }
     {
         self.next_root = next.root;
-        self.next_room = next.room;
+        self.next_live = next.live;
         self.plan = next.plan;
         self.next = 0;
         self.phase = Phase::Close;
@@ -76,8 +78,8 @@ impl<D: Disk> Commit<D> {
         ensures number { OnOk result (self.new.next_root.version ≡ image.number) }
         ensures begins { OnOk result (self.new.phase ≡ Phase.Close) }
         ensures busy { OnOk result (is_busy self.new.phase ≡ true) }
-        // One for each record and the catalog, and six more.
-        ensures calls { OnOk result (calls_left self.new ≡ length image.layers + length image.tiles + 7) }
+        // One for each new record and the catalog, and six more.
+        ensures calls { OnOk result (calls_left self.new ≡ new_records (standing self.old.live) image + 7) }
         ensures disk { self.new.disk ≡ self.old.disk }
         // The blocks that the file may have stay as many.
         ensures blocks { (limit : ℕ) → KeepsTo limit self.old → KeepsTo limit self.new }
@@ -85,17 +87,17 @@ impl<D: Disk> Commit<D> {
         ensures failed { self.old.phase ≡ Phase.Failed → result ≡ Err StoreFault.Failed }
         ensures limit { self.old.phase ≡ Phase.Idle → sequence_max ≤ self.old.root.sequence
             → result ≡ Err StoreFault.SequenceLimit }
-        // Where there is room for all records among the free blocks, by first fit; where there is none, that is the
+        // Where there is room for all new records among the free blocks, by first fit; where there is none, that is the
         // reason.
-        ensures room { OnOk result (HasRoom self.old.room image) }
+        ensures room { OnOk result (HasRoom self.old.live image) }
         ensures errors { IfErr result
-            (λ fault. IsReason self.old.phase self.old.root (HasNoRoom self.old.room image) fault) }
+            (λ fault. IsReason self.old.phase self.old.root (HasNoRoom self.old.live image) fault) }
     {
         if let Some(fault) = self.refusal() {
             return Err(fault);
         }
         let body = other_body(self.root);
-        let next = drafted(alloc, &image, &self.room, self.root, body)?;
+        let next = drafted(alloc, image, &self.live, self.root, body)?;
         self.start(next);
         Ok(())
     }

@@ -8,7 +8,7 @@ use crate::finding::GATE_OPEN;
 use crate::phase::{Phase, Progress};
 use crate::slots::other_gate;
 use commit_plan::fault::StoreFault;
-use commit_plan::room::Room;
+use commit_plan::live_records::LiveRecords;
 use commit_plan::write::Write;
 use disk_model::disk::Disk;
 use std::mem;
@@ -17,17 +17,17 @@ use store_terms::root::Root;
 /// The value with which a commit shuts a gate.
 const GATE_CLOSED: u8 = 0;
 
-/// A store on a disk: its live root with the blocks that it takes, and the commit that is under way.
+/// A store on a disk: its live root with what that holds and where, and the commit that is under way.
 #[derive(Drop)]
 pub struct Commit<D: Disk> {
     pub(crate) disk: D,
     /// What the file stands for while no commit is under way.
     pub(crate) root: Root,
-    pub(crate) room: Room,
+    pub(crate) live: LiveRecords,
     pub(crate) phase: Phase,
     /// What the file stands for after the commit.
     pub(crate) next_root: Root,
-    pub(crate) next_room: Room,
+    pub(crate) next_live: LiveRecords,
     /// The writes of the commit: records, catalog, body.
     pub(crate) plan: Vec<Write>,
     /// How many of them are made.
@@ -119,7 +119,7 @@ impl<D: Disk> Commit<D> {
                 self.phase = Phase::Failed;
                 self.disk.sync()?;
                 self.root = self.next_root;
-                mem::swap(&mut self.room, &mut self.next_room);
+                mem::swap(&mut self.live, &mut self.next_live);
                 self.phase = Phase::Idle;
                 Ok(Progress::Done(self.root.version))
             }

@@ -3,7 +3,7 @@ ghost use Rattle.std.specs.Prelude.{◌≡◌, ◌≢◌, ◌↔◌, ◌+◌, �
 ghost use Rattle.disk_model.specs.Disk.{Holds, Torn, Fewer, Failed, CountsFailure};
 ghost use Rattle.disk_model.specs.Moments.{Leaves};
 ghost use Rattle.extent_map.specs.Taken.{taken_of, limit_of};
-ghost use Rattle.commit_plan.specs.Kept.{Rest};
+ghost use Rattle.commit_plan.specs.Kept.{Rest, extents_in};
 ghost use Rattle.root_store.specs.Running.{Stands, KeepsTo};
 ghost use Rattle.root_reading.specs.Taking.{IsMapOf};
 ghost use Rattle.root_store.specs.Creating.{nothing_kept, first_root, IsFirstWrite, IsNewFile, refusal_of_new, Tells, CallsBehind};
@@ -13,6 +13,7 @@ use crate::finding::GATE_OPEN;
 use crate::open_fault::OpenFault;
 use crate::phase::Phase;
 use commit_plan::fault::StoreFault;
+use commit_plan::live_records::LiveRecords;
 use commit_plan::room::Room;
 use disk_model::disk::Disk;
 use disk_model::fault::DiskFault;
@@ -106,7 +107,7 @@ fn format<D: Disk>(disk: &mut D, bytes: &[u8]) -> Result<(), DiskFault>
 
 /// The runs that a new store takes, and none.
 fn rooms(alloc: Global, max_blocks: u32) -> Result<(Room, Room), StoreFault>
-    ensures room { IfOk result (λ rooms. IsMapOf nothing_kept.extents (taken_of rooms.0.map)) }
+    ensures room { IfOk result (λ rooms. IsMapOf (extents_in nothing_kept) (taken_of rooms.0.map)) }
     ensures limit { IfOk result (λ rooms. limit_of rooms.0.map ≡ max_blocks) }
     ensures next_limit { IfOk result (λ rooms. limit_of rooms.1.map ≡ max_blocks) }
     ensures err { IfErr result (λ fault. fault ≡ StoreFault.OutOfMemory) }
@@ -128,7 +129,7 @@ fn prepare<D: Disk>(
     ensures honest { D.is_honest disk.new ↔ D.is_honest disk.old }
     ensures ready { D.is_honest disk.old → IfOk result (λ rooms. Leaves D.Disk disk.new (Rest nothing_kept)) }
     ensures file { D.is_honest disk.old → IfOk result (λ rooms. Leaves D.Disk disk.new IsNewFile) }
-    ensures room { IfOk result (λ rooms. IsMapOf nothing_kept.extents (taken_of rooms.0.map)) }
+    ensures room { IfOk result (λ rooms. IsMapOf (extents_in nothing_kept) (taken_of rooms.0.map)) }
     ensures limit { IfOk result (λ rooms. limit_of rooms.0.map ≡ max_blocks) }
     ensures next_limit { IfOk result (λ rooms. limit_of rooms.1.map ≡ max_blocks) }
     ensures answer { D.is_honest disk.old
@@ -181,10 +182,10 @@ pub fn create<D: Disk>(
         Ok((room, next_room)) => Ok(Commit {
             disk,
             root: FIRST,
-            room,
+            live: LiveRecords::empty(alloc, room),
             phase: Phase::Idle,
             next_root: FIRST,
-            next_room,
+            next_live: LiveRecords::empty(alloc, next_room),
             plan: Vec::new(alloc),
             next: 0,
         }),

@@ -8,7 +8,9 @@ ghost use Rattle.tile_build.specs.Tile.{finished_of};
 ghost use Rattle.extent_map.specs.Taken.{limit_of};
 ghost use Rattle.store_terms.specs.StandsFor.{reading};
 ghost use Rattle.commit_plan.specs.Kept.{Kept};
-ghost use Rattle.commit_plan.specs.Loading.{held_in};
+ghost use Rattle.commit_plan.specs.Loading.{held_in, kept_in};
+ghost use Rattle.commit_plan.specs.Staying.{standing_of};
+ghost use Rattle.commit_plan.specs.Live.{standing};
 ghost use Rattle.root_store.specs.Running.{Stands, KeepsTo};
 ghost use Rattle.root_reading.specs.Looking.{Gives, Looks, Causes};
 ghost use Rattle.root_store.specs.Opening.{IsRead, Loads, Opened, Untouched, Writes, HasRoot, Tells, FailedBy, InPhases, Stops, fault_of};
@@ -51,9 +53,10 @@ fn read_store<D: Disk>(
         → IfErr result (λ fault. Stops D.Disk disk.old (fault ≡ LoadFault.Device) disk.new) }
     ensures gives { D.is_honest disk.old → Gives (λ x. held_in x.0) result (reading (D.seen disk.old)) }
     ensures read { D.is_honest disk.old → IfOk result (λ x. IsRead D.Disk disk.old disk.new x.0 x.1) }
-    ensures limit { IfOk result (λ x. limit_of x.0.room.map ≡ max_blocks) }
-    ensures next_limit { IfOk result (λ x. limit_of x.0.next_room.map ≡ max_blocks) }
+    ensures limit { IfOk result (λ x. limit_of x.0.live.room.map ≡ max_blocks) }
+    ensures next_limit { IfOk result (λ x. limit_of x.0.next_live.room.map ≡ max_blocks) }
     ensures stored { IfOk result (λ x. AreStored x.0.content.layers (map finished_of x.0.content.tiles.items)) }
+    ensures stands { IfOk result (λ x. standing x.0.live ≡ standing_of (kept_in x.0)) }
     ensures numbered { IfOk result (λ x. x.0.root.version ≤ version_max) }
     ensures seen { D.is_honest disk.old → D.seen disk.new ≡ D.seen disk.old }
     ensures memory { D.is_honest disk.old
@@ -77,9 +80,10 @@ pub(crate) fn load<D: Disk>(
     ensures phases { D.is_honest disk.old → OnOk result (InPhases D.Disk disk.old disk.new) }
     ensures stops { D.is_honest disk.old
         → IfErr result (λ fault. Stops D.Disk disk.old (fault ≡ LoadFault.Device) disk.new) }
-    ensures limit { IfOk result (λ x. limit_of x.room.map ≡ max_blocks) }
-    ensures next_limit { IfOk result (λ x. limit_of x.next_room.map ≡ max_blocks) }
+    ensures limit { IfOk result (λ x. limit_of x.live.room.map ≡ max_blocks) }
+    ensures next_limit { IfOk result (λ x. limit_of x.next_live.room.map ≡ max_blocks) }
     ensures stored { IfOk result (λ x. AreStored x.content.layers (map finished_of x.content.tiles.items)) }
+    ensures stands { IfOk result (λ x. standing x.live ≡ standing_of (kept_in x)) }
     ensures numbered { IfOk result (λ x. x.root.version ≤ version_max) }
     ensures writes { D.is_honest disk.old → Writes (D.seen disk.old) (D.seen disk.new) }
     ensures untouched { D.is_honest disk.old
@@ -159,10 +163,10 @@ pub fn open<D: Disk>(
             let commit = Commit {
                 disk,
                 root,
-                room: loaded.room,
+                live: loaded.live,
                 phase: Phase::Idle,
                 next_root: root,
-                next_room: loaded.next_room,
+                next_live: loaded.next_live,
                 plan: Vec::new(alloc),
                 next: 0,
             };

@@ -51,7 +51,7 @@ same_layers old new known (l ∷ ls) same =
     let rest : (layers : List Layer) → layers_of new layers ls ≡ layers_of old layers ls = λ layers. same_layers old new layers ls (all_back (IsSameAt old new) (extents_of_records l.records) (extents_listed ls) same) in
     λ i. first i >>= λ one. rest one.0 i >>= λ more. Ok (more.0, one.1 ++ more.1)
 
-same_listing : (old new : List ℕ) (r : Root) → IsSameAt old new r.catalog → listing_of new r ≡ listing_of old r
+pub same_listing : (old new : List ℕ) (r : Root) → IsSameAt old new r.catalog → listing_of new r ≡ listing_of old r
 unfolding listing_of
 same_listing old new r same = ap (λ (b : Result (List ℕ) Damage). b >>= λ bytes. or_fault CatalogForm (catalog_of_record bytes)) (same_bytes CatalogPlace old new r.catalog same)
 

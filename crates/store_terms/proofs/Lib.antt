@@ -4,6 +4,7 @@ pub mod FrameLemmas
 pub mod Loops
 pub mod Accepting
 pub mod SpelledLemmas
+pub mod HeldLemmas
 pub mod RecordLemmas
 pub mod BaseLemmas
 pub mod NameTests

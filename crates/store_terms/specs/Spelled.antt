@@ -15,7 +15,7 @@ use Rattle.store_terms.specs.declared.root.RecordExtent.{RecordExtent}
 use Rattle.store_terms.specs.Catalog.{Records, Listed, catalog_of_record}
 use Rattle.store_terms.specs.Places.{bytes_of, is_placed, all_apart, extents_listed}
 use Rattle.store_terms.specs.declared.root.Root.{Root}
-use Rattle.store_terms.specs.Image.{Held, held_of}
+use Rattle.store_terms.specs.Image.{Held, listing_of, held_of}
 
 -- a record that is placed spells a value
 pub record Spells {A : Type 0} (file : List ℕ) (e : RecordExtent) (read : List ℕ → Option A) (value : A) : Type 0 where
@@ -60,3 +60,9 @@ pub record MayBeStored (layers : List Layer) : Type 0 where
 -- what is spelled so is held
 abbrev pub SpelledIsHeld : Type 0
 SpelledIsHeld = (file : List ℕ) (r : Root) (x : Held) → MayBeStored x.layers → IsSpelled file r x → held_of file r ≡ Ok x
+
+-- what a root holds is spelled, record by record, in the places of its listing; and no two of these share a block
+abbrev pub HeldIsSpelled : Type 0
+HeldIsSpelled =
+    (file : List ℕ) (r : Root) (x : Held) (listing : List Listed) → listing_of file r ≡ Ok listing → held_of file r ≡ Ok x
+    → LayersAre file listing x.layers x.tiles × (all_apart (r.catalog ∷ extents_listed listing) ≡ true)

@@ -7,7 +7,7 @@ ghost use Rattle.store_terms.specs.TileRecord.{named_tile};
 ghost use Rattle.store_terms.specs.Catalog.{catalog};
 ghost use Rattle.store_terms.specs.Frame.{ElsewhereHasNoMeaning};
 ghost use Rattle.store_terms.specs.RecordLaws.{BaseReadsBack, BodyReadsBack, DefinitionIsItsText, HeldIsPlaced, TileIsNamed};
-ghost use Rattle.store_terms.specs.Spelled.{SpelledIsHeld};
+ghost use Rattle.store_terms.specs.Spelled.{SpelledIsHeld, HeldIsSpelled};
 
 /// What is read as a base record is spelled so, and what is spelled so is read.
 pub fn base_records()
@@ -32,6 +32,11 @@ pub fn elsewhere_has_no_meaning()
 /// A root whose catalog lists the records of layers and tiles holds them.
 pub fn spelled_is_held()
     ensures { SpelledIsHeld }
+{}
+
+/// What a root holds is spelled in the places that its catalog lists.
+pub fn held_is_spelled()
+    ensures { HeldIsSpelled }
 {}
 
 /// A definition record is the text of its expression, and no other spelling.

@@ -1,105 +1,130 @@
-use Rattle.std.proofs.Common.{◌≡◌, ◌⊎◌, Err, ◌+◌, ◌^◌, ◌<◌, ◌++◌, ◌∷◌, [], ℕ, List, length, refl, sym, ◌∙◌, ap, subst, arith}
+use Rattle.std.proofs.Common.{◌≡◌, ◌⊎◌, true, Ok, Err, Some, ◌+◌, ◌^◌, ◌<◌, ◌++◌, ◌∷◌, [], ℕ, List, length, map, inr, refl, sym, ◌∙◌, ap, subst, arith}
 use Rattle.std.specs.List.{flat_map}
 use Rattle.extent_map.specs.declared.extent.Extent as runs
-use Rattle.extent_map.specs.Extents as maps
-use Rattle.extent_map.specs.Extents.{AreAlike}
-use Rattle.extent_map.specs.Taken.{taken_of}
+use Rattle.extent_map.specs.FirstFit.{IsPlanned, IsFull}
 use Rattle.record_bytes.specs.Listing.{listing_of}
 use Rattle.store_terms.specs.declared.root.Root.{Root}
+use Rattle.overlay_terms.specs.Column.{column_count}
+use Rattle.store_terms.specs.Catalog.{Listed, catalog}
+use Rattle.store_terms.specs.Image.{Held}
+use Rattle.store_terms.specs.Places.{all_apart, extents_listed}
 use Rattle.store_terms.specs.Roots.{sequence_max}
 use Rattle.store_terms.specs.StandsFor.{body_at}
+use Rattle.root_reading.specs.Taking.{AllNear}
 use Rattle.commit_plan.specs.declared.fault.StoreFault.{StoreFault}
 use Rattle.commit_plan.specs.declared.fault.StoreFault.TheVariants.{Full, OutOfMemory}
 use Rattle.commit_plan.specs.declared.write.Write.{Write}
 use Rattle.commit_plan.specs.declared.next.Next.{Next}
 use Rattle.commit_plan.specs.Kept.{other}
+use Rattle.commit_plan.specs.Staying.{Standing}
 use Rattle.commit_plan.specs.Filing.{Filed, filed_of}
-use Rattle.extent_map.specs.FirstFit.{IsPlanned, IsFull}
-use Rattle.commit_plan.proofs.Drafts.{room_fault, not_full, passed_error, same_fault}
+use Rattle.commit_plan.proofs.Drafts.{passed_error, same_fault}
 use Rattle.commit_plan.proofs.Short.{catalog_short}
-use Rattle.commit_plan.proofs.Placed.{planned_apart}
-use Rattle.commit_plan.proofs.Completed.{completes, laid_out}
+use Rattle.commit_plan.proofs.Apart.{records_apart, records_near}
+use Rattle.commit_plan.proofs.Completed.{completes, laid_out, only_memory, never_full}
 use Rattle.commit_plan.proofs.completing.completed.Goals as goal
 
 pub returns-clause-ok : goal.returns-clause-ok
-returns-clause-ok c x given limit layers held root there room draft spell number =
+returns-clause-ok c x given limit layers root there room apart draft spell =
+    let image = c.args.image in
+    let value = c.into_parts-number.ensures.value in
     let cat : Filed = record { extent = c.in_ok-catalog.catalog; bytes = c.in_ok-bytes.bytes.items } in
     let d = c.file.new.self in
     let drafted = c.in_ok-catalog.ensures.ok given limit (flat_map filed_of layers) draft in
+    let listing = listing_of c.args.listing.items in
     let next : Next =
     record {
-      root =
-          record { sequence = c.args.root.sequence + 1; version = c.args.number; catalog = c.in_ok-catalog.catalog };
-      room = c.in-Ok.room;
+      root = record {
+        sequence = c.args.root.sequence + 1;
+        version = c.into_parts-number.result.0;
+        catalog = c.in_ok-catalog.catalog;
+      };
+      live = c.in-Ok.live;
       plan = c.push.new.self;
     } in
     let b : Write = record { at = c.args.body; bytes = c.in_ok-from_slice.field-0 } in
-    let alike : AreAlike d.runs.items (taken_of c.in-Ok.room.map) =
-    subst (λ (l : List runs.Extent). AreAlike l
-    (taken_of c.in-Ok.room.map)) c.deref.ensures.value c.in-Ok.ensures.taken in
-    completes x given limit layers held (listing_of c.args.listing.now) cat b d next room drafted spell (record {
-      read = c.in_ok-bytes.ensures.reads_back;
+    let low : limit < 2 ^ 32 = subst (λ (n : ℕ). n < 2 ^ 32) draft.placed.blocks c.args.draft.room.low in
+    completes x given limit layers image listing cat b d next room apart low drafted spell (record {
+      read = c.in_ok-bytes.ensures.reads_back ∙ ap (λ l. Some (listing_of l)) c.deref.ensures.value;
       after = ap (λ (r : Root). r.sequence + 1) (sym root);
       below = subst (λ (r : Root). r.sequence < sequence_max) (sym root) c.requires.below;
-      version = sym number;
+      version = ap (λ (h : Held). h.number) value;
       catalog_is = refl;
       low = omega (arith, c.in_ok-catalog.ensures.within.0);
       small = c.in_ok-catalog.ensures.within.1;
       there = there ∙ ap (λ (r : Root). body_at (other r)) (sym root);
       spelled = c.in_ok-from_slice.ensures.items ∙ c.write_body.ensures.spelled;
-      alike = alike;
+      stands = c.in-Ok.ensures.stands
+          ∙ (λ i. record { listing = listing; layers = (value i).layers; tiles = (value i).tiles });
+      taken = c.in-Ok.ensures.taken;
       plan = c.in_ok-push.ensures.items;
     })
 
 pub returns-in-Err-clause-err : goal.returns-in-Err-clause-err
-returns-in-Err-clause-err c given limit fs draft =
-    let drafted = c.in_ok-catalog.ensures.ok given limit fs draft in
-    let apart : maps.AreApart c.deref.result.now =
-    subst maps.AreApart (sym c.deref.ensures.value)
-    (planned_apart given limit _ c.file.new.self.runs.items drafted.placed.planned) in
-    let is = room_fault c.in-Err.fault (λ overlap. c.in-Err.ensures.overlap (ap Err overlap) apart) in
-    subst (λ (e : StoreFault). (e ≡ Full) ⊎ (e ≡ OutOfMemory)) (sym c.from.ensures) is
+returns-in-Err-clause-err c live given limit layers held draft spell =
+    let cat : Filed = record { extent = c.in_ok-catalog.catalog; bytes = c.in_ok-bytes.bytes.items } in
+    let runs = c.file.new.self.runs.items in
+    let drafted = c.in_ok-catalog.ensures.ok given limit (flat_map filed_of layers) draft in
+    let low : limit < 2 ^ 32 = subst (λ (n : ℕ). n < 2 ^ 32) draft.placed.blocks c.args.draft.room.low in
+    let image = c.args.image in
+    let es = c.in_ok-catalog.catalog ∷ extents_listed (listing_of c.args.listing.items) in
+    let apart : all_apart es ≡ true =
+    subst (λ (ls : List Listed). all_apart (c.in_ok-catalog.catalog ∷ extents_listed ls) ≡ true) spell.listed
+    (records_apart live given limit _ layers cat image.layers image.tiles runs held spell.spelled spell.stored.orderly
+    drafted.placed.planned drafted.runs) in
+    let near : AllNear es =
+    subst (λ (ls : List Listed). AllNear (c.in_ok-catalog.catalog ∷ extents_listed ls)) spell.listed
+    (records_near live given limit _ layers cat image.layers image.tiles runs held spell.spelled low
+    drafted.placed.planned drafted.runs) in
+    inr (c.told.ensures ∙ only_memory c.in-Err.fault es image apart c.in-Err.ensures.errors (c.in-Err.ensures.reads near image))
 
 pub file-requires : goal.file-requires
 file-requires c =
-    let listing = c.args.listing.now in
-    subst (λ (l : List ℕ). length l < 2 ^ 32) (sym c.in_ok-bytes.ensures.spelled)
-    (catalog_short listing c.requires.listable c.requires.few)
+    let spelled = c.in_ok-bytes.ensures.spelled in
+    subst (λ (l : List ℕ). length l < 2 ^ 32) (sym spelled)
+    (subst (λ l. length ((catalog column_count).text (listing_of l)) < 2 ^ 32) (sym c.deref.ensures.value)
+    (catalog_short c.args.listing.items c.requires.listable c.requires.few))
 
 pub returns-clause-placed : goal.returns-clause-placed
 returns-clause-placed c given limit sizes placed =
-    let one = c.in_ok-catalog.ensures.placed given limit sizes placed in (
+    let one = c.in_ok-catalog.ensures.placed given limit sizes placed in
+    let spelled = c.in_ok-bytes.ensures.spelled
+    ∙ ap (λ l. (catalog column_count).text (listing_of l)) c.deref.ensures.value in (
       c.file.new.self.runs.items,
-      subst
-          (λ (l : List ℕ). IsPlanned given limit
-          (sizes ++ length l ∷ []) c.file.new.self.runs.items) c.in_ok-bytes.ensures.spelled one.planned,
+      subst (λ (l : List ℕ). IsPlanned given limit (sizes ++ length l ∷ []) c.file.new.self.runs.items) spelled
+          one.planned,
     )
 
 pub returns-in_err-catalog-clause-full : goal.returns-in_err-catalog-clause-full
 returns-in_err-catalog-clause-full c given limit sizes placed u =
     let full = c.in_err-catalog.ensures.full given limit sizes placed
     (passed_error _ c.from_residual-in_err-catalog.result c.in_err-catalog.field-0.0 Full c.from_residual-in_err-catalog.ensures.1 u) in
-    subst (λ (l : List ℕ). IsFull given limit (sizes ++ length l ∷ [])) c.in_ok-bytes.ensures.spelled full
+    let spelled = c.in_ok-bytes.ensures.spelled
+    ∙ ap (λ l. (catalog column_count).text (listing_of l)) c.deref.ensures.value in
+    subst (λ (l : List ℕ). IsFull given limit (sizes ++ length l ∷ [])) spelled full
 
 pub returns-in-Err-clause-full : goal.returns-in-Err-clause-full
 returns-in-Err-clause-full c given limit sizes placed u =
-    let one = c.in_ok-catalog.ensures.placed given limit sizes placed in
-    let apart : maps.AreApart c.deref.result.now =
-    subst maps.AreApart (sym c.deref.ensures.value)
-    (planned_apart given limit _ c.file.new.self.runs.items one.planned) in
-    absurd (not_full c.in-Err.fault (λ overlap. c.in-Err.ensures.overlap (ap Err overlap) apart)
-    (λ full. c.in-Err.ensures.never (ap Err full)) (sym c.from.ensures ∙ same_fault _ c.from.result Full u))
+    absurd (never_full c.in-Err.fault (sym c.told.ensures ∙ same_fault _ c.told.result Full u))
 
 pub returns-clause-blocks : goal.returns-clause-blocks
 returns-clause-blocks c given limit sizes placed =
     c.in-Ok.ensures.limit ∙ (c.in_ok-catalog.ensures.placed given limit sizes placed).blocks
 
 pub returns-clause-laid : goal.returns-clause-laid
-returns-clause-laid c given limit layers held draft spell =
+returns-clause-laid c live given limit layers draft spell =
     let cat : Filed = record { extent = c.in_ok-catalog.catalog; bytes = c.in_ok-bytes.bytes.items } in
     let d = c.file.new.self in
-    let root : Root = record { sequence = c.args.root.sequence + 1; version = c.args.number; catalog = c.in_ok-catalog.catalog } in
+    let root : Root = record {
+      sequence = c.args.root.sequence + 1;
+      version = c.into_parts-number.result.0;
+      catalog = c.in_ok-catalog.catalog;
+    } in
     let b : Write = record { at = c.args.body; bytes = c.in_ok-from_slice.field-0 } in
-    laid_out given limit layers held (listing_of c.args.listing.now) cat b c.args.body d root c.push.new.self.items
-    (c.in_ok-catalog.ensures.ok given limit (flat_map filed_of layers) draft) spell c.in_ok-bytes.ensures.reads_back refl refl
+    laid_out live given limit layers c.args.image (listing_of c.args.listing.items) cat b c.args.body d root c.push.new.self.items
+    (c.in_ok-catalog.ensures.ok given limit (flat_map filed_of layers) draft) spell
+    (c.in_ok-bytes.ensures.reads_back ∙ ap (λ l. Some (listing_of l)) c.deref.ensures.value) refl refl
     (c.in_ok-from_slice.ensures.items ∙ c.write_body.ensures.spelled) c.in_ok-push.ensures.items
+
+pub returns-clause-number : goal.returns-clause-number
+returns-clause-number c = ap (λ (h : Held). h.number) c.into_parts-number.ensures.value

@@ -1,3 +1,10 @@
+use Rattle.commit_plan.specs.Kept.{extents_in}
+use Rattle.store_terms.specs.Places.{extents_listed}
+use Rattle.commit_plan.specs.Staying.{Standing, standing_of, AreHeldApart}
+use Rattle.commit_plan.specs.Live.{standing}
+use Rattle.commit_plan.specs.Sizes.{new_records}
+use Rattle.commit_plan.proofs.Counted.{records_count}
+use Rattle.commit_plan.proofs.Drafted.{held_in_room}
 use Rattle.std.proofs.Common.{◌≡◌, ◌+◌, [], ◌∷◌, ◌++◌, ℕ, List, length, ap, map, sym, ◌∙◌, subst, arith}
 use Rattle.std.specs.List.{flat_map}
 use Rattle.overlay_terms.specs.Layers.{Layer}
@@ -22,78 +29,87 @@ use Rattle.commit_plan.proofs.Drafts.{passed_error}
 use Rattle.commit_plan.proofs.Sized.{full_more}
 use Rattle.commit_plan.proofs.Roomed.{has_room, has_no_room, catalog_sized}
 use Rattle.commit_plan.specs.Walking.{AreLeft, AreLayersFiled}
-use Rattle.commit_plan.proofs.Walked.{writes_count, records_count}
+use Rattle.commit_plan.proofs.Walked.{writes_count}
 use Rattle.commit_plan.proofs.Imaged.{all_left, spell_of, if_ok}
 use Rattle.commit_plan.proofs.drafting.drafted.Goals as goal
 
 pub file_layers-requires : goal.file_layers-requires
 file_layers-requires c =
-    let image = c.args.image.now in
-    let all = all_left image.layers image.tiles c.number-number.ensures.valid.stored in
+    let image = c.args.image in
+    let live = standing c.args.live.now in
+    let all = all_left image.layers image.tiles c.number.ensures.valid.stored in
     subst (λ (l : List Layer). AreLeft l 0 0 (map finished_of c.tiles.result.now)) (sym c.layers-2.ensures)
     (subst (λ (t : List Finished). AreLeft image.layers 0 0 t) (sym c.tiles.ensures) all)
 
 pub returns-clause-ok : goal.returns-clause-ok
-returns-clause-ok c x root there room =
-    let image = c.args.image.now in
+returns-clause-ok c x root there stands room =
+    let image = c.args.image in
+    let live = standing c.args.live.now in
     let copy = c.in_ok-try_copy.field-0 in
     let d = c.file_layers.new.draft in
     let given = taken_of copy.map in
     let ls = listing_of c.in_ok-listing.listing.items in
     let as_read = c.in_ok-listing.ensures.ok given copy.max_blocks c.new-draft.ensures in
     let in_layers =
-    subst (λ (l : List Layer). AreLayersFiled given copy.max_blocks l
+    subst (λ (l : List Layer). AreLayersFiled live given copy.max_blocks l
     (map finished_of c.tiles.result.now) [] ls d) c.layers-2.ensures as_read in
     let filed = subst
-    (λ (t : List Finished). AreLayersFiled given copy.max_blocks image.layers t [] ls d) c.tiles.ensures in_layers in
+    (λ (t : List Finished). AreLayersFiled live given copy.max_blocks image.layers t [] ls d) c.tiles.ensures in_layers in
     let book : IsBook image.layers = subst IsBook c.layers.ensures c.len.ensures.valid in
-    let spell = spell_of image given copy.max_blocks ls d c.number-number.ensures.valid book filed in
-    let listed : Spell filed.filed (listing_of c.deref.result.now) image =
-    subst (λ (l : List code.Listed). Spell filed.filed (listing_of l) image) (sym c.deref.ensures.value) spell in
-    let mapped : IsMapOf x.extents given =
-    subst (λ (l : List runs.Extent). IsMapOf x.extents l) (sym c.in_ok-try_copy.ensures.taken) room in
-    c.completed.ensures.ok x given copy.max_blocks filed.filed image root there mapped filed.draft listed
-    (sym c.number-number.ensures.value)
+    let spell = spell_of live image given copy.max_blocks ls d c.number.ensures.valid book filed in
+    let mapped : IsMapOf (extents_in x) given =
+    subst (λ (l : List runs.Extent). IsMapOf (extents_in x) l) (sym c.in_ok-try_copy.ensures.taken) room in
+    let own : Spell (standing_of x) filed.filed ls image =
+    subst (λ (s : Standing). Spell s filed.filed ls image) stands spell in
+    let apart = subst (λ (s : Standing). AreHeldApart (extents_listed s.listing) given) stands
+    (held_in_room c.args.live.now given (sym c.in_ok-try_copy.ensures.taken)) in
+    c.completed.ensures.ok x given copy.max_blocks filed.filed root there mapped apart filed.draft own
 
 pub returns-clause-calls : goal.returns-clause-calls
 returns-clause-calls c =
-    let image = c.args.image.now in
+    let image = c.args.image in
+    let live = standing c.args.live.now in
     let copy = c.in_ok-try_copy.field-0 in
     let d = c.file_layers.new.draft in
     let given = taken_of copy.map in
     let ls = listing_of c.in_ok-listing.listing.items in
     let as_read = c.in_ok-listing.ensures.ok given copy.max_blocks c.new-draft.ensures in
     let in_layers =
-    subst (λ (l : List Layer). AreLayersFiled given copy.max_blocks l
+    subst (λ (l : List Layer). AreLayersFiled live given copy.max_blocks l
     (map finished_of c.tiles.result.now) [] ls d) c.layers-2.ensures as_read in
     let filed = subst
-    (λ (t : List Finished). AreLayersFiled given copy.max_blocks image.layers t [] ls d) c.tiles.ensures in_layers in
+    (λ (t : List Finished). AreLayersFiled live given copy.max_blocks image.layers t [] ls d) c.tiles.ensures in_layers in
     let book : IsBook image.layers = subst IsBook c.layers.ensures c.len.ensures.valid in
-    let spell = spell_of image given copy.max_blocks ls d c.number-number.ensures.valid book filed in
+    let spell = spell_of live image given copy.max_blocks ls d c.number.ensures.valid book filed in
     let count = writes_count (flat_map filed_of filed.filed) d.writes.items filed.draft.writes
-    ∙ records_count filed.filed image.layers image.tiles spell.spelled in
+    ∙ records_count live filed.filed image.layers image.tiles spell.spelled in
     if_ok c.completed.result (λ (next : Next). length next.plan.items ≡ length d.writes.items + 2)
-    (λ (next : Next). length next.plan.items ≡ length image.layers + length image.tiles + 2)
+    (λ (next : Next). length next.plan.items ≡ new_records live image + 2)
     (λ next is. omega (arith, is, count)) c.completed.ensures.calls
 
 pub returns-clause-err : goal.returns-clause-err
 returns-clause-err c =
-    let image = c.args.image.now in
+    let image = c.args.image in
+    let live = standing c.args.live.now in
     let copy = c.in_ok-try_copy.field-0 in
     let d = c.file_layers.new.draft in
     let given = taken_of copy.map in
     let ls = listing_of c.in_ok-listing.listing.items in
     let as_read = c.in_ok-listing.ensures.ok given copy.max_blocks c.new-draft.ensures in
     let in_layers =
-    subst (λ (l : List Layer). AreLayersFiled given copy.max_blocks l
+    subst (λ (l : List Layer). AreLayersFiled live given copy.max_blocks l
     (map finished_of c.tiles.result.now) [] ls d) c.layers-2.ensures as_read in
     let filed = subst
-    (λ (t : List Finished). AreLayersFiled given copy.max_blocks image.layers t [] ls d) c.tiles.ensures in_layers in
-    c.completed.ensures.err given copy.max_blocks (flat_map filed_of filed.filed) filed.draft
+    (λ (t : List Finished). AreLayersFiled live given copy.max_blocks image.layers t [] ls d) c.tiles.ensures in_layers in
+    let book : IsBook image.layers = subst IsBook c.layers.ensures c.len.ensures.valid in
+    let spell = spell_of live image given copy.max_blocks ls d c.number.ensures.valid book filed in
+    c.completed.ensures.err live given copy.max_blocks filed.filed
+    (held_in_room c.args.live.now given (sym c.in_ok-try_copy.ensures.taken)) filed.draft spell
 
 pub returns-in_err-listing-clause-full : goal.returns-in_err-listing-clause-full
 returns-in_err-listing-clause-full c u =
-    let image = c.args.image.now in
+    let image = c.args.image in
+    let live = standing c.args.live.now in
     let copy = c.in_ok-try_copy.field-0 in
     let tiles = c.tiles.result.now in
     let given = taken_of copy.map in
@@ -101,14 +117,15 @@ returns-in_err-listing-clause-full c u =
     let full = c.in_err-listing.ensures.full given limit c.new-draft.ensures.placed
     (passed_error _ c.from_residual-in_err-listing.result c.in_err-listing.field-0.0 Full c.from_residual-in_err-listing.ensures.1 u) in
     let in_layers =
-    subst (λ (l : List Layer). IsFull given limit (flat_map (sizes_of_layer tiles) l)) c.layers-2.ensures full in
-    has_no_room c.args.room.now copy image tiles c.tiles.ensures c.in_ok-try_copy.ensures.taken c.in_ok-try_copy.ensures.limit
-    (full_more given limit (flat_map (sizes_of_layer tiles) image.layers)
+    subst (λ (l : List Layer). IsFull given limit (flat_map (sizes_of_layer live tiles) l)) c.layers-2.ensures full in
+    has_no_room c.args.live.now copy image tiles c.tiles.ensures c.in_ok-try_copy.ensures.taken c.in_ok-try_copy.ensures.limit
+    (full_more given limit (flat_map (sizes_of_layer live tiles) image.layers)
     (catalog_size image.layers (length tiles) ∷ []) in_layers)
 
 pub returns-clause-room : goal.returns-clause-room
 returns-clause-room c =
-    let image = c.args.image.now in
+    let image = c.args.image in
+    let live = standing c.args.live.now in
     let copy = c.in_ok-try_copy.field-0 in
     let tiles = c.tiles.result.now in
     let given = taken_of copy.map in
@@ -118,29 +135,27 @@ returns-clause-room c =
     let ls = listing_of listing in
     let as_read = c.in_ok-listing.ensures.ok given limit c.new-draft.ensures in
     let in_layers =
-    subst (λ (l : List Layer). AreLayersFiled given limit l
+    subst (λ (l : List Layer). AreLayersFiled live given limit l
     (map finished_of tiles) [] ls d) c.layers-2.ensures as_read in
     let filed = subst
-    (λ (t : List Finished). AreLayersFiled given limit image.layers t [] ls d) c.tiles.ensures in_layers in
-    let sizes = flat_map (sizes_of_layer tiles) image.layers in
+    (λ (t : List Finished). AreLayersFiled live given limit image.layers t [] ls d) c.tiles.ensures in_layers in
+    let sizes = flat_map (sizes_of_layer live tiles) image.layers in
     let placed = subst
-    (λ (l : List Layer). ArePlaced given limit (flat_map (sizes_of_layer tiles) l) d) c.layers-2.ensures
+    (λ (l : List Layer). ArePlaced given limit (flat_map (sizes_of_layer live tiles) l) d) c.layers-2.ensures
     (c.in_ok-listing.ensures.taken given limit c.new-draft.ensures.placed) in
     let listable = c.in_ok-listing.ensures.listable in
-    let whole = catalog_sized image tiles given limit listing d c.tiles.ensures filed listable in
-    let read = ap
-    (λ (l : List code.Listed). sizes
-    ++ length ((catalog column_count).text (listing_of l)) ∷ []) c.deref.ensures.value in
+    let whole = catalog_sized live image tiles given limit listing d c.tiles.ensures filed listable in
     if_ok c.completed.result
     (λ _. ArePlanned given limit
-    (sizes ++ length ((catalog column_count).text (listing_of c.deref.result.now)) ∷ []))
-    (λ _. HasRoom c.args.room.now image)
-    (λ next planned. has_room c.args.room.now copy image tiles c.tiles.ensures c.in_ok-try_copy.ensures.taken c.in_ok-try_copy.ensures.limit (subst (ArePlanned given limit) (read ∙ whole) planned))
+    (sizes ++ length ((catalog column_count).text (listing_of listing)) ∷ []))
+    (λ _. HasRoom c.args.live.now image)
+    (λ next planned. has_room c.args.live.now copy image tiles c.tiles.ensures c.in_ok-try_copy.ensures.taken c.in_ok-try_copy.ensures.limit (subst (ArePlanned given limit) whole planned))
     (c.completed.ensures.placed given limit sizes placed)
 
 pub returns-clause-full : goal.returns-clause-full
 returns-clause-full c u =
-    let image = c.args.image.now in
+    let image = c.args.image in
+    let live = standing c.args.live.now in
     let copy = c.in_ok-try_copy.field-0 in
     let tiles = c.tiles.result.now in
     let given = taken_of copy.map in
@@ -150,54 +165,51 @@ returns-clause-full c u =
     let ls = listing_of listing in
     let as_read = c.in_ok-listing.ensures.ok given limit c.new-draft.ensures in
     let in_layers =
-    subst (λ (l : List Layer). AreLayersFiled given limit l
+    subst (λ (l : List Layer). AreLayersFiled live given limit l
     (map finished_of tiles) [] ls d) c.layers-2.ensures as_read in
     let filed = subst
-    (λ (t : List Finished). AreLayersFiled given limit image.layers t [] ls d) c.tiles.ensures in_layers in
-    let sizes = flat_map (sizes_of_layer tiles) image.layers in
+    (λ (t : List Finished). AreLayersFiled live given limit image.layers t [] ls d) c.tiles.ensures in_layers in
+    let sizes = flat_map (sizes_of_layer live tiles) image.layers in
     let placed = subst
-    (λ (l : List Layer). ArePlaced given limit (flat_map (sizes_of_layer tiles) l) d) c.layers-2.ensures
+    (λ (l : List Layer). ArePlaced given limit (flat_map (sizes_of_layer live tiles) l) d) c.layers-2.ensures
     (c.in_ok-listing.ensures.taken given limit c.new-draft.ensures.placed) in
     let listable = c.in_ok-listing.ensures.listable in
-    let whole = catalog_sized image tiles given limit listing d c.tiles.ensures filed listable in
-    let read = ap
-    (λ (l : List code.Listed). sizes
-    ++ length ((catalog column_count).text (listing_of l)) ∷ []) c.deref.ensures.value in
-    has_no_room c.args.room.now copy image tiles c.tiles.ensures c.in_ok-try_copy.ensures.taken c.in_ok-try_copy.ensures.limit
-    (subst (IsFull given limit) (read ∙ whole) (c.completed.ensures.full given limit sizes placed u))
+    let whole = catalog_sized live image tiles given limit listing d c.tiles.ensures filed listable in
+    has_no_room c.args.live.now copy image tiles c.tiles.ensures c.in_ok-try_copy.ensures.taken c.in_ok-try_copy.ensures.limit
+    (subst (IsFull given limit) whole (c.completed.ensures.full given limit sizes placed u))
 
 pub returns-clause-blocks : goal.returns-clause-blocks
 returns-clause-blocks c =
-    let room = c.args.room.now in
+    let live = standing c.args.live.now in
+    let room = c.args.live.now.room in
     let copy = c.in_ok-try_copy.field-0 in
     let placed = c.in_ok-listing.ensures.taken (taken_of copy.map) copy.max_blocks c.new-draft.ensures.placed in
-    if_ok c.completed.result (λ (next : Next). limit_of next.room.map ≡ copy.max_blocks)
-    (λ (next : Next). limit_of next.room.map ≡ limit_of room.map)
+    if_ok c.completed.result (λ (next : Next). limit_of next.live.room.map ≡ copy.max_blocks)
+    (λ (next : Next). limit_of next.live.room.map ≡ limit_of room.map)
     (λ next is. is ∙ c.in_ok-try_copy.ensures.limit ∙ sym room.limit)
     (c.completed.ensures.blocks (taken_of copy.map) copy.max_blocks
-    (flat_map (sizes_of_layer c.tiles.result.now) c.layers-2.result.now) placed)
+    (flat_map (sizes_of_layer live c.tiles.result.now) c.layers-2.result.now) placed)
 
 pub returns-clause-laid : goal.returns-clause-laid
 returns-clause-laid c =
-    let image = c.args.image.now in
-    let room = c.args.room.now in
+    let image = c.args.image in
+    let live = standing c.args.live.now in
+    let room = c.args.live.now.room in
     let copy = c.in_ok-try_copy.field-0 in
     let d = c.file_layers.new.draft in
     let given = taken_of copy.map in
     let ls = listing_of c.in_ok-listing.listing.items in
     let as_read = c.in_ok-listing.ensures.ok given copy.max_blocks c.new-draft.ensures in
     let in_layers =
-    subst (λ (l : List Layer). AreLayersFiled given copy.max_blocks l
+    subst (λ (l : List Layer). AreLayersFiled live given copy.max_blocks l
     (map finished_of c.tiles.result.now) [] ls d) c.layers-2.ensures as_read in
     let filed = subst
-    (λ (t : List Finished). AreLayersFiled given copy.max_blocks image.layers t [] ls d) c.tiles.ensures in_layers in
+    (λ (t : List Finished). AreLayersFiled live given copy.max_blocks image.layers t [] ls d) c.tiles.ensures in_layers in
     let book : IsBook image.layers = subst IsBook c.layers.ensures c.len.ensures.valid in
-    let spell = spell_of image given copy.max_blocks ls d c.number-number.ensures.valid book filed in
-    let listed : Spell filed.filed (listing_of c.deref.result.now) image =
-    subst (λ (l : List code.Listed). Spell filed.filed (listing_of l) image) (sym c.deref.ensures.value) spell in
-    let laid = c.completed.ensures.laid given copy.max_blocks filed.filed image filed.draft listed in
+    let spell = spell_of live image given copy.max_blocks ls d c.number.ensures.valid book filed in
+    let laid = c.completed.ensures.laid live given copy.max_blocks filed.filed filed.draft spell in
     if_ok c.completed.result
-    (λ (next : Next). IsLaidOut given copy.max_blocks image c.args.body next.root next.plan.items)
-    (λ (next : Next). IsLaidOut (taken_of room.map) room.max_blocks image c.args.body next.root next.plan.items)
-    (λ (next : Next) is. subst (λ (l : List runs.Extent). IsLaidOut l room.max_blocks image c.args.body next.root next.plan.items) c.in_ok-try_copy.ensures.taken
-    (subst (λ (n : ℕ). IsLaidOut given n image c.args.body next.root next.plan.items) c.in_ok-try_copy.ensures.limit is)) laid
+    (λ (next : Next). IsLaidOut live given copy.max_blocks image c.args.body next.root next.plan.items)
+    (λ (next : Next). IsLaidOut live (taken_of room.map) room.max_blocks image c.args.body next.root next.plan.items)
+    (λ (next : Next) is. subst (λ (l : List runs.Extent). IsLaidOut live l room.max_blocks image c.args.body next.root next.plan.items) c.in_ok-try_copy.ensures.taken
+    (subst (λ (n : ℕ). IsLaidOut live given n image c.args.body next.root next.plan.items) c.in_ok-try_copy.ensures.limit is)) laid

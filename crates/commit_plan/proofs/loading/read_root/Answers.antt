@@ -8,8 +8,8 @@ use Rattle.store_terms.specs.declared.damage.Damage.{Damage}
 use Rattle.store_terms.specs.Catalog.{Listed}
 use Rattle.store_terms.specs.Places.{extents_listed}
 use Rattle.store_terms.specs.Image.{Held, listing_of, layers_of, held_of}
-use Rattle.store_terms.specs.Frame.{listed_extents}
 use Rattle.root_reading.specs.Looking.{Refuses}
+use Rattle.commit_plan.specs.Staying.{Standing}
 use Rattle.commit_plan.specs.Loading.{held_in}
 use Rattle.root_reading.specs.Taking.{IsMapOf}
 use Rattle.root_reading.specs.Taking.{AllNear}
@@ -18,32 +18,33 @@ use Rattle.root_reading.proofs.NearLemmas.{near_catalog, near_layers}
 use Rattle.commit_plan.proofs.HeldLemmas.{held_steps}
 use Rattle.commit_plan.proofs.loading.read_root.Goals as goal
 
-pub returns-in_err-room-clause-gives : goal.returns-in_err-room-clause-gives
-returns-in_err-room-clause-gives g c honest short =
+pub returns-in_err-live-clause-gives : goal.returns-in_err-live-clause-gives
+returns-in_err-live-clause-gives g c honest short =
     let k = g.D.Disk in
     let file = k.seen c.args.disk.now in
     let root = c.args.root in
     let looks1 = c.listing_at.ensures.looks honest in
-    let ls = listings.listing_of c.as_slice-listed.result.now in
+    let ls = listings.listing_of c.in_ok-listing.listing.items in
     let x : List Layer × List Finished =
     (c.in_ok-content.content.layers, map finished_of c.in_ok-content.content.tiles.items) in
     let listing : listing_of file root ≡ Ok ls =
-    c.in_ok-listing.ensures.gives honest
-    ∙ ap (λ l. Ok (listings.listing_of l)) (sym c.as_slice-listed.ensures.value) in
+    c.in_ok-listing.ensures.gives honest in
     let layers : layers_of file [] ls ≡ Ok x =
-    subst (λ (f : List ℕ). layers_of f [] ls ≡ Ok x) looks1.seen (c.in_ok-content.ensures.gives looks1.honest) in
+    subst (λ (f : List ℕ). layers_of f [] ls ≡ Ok x) looks1.seen
+    (subst (λ l. layers_of (k.seen c.listing_at.new.disk) [] (listings.listing_of l) ≡ Ok x) c.deref.ensures.value
+    (c.in_ok-content.ensures.gives looks1.honest)) in
     let near : AllNear (root.catalog ∷ extents_listed ls) =
     (near_catalog file short root ls listing, near_layers file short [] ls x layers) in
     let held : Held = record { number = root.version; layers = x.0; tiles = x.1 } in
-    gives_err held_in c.from_residual-in_err-room.result c.in_err-room.field-0.0
-    (held_of file root) c.from_residual-in_err-room.ensures.1
-    (subst (Refuses c.in_err-room.field-0.0) (sym (held_steps file root ls x listing layers))
-    (c.in_err-room.ensures.reads near held))
+    gives_err held_in c.from_residual-in_err-live.result c.in_err-live.field-0.0
+    (held_of file root) c.from_residual-in_err-live.ensures.1
+    (subst (Refuses c.in_err-live.field-0.0) (sym (held_steps file root ls x listing layers))
+    (c.in_err-live.ensures.reads near held))
 
-pub returns-in_err-room-clause-cause : goal.returns-in_err-room-clause-cause
-returns-in_err-room-clause-cause g c honest =
+pub returns-in_err-live-clause-cause : goal.returns-in_err-live-clause-cause
+returns-in_err-live-clause-cause g c honest =
     let looks1 = c.listing_at.ensures.looks honest in
-    causes_still c.from_residual-in_err-room.result c.in_err-room.field-0.0 _ _ c.from_residual-in_err-room.ensures.1 c.in_err-room.ensures.errors
+    causes_still c.from_residual-in_err-live.result c.in_err-live.field-0.0 _ _ c.from_residual-in_err-live.ensures.1 c.in_err-live.ensures.errors
     (c.in_ok-content.ensures.cause looks1.honest ∙ c.in_ok-listing.ensures.cause honest)
 
 pub returns-clause-gives : goal.returns-clause-gives
@@ -52,18 +53,19 @@ returns-clause-gives g c honest short =
     let file = k.seen c.args.disk.now in
     let root = c.args.root in
     let looks1 = c.listing_at.ensures.looks honest in
-    let ls = listings.listing_of c.as_slice-listed.result.now in
+    let ls = listings.listing_of c.in_ok-listing.listing.items in
     let x : List Layer × List Finished =
     (c.in_ok-content.content.layers, map finished_of c.in_ok-content.content.tiles.items) in
     let listing : listing_of file root ≡ Ok ls =
-    c.in_ok-listing.ensures.gives honest
-    ∙ ap (λ l. Ok (listings.listing_of l)) (sym c.as_slice-listed.ensures.value) in
+    c.in_ok-listing.ensures.gives honest in
     let layers : layers_of file [] ls ≡ Ok x =
-    subst (λ (f : List ℕ). layers_of f [] ls ≡ Ok x) looks1.seen (c.in_ok-content.ensures.gives looks1.honest) in
+    subst (λ (f : List ℕ). layers_of f [] ls ≡ Ok x) looks1.seen
+    (subst (λ l. layers_of (k.seen c.listing_at.new.disk) [] (listings.listing_of l) ≡ Ok x) c.deref.ensures.value
+    (c.in_ok-content.ensures.gives looks1.honest)) in
     let near : AllNear (root.catalog ∷ extents_listed ls) =
     (near_catalog file short root ls listing, near_layers file short [] ls x layers) in
     let held : Held = record { number = root.version; layers = x.0; tiles = x.1 } in
-    held_steps file root ls x listing layers ∙ c.in_ok-room.ensures.reads near held
+    held_steps file root ls x listing layers ∙ c.in_ok-live.ensures.reads near held
 
 pub returns-clause-room : goal.returns-clause-room
 returns-clause-room g c honest short =
@@ -71,18 +73,19 @@ returns-clause-room g c honest short =
     let file = k.seen c.args.disk.now in
     let root = c.args.root in
     let looks1 = c.listing_at.ensures.looks honest in
-    let ls = listings.listing_of c.as_slice-listed.result.now in
+    let ls = listings.listing_of c.in_ok-listing.listing.items in
     let x : List Layer × List Finished =
     (c.in_ok-content.content.layers, map finished_of c.in_ok-content.content.tiles.items) in
     let listing : listing_of file root ≡ Ok ls =
-    c.in_ok-listing.ensures.gives honest
-    ∙ ap (λ l. Ok (listings.listing_of l)) (sym c.as_slice-listed.ensures.value) in
+    c.in_ok-listing.ensures.gives honest in
     let layers : layers_of file [] ls ≡ Ok x =
-    subst (λ (f : List ℕ). layers_of f [] ls ≡ Ok x) looks1.seen (c.in_ok-content.ensures.gives looks1.honest) in
+    subst (λ (f : List ℕ). layers_of f [] ls ≡ Ok x) looks1.seen
+    (subst (λ l. layers_of (k.seen c.listing_at.new.disk) [] (listings.listing_of l) ≡ Ok x) c.deref.ensures.value
+    (c.in_ok-content.ensures.gives looks1.honest)) in
     let near : AllNear (root.catalog ∷ extents_listed ls) =
     (near_catalog file short root ls listing, near_layers file short [] ls x layers) in
-    subst (λ (l : Result (List Listed) Damage). IsMapOf (root.catalog ∷ listed_extents l)
-    (taken_of c.in_ok-room.room.map)) (sym listing) (c.in_ok-room.ensures.taken near)
+    subst (λ (l : List Listed). IsMapOf (root.catalog ∷ extents_listed l) (taken_of c.in_ok-live.live.room.map))
+    (sym (ap (λ (s : Standing). s.listing) c.in_ok-live.ensures.stands)) (c.in_ok-live.ensures.taken near)
 
 pub returns-in_err-content-clause-looks : goal.returns-in_err-content-clause-looks
 returns-in_err-content-clause-looks g c honest =
@@ -90,8 +93,8 @@ returns-in_err-content-clause-looks g c honest =
     let looks1 = c.listing_at.ensures.looks honest in
     looks_on k c.args.disk.now c.listing_at.new.disk c.content_of.new.disk looks1 (c.content_of.ensures.looks looks1.honest)
 
-pub returns-in_err-room-clause-looks : goal.returns-in_err-room-clause-looks
-returns-in_err-room-clause-looks g c honest =
+pub returns-in_err-live-clause-looks : goal.returns-in_err-live-clause-looks
+returns-in_err-live-clause-looks g c honest =
     let k = g.D.Disk in
     let looks1 = c.listing_at.ensures.looks honest in
     looks_on k c.args.disk.now c.listing_at.new.disk c.content_of.new.disk looks1 (c.content_of.ensures.looks looks1.honest)
@@ -107,3 +110,17 @@ returns-clause-looks g c honest =
     let k = g.D.Disk in
     let looks1 = c.listing_at.ensures.looks honest in
     looks_on k c.args.disk.now c.listing_at.new.disk c.content_of.new.disk looks1 (c.content_of.ensures.looks looks1.honest)
+
+pub returns-clause-listing : goal.returns-clause-listing
+returns-clause-listing g c honest =
+    c.in_ok-listing.ensures.gives honest
+    ∙ ap (λ (l : List Listed). Ok l) (sym (ap (λ (s : Standing). s.listing) c.in_ok-live.ensures.stands))
+
+pub returns-clause-stands : goal.returns-clause-stands
+returns-clause-stands g c =
+    let stands = c.in_ok-live.ensures.stands in
+    λ i. record {
+      listing = listings.listing_of c.in_ok-live.live.listing.items;
+      layers = (stands i).layers;
+      tiles = (stands i).tiles;
+    }

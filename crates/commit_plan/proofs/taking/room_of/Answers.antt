@@ -4,6 +4,7 @@ use Rattle.record_bytes.specs.Listing.{listing_of}
 use Rattle.store_terms.specs.Places.{extents_listed}
 use Rattle.root_reading.specs.Taking.{AreRunsFor}
 use Rattle.root_reading.proofs.TakingLemmas.{room_taken, room_apart, room_overlap}
+use Rattle.commit_plan.proofs.HeldApart.{held_apart}
 use Rattle.commit_plan.proofs.taking.room_of.Goals as goal
 
 pub returns-in-Ok-clause-taken : goal.returns-in-Ok-clause-taken
@@ -24,3 +25,10 @@ returns-in-Err-Overlap-clause-reads c near held =
     let overlap = rw c.in-Err-Overlap.field-0-is at c.in-Err-Overlap.ensures.overlap in
     room_overlap es c.deref.result.now held near
     (subst (AreRunsFor es) (sym c.deref.ensures.value) c.in_ok-runs.ensures) (overlap refl)
+
+pub returns-in-Ok-clause-apart : goal.returns-in-Ok-clause-apart
+returns-in-Ok-clause-apart c =
+    let es = extents_listed (listing_of c.args.listing.now) in
+    held_apart c.args.catalog es c.deref.result.now (taken_of c.in-Ok.room.map)
+    (subst (AreRunsFor (c.args.catalog ∷ es)) (sym c.deref.ensures.value) c.in_ok-runs.ensures) (c.in-Ok.ensures.apart refl)
+    c.in-Ok.ensures.taken

@@ -1,8 +1,7 @@
 use Rattle.std.proofs.Common.{◌≡◌, ◌<◌, true, inl, inr, refl, sym, ◌∙◌, rules, arith}
 use Rattle.store_terms.specs.StandsFor.{reading}
-use Rattle.root_store.specs.Healing.{kept_of}
 use Rattle.store_terms.specs.Roots.{sequence_max}
-use Rattle.commit_plan.specs.Loading.{held_in}
+use Rattle.commit_plan.specs.Loading.{kept_in}
 use Rattle.root_reading.specs.declared.load_fault.LoadFault.{LoadFault}
 use Rattle.root_reading.specs.declared.load_fault.LoadFault.TheVariants.{Device, OutOfMemory}
 use Rattle.root_store.specs.Opening.{HasRoot, Stops, Untouched}
@@ -36,9 +35,9 @@ returns-in_err-heal-clause-loads g c honest =
     let x = c.in_ok-loaded.loaded in
     let alone : c.in_ok-loaded.is_alone ≡ true = search rules in
     let settled = shuts k old mid x c.in_ok-loaded.is_alone (r.run honest) (r.read honest) (r.gives honest) alone in
-    let heals = c.heal.ensures.heals (r.honest.1 honest) (kept_of (k.seen old) x.root (held_in x)) refl settled in
+    let heals = c.heal.ensures.heals (r.honest.1 honest) (kept_in x) refl settled in
     let still = (c.in_err-heal.ensures.heals (r.honest.1 honest)
-    (kept_of (k.seen old) x.root (held_in x)) refl settled).err in
+    (kept_in x) refl settled).err in
     failed_loads k old mid x c.in_ok-loaded.is_alone (r.run honest) (r.read honest)
     (r.gives honest) c.heal.new.disk c.heal.result heals c.in_err-heal.field-0.0 c.from_residual-in_err-heal.result
     c.from_residual-in_err-heal.ensures.1
@@ -53,9 +52,9 @@ returns-clause-loads g c honest =
     let x = c.in_ok-loaded.loaded in
     let alone : c.in_ok-loaded.is_alone ≡ true = search rules in
     let settled = shuts k old mid x c.in_ok-loaded.is_alone (r.run honest) (r.read honest) (r.gives honest) alone in
-    let heals = c.heal.ensures.heals (r.honest.1 honest) (kept_of (k.seen old) x.root (held_in x)) refl settled in
+    let heals = c.heal.ensures.heals (r.honest.1 honest) (kept_in x) refl settled in
     let rest = (c.in_ok-heal.ensures.heals (r.honest.1 honest)
-    (kept_of (k.seen old) x.root (held_in x)) refl settled).ok in
+    (kept_in x) refl settled).ok in
     healed_loads k old mid x c.in_ok-loaded.is_alone (r.run honest) (r.read honest)
     (r.gives honest) c.heal.new.disk c.heal.result heals rest
 
@@ -128,10 +127,10 @@ returns-in_err-heal-clause-stops g c honest =
     let x = c.in_ok-loaded.loaded in
     let alone : c.in_ok-loaded.is_alone ≡ true = search rules in
     let settled = shuts k old mid x c.in_ok-loaded.is_alone (r.run honest) (r.read honest) (r.gives honest) alone in
-    let heals = c.heal.ensures.heals (r.honest.1 honest) (kept_of (k.seen old) x.root (held_in x)) refl settled in
+    let heals = c.heal.ensures.heals (r.honest.1 honest) (kept_in x) refl settled in
     if_err c.from_residual-in_err-heal.result c.in_err-heal.field-0.0
     (λ (e : LoadFault). Stops k old (e ≡ Device) new) c.from_residual-in_err-heal.ensures.1
-    (inr (phases_healed k old mid new x.root (held_in x) (r.gives honest) (r.phases honest) heals.run))
+    (inr (phases_healed k old mid new (kept_in x) (r.gives honest) (r.phases honest) heals.run))
 
 pub returns-clause-phases : goal.returns-clause-phases
 returns-clause-phases g c honest =
@@ -142,5 +141,5 @@ returns-clause-phases g c honest =
     let x = c.in_ok-loaded.loaded in
     let alone : c.in_ok-loaded.is_alone ≡ true = search rules in
     let settled = shuts k old mid x c.in_ok-loaded.is_alone (r.run honest) (r.read honest) (r.gives honest) alone in
-    let heals = c.heal.ensures.heals (r.honest.1 honest) (kept_of (k.seen old) x.root (held_in x)) refl settled in
-    phases_healed k old mid c.heal.new.disk x.root (held_in x) (r.gives honest) (r.phases honest) heals.run
+    let heals = c.heal.ensures.heals (r.honest.1 honest) (kept_in x) refl settled in
+    phases_healed k old mid c.heal.new.disk (kept_in x) (r.gives honest) (r.phases honest) heals.run

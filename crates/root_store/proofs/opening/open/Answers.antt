@@ -2,6 +2,7 @@ use Rattle.std.proofs.Common.{refl, sym, ◌∙◌, ap, Ok}
 use Rattle.store_terms.specs.StandsFor.{reading}
 use Rattle.store_terms.specs.Image.{Held}
 use Rattle.root_store.proofs.OpeningLemmas.{stops_told, tells_of, failed_of, memory_of}
+use Rattle.commit_plan.specs.Loading.{kept_in}
 use Rattle.root_store.specs.Opening.{fault_of}
 use Rattle.root_store.proofs.opening.open.Goals as goal
 
@@ -12,15 +13,15 @@ pub returns-in-Ok-clause-ok : goal.returns-in-Ok-clause-ok
 returns-in-Ok-clause-ok g c honest =
     let l = c.in-Ok.ensures.loads honest in
     let k = l.ok in (
-      k.0,
-      k.2 ∙ sym c.new-image.ensures,
+      kept_in c.in-Ok.loaded,
+      sym c.new-image.ensures,
       record {
         honest = l.honest;
         idle = refl;
-        root = sym k.1;
-        room = k.3;
-        leaves =
-            k.4;
+        root = refl;
+        holds = c.in-Ok.ensures.stands;
+        room = k.0;
+        leaves = k.1;
       },
       l.run,
     )

@@ -1,16 +1,13 @@
 use Rattle.std.proofs.Common.{inl, inr, ◌≡◌, ◌<◌, ◌^◌, length, List, ℕ, Ok, sym, ◌∙◌, ap, subst}
 use Rattle.store_terms.specs.StandsFor.{root_of, reading}
-use Rattle.store_terms.specs.Image.{held_of}
-use Rattle.store_terms.specs.Frame.{extents_of}
-use Rattle.extent_map.specs.Taken.{taken_of}
+use Rattle.store_terms.specs.Image.{listing_of, held_of}
 use Rattle.root_store.specs.Finding.{has_shut_gate}
 use Rattle.root_reading.specs.Looking.{Refuses}
 use Rattle.root_reading.specs.declared.load_fault.LoadFault.{LoadFault}
 use Rattle.root_reading.specs.declared.load_fault.LoadFault.TheVariants.{Device, OutOfMemory}
 use Rattle.root_store.specs.Opening.{HasRoot, Stops}
-use Rattle.root_reading.specs.Taking.{IsMapOf}
 use Rattle.root_reading.proofs.Looked.{gives_err, refuses_bound, refuses_device, looks_on, if_err}
-use Rattle.commit_plan.specs.Loading.{held_in}
+use Rattle.commit_plan.specs.Loading.{held_in, kept_in}
 use Rattle.root_store.proofs.OpeningLemmas.{reading_root, phases_read}
 use Rattle.root_store.proofs.opening.read_store.Goals as goal
 
@@ -113,9 +110,10 @@ returns-clause-read g c honest =
       root = subst (λ (f : List ℕ). root_of f ≡ Ok first) looks1.seen (c.in_ok-root.ensures.gives looks1.honest)
           ∙ ap Ok same;
       alone = c.in_ok-root.ensures.alone looks1.honest ∙ ap has_shut_gate looks1.seen;
-      room = subst (λ r. IsMapOf (extents_of file r) (taken_of x.room.map)) same
-          (subst (λ (f : List ℕ). IsMapOf (extents_of f first) (taken_of x.room.map)) looks2.seen
-          (c.in_ok-loaded.ensures.room looks2.honest short));
+      listing = subst (λ r. listing_of file r ≡ Ok (kept_in x).listing) same
+          (subst (λ (f : List ℕ). listing_of f first ≡ Ok (kept_in x).listing) looks2.seen
+          (c.in_ok-loaded.ensures.listing looks2.honest));
+      room = c.in_ok-loaded.ensures.room looks2.honest short;
     }
 
 pub returns-in_err-root-clause-seen : goal.returns-in_err-root-clause-seen

@@ -8,13 +8,13 @@ use Rattle.root_store.proofs.commit.Commit.begin.Goals as goal
 pub returns-in-Some-clause-errors : goal.returns-in-Some-clause-errors
 returns-in-Some-clause-errors g c =
     let s = c.args.self.now in
-    refused_so s.phase s.root (HasNoRoom s.room c.args.image) c.in-Some.fault c.in-Some.ensures.reason
+    refused_so s.phase s.root (HasNoRoom s.live c.args.image) c.in-Some.fault c.in-Some.ensures.reason
 
 pub returns-in_err-next-clause-errors : goal.returns-in_err-next-clause-errors
 returns-in_err-next-clause-errors g c =
     let s = c.args.self.now in
     let x = c.in_err-next.field-0.0 in
-    let no_room = HasNoRoom s.room c.args.image in
+    let no_room = HasNoRoom s.live c.args.image in
     passed_on (IsReason s.phase s.root no_room) c.from_residual.result x c.from_residual.ensures.1
     (no_room_or_memory Next s.phase s.root no_room x c.in_err-next.ensures.err c.in_err-next.ensures.full)
 

@@ -9,6 +9,7 @@ returns-clause-begun g c x held stands below next = (
     honest = stands.honest;
     root = stands.root;
     next_root = next.root;
+    next_holds = next.stands;
     next_room = next.room;
     before = (
       (λ f left. calm_rest x f below (stands.leaves f left)),

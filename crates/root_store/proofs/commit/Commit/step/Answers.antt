@@ -2,10 +2,11 @@ use Rattle.std.proofs.Common.{◌≡◌, length, drop, List, [], ◌∷◌, ℕ,
 use Rattle.disk_model.specs.Disk.{Torn, Holds, OneStepOn}
 use Rattle.root_store.specs.declared.phase.Phase.{Phase}
 use Rattle.store_terms.specs.StandsFor.{gate_at}
-use Rattle.commit_plan.specs.Kept.{other, Either, Rest, Shut, Ready}
+use Rattle.commit_plan.specs.Kept.{extents_in, other, Either, Rest, Shut, Ready}
 use Rattle.root_store.specs.Running.{Before}
 use Rattle.root_reading.specs.Taking.{IsMapOf}
-use Rattle.commit_plan.specs.declared.room.Room.{Room}
+use Rattle.commit_plan.specs.declared.live_records.LiveRecords.{LiveRecords}
+use Rattle.commit_plan.specs.Live.{standing}
 use Rattle.extent_map.specs.Taken.{taken_of, limit_of}
 use Rattle.commit_plan.specs.Planning.{Leads}
 use Rattle.store_terms.specs.declared.root.Root.{Root}
@@ -151,8 +152,8 @@ returns-in_ok-write_at-in-Close-clause-moves g c x y runs =
             honest = w.honest.1 runs.honest;
             root = runs.root;
             next_root = runs.next_root;
-            next_room =
-                runs.next_room;
+            next_holds = runs.next_holds;
+            next_room = runs.next_room;
             before = (all, shown, b.1, b.2);
           };
       err = tt;
@@ -183,8 +184,8 @@ returns-in_ok-sync-in-Settle-clause-moves g c x y runs =
             honest = w.honest.1 runs.honest;
             root = runs.root;
             next_root = runs.next_root;
-            next_room =
-                runs.next_room;
+            next_holds = runs.next_holds;
+            next_room = runs.next_room;
             before = (all, leads, b.3);
           };
       err = tt;
@@ -223,8 +224,8 @@ returns-in_ok-write_at-in-Put-clause-moves g c x y runs =
             honest = w.honest.1 runs.honest;
             root = runs.root;
             next_root = runs.next_root;
-            next_room =
-                runs.next_room;
+            next_holds = runs.next_holds;
+            next_room = runs.next_room;
             before = (shut, leads, spares.1);
           };
       err = tt;
@@ -252,8 +253,8 @@ returns-in_ok-sync-in-Put-clause-moves g c x y runs =
             honest = w.honest.1 runs.honest;
             root = runs.root;
             next_root = runs.next_root;
-            next_room =
-                runs.next_room;
+            next_holds = runs.next_holds;
+            next_room = runs.next_room;
             before = all;
           };
       err = tt;
@@ -288,8 +289,8 @@ returns-in_ok-write_at-in-Open-clause-moves g c x y runs =
             honest = w.honest.1 runs.honest;
             root = runs.root;
             next_root = runs.next_root;
-            next_room =
-                runs.next_room;
+            next_holds = runs.next_holds;
+            next_room = runs.next_room;
             before = (all, shown);
           };
       err = tt;
@@ -306,8 +307,9 @@ returns-in_ok-sync-in-Finish-clause-moves g c x y runs =
     let stop = w.crash runs.honest in
     let now : (f : List ℕ) → k.left_since s.disk (k.moment s.disk) f → k.may_leave s.disk f =
     λ f left. g.met.D.Disk.only_now s.disk f runs.honest left in
-    let room : IsMapOf y.extents (taken_of c.swap.new.x.map) =
-    subst (λ (r : Room). IsMapOf y.extents (taken_of r.map)) (sym c.swap.ensures.x_after) runs.next_room in
+    let room : IsMapOf (extents_in y) (taken_of c.swap.new.x.room.map) =
+    subst (λ (r : LiveRecords). IsMapOf (extents_in y) (taken_of r.room.map)) (sym c.swap.ensures.x_after) runs.next_room in
+    let holds = ap standing c.swap.ensures.x_after ∙ runs.next_holds in
     let ready = b.0 (k.seen s.disk) (g.met.D.Disk.seen_may_stay s.disk runs.honest) in
     let here = opened_rest x y (k.seen s.disk) ready b.1 in
     let all = leaves_synced k new (k.seen s.disk) (Rest y) (c.in_ok-sync-in-Finish.ensures.durable runs.honest) here in
@@ -320,6 +322,7 @@ returns-in_ok-sync-in-Finish-clause-moves g c x y runs =
           honest = w.honest.1 runs.honest;
           idle = refl;
           root = runs.next_root;
+          holds = holds;
           room = room;
           leaves =
               λ f left. inl (all f left);
@@ -331,6 +334,6 @@ returns-in_ok-sync-in-Finish-clause-moves g c x y runs =
 
 pub returns-in_ok-sync-in-Finish-clause-blocks : goal.returns-in_ok-sync-in-Finish-clause-blocks
 returns-in_ok-sync-in-Finish-clause-blocks g c limit keeps = (
-  ap (λ (r : Room). limit_of r.map) c.swap.ensures.x_after ∙ keeps.1,
-  ap (λ (r : Room). limit_of r.map) c.swap.ensures.y_after ∙ keeps.0,
+  ap (λ (r : LiveRecords). limit_of r.room.map) c.swap.ensures.x_after ∙ keeps.1,
+  ap (λ (r : LiveRecords). limit_of r.room.map) c.swap.ensures.y_after ∙ keeps.0,
 )

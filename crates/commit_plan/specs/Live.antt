@@ -1,0 +1,9 @@
+-- What the code holds of the live root, as what the root holds.
+use Rattle.std.specs.Prelude.{map}
+use Rattle.tile_build.specs.Tile.{finished_of}
+use Rattle.record_bytes.specs.Listing.{listing_of}
+use Rattle.commit_plan.specs.declared.live_records.LiveRecords.{LiveRecords}
+use Rattle.commit_plan.specs.Staying.{Standing}
+
+abbrev pub standing : LiveRecords → Standing
+standing live = record { listing = listing_of live.listing.items; layers = live.layers; tiles = map finished_of live.tiles.items }

@@ -1,0 +1,100 @@
+-- Which records stay in a commit: those that the live root already holds with an equal value.
+use Rattle.std.specs.Prelude.{◌≡◌, ℕ, zero, suc, ◌+◌, ◌^◌, ◌==◌, ◌&&◌, nat_lt, Bool, true, false, List, [], ◌∷◌, Option, Some, None, bytes_eq, if◌then◌else◌}
+use Rattle.std.proofs.Common.{inl, inr}
+use Rattle.std.specs.List.{filter}
+use Rattle.extent_map.specs.declared.extent.Extent as runs
+use Rattle.extent_map.specs.Extents.{IsUnused}
+use Rattle.overlay_terms.specs.Layers.{Name, Content, Layer}
+use Rattle.overlay_terms.specs.Histories.{Tile, Finished, tile_at}
+use Rattle.layer_book.specs.Layer.{content_named}
+use Rattle.store_terms.specs.declared.root.RecordExtent.{RecordExtent}
+use Rattle.store_terms.specs.Catalog.{Records, Listed}
+use Rattle.store_terms.specs.Places.{blocks, is_apart_from, all_apart}
+use Rattle.commit_plan.specs.Kept.{Kept}
+use Rattle.commit_plan.specs.Same.{same_content, same_tile}
+
+-- what the live root holds, and where: what its catalog lists, its layers and its finished tiles
+pub record Standing : Type 0 where
+  pub listing : List Listed
+  pub layers : List Layer
+  pub tiles : List Finished
+
+abbrev pub standing_of : Kept → Standing
+standing_of x = record { listing = x.listing; layers = x.held.layers; tiles = x.held.tiles }
+
+abbrev pub layer_named : Name → Content → Layer
+layer_named name content = record { name = name; content = content }
+
+-- ---- where a record lies
+
+-- a layer's own record: that of its rings, or of its definition
+abbrev pub own_extent : Records → RecordExtent
+own_extent (inl e) = e
+own_extent (inr both) = both.0
+
+abbrev pub entry_at : List (Option RecordExtent) → ℕ → Option RecordExtent
+entry_at [] k = None
+entry_at (e ∷ es) zero = e
+entry_at (e ∷ es) (suc k) = entry_at es k
+
+-- the record of the finished tile of a column
+abbrev pub tile_extent : Records → ℕ → Option RecordExtent
+tile_extent (inl e) k = None
+tile_extent (inr both) k = entry_at both.1 k
+
+-- the records that are listed under a name
+abbrev pub records_named : List Listed → Name → Option Records
+records_named [] name = None
+records_named (l ∷ ls) name = if bytes_eq l.name name then Some l.records else records_named ls name
+
+abbrev pub own_named : Option Records → Option RecordExtent
+own_named None = None
+own_named (Some records) = Some (own_extent records)
+
+abbrev pub tile_named : Option Records → ℕ → Option RecordExtent
+tile_named None k = None
+tile_named (Some records) k = tile_extent records k
+
+-- whether the end of an extent is a number of 64 bits, as in any file
+abbrev pub is_near : RecordExtent → Bool
+is_near e = nat_lt (e.block + blocks e.size) (2 ^ 64)
+
+abbrev pub if_near : Option RecordExtent → Option RecordExtent
+if_near None = None
+if_near (Some e) = if is_near e then Some e else None
+
+-- ---- what stays
+
+abbrev pub holds_content : Option Content → Content → Bool
+holds_content None content = false
+holds_content (Some held) content = same_content held content
+
+abbrev pub holds_tile : Option Tile → Tile → Bool
+holds_tile None tile = false
+holds_tile (Some held) tile = same_tile held tile
+
+-- where a layer's own record stays: the live root has a layer of this name with an equal content
+abbrev pub layer_stays : Standing → Layer → Option RecordExtent
+layer_stays live layer =
+    if holds_content (content_named live.layers layer.name) layer.content
+    then if_near (own_named (records_named live.listing layer.name)) else None
+
+-- where a tile's record stays: the live root has a tile of this name and column that is equal
+abbrev pub tile_stays : Standing → Finished → Option RecordExtent
+tile_stays live t =
+    if holds_tile (tile_at live.tiles t.name t.column) t.tile
+    then if_near (tile_named (records_named live.listing t.name) t.column) else None
+
+-- a tile is that of a name and column
+abbrev pub is_of : Name → ℕ → Finished → Bool
+is_of name k t = (t.column == k) && bytes_eq t.name name
+
+-- ---- what it takes
+
+abbrev pub near_ones : List RecordExtent → List RecordExtent
+near_ones es = filter is_near es
+
+-- no two of some extents have a block in common, and what is free of the runs that are taken is free of each
+pub record AreHeldApart (es : List RecordExtent) (taken : List runs.Extent) : Type 0 where
+  pub apart : all_apart (near_ones es) ≡ true
+  pub free : (e : RecordExtent) → IsUnused taken e.block (blocks e.size) → is_apart_from e (near_ones es) ≡ true

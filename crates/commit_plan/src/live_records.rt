@@ -1,0 +1,189 @@
+//! The records of the live root: what it holds, and where.
+ghost use Rattle.std.specs.Prelude.{◌≡◌, ◌⊎◌, ◌∷◌, [], map, true, Some, IfOk, IfErr};
+ghost use Rattle.store_terms.specs.declared.damage.Damage.TheVariants.{Overlap};
+ghost use Rattle.std.specs.Option.{option_map};
+ghost use Rattle.extent_map.specs.Extents.{IsUnused};
+ghost use Rattle.extent_map.specs.Taken.{taken_of, limit_of};
+ghost use Rattle.overlay_terms.specs.Histories.{tile_at};
+ghost use Rattle.layer_book.specs.Layer.{content};
+ghost use Rattle.record_bytes.specs.Listing.{listing_of, records_of};
+ghost use Rattle.store_terms.specs.Image.{Held};
+ghost use Rattle.store_terms.specs.Places.{blocks, is_apart_from, all_apart, extents_listed};
+ghost use Rattle.store_terms.specs.declared.root.RecordExtent as terms;
+ghost use Rattle.tile_build.specs.Tile.{finished_of, tile_of};
+ghost use Rattle.root_reading.specs.Looking.{Gives};
+ghost use Rattle.root_reading.specs.Taking.{IsMapOf, AllNear, if_apart};
+ghost use Rattle.commit_plan.specs.Staying.{own_extent, tile_extent, records_named, if_near, layer_named, layer_stays, tile_stays, near_ones, is_of};
+
+use crate::comparing::{same_layer, same_tile};
+use crate::room::Room;
+use crate::taking::room_of;
+use extent_map::extent::Extent as Run;
+use layer_book::layer::Layer;
+use layer_book::layers::Layers;
+use layer_expr::name::Name;
+use record_bytes::catalog::{Listed, Records};
+use root_reading::fetching::blocks_of;
+use root_reading::load_fault::LoadFault;
+use std::alloc::Global;
+use store_terms::root::RecordExtent;
+use tile_build::tile::Tile;
+
+/// What the live root's catalog lists, the blocks that the root takes, and the layers and finished tiles that it holds.
+#[derive(Drop)]
+pub struct LiveRecords {
+    pub(crate) listing: Vec<Listed>,
+    pub(crate) room: Room,
+    pub(crate) layers: Layers,
+    pub(crate) tiles: Vec<(Name, u8, Tile)>,
+    ghost apart: { all_apart (near_ones (extents_listed (listing_of listing.items))) ≡ true },
+    ghost free: { (e : terms.RecordExtent) → IsUnused (taken_of room.map) e.block (blocks e.size)
+        → is_apart_from e (near_ones (extents_listed (listing_of listing.items))) ≡ true },
+}
+
+/// The records that are listed under a name.
+fn records_named<'a>(listing: &'a [Listed], name: &Name) -> Option<&'a Records>
+    ensures { option_map (λ records. records_of records.now) result ≡ records_named (listing_of listing.now) name.now }
+{
+    for listed in listing {
+        if listed.name.as_slice() == name.bytes() {
+            return Some(&listed.records);
+        }
+    }
+    None
+}
+
+/// Where a layer's own record lies.
+fn own_extent(records: &Records) -> RecordExtent
+    ensures { result ≡ own_extent (records_of records.now) }
+{
+    match records {
+        Records::Base(extent) => *extent,
+        Records::Derived(extent, _) => *extent,
+    }
+}
+
+/// Where the record of a column's tile lies, if it is finished.
+fn tile_extent(records: &Records, column: u8) -> Option<RecordExtent>
+    ensures { result ≡ tile_extent (records_of records.now) column }
+{
+    let Records::Derived(_, entries) = records else {
+        return None;
+    };
+    let column = usize::from(column);
+    if column >= entries.len() {
+        return None;
+    }
+    entries[column]
+}
+
+/// The extent, if its end is a number of 64 bits.
+fn if_near(extent: RecordExtent) -> Option<RecordExtent>
+    ensures { result ≡ if_near (Some extent) }
+{
+    if Run::new(extent.block, blocks_of(extent.size)).is_none() {
+        return None;
+    }
+    Some(extent)
+}
+
+/// Whether a tile is that of a name and column.
+fn is_of(tile: &(Name, u8, Tile), name: &Name, column: u8) -> bool
+    ensures { result ≡ is_of name.now column (finished_of tile.now) }
+{
+    tile.1 == column && tile.0.bytes() == name.bytes()
+}
+
+/// The first tile of a name and column.
+fn tile_among<'a>(tiles: &'a [(Name, u8, Tile)], name: &Name, column: u8) -> Option<&'a Tile>
+    ensures { option_map (λ tile. tile_of tile.now) result ≡ tile_at (map finished_of tiles.now) name.now column }
+{
+    for tile in tiles {
+        if is_of(tile, name, column) {
+            return Some(&tile.2);
+        }
+    }
+    None
+}
+
+impl LiveRecords {
+    ghost use Rattle.commit_plan.specs.Live.{standing};
+
+    /// Those of a root that lists nothing, and takes this room.
+    pub fn empty(alloc: Global, room: Room) -> LiveRecords
+        ensures stands { standing result ≡ record { listing = []; layers = []; tiles = [] } }
+        ensures room { result.room ≡ room }
+    {
+        LiveRecords {
+            listing: Vec::new(alloc),
+            room,
+            layers: Layers::new(alloc),
+            tiles: Vec::new(alloc),
+        }
+    }
+
+    /// Those of a root with a catalog here, which lists these records of these layers and tiles.
+    pub fn new(
+        alloc: Global,
+        catalog: RecordExtent,
+        listing: Vec<Listed>,
+        layers: Layers,
+        tiles: Vec<(Name, u8, Tile)>,
+        max_blocks: u32,
+    ) -> Result<LiveRecords, LoadFault>
+        ensures stands { IfOk result
+            (λ live. standing live
+            ≡ record { listing = listing_of listing.items; layers = layers; tiles = map finished_of tiles.items }) }
+        ensures taken { AllNear (catalog ∷ extents_listed (listing_of listing.items))
+            → IfOk result
+            (λ live. IsMapOf (catalog ∷ extents_listed (listing_of listing.items)) (taken_of live.room.map)) }
+        ensures reads { AllNear (catalog ∷ extents_listed (listing_of listing.items)) → (held : Held)
+            → Gives (λ live. held) result (if_apart (catalog ∷ extents_listed (listing_of listing.items)) held) }
+        ensures errors { IfErr result (λ e. (e ≡ LoadFault.OutOfMemory) ⊎ (e ≡ LoadFault.Damaged Overlap)) }
+        ensures limit { IfOk result (λ live. limit_of live.room.map ≡ max_blocks) }
+    {
+        let room = room_of(alloc, catalog, &listing, max_blocks)?;
+        Ok(LiveRecords {
+            listing,
+            room,
+            layers,
+            tiles,
+        })
+    }
+
+    /// Where a layer's own record stays, if the root holds an equal one under its name.
+    pub(crate) fn layer_stays(&self, name: &Name, layer: &Layer) -> Option<RecordExtent>
+        ensures { result
+            ≡ layer_stays (standing self.now) (layer_named name.now (content layer.now)) }
+    {
+        let Some(held) = self.layers.get(name) else {
+            return None;
+        };
+        if !same_layer(held, layer) {
+            return None;
+        }
+        let Some(records) = records_named(&self.listing, name) else {
+            return None;
+        };
+        if_near(own_extent(records))
+    }
+
+    /// Where a tile's record stays, if the root holds an equal one under its name and column.
+    pub(crate) fn tile_stays(&self, tile: &(Name, u8, Tile)) -> Option<RecordExtent>
+        ensures { result ≡ tile_stays (standing self.now) (finished_of tile.now) }
+    {
+        let Some(held) = tile_among(&self.tiles, &tile.0, tile.1) else {
+            return None;
+        };
+        if !same_tile(held, &tile.2) {
+            return None;
+        }
+        let Some(records) = records_named(&self.listing, &tile.0) else {
+            return None;
+        };
+        let Some(extent) = tile_extent(records, tile.1) else {
+            return None;
+        };
+        if_near(extent)
+    }
+}

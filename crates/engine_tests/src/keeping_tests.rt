@@ -1,0 +1,177 @@
+//! Which records a commit writes: those that the store does not hold already.
+use crate::testing::{CREATED, SHIFTED, SMALLER, SQUARE, Words, created, drive, recovered};
+use disk_model::mem_disk::{Call, MemDisk};
+use overlay_engine::engine::Engine;
+use overlay_engine::step::Reply;
+use std::alloc::Global;
+use std::test::Fail;
+
+/// How many bytes a block has, and how many of them the slots take.
+const BLOCK: usize = 4096;
+
+const SLOTS: usize = 8192;
+
+/// Steps, how many calls the commit after them makes, and the blocks of the extents that it writes, in order.
+type Line = (&'static [Words], usize, &'static [usize]);
+
+/// A list of lines, the one commit after the other.
+type Lines = &'static [Line];
+
+/// What the engine of a list is asked, and what it writes.
+const LISTS: &[Lines] = &[
+    // A layer keeps its record while others are put, and when it is put again with the same rings.
+    &[
+        (&[Words::Put("A", SQUARE)], 8, &[3, 4]),
+        (&[Words::Put("B", SHIFTED)], 8, &[2, 5]),
+        (&[Words::Put("A", SQUARE)], 7, &[4]),
+    ],
+    // With other rings its record is written anew: it is not kept for its name.
+    &[
+        (&[Words::Put("A", SQUARE)], 8, &[3, 4]),
+        (&[Words::Put("A", SHIFTED)], 8, &[2, 5]),
+    ],
+    // Two layers with the same rings have two records.
+    &[(
+        &[Words::Put("A", SQUARE), Words::Put("B", SQUARE)],
+        9,
+        &[3, 4, 5],
+    )],
+    // A layer that was dropped and put again between two commits keeps its record, behind the others.
+    &[
+        (
+            &[Words::Put("A", SQUARE), Words::Put("B", SHIFTED)],
+            9,
+            &[3, 4, 5],
+        ),
+        (&[Words::Drop("A"), Words::Put("A", SQUARE)], 7, &[2]),
+        (&[Words::Drop("B")], 7, &[5]),
+    ],
+    // A definition and a tile that is built again and equal keep theirs.
+    &[
+        (
+            &[
+                Words::Put("A", SQUARE),
+                Words::Put("B", SHIFTED),
+                Words::Define("I", "A & B"),
+                Words::Take("I", 8),
+                Words::Finish(0),
+            ],
+            11,
+            &[3, 4, 5, 6, 7],
+        ),
+        (
+            &[
+                Words::Put("A", SMALLER),
+                Words::Put("A", SQUARE),
+                Words::Take("I", 8),
+                Words::Finish(1),
+            ],
+            7,
+            &[2],
+        ),
+        (
+            &[
+                Words::Put("A", SMALLER),
+                Words::Take("I", 8),
+                Words::Finish(2),
+            ],
+            9,
+            &[7, 8, 9],
+        ),
+    ],
+];
+
+/// The steps of a line, and so many device calls behind them.
+fn with_calls(alloc: Global, steps: &[Words], calls: usize) -> Result<Vec<Words>, Fail> {
+    let mut all = Vec::from_slice(alloc, steps)?;
+    for _ in 0..calls {
+        all.push(Words::Device)?;
+    }
+    Ok(all)
+}
+
+/// The blocks of the extents that some calls write.
+fn extents_of(alloc: Global, calls: &[Call]) -> Result<Vec<usize>, Fail> {
+    let mut blocks = Vec::new(alloc);
+    for call in calls {
+        if let Call::Write(at, _) = call {
+            if *at >= SLOTS {
+                blocks.push(*at / BLOCK)?;
+            }
+        }
+    }
+    Ok(blocks)
+}
+
+/// Makes the steps of a line and a commit, and tells whether the last reply is that it is done.
+fn is_done(alloc: Global, engine: &mut Engine<MemDisk>, line: &Line) -> Result<bool, Fail> {
+    let steps = with_calls(alloc, line.0, line.1)?;
+    let replies = drive(alloc, engine, &steps)?;
+    Ok(matches!(replies.last(), Some(Reply::Done(_))))
+}
+
+/// Whether each line's commit is done by its calls, and writes just its extents; and all calls together.
+fn are_written(alloc: Global, lines: &[Line], calls: &[Call]) -> Result<bool, Fail> {
+    let mut from = CREATED;
+    for line in lines {
+        let to = from.saturating_add(line.1);
+        let written = extents_of(alloc, calls.get(from..to).unwrap_or(&[]))?;
+        if written.as_slice() != line.2 {
+            return Ok(false);
+        }
+        from = to;
+    }
+    Ok(calls.len() == from)
+}
+
+/// Whether the commits of a list write so.
+fn writes_so(alloc: Global, lines: &[Line]) -> Result<bool, Fail> {
+    let mut engine = created(alloc, 100)?;
+    for line in lines {
+        if !is_done(alloc, &mut engine, line)? {
+            return Ok(false);
+        }
+    }
+    are_written(alloc, lines, engine.into_disk().calls())
+}
+
+#[test]
+fn a_commit_writes_only_what_changed(rt: HostRuntime) -> Result<(), Fail> {
+    for lines in LISTS {
+        assert!(rt; writes_so(rt.alloc(), lines)?);
+    }
+    Ok(())
+}
+
+/// The most blocks of a file, and the reply to the first device call of the second commit.
+const LIMITS: [(u32, Reply); 2] = [(6, Reply::Going), (5, Reply::Refused(31))];
+
+#[test]
+fn six_blocks_are_enough_for_a_layer_beside_another(rt: HostRuntime) -> Result<(), Fail> {
+    for &(limit, reply) in &LIMITS {
+        let mut engine = created(rt.alloc(), limit)?;
+        let line: Line = (&[Words::Put("A", SQUARE)], 8, &[]);
+        assert!(rt; is_done(rt.alloc(), &mut engine, &line)?);
+        let steps = &[Words::Put("B", SHIFTED), Words::Device];
+        let replies = drive(rt.alloc(), &mut engine, steps)?;
+        assert!(rt; replies.last().copied() == Some(reply));
+    }
+    Ok(())
+}
+
+#[test]
+fn a_store_that_is_opened_and_committed_writes_its_catalog_alone(
+    rt: HostRuntime,
+) -> Result<(), Fail> {
+    let mut engine = created(rt.alloc(), 100)?;
+    let line: Line = (&[Words::Put("A", SQUARE), Words::Put("B", SHIFTED)], 9, &[]);
+    assert!(rt; is_done(rt.alloc(), &mut engine, &line)?);
+    let file = engine.into_disk().bytes().to_vec(rt.alloc())?;
+    let mut again = recovered(rt.alloc(), MemDisk::new(rt.alloc(), file)?)?;
+    let unchanged: Line = (&[], 7, &[]);
+    assert!(rt; is_done(rt.alloc(), &mut again, &unchanged)?);
+    let disk = again.into_disk();
+    let written = extents_of(rt.alloc(), disk.calls())?;
+    assert!(rt; written.as_slice() == [2].as_slice());
+    Ok(())
+}
