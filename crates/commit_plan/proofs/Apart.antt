@@ -1,10 +1,9 @@
 -- No two records of a commit have a block in common, whether they stay or are new.
-use Rattle.std.proofs.Common.{◌≡◌, ℕ, ◌+◌, ◌^◌, ◌<◌, ◌≤◌, Bool, true, false, List, [], ◌∷◌, ◌++◌, map, Option, Some, None, bytes_eq, refl, sym, ◌∙◌, ap, subst, arith}
+use Rattle.std.proofs.Common.{◌≡◌, ℕ, ◌+◌, ◌^◌, ◌<◌, ◌≤◌, true, List, [], ◌∷◌, ◌++◌, map, Option, Some, None, bytes_eq, refl, sym, ◌∙◌, ap, subst, arith}
 use Rattle.std.specs.List.{AllByRecursion, flat_map}
 use Rattle.std.specs.Option.{option_map}
 use Rattle.std.proofs.lemmas.Bool.{or_left, or_right, ltb-true, false≢true}
 use Rattle.extent_map.specs.declared.extent.Extent as runs
-use Rattle.extent_map.specs.Extents as maps
 use Rattle.extent_map.specs.Extents.{IsUnused}
 use Rattle.extent_map.specs.FirstFit.{IsPlanned}
 use Rattle.overlay_terms.specs.Layers.{Name, Layer}
@@ -13,7 +12,6 @@ use Rattle.overlay_terms.specs.Orderly.{is_among, is_orderly_after}
 use Rattle.overlay_terms.proofs.NameLemmas.{name_itself, is_among-push}
 use Rattle.overlay_terms.proofs.OrderlyLemmas.{orderly_splits}
 use Rattle.store_terms.specs.declared.root.RecordExtent.{RecordExtent}
-use Rattle.store_terms.specs.Catalog.{Listed}
 use Rattle.store_terms.specs.Places.{blocks, is_apart_from, all_apart, some_extents, extents_of_records, extents_listed}
 use Rattle.root_reading.specs.Taking.{AreRunsOf, IsNear, AllNear}
 use Rattle.commit_plan.specs.Staying.{Standing, is_near, near_ones, AreHeldApart}

@@ -1,11 +1,11 @@
 -- The tests of equality decide it.
 use Rattle.std.proofs.Common.{◌≡◌, ◌==◌, Bool, true, false, ◌&&◌, List, bytes_eq, refl, sym, ap, ◌∙◌, Decides}
 use Rattle.std.specs.Ordering.{int_eq}
-use Rattle.std.specs.Cmp.Lexicographic.{pointwise, pointwise_decides}
+use Rattle.std.specs.Cmp.Lexicographic.{pointwise_decides}
 use Rattle.std.proofs.lemmas.Bool.{and_parts, and_from, false≢true}
 use Rattle.std.proofs.lemmas.Bool.Decides.{Decides-eqb, Decides-int_eq}
 use Rattle.overlay_terms.proofs.NameLemmas.{same_name, name_itself}
-use Rattle.overlay_terms.specs.Plane.{Point, WholePoint, Segment, same_whole}
+use Rattle.overlay_terms.specs.Plane.{Point, WholePoint, same_whole}
 use Rattle.overlay_terms.specs.Trees.{Operation, intersection, Tree, leaf, combine}
 use Rattle.overlay_terms.specs.TreeCode.{operation_number, operation_at, back}
 use Rattle.overlay_terms.specs.SameInput.{same_operation, same_segment, same_segment-Decides}

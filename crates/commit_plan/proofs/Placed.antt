@@ -1,7 +1,6 @@
 -- Records that are planned lie off what is taken, and off one another.
-use Rattle.std.proofs.Common.{◌≡◌, ◌⊎◌, inl, inr, ⊎_elim, ℕ, ◌+◌, ◌*◌, ◌≤◌, nat_le, Bool, true, ◌||◌, List, [], ◌∷◌, ◌++◌, length, map, Option, Some, None, refl, sym, ◌∙◌, ap, subst, arith, rules}
-use Rattle.std.specs.List.{AllByRecursion, flat_map}
-use Rattle.std.specs.Option.{option_map}
+use Rattle.std.proofs.Common.{◌≡◌, ◌⊎◌, inl, inr, ⊎_elim, ℕ, ◌+◌, ◌*◌, ◌≤◌, nat_le, Bool, true, ◌||◌, List, [], ◌∷◌, ◌++◌, length, refl, sym, ◌∙◌, ap, subst, arith, rules}
+use Rattle.std.specs.List.{AllByRecursion}
 use Rattle.std.proofs.lemmas.Bool.{and_from, le-leb}
 use Rattle.disk_model.proofs.Ranges.{Apart}
 use Rattle.extent_map.specs.declared.extent.Extent as runs
@@ -9,7 +8,7 @@ use Rattle.extent_map.specs.Extents as maps
 use Rattle.extent_map.specs.Extents.{IsApart, IsUnused}
 use Rattle.extent_map.specs.FirstFit.{IsPlanned}
 use Rattle.store_terms.specs.declared.root.RecordExtent.{RecordExtent}
-use Rattle.store_terms.specs.Places.{blocks, are_apart, is_apart_from, all_apart, some_extents, extents_of_records, extents_listed}
+use Rattle.store_terms.specs.Places.{blocks, are_apart, is_apart_from, all_apart}
 use Rattle.commit_plan.specs.declared.write.Write.{Write}
 use Rattle.commit_plan.specs.Kept.{Kept, extents_in}
 use Rattle.commit_plan.specs.Planning.{IsOff, AreApart, AllApart}

@@ -1,6 +1,5 @@
 -- Records of other layers or columns that stay have no block in common.
-use Rattle.std.proofs.Common.{◌≡◌, ◌⊎◌, inl, inr, ⊎_elim, ℕ, zero, suc, ◌+◌, ◌<◌, ◌≤◌, Bool, true, false, cond, List, [], ◌∷◌, ◌++◌, Option, Some, None, bytes_eq, refl, sym, ◌∙◌, ap, subst, arith}
-use Rattle.std.proofs.lemmas.Bool.{false≢true}
+use Rattle.std.proofs.Common.{◌≡◌, ◌⊎◌, inl, inr, ⊎_elim, ℕ, zero, suc, ◌<◌, Bool, true, false, cond, List, [], ◌∷◌, ◌++◌, Option, Some, None, bytes_eq, refl, sym, ◌∙◌, ap, arith}
 use Rattle.overlay_terms.specs.Layers.{Name, Layer}
 use Rattle.overlay_terms.specs.Histories.{Finished, tile_at}
 use Rattle.overlay_terms.proofs.NameLemmas.{same_name}

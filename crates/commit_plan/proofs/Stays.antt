@@ -1,6 +1,6 @@
 -- A record that stays spells what it is for.
 use Rattle.std.proofs.Common.{◌≡◌, ℕ, zero, suc, ◌+◌, ◌==◌, ◌&&◌, Bool, true, false, cond, List, [], ◌∷◌, ◌++◌, Option, Some, None, bytes_eq, refl, sym, ◌∙◌, ap, subst, inl, inr, arith}
-use Rattle.std.proofs.lemmas.Bool.{and_parts, and_from}
+use Rattle.std.proofs.lemmas.Bool.{and_from}
 use Rattle.std.proofs.lemmas.Bool.Decides.{Decides-eqb}
 use Rattle.overlay_terms.specs.Layers.{Name, Content, base, derived, Layer}
 use Rattle.overlay_terms.specs.Histories.{Tile, Finished, tile_at}
@@ -13,10 +13,9 @@ use Rattle.store_terms.specs.Catalog.{Records, Listed}
 use Rattle.store_terms.specs.Spelled.{Spells, TilesAre, LayerIs, LayersAre}
 use Rattle.store_terms.proofs.HeldLemmas.{held_is_spelled}
 use Rattle.commit_plan.specs.Kept.{Kept, Shut}
-use Rattle.commit_plan.specs.Same.{same_content, same_tile}
 use Rattle.commit_plan.specs.Staying.{Standing, standing_of, own_extent, entry_at, tile_extent, records_named, holds_content, holds_tile, layer_stays, tile_stays}
 use Rattle.commit_plan.proofs.EqualityTests.{content_decides, tile_decides}
-use Rattle.commit_plan.proofs.Sitting.{Sits, layer_sits, layer_holds, tile_sits, tile_holds}
+use Rattle.commit_plan.proofs.Sitting.{layer_sits, layer_holds, tile_sits, tile_holds}
 
 -- the record of a layer spells what it holds
 abbrev pub OwnSpells : List ℕ → RecordExtent → Content → Type 0

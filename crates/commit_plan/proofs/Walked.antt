@@ -16,9 +16,6 @@ use Rattle.overlay_terms.specs.Column.{column_count}
 use Rattle.tile_build.specs.Tile.{finished_of, tile_of}
 use Rattle.store_terms.specs.declared.root.RecordExtent.{RecordExtent}
 use Rattle.store_terms.specs.Catalog.{Listed}
-use Rattle.store_terms.specs.BaseRecord.{base_of_record}
-use Rattle.store_terms.specs.DefinitionRecord.{definition_of_record}
-use Rattle.store_terms.specs.TileRecord.{tile_of_record}
 use Rattle.layer_book.specs.Layer.{content_named}
 use Rattle.layer_book.proofs.Lookups.{as_derived}
 use Rattle.layer_book.proofs.Names.{stands_is}

@@ -2,5 +2,6 @@ pub mod Durable
 pub mod Lists
 pub mod Parts
 pub mod Sent
+pub mod SentStore
 pub mod ServedParts
 pub mod Stores

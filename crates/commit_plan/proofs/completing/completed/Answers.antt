@@ -1,6 +1,5 @@
-use Rattle.std.proofs.Common.{◌≡◌, ◌⊎◌, true, Ok, Err, Some, ◌+◌, ◌^◌, ◌<◌, ◌++◌, ◌∷◌, [], ℕ, List, length, map, inr, refl, sym, ◌∙◌, ap, subst, arith}
+use Rattle.std.proofs.Common.{◌≡◌, true, Some, ◌+◌, ◌^◌, ◌<◌, ◌++◌, ◌∷◌, [], ℕ, List, length, inr, refl, sym, ◌∙◌, ap, subst, arith}
 use Rattle.std.specs.List.{flat_map}
-use Rattle.extent_map.specs.declared.extent.Extent as runs
 use Rattle.extent_map.specs.FirstFit.{IsPlanned, IsFull}
 use Rattle.record_bytes.specs.Listing.{listing_of}
 use Rattle.store_terms.specs.declared.root.Root.{Root}
@@ -11,12 +10,10 @@ use Rattle.store_terms.specs.Places.{all_apart, extents_listed}
 use Rattle.store_terms.specs.Roots.{sequence_max}
 use Rattle.store_terms.specs.StandsFor.{body_at}
 use Rattle.root_reading.specs.Taking.{AllNear}
-use Rattle.commit_plan.specs.declared.fault.StoreFault.{StoreFault}
-use Rattle.commit_plan.specs.declared.fault.StoreFault.TheVariants.{Full, OutOfMemory}
+use Rattle.commit_plan.specs.declared.fault.StoreFault.TheVariants.{Full}
 use Rattle.commit_plan.specs.declared.write.Write.{Write}
 use Rattle.commit_plan.specs.declared.next.Next.{Next}
 use Rattle.commit_plan.specs.Kept.{other}
-use Rattle.commit_plan.specs.Staying.{Standing}
 use Rattle.commit_plan.specs.Filing.{Filed, filed_of}
 use Rattle.commit_plan.proofs.Drafts.{passed_error, same_fault}
 use Rattle.commit_plan.proofs.Short.{catalog_short}

@@ -5,7 +5,7 @@ use Rattle.commit_plan.specs.Live.{standing}
 use Rattle.commit_plan.specs.Sizes.{new_records}
 use Rattle.commit_plan.proofs.Counted.{records_count}
 use Rattle.commit_plan.proofs.Drafted.{held_in_room}
-use Rattle.std.proofs.Common.{◌≡◌, ◌+◌, [], ◌∷◌, ◌++◌, ℕ, List, length, ap, map, sym, ◌∙◌, subst, arith}
+use Rattle.std.proofs.Common.{◌≡◌, ◌+◌, [], ◌∷◌, ◌++◌, ℕ, List, length, map, sym, ◌∙◌, subst, arith}
 use Rattle.std.specs.List.{flat_map}
 use Rattle.overlay_terms.specs.Layers.{Layer}
 use Rattle.overlay_terms.specs.Histories.{Finished}
@@ -14,7 +14,6 @@ use Rattle.extent_map.specs.Taken.{taken_of, limit_of}
 use Rattle.layer_book.specs.Layer.{IsBook}
 use Rattle.tile_build.specs.Tile.{finished_of}
 use Rattle.record_bytes.specs.Listing.{listing_of}
-use Rattle.record_bytes.specs.declared.catalog.Listed as code
 use Rattle.commit_plan.specs.declared.next.Next.{Next}
 use Rattle.commit_plan.specs.Filing.{filed_of}
 use Rattle.root_reading.specs.Taking.{IsMapOf}

@@ -1,7 +1,6 @@
-use Rattle.std.proofs.Common.{◌≡◌, ◌+◌, ◌^◌, ◌<◌, ◌++◌, ◌∷◌, [], ℕ, List, length, map, drop, Some, None, refl, sym, subst, rules}
+use Rattle.std.proofs.Common.{◌≡◌, ◌+◌, ◌^◌, ◌<◌, ◌∷◌, [], ℕ, List, length, map, drop, Some, None, refl, sym, subst, rules}
 use Rattle.tile_build.specs.Tile.{finished_of, tile_of}
-use Rattle.store_terms.specs.TileRecord.{named_tile, tile_of_record}
-use Rattle.record_bytes.specs.Tiles.{named_by}
+use Rattle.store_terms.specs.TileRecord.{tile_of_record}
 use Rattle.store_terms.specs.declared.root.RecordExtent.{RecordExtent}
 use Rattle.commit_plan.specs.declared.fault.StoreFault.TheVariants.{Full}
 use Rattle.commit_plan.specs.Staying.{tile_stays}

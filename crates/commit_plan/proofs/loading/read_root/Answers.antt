@@ -1,10 +1,9 @@
-use Rattle.std.proofs.Common.{◌≡◌, ◌∷◌, [], List, ℕ, Result, Ok, sym, ◌∙◌, ap, subst, map}
+use Rattle.std.proofs.Common.{◌≡◌, ◌∷◌, [], List, ℕ, Ok, sym, ◌∙◌, ap, subst, map}
 use Rattle.extent_map.specs.Taken.{taken_of}
 use Rattle.overlay_terms.specs.Layers.{Layer}
 use Rattle.overlay_terms.specs.Histories.{Finished}
 use Rattle.tile_build.specs.Tile.{finished_of}
 use Rattle.record_bytes.specs.Listing as listings
-use Rattle.store_terms.specs.declared.damage.Damage.{Damage}
 use Rattle.store_terms.specs.Catalog.{Listed}
 use Rattle.store_terms.specs.Places.{extents_listed}
 use Rattle.store_terms.specs.Image.{Held, listing_of, layers_of, held_of}

@@ -1,13 +1,12 @@
 use denote.Exit.{no}
 use denote.Param.{param}
-use denote.Param.Send.{arg_send, param_send, sendable}
-use Rattle.std.proofs.Crossing.{crosses}
+use denote.Param.Send.{arg_send, param_send}
 use Rattle.overlay_server.proofs.Sent.{taking_send}
 use Rattle.overlay_server.specs.contracts.storing.Store as store
-use Rattle.overlay_server.proofs.storing.Store.TheSendSync as stores
+use Rattle.overlay_server.proofs.SentStore.{store_send}
 use Rattle.overlay_server.proofs.storing.start_store.Goals as goal
 
 pub spawn_with-started-requires-send-F : goal.spawn_with-started-requires-send-F
 spawn_with-started-requires-send-F g c κs within =
     param_send 2 _ (arg_send _ no _ (taking_send (param 1 g.row.J) (param 2 g.row.S) (param 3 g.row.Q) g.J.Naming c.type_bounds.send-J c.type_bounds.send-S c.type_bounds.sync-Q
-    (store.the_row (param 4 g.row.D)) (search (sendable, crosses, stores.the_send) depth 20) _ _ _ _ _))
+    (store.the_row (param 4 g.row.D)) (store_send (param 4 g.row.D) c.type_bounds.send-D) _ _ _ _ _))

@@ -1,0 +1,54 @@
+-- A store with what it holds may go to another thread.
+use denote.RattleType.{RattleType}
+use denote.Struct.Declared.{shape}
+use denote.Param.Send.{IsSend, recorded_send, struct_send, plain_send, sendable}
+use Rattle.std.proofs.Crossing.{crosses}
+use Rattle.book_history.proofs.Sent.{layers_send}
+use Rattle.layer_expr.proofs.name.Name.TheSendSync as names
+use Rattle.tile_build.proofs.tile.Tile.TheSendSync as tiles
+use Rattle.record_bytes.proofs.catalog.Listed.TheSendSync as entries
+use Rattle.store_terms.proofs.root.Root.TheSendSync as roots
+use Rattle.commit_plan.proofs.room.Room.TheSendSync as rooms
+use Rattle.commit_plan.proofs.write.Write.TheSendSync as writes
+use Rattle.commit_plan.specs.contracts.live_records.LiveRecords as live
+use Rattle.root_store.proofs.phase.Phase.TheSendSync as phases
+use Rattle.root_store.specs.contracts.commit.Commit as commit
+use Rattle.flush_core.specs.contracts.flusher.Flusher as flusher
+use Rattle.version_book.proofs.reporter.Reporter.TheSendSync as reporters
+use Rattle.overlay_server.specs.contracts.storing.Store as store
+
+live_send : IsSend (live.the_field).row
+live_send = struct_send (shape live.the_type) (
+  search (sendable, crosses, entries.the_send) depth 20,
+  (rooms.the_field_send, (layers_send, (search (sendable, crosses, names.the_send, tiles.the_send) depth 20, tt))),
+)
+
+commit_send : (D : RattleType) → IsSend D → IsSend (commit.the_field D).row
+commit_send D d = struct_send (shape (commit.the_type D)) (
+  d,
+  (
+    roots.the_field_send,
+    (
+      live_send,
+      (
+        phases.the_field_send,
+        (
+          roots.the_field_send,
+          (live_send, (search (sendable, crosses, writes.the_send) depth 20, (plain_send _ _ _ _ _, tt))),
+        ),
+      ),
+    ),
+  ),
+)
+
+flusher_send : (D : RattleType) → IsSend D → IsSend (flusher.the_row D)
+flusher_send D d =
+    let O = flusher.the_type D in
+    recorded_send _ _ _ O.to_one (struct_send (shape O) (commit_send D d, tt))
+
+pub store_send : (D : RattleType) → IsSend D → IsSend (store.the_row D)
+store_send D d =
+    let O = store.the_type D in
+    let one = flusher_send D d in
+    recorded_send _ _ _ O.to_one
+    (struct_send (shape O) (reporters.the_field_send, (search (sendable, crosses, one) depth 20, tt)))
