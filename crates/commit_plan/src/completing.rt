@@ -12,12 +12,11 @@ ghost use Rattle.store_terms.specs.StandsFor.{body_at};
 ghost use Rattle.commit_plan.specs.Kept.{Kept, extents_in, other};
 ghost use Rattle.commit_plan.specs.Filing.{FiledLayer, filed_of};
 ghost use Rattle.commit_plan.specs.Staying.{Standing, standing_of, AreHeldApart};
-ghost use Rattle.commit_plan.specs.Fault.{fault_told};
 ghost use Rattle.root_reading.specs.Taking.{IsMapOf};
 ghost use Rattle.commit_plan.specs.Drafting.{ArePlanned, ArePlaced, IsDraft, IsLaidOut, Spell, IsNext};
 
 use crate::draft::Draft;
-use crate::fault::StoreFault;
+use crate::fault::{StoreFault, told};
 use crate::live_records::LiveRecords;
 use crate::next::Next;
 use crate::write::Write;
@@ -25,20 +24,8 @@ use record_bytes::catalog::Listed;
 use record_bytes::catalog_writing::write_catalog;
 use record_bytes::image::Image;
 use record_bytes::root_body::write_body;
-use root_reading::load_fault::LoadFault;
 use std::alloc::Global;
 use store_terms::root::Root;
-
-/// The fault of records that were read or kept, as one of the store.
-fn told(fault: LoadFault) -> StoreFault
-    ensures { result ≡ fault_told fault }
-{
-    match fault {
-        LoadFault::Device => StoreFault::Device,
-        LoadFault::Damaged(damage) => StoreFault::Damaged(damage),
-        LoadFault::OutOfMemory => StoreFault::OutOfMemory,
-    }
-}
 
 /// Adds the catalog that lists the records of an image, and the body of the root that comes after one, where it is to be
 /// put.

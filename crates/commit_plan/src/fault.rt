@@ -1,10 +1,11 @@
 //! What a store refuses.
 ghost use Rattle.std.specs.Prelude.{◌≡◌, Some};
-ghost use Rattle.commit_plan.specs.Fault.{code_of, text_of, fault_of_extents};
+ghost use Rattle.commit_plan.specs.Fault.{code_of, text_of, fault_of_extents, fault_told};
 ghost use Rattle.commit_plan.specs.declared.fault.StoreFault.TheVariants.{Device, OutOfMemory};
 
 use disk_model::fault::DiskFault;
 use extent_map::fault::ExtentFault;
+use root_reading::load_fault::LoadFault;
 use std::alloc::{AllocError, AllocFailed};
 use std::fmt;
 use store_terms::damage::Damage;
@@ -80,6 +81,17 @@ impl<T: Drop> From<AllocFailed<T>> for StoreFault {
 
     fn from(_e: AllocFailed<T>) -> StoreFault {
         StoreFault::OutOfMemory
+    }
+}
+
+/// A fault of reading as one of the store.
+pub fn told(fault: LoadFault) -> StoreFault
+    ensures { result ≡ fault_told fault }
+{
+    match fault {
+        LoadFault::Device => StoreFault::Device,
+        LoadFault::Damaged(damage) => StoreFault::Damaged(damage),
+        LoadFault::OutOfMemory => StoreFault::OutOfMemory,
     }
 }
 

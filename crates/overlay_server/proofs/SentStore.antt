@@ -51,4 +51,4 @@ store_send D d =
     let O = store.the_type D in
     let one = flusher_send D d in
     recorded_send _ _ _ O.to_one
-    (struct_send (shape O) (reporters.the_field_send, (search (sendable, crosses, one) depth 20, tt)))
+    (struct_send (shape O) (reporters.the_send, (search (sendable, crosses, one) depth 20, tt)))

@@ -17,7 +17,8 @@ use Rattle.commit_plan.specs.declared.loading.Loaded.{Loaded}
 use Rattle.commit_plan.specs.Kept.{Kept, other, Live, Rest, Shut, Calm}
 use Rattle.commit_plan.specs.Loading.{held_in, kept_in}
 use Rattle.root_reading.specs.Looking.{Looks, Refuses, Causes}
-use Rattle.root_store.specs.Opening.{Heals, IsRead, Opened, Loads, InPhases, Stops, Untouched, Writes, fault_of, Tells, FailedBy}
+use Rattle.commit_plan.specs.Fault.{fault_told}
+use Rattle.root_store.specs.Opening.{Heals, IsRead, Opened, Loads, InPhases, Stops, Untouched, Writes, Tells, FailedBy}
 use Rattle.commit_plan.specs.declared.fault.StoreFault.{StoreFault}
 use Rattle.commit_plan.specs.declared.fault.StoreFault.TheVariants as stores
 use Rattle.root_reading.proofs.Looked.{if_err}
@@ -149,8 +150,8 @@ phases_healed g old mid new x reads phases run = record {
 
 -- why opening ended early, as the store tells it
 pub stops_told : {D : Type 0} (g : Ghosts D) (old new : D) (fault : LoadFault) (told : StoreFault)
-    → told ≡ fault_of fault → Stops g old (fault ≡ Device) new → Stops g old (told ≡ stores.Device) new
-stops_told g old new fault told is (inl (failed, run)) = inl (is ∙ ap fault_of failed, run)
+    → told ≡ fault_told fault → Stops g old (fault ≡ Device) new → Stops g old (told ≡ stores.Device) new
+stops_told g old new fault told is (inl (failed, run)) = inl (is ∙ ap fault_told failed, run)
 stops_told g old new fault told is (inr phases) = inr phases
 
 -- a file of which one gate is shut, once the body behind it is written
@@ -187,7 +188,7 @@ device_or_memory P fault answer is device =
     if_err answer fault (λ (e : LoadFault). e ≡ OutOfMemory → P) is (λ memory. absurd (cc (memory, device)))
 
 -- want of memory, as the store tells it
-pub memory_of : (fault : LoadFault) → fault_of fault ≡ stores.OutOfMemory → fault ≡ OutOfMemory
+pub memory_of : (fault : LoadFault) → fault_told fault ≡ stores.OutOfMemory → fault ≡ OutOfMemory
 memory_of Device is = absurd (cc is)
 memory_of OutOfMemory is = refl
 memory_of (Damaged damage) is = absurd (cc is)
@@ -212,20 +213,20 @@ unread_loads g old new fault answer is refuses honest fewer run =
     })
 
 -- a fault, as the store tells it
-pub tells_of : (fault : LoadFault) (told : StoreFault) (read : Result Held Damage) → told ≡ fault_of fault
+pub tells_of : (fault : LoadFault) (told : StoreFault) (read : Result Held Damage) → told ≡ fault_told fault
     → Refuses fault read → Tells told read
 tells_of fault told read is refuses = subst (λ (f : StoreFault). Tells f read) (sym is) (by_case fault read refuses)
   where
-    by_case : (fault : LoadFault) (read : Result Held Damage) → Refuses fault read → Tells (fault_of fault) read
+    by_case : (fault : LoadFault) (read : Result Held Damage) → Refuses fault read → Tells (fault_told fault) read
     by_case Device read refuses = tt
     by_case OutOfMemory read refuses = tt
     by_case (Damaged damage) read refuses = refuses
 
-pub failed_of : (fault : LoadFault) (told : StoreFault) (old new : ℕ) → told ≡ fault_of fault
+pub failed_of : (fault : LoadFault) (told : StoreFault) (old new : ℕ) → told ≡ fault_told fault
     → Causes {X = Loaded} (Err fault) old new → FailedBy told old new
 failed_of fault told old new is causes = subst (λ (f : StoreFault). FailedBy f old new) (sym is) (by_case fault causes)
   where
-    by_case : (fault : LoadFault) → Causes {X = Loaded} (Err fault) old new → FailedBy (fault_of fault) old new
+    by_case : (fault : LoadFault) → Causes {X = Loaded} (Err fault) old new → FailedBy (fault_told fault) old new
     by_case Device causes = causes
     by_case OutOfMemory causes = causes
     by_case (Damaged damage) causes = causes

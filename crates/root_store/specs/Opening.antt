@@ -4,8 +4,7 @@ use Rattle.disk_model.specs.declared.disk.Disk.{Ghosts}
 use Rattle.disk_model.specs.Disk.{Only, Failed, Fewer, Torn}
 use Rattle.disk_model.specs.Moments.{Leaves, LeavesOnly}
 use Rattle.extent_map.specs.Taken.{taken_of}
-use Rattle.store_terms.specs.Image.{Held}
-use Rattle.store_terms.specs.Image.{listing_of}
+use Rattle.store_terms.specs.Image.{Held, listing_of}
 use Rattle.store_terms.specs.StandsFor.{root_of, reading, gate, open_gate, body_at}
 use Rattle.store_terms.specs.declared.root.Root.{Root}
 use Rattle.store_terms.specs.Roots.{sequence_max}
@@ -13,7 +12,6 @@ use Rattle.store_terms.specs.declared.damage.Damage.{Damage}
 use Rattle.commit_plan.specs.declared.fault.StoreFault.{StoreFault}
 use Rattle.commit_plan.specs.declared.fault.StoreFault.TheVariants as stores
 use Rattle.root_reading.specs.declared.load_fault.LoadFault.{LoadFault}
-use Rattle.root_reading.specs.declared.load_fault.LoadFault.TheVariants.{Device, Damaged, OutOfMemory}
 use Rattle.commit_plan.specs.declared.loading.Loaded.{Loaded}
 use Rattle.commit_plan.specs.Kept.{Kept, extents_in, other, Rest, Shut, Calm}
 use Rattle.commit_plan.specs.Loading.{held_in, kept_in}
@@ -84,12 +82,6 @@ Writes old new = (new ≡ old) ⊎ WritesBody old new
 -- a file whose slots name a root
 abbrev pub HasRoot : List ℕ → Type 0
 HasRoot file = (r : Root) × (root_of file ≡ Ok r)
-
--- a fault of opening, as one of the store
-abbrev pub fault_of : LoadFault → StoreFault
-fault_of Device = stores.Device
-fault_of (Damaged damage) = stores.Damaged damage
-fault_of OutOfMemory = stores.OutOfMemory
 
 -- a store is not opened: for what is wrong with its file, unless the device or memory failed
 abbrev pub Tells : StoreFault → Result Held Damage → Type 0

@@ -13,14 +13,14 @@ ghost use Rattle.commit_plan.specs.Staying.{standing_of};
 ghost use Rattle.commit_plan.specs.Live.{standing};
 ghost use Rattle.root_store.specs.Running.{Stands, KeepsTo};
 ghost use Rattle.root_reading.specs.Looking.{Gives, Looks, Causes};
-ghost use Rattle.root_store.specs.Opening.{IsRead, Loads, Opened, Untouched, Writes, HasRoot, Tells, FailedBy, InPhases, Stops, fault_of};
+ghost use Rattle.root_store.specs.Opening.{IsRead, Loads, Opened, Untouched, Writes, HasRoot, Tells, FailedBy, InPhases, Stops};
 
 use crate::commit::Commit;
 use crate::finding::{NUMBER_MAX, find_root};
 use crate::healing::heal;
 use crate::open_fault::OpenFault;
 use crate::phase::Phase;
-use commit_plan::fault::StoreFault;
+use commit_plan::fault::{StoreFault, told};
 use commit_plan::loading::{Loaded, read_root};
 use disk_model::disk::Disk;
 use record_bytes::image::Image;
@@ -101,17 +101,6 @@ pub(crate) fn load<D: Disk>(
     }
     heal(disk, loaded.root)?;
     Ok(loaded)
-}
-
-/// The fault as one of the store.
-fn told(fault: LoadFault) -> StoreFault
-    ensures { result ≡ fault_of fault }
-{
-    match fault {
-        LoadFault::Device => StoreFault::Device,
-        LoadFault::Damaged(damage) => StoreFault::Damaged(damage),
-        LoadFault::OutOfMemory => StoreFault::OutOfMemory,
-    }
 }
 
 /// Opens the store of a file that a crash may have left: what it stands for, or what is wrong with it.

@@ -3,7 +3,7 @@ use Rattle.store_terms.specs.StandsFor.{reading}
 use Rattle.store_terms.specs.Image.{Held}
 use Rattle.root_store.proofs.OpeningLemmas.{stops_told, tells_of, failed_of, memory_of}
 use Rattle.commit_plan.specs.Loading.{kept_in}
-use Rattle.root_store.specs.Opening.{fault_of}
+use Rattle.commit_plan.specs.Fault.{fault_told}
 use Rattle.root_store.proofs.opening.open.Goals as goal
 
 pub returns-in-Ok-clause-gives : goal.returns-in-Ok-clause-gives
@@ -41,7 +41,7 @@ returns-in-Err-clause-cause g c honest =
 
 pub returns-in-Err-clause-untouched : goal.returns-in-Err-clause-untouched
 returns-in-Err-clause-untouched g c honest other =
-    c.in-Err.ensures.untouched honest (λ is. other (c.told.ensures ∙ ap fault_of is))
+    c.in-Err.ensures.untouched honest (λ is. other (c.told.ensures ∙ ap fault_told is))
 
 pub returns-in-Err-clause-memory : goal.returns-in-Err-clause-memory
 returns-in-Err-clause-memory g c honest memory =
