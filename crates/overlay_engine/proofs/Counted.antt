@@ -230,7 +230,7 @@ module _ {D : Type 0} (g : Ghosts D) where
       let more = made_on whole.between first.new last.old parts.0 whole.goes_on begun.1 one.0 in
       let done = once_done last.old last.new whole.number on.1
       (as_device last.old last.new (Done whole.number) last.step last.reply whole.ends.0 whole.ends.1 parts.1) more.0 in
-      let asked : calls_asked_in run ≡ calls_of old.version = commit_counts old run new whole in
+      let asked : calls_asked_in run ≡ calls_of old.flusher.commit old.version = commit_counts old run new whole in
       omega (
         arith,
         ap made_by (leads_to whole.between last first.new new whole.leads.2),

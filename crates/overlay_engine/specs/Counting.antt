@@ -50,7 +50,7 @@ module _ {D : Type 0} (g : Ghosts D) where
   -- and just as often the disk is called, where it is honest
   abbrev pub CommitCalls : Type 0
   CommitCalls = (old : Engine D) (run : List (Made D)) (new : Engine D) → IsWholeCommit old run new → g.is_honest old.flusher.commit.disk
-      → g.calls new.flusher.commit.disk ≡ g.calls old.flusher.commit.disk + calls_of old.version
+      → g.calls new.flusher.commit.disk ≡ g.calls old.flusher.commit.disk + calls_of old.flusher.commit old.version
 
   -- and it tells the number of that version, whatever the disk does
   abbrev pub CommitTells : Type 0
