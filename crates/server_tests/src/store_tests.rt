@@ -8,7 +8,9 @@ use file_disk::file_disk::FileDisk;
 use overlay_server::outcome::Served;
 use std::alloc::Global;
 use std::fs;
+use std::fs::File;
 use std::process::Abort;
+use std::rt::Files;
 use std::sync::Wait;
 use std::test::Fail;
 use std::thread::Threads;
@@ -126,16 +128,30 @@ fn a_disk_that_stops_has_what_was_told_durable(rt: HostRuntime) -> Result<(), Fa
     Ok(())
 }
 
+/// Runs a script over a new store in a file, and then asks for the layer when the file is opened again.
+fn over_a_file(
+    rt: &(impl Threads + Wait + Sync + Abort + Files<File = File> + AllocGlobal),
+    path: &str,
+    script: &'static [u8],
+    replies: &str,
+) -> Result<(), Fail> {
+    let alloc = rt.alloc();
+    let _absent = fs::remove_file(rt, path);
+    let first = first_run(rt, alloc, FileDisk::at(rt, path, true)?, 200, script)?;
+    expect(rt, &first, 0, replies);
+    let disk = Some(FileDisk::at(rt, path, false)?);
+    let next = next_run(rt, alloc, disk, b"LOCATE A 2 2\nLOCATE A 11 2\nSYNC\n")?;
+    expect(rt, &next, 0, "in\nout\ndurable 1\n");
+    fs::remove_file(rt, path)?;
+    Ok(())
+}
+
 #[test]
 fn a_layer_is_there_when_the_file_is_opened_again(rt: HostRuntime) -> Result<(), Fail> {
-    let alloc = rt.alloc();
-    let path = "reopened-store";
-    let _absent = fs::remove_file(&rt, path);
-    let first = first_run(&rt, alloc, FileDisk::at(&rt, path, true)?, 200, PUT_A)?;
-    expect(&rt, &first, 0, "ok 1\n");
-    let disk = Some(FileDisk::at(&rt, path, false)?);
-    let next = next_run(&rt, alloc, disk, b"LOCATE A 2 2\nLOCATE A 11 2\nSYNC\n")?;
-    expect(&rt, &next, 0, "in\nout\ndurable 1\n");
-    fs::remove_file(&rt, path)?;
-    Ok(())
+    over_a_file(&rt, "reopened-store", PUT_A, "ok 1\n")
+}
+
+#[test]
+fn a_file_has_what_is_told_durable(rt: HostRuntime) -> Result<(), Fail> {
+    over_a_file(&rt, "synced-store", PUT_AND_SYNC, "ok 1\ndurable 1\n")
 }
