@@ -227,6 +227,8 @@ def device(outcome, judged):
     only({code for _, _, code in lines}, set())
     only({code for _, _, code in syncs}, {30})
     only(set() if fault is None else {fault}, {30})
+    if is_silent(outcome):
+        raise judging.Wrong("status 1 without a line")
     if any(replies_behind(session, place, "durable ") for session, place, _ in syncs):
         raise judging.Wrong("durable is told behind a SYNC that told 30")
 
@@ -379,6 +381,7 @@ CASES = {
         ({}, 1, "", True),
         ({4: DEVICE}, 1, "", True),
         ({2: DEVICE, 4: DEVICE}, 1, DEVICE, True),
+        ({4: DEVICE}, 1, None, False),
         ({4: DEVICE}, 0, "", False),
         ({2: DEVICE}, 1, "", False),
         ({1: DEVICE}, 1, "", False),
