@@ -1,5 +1,5 @@
 -- Lists of tiles.
-use Rattle.std.specs.Prelude.{ℕ, ◌<◌, List, [], ◌∷◌, ◌++◌, All}
+use Rattle.std.specs.Prelude.{List, [], ◌∷◌, ◌++◌, All}
 use Rattle.std.proofs.Common.{zero, suc, arith}
 
 -- what is true of each is true of one in the middle
