@@ -28,7 +28,7 @@ pub struct Commit<D: Disk> {
     /// What the file stands for after the commit.
     pub(crate) next_root: Root,
     pub(crate) next_live: LiveRecords,
-    /// The writes of the commit: records, catalog, body.
+    /// The writes of the commit: records, catalog, body. None is kept behind Done.
     pub(crate) plan: Vec<Write>,
     /// How many of them are made.
     pub(crate) next: usize,
@@ -120,6 +120,8 @@ impl<D: Disk> Commit<D> {
                 self.disk.sync()?;
                 self.root = self.next_root;
                 mem::swap(&mut self.live, &mut self.next_live);
+                self.next_live.let_go();
+                self.plan.clear();
                 self.phase = Phase::Idle;
                 Ok(Progress::Done(self.root.version))
             }

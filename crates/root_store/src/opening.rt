@@ -4,7 +4,7 @@ ghost use Rattle.disk_model.specs.Disk.{Fewer, Only};
 ghost use Rattle.disk_model.specs.Moments.{Leaves, LeavesOnly};
 ghost use Rattle.overlay_terms.specs.Commands.{version_max};
 ghost use Rattle.overlay_terms.specs.StoredTiles.{AreStored};
-ghost use Rattle.tile_build.specs.Tile.{finished_of};
+ghost use Rattle.tile_build.specs.StoredTile.{finished_of};
 ghost use Rattle.extent_map.specs.Taken.{limit_of};
 ghost use Rattle.store_terms.specs.StandsFor.{reading};
 ghost use Rattle.commit_plan.specs.Kept.{Kept};
@@ -148,7 +148,7 @@ pub fn open<D: Disk>(
     match load(alloc, &mut disk, max_blocks) {
         Ok(loaded) => {
             let root = loaded.root;
-            let image = Image::new(root.version, loaded.content.layers, loaded.content.tiles);
+            let image = Image::of_shared(root.version, loaded.content.layers, loaded.content.tiles);
             let commit = Commit {
                 disk,
                 root,

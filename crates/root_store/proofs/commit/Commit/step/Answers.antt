@@ -6,6 +6,7 @@ use Rattle.commit_plan.specs.Kept.{extents_in, other, Either, Rest, Shut, Ready}
 use Rattle.root_store.specs.Running.{Before}
 use Rattle.root_reading.specs.Taking.{IsMapOf}
 use Rattle.commit_plan.specs.declared.live_records.LiveRecords.{LiveRecords}
+use Rattle.commit_plan.specs.declared.room.Room.{Room}
 use Rattle.commit_plan.specs.Live.{standing}
 use Rattle.extent_map.specs.Taken.{taken_of, limit_of}
 use Rattle.commit_plan.specs.Planning.{Leads}
@@ -335,5 +336,5 @@ returns-in_ok-sync-in-Finish-clause-moves g c x y runs =
 pub returns-in_ok-sync-in-Finish-clause-blocks : goal.returns-in_ok-sync-in-Finish-clause-blocks
 returns-in_ok-sync-in-Finish-clause-blocks g c limit keeps = (
   ap (λ (r : LiveRecords). limit_of r.room.map) c.swap.ensures.x_after ∙ keeps.1,
-  ap (λ (r : LiveRecords). limit_of r.room.map) c.swap.ensures.y_after ∙ keeps.0,
+  ap (λ (r : Room). limit_of r.map) c.let_go.ensures.room ∙ ap (λ (r : LiveRecords). limit_of r.room.map) c.swap.ensures.y_after ∙ keeps.0,
 )
