@@ -17,8 +17,9 @@ use Rattle.overlay_terms.proofs.NameLemmas.{same_name}
 use Rattle.layer_book.proofs.Answering.{take_there}
 use Rattle.layer_book.proofs.Names.{own_name}
 use Rattle.layer_book.proofs.Wanted.{index_at}
-use Rattle.tile_build.specs.declared.tile.Tile as code
-use Rattle.tile_build.specs.Tile.{finished_of, tile_of}
+use Rattle.tile_build.specs.declared.stored_tile.StoredTile.{StoredTile}
+use Rattle.tile_build.specs.StoredTile.{finished_of}
+use Rattle.tile_build.specs.Tile.{tile_of}
 use Rattle.version_core.specs.Version.{IsVersion}
 use Rattle.version_core.proofs.Restored.{found_is}
 use Rattle.flush_core.specs.Imaging.{named_tile, tiles_in, tiles_of_layer, tiles_in_order}
@@ -229,7 +230,7 @@ layers_more version layers i layer e =
     ∙ flat_map-append (tiles_of_layer version) (take i layers) (layer ∷ []) ∙ ap (λ fs. flat_map (tiles_of_layer version) (take i layers) ++ fs) (append-nil (tiles_of_layer version layer))
 
 -- a tile that is pushed is the one of its name and column
-pub pushed : (list : List (Name × ℕ × code.Tile)) (x : Name × ℕ × code.Tile) (name : Name) (k : ℕ) (tile : Tile) (found : Option Tile) → x.0 ≡ name → x.1 ≡ k → tile_of x.2 ≡ tile → Some tile ≡ found
+pub pushed : (list : List StoredTile) (x : StoredTile) (name : Name) (k : ℕ) (tile : Tile) (found : Option Tile) → x.name ≡ name → x.column ≡ k → tile_of x.tile.value ≡ tile → Some tile ≡ found
     → map finished_of (list ++ x ∷ []) ≡ map finished_of list ++ named_tile name k found
 pushed list x name k tile found same level right is =
     map-append finished_of list (x ∷ [])

@@ -2,7 +2,7 @@ use Rattle.std.proofs.Common.{◌++◌, [], cond, map, flat_map, take, ap, sym, 
 use Rattle.overlay_terms.specs.Column.{columns}
 use Rattle.layer_book.specs.Layer.{named_layer}
 use Rattle.layer_book.proofs.Lines.{none_there}
-use Rattle.tile_build.specs.Tile.{finished_of}
+use Rattle.tile_build.specs.StoredTile.{finished_of}
 use Rattle.flush_core.specs.Imaging.{tiles_in, tiles_of_layer}
 use Rattle.flush_core.proofs.ImageLemmas.{layers_more}
 use Rattle.flush_core.proofs.imaging.tiles_in_order.Goals as goal

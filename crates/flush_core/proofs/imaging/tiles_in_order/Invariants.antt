@@ -1,5 +1,5 @@
 use Rattle.std.proofs.Common.{◌≡◌, map, take, flat_map}
-use Rattle.tile_build.specs.Tile.{finished_of}
+use Rattle.tile_build.specs.StoredTile.{finished_of}
 use Rattle.flush_core.specs.Imaging.{tiles_of_layer}
 use Rattle.flush_core.proofs.imaging.tiles_in_order.Given as goal
 
