@@ -43,8 +43,8 @@ pub fn device_refusals<D: Disk>()
     ensures { DeviceRefusals D.Disk }
 {}
 
-/// From the step that begins it to the one that ends it a commit makes one device call for each record and the catalog,
-/// and six more.
+/// From the step that begins it to the one that ends it a commit makes one device call for each new record and the
+/// catalog, and six more.
 pub fn commit_counts<D: Disk>()
     ensures { CommitCounts D.Disk }
 {}

@@ -88,6 +88,6 @@ impl<D: Disk> Engine<D> {
 fn restored(alloc: Global, image: Image) -> Result<Version, VersionFault>
     ensures { IfOk result (λ version. version ≡ version_of image) }
 {
-    let (number, layers, tiles) = image.into_parts();
-    Version::restore(alloc, number, layers, tiles)
+    let (number, layers, tiles) = image.into_shared();
+    Version::restore_shared(alloc, number, layers, tiles)
 }
