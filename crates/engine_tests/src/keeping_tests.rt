@@ -1,10 +1,13 @@
 //! Which records a commit writes: those that the store does not hold already.
 use crate::testing::{CREATED, SHIFTED, SMALLER, SQUARE, Words, created, drive, recovered};
+use disk_model::image::Choice;
 use disk_model::mem_disk::{Call, MemDisk};
+use layer_expr::name::Name;
 use overlay_engine::engine::Engine;
 use overlay_engine::step::Reply;
 use std::alloc::Global;
 use std::test::Fail;
+use version_core::verifying::Verdict;
 
 /// How many bytes a block has, and how many of them the slots take.
 const BLOCK: usize = 4096;
@@ -124,7 +127,30 @@ fn are_written(alloc: Global, lines: &[Line], calls: &[Call]) -> Result<bool, Fa
     Ok(calls.len() == from)
 }
 
-/// Whether the commits of a list write so.
+/// The layers of an engine, and whether it has the tile of I in column 8: the one that the lists build.
+fn held(alloc: Global, engine: &Engine<MemDisk>) -> Result<(Vec<u8>, bool), Fail> {
+    let version = engine.version();
+    let tile = version.tile(&Name::new(alloc, b"I")?, 8);
+    Ok((version.layers().list(alloc)?, tile.is_some()))
+}
+
+/// Whether a disk recovers to just these layers and this tile, which is right.
+fn is_recovered(
+    alloc: Global,
+    disk: &MemDisk,
+    layers: &[u8],
+    has_tile: bool,
+) -> Result<bool, Fail> {
+    let engine = recovered(alloc, disk.image(disk.calls().len(), Choice::New)?)?;
+    let (found, is_there) = held(alloc, &engine)?;
+    if found.as_slice() != layers || is_there != has_tile {
+        return Ok(false);
+    }
+    let name = Name::new(alloc, b"I")?;
+    Ok(!has_tile || engine.version().verify(alloc, &name, 8)? == Verdict::Same)
+}
+
+/// Whether the commits of some lines write so, and what they write and keep is recovered.
 fn writes_so(alloc: Global, lines: &[Line]) -> Result<bool, Fail> {
     let mut engine = created(alloc, 100)?;
     for line in lines {
@@ -132,28 +158,40 @@ fn writes_so(alloc: Global, lines: &[Line]) -> Result<bool, Fail> {
             return Ok(false);
         }
     }
-    are_written(alloc, lines, engine.into_disk().calls())
+    let (layers, has_tile) = held(alloc, &engine)?;
+    let disk = engine.into_disk();
+    Ok(are_written(alloc, lines, disk.calls())? && is_recovered(alloc, &disk, &layers, has_tile)?)
+}
+
+/// Whether they do behind each of the lines.
+fn write_so(alloc: Global, lines: &[Line]) -> Result<bool, Fail> {
+    for count in 1..=lines.len() {
+        if !writes_so(alloc, lines.get(..count).unwrap_or(&[]))? {
+            return Ok(false);
+        }
+    }
+    Ok(true)
 }
 
 #[test]
 fn a_commit_writes_only_what_changed(rt: HostRuntime) -> Result<(), Fail> {
     for lines in LISTS {
-        assert!(rt; writes_so(rt.alloc(), lines)?);
+        assert!(rt; write_so(rt.alloc(), lines)?);
     }
     Ok(())
 }
 
-/// The most blocks of a file, and the reply to the first device call of the second commit.
-const LIMITS: [(u32, Reply); 2] = [(6, Reply::Going), (5, Reply::Refused(31))];
+/// The most blocks of a file, how many device calls the second commit is asked for, and the reply to the last.
+const LIMITS: [(u32, usize, Reply); 2] = [(6, 8, Reply::Done(2)), (5, 1, Reply::Refused(31))];
 
 #[test]
 fn six_blocks_are_enough_for_a_layer_beside_another(rt: HostRuntime) -> Result<(), Fail> {
-    for &(limit, reply) in &LIMITS {
+    for &(limit, calls, reply) in &LIMITS {
         let mut engine = created(rt.alloc(), limit)?;
         let line: Line = (&[Words::Put("A", SQUARE)], 8, &[]);
         assert!(rt; is_done(rt.alloc(), &mut engine, &line)?);
-        let steps = &[Words::Put("B", SHIFTED), Words::Device];
-        let replies = drive(rt.alloc(), &mut engine, steps)?;
+        let steps = with_calls(rt.alloc(), &[Words::Put("B", SHIFTED)], calls)?;
+        let replies = drive(rt.alloc(), &mut engine, &steps)?;
         assert!(rt; replies.last().copied() == Some(reply));
     }
     Ok(())

@@ -114,14 +114,15 @@ fn with_overlap(rt: &impl Abort, alloc: Global, layers: &Layers) -> Layers {
 /// The image of version 1: the square A alone.
 pub fn image_of_a(rt: &impl Abort, alloc: Global) -> Image {
     let layers = with_square(rt, alloc, &Layers::new(alloc), b"A");
-    Image::new(1, layers, Vec::new(alloc))
+    Image::new(alloc, 1, layers, Vec::new(alloc)).expect(rt, "memory")
 }
 
 /// The image of version 3: the squares A and B, and I = A & B with no tile.
 fn image_of_three(rt: &impl Abort, alloc: Global) -> Image {
     let one = with_square(rt, alloc, &Layers::new(alloc), b"A");
     let two = with_square(rt, alloc, &one, b"B");
-    Image::new(3, with_overlap(rt, alloc, &two), Vec::new(alloc))
+    let layers = with_overlap(rt, alloc, &two);
+    Image::new(alloc, 3, layers, Vec::new(alloc)).expect(rt, "memory")
 }
 
 /// A disk on which a store was made and an image committed in so many steps.
