@@ -2,8 +2,8 @@
 
 python3 bench/store.py [PROGRAM]
 
-Builds the program of bench/store over the store's crates (bench/proved.py); PROGRAM is such a program that was built
-before (it stays nowhere else). The files and records that it is given are written here, byte by byte, as docs/FORMAT.md
+Builds the program of bench/store over the store's crates, unproved (bench/unproved.py; minutes); PROGRAM is one that
+was built before. The files and records that it is given are written here, byte by byte, as docs/FORMAT.md
 has them. Processor times, the best of five runs less those without the work, each on a disk in memory.
 """
 
@@ -14,10 +14,11 @@ import subprocess
 import sys
 import tempfile
 
-import proved
+import unproved
 
 HERE = pathlib.Path(__file__).resolve().parent
-CRATES = ["overlay_terms", "disk_model", "tile_build", "record_bytes", "record_form", "root_store"]
+CRATES = ["plane_base", "wkt_form", "layer_expr", "layer_book", "tile_build", "version_core", "disk_model", "extent_map"]
+CRATES += ["record_bytes", "record_form", "root_store", "flush_core"]
 BLOCK = 4096
 
 
@@ -89,7 +90,7 @@ def store(layers):
 
 
 def built(folder):
-    return proved.built(HERE / "store", CRATES, folder, ["read_tile", "/dev/null", "0"])
+    return unproved.built(HERE / "store", CRATES, folder)
 
 
 def processor():
@@ -172,12 +173,24 @@ def changes(program, folder):
         print(f"{name}: a commit makes {calls} device calls and writes {written} bytes")
 
 
+def beginnings(program, folder):
+    """How long the beginning of a commit takes, and how long it takes to find a place."""
+    small, path = zigzag(4), folder / "tiled"
+    tile = {c: tile_record(c, 100, short_piece) for c in range(17)}
+    path.write_bytes(store([(b"A", small, None)] + [(b"I%d" % i, b"A", tile) for i in range(30)]))
+    least = int(subprocess.run([program, "begin", path, "200"], stdout=subprocess.PIPE, check=True, text=True).stdout.split()[0])
+    print(f"the beginning of a commit behind a PUT, beside 30 layers with 510 tiles of 100 pieces: {least / 1e6:.3f} ms")
+    mapping, placing = each(program, "map", path, 5000), each(program, "place", path, 50000)
+    print(f"560 extents: a map of them takes {1000 * mapping:.3f} ms, a copy of it and a place {1000 * placing:.4f} ms")
+
+
 def main():
     with tempfile.TemporaryDirectory() as folder:
         program = pathlib.Path(sys.argv[1]).resolve() if len(sys.argv) > 1 else built(folder)
         records(program, pathlib.Path(folder))
         files(program, pathlib.Path(folder))
         changes(program, pathlib.Path(folder))
+        beginnings(program, pathlib.Path(folder))
 
 
 main()
