@@ -49,21 +49,21 @@ some_member a others same = one_more (length (a ∷ others)) (length_cons a othe
     one_more : (n : ℕ) → 0 < n → n ≡ 0 → ⊥
     one_more n some none = omega arith
 
--- an event that is no command leaves the layers
+-- an event that is no batch leaves the layers
 layers_of_event : (old : Version) (event : Event) (new : Version) → command_of event ≡ None → Follows old event new → new.layers ≡ old.layers
-layers_of_event old (accepted session command) new none follows = absurd (some_none (session, command) none)
+layers_of_event old (accepted session batch) new none follows = absurd (some_none (session, batch) none)
 layers_of_event old (kept name column tile) new none follows = follows.layers
 layers_of_event old (durable_to number) new none follows = follows.layers
 
--- an event without a command, and others
+-- an event without a batch, and others
 no_first : (event : Event) (version : Version) (entries : List Entry) → commands_in (record { event = event; version = version } ∷ entries) ≡ [] → command_of event ≡ None
-no_first (accepted session command) version entries none = absurd (some_member (session, command) (commands_in entries) none)
+no_first (accepted session batch) version entries none = absurd (some_member (session, batch) (commands_in entries) none)
 no_first (kept name column tile) version entries none = refl
 no_first (durable_to number) version entries none = refl
 
 -- none behind the first
 no_later : (event : Event) (version : Version) (entries : List Entry) → commands_in (record { event = event; version = version } ∷ entries) ≡ [] → commands_in entries ≡ []
-no_later (accepted session command) version entries none = absurd (some_member (session, command) (commands_in entries) none)
+no_later (accepted session batch) version entries none = absurd (some_member (session, batch) (commands_in entries) none)
 no_later (kept name column tile) version entries none = none
 no_later (durable_to number) version entries none = none
 
@@ -83,10 +83,10 @@ some_of : (test : Bool) (tile : Tile) (o : Option Tile) → is_some o ≡ true �
 some_of true tile o there = refl
 some_of false tile o there = there
 
--- an event that is no command leaves a finished tile finished
+-- an event that is no batch leaves a finished tile finished
 tile_of_event : (old : Version) (event : Event) (new : Version) (name : Name) (k : ℕ) → command_of event ≡ None → Follows old event new
     → is_some (tile_at old.tiles name k) ≡ true → is_some (tile_at new.tiles name k) ≡ true
-tile_of_event old (accepted session command) new name k none follows there = absurd (some_none (session, command) none)
+tile_of_event old (accepted session batch) new name k none follows there = absurd (some_none (session, batch) none)
 tile_of_event old (kept other column tile) new name k none follows there =
     ap is_some (follows.tiles name k) ∙ some_of (bytes_eq other name && (column == k)) tile (tile_at old.tiles name k) there
 tile_of_event old (durable_to number) new name k none follows there = ap is_some (follows.tiles name k) ∙ there

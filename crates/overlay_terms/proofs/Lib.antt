@@ -33,8 +33,9 @@ pub mod KeptReach
 pub mod KeptDerived
 pub mod KeptBounds
 pub mod KeptCommands
+pub mod RightTiles
+pub mod BatchLemmas
 pub mod KeptHistories
 pub mod BuildingLemmas
 pub mod FormLemmas
 pub mod HistoryFolds
-pub mod BatchLemmas
