@@ -1,10 +1,14 @@
 -- The faults of the book: their numbers and texts, and what each says.
-use Rattle.std.specs.Prelude.{ℕ, Bool, true, false, IsTrue, List, codes}
+use Rattle.std.specs.Prelude.{◌≡◌, ◌⊎◌, ℕ, Bool, true, false, IsTrue, List, codes}
 use Rattle.std.specs.Option.{option_map}
 use Rattle.overlay_terms.specs.Commands.{Command, refusal_at}
+use Rattle.overlay_terms.specs.Batches.{Batch, batch_refusal_at}
 use Rattle.layer_book.specs.Fault.{RefusedBy}
+use Rattle.layer_book.specs.BatchFault.{RefusedAllBy}
 use Rattle.overlay_terms.specs.Histories.{Version}
 use Rattle.layer_book.specs.declared.fault.LayerFault.TheVariants.{OutOfMemory as NoMemory}
+use Rattle.layer_book.specs.declared.batch_fault.BatchFault.{BatchFault}
+use Rattle.layer_book.specs.declared.batch_fault.BatchFault.TheVariants.{Whole}
 use Rattle.version_core.specs.Fault as version_fault
 use Rattle.version_core.specs.declared.fault.VersionFault.TheVariants.{Layer}
 use Rattle.book_history.specs.declared.fault.ToldFault.{ToldFault}
@@ -73,3 +77,18 @@ IfGone fault.Closing gone other = other
 IfGone fault.Gone gone other = gone
 IfGone fault.NoStore gone other = other
 IfGone (fault.Store refused) gone other = other
+
+-- the fault of a batch that is refused so, which is no single command's
+abbrev pub whole : BookFault → BatchFault
+whole refused = Whole (code_of refused)
+
+-- why a book refuses a batch: it is behind, which each call says by itself; or it closes, where it may;
+-- or the refusal of the definitions, or memory ran out where there is none
+abbrev pub IsBatchRefused : Bool → Version → Batch → BatchFault → Type 0
+IsBatchRefused closing version batch refused =
+    (refused ≡ whole fault.Gone) ⊎ ((IsTrue closing × (refused ≡ whole fault.Closing))
+    ⊎ RefusedAllBy (batch_refusal_at version.number version.layers batch) refused)
+
+-- one fact where a batch is refused because the locked book is behind or cannot go on, another at each other fault
+abbrev pub IfBatchGone : BatchFault → Type 0 → Type 0 → Type 0
+IfBatchGone refused gone other = ((refused ≡ whole fault.Gone) × gone) ⊎ (¬ (refused ≡ whole fault.Gone) × other)

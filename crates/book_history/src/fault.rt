@@ -1,7 +1,8 @@
 //! Why a call on the book is refused.
 ghost use Rattle.std.specs.Prelude.{◌≡◌, Some};
-ghost use Rattle.book_history.specs.Fault.{code_of, passes, store_code_of, store_text_of, text_of};
+ghost use Rattle.book_history.specs.Fault.{code_of, passes, store_code_of, store_text_of, text_of, whole};
 
+use layer_book::batch_fault::BatchFault;
 use std::fmt;
 use thiserror::Error;
 use version_core::fault::VersionFault;
@@ -71,6 +72,13 @@ impl BookFault {
             BookFault::NoStore => 46,
             BookFault::Store(fault) => fault.code(),
         }
+    }
+
+    /// The fault of a batch that is refused so, which is no single command's.
+    pub fn whole(&self) -> BatchFault
+        ensures { result ≡ whole self.now }
+    {
+        BatchFault::Whole(self.code())
     }
 }
 
