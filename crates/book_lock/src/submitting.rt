@@ -83,7 +83,7 @@ impl<J: Naming, R: Wait + Drop> LockedLog<J, R> {
             }
         };
         match self.accept(me, batch.commands(), version) {
-            Ok(accepted) => Ok(accepted),
+            Ok(number) => Ok(number),
             Err(gone) => Err(gone.whole()),
         }
     }
