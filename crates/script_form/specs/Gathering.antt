@@ -1,8 +1,10 @@
 -- Batches of the code that wait for lines, and what a line makes of them.
-use Rattle.std.specs.Prelude.{◌≡◌, true, false, List, [], ◌∷◌, ◌++◌, map, length, Option, Some, None, Result, Ok, Err, Vec}
+use Rattle.std.specs.Prelude.{◌≡◌, ℕ, ◌==◌, true, false, List, [], ◌∷◌, ◌++◌, map, length, Option, Some, None, Result, Ok, Err, Vec, if◌then◌else◌}
 use Rattle.overlay_terms.specs.Batches.{Batch}
 use Rattle.layer_book.specs.Command.{command}
 use Rattle.layer_book.specs.declared.command.Command.{Command}
+use Rattle.script_form.specs.declared.fault.CommandFault.{CommandFault}
+use Rattle.script_form.specs.Fault.{code_of}
 use Rattle.script_form.specs.BatchLines.{AreCommandsOf, IsFirstUnread}
 use Rattle.script_form.specs.Request.{request}
 use Rattle.script_form.specs.Requests.{Request}

@@ -4,7 +4,7 @@ ghost use Rattle.overlay_terms.specs.Batches.{IsSized};
 ghost use Rattle.layer_book.specs.Command.{command};
 ghost use Rattle.script_form.specs.BatchLines.{IsCommandOf, IsNoCommand};
 ghost use Rattle.script_form.specs.Fault.{code_of};
-ghost use Rattle.script_form.specs.Gathering.{IsOpen, Joins, ReadsNext, ReadsAll};
+ghost use Rattle.script_form.specs.Gathering.{IsOpen, IsUnread, Joins, ReadsNext, ReadsAll};
 ghost use Rattle.script_form.specs.Request.{request};
 ghost use Rattle.script_form.specs.Requests.{batch};
 ghost use Rattle.script_form.specs.Turns.{begun_by};
