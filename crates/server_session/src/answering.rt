@@ -1,4 +1,4 @@
-//! The answer to one line.
+//! The answer to one line, or to the lines of a batch.
 ghost use Rattle.std.specs.Prelude.{◌≡◌, Bool, IfOk, IfErr};
 ghost use Rattle.std.specs.Arc.{arc_value};
 ghost use Rattle.overlay_terms.specs.Histories.{newest, IsHistory};
@@ -8,17 +8,21 @@ ghost use Rattle.script_form.specs.LineReply.{reply_text};
 ghost use Rattle.script_form.specs.Request.{request};
 ghost use Rattle.script_form.specs.Requests.{put, locate, grid, list_layers, edges, wait, verify, sync};
 ghost use Rattle.script_form.specs.Transcript.{asked_column};
-ghost use Rattle.server_session.specs.Answering.{Answers, Submits, result_text};
+ghost use Rattle.server_session.specs.Answering.{Answers, AnswersAll, Submits, SubmitsAll, result_text};
 ghost use Rattle.server_session.specs.Turn.{Stays, TakesTurn};
 ghost use Rattle.version_book.specs.Store.{has_store};
 
-use crate::fault::command_fault;
+use crate::fault::{command_fault, numbered};
 use exact_point::QueryPoint;
+use layer_book::batch::Batch;
+use layer_book::batch_fault::BatchFault;
 use layer_book::command::Command;
+use layer_book::fault::LayerFault;
 use overlay_grid::{GridSpec, grid};
 use plane_base::Column;
 use script_form::{
-    CommandFault, LineReply, Request, read_define, read_name, read_put, read_remove, request_of,
+    CommandFault, Gathering, LineReply, LineTurn, LinesFault, Request, read_define, read_name,
+    read_put, read_remove, take_line,
 };
 use std::alloc::Global;
 use std::sync::{Arc, Wait};
@@ -26,23 +30,79 @@ use std::thread::Threads;
 use version_book::seen_log::Naming;
 use version_book::session::Session;
 use version_book::shared::Shared;
+use version_core::fault::VersionFault;
 use version_core::version::Version;
 
-/// What a line makes of the book and the session, and the reply. A line that is too long may be handed in cut off
-/// behind its first 65,537 bytes.
+/// What a line makes of the book, of the session and of the batch that waits for lines, and the reply to the turn that
+/// it ends. A line that is too long may be handed in cut off behind its first 65,537 bytes.
 pub fn answer<J: Naming, S: Wait + Drop, Q: Wait + Threads + Sync>(
     rt: &Q,
     alloc: Global,
     shared: &Shared<J, S>,
     me: &mut Session,
+    waiting: &mut Option<Gathering>,
     line: &[u8],
 ) -> LineReply
     requires { me.old.book ≡ J.book }
-    ensures { TakesTurn (has_store shared.now) me.old line.now me.new (reply_text result) }
+    ensures { TakesTurn (has_store shared.now) me.old waiting.old line.now me.new waiting.new (reply_text result) }
 {
-    match answer_request(rt, alloc, shared, me, request_of(line)) {
+    match take_line(alloc, waiting, line) {
+        LineTurn::Waits => LineReply::Nothing,
+        LineTurn::Alone(asked) => answer_alone(rt, alloc, shared, me, asked),
+        LineTurn::Whole(read) => answer_batch(rt, alloc, shared, me, read),
+    }
+}
+
+/// The reply to a line that is in no batch.
+fn answer_alone<J: Naming, S: Wait + Drop, Q: Wait + Threads + Sync>(
+    rt: &Q,
+    alloc: Global,
+    shared: &Shared<J, S>,
+    me: &mut Session,
+    asked: Request<'_>,
+) -> LineReply
+    requires { me.old.book ≡ J.book }
+    ensures { Answers (has_store shared.now) me.old (request asked.entry) me.new (reply_text result) }
+{
+    match answer_request(rt, alloc, shared, me, asked) {
         Ok(reply) => reply,
         Err(fault) => LineReply::Fault(fault),
+    }
+}
+
+/// The reply to the lines of a batch, by what they were read as.
+fn answer_batch<J: Naming, S: Wait + Drop, Q: Wait>(
+    rt: &Q,
+    alloc: Global,
+    shared: &Shared<J, S>,
+    me: &mut Session,
+    read: Result<Batch, LinesFault>,
+) -> LineReply
+    requires { me.old.book ≡ J.book }
+    ensures { AnswersAll me.old read.entry me.new (reply_text result) }
+{
+    match read {
+        Ok(batch) => submit_all(rt, alloc, shared, me, &batch),
+        Err(LinesFault::Unread(place, fault)) => LineReply::RefusedAt(place, fault),
+        Err(LinesFault::OutOfMemory) => LineReply::Fault(CommandFault::OutOfMemory),
+    }
+}
+
+/// The reply to a batch.
+fn submit_all<J: Naming, S: Wait + Drop, Q: Wait>(
+    rt: &Q,
+    alloc: Global,
+    shared: &Shared<J, S>,
+    me: &mut Session,
+    batch: &Batch,
+) -> LineReply
+    requires { me.old.book ≡ J.book }
+    ensures { SubmitsAll me.old batch.now me.new (reply_text result) }
+{
+    match shared.submit_all(rt, alloc, me, batch) {
+        Ok(number) => LineReply::Accepted(number),
+        Err(BatchFault::At(place, code)) => LineReply::RefusedAt(place, numbered(code)),
+        Err(BatchFault::Whole(code)) => LineReply::Fault(numbered(code)),
     }
 }
 
@@ -78,6 +138,8 @@ fn answer_request<J: Naming, S: Wait + Drop, Q: Wait + Threads + Sync>(
         Request::Wait(name) => answer_wait(rt, alloc, shared, me, name),
         Request::Verify(name, number) => answer_verify(alloc, me, name, number),
         Request::Sync => answer_sync(rt, shared, me),
+        // A batch that has lines is not asked for here: the size is wrong.
+        Request::Batch(_) => Err(CommandFault::Version(VersionFault::Layer(LayerFault::BatchSize))),
     }
 }
 
