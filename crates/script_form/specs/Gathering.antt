@@ -10,8 +10,8 @@ use Rattle.script_form.specs.Request.{request}
 use Rattle.script_form.specs.Requests.{Request}
 use Rattle.script_form.specs.Turns.{Turn, alone, together, Waiting, with_line, is_whole, waiting_after, ended_by}
 use Rattle.script_form.specs.declared.gathering.Gathering.{Gathering}
-use Rattle.script_form.specs.declared.gathering.Joined.{Joined}
-use Rattle.script_form.specs.declared.gathering.Joined.TheVariants as joined
+use Rattle.script_form.specs.declared.joining.Joined.{Joined}
+use Rattle.script_form.specs.declared.joining.Joined.TheVariants as joined
 use Rattle.script_form.specs.declared.gathering.LinesFault.{LinesFault}
 use Rattle.script_form.specs.declared.gathering.LinesFault.TheVariants.{Unread, OutOfMemory}
 use Rattle.script_form.specs.declared.line_turn.LineTurn.{LineTurn}

@@ -4,6 +4,7 @@
 pub mod fault;
 pub mod fault_text;
 pub mod gathering;
+mod joining;
 pub mod laws;
 pub mod line_buffer;
 pub mod line_reply;

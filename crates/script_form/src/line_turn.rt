@@ -4,7 +4,8 @@ ghost use Rattle.script_form.specs.Gathering.{IsTaken, TakesLine};
 ghost use Rattle.script_form.specs.Request.{request};
 ghost use Rattle.script_form.specs.Requests.{request_of};
 
-use crate::gathering::{Gathering, Joined, LinesFault};
+use crate::gathering::{Gathering, LinesFault};
+use crate::joining::Joined;
 use crate::request::{Request, request_of};
 use layer_book::batch::Batch;
 use std::alloc::Global;
