@@ -20,7 +20,7 @@ use std::alloc::AllocError;
 /// The places that a pass has found ahead, and the pairs of neighbours that it has tested, if they
 /// are listed.
 #[derive(Drop)]
-pub struct Search {
+pub(crate) struct Search {
     pub ahead: Ahead,
     pub listed: bool,
     pub tests: Vec<(Seg, Seg)>,
@@ -42,7 +42,7 @@ impl Search {
 
     /// Tests the two neighbours at a seam of a status, so many members from the lowest one on, if
     /// there are two.
-    pub fn test_at(
+    pub(crate) fn test_at(
         &mut self,
         column: Column,
         at: &HPoint,
@@ -65,7 +65,7 @@ impl Search {
     }
 
     /// Tests the neighbours at two seams, which may be one.
-    pub fn test_both(
+    pub(crate) fn test_both(
         &mut self,
         column: Column,
         at: &HPoint,
@@ -85,7 +85,7 @@ impl Search {
 }
 
 /// Tests two neighbours: where they cross after a place, in the closed column, that place is found.
-pub fn test_pair(
+pub(crate) fn test_pair(
     ahead: &mut Ahead,
     column: Column,
     at: &HPoint,
