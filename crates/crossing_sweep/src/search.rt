@@ -5,7 +5,7 @@ ghost use Rattle.overlay_terms.specs.Plane.{point_cmp};
 ghost use Rattle.exact_point.specs.Place.{place};
 ghost use Rattle.arrange.specs.Arrangement.{is_in_closed_column};
 ghost use Rattle.crossing_sweep.specs.Member.{segs_of};
-ghost use Rattle.crossing_sweep.specs.Testing.{AreTested, AreSeamsTested};
+ghost use Rattle.crossing_sweep.specs.Testing.{AreTested, AreSeamsTested, seams_at};
 
 use crate::ahead::Ahead;
 use crate::member::Member;
@@ -64,8 +64,28 @@ impl Search {
         Ok(())
     }
 
+    /// Tests the neighbours at the two seams of a node in the column. On its right border there are no
+    /// neighbours to test: all nodes there are known.
+    pub(crate) fn test_new(
+        &mut self,
+        within: bool,
+        column: Column,
+        at: &HPoint,
+        status: &[Member],
+        low: usize,
+        high: usize,
+    ) -> Result<(), AllocError>
+        requires in_order { low ≤ high }
+        ensures { OnOk result (AreSeamsTested column (place at.now) (segs_of status.now) (seams_at within low high) self.old self.new) }
+    {
+        if !within {
+            return Ok(());
+        }
+        self.test_both(column, at, status, low, high)
+    }
+
     /// Tests the neighbours at two seams, which may be one.
-    pub(crate) fn test_both(
+    fn test_both(
         &mut self,
         column: Column,
         at: &HPoint,
