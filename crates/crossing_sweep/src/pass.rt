@@ -158,11 +158,12 @@ impl Pass {
             begin,
         )?;
         let under = mask_over(&self.status[..low]);
-        label(input, &mut stay, under, begin, is_in(input.column(), at));
+        let within = is_in(input.column(), at);
+        label(input, &mut stay, under, begin, within);
         let top = low + stay.len();
         replace(&mut self.status, low, high, stay)?;
         self.search
-            .test_both(input.column(), at, &self.status, low, top)?;
+            .test_new(within, input.column(), at, &self.status, low, top)?;
         self.entered += entered;
         Ok(())
     }
