@@ -13,8 +13,8 @@ told durable, with right tiles, and be opened by the program. The runs end when 
 refuses only each Nth growth in turn, and ends 20 behind the most of three plain runs, whatever the last runs met.
 --every also tries each growth refused together with every second, third and hundredth behind it: there 40 may be told
 any number of times, and a run may be without end, as what asks again for memory is refused again and again, and is
-ended then and counted. Prints a table and, at last, how many of its lines are right; ends with status 1 where one is not.
-Threads draw their order anew in each run, so two tables may differ.
+ended then and counted. Prints a table and, at last, how many of its lines are right; ends with status 1 where one is
+not. Threads draw their order anew in each run, so two tables may differ.
 
 A program that takes its memory by calls that can't be counted so (built static, or with an allocator of its own) is
 told as such. The stacks of threads, which the C library takes from the system, stand for one growth a thread.
