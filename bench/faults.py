@@ -10,11 +10,11 @@ done; with a write half done; a write takes half of its bytes and another call i
 sync that fails loses what was written since the last good one, wholly, or half of each write; one that is interrupted
 loses nothing. So a program that goes on behind a sync that failed leaves an older file than it tells. Two runs: two
 scripts over a new store, and one over a store that is opened, of which the older root's gate is half open, so that
-opening it writes. Each has to end by itself with status 0 or 1; its replies have to be those of the
-model, but that each SYNC of a session may tell 30 from one on, once a call has failed; standard error has the one line
-of 30 where the status is 1. The store that it leaves has to hold a version of the history, no older than what was told
-durable, the last one where the status is 0, with right tiles, and be opened by the program. Prints a table and, at
-last, how many of its lines are right; ends with status 1 where one is not.
+opening it writes. Each has to end by itself with status 0 or 1; its replies have to be those of the model, but that
+each SYNC of a session may tell 30 from one on, once a call has failed; standard error has the one line of 30 where the
+status is 1. The store that it leaves has to hold a version of the history, no older than what was told durable, the
+last one where the status is 0, with right tiles, and be opened by the program. Prints a table and, at last, how many of
+its lines are right; ends with status 1 where one is not.
 """
 
 import argparse
