@@ -1,5 +1,5 @@
 -- Gaps between ascending extents.
-use Rattle.std.proofs.Common.{◌≡◌, inl, inr, ℕ, ◌+◌, ◌<◌, ◌≤◌, List, [], ◌∷◌, ◌++◌, length, take, drop, get_or, sym, ◌∙◌, ap, subst, arith}
+use Rattle.std.proofs.Common.{◌≡◌, inl, inr, ℕ, zero, suc, ◌+◌, ◌<◌, ◌≤◌, List, [], ◌∷◌, ◌++◌, length, take, drop, get_or, sym, ◌∙◌, ap, subst, arith}
 use Rattle.std.proofs.lemmas.List.{take-append-drop, take_more, at_drop_more}
 use Rattle.std.specs.List.{AllByRecursion}
 use Rattle.extent_map.specs.declared.extent.Extent.{Extent}
@@ -94,6 +94,35 @@ behind_from es i e end inside is ascends behind =
     let from : Ascend (e ∷ drop (i + 1) es) = subst Ascend here (ascend_drop es i ascends) in
     subst (AllByRecursion (λ f. end ≤ f.block)) (sym here)
     (behind, all_wider (λ f. e.block + e.blocks ≤ f.block) (λ f. end ≤ f.block) (λ f later. omega (arith, behind, later)) (drop (i + 1) es) from.0)
+
+-- nothing stands behind the last
+pub nothing_behind : {A : Type 0} (P : A → Type 0) (xs : List A) (n : ℕ) → length xs ≤ n → AllByRecursion P (drop n xs)
+nothing_behind P [] zero end = tt
+nothing_behind P [] (suc n) end = tt
+nothing_behind P (x ∷ xs) zero end = absurd (omega (arith, end))
+nothing_behind P (x ∷ xs) (suc n) end = nothing_behind P xs n (omega (arith, end))
+
+ends_before : (ds : List Extent) (e : Extent) (fs : List Extent) → Ascend (ds ++ e ∷ fs) → AllByRecursion (λ d. d.block + d.blocks ≤ e.block) ds
+ends_before [] e fs ascends = tt
+ends_before (d ∷ ds) e fs ascends = ((all_back (λ f. d.block + d.blocks ≤ f.block) ds (e ∷ fs) ascends.0).0, ends_before ds e fs ascends.1)
+
+-- where an extent ends by some block, all before it do
+pub all_by : (es : List Extent) (i : ℕ) (e : Extent) (block : ℕ) → i < length es → e ≡ get_or es i e → Ascend es → e.block + e.blocks ≤ block
+    → AllByRecursion (λ d. d.block + d.blocks ≤ block) (take (i + 1) es)
+all_by es i e block inside is ascends by =
+    let around : take i es ++ e ∷ drop (i + 1) es ≡ es = ap (λ (l : List Extent). take i es ++ l) (sym (split_at es i e inside is)) ∙ take-append-drop i es in
+    all_more (λ d. d.block + d.blocks ≤ block) es i e inside is
+    (all_wider (λ d. d.block + d.blocks ≤ e.block) (λ d. d.block + d.blocks ≤ block) (λ d h. omega (arith, h, by)) (take i es)
+    (ends_before (take i es) e (drop (i + 1) es) (subst Ascend (sym around) ascends))) by
+
+-- where an extent does not end by some block, none behind it does
+pub none_by : (es : List Extent) (i : ℕ) (e : Extent) (block : ℕ) → i < length es → e ≡ get_or es i e → Ascend es → (e.block + e.blocks ≤ block → ⊥)
+    → AllByRecursion (λ d. d.block + d.blocks ≤ block → ⊥) (drop i es)
+none_by es i e block inside is ascends past =
+    let here = split_at es i e inside is in
+    let from : Ascend (e ∷ drop (i + 1) es) = subst Ascend here (ascend_drop es i ascends) in
+    subst (AllByRecursion (λ d. d.block + d.blocks ≤ block → ⊥)) (sym here)
+    (past, all_wider (λ f. e.block + e.blocks ≤ f.block) (λ f. f.block + f.blocks ≤ block → ⊥) (λ f later by. past (omega (arith, later, by))) (drop (i + 1) es) from.0)
 
 apart_turned : (d e : Extent) → IsApart d.block d.blocks e → IsApart e.block e.blocks d
 apart_turned d e (inl before) = inr before

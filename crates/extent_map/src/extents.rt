@@ -1,5 +1,6 @@
 //! The blocks that are taken, and a place for each of some records among those that are free.
-ghost use Rattle.std.specs.Prelude.{◌≡◌, ◌∷◌, List, IsOk, IfOk, IfSome, IfNone, IfErr, IsErrOf, OnErr};
+ghost use Rattle.std.specs.Prelude.{◌≡◌, ◌≤◌, ◌+◌, ◌∷◌, List, length, take, drop, IsOk, IfOk, IfSome, IfNone, IfErr, IsErrOf, OnErr};
+ghost use Rattle.std.specs.List.{AllByRecursion};
 ghost use Rattle.extent_map.specs.Extents.{IsUnused, AreApart, AreAlike, Ascend, Ascend-prop, IsGap};
 ghost use Rattle.extent_map.specs.FirstFit.{IsPlanned, IsFull, IsFirstFit, NoFit, blocks_for};
 
@@ -16,23 +17,41 @@ pub struct Extents {
     ghost ascending: { Ascend taken.items } by { Ascend-prop taken.items },
 }
 
+/// How many of the ascending extents stand before another. It halves what is left at each look.
+fn count_before(taken: &[Extent], extent: &Extent) -> usize
+    requires { Ascend taken.now }
+    ensures within { result ≤ length taken.now }
+    ensures before { AllByRecursion (λ e. e.block + e.blocks ≤ extent.now.block) (take result taken.now) }
+    ensures others { AllByRecursion (λ e. e.block + e.blocks ≤ extent.now.block → ⊥) (drop result taken.now) }
+{
+    let mut low = 0;
+    let mut high = taken.len();
+    while low < high {
+        let middle = low + (high - low) / 2;
+        if taken[middle].is_before(extent) {
+            low = middle + 1;
+        } else {
+            high = middle;
+        }
+    }
+    low
+}
+
 /// Where an extent stands among others, if it has no block in common with them.
 fn place_of(taken: &[Extent], extent: &Extent) -> Option<usize>
     requires { Ascend taken.now }
     ensures some { IfSome result (λ place. IsGap taken.now place extent.now.block extent.now.blocks) }
     ensures none { IfNone result (IsUnused taken.now extent.now.block extent.now.blocks → ⊥) }
 {
-    for i in 0..taken.len() {
-        let other = taken[i];
-        if other.is_before(extent) {
-            continue;
-        }
-        if extent.is_before(&other) {
-            return Some(i);
-        }
-        return None;
+    let place = count_before(taken, extent);
+    if place == taken.len() {
+        return Some(place);
     }
-    Some(taken.len())
+    let other = taken[place];
+    if extent.is_before(&other) {
+        return Some(place);
+    }
+    None
 }
 
 /// Puts an extent in its place.

@@ -8,12 +8,18 @@ use Rattle.overlay_terms.specs.Commands.{version_max}
 use Rattle.overlay_terms.specs.Histories as terms
 use Rattle.overlay_terms.specs.StoredTiles.{AreStored}
 use Rattle.tile_build.specs.declared.tile.Tile.{Tile}
-use Rattle.tile_build.specs.Tile.{finished_of}
+use Rattle.tile_build.specs.declared.stored_tile.StoredTile.{StoredTile}
+use Rattle.tile_build.specs.StoredTile.{finished_of}
+use Rattle.tile_build.specs.Tile.{finished_of as finished_named}
 use Rattle.store_terms.specs.Image.{Held}
 
 -- number, layers and tiles of the code as what a store holds
 abbrev pub held : ℕ → List Layer → List (Name × ℕ × Tile) → Held
-held number layers tiles = record { number = number; layers = layers; tiles = map finished_of tiles }
+held number layers tiles = record { number = number; layers = layers; tiles = map finished_named tiles }
+
+-- the same with tiles that are shared
+abbrev pub shared_held : ℕ → List Layer → List StoredTile → Held
+shared_held number layers tiles = record { number = number; layers = layers; tiles = map finished_of tiles }
 
 -- what a store may hold: no number that is too great, and tiles of their form in their order
 pub record IsImage (x : Held) : Type 0 where

@@ -1,44 +1,62 @@
 //! Images: what one commit writes, and what opening a store gives back.
-ghost use Rattle.std.specs.Prelude.{◌≡◌, ◌≤◌, map};
+ghost use Rattle.std.specs.Prelude.{◌≡◌, ◌≤◌, IfOk, map};
 ghost use Rattle.overlay_terms.specs.Commands.{version_max};
 ghost use Rattle.overlay_terms.specs.StoredTiles.{AreStored};
-ghost use Rattle.record_bytes.specs.Image.{held, IsImage};
-ghost use Rattle.tile_build.specs.Tile.{finished_of};
+ghost use Rattle.record_bytes.specs.Image.{held, shared_held, IsImage};
+ghost use Rattle.tile_build.specs.StoredTile.{finished_of};
+ghost use Rattle.tile_build.specs.Tile.{finished_of as finished_named};
 
 use layer_book::layers::Layers;
 use layer_expr::name::Name;
+use std::alloc::{AllocError, Global};
 use std::marker::Model;
+use tile_build::stored_tile::{StoredTile, shared, unshared};
 use tile_build::tile::Tile;
 
 /// The number of a version, its layers, and its finished tiles, each with the name of its layer and
-/// the number of its column: in the order of the layers, then of the columns.
+/// its column: in the order of the layers, then of the columns. It shares the tiles with who else has them.
 #[derive(Drop)]
 pub struct Image {
     number: u64,
     layers: Layers,
-    tiles: Vec<(Name, u8, Tile)>,
+    tiles: Vec<StoredTile>,
 }
 
 impl Model for Image {
     ghost use Rattle.store_terms.specs.Image.{Held};
-    ghost use Rattle.record_bytes.specs.Image.{held, held_code, IsImage};
+    ghost use Rattle.record_bytes.specs.Image.{shared_held, held_code, IsImage};
 
     ghost Value = { Held };
 
     ghost coded = { held_code };
 
-    ghost view = { λ i. held i.number i.layers i.tiles.items };
+    ghost view = { λ i. shared_held i.number i.layers i.tiles.items };
 
-    ghost invariant = { λ i. IsImage (held i.number i.layers i.tiles.items) };
+    ghost invariant = { λ i. IsImage (shared_held i.number i.layers i.tiles.items) };
 }
 
 impl Image {
     /// The image of a number, at most 2^62, of layers and of finished tiles. The tiles may be wrong,
     /// but have their form and their order.
-    pub fn new(number: u64, layers: Layers, tiles: Vec<(Name, u8, Tile)>) -> Image
+    pub fn new(
+        alloc: Global,
+        number: u64,
+        layers: Layers,
+        tiles: Vec<(Name, u8, Tile)>,
+    ) -> Result<Image, AllocError>
+        requires small { number ≤ version_max }
+        requires stored { AreStored layers (map finished_named tiles.items) }
+        ensures { IfOk result (λ image. image ≡ held number layers tiles.items) }
+    {
+        let tiles = shared(alloc, tiles)?;
+        Ok(Image::of_shared(number, layers, tiles))
+    }
+
+    /// The same of tiles that others share. It takes no memory.
+    pub fn of_shared(number: u64, layers: Layers, tiles: Vec<StoredTile>) -> Image
         requires small { number ≤ version_max }
         requires stored { AreStored layers (map finished_of tiles.items) }
-        ensures { result ≡ held number layers tiles.items }
+        ensures { result ≡ shared_held number layers tiles.items }
     {
         Image {
             number,
@@ -62,15 +80,27 @@ impl Image {
     }
 
     /// The finished tiles, by layer and column.
-    pub fn tiles(&self) -> &[(Name, u8, Tile)]
+    pub fn tiles(&self) -> &[StoredTile]
         ensures { map finished_of result.now ≡ self.now.tiles }
     {
         &self.tiles
     }
 
-    /// The number, the layers and the finished tiles that the image stands for.
-    pub fn into_parts(self) -> (u64, Layers, Vec<(Name, u8, Tile)>)
-        ensures value { held result.0 result.1 result.2.items ≡ self }
+    /// The number, the layers and the finished tiles that the image stands for. Tiles that others share are copied.
+    pub fn into_parts(
+        self,
+        alloc: Global,
+    ) -> Result<(u64, Layers, Vec<(Name, u8, Tile)>), AllocError>
+        ensures value { IfOk result (λ parts. held parts.0 parts.1 parts.2.items ≡ self) }
+        ensures valid { IsImage self }
+    {
+        let tiles = unshared(alloc, self.tiles)?;
+        Ok((self.number, self.layers, tiles))
+    }
+
+    /// The same with tiles that others may share. It takes no memory.
+    pub fn into_shared(self) -> (u64, Layers, Vec<StoredTile>)
+        ensures value { shared_held result.0 result.1 result.2.items ≡ self }
         ensures valid { IsImage self }
     {
         (self.number, self.layers, self.tiles)

@@ -17,7 +17,7 @@ use store_terms::damage::Damage;
 use tile_build::Tile;
 
 /// The tile that the record of a tile of this column spells.
-pub fn read_tile(alloc: Global, column: u8, bytes: &[u8]) -> Result<Tile, RecordFault>
+pub fn read_tile(alloc: Global, column: Column, bytes: &[u8]) -> Result<Tile, RecordFault>
     ensures { Reads (λ tile. tile_of tile) result (or_fault TileForm (tile_of_record column bytes.now)) }
 {
     match tile_in(alloc, column, bytes) {
@@ -27,7 +27,7 @@ pub fn read_tile(alloc: Global, column: u8, bytes: &[u8]) -> Result<Tile, Record
 }
 
 /// The tile that all of the bytes spell.
-fn tile_in(alloc: Global, column: u8, bytes: &[u8]) -> Result<Tile, ReadFault>
+fn tile_in(alloc: Global, column: Column, bytes: &[u8]) -> Result<Tile, ReadFault>
     ensures { Gives (λ tile. tile_of tile) result (tile_of_record column bytes.now) }
 {
     let (found, tile, rest) = parts_at(alloc, bytes)?;
@@ -40,7 +40,7 @@ fn tile_in(alloc: Global, column: u8, bytes: &[u8]) -> Result<Tile, ReadFault>
     if !rest.is_empty() {
         return Err(ReadFault::Form);
     }
-    if found != column {
+    if found != column.number() {
         return Err(ReadFault::Form);
     }
     Ok(tile)

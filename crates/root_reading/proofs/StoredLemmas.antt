@@ -17,7 +17,9 @@ use Rattle.layer_book.proofs.Closing.{near_index}
 use Rattle.layer_expr.specs.Name.{is_name}
 use Rattle.store_terms.specs.declared.damage.Damage.TheVariants.{LayerRefused}
 use Rattle.tile_build.specs.declared.tile.Tile as code
-use Rattle.tile_build.specs.Tile.{finished_of, tile_of as code_tile}
+use Rattle.tile_build.specs.declared.stored_tile.StoredTile.{StoredTile}
+use Rattle.tile_build.specs.StoredTile.{finished_of}
+use Rattle.tile_build.specs.Tile.{tile_of as code_tile}
 use Rattle.std.proofs.lemmas.List.{map-append}
 use Rattle.store_terms.specs.Image.{may_stand, is_accepted, refusal_of_keeping, with_layer}
 use Rattle.root_reading.specs.Stored.{AreStoredTo}
@@ -207,10 +209,12 @@ nothing_stored = record {
 }
 
 -- the same of tiles of the code
-pub tile_pushed : (layers : List Layer) (olds news : List (Name × ℕ × code.Tile)) (name : Name) (k : ℕ)
-    (tile : code.Tile) → news ≡ olds ++ (name, k, tile) ∷ [] → is_formed (code_tile tile) k ≡ true → k < column_count
-    → AreStoredTo layers (map finished_of olds) name k → AreStoredTo layers (map finished_of news) name (k + 1)
-tile_pushed layers olds news name k tile is formed known to =
+pub tile_pushed : (layers : List Layer) (olds news : List StoredTile) (t : StoredTile) (name : Name) (k : ℕ)
+    (tile : code.Tile) → news ≡ olds ++ t ∷ [] → finished_of t ≡ record { name = name; column = k; tile = code_tile tile }
+    → is_formed (code_tile tile) k ≡ true → k < column_count → AreStoredTo layers (map finished_of olds) name k
+    → AreStoredTo layers (map finished_of news) name (k + 1)
+tile_pushed layers olds news t name k tile is same formed known to =
     subst (λ (fs : List Finished). AreStoredTo layers fs name (k + 1))
-    (sym (ap (map finished_of) is ∙ map-append finished_of olds ((name, k, tile) ∷ [])))
+    (sym (ap (map finished_of) is ∙ map-append finished_of olds (t ∷ [])
+    ∙ ap (λ (f : Finished). map finished_of olds ++ f ∷ []) same))
     (next_tile layers (map finished_of olds) name k (code_tile tile) formed known to)

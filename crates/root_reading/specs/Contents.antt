@@ -1,6 +1,6 @@
 -- What is read of the layers of a file, from one to the next.
 use Rattle.std.specs.Prelude.{◌≡◌, ℕ, List, ◌∷◌, map}
-use Rattle.tile_build.specs.Tile.{finished_of}
+use Rattle.tile_build.specs.StoredTile.{finished_of}
 use Rattle.store_terms.specs.Catalog.{Listed}
 use Rattle.store_terms.specs.Image.{layers_of}
 use Rattle.root_reading.specs.declared.load_fault.LoadFault.{LoadFault}

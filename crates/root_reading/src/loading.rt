@@ -3,7 +3,7 @@ ghost use Rattle.std.specs.Prelude.{◌↔◌, [], List, map, IfOk, OnOk, IfErr}
 ghost use Rattle.std.proofs.Common.{inl, inr};
 ghost use Rattle.overlay_terms.specs.Histories.{Finished};
 ghost use Rattle.overlay_terms.specs.StoredTiles.{AreStored};
-ghost use Rattle.tile_build.specs.Tile.{finished_of};
+ghost use Rattle.tile_build.specs.StoredTile.{finished_of};
 ghost use Rattle.record_bytes.specs.Listing.{listed_of, listing_of};
 ghost use Rattle.store_terms.specs.Image.{layers_of};
 ghost use Rattle.root_reading.specs.Looking.{Gives, Looks, Causes};
@@ -18,18 +18,17 @@ use crate::tiles::add_tiles;
 use disk_model::disk::Disk;
 use layer_book::command::Command;
 use layer_book::layers::Layers;
-use layer_expr::name::Name;
 use record_bytes::catalog::{Listed, Records};
 use std::alloc::Global;
 use std::sync::Arc;
 use store_terms::root::RecordExtent;
-use tile_build::tile::Tile;
+use tile_build::stored_tile::StoredTile;
 
 /// What is read so far: layers, and the finished tiles of them.
 #[derive(Drop)]
 pub struct Content {
     pub layers: Layers,
-    pub tiles: Vec<(Name, u8, Tile)>,
+    pub tiles: Vec<StoredTile>,
 }
 
 /// The layers with a base layer more, whose record lies in an extent.

@@ -4,7 +4,8 @@ ghost use Rattle.overlay_terms.specs.Column.{column_count};
 ghost use Rattle.overlay_terms.specs.Histories.{is_formed};
 ghost use Rattle.overlay_terms.specs.Layers.{Layer};
 ghost use Rattle.overlay_terms.specs.StoredTiles.{AreStored};
-ghost use Rattle.tile_build.specs.Tile.{finished_of, tile_of};
+ghost use Rattle.tile_build.specs.StoredTile.{finished_of};
+ghost use Rattle.tile_build.specs.Tile.{tile_of};
 ghost use Rattle.store_terms.specs.Image.{tiles_of};
 ghost use Rattle.store_terms.specs.declared.root.RecordExtent as terms;
 ghost use Rattle.root_reading.specs.Looking.{Gives, Refuses, Looks, Causes};
@@ -15,35 +16,38 @@ use crate::fetching::fetch;
 use crate::load_fault::LoadFault;
 use disk_model::disk::Disk;
 use layer_expr::name::Name;
-use plane_base::COLUMN_COUNT;
+use plane_base::Column;
 use record_form::tile_record::read_tile;
 use std::alloc::Global;
+use std::sync::Arc;
 use store_terms::damage::Damage;
 use store_terms::root::RecordExtent;
+use tile_build::stored_tile::StoredTile;
 use tile_build::tile::Tile;
 
-/// The tile of a column whose record lies in an extent.
+/// The column of a number, and its tile, whose record lies in an extent.
 #[tactic(auto, using(record_bytes::proofs::StoredLemmas::read_has_form))]
 fn tile_at<D: Disk>(
     alloc: Global,
     disk: &mut D,
     column: usize,
     extent: RecordExtent,
-) -> Result<Tile, LoadFault>
-    ensures known { IfOk result (λ tile. column < column_count) }
-    ensures formed { IfOk result (λ tile. is_formed (tile_of tile) column ≡ true) }
+) -> Result<(Column, Tile), LoadFault>
+    ensures column { IfOk result (λ x. x.0 ≡ column) }
+    ensures known { IfOk result (λ x. column < column_count) }
+    ensures formed { IfOk result (λ x. is_formed (tile_of x.1) column ≡ true) }
     ensures honest { D.is_honest disk.new ↔ D.is_honest disk.old }
     ensures looks { D.is_honest disk.old → Looks D.Disk disk.old disk.new }
     ensures gives { D.is_honest disk.old
-        → Gives (λ tile. tile_of tile) result (tile_at (D.seen disk.old) column extent) }
+        → Gives (λ x. tile_of x.1) result (tile_at (D.seen disk.old) column extent) }
     ensures cause { D.is_honest disk.old → Causes result (D.faults disk.old) (D.faults disk.new) }
 {
     let bytes = fetch(alloc, disk, extent, Damage::RecordPlace)?;
-    if column >= usize::from(COLUMN_COUNT) {
+    let Some(known) = Column::new(column as u64) else {
         return Err(LoadFault::Damaged(Damage::TileForm));
-    }
-    let tile = read_tile(alloc, column as u8, &bytes)?;
-    Ok(tile)
+    };
+    let tile = read_tile(alloc, known, &bytes)?;
+    Ok((known, tile))
 }
 
 /// Adds the tile of a column, if its entry says where its record lies.
@@ -54,7 +58,7 @@ fn add_tile<D: Disk>(
     name: &Name,
     column: usize,
     entry: Option<RecordExtent>,
-    tiles: &mut Vec<(Name, u8, Tile)>,
+    tiles: &mut Vec<StoredTile>,
 ) -> Result<(), LoadFault>
     ensures honest { D.is_honest disk.new ↔ D.is_honest disk.old }
     ensures looks { D.is_honest disk.old → Looks D.Disk disk.old disk.new }
@@ -75,8 +79,12 @@ fn add_tile<D: Disk>(
     let Some(extent) = entry else {
         return Ok(());
     };
-    let tile = tile_at(alloc, disk, column, extent)?;
-    tiles.push((name.clone()?, column as u8, tile))?;
+    let (column, tile) = tile_at(alloc, disk, column, extent)?;
+    tiles.push(StoredTile {
+        name: name.clone()?,
+        column,
+        tile: Arc::new(alloc, tile)?,
+    })?;
     Ok(())
 }
 
@@ -86,7 +94,7 @@ pub(crate) fn add_tiles<D: Disk>(
     disk: &mut D,
     name: &Name,
     entries: &[Option<RecordExtent>],
-    tiles: &mut Vec<(Name, u8, Tile)>,
+    tiles: &mut Vec<StoredTile>,
 ) -> Result<(), LoadFault>
     ensures honest { D.is_honest disk.new ↔ D.is_honest disk.old }
     ensures looks { D.is_honest disk.old → Looks D.Disk disk.old disk.new }

@@ -3,3 +3,4 @@ pub mod SortLemmas
 pub mod BoundaryLemmas
 pub mod SameLemmas
 pub mod CountedLemmas
+pub mod StoredLemmas

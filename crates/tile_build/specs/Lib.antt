@@ -1,4 +1,5 @@
 pub mod Boundary
 pub mod Piece
 pub mod Tile
+pub mod StoredTile
 pub mod Counted

@@ -7,6 +7,7 @@ pub mod built;
 pub mod counted;
 pub mod counting;
 pub mod piece;
+pub mod stored_tile;
 pub mod tile;
 
 pub use all_pairs::build_by_pairs;
@@ -15,4 +16,5 @@ pub use built::{Built, PIECES_MAX};
 pub use counted::Counted;
 pub use counting::build_counted;
 pub use piece::Piece;
+pub use stored_tile::StoredTile;
 pub use tile::Tile;

@@ -82,6 +82,14 @@ impl Piece {
         self.to
     }
 
+    /// The names of its ends, the left one first.
+    pub fn names(&self) -> (&PointName, &PointName)
+        ensures left { result.0.now ≡ self.now.from }
+        ensures right { result.1.now ≡ self.now.to }
+    {
+        (&self.from, &self.to)
+    }
+
     /// The places of its ends.
     pub fn ends(&self) -> (HPoint, HPoint)
         ensures places { (place result.0, place result.1) ≡ ends_of self.now }

@@ -1,5 +1,5 @@
 -- The version of parts that a file holds is one.
-use Rattle.std.specs.Prelude.{◌≡◌, ◌≤◌, ℕ, ◌<◌, ◌==◌, nat_lt, Bool, true, false, ◌&&◌, ◌||◌, IsTrue, List, [], ◌∷◌, ◌++◌, bytes_eq, Some, All}
+use Rattle.std.specs.Prelude.{◌≡◌, ◌≤◌, ℕ, ◌<◌, ◌==◌, nat_lt, Bool, true, false, ◌&&◌, ◌||◌, IsTrue, List, [], ◌∷◌, bytes_eq, Some, All}
 use Rattle.std.specs.List.{AllPairs, slice_index_or}
 use Rattle.std.proofs.Common.{zero, suc, refl, ap, sym, ◌∙◌, subst, cond, arith}
 use Rattle.std.proofs.lemmas.Bool.{and_parts, eqb-true, false_from_ne_true}
@@ -24,11 +24,6 @@ found_is P (f ∷ fs) name k tile all there = split (bytes_eq f.name name && (f.
       let level : f.tile ≡ tile = cc in
       subst P (λ i. record { name = same_name f.name name parts.0 i; column = eqb-true f.column k parts.1 i; tile = level i }) (all zero f (omega arith))
   split false away next rest = next rest
-
--- what is true of each is true of one in the middle
-pub in_middle : {X : Type 0} (P : X → Type 0) (xs : List X) (x : X) (ys : List X) → All P (xs ++ x ∷ ys) → P x
-in_middle P [] x ys all = all zero x (omega arith)
-in_middle P (y ∷ xs) x ys all = in_middle P xs x ys (λ k d h. all (suc k) d (omega arith))
 
 -- no tile stands before itself
 never_before : (layers : List Layer) (a b : Finished) → is_of b.name b.column a ≡ true → is_tile_before layers a b ≡ false

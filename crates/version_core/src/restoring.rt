@@ -1,10 +1,10 @@
 //! Versions from the parts that a file holds.
-ghost use Rattle.std.specs.Prelude.{◌≡◌, ◌<◌, ◌≤◌, All, IfOk, IfErr, map};
-ghost use Rattle.overlay_terms.specs.Column.{column_count};
+ghost use Rattle.std.specs.Prelude.{◌≡◌, ◌≤◌, IfOk, IfErr, map};
 ghost use Rattle.overlay_terms.specs.Commands.{version_max};
 ghost use Rattle.overlay_terms.specs.StoredTiles.{AreStored};
 ghost use Rattle.version_core.specs.Tiles.{finished};
-ghost use Rattle.tile_build.specs.Tile.{finished_of};
+ghost use Rattle.tile_build.specs.StoredTile.{finished_of};
+ghost use Rattle.tile_build.specs.Tile.{finished_of as finished_named};
 
 use crate::fault::VersionFault;
 use crate::tiles::FinishedTile;
@@ -13,10 +13,9 @@ use layer_book::MAX_LAYERS;
 use layer_book::fault::LayerFault;
 use layer_book::layers::Layers;
 use layer_expr::name::Name;
-use plane_base::Column;
 use std::alloc::{AllocError, Global};
-use std::sync::Arc;
 use tile_build::Tile;
+use tile_build::stored_tile::{StoredTile, shared};
 
 impl Version {
     /// The version of a number, layers and finished tiles, all of it durable. The tiles may be wrong,
@@ -28,12 +27,28 @@ impl Version {
         tiles: Vec<(Name, u8, Tile)>,
     ) -> Result<Version, VersionFault>
         requires small { number ≤ version_max }
+        requires stored { AreStored layers (map finished_named tiles.items) }
+        ensures ok { IfOk result (λ version. version ≡ record { number = number; layers = layers; tiles = map finished_named tiles.items; durable = number }) }
+        ensures err { IfErr result (λ fault. fault ≡ VersionFault.Layer LayerFault.OutOfMemory) }
+    {
+        let tiles = shared(alloc, tiles)?;
+        Version::restore_shared(alloc, number, layers, tiles)
+    }
+
+    /// The same of tiles that others share: no tile is copied.
+    pub fn restore_shared(
+        alloc: Global,
+        number: u64,
+        layers: Layers,
+        tiles: Vec<StoredTile>,
+    ) -> Result<Version, VersionFault>
+        requires small { number ≤ version_max }
         requires stored { AreStored layers (map finished_of tiles.items) }
         ensures ok { IfOk result (λ version. version ≡ record { number = number; layers = layers; tiles = map finished_of tiles.items; durable = number }) }
         ensures err { IfErr result (λ fault. fault ≡ VersionFault.Layer LayerFault.OutOfMemory) }
     {
         prove!(layers.len() <= MAX_LAYERS);
-        let tiles = shared(alloc, tiles)?;
+        let tiles = kept(alloc, tiles)?;
         Ok(Version {
             number,
             durable: number,
@@ -43,30 +58,20 @@ impl Version {
     }
 }
 
-/// The tiles, as versions share them.
-fn shared(alloc: Global, tiles: Vec<(Name, u8, Tile)>) -> Result<Vec<FinishedTile>, AllocError>
-    requires { All (λ f. f.column < column_count) (map finished_of tiles.items) }
+/// The tiles, as versions keep them.
+fn kept(alloc: Global, tiles: Vec<StoredTile>) -> Result<Vec<FinishedTile>, AllocError>
     ensures { IfOk result (λ held. map finished held.items ≡ map finished_of tiles.items) }
 {
     let mut held = Vec::new(alloc);
     for tile in tiles {
-        held.push(shared_tile(alloc, tile)?)?;
+        held.push(kept_tile(tile))?;
     }
     Ok(held)
 }
 
-/// A tile, as versions share it.
-fn shared_tile(alloc: Global, tile: (Name, u8, Tile)) -> Result<FinishedTile, AllocError>
-    requires { (finished_of tile).column < column_count }
-    ensures { IfOk result (λ held. finished held ≡ finished_of tile) }
+fn kept_tile(tile: StoredTile) -> FinishedTile
+    ensures { finished result ≡ finished_of tile }
 {
-    let (name, column, tile) = tile;
-    match Column::new(u64::from(column)) {
-        Some(column) => Ok(FinishedTile {
-            name,
-            column,
-            tile: Arc::new(alloc, tile)?,
-        }),
-        None => unreachable!(),
-    }
+    let StoredTile { name, column, tile } = tile;
+    FinishedTile { name, column, tile }
 }

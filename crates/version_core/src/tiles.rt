@@ -36,13 +36,17 @@ impl FinishedTile {
     pub(crate) fn is_of(&self, name: &Name, column: u8) -> bool
         ensures { result ≡ is_of name.now column (finished self.now) }
     {
-        self.name.bytes() == name.bytes() && self.column.number() == column
+        self.column.number() == column && self.name.bytes() == name.bytes()
     }
 }
 
 /// The first tile of a layer and column among some.
-pub(crate) fn tile_among<'a>(tiles: &'a [FinishedTile], name: &Name, column: u8) -> Option<&'a Tile>
-    ensures { option_map (λ tile. tile_of tile.now) result ≡ tile_at (map finished tiles.now) name.now column }
+pub(crate) fn tile_among<'a>(
+    tiles: &'a [FinishedTile],
+    name: &Name,
+    column: u8,
+) -> Option<&'a Arc<Tile>>
+    ensures { option_map (λ tile. tile_of tile.now.value) result ≡ tile_at (map finished tiles.now) name.now column }
 {
     for finished in tiles {
         if finished.is_of(name, column) {

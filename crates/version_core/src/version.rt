@@ -9,8 +9,10 @@ ghost use Rattle.version_core.specs.Version.{IsVersion};
 use crate::tiles::{FinishedTile, tile_among};
 use layer_book::layers::Layers;
 use layer_expr::name::Name;
+use plane_base::Column;
 use std::alloc::Global;
 use std::marker::Model;
+use std::sync::Arc;
 use tile_build::Tile;
 
 /// The greatest number of a version, 2^62.
@@ -96,6 +98,16 @@ impl Version {
     pub fn tile(&self, name: &Name, column: u8) -> Option<&Tile>
         ensures { option_map (λ tile. tile_of tile.now) result ≡ tile_at self.now.tiles name.now column }
     {
-        tile_among(&self.tiles, name, column)
+        match tile_among(&self.tiles, name, column) {
+            Some(tile) => Some(tile),
+            None => None,
+        }
+    }
+
+    /// The same for who shares it from then on.
+    pub fn shared_tile(&self, name: &Name, column: Column) -> Option<&Arc<Tile>>
+        ensures { option_map (λ tile. tile_of tile.now.value) result ≡ tile_at self.now.tiles name.now column }
+    {
+        tile_among(&self.tiles, name, column.number())
     }
 }

@@ -1,5 +1,5 @@
 use Rattle.std.proofs.Common.{map}
-use Rattle.tile_build.specs.Tile.{finished_of}
+use Rattle.tile_build.specs.StoredTile.{finished_of}
 use Rattle.root_reading.proofs.loading.add_base.Goals as goal
 
 pub returns-clause-stored : goal.returns-clause-stored

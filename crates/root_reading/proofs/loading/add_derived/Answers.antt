@@ -1,6 +1,6 @@
 use Rattle.std.proofs.Common.{map, subst, sym}
 use Rattle.overlay_terms.specs.Layers.{Name}
-use Rattle.tile_build.specs.Tile.{finished_of}
+use Rattle.tile_build.specs.StoredTile.{finished_of}
 use Rattle.root_reading.specs.Stored.{AreStoredTo}
 use Rattle.root_reading.proofs.Looked.{looks_on}
 use Rattle.root_reading.proofs.loading.add_derived.Goals as goal

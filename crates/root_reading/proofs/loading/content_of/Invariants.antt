@@ -1,6 +1,6 @@
 use Rattle.std.proofs.Common.{◌≡◌, ◌↔◌, [], drop, map}
 use Rattle.overlay_terms.specs.StoredTiles.{AreStored}
-use Rattle.tile_build.specs.Tile.{finished_of}
+use Rattle.tile_build.specs.StoredTile.{finished_of}
 use Rattle.record_bytes.specs.Listing.{listing_of}
 use Rattle.store_terms.specs.Image.{layers_of}
 use Rattle.root_reading.specs.Looking.{Looks}

@@ -1,7 +1,7 @@
 use Rattle.std.proofs.Common.{◌≡◌, ◌↔◌, List, drop, map}
 use Rattle.overlay_terms.specs.Layers.{Layer}
 use Rattle.root_reading.specs.Stored.{AreStoredTo}
-use Rattle.tile_build.specs.Tile.{finished_of}
+use Rattle.tile_build.specs.StoredTile.{finished_of}
 use Rattle.store_terms.specs.Image.{tiles_of}
 use Rattle.root_reading.specs.Looking.{Looks}
 use Rattle.root_reading.specs.Loading.{then_tiles}

@@ -1,8 +1,8 @@
 use Rattle.std.proofs.Common.{map, sym, subst}
-use Rattle.tile_build.specs.Tile.{finished_of}
+use Rattle.tile_build.specs.StoredTile.{finished_of}
 use Rattle.version_core.specs.Version.{IsVersion}
 use Rattle.version_core.proofs.Restored.{restored_is_version}
-use Rattle.version_core.proofs.version.Version.restore.Goals as goal
+use Rattle.version_core.proofs.version.Version.restore_shared.Goals as goal
 
 pub invariant_of-result : goal.invariant_of-result
 invariant_of-result c =

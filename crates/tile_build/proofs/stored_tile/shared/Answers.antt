@@ -4,8 +4,8 @@ use Rattle.std.specs.Vec.Iter.{into_iter_items}
 use Rattle.overlay_terms.specs.Column.{column_count}
 use Rattle.overlay_terms.specs.Histories.{Finished}
 use Rattle.tile_build.specs.Tile.{finished_of}
-use Rattle.version_core.proofs.Restored.{in_middle}
-use Rattle.version_core.proofs.restoring.shared.Goals as goal
+use Rattle.tile_build.proofs.StoredLemmas.{in_middle}
+use Rattle.tile_build.proofs.stored_tile.shared.Goals as goal
 
 pub shared_tile-requires : goal.shared_tile-requires
 shared_tile-requires c =
