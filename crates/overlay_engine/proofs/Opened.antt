@@ -114,4 +114,4 @@ writes_of g old f s is writes = subst (λ (h : Flusher _). Writes old (g.seen h.
 
 pub recovered_answers : {D : Type 0} (g : Ghosts D) → RecoveredAnswers g
 recovered_answers g start disk e least batches recovered name query told tells =
-    tells recovered.covers.exact.exact ∙ ap (λ (layers : List Layer). answer_at layers name query) recovered.covers.layers
+    tells ∙ ap (λ (layers : List Layer). answer_at layers name query) recovered.covers.layers

@@ -5,7 +5,6 @@ use Rattle.disk_model.specs.Moments.{Leaves, LeavesOnly}
 use Rattle.overlay_terms.specs.Plane.{Point}
 use Rattle.overlay_terms.specs.Layers.{Name, answer_at}
 use Rattle.overlay_terms.specs.Batches.{Batch}
-use Rattle.overlay_terms.specs.KeptLaws.{TilesAreExact}
 use Rattle.layer_book.specs.declared.direct_answer.Place.{Place}
 use Rattle.layer_book.specs.Place.{location}
 use Rattle.commit_plan.specs.declared.fault.StoreFault.TheVariants.{Device, OutOfMemory}
@@ -35,9 +34,9 @@ module _ {D : Type 0} (g : Ghosts D) (start : Start) (disk : D) where
     pub stops : Stops g disk (refused.fault ≡ Device) refused.disk
     pub cause : (refused.fault ≡ Device) ⊎ (refused.fault ≡ OutOfMemory)
 
--- where a point lies for a layer of a recovered version: what `locate` tells, under the premise that the tiles are right, is right; the premise holds
+-- where a point lies for a layer of a recovered version: what `locate` tells of it is right for the layers after the commands
 abbrev pub RecoveredAnswers : {D : Type 0} → Ghosts D → Type 0
 RecoveredAnswers {D = D} g =
     (start : Start) (disk : D) (e : Engine D) (least : ℕ) (batches : List Batch) → Recovered g start disk e least batches
-    → (name : Name) (query : Point) (told : Place) → (TilesAreExact e.version → location told ≡ answer_at e.version.layers name query)
+    → (name : Name) (query : Point) (told : Place) → location told ≡ answer_at e.version.layers name query
     → location told ≡ answer_at (layers_from start (up_to start e.version.number batches)) name query

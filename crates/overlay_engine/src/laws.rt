@@ -33,7 +33,7 @@ pub fn begun_covers<D: Disk>()
     ensures { BegunCovers D.Disk }
 {}
 
-/// Of a recovered version `Version::locate` tells where a point lies for the layers after the batches: no premise is left.
+/// Of a recovered version `Version::locate` tells where a point lies for the layers after the batches.
 pub fn recovered_answers<D: Disk>()
     ensures { RecoveredAnswers D.Disk }
 {}

@@ -11,7 +11,6 @@ use Rattle.overlay_terms.specs.Column.{column_numbered}
 use Rattle.overlay_terms.specs.Commands as terms
 use Rattle.overlay_terms.specs.Histories.{Event, accepted, Entry, History, GoesOnBy, BeginsWith, newest}
 use Rattle.overlay_terms.specs.Histories as versions
-use Rattle.overlay_terms.specs.KeptLaws.{TilesAreExact}
 use Rattle.exact_point.specs.Query.{IsQuery}
 use Rattle.exact_point.specs.declared.fault.PointFault.TheVariants.{PointRange}
 use Rattle.layer_expr.specs.Name.{is_name}
@@ -107,11 +106,11 @@ abbrev pub asked_column : ℤ → Option ℕ
 asked_column (pos k) = column_numbered k
 asked_column (negsuc k) = None
 
--- where a point lies: the place that is told is the right one, where the version's finished tiles are right
+-- where a point lies: the place that is told is the right one
 pub record IsLocated (version : versions.Version) (name : List ℕ) (query : Point) (made : List Batch) (reply : List ℕ) : Type 0 where
   pub nothing_made : made ≡ []
   pub place : Location
-  pub right : TilesAreExact version → place ≡ answer_at version.layers name query
+  pub right : place ≡ answer_at version.layers name query
   pub told : reply ≡ location_line place
 
 -- a picture: refused by the first reason that applies, or drawn

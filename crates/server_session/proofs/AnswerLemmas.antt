@@ -7,7 +7,6 @@ use Rattle.overlay_terms.specs.Layers.{Location, answer_at}
 use Rattle.overlay_terms.specs.Commands.{Command, Refusal, refusal_at, stands}
 use Rattle.overlay_terms.specs.Histories.{BeginsWith, newest}
 use Rattle.overlay_terms.specs.Histories as versions
-use Rattle.overlay_terms.specs.KeptLaws.{TilesAreExact}
 use Rattle.exact_point.specs.Query.{IsQuery}
 use Rattle.exact_point.specs.declared.fault.PointFault.TheVariants.{PointRange}
 use Rattle.layer_expr.specs.Name.{is_name}
@@ -273,12 +272,12 @@ module _ (was now : Known) (stays : Stays was now) (made : now.made ≡ was.made
 
   pub locate_told : (stored : Bool) (name known : List ℕ) (x y w : ℤ) (p : Point) (version : versions.Version) (place : Location) → version ≡ newest (seen now)
       → known ≡ name → p ≡ record { x = x; y = y; w = w } → IsTrue (is_name name) → IsQuery x y w → IsTrue (stands version.layers known)
-      → (TilesAreExact version → place ≡ answer_at version.layers known p) → Answers stored was (locate name x y w) now (location_line place)
+      → place ≡ answer_at version.layers known p → Answers stored was (locate name x y w) now (location_line place)
   locate_told stored name known x y w p version place is same point named query stood right =
       let there : stands (newest (seen now)).layers name ≡ true =
       ap (λ (v : versions.Version). stands v.layers name) (sym is) ∙ ap (stands version.layers) (sym same) ∙ stood in
-      let told : TilesAreExact (newest (seen now)) → place ≡ answer_at (newest (seen now)).layers name (record { x = x; y = y; w = w }) =
-      λ exact. right (subst (λ (v : versions.Version). TilesAreExact v) (sym is) exact)
+      let told : place ≡ answer_at (newest (seen now)).layers name (record { x = x; y = y; w = w }) =
+      right
       ∙ ap (λ n. answer_at version.layers n p) same ∙ ap (answer_at version.layers name) point
       ∙ ap (λ (v : versions.Version). answer_at v.layers name (record { x = x; y = y; w = w })) is in
       answers_so was now stays made stored (locate name x y w) (location_line place)
