@@ -8,6 +8,8 @@ mod crash_tests;
 #[cfg(test)]
 mod fault_tests;
 #[cfg(test)]
+mod file_tests;
+#[cfg(test)]
 mod keeping_tests;
 #[cfg(test)]
 mod limit_tests;

@@ -118,6 +118,28 @@ fn a_wait_tells_of_a_tile_that_was_given_back(rt: HostRuntime) {
     play(&rt, rt.alloc(), false, GIVEN_BACK, 3);
 }
 
+const BUILT: &[&[Row]] = &[
+    OVERLAP,
+    &[BUILDS; 16],
+    &[
+        Row::WaitsBeside(WaitFor::Built("I"), Call::Build, Ok(Some(3))),
+        Row::Calls(PUT_A, Ok(Some(4))),
+        Row::Calls(Call::Submit(Change::Define("I", "A | B")), Ok(Some(5))),
+        Row::WaitsBeside(
+            WaitFor::Built("I"),
+            Call::Submit(Change::Remove("I")),
+            Err(UNKNOWN_LAYER),
+        ),
+    ],
+];
+
+const UNKNOWN_LAYER: BookFault = BookFault::Version(VersionFault::Layer(LayerFault::UnknownLayer));
+
+#[test]
+fn the_last_tile_and_a_command_each_end_a_wait(rt: HostRuntime) {
+    play(&rt, rt.alloc(), false, BUILT, 6);
+}
+
 const DURABLE: &[&[Row]] = &[&[
     Row::Calls(PUT_A, Ok(Some(1))),
     Row::Calls(Call::NextVersion, Ok(Some(1))),

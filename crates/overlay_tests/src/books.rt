@@ -34,6 +34,8 @@ pub enum Call {
     NextVersion,
     Report(u64),
     StoreFailed(ToldFault),
+    /// A tile is taken and built, which is kept.
+    Build,
     /// A tile is taken and given back, as if memory had run out.
     GiveBack,
     BeginClose,
@@ -308,6 +310,11 @@ pub fn answer<J: Naming, R: Wait + Abort>(
         Call::Report(number) => told(shared.report(rt, alloc, reporter, *number)),
         Call::StoreFailed(fault) => {
             shared.store_failed(rt, reporter, *fault);
+            Ok(None)
+        }
+        Call::Build => {
+            let job = take(rt, alloc, shared).expect(rt, "no tile");
+            assert!(rt; finish(rt, alloc, shared, job));
             Ok(None)
         }
         Call::GiveBack => {
