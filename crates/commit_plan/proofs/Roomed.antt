@@ -8,7 +8,8 @@ use Rattle.extent_map.specs.FirstFit.{IsFull}
 use Rattle.extent_map.specs.Taken.{taken_of}
 use Rattle.store_terms.specs.Catalog.{catalog}
 use Rattle.store_terms.specs.Image.{Held}
-use Rattle.tile_build.specs.Tile.{finished_of}
+use Rattle.tile_build.specs.declared.stored_tile.StoredTile.{StoredTile}
+use Rattle.tile_build.specs.StoredTile.{finished_of}
 use Rattle.record_bytes.specs.Listing.{listing_of, IsListable}
 use Rattle.record_bytes.specs.declared.catalog.Listed as code
 use Rattle.commit_plan.specs.declared.room.Room.{Room}
@@ -17,13 +18,13 @@ use Rattle.commit_plan.specs.Staying.{Standing}
 use Rattle.commit_plan.specs.Live.{standing}
 use Rattle.commit_plan.specs.declared.draft.Draft.{Draft}
 use Rattle.commit_plan.specs.Drafting.{ArePlanned}
-use Rattle.commit_plan.specs.Sizes.{NamedTile, sizes_of_layer, catalog_size, record_sizes}
+use Rattle.commit_plan.specs.Sizes.{sizes_of_layer, catalog_size, record_sizes}
 use Rattle.commit_plan.specs.Walking.{AreLayersFiled}
 use Rattle.commit_plan.specs.Fitting.{HasRoom, HasNoRoom}
 use Rattle.commit_plan.proofs.CatalogSize.{catalog_long, have_columns}
 use Rattle.commit_plan.proofs.Imaged.{nothing_behind}
 
-module _ (live : LiveRecords) (copy : Room) (x : Held) (tiles : List NamedTile) (named : map finished_of tiles ≡ x.tiles)
+module _ (live : LiveRecords) (copy : Room) (x : Held) (tiles : List StoredTile) (named : map finished_of tiles ≡ x.tiles)
     (taken : taken_of copy.map ≡ taken_of live.room.map) (limit : copy.max_blocks ≡ live.room.max_blocks) where
   pub has_room : ArePlanned (taken_of copy.map) copy.max_blocks (record_sizes (standing live) x.layers tiles) → HasRoom live x
   has_room planned = record {
@@ -45,7 +46,7 @@ module _ (live : LiveRecords) (copy : Room) (x : Held) (tiles : List NamedTile) 
   }
 
 -- the catalog that lists the records of what is held has its size
-pub catalog_sized : (live : Standing) (x : Held) (tiles : List NamedTile) (given : List runs.Extent) (limit : ℕ)
+pub catalog_sized : (live : Standing) (x : Held) (tiles : List StoredTile) (given : List runs.Extent) (limit : ℕ)
     (listing : List code.Listed) (d : Draft) → map finished_of tiles ≡ x.tiles
     → AreLayersFiled live given limit x.layers x.tiles [] (listing_of listing) d → All IsListable listing
     → flat_map (sizes_of_layer live tiles) x.layers ++ length ((catalog column_count).text (listing_of listing)) ∷ []

@@ -11,14 +11,15 @@ use Rattle.overlay_terms.specs.Orderly.{is_orderly_after}
 use Rattle.extent_map.specs.declared.extent.Extent as runs
 use Rattle.extent_map.specs.FirstFit.{IsFull}
 use Rattle.layer_book.proofs.Wanted.{index_at}
-use Rattle.tile_build.specs.Tile.{finished_of}
+use Rattle.tile_build.specs.declared.stored_tile.StoredTile.{StoredTile}
+use Rattle.tile_build.specs.StoredTile.{finished_of}
 use Rattle.record_bytes.specs.Tiles.{named_by}
 use Rattle.store_terms.specs.TileRecord.{named_tile}
 use Rattle.store_terms.specs.declared.root.RecordExtent.{RecordExtent}
 use Rattle.commit_plan.specs.declared.draft.Draft.{Draft}
 use Rattle.commit_plan.specs.Drafting.{ArePlaced}
 use Rattle.commit_plan.specs.Staying.{Standing, layer_stays, tile_stays}
-use Rattle.commit_plan.specs.Sizes.{NamedTile, tile_size, own_record, if_new, own_sizes, tile_sizes, sizes_of_layer}
+use Rattle.commit_plan.specs.Sizes.{tile_size, own_record, if_new, own_sizes, tile_sizes, sizes_of_layer}
 use Rattle.commit_plan.specs.Walking.{AreFrom, IsHere}
 use Rattle.commit_plan.specs.Placing.{AreTaken, FindNone, IsTaken, FindsNone}
 use Rattle.commit_plan.proofs.Walked.{at_place, take_there}
@@ -40,22 +41,22 @@ full_more given limit sizes more full = record {
   none = full.none;
 }
 
-pub earlier : (layers : List Layer) (place : ℕ) (ts : List NamedTile)
-    → AllByRecursion (λ t. index_of layers t.0 < place) ts → AllByRecursion (λ t. index_of layers t.0 ≡ place → ⊥) ts
+pub earlier : (layers : List Layer) (place : ℕ) (ts : List StoredTile)
+    → AllByRecursion (λ t. index_of layers t.name < place) ts → AllByRecursion (λ t. index_of layers t.name ≡ place → ⊥) ts
 earlier layers place [] are = tt
 earlier layers place (t ∷ ts) are = ((λ index. omega (arith, index, are.0)), earlier layers place ts are.1)
 
-pub earlier_than_next : (layers : List Layer) (place : ℕ) (before own : List NamedTile)
-    → AllByRecursion (λ t. index_of layers t.0 < place) before → AllByRecursion (λ t. index_of layers t.0 ≡ place) own
-    → AllByRecursion (λ t. index_of layers t.0 < place + 1) (before ++ own)
+pub earlier_than_next : (layers : List Layer) (place : ℕ) (before own : List StoredTile)
+    → AllByRecursion (λ t. index_of layers t.name < place) before → AllByRecursion (λ t. index_of layers t.name ≡ place) own
+    → AllByRecursion (λ t. index_of layers t.name < place + 1) (before ++ own)
 earlier_than_next layers place [] [] before own = tt
 earlier_than_next layers place [] (t ∷ ts) before own =
     (omega (arith, own.0), earlier_than_next layers place [] ts tt own.1)
 earlier_than_next layers place (t ∷ ts) own before are =
     (omega (arith, before.0), earlier_than_next layers place ts own before.1 are)
 
-pub later : (layers : List Layer) (place : ℕ) (ts : List NamedTile) → AreFrom layers (place + 1) 0 (map finished_of ts)
-    → AllByRecursion (λ t. index_of layers t.0 ≡ place → ⊥) ts
+pub later : (layers : List Layer) (place : ℕ) (ts : List StoredTile) → AreFrom layers (place + 1) 0 (map finished_of ts)
+    → AllByRecursion (λ t. index_of layers t.name ≡ place → ⊥) ts
 later layers place [] from = tt
 later layers place (t ∷ ts) from = (
   (λ index. ⊎_elim (λ less. omega (arith, less, index))
@@ -64,17 +65,17 @@ later layers place (t ∷ ts) from = (
 )
 
 -- the tiles that some layers have taken, and those that are left
-pub record AreSplit (layers : List Layer) (place : ℕ) (tiles rest : List NamedTile) : Type 0 where
-  pub before : List NamedTile
+pub record AreSplit (layers : List Layer) (place : ℕ) (tiles rest : List StoredTile) : Type 0 where
+  pub before : List StoredTile
   pub split : tiles ≡ before ++ rest
-  pub earlier : AllByRecursion (λ t. index_of layers t.0 < place) before
+  pub earlier : AllByRecursion (λ t. index_of layers t.name < place) before
 
-pub none_split : (layers : List Layer) (tiles : List NamedTile) → AreSplit layers 0 tiles tiles
+pub none_split : (layers : List Layer) (tiles : List StoredTile) → AreSplit layers 0 tiles tiles
 none_split layers tiles = record { before = []; split = refl; earlier = tt }
 
-both_own : (layers : List Layer) (place : ℕ) (own more : List NamedTile)
-    → AllByRecursion (λ t. index_of layers t.0 ≡ place) own → AllByRecursion (λ t. index_of layers t.0 ≡ place) more
-    → AllByRecursion (λ t. index_of layers t.0 ≡ place) (own ++ more)
+both_own : (layers : List Layer) (place : ℕ) (own more : List StoredTile)
+    → AllByRecursion (λ t. index_of layers t.name ≡ place) own → AllByRecursion (λ t. index_of layers t.name ≡ place) more
+    → AllByRecursion (λ t. index_of layers t.name ≡ place) (own ++ more)
 both_own layers place [] more are also = also
 both_own layers place (t ∷ own) more are also = (are.0, both_own layers place own more are.1 also)
 
@@ -101,37 +102,37 @@ module _ (live : Standing) where
           absurd (away (ap (index_of layers) (sym (same_name layer.name n is))
           ∙ index_at [] layers place layer orderly there))
 
-    all_own : (own : List NamedTile) → AllByRecursion (λ t. index_of layers t.0 ≡ place) own
-        → filter (λ t. bytes_eq layer.name t.0) own ≡ own
+    all_own : (own : List StoredTile) → AllByRecursion (λ t. index_of layers t.name ≡ place) own
+        → filter (λ t. bytes_eq layer.name t.name) own ≡ own
     all_own [] are = refl
-    all_own (t ∷ own) are = λ i. cond (has_name t.0 are.0 i) (t ∷ all_own own are.1 i) (all_own own are.1 i)
+    all_own (t ∷ own) are = λ i. cond (has_name t.name are.0 i) (t ∷ all_own own are.1 i) (all_own own are.1 i)
 
-    none_own : (ts : List NamedTile) → AllByRecursion (λ t. index_of layers t.0 ≡ place → ⊥) ts
-        → filter (λ t. bytes_eq layer.name t.0) ts ≡ []
+    none_own : (ts : List StoredTile) → AllByRecursion (λ t. index_of layers t.name ≡ place → ⊥) ts
+        → filter (λ t. bytes_eq layer.name t.name) ts ≡ []
     none_own [] are = refl
-    none_own (t ∷ ts) are = λ i. cond (other_name t.0 are.0 i) (t ∷ none_own ts are.1 i) (none_own ts are.1 i)
+    none_own (t ∷ ts) are = λ i. cond (other_name t.name are.0 i) (t ∷ none_own ts are.1 i) (none_own ts are.1 i)
 
     -- its own tiles in front, and what is left
-    front_sizes : (own rest : List NamedTile) → AllByRecursion (λ t. index_of layers t.0 ≡ place) own
-        → flat_map (tile_sizes live) (filter (λ t. bytes_eq layer.name t.0) (own ++ rest))
-        ≡ flat_map (tile_sizes live) own ++ flat_map (tile_sizes live) (filter (λ t. bytes_eq layer.name t.0) rest)
+    front_sizes : (own rest : List StoredTile) → AllByRecursion (λ t. index_of layers t.name ≡ place) own
+        → flat_map (tile_sizes live) (filter (λ t. bytes_eq layer.name t.name) (own ++ rest))
+        ≡ flat_map (tile_sizes live) own ++ flat_map (tile_sizes live) (filter (λ t. bytes_eq layer.name t.name) rest)
     front_sizes own rest are =
         ap (flat_map (tile_sizes live))
-        (filter-append (λ t. bytes_eq layer.name t.0) own rest
-        ∙ ap (λ (l : List NamedTile). l ++ filter (λ t. bytes_eq layer.name t.0) rest) (all_own own are))
-        ∙ flat_map-append (tile_sizes live) own (filter (λ t. bytes_eq layer.name t.0) rest)
+        (filter-append (λ t. bytes_eq layer.name t.name) own rest
+        ∙ ap (λ (l : List StoredTile). l ++ filter (λ t. bytes_eq layer.name t.name) rest) (all_own own are))
+        ∙ flat_map-append (tile_sizes live) own (filter (λ t. bytes_eq layer.name t.name) rest)
 
     -- the tiles of earlier layers are none of its
-    behind_earlier : (before ts : List NamedTile) → AllByRecursion (λ t. index_of layers t.0 ≡ place → ⊥) before
+    behind_earlier : (before ts : List StoredTile) → AllByRecursion (λ t. index_of layers t.name ≡ place → ⊥) before
         → sizes_of_layer live (before ++ ts) layer ≡ sizes_of_layer live ts layer
     behind_earlier before ts are =
-        ap (λ (l : List NamedTile). own_sizes live layer ++ flat_map (tile_sizes live) l)
-        (filter-append (λ t. bytes_eq layer.name t.0) before ts
-        ∙ ap (λ (l : List NamedTile). l ++ filter (λ t. bytes_eq layer.name t.0) ts) (none_own before are))
+        ap (λ (l : List StoredTile). own_sizes live layer ++ flat_map (tile_sizes live) l)
+        (filter-append (λ t. bytes_eq layer.name t.name) before ts
+        ∙ ap (λ (l : List StoredTile). l ++ filter (λ t. bytes_eq layer.name t.name) ts) (none_own before are))
 
     -- those of its own tiles alone, where none is left
-    alone_sizes : (own rest : List NamedTile) → AllByRecursion (λ t. index_of layers t.0 ≡ place) own
-        → AllByRecursion (λ t. index_of layers t.0 ≡ place → ⊥) rest
+    alone_sizes : (own rest : List StoredTile) → AllByRecursion (λ t. index_of layers t.name ≡ place) own
+        → AllByRecursion (λ t. index_of layers t.name ≡ place → ⊥) rest
         → sizes_of_layer live (own ++ rest) layer ≡ own_sizes live layer ++ flat_map (tile_sizes live) own
     alone_sizes own rest are others =
         ap (λ (l : List ℕ). own_sizes live layer ++ l)
@@ -139,15 +140,15 @@ module _ (live : Standing) where
         ∙ append_none (flat_map (tile_sizes live) own))
 
     -- where one of its tiles in front finds no run, the layer finds none
-    pub tiles_find_none : (given : List runs.Extent) (limit : ℕ) (sizes : List ℕ) (tiles : List NamedTile)
+    pub tiles_find_none : (given : List runs.Extent) (limit : ℕ) (sizes : List ℕ) (tiles : List StoredTile)
         → FindNone live given limit (sizes ++ own_sizes live layer) layers place tiles
         → FindsNone live given limit sizes layers place tiles
     tiles_find_none given limit sizes tiles none =
         let n = own_sizes live layer in
         let front = flat_map (tile_sizes live) none.own in
-        let back = flat_map (tile_sizes live) (filter (λ t. bytes_eq layer.name t.0) none.rest) in
+        let back = flat_map (tile_sizes live) (filter (λ t. bytes_eq layer.name t.name) none.rest) in
         let are : sizes_of_layer live tiles layer ≡ n ++ (front ++ back) =
-        ap (λ (l : List NamedTile). sizes_of_layer live l layer) none.split
+        ap (λ (l : List StoredTile). sizes_of_layer live l layer) none.split
         ∙ ap (λ (l : List ℕ). n ++ l) (front_sizes none.own none.rest none.of) in
         let grouped : ((sizes ++ n) ++ front) ++ back ≡ sizes ++ (n ++ (front ++ back)) =
         append_assoc (sizes ++ n) front back ∙ append_assoc sizes n (front ++ back) in
@@ -159,12 +160,12 @@ module _ (live : Standing) where
         }
 
     -- where its own record finds none, too
-    pub record_finds_none : (given : List runs.Extent) (limit : ℕ) (sizes : List ℕ) (tiles : List NamedTile)
+    pub record_finds_none : (given : List runs.Extent) (limit : ℕ) (sizes : List ℕ) (tiles : List StoredTile)
         → IsFull given limit (sizes ++ own_sizes live layer)
         → FindsNone live given limit sizes layers place tiles
     record_finds_none given limit sizes tiles full =
         let n = own_sizes live layer in
-        let back = flat_map (tile_sizes live) (filter (λ t. bytes_eq layer.name t.0) tiles) in
+        let back = flat_map (tile_sizes live) (filter (λ t. bytes_eq layer.name t.name) tiles) in
         record {
           layer = layer;
           there = there;
@@ -173,16 +174,16 @@ module _ (live : Standing) where
         }
 
   pub layer_placed : (given : List runs.Extent) (limit : ℕ) (sizes : List ℕ) (layers : List Layer) (place : ℕ)
-      (tiles : List NamedTile) (layer : Layer) → slice_get layers place ≡ Some layer → (rest : List NamedTile) (d : Draft)
+      (tiles : List StoredTile) (layer : Layer) → slice_get layers place ≡ Some layer → (rest : List StoredTile) (d : Draft)
       → AreTaken live given limit (sizes ++ own_sizes live layer) layers place tiles rest d
       → IsTaken live given limit sizes layers place tiles rest d
   layer_placed given limit sizes layers place tiles layer there rest d taken =
       record { layer = layer; there = there; taken = taken }
 
-  module _ (given : List runs.Extent) (limit : ℕ) (layers : List Layer) (place : ℕ) (tiles mid : List NamedTile)
+  module _ (given : List runs.Extent) (limit : ℕ) (layers : List Layer) (place : ℕ) (tiles mid : List StoredTile)
       (orderly : is_orderly_after [] layers ≡ true) (so_far : AreSplit layers place tiles mid) where
     -- one layer more has its runs
-    pub layer_taken : (rest : List NamedTile) (d : Draft)
+    pub layer_taken : (rest : List StoredTile) (d : Draft)
         → IsTaken live given limit (flat_map (sizes_of_layer live tiles) (take place layers)) layers place mid rest d
         → AreFrom layers (place + 1) 0 (map finished_of rest)
         → ArePlaced given limit (flat_map (sizes_of_layer live tiles) (take (place + 1) layers)) d
@@ -191,8 +192,8 @@ module _ (live : Standing) where
         let n = own_sizes live here.layer in
         let own = here.taken.own in
         let all : sizes_of_layer live tiles here.layer ≡ n ++ flat_map (tile_sizes live) own =
-        ap (λ (l : List NamedTile). sizes_of_layer live l here.layer)
-        (so_far.split ∙ ap (λ (l : List NamedTile). so_far.before ++ l) here.taken.split)
+        ap (λ (l : List StoredTile). sizes_of_layer live l here.layer)
+        (so_far.split ∙ ap (λ (l : List StoredTile). so_far.before ++ l) here.taken.split)
         ∙ behind_earlier layers place here.layer orderly here.there so_far.before (own ++ rest)
         (earlier layers place so_far.before so_far.earlier)
         ∙ alone_sizes layers place here.layer orderly here.there own rest here.taken.of (later layers place rest from) in
@@ -204,12 +205,12 @@ module _ (live : Standing) where
         (append_assoc sizes n (flat_map (tile_sizes live) own) ∙ ap (λ (l : List ℕ). sizes ++ l) (sym last)
         ∙ sym more) here.taken.placed
 
-    pub split_more : (rest : List NamedTile) (d : Draft)
+    pub split_more : (rest : List StoredTile) (d : Draft)
         → IsTaken live given limit (flat_map (sizes_of_layer live tiles) (take place layers)) layers place mid rest d
         → AreSplit layers (place + 1) tiles rest
     split_more rest d here = record {
       before = so_far.before ++ here.taken.own;
-      split = so_far.split ∙ ap (λ (l : List NamedTile). so_far.before ++ l) here.taken.split
+      split = so_far.split ∙ ap (λ (l : List StoredTile). so_far.before ++ l) here.taken.split
           ∙ sym (append_assoc so_far.before here.taken.own rest);
       earlier = earlier_than_next layers place so_far.before here.taken.own so_far.earlier here.taken.of;
     }
@@ -221,7 +222,7 @@ module _ (live : Standing) where
         let f = sizes_of_layer live tiles in
         let sizes = flat_map f (take place layers) in
         let same : f here.layer ≡ sizes_of_layer live mid here.layer =
-        ap (λ (l : List NamedTile). sizes_of_layer live l here.layer) so_far.split
+        ap (λ (l : List StoredTile). sizes_of_layer live l here.layer) so_far.split
         ∙ behind_earlier layers place here.layer orderly here.there so_far.before mid
         (earlier layers place so_far.before so_far.earlier) in
         let back = flat_map f (drop (place + 1) layers) in
@@ -237,7 +238,7 @@ module _ (live : Standing) where
 
   -- none is taken yet
   pub none_taken : (given : List runs.Extent) (limit : ℕ) (sizes : List ℕ) (layers : List Layer) (place : ℕ)
-      (tiles : List NamedTile) (d : Draft) → ArePlaced given limit sizes d
+      (tiles : List StoredTile) (d : Draft) → ArePlaced given limit sizes d
       → AreTaken live given limit sizes layers place tiles tiles d
   none_taken given limit sizes layers place tiles d placed = record {
     own = [];
@@ -247,14 +248,14 @@ module _ (live : Standing) where
   }
 
   module _ (given : List runs.Extent) (limit : ℕ) (sizes : List ℕ) (layers : List Layer) (place : ℕ)
-      (tiles mid : List NamedTile) (old : Draft) (so_far : AreTaken live given limit sizes layers place tiles mid old) where
+      (tiles mid : List StoredTile) (old : Draft) (so_far : AreTaken live given limit sizes layers place tiles mid old) where
     -- some more are taken
-    pub taken_more : (rest : List NamedTile) (new : Draft)
+    pub taken_more : (rest : List StoredTile) (new : Draft)
         → AreTaken live given limit (sizes ++ flat_map (tile_sizes live) so_far.own) layers place mid rest new
         → AreTaken live given limit sizes layers place tiles rest new
     taken_more rest new here = record {
       own = so_far.own ++ here.own;
-      split = so_far.split ∙ ap (λ (l : List NamedTile). so_far.own ++ l) here.split
+      split = so_far.split ∙ ap (λ (l : List StoredTile). so_far.own ++ l) here.split
           ∙ sym (append_assoc so_far.own here.own rest);
       of = both_own layers place so_far.own here.own so_far.of here.of;
       placed = subst (λ (l : List ℕ). ArePlaced given limit l new)
@@ -268,7 +269,7 @@ module _ (live : Standing) where
     none_behind here = record {
       own = so_far.own ++ here.own;
       rest = here.rest;
-      split = so_far.split ∙ ap (λ (l : List NamedTile). so_far.own ++ l) here.split
+      split = so_far.split ∙ ap (λ (l : List StoredTile). so_far.own ++ l) here.split
           ∙ sym (append_assoc so_far.own here.own here.rest);
       of = both_own layers place so_far.own here.own so_far.of here.of;
       full = subst (λ (l : List ℕ). IsFull given limit l)
@@ -277,30 +278,29 @@ module _ (live : Standing) where
     }
 
   -- the first of some tiles is a layer's, and its record has so many bytes to write, or none
-  pub record IsOne (layers : List Layer) (place : ℕ) (tiles rest : List NamedTile) (ns : List ℕ) : Type 0 where
-    pub tile : NamedTile
+  pub record IsOne (layers : List Layer) (place : ℕ) (tiles rest : List StoredTile) (ns : List ℕ) : Type 0 where
+    pub tile : StoredTile
     pub split : tiles ≡ tile ∷ rest
-    pub index : index_of layers tile.0 ≡ place
+    pub index : index_of layers tile.name ≡ place
     pub sizes : tile_sizes live tile ≡ ns
 
-  pub one_is : (layers : List Layer) (place k : ℕ) (tiles rest : List NamedTile) (t : NamedTile) (ns : List ℕ)
+  pub one_is : (layers : List Layer) (place k : ℕ) (tiles rest : List StoredTile) (t : StoredTile) (ns : List ℕ)
       → t ≡ slice_index_or tiles 0 t → IsHere layers place k (map finished_of tiles)
       → rest ≡ drop 1 tiles → tile_sizes live t ≡ ns → IsOne layers place tiles rest ns
   one_is layers place k [] rest t ns is here behind sized = absurd here
   one_is layers place k (u ∷ us) rest t ns is here behind sized = record {
     tile = u;
-    split = ap (λ (l : List NamedTile). u ∷ l) (sym behind);
+    split = ap (λ (l : List StoredTile). u ∷ l) (sym behind);
     index = here.0;
     sizes = ap (tile_sizes live) (sym is) ∙ sized;
   }
 
-  pub new_tile : (t : NamedTile) (k : ℕ) (bytes : List ℕ) → t.1 ≡ k → tile_stays live (finished_of t) ≡ None
-      → bytes ≡ named_tile.text (named_by k t.2) → tile_sizes live t ≡ length bytes ∷ []
-  new_tile t k bytes column none spelled =
-      new_sizes (tile_stays live (finished_of t)) (tile_size t) none
-      ∙ ap (λ (n : ℕ). n ∷ []) (ap (λ (m : ℕ). length (named_tile.text (named_by m t.2))) column ∙ sym (ap length spelled))
+  pub new_tile : (t : StoredTile) (bytes : List ℕ) → tile_stays live (finished_of t) ≡ None
+      → bytes ≡ named_tile.text (named_by t.column t.tile.value) → tile_sizes live t ≡ length bytes ∷ []
+  new_tile t bytes none spelled =
+      new_sizes (tile_stays live (finished_of t)) (tile_size t) none ∙ ap (λ (n : ℕ). n ∷ []) (sym (ap length spelled))
 
-  pub kept_tile : (t : NamedTile) (e : RecordExtent) → tile_stays live (finished_of t) ≡ Some e → tile_sizes live t ≡ []
+  pub kept_tile : (t : StoredTile) (e : RecordExtent) → tile_stays live (finished_of t) ≡ Some e → tile_sizes live t ≡ []
   kept_tile t e is = kept_sizes (tile_stays live (finished_of t)) (tile_size t) e is
 
   pub new_own : (layer : Layer) (bytes : List ℕ) → layer_stays live layer ≡ None → bytes ≡ own_record layer.content
@@ -312,7 +312,7 @@ module _ (live : Standing) where
   kept_own layer e is = kept_sizes (layer_stays live layer) (length (own_record layer.content)) e is
 
   pub one_taken : (given : List runs.Extent) (limit : ℕ) (sizes : List ℕ) (layers : List Layer) (place : ℕ)
-      (tiles rest : List NamedTile) (ns : List ℕ) → IsOne layers place tiles rest ns → (d : Draft)
+      (tiles rest : List StoredTile) (ns : List ℕ) → IsOne layers place tiles rest ns → (d : Draft)
       → ArePlaced given limit (sizes ++ ns) d → AreTaken live given limit sizes layers place tiles rest d
   one_taken given limit sizes layers place tiles rest ns one d placed = record {
     own = one.tile ∷ [];
@@ -323,7 +323,7 @@ module _ (live : Standing) where
   }
 
   pub one_finds_none : (given : List runs.Extent) (limit : ℕ) (sizes : List ℕ) (layers : List Layer) (place : ℕ)
-      (tiles rest : List NamedTile) (ns : List ℕ) → IsOne layers place tiles rest ns → IsFull given limit (sizes ++ ns)
+      (tiles rest : List StoredTile) (ns : List ℕ) → IsOne layers place tiles rest ns → IsFull given limit (sizes ++ ns)
       → FindNone live given limit sizes layers place tiles
   one_finds_none given limit sizes layers place tiles rest ns one full = record {
     own = one.tile ∷ [];

@@ -13,14 +13,15 @@ use Rattle.std.specs.Option.{option_map}
 use Rattle.overlay_terms.specs.Plane.{WholePoint}
 use Rattle.overlay_terms.specs.Trees.{Tree}
 use Rattle.overlay_terms.specs.Column.{column_count}
-use Rattle.tile_build.specs.Tile.{finished_of, tile_of}
+use Rattle.tile_build.specs.StoredTile.{finished_of}
+use Rattle.tile_build.specs.Tile.{tile_of}
 use Rattle.store_terms.specs.declared.root.RecordExtent.{RecordExtent}
 use Rattle.store_terms.specs.Catalog.{Listed}
 use Rattle.layer_book.specs.Layer.{content_named}
 use Rattle.layer_book.proofs.Lookups.{as_derived}
 use Rattle.layer_book.proofs.Names.{stands_is}
 use Rattle.overlay_terms.specs.Orderly.{is_orderly_after}
-use Rattle.tile_build.specs.declared.tile.Tile.{Tile}
+use Rattle.tile_build.specs.declared.stored_tile.StoredTile.{StoredTile}
 use Rattle.record_bytes.specs.declared.catalog.Listed as code
 use Rattle.record_bytes.specs.Listing.{listed_of as listed_code, listing_of}
 use Rattle.commit_plan.specs.declared.write.Write.{Write}
@@ -140,13 +141,13 @@ base_has_none layers place layer (t ∷ ts) orderly there plain all = (
   base_has_none layers place layer ts orderly there plain all.1,
 )
 
-pub elsewhere_at : (layers : List Layer) (place k : ℕ) (ts : List (Name × ℕ × Tile)) (t : Name × ℕ × Tile)
-    → t ≡ slice_index_or ts 0 t → (index_of layers t.0 ≡ place → t.1 ≡ k → ⊥)
+pub elsewhere_at : (layers : List Layer) (place k : ℕ) (ts : List StoredTile) (t : StoredTile)
+    → t ≡ slice_index_or ts 0 t → (index_of layers t.name ≡ place → t.column ≡ k → ⊥)
     → IsElsewhere layers place k (map finished_of ts)
 elsewhere_at layers place k [] t is away = tt
 elsewhere_at layers place k (u ∷ ts) t is away =
-    λ index column. away (ap (λ (v : Name × ℕ × Tile). index_of layers v.0) is ∙ index)
-    (ap (λ (v : Name × ℕ × Tile). v.1) is ∙ column)
+    λ index column. away (ap (λ (v : StoredTile). index_of layers v.name) is ∙ index)
+    (ap (λ (v : StoredTile). v.column) is ∙ column)
 
 pub writes_count : (fs : List Filed) (ws : List Write) → AreWritesOf fs ws → length ws ≡ length fs
 writes_count [] [] writes = refl
@@ -155,40 +156,39 @@ writes_count (f ∷ fs) [] writes = absurd writes
 writes_count (f ∷ fs) (w ∷ ws) writes = omega (arith, writes_count fs ws writes.1)
 
 -- the first of some tiles of the code
-abbrev IsFirst : List (Name × ℕ × Tile) → Name × ℕ × Tile → Type 0
+abbrev IsFirst : List StoredTile → StoredTile → Type 0
 IsFirst ts t = t ≡ slice_index_or ts 0 t
 
-pub here_some : (layers : List Layer) (place k : ℕ) (ts : List (Name × ℕ × Tile))
+pub here_some : (layers : List Layer) (place k : ℕ) (ts : List StoredTile)
     → IsHere layers place k (map finished_of ts) → 0 < length ts
 here_some layers place k [] here = absurd here
 here_some layers place k (u ∷ us) here = omega arith
 
-pub here_at : (layers : List Layer) (place k : ℕ) (ts : List (Name × ℕ × Tile)) (t : Name × ℕ × Tile) → 0 < length ts
-    → t ≡ slice_index_or ts 0 t → index_of layers t.0 ≡ place → t.1 ≡ k → IsHere layers place k (map finished_of ts)
+pub here_at : (layers : List Layer) (place k : ℕ) (ts : List StoredTile) (t : StoredTile) → 0 < length ts
+    → t ≡ slice_index_or ts 0 t → index_of layers t.name ≡ place → t.column ≡ k → IsHere layers place k (map finished_of ts)
 here_at layers place k [] t some is index column = absurd (omega (arith, some))
 here_at layers place k (u ∷ us) t some is index column = (
-  ap (λ (v : Name × ℕ × Tile). index_of layers v.0) (sym is) ∙ index,
-  ap (λ (v : Name × ℕ × Tile). v.1) (sym is)
+  ap (λ (v : StoredTile). index_of layers v.name) (sym is) ∙ index,
+  ap (λ (v : StoredTile). v.column) (sym is)
       ∙ column,
 )
 
-pub here_known : (layers : List Layer) (place k : ℕ) (ts : List (Name × ℕ × Tile))
+pub here_known : (layers : List Layer) (place k : ℕ) (ts : List StoredTile)
     → IsHere layers place k (map finished_of ts) → AreLeft layers place k (map finished_of ts) → k < column_count
 here_known layers place k [] here left = absurd here
 here_known layers place k (u ∷ us) here left = subst (λ (n : ℕ). n < column_count) here.1 left.columns.0
 
-pub here_formed : (layers : List Layer) (place k : ℕ) (ts : List (Name × ℕ × Tile)) (t : Name × ℕ × Tile)
+pub here_formed : (layers : List Layer) (place k : ℕ) (ts : List StoredTile) (t : StoredTile)
     → t ≡ slice_index_or ts 0 t → IsHere layers place k (map finished_of ts)
-    → AreLeft layers place k (map finished_of ts) → IsTrue (is_formed (tile_of t.2) k)
+    → AreLeft layers place k (map finished_of ts) → IsTrue (is_formed (tile_of t.tile.value) t.column)
 here_formed layers place k [] t is here left = absurd here
 here_formed layers place k (u ∷ us) t is here left =
-    subst (λ (v : Name × ℕ × Tile). IsTrue (is_formed (tile_of v.2) k)) (sym is)
-    (subst (λ (n : ℕ). IsTrue (is_formed (tile_of u.2) n)) here.1 left.formed.0)
+    subst (λ (v : StoredTile). IsTrue (is_formed (tile_of v.tile.value) v.column)) (sym is) left.formed.0
 
-pub here_column : (layers : List Layer) (place k : ℕ) (ts : List (Name × ℕ × Tile)) (t : Name × ℕ × Tile)
-    → t ≡ slice_index_or ts 0 t → IsHere layers place k (map finished_of ts) → t.1 ≡ k
+pub here_column : (layers : List Layer) (place k : ℕ) (ts : List StoredTile) (t : StoredTile)
+    → t ≡ slice_index_or ts 0 t → IsHere layers place k (map finished_of ts) → t.column ≡ k
 here_column layers place k [] t is here = absurd here
-here_column layers place k (u ∷ us) t is here = ap (λ (v : Name × ℕ × Tile). v.1) is ∙ here.1
+here_column layers place k (u ∷ us) t is here = ap (λ (v : StoredTile). v.column) is ∙ here.1
 
 pub append_none : (fs : List Filed) → fs ++ [] ≡ fs
 append_none [] = refl
@@ -385,7 +385,7 @@ module _ (live : Standing) where
       grouped [] ys zs = refl
       grouped (x ∷ xs) ys zs = ap (λ (l : List Finished). x ∷ l) (grouped xs ys zs)
 
-  pub takes_first : (layers : List Layer) (place k : ℕ) (ts : List (Name × ℕ × Tile)) (t : Name × ℕ × Tile) (r : Record)
+  pub takes_first : (layers : List Layer) (place k : ℕ) (ts : List StoredTile) (t : StoredTile) (r : Record)
       → t ≡ slice_index_or ts 0 t → IsHere layers place k (map finished_of ts) → SaysTile live (finished_of t) r
       → Takes live layers place k (Some r) (map finished_of ts) (map finished_of (drop 1 ts))
   takes_first layers place k [] t r is here says = absurd here
@@ -394,7 +394,7 @@ module _ (live : Standing) where
     refl,
     here.0,
     here.1,
-    subst (λ (v : Name × ℕ × Tile). SaysTile live (finished_of v) r) is says,
+    subst (λ (v : StoredTile). SaysTile live (finished_of v) r) is says,
   )
 
   pub none_filed : (given : List runs.Extent) (limit : ℕ) (fs : List Filed) (layers : List Layer) (place k : ℕ)

@@ -1,15 +1,15 @@
 -- How many bytes the records of a commit have, in the order in which they are written.
 use Rattle.std.specs.Prelude.{◌≡◌, ℕ, ◌+◌, ◌*◌, List, [], ◌∷◌, ◌++◌, length, map, filter, flat_map, sum_by, bytes_eq, Option, Some, None, if◌then◌else◌}
 use Rattle.overlay_terms.specs.Column.{column_count}
-use Rattle.overlay_terms.specs.Layers.{Name, Content, base, derived, Layer}
+use Rattle.overlay_terms.specs.Layers.{Content, base, derived, Layer}
 use Rattle.overlay_terms.specs.Commands.{is_derived}
 use Rattle.layer_expr.specs.Spelling.{expression_text}
-use Rattle.tile_build.specs.declared.tile.Tile.{Tile}
+use Rattle.tile_build.specs.declared.stored_tile.StoredTile.{StoredTile}
 use Rattle.store_terms.specs.BaseRecord as bases
 use Rattle.store_terms.specs.TileRecord.{named_tile}
 use Rattle.store_terms.specs.declared.root.RecordExtent.{RecordExtent}
 use Rattle.store_terms.specs.Image.{Held}
-use Rattle.tile_build.specs.Tile.{finished_of}
+use Rattle.tile_build.specs.StoredTile.{finished_of}
 use Rattle.record_bytes.specs.Tiles.{named_by}
 use Rattle.commit_plan.specs.Staying.{Standing, layer_stays, tile_stays}
 
@@ -18,13 +18,9 @@ abbrev pub own_record : Content → List ℕ
 own_record (base rings) = bases.rings.text rings
 own_record (derived expression) = expression_text expression
 
--- a finished tile, by the names of its pieces' ends, under the name of its layer and its column
-abbrev pub NamedTile : Type 0
-NamedTile = Name × ℕ × Tile
-
--- how many bytes its record has
-abbrev pub tile_size : NamedTile → ℕ
-tile_size t = length (named_tile.text (named_by t.1 t.2))
+-- how many bytes the record of a tile has, by the names of its pieces' ends
+abbrev pub tile_size : StoredTile → ℕ
+tile_size t = length (named_tile.text (named_by t.column t.tile.value))
 
 -- so many bytes, of a record that does not stay
 abbrev pub if_new : Option RecordExtent → ℕ → List ℕ
@@ -35,13 +31,13 @@ if_new (Some e) n = []
 abbrev pub own_sizes : Standing → Layer → List ℕ
 own_sizes live layer = if_new (layer_stays live layer) (length (own_record layer.content))
 
-abbrev pub tile_sizes : Standing → NamedTile → List ℕ
+abbrev pub tile_sizes : Standing → StoredTile → List ℕ
 tile_sizes live t = if_new (tile_stays live (finished_of t)) (tile_size t)
 
 -- those of a layer's new records: its own, then those of its tiles
-abbrev pub sizes_of_layer : Standing → List NamedTile → Layer → List ℕ
+abbrev pub sizes_of_layer : Standing → List StoredTile → Layer → List ℕ
 sizes_of_layer live tiles layer =
-    own_sizes live layer ++ flat_map (tile_sizes live) (filter (λ t. bytes_eq layer.name t.0) tiles)
+    own_sizes live layer ++ flat_map (tile_sizes live) (filter (λ t. bytes_eq layer.name t.name) tiles)
 
 -- those of the catalog's entry of a layer, but for where its finished tiles lie
 abbrev pub entry_size : Layer → ℕ
@@ -49,16 +45,16 @@ entry_size layer = 14 + length layer.name + (if is_derived layer.content then co
 
 -- those of the catalog: the number of layers, an entry for each, and where each of so many finished tiles lies
 abbrev pub catalog_size : List Layer → ℕ → ℕ
-catalog_size layers finished_of = 2 + sum_by entry_size layers + 12 * finished_of
+catalog_size layers finished = 2 + sum_by entry_size layers + 12 * finished
 
 -- the sizes of all new records, layer by layer, the catalog last
-abbrev pub record_sizes : Standing → List Layer → List NamedTile → List ℕ
+abbrev pub record_sizes : Standing → List Layer → List StoredTile → List ℕ
 record_sizes live layers tiles =
     flat_map (sizes_of_layer live tiles) layers ++ catalog_size layers (length tiles) ∷ []
 
 -- the sizes of the new records of what is held; which names the ends of its tiles' pieces have is open
 pub record AreSizesOf (live : Standing) (x : Held) (sizes : List ℕ) : Type 0 where
-  pub tiles : List NamedTile
+  pub tiles : List StoredTile
   pub named : map finished_of tiles ≡ x.tiles
   pub are : sizes ≡ record_sizes live x.layers tiles
 

@@ -77,7 +77,9 @@ fn same_name(held: &PointName, new: &PointName) -> bool
 fn same_piece(held: &Piece, new: &Piece) -> bool
     ensures { result ≡ same_ends (ends_of held.now) (ends_of new.now) }
 {
-    if same_name(&held.from(), &new.from()) && same_name(&held.to(), &new.to()) {
+    let (held_from, held_to) = held.names();
+    let (new_from, new_to) = new.names();
+    if same_name(held_from, new_from) && same_name(held_to, new_to) {
         return true;
     }
     let (from, to) = held.ends();

@@ -65,7 +65,7 @@ pub(crate) fn completed(
 {
     let bytes = write_catalog(alloc, &listing)?;
     let catalog = draft.file(bytes)?;
-    let (number, layers, tiles) = image.into_parts();
+    let (number, layers, tiles) = image.into_shared();
     let next = Root {
         sequence: root.sequence + 1,
         version: number,

@@ -3,7 +3,7 @@ ghost use Rattle.std.specs.Prelude.{◌≡◌, ◌⊎◌, ◌+◌, ◌^◌, ◌<
 ghost use Rattle.overlay_terms.specs.Column.{column_count};
 ghost use Rattle.extent_map.specs.declared.extent.Extent as runs;
 ghost use Rattle.extent_map.specs.FirstFit.{IsFull};
-ghost use Rattle.tile_build.specs.Tile.{finished_of};
+ghost use Rattle.tile_build.specs.StoredTile.{finished_of};
 ghost use Rattle.record_bytes.specs.Listing.{listed_of, listing_of, IsListable};
 ghost use Rattle.commit_plan.specs.Filing.{Filed, SpellsContent};
 ghost use Rattle.commit_plan.specs.Staying.{layer_named};
@@ -27,10 +27,10 @@ use record_bytes::definition_writing::write_definition;
 use record_bytes::tile_writing::write_tile;
 use std::alloc::{AllocError, Global};
 use store_terms::root::RecordExtent;
-use tile_build::Tile;
+use tile_build::StoredTile;
 
 /// Whether the first of some tiles is that of a layer and column.
-fn is_here(layers: &Layers, place: usize, column: u8, tiles: &[(Name, u8, Tile)]) -> bool
+fn is_here(layers: &Layers, place: usize, column: u8, tiles: &[StoredTile]) -> bool
     requires { place < length layers.now }
     ensures here { IsTrue result → IsHere layers.now place column (map finished_of tiles.now) }
     ensures elsewhere { IsFalse result → IsElsewhere layers.now place column (map finished_of tiles.now) }
@@ -39,10 +39,10 @@ fn is_here(layers: &Layers, place: usize, column: u8, tiles: &[(Name, u8, Tile)]
         return false;
     }
     let tile = &tiles[0];
-    if tile.1 != column {
+    if tile.column.number() != column {
         return false;
     }
-    match layers.find(&tile.0) {
+    match layers.find(&tile.name) {
         Some(found) => found == place,
         None => false,
     }
@@ -102,8 +102,8 @@ fn file_tile<'a>(
     layers: &Layers,
     place: usize,
     column: u8,
-    tiles: &'a [(Name, u8, Tile)],
-) -> Result<(Option<RecordExtent>, &'a [(Name, u8, Tile)]), StoreFault>
+    tiles: &'a [StoredTile],
+) -> Result<(Option<RecordExtent>, &'a [StoredTile]), StoreFault>
     requires place { place < length layers.now }
     requires left { AreLeft layers.now place column (map finished_of tiles.now) }
     ensures ok { (given : List runs.Extent) (limit : ℕ) (fs : List Filed) → IsDraft given limit fs draft.old
@@ -124,7 +124,7 @@ fn file_tile<'a>(
     if let Some(extent) = live.tile_stays(first) {
         return Ok((Some(extent), &tiles[1..]));
     }
-    let bytes = write_tile(alloc, column, &first.2)?;
+    let bytes = write_tile(alloc, first.column, &first.tile)?;
     let extent = draft.file(bytes)?;
     Ok((Some(extent), &tiles[1..]))
 }
@@ -136,8 +136,8 @@ fn file_tiles<'a>(
     live: &LiveRecords,
     layers: &Layers,
     place: usize,
-    tiles: &'a [(Name, u8, Tile)],
-) -> Result<(Vec<Option<RecordExtent>>, &'a [(Name, u8, Tile)]), StoreFault>
+    tiles: &'a [StoredTile],
+) -> Result<(Vec<Option<RecordExtent>>, &'a [StoredTile]), StoreFault>
     requires place { place < length layers.now }
     requires left { AreLeft layers.now place 0 (map finished_of tiles.now) }
     ensures ok { (given : List runs.Extent) (limit : ℕ) (fs : List Filed) → IsDraft given limit fs draft.old
@@ -169,8 +169,8 @@ fn file_layer<'a>(
     live: &LiveRecords,
     layers: &Layers,
     place: usize,
-    tiles: &'a [(Name, u8, Tile)],
-) -> Result<(Listed, &'a [(Name, u8, Tile)]), StoreFault>
+    tiles: &'a [StoredTile],
+) -> Result<(Listed, &'a [StoredTile]), StoreFault>
     requires place { place < length layers.now }
     requires left { AreLeft layers.now place 0 (map finished_of tiles.now) }
     ensures ok { (given : List runs.Extent) (limit : ℕ) (fs : List Filed) → IsDraft given limit fs draft.old
@@ -206,7 +206,7 @@ pub(crate) fn file_layers(
     draft: &mut Draft,
     live: &LiveRecords,
     layers: &Layers,
-    tiles: &[(Name, u8, Tile)],
+    tiles: &[StoredTile],
 ) -> Result<Vec<Listed>, StoreFault>
     requires { AreLeft layers.now 0 0 (map finished_of tiles.now) }
     ensures ok { (given : List runs.Extent) (limit : ℕ) → IsDraft given limit [] draft.old

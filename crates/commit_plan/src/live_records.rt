@@ -10,7 +10,8 @@ ghost use Rattle.record_bytes.specs.Listing.{listing_of, records_of};
 ghost use Rattle.store_terms.specs.Image.{Held};
 ghost use Rattle.store_terms.specs.Places.{blocks, is_apart_from, all_apart, extents_listed};
 ghost use Rattle.store_terms.specs.declared.root.RecordExtent as terms;
-ghost use Rattle.tile_build.specs.Tile.{finished_of, tile_of};
+ghost use Rattle.tile_build.specs.StoredTile.{finished_of};
+ghost use Rattle.tile_build.specs.Tile.{tile_of};
 ghost use Rattle.root_reading.specs.Looking.{Gives};
 ghost use Rattle.root_reading.specs.Taking.{IsMapOf, AllNear, if_apart};
 ghost use Rattle.commit_plan.specs.Staying.{own_extent, tile_extent, records_named, if_near, layer_named, layer_stays, tile_stays, near_ones, is_of};
@@ -22,20 +23,23 @@ use extent_map::extent::Extent as Run;
 use layer_book::layer::Layer;
 use layer_book::layers::Layers;
 use layer_expr::name::Name;
+use plane_base::Column;
 use record_bytes::catalog::{Listed, Records};
 use root_reading::fetching::blocks_of;
 use root_reading::load_fault::LoadFault;
 use std::alloc::Global;
 use store_terms::root::RecordExtent;
+use tile_build::stored_tile::StoredTile;
 use tile_build::tile::Tile;
 
-/// What the live root's catalog lists, the blocks that the root takes, and the layers and finished tiles that it holds.
+/// What the live root's catalog lists, the blocks that the root takes, and the layers and finished tiles that it holds,
+/// which it shares with the versions that have them.
 #[derive(Drop)]
 pub struct LiveRecords {
     pub(crate) listing: Vec<Listed>,
     pub(crate) room: Room,
     pub(crate) layers: Layers,
-    pub(crate) tiles: Vec<(Name, u8, Tile)>,
+    pub(crate) tiles: Vec<StoredTile>,
     ghost apart: { all_apart (near_ones (extents_listed (listing_of listing.items))) ≡ true },
     ghost free: { (e : terms.RecordExtent) → IsUnused (taken_of room.map) e.block (blocks e.size)
         → is_apart_from e (near_ones (extents_listed (listing_of listing.items))) ≡ true },
@@ -64,13 +68,13 @@ fn own_extent(records: &Records) -> RecordExtent
 }
 
 /// Where the record of a column's tile lies, if it is finished.
-fn tile_extent(records: &Records, column: u8) -> Option<RecordExtent>
+fn tile_extent(records: &Records, column: Column) -> Option<RecordExtent>
     ensures { result ≡ tile_extent (records_of records.now) column }
 {
     let Records::Derived(_, entries) = records else {
         return None;
     };
-    let column = usize::from(column);
+    let column = usize::from(column.number());
     if column >= entries.len() {
         return None;
     }
@@ -88,19 +92,19 @@ fn if_near(extent: RecordExtent) -> Option<RecordExtent>
 }
 
 /// Whether a tile is that of a name and column.
-fn is_of(tile: &(Name, u8, Tile), name: &Name, column: u8) -> bool
+fn is_of(tile: &StoredTile, name: &Name, column: Column) -> bool
     ensures { result ≡ is_of name.now column (finished_of tile.now) }
 {
-    tile.1 == column && tile.0.bytes() == name.bytes()
+    tile.column == column && tile.name.bytes() == name.bytes()
 }
 
 /// The first tile of a name and column.
-fn tile_among<'a>(tiles: &'a [(Name, u8, Tile)], name: &Name, column: u8) -> Option<&'a Tile>
+fn tile_among<'a>(tiles: &'a [StoredTile], name: &Name, column: Column) -> Option<&'a Tile>
     ensures { option_map (λ tile. tile_of tile.now) result ≡ tile_at (map finished_of tiles.now) name.now column }
 {
     for tile in tiles {
         if is_of(tile, name, column) {
-            return Some(&tile.2);
+            return Some(&tile.tile);
         }
     }
     None
@@ -128,7 +132,7 @@ impl LiveRecords {
         catalog: RecordExtent,
         listing: Vec<Listed>,
         layers: Layers,
-        tiles: Vec<(Name, u8, Tile)>,
+        tiles: Vec<StoredTile>,
         max_blocks: u32,
     ) -> Result<LiveRecords, LoadFault>
         ensures stands { IfOk result
@@ -151,6 +155,17 @@ impl LiveRecords {
         })
     }
 
+    /// Lets go of what the root lists and holds. The blocks that it takes stay.
+    pub fn let_go(&mut self)
+        ensures stands { standing self.new ≡ record { listing = []; layers = []; tiles = [] } }
+        ensures room { self.new.room ≡ self.old.room }
+    {
+        let alloc = *self.listing.allocator();
+        self.listing.clear();
+        self.layers = Layers::new(alloc);
+        self.tiles.clear();
+    }
+
     /// Where a layer's own record stays, if the root holds an equal one under its name.
     pub(crate) fn layer_stays(&self, name: &Name, layer: &Layer) -> Option<RecordExtent>
         ensures { result
@@ -169,19 +184,19 @@ impl LiveRecords {
     }
 
     /// Where a tile's record stays, if the root holds an equal one under its name and column.
-    pub(crate) fn tile_stays(&self, tile: &(Name, u8, Tile)) -> Option<RecordExtent>
+    pub(crate) fn tile_stays(&self, tile: &StoredTile) -> Option<RecordExtent>
         ensures { result ≡ tile_stays (standing self.now) (finished_of tile.now) }
     {
-        let Some(held) = tile_among(&self.tiles, &tile.0, tile.1) else {
+        let Some(held) = tile_among(&self.tiles, &tile.name, tile.column) else {
             return None;
         };
-        if !same_tile(held, &tile.2) {
+        if !same_tile(held, &tile.tile) {
             return None;
         }
-        let Some(records) = records_named(&self.listing, &tile.0) else {
+        let Some(records) = records_named(&self.listing, &tile.name) else {
             return None;
         };
-        let Some(extent) = tile_extent(records, tile.1) else {
+        let Some(extent) = tile_extent(records, tile.column) else {
             return None;
         };
         if_near(extent)

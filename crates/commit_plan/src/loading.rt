@@ -2,7 +2,7 @@
 ghost use Rattle.std.specs.Prelude.{◌≡◌, ◌⊎◌, ◌∷◌, ◌↔◌, ◌^◌, ◌<◌, length, map, Ok, IfOk, IfErr};
 ghost use Rattle.overlay_terms.specs.StoredTiles.{AreStored};
 ghost use Rattle.extent_map.specs.Taken.{taken_of, limit_of};
-ghost use Rattle.tile_build.specs.Tile.{finished_of};
+ghost use Rattle.tile_build.specs.StoredTile.{finished_of};
 ghost use Rattle.store_terms.specs.Image.{Held, held_of};
 ghost use Rattle.store_terms.specs.Image as terms;
 ghost use Rattle.record_bytes.specs.Listing.{listing_of};
@@ -18,14 +18,13 @@ ghost use Rattle.commit_plan.specs.Kept.{extents_in};
 use crate::live_records::LiveRecords;
 use crate::room::Room;
 use disk_model::disk::Disk;
-use layer_expr::name::Name;
 use record_bytes::catalog::Listed;
 use root_reading::load_fault::LoadFault;
 use root_reading::loading::{Content, content_of};
 use root_reading::records::listing_at;
-use std::alloc::{AllocError, Global};
+use std::alloc::Global;
 use store_terms::root::{RecordExtent, Root};
-use tile_build::tile::Tile;
+use tile_build::stored_tile::shared_again;
 
 /// What is read of a file: its root, what the root holds, and the blocks that it takes.
 #[derive(Drop)]
@@ -33,7 +32,7 @@ pub struct Loaded {
     pub root: Root,
     /// What it holds, for the version that is opened.
     pub content: Content,
-    /// The same and where it lies, for the store.
+    /// The same, with its tiles shared, and where it lies, for the store.
     pub live: LiveRecords,
     /// Records of nothing, in whose place those of the commit to come are put.
     pub next_live: LiveRecords,
@@ -50,27 +49,7 @@ fn no_room(alloc: Global, max_blocks: u32) -> Result<Room, LoadFault>
     }
 }
 
-/// A tile once more, with its name and column.
-fn copy_of(alloc: Global, tile: &(Name, u8, Tile)) -> Result<(Name, u8, Tile), AllocError>
-    ensures { IfOk result (λ copy. finished_of copy ≡ finished_of tile.now) }
-{
-    let name = tile.0.clone()?;
-    let copy = tile.2.try_copy(alloc)?;
-    Ok((name, tile.1, copy))
-}
-
-/// The tiles once more.
-fn copied(alloc: Global, tiles: &[(Name, u8, Tile)]) -> Result<Vec<(Name, u8, Tile)>, AllocError>
-    ensures { IfOk result (λ copies. map finished_of copies.items ≡ map finished_of tiles.now) }
-{
-    let mut copies = Vec::new(alloc);
-    for tile in tiles {
-        copies.push(copy_of(alloc, tile)?)?;
-    }
-    Ok(copies)
-}
-
-/// The records of a root with a catalog here, which lists those of some layers and tiles.
+/// The records of a root with a catalog here, which lists those of some layers and tiles. It shares them.
 fn live_of(
     alloc: Global,
     catalog: RecordExtent,
@@ -88,7 +67,7 @@ fn live_of(
     ensures limit { IfOk result (λ live. limit_of live.room.map ≡ max_blocks) }
 {
     let layers = content.layers.try_copy(alloc)?;
-    let tiles = copied(alloc, &content.tiles)?;
+    let tiles = shared_again(alloc, &content.tiles)?;
     LiveRecords::new(alloc, catalog, listing, layers, tiles, max_blocks)
 }
 

@@ -24,7 +24,7 @@ use Rattle.commit_plan.proofs.completing.completed.Goals as goal
 pub returns-clause-ok : goal.returns-clause-ok
 returns-clause-ok c x given limit layers root there room apart draft spell =
     let image = c.args.image in
-    let value = c.into_parts-number.ensures.value in
+    let value = c.into_shared-number.ensures.value in
     let cat : Filed = record { extent = c.in_ok-catalog.catalog; bytes = c.in_ok-bytes.bytes.items } in
     let d = c.file.new.self in
     let drafted = c.in_ok-catalog.ensures.ok given limit (flat_map filed_of layers) draft in
@@ -33,7 +33,7 @@ returns-clause-ok c x given limit layers root there room apart draft spell =
     record {
       root = record {
         sequence = c.args.root.sequence + 1;
-        version = c.into_parts-number.result.0;
+        version = c.into_shared-number.result.0;
         catalog = c.in_ok-catalog.catalog;
       };
       live = c.in-Ok.live;
@@ -114,7 +114,7 @@ returns-clause-laid c live given limit layers draft spell =
     let d = c.file.new.self in
     let root : Root = record {
       sequence = c.args.root.sequence + 1;
-      version = c.into_parts-number.result.0;
+      version = c.into_shared-number.result.0;
       catalog = c.in_ok-catalog.catalog;
     } in
     let b : Write = record { at = c.args.body; bytes = c.in_ok-from_slice.field-0 } in
@@ -124,4 +124,4 @@ returns-clause-laid c live given limit layers draft spell =
     (c.in_ok-from_slice.ensures.items ∙ c.write_body.ensures.spelled) c.in_ok-push.ensures.items
 
 pub returns-clause-number : goal.returns-clause-number
-returns-clause-number c = ap (λ (h : Held). h.number) c.into_parts-number.ensures.value
+returns-clause-number c = ap (λ (h : Held). h.number) c.into_shared-number.ensures.value

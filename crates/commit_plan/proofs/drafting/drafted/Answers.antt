@@ -12,7 +12,7 @@ use Rattle.overlay_terms.specs.Histories.{Finished}
 use Rattle.extent_map.specs.declared.extent.Extent as runs
 use Rattle.extent_map.specs.Taken.{taken_of, limit_of}
 use Rattle.layer_book.specs.Layer.{IsBook}
-use Rattle.tile_build.specs.Tile.{finished_of}
+use Rattle.tile_build.specs.StoredTile.{finished_of}
 use Rattle.record_bytes.specs.Listing.{listing_of}
 use Rattle.commit_plan.specs.declared.next.Next.{Next}
 use Rattle.commit_plan.specs.Filing.{filed_of}

@@ -1,6 +1,6 @@
 use Rattle.std.proofs.Common.{◌≡◌, ℕ, List, length, map}
 use Rattle.extent_map.specs.declared.extent.Extent as runs
-use Rattle.tile_build.specs.Tile.{finished_of}
+use Rattle.tile_build.specs.StoredTile.{finished_of}
 use Rattle.commit_plan.specs.Filing.{Filed}
 use Rattle.commit_plan.specs.Drafting.{ArePlaced, IsDraft}
 use Rattle.commit_plan.specs.Placing.{AreTaken}

@@ -6,4 +6,4 @@ returns-in-None-clause-elsewhere c u =
     let layers = c.args.layers.now in
     let tile = c.index-tiles-0.result in
     elsewhere_at layers c.args.place c.args.column c.args.tiles.now tile c.index-tiles-0.is
-    (λ index column. none_there layers tile.0 c.args.place c.in-None.ensures.known c.requires index)
+    (λ index column. none_there layers tile.name c.args.place c.in-None.ensures.known c.requires index)

@@ -1,6 +1,6 @@
 use Rattle.std.proofs.Common.{◌≡◌, map, drop}
 use Rattle.overlay_terms.specs.Histories.{tile_at}
-use Rattle.tile_build.specs.Tile.{finished_of}
+use Rattle.tile_build.specs.StoredTile.{finished_of}
 use Rattle.commit_plan.proofs.live_records.tile_among.Given as goal
 
 -- the tile is not among those so far

@@ -7,12 +7,12 @@ use Rattle.commit_plan.proofs.live_records.tile_extent.Goals as goal
 pub returns-then-column-len : goal.returns-then-column-len
 returns-then-column-len c =
     let is : records_of c.args.records.now ≡ inr (c.in-Derived.field-0, c.in-Derived.entries.items) = search rules in
-    entry_past c.in-Derived.entries.items c.args.column (omega (arith, c.if-column-len.true, c.from-column.ensures, c.len.ensures))
+    entry_past c.in-Derived.entries.items c.args.column (omega (arith, c.if-column-len.true, c.from-column.ensures, c.number.ensures.value, c.len.ensures))
     ∙ sym (ap (λ r. tile_extent r c.args.column) is)
 
 pub returns : goal.returns
 returns c =
     let is : records_of c.args.records.now ≡ inr (c.in-Derived.field-0, c.in-Derived.entries.items) = search rules in
     entry_is c.in-Derived.entries.items c.args.column c.index.result.now
-    (omega (arith, c.if-column-len.false, c.from-column.ensures, c.len.ensures)) (search rules)
+    (omega (arith, c.if-column-len.false, c.from-column.ensures, c.number.ensures.value, c.len.ensures)) (search rules)
     ∙ sym (ap (λ r. tile_extent r c.args.column) is)
