@@ -56,7 +56,7 @@ not_gone too_many_layers e = omega (arith, e)
 not_gone version_limit e = omega (arith, e)
 
 -- the number of a fault, where there is one
-code_or : Option BatchFault → ℕ
+abbrev code_or : Option BatchFault → ℕ
 code_or None = 0
 code_or (Some f) = batch.code_of f
 
