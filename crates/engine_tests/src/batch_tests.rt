@@ -37,7 +37,10 @@ fn a_crash_at_each_call_leaves_no_layer_of_a_batch_or_all(rt: HostRuntime) -> Re
     assert_eq!(rt; disk.calls().len(), CREATED + CALLS);
     for calls in 0..=CALLS {
         for &choice in &CHOICES {
-            let found = left(rt.alloc(), disk.image(CREATED.saturating_add(calls), choice)?)?;
+            let found = left(
+                rt.alloc(),
+                disk.image(CREATED.saturating_add(calls), choice)?,
+            )?;
             let whole = found == (1, 2);
             assert!(rt; whole || found == (0, 0), "behind {calls} calls");
             assert!(rt; !whole || calls >= CALLS - 1, "behind {calls} calls");

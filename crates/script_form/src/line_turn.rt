@@ -24,11 +24,7 @@ pub enum LineTurn<'a> {
 
 /// Takes a line, where a batch waits for lines or none does. A line that is too long may be handed in cut off behind
 /// its first 65,537 bytes.
-pub fn take_line<'a>(
-    alloc: Global,
-    waiting: &mut Option<Gathering>,
-    line: &'a [u8],
-) -> LineTurn<'a>
+pub fn take_line<'a>(alloc: Global, waiting: &mut Option<Gathering>, line: &'a [u8]) -> LineTurn<'a>
     ensures { TakesLine waiting.old (request_of line.now) waiting.new result }
 {
     let asked = request_of(line);

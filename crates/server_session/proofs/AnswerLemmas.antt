@@ -211,7 +211,7 @@ answers_all was now commands reply s = record {
   stays = s.stays;
   answered = λ requests read. record {
     made = s.made;
-    answered = elim s.submitted [ | inl memory ↦ inl memory | inr by ↦ inr (inr (commands, read, by)) ];
+    answered = elim s.submitted [ inl memory ↦ inl memory | inr by ↦ inr (inr (commands, read, by)) ];
     only = s.only;
   };
 }

@@ -9,8 +9,8 @@ ghost use Rattle.server_session.specs.Turn.{Stays};
 
 use crate::answering::answer;
 use script_form::{
-    CommandFault, Gathering, LineBuffer, LineReply, SCRIPT_MAX, SessionEnd, read_chunk, write_reply,
-    write_text,
+    CommandFault, Gathering, LineBuffer, LineReply, SCRIPT_MAX, SessionEnd, read_chunk,
+    write_reply, write_text,
 };
 use std::alloc::{AllocError, Global};
 use std::io::{Read, Write};
