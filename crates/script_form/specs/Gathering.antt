@@ -1,10 +1,9 @@
 -- Batches of the code that wait for lines, and what a line makes of them.
-use Rattle.std.specs.Prelude.{◌≡◌, ℕ, ◌==◌, true, false, List, [], ◌∷◌, ◌++◌, map, length, Option, Some, None, Result, Ok, Err, Vec, if◌then◌else◌}
+use Rattle.std.specs.Prelude.{◌≡◌, ℕ, Bool, true, false, List, [], ◌∷◌, ◌++◌, map, length, Option, Some, None, Result, Ok, Err, Vec}
 use Rattle.overlay_terms.specs.Batches.{Batch}
 use Rattle.layer_book.specs.Command.{command}
 use Rattle.layer_book.specs.declared.command.Command.{Command}
 use Rattle.script_form.specs.declared.fault.CommandFault.{CommandFault}
-use Rattle.script_form.specs.Fault.{code_of}
 use Rattle.script_form.specs.BatchLines.{AreCommandsOf, IsFirstUnread}
 use Rattle.script_form.specs.Request.{request}
 use Rattle.script_form.specs.Requests.{Request}
@@ -28,7 +27,7 @@ AreRead requests (Ok batch) = AreCommandsOf requests batch
 AreRead requests (Err fault) = AreUnread requests fault
 
 -- a command for each line so far, or the fault
-abbrev pub AreReadSoFar : List Request → Result (Vec Command) LinesFault → Type 0
+abbrev pub AreReadSoFar : {Z : Type 0} → List Request → Result (Vec Command Z) LinesFault → Type 0
 AreReadSoFar requests (Ok commands) = AreCommandsOf requests (map command commands.items)
 AreReadSoFar requests (Err fault) = AreUnread requests fault
 
@@ -52,12 +51,12 @@ IsEnded turns (Alone asked) = turns ≡ alone (request asked) ∷ []
 IsEnded turns (Whole read) = (requests : List Request) × (turns ≡ together requests ∷ []) × AreRead requests read
 
 -- a line is taken: which batch waits then, and which turn ended
-pub record IsTaken (waiting : Option Waiting) (request : Request) (new : Option Gathering) (turn : LineTurn) : Type 0 where
-  pub open_then : IsOpen (waiting_after waiting request) new
-  pub ended : IsEnded (ended_by waiting request) turn
+pub record IsTaken (waiting : Option Waiting) (asked : Request) (new : Option Gathering) (turn : LineTurn) : Type 0 where
+  pub open_then : IsOpen (waiting_after waiting asked) new
+  pub ended : IsEnded (ended_by waiting asked) turn
 
 abbrev pub TakesLine : Option Gathering → Request → Option Gathering → LineTurn → Type 0
-TakesLine old request new turn = (waiting : Option Waiting) → IsOpen waiting old → IsTaken waiting request new turn
+TakesLine old asked new turn = (waiting : Option Waiting) → IsOpen waiting old → IsTaken waiting asked new turn
 
 -- what a line of a batch makes of it: the batch with this line waits for more, or all of its lines came
 abbrev pub IsJoined : Waiting → Joined → Type 0
@@ -65,17 +64,23 @@ IsJoined waiting (joined.Waits gathering) = (is_whole waiting ≡ false) × IsGa
 IsJoined waiting (joined.Whole read) = (is_whole waiting ≡ true) × AreRead waiting.came read
 
 abbrev pub Joins : Gathering → Request → Joined → Type 0
-Joins old request result = (waiting : Waiting) → IsGathering waiting old → IsJoined (with_line waiting request) result
+Joins old asked result = (waiting : Waiting) → IsGathering waiting old → IsJoined (with_line waiting asked) result
 
 -- one line more is read
-abbrev pub ReadsNext : Result (Vec Command) LinesFault → Request → Result (Vec Command) LinesFault → Type 0
-ReadsNext read request result =
-    (requests : List Request) → AreReadSoFar requests read → AreReadSoFar (requests ++ request ∷ []) result
+abbrev pub ReadsNext : {Y Z : Type 0} → Result (Vec Command Y) LinesFault → Request → Result (Vec Command Z) LinesFault → Type 0
+ReadsNext read asked result =
+    (requests : List Request) → AreReadSoFar requests read → AreReadSoFar (requests ++ asked ∷ []) result
+
+-- one line more is read behind commands
+abbrev pub ReadsBehind : {Z : Type 0} → Batch → Request → Result (Vec Command Z) LinesFault → Type 0
+ReadsBehind commands asked result =
+    (requests : List Request) → AreCommandsOf requests commands → AreReadSoFar (requests ++ asked ∷ []) result
 
 -- what was read, as a batch
-abbrev pub ReadsAll : Result (Vec Command) LinesFault → Result Batch LinesFault → Type 0
+abbrev pub ReadsAll : {Z : Type 0} → Result (Vec Command Z) LinesFault → Result Batch LinesFault → Type 0
 ReadsAll read result = (requests : List Request) → AreReadSoFar requests read → AreRead requests result
 
--- a fault that is that of memory, or another
-abbrev pub IsUnread : ℕ → CommandFault → LinesFault → Type 0
-IsUnread place fault told = if code_of fault == 40 then told ≡ OutOfMemory else told ≡ Unread place fault
+-- the fault of a line, by whether it is that of memory
+abbrev pub unread : Bool → ℕ → CommandFault → LinesFault
+unread true place fault = OutOfMemory
+unread false place fault = Unread place fault

@@ -52,11 +52,11 @@ abbrev pub IsGone : List Batch → List ℕ → Type 0
 IsGone made reply = IsRefused Gone made reply
 
 -- an accepted batch: the newest entry is this session's, and the reply is its version's number
-pub record IsAcceptedBy (session : ℕ) (before : History) (batch : Batch) (after : History) (made : List Batch) (reply : List ℕ) : Type 0 where
+pub record IsAcceptedBy (session : ℕ) (before : History) (commands : Batch) (after : History) (made : List Batch) (reply : List ℕ) : Type 0 where
   pub between : List Entry
   pub version : versions.Version
-  pub goes_on : GoesOnBy before (between ++ record { event = accepted session batch; version = version } ∷ []) after
-  pub only : made ≡ batch ∷ []
+  pub goes_on : GoesOnBy before (between ++ record { event = accepted session commands; version = version } ∷ []) after
+  pub only : made ≡ commands ∷ []
   pub told : reply ≡ ok_line version.number
 
 -- a command: refused by the first reason that applies at the newest version, or accepted; or the book closes, or is behind
@@ -80,11 +80,11 @@ IsRefusedBatch (whole refusal) made reply = IsRefused (Version (Layer (fault_of 
 -- a batch of commands: refused by the first reason that applies at the newest version, or accepted; or the book closes, or
 -- is behind
 abbrev pub IsSubmittedAll : ℕ → History → Batch → History → List Batch → List ℕ → Type 0
-IsSubmittedAll session before batch after made reply =
+IsSubmittedAll session before commands after made reply =
     IsClosing made reply
     ⊎ IsGone made reply
-    ⊎ ((refusal : BatchRefusal) × (batch_refusal_at (newest after).number (newest after).layers batch ≡ Some refusal) × IsRefusedBatch refusal made reply)
-    ⊎ IsAcceptedBy session before batch after made reply
+    ⊎ ((refusal : BatchRefusal) × (batch_refusal_at (newest after).number (newest after).layers commands ≡ Some refusal) × IsRefusedBatch refusal made reply)
+    ⊎ IsAcceptedBy session before commands after made reply
 
 -- a line with a name: refused where it is no name, else answered
 abbrev pub WithName : List ℕ → List Batch → List ℕ → Type 0 → Type 0

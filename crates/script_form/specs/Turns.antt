@@ -15,9 +15,13 @@ pub record Waiting : Type 0 where
   pub size : ℕ
   pub came : List Request
 
+-- so many commands, if a batch may have so many
+abbrev pub size_within : ℕ → Option ℕ
+size_within n = if nat_le 1 n && nat_le n batch_max then Some n else None
+
 -- how many commands a batch has as it was asked for, if a batch may have so many
 abbrev pub asked_size : ℤ → Option ℕ
-asked_size (pos n) = if nat_le 1 n && nat_le n batch_max then Some n else None
+asked_size (pos n) = size_within n
 asked_size (negsuc n) = None
 
 -- a batch of so many lines, of which none came yet

@@ -1,9 +1,9 @@
 //! Batches that wait for lines.
 ghost use Rattle.std.specs.Prelude.{◌≡◌, ◌<◌, ◌≤◌, length, IfOk};
+ghost use Rattle.std.proofs.Props.{props};
 
 use crate::fault::CommandFault;
 use layer_book::command::Command;
-use std::alloc::AllocError;
 
 /// Why the lines of a batch are not read as commands.
 #[derive(Clone, Copy, Debug, PartialEq, Eq)]
@@ -11,12 +11,6 @@ pub enum LinesFault {
     /// The first line that is none, counted from 0, and why.
     Unread(u32, CommandFault),
     OutOfMemory,
-}
-
-impl From<AllocError> for LinesFault {
-    fn from(_e: AllocError) -> LinesFault {
-        LinesFault::OutOfMemory
-    }
 }
 
 /// A batch that waits for lines. Those that came are read at once, and none behind the first that is no command.
@@ -27,5 +21,5 @@ pub struct Gathering {
     pub(crate) read: Result<Vec<Command>, LinesFault>,
     pub(crate) ghost waits: { came < size },
     pub(crate) ghost few: { size ≤ 64 },
-    pub(crate) ghost counted: { IfOk read (λ commands. length commands.items ≡ came) },
+    pub(crate) ghost counted: { IfOk read (λ commands. length commands.items ≡ came) } by { Prim.hlevel props },
 }

@@ -1,8 +1,9 @@
 //! What lines make of the batch that waits for them, and the turns that they end.
-ghost use Rattle.std.specs.Prelude.{Some, None};
+ghost use Rattle.std.specs.Prelude.{◌≡◌, Some, None};
 ghost use Rattle.script_form.specs.Gathering.{IsTaken, TakesLine};
 ghost use Rattle.script_form.specs.Request.{request};
 ghost use Rattle.script_form.specs.Requests.{request_of};
+ghost use Rattle.script_form.specs.Turns.{is_nothing};
 
 use crate::gathering::{Gathering, LinesFault};
 use crate::joining::Joined;
@@ -37,7 +38,7 @@ pub fn take_line<'a>(alloc: Global, waiting: &mut Option<Gathering>, line: &'a [
 
 /// A line where no batch waits: it begins one, or has its own turn.
 fn begin<'a>(alloc: Global, asked: Request<'a>) -> (Option<Gathering>, LineTurn<'a>)
-    ensures { IsTaken None (request asked) result.0 result.1 }
+    ensures { IsTaken None (request asked.entry) result.0 result.1 }
 {
     let Request::Batch(size) = asked else {
         return (None, LineTurn::Alone(asked));
@@ -54,13 +55,23 @@ fn go_on<'a>(
     gathering: Gathering,
     asked: Request<'a>,
 ) -> (Option<Gathering>, LineTurn<'a>)
-    ensures { TakesLine (Some gathering) (request asked) result.0 result.1 }
+    ensures { TakesLine (Some gathering) (request asked.entry) result.0 result.1 }
 {
-    if matches!(asked, Request::Nothing) {
+    if is_nothing(&asked) {
         return (Some(gathering), LineTurn::Waits);
     }
     match gathering.join(alloc, asked) {
         Joined::Waits(gathering) => (Some(gathering), LineTurn::Waits),
         Joined::Whole(read) => (None, LineTurn::Whole(read)),
+    }
+}
+
+/// Whether a line is skipped.
+fn is_nothing(asked: &Request<'_>) -> bool
+    ensures { result ≡ is_nothing (request asked.now) }
+{
+    match asked {
+        Request::Nothing => true,
+        _ => false,
     }
 }
