@@ -1,19 +1,19 @@
 -- Marked segments, compared with those of one base layer after another.
-use Rattle.std.proofs.Common.{◌≡◌, ℕ, zero, suc, ◌+◌, ◌<◌, ◌≤◌, ◌==◌, Bool, true, false, cond, ◌&&◌, List, [], ◌∷◌, ◌++◌, length, map, filter, drop, get_or, nat_le, slice_get, Option, Some, None, refl, ap, sym, ◌∙◌, subst, arith, add-one, leb-false, if◌then◌else◌}
+use Rattle.std.proofs.Common.{◌≡◌, ℕ, zero, suc, ◌+◌, ◌<◌, ◌≤◌, ◌==◌, Bool, true, false, cond, ◌&&◌, List, [], ◌∷◌, ◌++◌, length, map, filter, drop, get_or, nat_le, slice_get, Option, Some, None, refl, ap, sym, ◌∙◌, subst, arith, add-one, leb-false, if◌then◌else◌, IsTrue}
 use borrow.Author.Tests.{leb-true}
-use Rattle.std.specs.List.{filter_map}
+use Rattle.std.specs.Prelude.{◌↔◌}
 use Rattle.std.specs.Cmp.Lexicographic.{pointwise}
 use Rattle.std.proofs.lemmas.Bool.Decides.{Decides-eqb}
 use Rattle.overlay_terms.specs.Plane.{WholePoint, Segment, segments_of}
-use Rattle.overlay_terms.specs.Trees.{Steps}
 use Rattle.overlay_terms.specs.Column.{touches}
-use Rattle.overlay_terms.specs.Layers.{Name, Content, base, derived, Layer, Marked}
-use Rattle.overlay_terms.specs.Tiles.{Input}
+use Rattle.overlay_terms.specs.Layers.{Name, Content, base, derived, Layer, Marked, layers_in_reach, steps_in_reach}
+use Rattle.overlay_terms.specs.Tiles.{Input, input_of}
 use Rattle.overlay_terms.specs.SameInput.{same_marked, same_steps, same_input, same_input-Decides}
 use Rattle.arrange.specs.declared.marked_seg.MarkedSeg.{MarkedSeg}
 use Rattle.arrange.specs.Marked.{marked_of}
 use Rattle.layer_book.specs.Having.{marks_in, past}
 use Rattle.layer_book.specs.Question.{at_index, marked_layers}
+use Rattle.layer_book.specs.Touching.{marked_in}
 use Rattle.layer_book.proofs.MarkedLayers.{rings_of}
 use Rattle.layer_book.proofs.SameMarks.{mark, marked_from, first_and_rest, drop_there, next_kept, next_skipped, none_left}
 
@@ -144,13 +144,16 @@ module _ (column : ℕ) (ws : List Bool) (layers : List Layer) (marked : List Ma
     split true e = sym (ended ∙ ap (λ ms. pointwise same_marked (map marked_of ms) []) (none_left marked next (leb-true (length marked) next e)))
     split false e = sym (ended ∙ more marked next (leb-false (length marked) next e))
 
--- an input is the present one where its parts are
-pub same_parts : (input present : Input) (s m : Bool) → input.column ≡ present.column → s ≡ same_steps input.steps present.steps → m ≡ pointwise same_marked input.marked present.marked
-    → (s && m ≡ true → input ≡ present) × (input ≡ present → s && m ≡ true)
-same_parts input present s m level steps marks = (
+-- an input is the present one of its column where its parts are
+pub present_told : (layers : List Layer) (name : Name) (input : Input) (s m : Bool) → s ≡ same_steps input.steps (steps_in_reach layers name)
+    → m ≡ pointwise same_marked input.marked (marked_in input.column (rings_of (layers_in_reach layers name))) → IsTrue (s && m) ↔ (input ≡ input_of layers name input.column)
+present_told layers name input s m steps marks = (
   λ h. (same_input-Decides input present).0 (sym same ∙ h),
   λ e. same ∙ (same_input-Decides input present).1 e,
 ) where
+  present : Input
+  present = input_of layers name input.column
+
   turned : (a b : Bool) → (a && b) ≡ ((true && b) && a)
   turned true true = refl
   turned true false = refl
@@ -158,5 +161,4 @@ same_parts input present s m level steps marks = (
   turned false false = refl
 
   same : (s && m) ≡ same_input input present
-  same =
-      turned s m ∙ (λ k. (sym ((Decides-eqb input.column present.column).1 level) k && marks k) && steps k)
+  same = turned s m ∙ (λ k. (sym ((Decides-eqb input.column input.column).1 refl) k && marks k) && steps k)

@@ -140,27 +140,27 @@ module _ (name : Name) (old new : List (List WholePoint)) where
   -- where the layer is among those in reach, its segments tell
   marks_told : (k n : ℕ) (layers : List Layer) → AreOld layers → pointwise same_marked (marked_from k n (rings_of (all_put layers))) (marked_from k n (rings_of layers)) ≡ (not (stands layers name) || same_there k)
   marks_told k n [] h = refl
-  marks_told k n (layer ∷ layers) h = split (bytes_eq layer.name name) refl layer.content refl where
+  marks_told k n (layer ∷ layers) h = split (bytes_eq layer.name name) refl layer.content refl (λ m. marks_told k m layers h.1) where
     twice : (q s : Bool) → (s && (q || s)) ≡ s
     twice true true = refl
     twice true false = refl
     twice false true = refl
     twice false false = refl
 
-    split : (b : Bool) → bytes_eq layer.name name ≡ b → (c : Content) → layer.content ≡ c →
+    split : (b : Bool) → bytes_eq layer.name name ≡ b → (c : Content) → layer.content ≡ c → ((m : ℕ) → pointwise same_marked (marked_from k m (rings_of (all_put layers))) (marked_from k m (rings_of layers)) ≡ (not (stands layers name) || same_there k)) →
         pointwise same_marked (marked_from k n (rings_of (put_in b (record { name = layer.name; content = c }) ∷ all_put layers))) (marked_from k n (rings_of (record { name = layer.name; content = c } ∷ layers)))
         ≡ (not (b || stands layers name) || same_there k)
-    split true e (base rings) is =
+    split true e (base rings) is next =
         ap (λ c. pointwise same_marked (marked_from k n (rings_of (record { name = name; content = base new } ∷ all_put layers))) (marked_from k n (rings_of (record { name = layer.name; content = c } ∷ layers)))) (sym is ∙ h.0 e)
         ∙ first_compared k n new old (rings_of (all_put layers)) (rings_of layers)
-        ∙ ap (λ b. same_there k && b) (marks_told k (n + 1) layers h.1)
+        ∙ ap (λ b. same_there k && b) (next (n + 1))
         ∙ twice (not (stands layers name)) (same_there k)
-    split true e (derived tree) is = absurd (both_ways (is_derived (derived tree)) (ap is_derived (sym is ∙ h.0 e)) refl)
-    split false e (base rings) is =
+    split true e (derived tree) is next = absurd (both_ways (is_derived (derived tree)) (ap is_derived (sym is ∙ h.0 e)) refl)
+    split false e (base rings) is next =
         first_compared k n rings rings (rings_of (all_put layers)) (rings_of layers)
         ∙ ap (λ b. b && pointwise same_marked (marked_from k (n + 1) (rings_of (all_put layers))) (marked_from k (n + 1) (rings_of layers))) (own_segments (filter (touches k) (segments_of rings)))
-        ∙ marks_told k (n + 1) layers h.1
-    split false e (derived tree) is = marks_told k n layers h.1
+        ∙ next (n + 1)
+    split false e (derived tree) is next = next n
 
   -- the input of a layer over the name is the same where the segments are
   same_over : (layers : List Layer) (own : Name) (k : ℕ) → AreOld layers → list_any (bytes_eq own) (derived_over layers name) ≡ true → same_there k ≡ same_input (input_of (all_put layers) own k) (input_of layers own k)

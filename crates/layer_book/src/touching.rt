@@ -59,8 +59,6 @@ impl Layers {
     /// In which columns a command touches the tiles of all layers over its name, where it puts rings in the place of
     /// others: those in which the segments differ. They are compared once.
     fn replaced_columns(&self, change: &Command) -> Option<[bool; COLUMNS]>
-        requires book { IsBook self.now }
-        requires accepted { refusal_of self.now (command change.now) ≡ None }
         ensures { IfSome result (AreOfAllOver self.now (command change.now)) }
     {
         let Command::Put(name, rings) = change else {
