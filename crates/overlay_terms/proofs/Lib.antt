@@ -1,7 +1,6 @@
 pub mod Difference
 pub mod Bounds
 pub mod Ratios
-pub mod Meet
 mod Rows
 pub mod Functions
 pub mod Options
@@ -34,7 +33,6 @@ pub mod KeptDerived
 pub mod KeptBounds
 pub mod KeptCommands
 pub mod KeptHistories
-pub mod BuildingLemmas
 pub mod FormLemmas
 pub mod HistoryFolds
 pub mod BatchLemmas
