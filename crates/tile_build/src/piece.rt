@@ -137,6 +137,7 @@ impl Piece {
     pub(crate) fn known(&self)
         ensures { IsPositivePair (ends_of self.now) }
     {
+        // Both ends have places by the type: the clause rests on that.
         let _ = &self.support;
     }
 
