@@ -2,7 +2,6 @@ pub mod Lines
 pub mod Requests
 pub mod Request
 pub mod Fault
-pub use Rattle.fault_texts.specs.FaultText
 pub mod Replies
 pub mod Writing
 pub mod LineReply

@@ -4,7 +4,7 @@ ghost use Rattle.arrayvec.specs.ArrayString.{array_string_len};
 ghost use Rattle.layer_book.specs.Place.{location};
 ghost use Rattle.script_form.specs.Replies.{ok_line, error_line, refused_line, location_line, built_line, durable_line, verdict_line};
 ghost use Rattle.script_form.specs.LineReply.{reply_text};
-ghost use Rattle.script_form.specs.FaultText.{shown, IsBrief};
+ghost use Rattle.fault_texts.specs.FaultText.{shown, IsBrief};
 ghost use Rattle.script_form.specs.Writing.{Writes};
 
 use crate::fault::CommandFault;
