@@ -116,7 +116,7 @@ fn push_next(
     asked: Request<'_>,
 ) -> Result<Vec<Command>, LinesFault>
     requires { length commands.items ≡ place }
-    ensures reads { ReadsBehind (map command commands.entry.items) (request asked.entry) result }
+    ensures reads { ReadsBehind (map command commands.items) (request asked.entry) result }
     ensures counted { IfOk result (λ commands. length commands.items ≡ place + 1) }
 {
     match read_command(alloc, asked) {

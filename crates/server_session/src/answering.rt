@@ -1,4 +1,4 @@
-//! The answer to one line, or to the lines of a batch.
+//! The answer to one line.
 ghost use Rattle.std.specs.Prelude.{◌≡◌, Bool, IfOk, IfErr};
 ghost use Rattle.std.specs.Arc.{arc_value};
 ghost use Rattle.overlay_terms.specs.Histories.{newest, IsHistory};
@@ -8,21 +8,20 @@ ghost use Rattle.script_form.specs.LineReply.{reply_text};
 ghost use Rattle.script_form.specs.Request.{request};
 ghost use Rattle.script_form.specs.Requests.{put, locate, grid, list_layers, edges, wait, verify, sync};
 ghost use Rattle.script_form.specs.Transcript.{asked_column};
-ghost use Rattle.server_session.specs.Answering.{Answers, AnswersAll, Submits, SubmitsAll, result_text};
+ghost use Rattle.server_session.specs.Answering.{Answers, Submits, result_text};
 ghost use Rattle.server_session.specs.Turn.{Stays, TakesTurn};
 ghost use Rattle.version_book.specs.Store.{has_store};
 
-use crate::fault::{command_fault, numbered};
+use crate::answering_all::answer_batch;
+use crate::fault::command_fault;
 use exact_point::QueryPoint;
-use layer_book::batch::Batch;
-use layer_book::batch_fault::BatchFault;
 use layer_book::command::Command;
 use layer_book::fault::LayerFault;
 use overlay_grid::{GridSpec, grid};
 use plane_base::Column;
 use script_form::{
-    CommandFault, Gathering, LineReply, LineTurn, LinesFault, Request, read_define, read_name,
-    read_put, read_remove, take_line,
+    CommandFault, Gathering, LineReply, LineTurn, Request, read_define, read_name, read_put,
+    read_remove, take_line,
 };
 use std::alloc::Global;
 use std::sync::{Arc, Wait};
@@ -67,42 +66,6 @@ fn answer_alone<J: Naming, S: Wait + Drop, Q: Wait + Threads + Sync>(
     match answer_request(rt, alloc, shared, me, asked) {
         Ok(reply) => reply,
         Err(fault) => LineReply::Fault(fault),
-    }
-}
-
-/// The reply to the lines of a batch, by what they were read as.
-fn answer_batch<J: Naming, S: Wait + Drop, Q: Wait>(
-    rt: &Q,
-    alloc: Global,
-    shared: &Shared<J, S>,
-    me: &mut Session,
-    read: Result<Batch, LinesFault>,
-) -> LineReply
-    requires { me.old.book ≡ J.book }
-    ensures { AnswersAll me.old read.entry me.new (reply_text result) }
-{
-    match read {
-        Ok(batch) => submit_all(rt, alloc, shared, me, &batch),
-        Err(LinesFault::Unread(place, fault)) => LineReply::RefusedAt(place, fault),
-        Err(LinesFault::OutOfMemory) => LineReply::Fault(CommandFault::OutOfMemory),
-    }
-}
-
-/// The reply to a batch.
-fn submit_all<J: Naming, S: Wait + Drop, Q: Wait>(
-    rt: &Q,
-    alloc: Global,
-    shared: &Shared<J, S>,
-    me: &mut Session,
-    batch: &Batch,
-) -> LineReply
-    requires { me.old.book ≡ J.book }
-    ensures { SubmitsAll me.old batch.now me.new (reply_text result) }
-{
-    match shared.submit_all(rt, alloc, me, batch) {
-        Ok(number) => LineReply::Accepted(number),
-        Err(BatchFault::At(place, code)) => LineReply::RefusedAt(place, numbered(code)),
-        Err(BatchFault::Whole(code)) => LineReply::Fault(numbered(code)),
     }
 }
 

@@ -1,7 +1,7 @@
 use Rattle.std.proofs.Common.{refl, ap}
 use Rattle.script_form.specs.Replies.{error_line, refused_line}
 use Rattle.server_session.proofs.AnswerLemmas.{submits_all_accepted, submits_all_refused}
-use Rattle.server_session.proofs.answering.submit_all.Goals as goal
+use Rattle.server_session.proofs.answering_all.submit_all.Goals as goal
 
 pub returns-in-Ok : goal.returns-in-Ok
 returns-in-Ok g c =

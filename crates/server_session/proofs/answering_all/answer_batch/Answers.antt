@@ -1,5 +1,5 @@
 use Rattle.server_session.proofs.AnswerLemmas.{answers_all, answers_unread, answers_no_memory}
-use Rattle.server_session.proofs.answering.answer_batch.Goals as goal
+use Rattle.server_session.proofs.answering_all.answer_batch.Goals as goal
 
 pub returns-in-Ok : goal.returns-in-Ok
 returns-in-Ok g c = rw c.in-Ok.is (answers_all c.args.me.now c.submit_all.new.me _ _ c.submit_all.ensures)
