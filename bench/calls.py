@@ -4,22 +4,23 @@ python3 bench/calls.py [PROGRAM]
 
 Builds the program of bench/calls over the libraries, unproved (bench/unproved.py; minutes); PROGRAM is one that was
 built before. For each call and input the first growth is refused, then the second and so on, until a run meets no
-refusal. A run is right where it answers what the same call answers with memory, or error 40; after 40 what the call
-was made on has to be as before, as far as its calls show it (a value that it took and hands back, too), and the same
-call with memory has to give the answer. Where a call is made on a disk in memory it may answer 30 in place of 40,
-just where the disk counts a failure; a store has failed from then on. Where the call is refused with memory too, only
-one that reads, plans or starts may answer 40 before. In the list of steps that is driven at once a single step may
-meet the refusal: then the version has to be that of the accepted commands, by a plain fold of them, and the disk has
-to be recovered as a version that the first of them make, with all that was told durable. A session is given a line
-again where it was answered by 40: but for that one line its replies have to be those with memory, and the book has to
-be as it was before the line. Before a WAIT pending tiles are built, and a growth that is refused there marks one:
-WAIT answers 40 then, and `built N` when it is asked again. The server runs two sessions, two workers and a store on a
-disk in memory: one thing at most goes wrong (a line or a session is refused memory, or SYNC tells 40 or 30 as the
-store met them), every other reply is as with memory, the numbers of all commands have no gap, what was told durable
-is on the disk, with right tiles, and a server over what is left answers as with memory. Threads draw their order anew
-in each run, so its counts differ a little from run to run. A line for each call: its growths, the runs, those that
-answered 40, 30, met it inside a list, gave the call's own answer, and answered anything else, which is to be 0. Ends
-with status 1 where it is not.
+refusal. A run is right where it answers what the same call answers with memory, or error 40; after 40 what the call was
+made on has to be as before, as far as its calls show it (a value that it took and hands back, too), and the same call
+with memory has to give the answer. Where a call is made on a disk in memory it may answer 30 in place of 40, just where
+the disk counts a failure; a store has failed from then on. Where the call is refused with memory too, only one that
+reads, plans or starts may answer 40 before. In the list of steps that is driven at once a single step may meet the
+refusal: then the other replies have to be those of the list without that step (after a 30 without the device steps from
+there on, which answer 35), the version that of the accepted commands, by a plain fold of them, and the disk has to be
+recovered as a version that the first of them make, with all that was told durable. A session is given a line again
+where it was answered by 40: but for that one line its replies have to be those with memory, and the book has to be as
+it was before the line. Before a WAIT pending tiles are built, and a growth that is refused there marks one: WAIT
+answers 40 then, and `built N` when it is asked again. The server runs two sessions, two workers and a store on a disk
+in memory: one thing at most goes wrong (a line or a session is refused memory, or SYNC tells 40 or 30 as the store met
+them), every other reply is as with memory, the numbers of all commands have no gap, what was told durable is on the
+disk, with right tiles, and a server over what is left answers as with memory. Threads draw their order anew in each
+run, so its counts differ a little from run to run. A line for each call: its growths, the runs, those that answered 40,
+30, met it inside a list, gave the call's own answer, and answered anything else, which is to be 0. Ends with status 1
+where it is not.
 """
 
 import pathlib

@@ -3,18 +3,20 @@
    Counts the calls of open, fstat, statx, pread, pwrite, fdatasync, fsync and ftruncate of the file FAIL_STORE and of
    its folder FAIL_FOLDER. The call with the number FAIL_FIRST fails, and all behind it where FAIL_REST is 1. How it
    fails is FAIL_KIND: 0 with EIO and nothing done; 1 with EIO, a write having written half; 2 a write writes half and
-   tells so, another call is interrupted (EINTR); 3 with ENOSPC. The first 8 bytes of the file FAIL_COUNTS are how many
-   calls there were, the next 8 how many failed. */
+   tells so, another call is interrupted (EINTR); 3 with ENOSPC. A sync that fails loses what was written to the store
+   since the last one that did not: all of it, or with kind 1 the second half of each write; with kind 2 nothing, as it
+   is asked for again. A sync of the folder that fails, but with kind 2, loses the store, where it was made in this run.
+   The first 8 bytes of the file FAIL_COUNTS are how many calls there were, the next 8 how many failed. */
 
 /* What the C library and the system have, as it is declared in their headers: those need not be there. */
 typedef unsigned long size_t;
 struct stat;
 struct statx;
 
-enum { EINTR = 4, EIO = 5, ENOSPC = 28, O_RDWR = 2, O_CREAT = 0100, AT_FDCWD = -100 };
+enum { EINTR = 4, EIO = 5, ENOSPC = 28, O_RDWR = 2, O_CREAT = 0100, AT_FDCWD = -100, SEEK_END = 2 };
 enum {
-    SYS_close = 3, SYS_fstat = 5, SYS_mmap = 9, SYS_pread64 = 17, SYS_pwrite64 = 18, SYS_fsync = 74, SYS_fdatasync = 75,
-    SYS_ftruncate = 77, SYS_openat = 257, SYS_statx = 332
+    SYS_close = 3, SYS_fstat = 5, SYS_lseek = 8, SYS_mmap = 9, SYS_pread64 = 17, SYS_pwrite64 = 18, SYS_access = 21,
+    SYS_fsync = 74, SYS_fdatasync = 75, SYS_ftruncate = 77, SYS_unlink = 87, SYS_openat = 257, SYS_statx = 332
 };
 
 extern int *__errno_location(void);
@@ -22,6 +24,9 @@ extern char *getenv(const char *);
 extern unsigned long strtoul(const char *, char **, int);
 extern int strcmp(const char *, const char *);
 extern long syscall(long, ...);
+extern void *calloc(size_t, size_t);
+extern void free(void *);
+extern void abort(void);
 
 struct counts {
     unsigned long calls, failed;
@@ -30,7 +35,21 @@ struct counts {
 static struct counts none;
 static struct counts *counts = &none;
 static unsigned long first, rest, kind;
+
+/* Which files are watched: as the store, or as its folder. */
+enum { STORE = 1, FOLDER = 2 };
 static char watched[1024];
+static int is_made; /* whether the store was made in this run, and its folder not synced since */
+
+/* A write to the store that is not synced yet: where it is, how many bytes it has and how long the file was before,
+   then the bytes that stood there, and zeros where the file had none. */
+struct written {
+    struct written *before;
+    long at, size, length;
+    char old[];
+};
+
+static struct written *last;
 
 static unsigned long number_of(const char *name)
 {
@@ -55,13 +74,14 @@ __attribute__((constructor)) static void begin(void)
 
 static int is_watched(int file)
 {
-    return file >= 0 && file < (int)sizeof watched && watched[file];
+    return file >= 0 && file < (int)sizeof watched ? watched[file] : 0;
 }
 
-static int is_path(const char *path)
+/* As what a path is watched, 0 where it is not. */
+static int path_is(const char *path)
 {
     const char *store = getenv("FAIL_STORE"), *folder = getenv("FAIL_FOLDER");
-    return (store && strcmp(path, store) == 0) || (folder && strcmp(path, folder) == 0);
+    return store && strcmp(path, store) == 0 ? STORE : folder && strcmp(path, folder) == 0 ? FOLDER : 0;
 }
 
 /* Whether this call is to fail. */
@@ -77,12 +97,14 @@ static int fails(void)
 
 static int opened(const char *path, int how, unsigned mode)
 {
-    int is_ours = is_path(path);
+    int is_ours = path_is(path);
     if (is_ours && fails())
         return -1;
+    int is_new = is_ours == STORE && how & O_CREAT && syscall(SYS_access, path, 0) != 0;
     int file = (int)syscall(SYS_openat, AT_FDCWD, path, how, mode);
     if (file >= 0 && file < (int)sizeof watched)
         watched[file] = (char)is_ours;
+    is_made |= is_new && file >= 0;
     return file;
 }
 
@@ -132,14 +154,49 @@ long pread64(int file, void *to, size_t size, long at)
     return pread(file, to, size, at);
 }
 
+/* Notes what a write is about to lay over. */
+static void note(int file, size_t size, long at)
+{
+    struct written *one = calloc(1, sizeof *one + size);
+    if (!one)
+        abort();
+    *one = (struct written){last, at, (long)size, syscall(SYS_lseek, file, 0, SEEK_END)};
+    if (syscall(SYS_pread64, file, one->old, size, at) < 0)
+        abort();
+    last = one;
+}
+
+/* Forgets the writes since the last sync, and lays back what was there before: all, or what was under the second half
+   of each; or nothing. */
+static void forget(int file, int is_lost, int is_half)
+{
+    while (last) {
+        struct written *one = last;
+        long from = is_half ? one->size / 2 : 0;
+        if (is_lost && syscall(SYS_pwrite64, file, one->old + from, one->size - from, one->at + from) < 0)
+            abort();
+        if (is_lost && !is_half && syscall(SYS_ftruncate, file, one->length) < 0)
+            abort();
+        last = one->before;
+        free(one);
+    }
+}
+
+static long written(int file, const void *from, size_t size, long at)
+{
+    if (is_watched(file) == STORE)
+        note(file, size, at);
+    return syscall(SYS_pwrite64, file, from, size, at);
+}
+
 long pwrite(int file, const void *from, size_t size, long at)
 {
     if (!is_watched(file) || !fails())
-        return syscall(SYS_pwrite64, file, from, size, at);
+        return written(file, from, size, at);
     if (kind == 2)
-        return size > 1 ? syscall(SYS_pwrite64, file, from, size / 2, at) : -1;
+        return size > 1 ? written(file, from, size / 2, at) : -1;
     if (kind == 1 && size > 1) {
-        syscall(SYS_pwrite64, file, from, size / 2, at);
+        written(file, from, size / 2, at);
         *__errno_location() = EIO;
     }
     return -1;
@@ -150,14 +207,30 @@ long pwrite64(int file, const void *from, size_t size, long at)
     return pwrite(file, from, size, at);
 }
 
+/* A sync of a file by this call of the system. */
+static int synced(int file, long call)
+{
+    int is = is_watched(file), is_failed = is && fails(), error = *__errno_location();
+    if (!is || (is_failed && kind == 2))
+        return is ? -1 : (int)syscall(call, file);
+    if (is == STORE)
+        forget(file, is_failed, kind == 1);
+    else if (is_failed && is_made)
+        syscall(SYS_unlink, getenv("FAIL_STORE"));
+    else
+        is_made = 0;
+    *__errno_location() = error;
+    return is_failed ? -1 : (int)syscall(call, file);
+}
+
 int fdatasync(int file)
 {
-    return is_watched(file) && fails() ? -1 : (int)syscall(SYS_fdatasync, file);
+    return synced(file, SYS_fdatasync);
 }
 
 int fsync(int file)
 {
-    return is_watched(file) && fails() ? -1 : (int)syscall(SYS_fsync, file);
+    return synced(file, SYS_fsync);
 }
 
 int ftruncate(int file, long size)

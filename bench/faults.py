@@ -5,18 +5,22 @@ python3 bench/faults.py PROGRAM [--seconds N]
 python3 bench/faults.py --test
 
 The program is made to load bench/faults.c, which counts its calls on the store's file and on the folder and lets the
-one with a number fail, or that one and all behind it. A call fails with nothing done; with a write half done; a write
-takes half of its bytes and another call is interrupted; or the device is full. Two runs: two scripts over a new store,
-and one over a store that is opened. Each has to end by itself with status 0 or 1; its replies have to be those of the
-model, but that each SYNC of a session may tell 30 from one on, once a call has failed; standard error has the one line
-of 30 where the status is 1. The store that it leaves has to hold a version of the history, no older than what was told
-durable, the last one where the status is 0, with right tiles, and be opened by the program. Prints a table and, at
-last, how many of its lines are right; ends with status 1 where one is not.
+one with a number fail, or that one and all behind it, until 20 runs in a row met no failure. A call fails with nothing
+done; with a write half done; a write takes half of its bytes and another call is interrupted; or the device is full. A
+sync that fails loses what was written since the last good one, wholly, or half of each write; one that is interrupted
+loses nothing. So a program that goes on behind a sync that failed leaves an older file than it tells. Two runs: two
+scripts over a new store, and one over a store that is opened, of which the older root's gate is half open, so that
+opening it writes. Each has to end by itself with status 0 or 1; its replies have to be those of the model, but that
+each SYNC of a session may tell 30 from one on, once a call has failed; standard error has the one line of 30 where the
+status is 1. The store that it leaves has to hold a version of the history, no older than what was told durable, the
+last one where the status is 0, with right tiles, and be opened by the program. Prints a table and, at last, how many of
+its lines are right; ends with status 1 where one is not.
 """
 
 import argparse
 import os
 import pathlib
+import subprocess
 import sys
 import tempfile
 
@@ -42,50 +46,76 @@ def fail(words, folder):
             for rest in (0, 1):
                 if kind == 2 and rest:
                     continue  # a call that is interrupted for ever is asked for ever
-                settings = [{"FIRST": number, "REST": rest, "KIND": kind} for number in range(1, calls + 3)]
-                table = refusing.run_all(runner, "FAIL", settings, refusing.device)
+                table = refusing.run_in_turn(runner, "FAIL", {"REST": rest, "KIND": kind}, calls, refusing.device)
                 refusing.print_table(runner, what + (", and all behind" if rest else ""), calls, table)
                 right += not table.wrong
                 wrong += bool(table.wrong)
     return right, wrong
 
 
+# A writer that goes on behind each call that fails, and prints those.
+CALLS = """
+import os, sys
+def told(call, *words):
+    try:
+        return call(*words)
+    except OSError:
+        print(call.__name__)
+file = told(os.open, sys.argv[1], os.O_RDWR | os.O_CREAT)
+if file is not None:
+    told(os.pwrite, file, b"four", 0)
+    told(os.fdatasync, file)
+    told(os.pwrite, file, b"less", 3)
+    told(os.fdatasync, file)
+    told(os.fsync, os.open(os.path.dirname(sys.argv[1]), os.O_RDONLY))
+"""
+# The number of the call that fails and how, what fails for the writer, and what it leaves.
+LEFT = [
+    (0, 0, "", b"fouless"),
+    (1, 0, "open", None),
+    (2, 0, "pwrite", bytes(3) + b"less"),
+    (2, 1, "pwrite", b"fo" + bytes(1) + b"less"),
+    (2, 2, "", b"fo" + bytes(1) + b"less"),
+    (3, 0, "fdatasync", bytes(3) + b"less"),
+    (3, 1, "fdatasync", b"fo" + bytes(1) + b"less"),
+    (3, 2, "", b"fouless"),
+    (4, 0, "pwrite", b"four"),
+    (4, 1, "pwrite", b"foule"),
+    (5, 0, "fdatasync", b"four"),
+    (5, 1, "fdatasync", b"foule" + bytes(2)),
+    (5, 2, "", b"fouless"),
+    (5, 3, "fdatasync", b"four"),
+    (7, 0, "fsync", None),
+    (7, 2, "", b"fouless"),
+    (8, 0, "", b"fouless"),
+]
+
+
+def left(library, folder, first, kind):
+    """What fails for the writer above where a call is made to fail, and what it leaves."""
+    with tempfile.TemporaryDirectory(dir=folder) as place:
+        store = pathlib.Path(place) / "file"
+        given = {"LD_PRELOAD": library, "FAIL_STORE": store, "FAIL_FOLDER": place, "FAIL_COUNTS": place + "/counts"}
+        given |= {"FAIL_FIRST": first, "FAIL_KIND": kind}
+        environment = {**os.environ, **{name: str(value) for name, value in given.items()}}
+        words = [sys.executable, "-c", CALLS, str(store)]
+        done = subprocess.run(words, env=environment, stdout=subprocess.PIPE, check=True)
+        return done.stdout.decode().strip(), store.read_bytes() if store.exists() else None
+
+
 def test():
-    """Looks whether the shim fails the call that it is told, and what refusals may be told."""
+    """Looks whether the shim fails the call that it is told and loses what it has to, and what refusals may be told."""
+    passed, failed = refusing.test(refusing.device)
     with tempfile.TemporaryDirectory() as place:
         folder = pathlib.Path(place)
         library = refusing.compiled("faults", folder)
-        store = folder / "file"
-        answers = []
-        for first, kind in ((0, 0), (1, 0), (2, 0), (2, 1), (2, 2), (3, 0)):
-            store.unlink(missing_ok=True)
-            (folder / "counts").unlink(missing_ok=True)
-            given = {"LD_PRELOAD": str(library), "FAIL_STORE": str(store), "FAIL_FIRST": str(first)}
-            code = f"import os\nf = {os.O_RDWR | os.O_CREAT}\n" + CALLS
-            given |= {"FAIL_KIND": str(kind), "FAIL_COUNTS": place + "/counts"}
-            done = refusing.subprocess.run(
-                [sys.executable, "-c", code, str(store)], env={**os.environ, **given}, capture_output=True, check=True
-            )
-            answers.append(done.stdout.decode().strip() + " " + str(store.stat().st_size if store.exists() else None))
-    wanted = ["4 0 4", "open None", "write 0", "write 2", "2 0 2", "4 sync 4"]
-    print(f"calls that fail: {answers}: {'right' if answers == wanted else 'wrong, not ' + str(wanted)}")
-    passed, failed = refusing.test(refusing.device)
-    return refusing.told(passed + (answers == wanted), failed + (answers != wanted))
-
-
-CALLS = """
-import sys
-try:
-    at = "open"
-    file = os.open(sys.argv[1], f)
-    at = "write"
-    took = os.pwrite(file, b"four", 0)
-    at = str(took) + " sync" if took == 4 else "sync"
-    os.fdatasync(file)
-    print(took, 0)
-except OSError:
-    print(at)
-"""
+        for first, kind, *wanted in LEFT:
+            found = list(left(library, folder, first, kind))
+            passed += found == wanted
+            failed += found != wanted
+            if found != wanted:
+                print(f"call {first} fails, kind {kind}: {found}, not {wanted}")
+    return refusing.told(passed, failed)
 
 
 def main():

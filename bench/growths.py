@@ -9,11 +9,12 @@ a number. Three runs: one script of all commands in memory, two scripts over a n
 opened. Each has to end by itself with status 0 or 1; its replies have to be those of the model, but that a growth that
 was refused may be told once: as 40 by one line, or by each SYNC until the next accepted command, or as the one line of
 standard error, with status 1. The store that it leaves has to hold a version of the history, no older than what was
-told durable, with right tiles, and be opened by the program. --step N refuses only each Nth growth in turn; --every
-also tries each growth refused together with every second, third and hundredth behind it: there 40 may be told any
-number of times, and a run may be without end, as what asks again for memory is refused again and again, and is ended
-then and counted. Prints a table and, at last, how many of its lines are right; ends with status 1 where one is not.
-Threads draw their order anew in each run, so two tables may differ.
+told durable, with right tiles, and be opened by the program. The runs end when 20 in a row met no refusal. --step N
+refuses only each Nth growth in turn, and ends 20 behind the most of three plain runs, whatever the last runs met.
+--every also tries each growth refused together with every second, third and hundredth behind it: there 40 may be told
+any number of times, and a run may be without end, as what asks again for memory is refused again and again, and is
+ended then and counted. Prints a table and, at last, how many of its lines are right; ends with status 1 where one is
+not. Threads draw their order anew in each run, so two tables may differ.
 
 A program that takes its memory by calls that can't be counted so (built static, or with an allocator of its own) is
 told as such. The stacks of threads, which the C library takes from the system, stand for one growth a thread.
@@ -29,17 +30,21 @@ import tempfile
 import refusing
 from refusing import many_growths, one_growth
 
-MARGIN = 20
+
+def spread(calls, step, each):
+    """The settings of some runs, somewhat more than there were calls: each growth of a step, and those behind it."""
+    return [{"FIRST": number, "EACH": each} for number in range(1, calls + refusing.MARGIN, step)]
 
 
-def tries(calls, step, every):
-    """The settings of the runs, by what is refused: somewhat more than there were calls, as threads may make more."""
-    numbers = range(1, calls + MARGIN, step)
-    yield "one growth", [{"FIRST": number, "EACH": 0} for number in numbers]
-    if every:
-        for each in (2, 3, 100):
-            few = range(1, calls + MARGIN, 7 * step)
-            yield f"and each {each} behind", [{"FIRST": number, "EACH": each} for number in few]
+def tables(runner, calls, step, every):
+    """The tables of runs of a scenario, each with what it refuses."""
+    if step == 1:
+        yield "one growth", refusing.run_in_turn(runner, "REFUSE", {"EACH": 0}, calls, one_growth)
+    else:
+        yield "one growth", refusing.run_all(runner, "REFUSE", spread(calls, step, 0), one_growth)
+    for each in (2, 3, 100) if every else ():
+        table = refusing.run_all(runner, "REFUSE", spread(calls, 7 * step, each), many_growths, True)
+        yield f"and each {each} behind", table
 
 
 def refuse(words, folder):
@@ -55,9 +60,7 @@ def refuse(words, folder):
         if faults or not calls:
             print(f"{scenario.name}: with nothing refused: {faults or 'no growth was counted: is the program static?'}")
             return right, wrong + 1
-        for which, settings in tries(calls, words.step, words.every):
-            is_one = which == "one growth"
-            table = refusing.run_all(runner, "REFUSE", settings, one_growth if is_one else many_growths, not is_one)
+        for which, table in tables(runner, calls, words.step, words.every):
             refusing.print_table(runner, which, calls, table)
             right += not table.wrong
             wrong += bool(table.wrong)

@@ -422,6 +422,11 @@ def file_of_a_row(data, cell):
     return data[: int(length.group(1))] if length else changed(data, codes(cell))
 
 
+def vectors_of(page):
+    """The bytes that the page gives for a new store, for a layer and for a tile."""
+    return [bytes.fromhex(codes(row[-1])[0]) for row in table_behind(page, "## Vectors")]
+
+
 def six_blocks(vectors):
     """The file of six blocks that the page tells."""
     first, empty, base, catalog, second, _, tile = vectors
@@ -451,7 +456,7 @@ def vector_checks(vectors):
 
 def page_checks(page):
     """What is read of each vector and of each file of the page, and what the page says."""
-    vectors = [bytes.fromhex(codes(row[-1])[0]) for row in table_behind(page, "## Vectors")]
+    vectors = vectors_of(page)
     checks = vector_checks(vectors)
     for _, name, point in table_behind(page, "The prover computes these seven."):
         checks.append((name, point_text(bytes.fromhex(codes(name)[0])), point))

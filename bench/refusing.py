@@ -29,6 +29,10 @@ BEFORE = [f"PUT A {SQUARE}", f"PUT B {OTHER}", "DEFINE I = A & B"]
 AFTER = ["LOCATE I 7 7", "EDGES I 8", f"PUT C {SQUARE}", "SYNC", "DROP I", "VERIFY I 8"]
 
 
+# So many runs in a row have to meet no refusal, before it counts that each was tried: threads make calls more or fewer.
+MARGIN = 20
+
+
 class Scenario:
     """Scripts and words of a run; before: the commands that made the store that it opens (None: no store)."""
 
@@ -42,18 +46,23 @@ class Scenario:
         return [model.read_line(line.encode()) for line in self.before or ()]
 
     def prepare(self, program, folder):
-        """Makes the store that the runs open; its bytes, None where they make one."""
+        """Makes the store that the runs open; its bytes, None where they make one.
+
+        The gate of its older root is half open, so that opening writes and syncs.
+        """
         if not self.before:
             return None
         path = folder / "before.db"
         script = "\n".join(self.before + ["WAIT I", "SYNC"]).encode()
         words = [program, "--store", str(path), "--create"]
         subprocess.run(words, input=script, stdout=subprocess.DEVNULL, check=True, timeout=60)
-        data = path.read_bytes()
+        data = bytearray(path.read_bytes())
         path.unlink()
-        return data
+        data[read_store.BLOCK * ((read_store.find_root(data).sequence + 1) % 2)] = HALF_OPEN
+        return bytes(data)
 
 
+HALF_OPEN = 0x55
 MEMORY = Scenario("one script in memory", [WORDS], 1, None)
 CREATED = Scenario("two scripts, a new store", [FIRST, SECOND], 2)
 OPENED = Scenario("one script, a store opened", [AFTER], 2, BEFORE)
@@ -222,7 +231,10 @@ def many_growths(outcome, judged):
 
 
 def device(outcome, judged):
-    """What calls of the device may do that fail: each SYNC tells 30 from then on, or the run ends with it."""
+    """What calls of the device may do that fail: each SYNC tells 30 from then on, or the run ends with it.
+
+    A failure that is told nowhere shows in the store: what a failed write or sync was to bring there is lost.
+    """
     lines, syncs, fault = told_outside(outcome, judged)
     only({code for _, _, code in lines}, set())
     only({code for _, _, code in syncs}, {30})
@@ -233,30 +245,28 @@ def device(outcome, judged):
         raise judging.Wrong("durable is told behind a SYNC that told 30")
 
 
-def judge_store(runner, outcome, judged):
-    """Looks at the store that a run left: a version of the history, all that was told durable, right tiles."""
-    created = runner.prepared is None
-    lines = read_store.told(outcome.store) if outcome.store is not None else ["32"]
-    if not lines[0].startswith("version"):
-        if created and judged is None and lines == ["32"]:
-            return
-        raise judging.Wrong(f"the store is refused by {lines[0]}")
-    number = int(lines[0].split()[1])
-    before = runner.scenario.commands()
-    if judged is None and number > len(before):
-        outcome.is_lost = True  # what the sessions made is in the store, and their replies were not printed
-        if runner.reopened(outcome.store)[1] != number:
-            raise judging.Wrong("the program opens the store as another version")
-        return
-    history = judged.history if judged else judging.history_of(dict(enumerate(before, 1)), model.Meanings())
-    least = max(len(before), judged.durable if judged else 0)
-    if not least <= number <= history.last():
-        raise judging.Wrong(f"the store has version {number}; {least} was durable, {history.last()} the last")
-    if judged and outcome.status == 0 and number != history.last():
-        raise judging.Wrong(f"status 0, and the store has version {number} of {history.last()}")
-    if is_silent(outcome) and number == history.last():
-        raise judging.Wrong("status 1 without a line, and the store has the newest version")
+def history_before(scenario):
+    """The history that the store of a scenario begins with."""
+    return judging.history_of(dict(enumerate(scenario.commands(), 1)), model.Meanings())
+
+
+def history_alone(scenario):
+    """The history that the first session makes by itself, where none of its lines is refused memory.
+
+    A run without replies may have had it: the thread of the next session was refused.
+    """
+    history = history_before(scenario)
+    for line in model.lines_of(scenario.scripts[0]):
+        asked = judging.read_or_refusal(line)
+        if isinstance(asked, (model.Put, model.Define, model.Drop)) and not history.versions[-1].refusal(asked):
+            history.add(asked)
+    return history
+
+
+def judge_content(runner, outcome, history, number):
+    """Looks whether a store has the layers of a version, and right tiles, and is opened by the program."""
     right = history.versions[number].lines()
+    lines = read_store.told(outcome.store)
     if [line[len("layer ") :] for line in lines if line.startswith("layer ")] != right:
         raise judging.Wrong(f"the store has other layers than those of version {number}")
     for (name, column), pieces in stress.tiles_in(outcome.store).items():
@@ -264,6 +274,32 @@ def judge_store(runner, outcome, judged):
             raise judging.Wrong(f"the store's tile {name} {column} is wrong")
     if runner.reopened(outcome.store) != (right, number):
         raise judging.Wrong("the program opens the store as another version")
+
+
+def judge_store(runner, outcome, judged):
+    """Looks at the store that a run left: a version of the history, all that was told durable, right tiles."""
+    lines = read_store.told(outcome.store) if outcome.store is not None else ["32"]
+    if not lines[0].startswith("version"):
+        if runner.prepared is None and judged is None and lines == ["32"]:
+            return
+        raise judging.Wrong(f"the store is refused by {lines[0]}")
+    number, least = int(lines[0].split()[1]), len(runner.scenario.commands())
+    history = judged.history if judged else history_before(runner.scenario)
+    if judged is None and number > least:
+        outcome.is_lost = True  # what a session made is in the store, and its replies were not printed
+        history = history_alone(runner.scenario)
+        if outcome.fault.startswith("error 30 "):
+            raise judging.Wrong("no replies, though sessions ran, and the device is told as the reason")
+    least = max(least, judged.durable if judged else 0)
+    if not least <= number <= history.last():
+        raise judging.Wrong(f"the store has version {number}; {least} was durable, {history.last()} the last")
+    if judged and outcome.status == 0 and number != history.last():
+        raise judging.Wrong(f"status 0, and the store has version {number} of {history.last()}")
+    if is_silent(outcome) and number == history.last():
+        raise judging.Wrong("status 1 without a line, and the store has the newest version")
+    if outcome.is_lost and outcome.counts[1] > 1:
+        return  # a line may have been refused too: which commands were accepted isn't known
+    judge_content(runner, outcome, history, number)
 
 
 def judge(runner, outcome, allows):
@@ -293,12 +329,14 @@ class Table:
         self.silent = 0
         self.lost = 0
         self.endless = 0
+        self.unmet = 0  # how many of the last runs met no refusal
         self.wrong = []
 
     def add(self, outcome, fault, label, may_be_endless):
         self.runs += 1
         self.endless += outcome.status is None
         self.refused += outcome.counts[1] > 0
+        self.unmet = 0 if outcome.counts[1] else self.unmet + 1
         self.failed += outcome.status == 1
         self.silent += outcome.status == 1 and not outcome.fault
         self.lost += outcome.is_lost
@@ -306,9 +344,9 @@ class Table:
             self.wrong.append(f"{label}: {fault}")
 
 
-def run_all(runner, prefix, settings, allows, may_be_endless=False):
+def run_all(runner, prefix, settings, allows, may_be_endless=False, table=None):
     """Runs with each of some settings, a few side by side, and counts."""
-    table = Table()
+    table = table or Table()
 
     def one(given):
         outcome = runner.run(given, prefix)
@@ -321,12 +359,23 @@ def run_all(runner, prefix, settings, allows, may_be_endless=False):
     return table
 
 
-HEAD = "| Run | Which | Calls | Runs | Met in | Status 1 | of them without a line | replies lost "
-HEAD += "| Did not end | Wrong |\n" + "|---" * 10 + "|"
+def run_in_turn(runner, prefix, given, calls, allows):
+    """Runs with the first of about so many calls refused, then the second and so on, until runs in a row met none."""
+    table, first, end = Table(), 1, calls + MARGIN + 1
+    while table.unmet < MARGIN and first <= 4 * (calls + MARGIN):
+        run_all(runner, prefix, [{"FIRST": number, **given} for number in range(first, end)], allows, table=table)
+        first, end = end, end + MARGIN
+    if table.unmet < MARGIN:
+        table.wrong.append(f"{prefix}_FIRST={first - 1}: of the last {MARGIN} runs all but {table.unmet} met a refusal")
+    return table
+
+
+HEAD = "| Run | Which | Calls | Runs | Met in | Met by none of the last | Status 1 | of them without a line "
+HEAD += "| replies lost | Did not end | Wrong |\n" + "|---" * 11 + "|"
 
 
 def print_table(runner, which, calls, table):
-    cells = [runner.scenario.name, which, calls, table.runs, table.refused]
+    cells = [runner.scenario.name, which, calls, table.runs, table.refused, table.unmet]
     cells += [table.failed, table.silent, table.lost, table.endless, len(table.wrong)]
     print("| " + " | ".join(map(str, cells)) + " |", flush=True)
     for line in table.wrong[:10]:
@@ -394,26 +443,66 @@ CASES = {
 }
 
 
-def is_right(allows, changed, refused, fault):
-    """Whether a run of the lines above is taken as right."""
+# Runs of the same lines in which something was refused: what they leave, of version 1 with a layer of this name.
+STORES = [
+    (device, {4: DEVICE}, DEVICE, "A", True),
+    (device, {2: DEVICE, 4: DEVICE}, DEVICE, "A", True),
+    (device, {4: DEVICE}, DEVICE, "B", False),
+    (device, {}, "", "A", False),
+    (device, {}, DEVICE, "A", False),
+    (device, {4: DEVICE}, "", "A", False),
+    (device, None, DEVICE, "A", False),
+    (one_growth, {4: OUT}, None, "A", True),
+    (one_growth, {}, "", "A", False),
+    (one_growth, None, OUT, "A", True),
+    (one_growth, None, OUT, "B", False),
+]
+
+
+class Opening:
+    """Stands for the runs of the lines above: what is left is opened as version 1."""
+
+    scenario = TOLD
+    prepared = None
+
+    @staticmethod
+    def reopened(_data):
+        return [f"A MULTI{SQUARE.replace('((', '(((')})"], 1
+
+
+def outcome_of(changed, refused, fault, store=None):
     replies = [] if changed is None else [changed.get(place, reply) for place, reply in enumerate(REPLIES)]
     output = "".join(reply + "\n" for reply in replies)
-    outcome = Outcome(0 if fault == "" else 1, output, fault + "\n" if fault else "", None, (9, refused))
+    return Outcome(0 if fault == "" else 1, output, fault + "\n" if fault else "", store, (9, refused))
+
+
+def is_right(allows, changed, refused, fault):
+    """Whether a run of the lines above is taken as right."""
     try:
-        judge_output(TOLD, outcome, allows)
+        judge_output(TOLD, outcome_of(changed, refused, fault), allows)
     except judging.Wrong:
         return False
     return True
 
 
+def is_store_right(allows, changed, fault, name):
+    """Whether it is taken as right that a run of the lines above leaves a store of version 1 with this layer."""
+    store = read_store.six_blocks(read_store.vectors_of(read_store.FORMAT_PAGE.read_text(encoding="utf-8")))
+    store = read_store.changed(store, [f"16387: {name.encode().hex()}"])[: 5 * read_store.BLOCK]
+    return judge(Opening, outcome_of(changed, 1, fault, store), allows) is None
+
+
 def test(*kinds):
-    """Judges the replies above; how many are judged as they have to be, and how many are not."""
-    passed = failed = 0
+    """Judges the runs above; how many are judged as they have to be, and how many are not."""
+    checks = []
     for allows in kinds:
         for changed, refused, fault, wanted in CASES[allows]:
-            if is_right(allows, changed, refused, fault) == wanted:
-                passed += 1
-            else:
-                print(f"{allows.__name__}: {changed}, {refused} refused, {fault!r}: not {wanted}")
-                failed += 1
-    return passed, failed
+            checks.append((is_right(allows, changed, refused, fault), wanted, allows.__name__, changed, fault))
+        for kind, changed, fault, name, wanted in STORES:
+            if kind is allows:
+                found = is_store_right(allows, changed, fault, name)
+                checks.append((found, wanted, allows.__name__, changed, fault, f"version 1 with {name} is left"))
+    failed = [check for check in checks if check[0] != check[1]]
+    for _, wanted, *what in failed:
+        print(*what, "is not taken as", "right" if wanted else "wrong")
+    return len(checks) - len(failed), len(failed)

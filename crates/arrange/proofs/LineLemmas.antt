@@ -2,10 +2,10 @@
 use Rattle.std.proofs.Common.{◌≡◌, ℕ, pos, zero, suc, ◌+◌, ◌-◌, ◌<◌, ◌≤◌, ◌⊎◌, zero-add, take_all, inl, inr, true, false, Bool, not, List, [], ◌∷◌, ◌++◌, length, map, take, drop, get_or, refl, ap, sym, ◌∙◌, subst, arith}
 use Rattle.std.specs.Prelude.{Contains, slice_range}
 use Rattle.std.specs.List.Sorted.{IsSorted}
-use Rattle.std.specs.Ordering.{int_eq, int_cmp, is_lt, is_eq, is_ne, ordering_then, ordering_reverse}
+use Rattle.std.specs.Ordering.{int_eq, int_cmp, is_lt, is_ne, ordering_then, ordering_reverse}
 use Rattle.std.specs.declared.cmp.Ordering.{Ordering}
 use Rattle.std.specs.declared.cmp.Ordering.TheVariants.{Less, Equal, Greater}
-use Rattle.std.proofs.lemmas.Bool.{and_parts, both_ways, cases_lt, cases_eq}
+use Rattle.std.proofs.lemmas.Bool.{and_parts, cases_lt, cases_eq}
 use Rattle.std.proofs.lemmas.Cmp.{tied_itself}
 use Rattle.std.proofs.lemmas.List.{map-append, get_or_default, get_or-take, length-take-le, length-drop, get_or-drop, get_or-map, length-map, get_or_read}
 use Rattle.std.proofs.lemmas.List.Elements.{All-nil, Contains-append_cases}
@@ -176,9 +176,6 @@ module _ (lines : List LineSeg) (start : ℕ) where
 -- what the test of one line says
 pub line_is : (a b : LineSeg) → same_line a b ≡ true → line_cmp a b ≡ Equal
 line_is a b e = equal_from_test (line_cmp a b) e
-
-pub line_is_not : (a b : LineSeg) → same_line a b ≡ false → line_cmp a b ≡ Equal → ⊥
-line_is_not a b e f = both_ways (same_line a b) e (ap is_eq f)
 
 -- the units of all lines
 pub have_all_lines : (lines : List LineSeg) (start : ℕ) (list : List Unit) → length lines ≤ start → HaveLines lines start list → AreUnits (map line_marked lines) list

@@ -3,7 +3,7 @@ use Rattle.std.proofs.Common.{◌≡◌, ◌≢◌, ℕ, pos, ◌+◌, ◌<◌, 
 use Rattle.std.specs.Prelude.{IsTrue, Any, Contains}
 use Rattle.std.proofs.lemmas.Bool.{and_from, cases_eq}
 use Rattle.std.proofs.lemmas.List.{get_or_read}
-use Rattle.std.proofs.lemmas.List.Elements.{All-nil, Contains-push_cases}
+use Rattle.std.proofs.lemmas.List.Elements.{Contains-push_cases}
 use Rattle.std.specs.declared.cmp.Ordering.TheVariants.{Less}
 use Rattle.overlay_terms.specs.Plane.{Point, Segment, point_cmp, same_place, is_on}
 use Rattle.overlay_terms.specs.Column.{is_in_column}
@@ -14,7 +14,7 @@ use Rattle.exact_point.specs.PlaceOf.{place_of}
 use Rattle.exact_point.proofs.SameMiddle.{in_column_alike}
 use Rattle.arrange.specs.Arrangement.{segments_in}
 use Rattle.arrange.specs.NamedPlaces.{spot, AreAlong}
-use Rattle.arrange.specs.PlacedPieces.{IsPlaced, has_ends, AreNeighbours, RunsBetween, HoldsPieces, HoldsOneMore, HoldsNeighbours}
+use Rattle.arrange.specs.PlacedPieces.{has_ends, AreNeighbours, RunsBetween, HoldsPieces, HoldsOneMore, HoldsNeighbours}
 use Rattle.arrange.specs.declared.named_place.NamedPlace.{NamedPlace}
 use Rattle.arrange.specs.declared.placed_piece.PlacedPiece.{PlacedPiece}
 use Rattle.arrange.proofs.SortedPlaces.{spot_positive}
@@ -112,7 +112,3 @@ listed_already input supports s placed there h = record {
       → Any (λ h. IsTrue (has_ends p r h.piece)) placed
   by p r piece begins (inl c) = h.complete p r piece c begins
   by p r piece begins (inr e) = let Q : Segment → Type 0 = λ t. Contains supports t in h.complete p r piece (subst Q e there) begins
-
--- nothing is in the list before the first segment
-pub none_listed : (input : Input) → HoldsPieces input [] []
-none_listed input = record { sound = All-nil (IsPlaced input); complete = λ p r piece c begins. absurd (omega (arith, c.1)) }

@@ -4,7 +4,7 @@ ghost use Rattle.overlay_terms.specs.Column.{border};
 ghost use Rattle.exact_point.specs.Place.{place};
 ghost use Rattle.arrange.specs.Arrangement.{is_in_closed_column};
 
-use exact_point::{HPoint, border_side};
+use exact_point::{HPoint, border_side, end_side};
 use plane_base::Column;
 
 /// Whether a point lies from a column's left border to its right border.
@@ -17,13 +17,9 @@ pub fn is_within(column: Column, p: &HPoint) -> bool
     from_left.is_ge() & to_right
 }
 
-/// Whether a point lies left of a column's right border or on it. The last column has no other
-/// column right of it, and all points lie left of its right border.
+/// Whether a point lies left of a column's right border or on it.
 fn is_up_to(column: Column, p: &HPoint) -> bool
     ensures { result ≡ int_le p.now.x (border (column + 1) *ℤ p.now.w) }
 {
-    match Column::new(u64::from(column.number()) + 1) {
-        Some(next) => border_side(next, p).is_le(),
-        None => true,
-    }
+    end_side(column, p).is_le()
 }

@@ -16,7 +16,7 @@ use crate::named_place::NamedPlace;
 use crate::piece::Elementary;
 use crate::placed_piece::PlacedPiece;
 use crate::tile_input::TileInput;
-use exact_point::{HPoint, border_side};
+use exact_point::{HPoint, end_side};
 use plane_base::{Column, Seg};
 use std::alloc::{AllocError, Global};
 
@@ -115,13 +115,9 @@ fn add_between(
     Ok(())
 }
 
-/// Whether a point lies left of a column's right border. The last column has no other column right
-/// of it, and all points lie left of its right border.
+/// Whether a point lies left of a column's right border.
 fn is_before_next(column: Column, p: &HPoint) -> bool
     ensures { result ≡ int_lt p.now.x (border (column + 1) *ℤ p.now.w) }
 {
-    match Column::new(u64::from(column.number()) + 1) {
-        Some(next) => border_side(next, p).is_lt(),
-        None => true,
-    }
+    end_side(column, p).is_lt()
 }

@@ -1,8 +1,8 @@
 //! Whether a point is a node of some segments.
-ghost use Rattle.std.specs.Prelude.{◌≡◌, ◌<◌, ◌&&◌, ◌||◌, ◌*ℤ◌, not, map};
+ghost use Rattle.std.specs.Prelude.{◌≡◌, ◌&&◌, ◌||◌, ◌*ℤ◌, not, map};
 ghost use Rattle.std.specs.List.{list_any};
 ghost use Rattle.std.specs.Ordering.{int_eq};
-ghost use Rattle.overlay_terms.specs.Column.{border, column_count, columns};
+ghost use Rattle.overlay_terms.specs.Column.{border, columns};
 ghost use Rattle.overlay_terms.specs.Plane.{is_on, same_place, whole};
 ghost use Rattle.overlay_terms.specs.Tiles.{is_node, is_on_border, is_parallel, is_vertical};
 ghost use Rattle.exact_point.specs.Place.{place};
@@ -74,7 +74,8 @@ fn is_at_border(p: &HPoint) -> bool
     ensures { result ≡ list_any (λ k. int_eq p.now.x (border k *ℤ p.now.w)) columns }
 {
     for number in 0..COLUMN_COUNT {
-        if has_border_at(number, p) {
+        let column = Column::new(u64::from(number)).unwrap();
+        if has_border_at(column, p) {
             return true;
         }
     }
@@ -82,14 +83,10 @@ fn is_at_border(p: &HPoint) -> bool
 }
 
 /// Whether the border of a column has the x of the point.
-fn has_border_at(number: u8, p: &HPoint) -> bool
-    requires { number < column_count }
-    ensures { result ≡ int_eq p.now.x (border number *ℤ p.now.w) }
+fn has_border_at(column: Column, p: &HPoint) -> bool
+    ensures { result ≡ int_eq p.now.x (border column *ℤ p.now.w) }
 {
-    match Column::new(u64::from(number)) {
-        Some(column) => border_side(column, p).is_eq(),
-        None => false,
-    }
+    border_side(column, p).is_eq()
 }
 
 /// Whether a point is at a place with whole coordinates.

@@ -1,4 +1,4 @@
--- Logs that gain an entry, and the commands in them.
+-- Logs that gain an entry, and the batches in them.
 use Rattle.std.proofs.Common.{◌≡◌, ℕ, ◌<◌, List, [], ◌∷◌, ◌++◌, length, refl, ap, sym, arith}
 use Rattle.std.proofs.lemmas.List.Elements.{filter_map-append}
 use mathlib.Core.List.{IsPrefix}
@@ -37,11 +37,11 @@ begins_with (x ∷ xs) (y ∷ ys) long p =
     let rest : ys ≡ xs ++ p.0 = cc (p.1) in
     (p.0, λ i. record { start = (sym first i).version; entries = rest i })
 
--- the commands of a session in a log are those in its history
+-- the batches of a session in a log are those in its history
 pub commands_in_log : (by : ℕ) (xs : List Entry) → IsLog xs → commands_of by xs ≡ commands_of by (history_of xs).entries
 commands_in_log by [] c = absurd c
 commands_in_log by (x ∷ xs) c = ap (λ (e : Event). commands_of by (entry e x.version ∷ xs)) c.0
 
--- the commands in two lists, joined
+-- the batches in two lists, joined
 pub own-append : (by : ℕ) (xs ys : List Entry) → commands_of by (xs ++ ys) ≡ commands_of by xs ++ commands_of by ys
 own-append by xs ys = filter_map-append (λ (e : Entry). own_command by e.event) xs ys

@@ -1,10 +1,16 @@
 -- The faults of the book: their numbers and texts, and what each says.
-use Rattle.std.specs.Prelude.{ℕ, Bool, true, false, IsTrue, List, codes}
+use Rattle.std.specs.Prelude.{◌≡◌, ◌⊎◌, ℕ, Bool, true, false, IsTrue, List}
 use Rattle.std.specs.Option.{option_map}
 use Rattle.overlay_terms.specs.Commands.{Command, refusal_at}
+use Rattle.overlay_terms.specs.Batches.{Batch, batch_refusal_at}
+use Rattle.fault_texts.specs.CommonFault as common
+use Rattle.fault_texts.specs.declared.common_fault.CommonFault.TheVariants as faults
 use Rattle.layer_book.specs.Fault.{RefusedBy}
+use Rattle.layer_book.specs.BatchFault.{RefusedAllBy}
 use Rattle.overlay_terms.specs.Histories.{Version}
 use Rattle.layer_book.specs.declared.fault.LayerFault.TheVariants.{OutOfMemory as NoMemory}
+use Rattle.layer_book.specs.declared.batch_fault.BatchFault.{BatchFault}
+use Rattle.layer_book.specs.declared.batch_fault.BatchFault.TheVariants.{Whole}
 use Rattle.version_core.specs.Fault as version_fault
 use Rattle.version_core.specs.declared.fault.VersionFault.TheVariants.{Layer}
 use Rattle.book_history.specs.declared.fault.ToldFault.{ToldFault}
@@ -14,18 +20,18 @@ use Rattle.book_history.specs.declared.fault.BookFault.TheVariants as fault
 
 -- the number under which a store's fault is printed
 abbrev pub store_code_of : ToldFault → ℕ
-store_code_of Device = 30
-store_code_of Full = 31
-store_code_of Failed = 35
-store_code_of SequenceLimit = 36
-store_code_of OutOfMemory = 40
+store_code_of Device = common.code_of faults.Device
+store_code_of Full = common.code_of faults.Full
+store_code_of Failed = common.code_of faults.StoreFailed
+store_code_of SequenceLimit = common.code_of faults.SequenceLimit
+store_code_of OutOfMemory = common.code_of faults.OutOfMemory
 
 -- the number under which a fault is printed
 abbrev pub code_of : BookFault → ℕ
 code_of (fault.Version refused) = version_fault.code_of refused
-code_of fault.Closing = 43
-code_of fault.Gone = 44
-code_of fault.NoStore = 46
+code_of fault.Closing = common.code_of faults.Closing
+code_of fault.Gone = common.code_of faults.Gone
+code_of fault.NoStore = common.code_of faults.NoStore
 code_of (fault.Store refused) = store_code_of refused
 
 -- whether an accepted command takes a store's fault away
@@ -38,18 +44,18 @@ passes OutOfMemory = true
 
 -- the text behind a store's number
 abbrev pub store_text_of : ToldFault → List ℕ
-store_text_of Device = codes "device"
-store_text_of Full = codes "full"
-store_text_of Failed = codes "store failed"
-store_text_of SequenceLimit = codes "sequence limit"
-store_text_of OutOfMemory = codes "out of memory"
+store_text_of Device = common.text_of faults.Device
+store_text_of Full = common.text_of faults.Full
+store_text_of Failed = common.text_of faults.StoreFailed
+store_text_of SequenceLimit = common.text_of faults.SequenceLimit
+store_text_of OutOfMemory = common.text_of faults.OutOfMemory
 
 -- the text that is printed behind the number
 abbrev pub text_of : BookFault → List ℕ
 text_of (fault.Version refused) = version_fault.text_of refused
-text_of fault.Closing = codes "closing"
-text_of fault.Gone = codes "gone"
-text_of fault.NoStore = codes "no store"
+text_of fault.Closing = common.text_of faults.Closing
+text_of fault.Gone = common.text_of faults.Gone
+text_of fault.NoStore = common.text_of faults.NoStore
 text_of (fault.Store refused) = store_text_of refused
 
 -- memory ran out
@@ -73,3 +79,18 @@ IfGone fault.Closing gone other = other
 IfGone fault.Gone gone other = gone
 IfGone fault.NoStore gone other = other
 IfGone (fault.Store refused) gone other = other
+
+-- the fault of a batch that is refused so, which is no single command's
+abbrev pub whole : BookFault → BatchFault
+whole refused = Whole (code_of refused)
+
+-- why a book refuses a batch: it is behind, which each call says by itself; or it closes, where it may;
+-- or the refusal of the definitions, or memory ran out where there is none
+abbrev pub IsBatchRefused : Bool → Version → Batch → BatchFault → Type 0
+IsBatchRefused closing version batch refused =
+    (refused ≡ whole fault.Gone) ⊎ ((IsTrue closing × (refused ≡ whole fault.Closing))
+    ⊎ RefusedAllBy (batch_refusal_at version.number version.layers batch) refused)
+
+-- one fact where a batch is refused because the locked book is behind or cannot go on, another at each other fault
+abbrev pub IfBatchGone : BatchFault → Type 0 → Type 0 → Type 0
+IfBatchGone refused gone other = ((refused ≡ whole fault.Gone) × gone) ⊎ (¬ (refused ≡ whole fault.Gone) × other)

@@ -1,6 +1,6 @@
 -- A history as one log, whose first entry holds the version that the history begins with.
 use Rattle.std.specs.Prelude.{◌≡◌, ℕ, List, [], ◌∷◌, ◌++◌}
-use Rattle.overlay_terms.specs.Commands.{Command}
+use Rattle.overlay_terms.specs.Batches.{Batch}
 use Rattle.overlay_terms.specs.Histories.{Version, Event, accepted, durable_to, Entry, History, AllFollow, GoesOnBy, newest}
 use Rattle.overlay_terms.specs.Histories.{empty_version}
 
@@ -25,9 +25,9 @@ IsLog (first ∷ entries) = (first.event ≡ no_event) × AllFollow first.versio
 abbrev pub newest_in : List Entry → Version
 newest_in log = newest (history_of log)
 
--- a session's command is accepted last, and its version has this number
-pub record IsAccepted (session : ℕ) (before : History) (command : Command) (after : History) (number : ℕ) : Type 0 where
+-- a session's batch is accepted last, and its version has this number
+pub record IsAccepted (session : ℕ) (before : History) (batch : Batch) (after : History) (number : ℕ) : Type 0 where
   pub between : List Entry
   pub version : Version
-  pub goes_on : GoesOnBy before (between ++ entry (accepted session command) version ∷ []) after
+  pub goes_on : GoesOnBy before (between ++ entry (accepted session batch) version ∷ []) after
   pub told : version.number ≡ number

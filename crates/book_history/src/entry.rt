@@ -4,6 +4,7 @@ ghost use Rattle.std.specs.List.{cons_option};
 ghost use Rattle.overlay_terms.specs.Histories.{own_command};
 ghost use Rattle.book_history.specs.Causes.{event_of, HasSeat};
 
+use layer_book::batch::Batch;
 use layer_book::command::Command;
 use layer_expr::name::Name;
 use std::marker::Model;
@@ -13,7 +14,7 @@ use version_core::version::Version;
 /// What made a version, as it stands in the logbook. No value of it is made.
 #[derive(Drop)]
 pub enum Event {
-    Accepted(u64, Command),
+    Accepted(u64, Batch),
     Kept(Name, u8, Tile),
     Durable(u64),
 }
@@ -49,8 +50,8 @@ impl Drop for Entry {
 /// What happened.
 #[derive(Clone, Copy)]
 pub enum Cause<'a> {
-    /// A session's command is accepted.
-    Accepted(u64, &'a Command),
+    /// Commands of a session are accepted as one version.
+    Accepted(u64, &'a [Command]),
     /// A tile of a layer and column is kept.
     Kept(&'a Name, u8, &'a Tile),
     /// A number is durable.
@@ -64,7 +65,7 @@ pub struct Ask<'a> {
     pub version: &'a Version,
 }
 
-/// How many commands of each session there are with one more entry.
+/// How many batches of each session there are with one more entry.
 pub fn counted(counts: [u64; 4], cause: Cause<'_>) -> [u64; 4]
     requires seat { HasSeat cause }
     requires room { (k : ℕ) → k < 4 → slice_index counts k < 2 ^ 62 }

@@ -1,8 +1,10 @@
 //! Why a call on the book is refused.
-ghost use Rattle.std.specs.Prelude.{◌≡◌, Some};
-ghost use Rattle.book_history.specs.Fault.{code_of, passes, store_code_of, store_text_of, text_of};
+ghost use Rattle.std.specs.Prelude.{◌≡◌};
+ghost use Rattle.fault_texts.specs.FaultText.{shown, IsBrief};
+ghost use Rattle.book_history.specs.Fault.{code_of, passes, store_code_of, store_text_of, text_of, whole};
 
-use std::fmt;
+use fault_texts::{CommonFault, FaultText};
+use layer_book::batch_fault::BatchFault;
 use thiserror::Error;
 use version_core::fault::VersionFault;
 
@@ -20,16 +22,30 @@ pub enum ToldFault {
 }
 
 impl ToldFault {
+    /// The text that is printed behind the number.
+    pub fn text(&self) -> FaultText
+        ensures text { shown result ≡ store_text_of self.now }
+        ensures brief { IsBrief result }
+    {
+        match self {
+            ToldFault::Device => CommonFault::Device.text(),
+            ToldFault::Full => CommonFault::Full.text(),
+            ToldFault::Failed => CommonFault::StoreFailed.text(),
+            ToldFault::SequenceLimit => CommonFault::SequenceLimit.text(),
+            ToldFault::OutOfMemory => CommonFault::OutOfMemory.text(),
+        }
+    }
+
     /// The number under which the fault is printed.
     pub fn code(&self) -> u8
         ensures { result ≡ store_code_of self.now }
     {
         match self {
-            ToldFault::Device => 30,
-            ToldFault::Full => 31,
-            ToldFault::Failed => 35,
-            ToldFault::SequenceLimit => 36,
-            ToldFault::OutOfMemory => 40,
+            ToldFault::Device => CommonFault::Device.code(),
+            ToldFault::Full => CommonFault::Full.code(),
+            ToldFault::Failed => CommonFault::StoreFailed.code(),
+            ToldFault::SequenceLimit => CommonFault::SequenceLimit.code(),
+            ToldFault::OutOfMemory => CommonFault::OutOfMemory.code(),
         }
     }
 
@@ -46,7 +62,7 @@ impl ToldFault {
 
 /// Why a call on the book is refused.
 #[derive(Clone, Copy, Debug, PartialEq, Eq, Error)]
-#[error("{}", Text(*self))]
+#[error("{}", self.text())]
 pub enum BookFault {
     /// What the version says to it.
     Version(VersionFault),
@@ -60,52 +76,37 @@ pub enum BookFault {
 }
 
 impl BookFault {
+    /// The text that is printed behind the number.
+    pub fn text(&self) -> FaultText
+        ensures text { shown result ≡ text_of self.now }
+        ensures brief { IsBrief result }
+    {
+        match self {
+            BookFault::Version(fault) => fault.text(),
+            BookFault::Closing => CommonFault::Closing.text(),
+            BookFault::Gone => CommonFault::Gone.text(),
+            BookFault::NoStore => CommonFault::NoStore.text(),
+            BookFault::Store(fault) => fault.text(),
+        }
+    }
+
     /// The number under which the fault is printed.
     pub fn code(&self) -> u8
         ensures { result ≡ code_of self.now }
     {
         match self {
             BookFault::Version(fault) => fault.code(),
-            BookFault::Closing => 43,
-            BookFault::Gone => 44,
-            BookFault::NoStore => 46,
+            BookFault::Closing => CommonFault::Closing.code(),
+            BookFault::Gone => CommonFault::Gone.code(),
+            BookFault::NoStore => CommonFault::NoStore.code(),
             BookFault::Store(fault) => fault.code(),
         }
     }
-}
 
-/// The text of a fault, as a reply says it behind the number.
-#[derive(Clone, Copy)]
-pub struct Text(pub BookFault);
-
-impl fmt::Display for Text {
-    ghost output = { λ text. Some (text_of text.0) };
-
-    fn fmt<W: fmt::Write>(&self, f: &mut fmt::Formatter<W>) -> fmt::Result {
-        match self.0 {
-            BookFault::Version(fault) => version_core::fault::Text(fault).fmt(f),
-            BookFault::Store(fault) => StoreText(fault).fmt(f),
-            BookFault::Closing => f.write_str("closing"),
-            BookFault::Gone => f.write_str("gone"),
-            BookFault::NoStore => f.write_str("no store"),
-        }
-    }
-}
-
-/// The text of a store's fault.
-#[derive(Clone, Copy)]
-pub struct StoreText(pub ToldFault);
-
-impl fmt::Display for StoreText {
-    ghost output = { λ text. Some (store_text_of text.0) };
-
-    fn fmt<W: fmt::Write>(&self, f: &mut fmt::Formatter<W>) -> fmt::Result {
-        f.write_str(match self.0 {
-            ToldFault::Device => "device",
-            ToldFault::Full => "full",
-            ToldFault::Failed => "store failed",
-            ToldFault::SequenceLimit => "sequence limit",
-            ToldFault::OutOfMemory => "out of memory",
-        })
+    /// The fault of a batch that is refused so, which is no single command's.
+    pub fn whole(&self) -> BatchFault
+        ensures { result ≡ whole self.now }
+    {
+        BatchFault::Whole(self.code())
     }
 }

@@ -36,7 +36,7 @@ impl Standing {
         }
     }
 
-    /// A command was accepted.
+    /// A command or a batch was accepted.
     pub fn command_accepted(&mut self)
         ensures { IsAfterCommand self.old self.new }
     {

@@ -1,8 +1,8 @@
 -- What the lock's methods leave a token with.
 use Rattle.std.specs.Prelude.{◌≡◌, ◌⊎◌, ◌++◌, ◌∷◌, ◌<◌, [], ℕ, zero, suc, Bool, true, false, List}
 use mathlib.Core.List.{IsPrefix}
-use Rattle.overlay_terms.specs.Histories.{Tile, Entry, accepted, commands_of, kept, durable_to, FollowsCommand, FollowsTile, FollowsReport, StaysAtReport}
-use Rattle.overlay_terms.specs.Commands.{Command}
+use Rattle.overlay_terms.specs.Histories.{Tile, Entry, accepted, commands_of, kept, durable_to, FollowsBatch, FollowsTile, FollowsReport, StaysAtReport}
+use Rattle.overlay_terms.specs.Batches.{Batch}
 use Rattle.overlay_terms.specs.Layers.{Name}
 use Rattle.overlay_terms.specs.Tiles.{Input}
 use Rattle.version_core.specs.Finish.{IsAwaited}
@@ -10,7 +10,7 @@ use Rattle.book_history.specs.Known.{Known}
 use Rattle.book_history.specs.Logs.{entry, newest_in, IsLog}
 use Rattle.book_history.specs.Trails.{Trail}
 
--- a session has looked: it has seen this log, which goes on from what it saw, and its commands there are those that
+-- a session has looked: it has seen this log, which goes on from what it saw, and its batches there are those that
 -- it made
 pub record HasLooked (was : Known) (log : List Entry) (now : Known) : Type 0 where
   pub longer : IsPrefix was.log log
@@ -18,11 +18,11 @@ pub record HasLooked (was : Known) (log : List Entry) (now : Known) : Type 0 whe
   pub own : commands_of was.session log ≡ was.made
   pub valid : IsLog log
 
--- a session's command is accepted: its entry is added, and the newest version then has this number
-abbrev pub IsAcceptedIn : List Entry → ℕ → Command → List Entry → ℕ → Type 0
-IsAcceptedIn log session command after number =
-    FollowsCommand (newest_in log) command (newest_in after)
-    × (after ≡ log ++ entry (accepted session command) (newest_in after) ∷ []) × ((newest_in after).number ≡ number)
+-- a session's batch is accepted: its entry is added, and the newest version then has this number
+abbrev pub IsAcceptedIn : List Entry → ℕ → Batch → List Entry → ℕ → Type 0
+IsAcceptedIn log session batch after number =
+    FollowsBatch (newest_in log) batch (newest_in after)
+    × (after ≡ log ++ entry (accepted session batch) (newest_in after) ∷ []) × ((newest_in after).number ≡ number)
 
 -- a built tile that is awaited is kept, by its entry; or it is not awaited, and nothing changes
 abbrev pub IsFinishedIn : List Entry → Name → Input → Tile → Bool → List Entry → Type 0
@@ -44,12 +44,12 @@ beginners trail zero = []
 beginners trail (suc n) =
     beginners trail n ++ record { book = trail.book; session = n; log = trail.log; made = [] } ∷ []
 
--- a log has all that a session has seen, and of its commands just those that it made
+-- a log has all that a session has seen, and of its batches just those that it made
 pub record HasAllOf (log : List Entry) (session : Known) : Type 0 where
   pub longer : IsPrefix session.log log
   pub own : commands_of session.session log ≡ session.made
 
--- a log is level with a session: it has all of it, and the book counts its commands
+-- a log is level with a session: it has all of it, and the book counts its batches
 pub record IsLevel (log : List Entry) (session : Known) : Type 0 where
   pub has_all : HasAllOf log session
   pub seat : session.session < 4

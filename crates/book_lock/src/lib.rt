@@ -5,3 +5,4 @@ pub mod closed;
 mod keeping;
 pub mod locked_log;
 pub mod session;
+mod submitting;

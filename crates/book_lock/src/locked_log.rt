@@ -4,23 +4,21 @@ ghost use Rattle.std.specs.Prelude.{IsTrue, All, false};
 ghost use Rattle.std.specs.Arc.{arc_value};
 ghost use mathlib.Core.List.{IsPrefix};
 ghost use Rattle.left_right.specs.Sides.{view};
-ghost use Rattle.overlay_terms.specs.Histories.{accepted, commands_of, Follows};
-ghost use Rattle.layer_book.specs.Command.{command};
+ghost use Rattle.overlay_terms.specs.Histories.{commands_of, Follows};
 ghost use Rattle.book_history.specs.Causes.{event_of, HasSeat};
-ghost use Rattle.book_history.specs.Fault.{IsRefused, IfGone, no_memory};
+ghost use Rattle.book_history.specs.Fault.{no_memory};
 ghost use Rattle.book_history.specs.Logs.{entry, no_event, newest_in, IsLog};
 ghost use Rattle.book_history.specs.Rules.{head_of};
-ghost use Rattle.book_lock.specs.Steps.{HasLooked, IsAcceptedIn, IsLevel, beginners};
+ghost use Rattle.book_lock.specs.Steps.{HasLooked, IsLevel, beginners};
 
 use crate::closed::Closed;
 use crate::session::Session;
 use book_history::entry::{Cause, counted};
 use book_history::fault::BookFault;
-use book_history::making::{NO_MEMORY, next_version, shared};
+use book_history::making::{NO_MEMORY, shared};
 use book_history::published::{Published, Publisher};
 use book_history::publisher::{first_publisher, new_place, put_out};
 use book_history::seen_log::{Head, Naming, SeenLog};
-use layer_book::command::Command;
 use std::alloc::Global;
 use std::marker::{Model, PhantomData};
 use std::sync::{Arc, Wait};
@@ -28,7 +26,7 @@ use version_core::version::Version;
 
 const MOST: u64 = 1 << 60;
 
-/// What lies under the lock: the log that is published, and how many commands of each session it has.
+/// What lies under the lock: the log that is published, and how many batches of each session it has.
 pub struct LockedLog<J: Naming, R: Wait + Drop> {
     head: Head,
     publisher: Publisher,
@@ -104,7 +102,7 @@ impl<J: Naming, R: Wait + Drop> LockedLog<J, R> {
         last
     }
 
-    /// Whether it has all that a session has seen, and just the commands that it made.
+    /// Whether it has all that a session has seen, and just the batches that it made.
     pub fn is_level(&self, me: &Session) -> bool
         requires { me.now.book ≡ J.book }
         ensures longer { IsTrue result → IsPrefix me.now.log self.now }
@@ -116,7 +114,7 @@ impl<J: Naming, R: Wait + Drop> LockedLog<J, R> {
         by < 4 && me.is_level(&self.publisher.published().trace, self.counts[by as usize])
     }
 
-    /// A session sees all of it. It does not where that would be less than it has seen, or its commands are others.
+    /// A session sees all of it. It does not where that would be less than it has seen, or its batches are others.
     pub fn show(&self, me: &mut Session) -> Result<u64, BookFault>
         requires { me.old.book ≡ J.book }
         ensures ok { IfOk result (λ n. HasLooked me.old self.now me.new × ((newest_in self.now).number ≡ n)) }
@@ -171,41 +169,6 @@ impl<J: Naming, R: Wait + Drop> LockedLog<J, R> {
         // What was seen is a log with a first entry: the clauses rest on that.
         let _ = trace.at();
         Closed { version, trace }
-    }
-
-    /// Accepts a command of a session: the one entry that this adds, or nothing.
-    pub fn submit(
-        &mut self,
-        alloc: Global,
-        me: &mut Session,
-        change: &Command,
-    ) -> Result<u64, BookFault>
-        requires book { me.old.book ≡ J.book }
-        ensures ok { IfOk result (λ n. IsAcceptedIn self.old me.old.session (command change.now) self.new n) }
-        ensures seen { IfOk result (λ _. IsPrefix me.old.log self.old × (me.new.log ≡ self.new)) }
-        ensures made { IfOk result (λ _. (me.new.made ≡ me.old.made ++ command change.now ∷ [])
-            × (commands_of me.old.session self.new ≡ me.new.made) × IsLog self.new) }
-        ensures same { (me.new.book ≡ me.old.book) × (me.new.session ≡ me.old.session) }
-        ensures err { IfErr result (λ fault. (self.new ≡ self.old)
-            × IfGone fault (me.new ≡ me.old) (HasLooked me.old self.old me.new)) }
-        ensures refused { IfErr result (λ fault. IsRefused false (newest_in self.old) (command change.now) fault) }
-    {
-        if !self.is_level(me) {
-            return Err(BookFault::Gone);
-        }
-        let version = match next_version(alloc, &self.last().version, change) {
-            Ok(version) => version,
-            Err(fault) => {
-                self.show(me)?;
-                return Err(fault);
-            }
-        };
-        let by = me.number();
-        self.add(Cause::Accepted(by, change), version)?;
-        let last = self.last();
-        let accepted = last.version.number();
-        me.made_one(&last.trace, accepted);
-        Ok(accepted)
     }
 }
 

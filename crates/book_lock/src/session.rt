@@ -3,7 +3,7 @@ ghost use Rattle.std.specs.Prelude.{◌≡◌, ◌+◌, ◌<◌, ◌≤◌, ◌^
 ghost use Rattle.std.specs.Arc.{arc_value};
 ghost use Rattle.left_right.specs.Sides.{view as place_view};
 ghost use mathlib.Core.List.{IsPrefix};
-ghost use Rattle.overlay_terms.specs.Commands.{Command};
+ghost use Rattle.overlay_terms.specs.Batches.{Batch};
 ghost use Rattle.overlay_terms.specs.Histories.{commands_of, newest, BeginsWith, IsHistory};
 ghost use Rattle.book_history.specs.Logs.{newest_in};
 ghost use Rattle.book_history.specs.Known.{seen};
@@ -85,7 +85,7 @@ impl Session {
         &self.trace
     }
 
-    /// Whether a log with so many commands of this session has all that it has seen, and just the commands that
+    /// Whether a log with so many batches of this session has all that it has seen, and just the batches that
     /// it made.
     pub(crate) fn is_level(&self, now: &SeenLog, count: u64) -> bool
         requires book { now.now.book ≡ self.now.book }
@@ -113,12 +113,12 @@ impl Session {
         self.place = moved(place, to);
     }
 
-    /// Sees a longer log, in which the command that it just made stands last.
+    /// Sees a longer log, in which the batch that it just made stands last.
     pub(crate) fn made_one(&mut self, to: &SeenLog, newest: u64)
         requires newest { (newest_in to.now.log).number ≡ newest }
         requires book { to.now.book ≡ self.old.book }
         requires longer { IsPrefix self.old.log to.now.log }
-        requires own { (command : Command) × (commands_of self.old.session to.now.log ≡ self.old.made ++ command ∷ []) }
+        requires own { (batch : Batch) × (commands_of self.old.session to.now.log ≡ self.old.made ++ batch ∷ []) }
         requires room { length self.old.made < 2 ^ 62 }
         ensures { self.new ≡ record { book = self.old.book; session = self.old.session; log = to.now.log; made = commands_of self.old.session to.now.log } }
     {

@@ -1,9 +1,12 @@
 -- The faults of a store: their numbers and texts.
-use Rattle.std.specs.Prelude.{ℕ, List, ◌++◌, codes, decimal, Option, Some, None}
+use Rattle.std.specs.Prelude.{ℕ, List, codes}
 use Rattle.extent_map.specs.declared.fault.ExtentFault.{ExtentFault}
 use Rattle.extent_map.specs.declared.fault.ExtentFault.TheVariants as extents
-use Rattle.store_terms.specs.Damage as damages
 use Rattle.store_terms.specs.declared.damage.Damage.TheVariants as damage
+use Rattle.fault_texts.specs.CommonFault as common
+use Rattle.fault_texts.specs.declared.common_fault.CommonFault.TheVariants as faults
+use Rattle.record_bytes.specs.Fault as records
+use Rattle.record_bytes.specs.declared.fault.RecordFault.TheVariants as failed
 use Rattle.root_reading.specs.declared.load_fault.LoadFault.{LoadFault}
 use Rattle.root_reading.specs.declared.load_fault.LoadFault.TheVariants as loads
 use Rattle.commit_plan.specs.declared.fault.StoreFault.{StoreFault}
@@ -21,31 +24,22 @@ fault_told loads.Device = Device
 fault_told (loads.Damaged damage) = Damaged damage
 fault_told loads.OutOfMemory = OutOfMemory
 
--- the number of what is wrong with a file: one where it is no store, another where its damage has a code
-abbrev pub code_of_damage : Option ℕ → ℕ
-code_of_damage None = 32
-code_of_damage (Some code) = 33
-
-abbrev pub text_of_damage : Option ℕ → List ℕ
-text_of_damage None = codes "not a store"
-text_of_damage (Some code) = codes "damaged " ++ decimal code
-
 -- the number under which a fault is printed
 abbrev pub code_of : StoreFault → ℕ
-code_of Device = 30
-code_of Full = 31
-code_of (Damaged damage) = code_of_damage (damages.code_of damage)
+code_of Device = common.code_of faults.Device
+code_of Full = common.code_of faults.Full
+code_of (Damaged damage) = records.code_of (failed.Damaged damage)
 code_of NotEmpty = 34
-code_of Failed = 35
-code_of SequenceLimit = 36
-code_of OutOfMemory = 40
+code_of Failed = common.code_of faults.StoreFailed
+code_of SequenceLimit = common.code_of faults.SequenceLimit
+code_of OutOfMemory = common.code_of faults.OutOfMemory
 
 -- the text that is printed behind the number
 abbrev pub text_of : StoreFault → List ℕ
-text_of Device = codes "device"
-text_of Full = codes "full"
-text_of (Damaged damage) = text_of_damage (damages.code_of damage)
+text_of Device = common.text_of faults.Device
+text_of Full = common.text_of faults.Full
+text_of (Damaged damage) = records.text_of (failed.Damaged damage)
 text_of NotEmpty = codes "not empty"
-text_of Failed = codes "store failed"
-text_of SequenceLimit = codes "sequence limit"
-text_of OutOfMemory = codes "out of memory"
+text_of Failed = common.text_of faults.StoreFailed
+text_of SequenceLimit = common.text_of faults.SequenceLimit
+text_of OutOfMemory = common.text_of faults.OutOfMemory

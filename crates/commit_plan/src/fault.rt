@@ -1,19 +1,21 @@
 //! What a store refuses.
-ghost use Rattle.std.specs.Prelude.{◌≡◌, Some};
+ghost use Rattle.std.specs.Prelude.{◌≡◌};
+ghost use Rattle.fault_texts.specs.FaultText.{shown, IsBrief};
 ghost use Rattle.commit_plan.specs.Fault.{code_of, text_of, fault_of_extents, fault_told};
 ghost use Rattle.commit_plan.specs.declared.fault.StoreFault.TheVariants.{Device, OutOfMemory};
 
 use disk_model::fault::DiskFault;
 use extent_map::fault::ExtentFault;
+use fault_texts::{CommonFault, FaultText};
+use record_bytes::fault::RecordFault;
 use root_reading::load_fault::LoadFault;
 use std::alloc::{AllocError, AllocFailed};
-use std::fmt;
 use store_terms::damage::Damage;
 use thiserror::Error;
 
 /// Why a store is not made, not opened, or takes no commit.
 #[derive(Clone, Copy, Debug, PartialEq, Eq, Error)]
-#[error("{}", Text(*self))]
+#[error("{}", self.text())]
 pub enum StoreFault {
     /// The device failed in this call.
     Device,
@@ -36,14 +38,29 @@ impl StoreFault {
         ensures { result ≡ code_of self.now }
     {
         match self {
-            StoreFault::Device => 30,
-            StoreFault::Full => 31,
-            StoreFault::Damaged(Damage::NotAStore) => 32,
-            StoreFault::Damaged(_) => 33,
+            StoreFault::Device => CommonFault::Device.code(),
+            StoreFault::Full => CommonFault::Full.code(),
+            StoreFault::Damaged(damage) => RecordFault::Damaged(*damage).code(),
             StoreFault::NotEmpty => 34,
-            StoreFault::Failed => 35,
-            StoreFault::SequenceLimit => 36,
-            StoreFault::OutOfMemory => 40,
+            StoreFault::Failed => CommonFault::StoreFailed.code(),
+            StoreFault::SequenceLimit => CommonFault::SequenceLimit.code(),
+            StoreFault::OutOfMemory => CommonFault::OutOfMemory.code(),
+        }
+    }
+
+    /// The text that is printed behind the number.
+    pub fn text(&self) -> FaultText
+        ensures text { shown result ≡ text_of self.now }
+        ensures brief { IsBrief result }
+    {
+        match self {
+            StoreFault::Device => CommonFault::Device.text(),
+            StoreFault::Full => CommonFault::Full.text(),
+            StoreFault::Damaged(damage) => RecordFault::Damaged(*damage).text(),
+            StoreFault::NotEmpty => FaultText::Plain("not empty"),
+            StoreFault::Failed => CommonFault::StoreFailed.text(),
+            StoreFault::SequenceLimit => CommonFault::SequenceLimit.text(),
+            StoreFault::OutOfMemory => CommonFault::OutOfMemory.text(),
         }
     }
 }
@@ -92,28 +109,5 @@ pub fn told(fault: LoadFault) -> StoreFault
         LoadFault::Device => StoreFault::Device,
         LoadFault::Damaged(damage) => StoreFault::Damaged(damage),
         LoadFault::OutOfMemory => StoreFault::OutOfMemory,
-    }
-}
-
-/// The text of a fault, as a reply says it behind the number.
-#[derive(Clone, Copy, Debug)]
-pub struct Text(pub StoreFault);
-
-impl fmt::Display for Text {
-    ghost output = { λ text. Some (text_of text.0) };
-
-    fn fmt<W: fmt::Write>(&self, f: &mut fmt::Formatter<W>) -> fmt::Result {
-        f.write_str(match self.0 {
-            StoreFault::Device => "device",
-            StoreFault::Full => "full",
-            StoreFault::Damaged(damage) => match damage.code() {
-                None => "not a store",
-                Some(code) => return write!(f, "damaged {code}"),
-            },
-            StoreFault::NotEmpty => "not empty",
-            StoreFault::Failed => "store failed",
-            StoreFault::SequenceLimit => "sequence limit",
-            StoreFault::OutOfMemory => "out of memory",
-        })
     }
 }

@@ -170,6 +170,21 @@ border_crossing segments column r few e over =
     which s t among_s among_t on_s on_t (inl h) = on_border s among_s on_s h
     which s t among_s among_t on_s on_t (inr h) = on_border t among_t on_t h
 
+-- a node over a border is an end or a border place
+pub fixed_on_border : (segments : List Segment) (column : ℕ) (r : Point) → column < column_count → IsTrue (is_node segments r) → r.x ≡ border column *ℤ r.w → IsTrue (is_end segments r || is_on_border segments r)
+fixed_on_border segments column r few node over = by (or_cases (is_end segments r || is_crossing segments r) (is_on_border segments r) node)
+  where
+    by_two : (is_end segments r ≡ true) ⊎ (is_crossing segments r ≡ true) → IsTrue (is_end segments r || is_on_border segments r)
+    by_two (inl e) = or_left (is_end segments r) (is_on_border segments r) e
+    by_two (inr k) = or_right (is_end segments r) (is_on_border segments r) (border_crossing segments column r few k over)
+
+    by : ((is_end segments r || is_crossing segments r) ≡ true) ⊎ (is_on_border segments r ≡ true) → IsTrue (is_end segments r || is_on_border segments r)
+    by (inl e) = by_two e'
+      where
+        e' : (is_end segments r ≡ true) ⊎ (is_crossing segments r ≡ true)
+        e' = or_cases (is_end segments r) (is_crossing segments r) e
+    by (inr e) = or_right (is_end segments r) (is_on_border segments r) e
+
 -- a next node that is no border place lies right of the border
 right_of_border : (segments : List Segment) (column : ℕ) (q r : Point) → column < column_count → pos 0 <ℤ q.w → q.x ≡ border column *ℤ q.w → IsNextNode segments q r → is_crossing segments r ≡ true → is_on_border segments r ≡ false → (border column *ℤ r.w) <ℤ r.x
 right_of_border segments column q r few hq on_it next crossing no_border =

@@ -39,6 +39,7 @@ pub mod TestLemmas
 pub mod ComingLemmas
 pub mod StayLemmas
 pub mod TurnedLemmas
+pub mod RightBorder
 pub mod TakenLemmas
 pub mod SeamLemmas
 pub mod NodeCount

@@ -3,7 +3,7 @@ use Rattle.std.proofs.Common.{◌≡◌, ℕ, pos, ◌+◌, ◌<◌, ◌≤◌, 
 use Rattle.std.specs.Prelude.{IsTrue, Contains}
 use Rattle.std.proofs.lemmas.Bool.{both_ways}
 use Rattle.std.proofs.lemmas.List.{append-nil}
-use Rattle.std.proofs.lemmas.List.Elements.{Contains-push, Contains-append_left}
+use Rattle.std.proofs.lemmas.List.Elements.{All-nil, All-cons, All-append, Contains-push, Contains-append_left}
 use Rattle.std.proofs.Math.ListN.{length-append}
 use Rattle.std.specs.declared.cmp.Ordering.TheVariants.{Less}
 use Rattle.overlay_terms.specs.Plane.{Point, Segment, point_cmp, same_place}
@@ -34,6 +34,23 @@ still_queued old new kept p queued =
     any_from (λ z. IsTrue (same_place p z)) (points_of new) (place d.0.0) (contains_map (λ (d : HPoint × PointName). place d.0) new d.0 (kept d.0 d.1)) (subst (λ z. IsTrue (same_place p z)) (sym d.2) queued.4)
 
 module _ (column : ℕ) (r : Point) (segs : List Segment) where
+  abbrev ArePair : Segment × Segment → Type 0
+  ArePair t = Contains segs t.0 × Contains segs t.1
+
+  -- no seam
+  pub no_seams : (search : Search) → AreSeamsTested column r segs [] search search
+  no_seams search = record {
+    listed = refl;
+    kept = λ e c. c;
+    found = λ i d p c inside hp crossing less within. absurd (none_in_empty (i + 1) c);
+    only = λ e c. inl c;
+    more = [];
+    tests = sym (append-nil search.tests.items);
+    few = omega arith;
+    pairs = All-nil ArePair;
+    unlisted = λ e. refl;
+  }
+
   -- a seam with no neighbours
   pub no_seam : (seam : ℕ) (search : Search) → (seam ≡ 0) ⊎ (length segs ≤ seam) → AreSeamsTested column r segs (seam ∷ []) search search
   no_seam seam search none = record {
@@ -44,6 +61,7 @@ module _ (column : ℕ) (r : Point) (segs : List Segment) where
     more = [];
     tests = sym (append-nil search.tests.items);
     few = omega arith;
+    pairs = All-nil ArePair;
     unlisted = λ e. refl;
   }
     where
@@ -95,6 +113,7 @@ module _ (column : ℕ) (r : Point) (segs : List Segment) where
               more = (a, b) ∷ [];
               tests = tests;
               few = omega arith;
+              pairs = All-cons ArePair (a, b) [] (among_a, among_b) (All-nil ArePair);
               unlisted = λ f. absurd (both_ways old.listed f e);
             }
         by (no e) =
@@ -106,6 +125,7 @@ module _ (column : ℕ) (r : Point) (segs : List Segment) where
               more = [];
               tests = still_tests ∙ not_put e ∙ sym (append-nil old.tests.items);
               few = omega arith;
+              pairs = All-nil ArePair;
               unlisted = λ f. refl;
             }
 
@@ -148,6 +168,7 @@ module _ (column : ℕ) (r : Point) (segs : List Segment) where
       more = first.more ++ second.more;
       tests = second.tests ∙ ap (λ ts. ts ++ second.more) first.tests ∙ append_assoc old.tests.items first.more second.more;
       few = omega (arith, length-append first.more second.more, first.few, second.few);
+      pairs = All-append ArePair first.more second.more first.pairs second.pairs;
       unlisted = λ e. ap (λ ts. ts ++ second.more) (first.unlisted e) ∙ second.unlisted (first.listed ∙ e);
     }
 
@@ -161,6 +182,7 @@ module _ (column : ℕ) (r : Point) (segs : List Segment) where
     more = first.more;
     tests = first.tests;
     few = omega (arith, first.few);
+    pairs = first.pairs;
     unlisted = first.unlisted;
   }
     where

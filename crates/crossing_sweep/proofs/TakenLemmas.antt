@@ -1,5 +1,5 @@
 -- What the code does at a node is one step of a pass.
-use Rattle.std.proofs.Common.{◌≡◌, ℕ, ℤ, pos, ◌+◌, ◌<◌, ◌≤◌, ◌*ℤ◌, ◌<ℤ◌, ◌≤ℤ◌, int_le, append_assoc, inl, inr, ◌⊎◌, List, [], ◌∷◌, ◌++◌, map, take, drop, length, get_or, ap, sym, subst, ◌∙◌, arith}
+use Rattle.std.proofs.Common.{◌≡◌, ℕ, ℤ, pos, ◌+◌, ◌<◌, ◌≤◌, ◌*ℤ◌, ◌<ℤ◌, ◌≤ℤ◌, int_le, append_assoc, inl, inr, ◌⊎◌, Bool, true, false, List, [], ◌∷◌, ◌++◌, map, take, drop, length, get_or, ap, sym, subst, ◌∙◌, arith}
 use Rattle.std.specs.Prelude.{IsTrue, All, Contains, filter, ◌≢◌}
 use Rattle.std.specs.List.{AllPairs, prefix_len, slice_range}
 use Rattle.std.specs.List.Sorted.{IsPermutation}
@@ -8,7 +8,7 @@ use Rattle.std.proofs.lemmas.Bool.{and_parts, and_from}
 use Rattle.std.proofs.lemmas.List.{map-append, take-append-drop, length-map, length-take-le}
 use Rattle.std.proofs.lemmas.List.Folds.{drop_split}
 use Rattle.std.proofs.Math.ListN.{length-append}
-use Rattle.std.proofs.lemmas.List.Elements.{All-map, All-contains, Contains-append_cases, Contains-append_left, Contains-append_right}
+use Rattle.std.proofs.lemmas.List.Elements.{All-map, All-contains, Contains-get_or, Contains-append_cases, Contains-append_left, Contains-append_right}
 use Rattle.std.specs.declared.cmp.Ordering.TheVariants.{Less}
 use Rattle.overlay_terms.specs.Plane.{Point, Segment, point_cmp, same_place}
 use Rattle.overlay_terms.specs.Column.{border, is_in_column}
@@ -21,7 +21,7 @@ use Rattle.exact_point.specs.Crossing.{IsCrossingOf, turn_of}
 use Rattle.exact_point.specs.Place.{place, same_hpoint}
 use Rattle.exact_point.specs.declared.point.HPoint.{HPoint}
 use Rattle.exact_point.specs.declared.point_name.PointName.{PointName}
-use Rattle.exact_point.proofs.PlaceOrder.{not_before_self, same_turned}
+use Rattle.exact_point.proofs.PlaceOrder.{not_before_self, same_turned, less_through}
 use Rattle.arrange.specs.Arrangement.{segments_in, is_in_closed_column}
 use Rattle.arrange.specs.Units.{IsUnit}
 use Rattle.arrange.specs.declared.unit.Unit.{Unit}
@@ -35,11 +35,15 @@ use Rattle.crossing_sweep.specs.Member.{seg_of, units_of, segs_of, ends_after}
 use Rattle.crossing_sweep.specs.Rows.{AreBegun, mask_over, rows_of}
 use Rattle.crossing_sweep.specs.declared.member.Begin.{Begin}
 use Rattle.crossing_sweep.specs.declared.row.Row.{Row}
-use Rattle.crossing_sweep.specs.Testing.{IsFoundIn, AreSeamsTested}
+use Rattle.crossing_sweep.specs.Testing.{IsFoundIn, AreSeamsTested, seams_at}
 use Rattle.crossing_sweep.specs.Stepping.{segs_to_come, StandsBefore, IsStepped}
 use Rattle.crossing_sweep.specs.declared.member.Member.{Member}
 use Rattle.crossing_sweep.specs.declared.start.Start.{Start}
 use Rattle.crossing_sweep.specs.declared.search.Search.{Search}
+use Rattle.overlay_terms.specs.Tiles.{is_node}
+use Rattle.tile_laws.proofs.Ranks.{Told, yes, no, told}
+use Rattle.crossing_sweep.proofs.BorderLemmas.{fixed_on_border}
+use Rattle.crossing_sweep.proofs.RightBorder.{not_left, not_last, on_border as on_right}
 use Rattle.crossing_sweep.proofs.Pairs.{pairs_first}
 use Rattle.crossing_sweep.proofs.MaskLemmas.{from_map}
 use Rattle.crossing_sweep.proofs.StretchLemmas.{stretches_cross}
@@ -61,7 +65,7 @@ module _ (input : Input) (n : ℤ) (units : List Unit) (q : Point) (at : HPoint)
     (enters : entering ≡ take (prefix_len (λ s. same_hpoint s.at at) coming) coming) (remains : rest ≡ drop (prefix_len (λ s. same_hpoint s.at at) coming) coming)
     (split_of : SidesFallAlong (place at) (segs_of (under ++ bundle ++ over)) → IsSplitAt (place at) (segs_of under) (segs_of bundle) (segs_of over))
     (moved : IsPermutation (filter (ends_after (place at)) (segs_of bundle ++ segs_to_come entering)) (segs_of stay)) (sorted : AllPairs (λ a b. pos 0 ≤ℤ turn_of a b) (segs_of stay))
-    (tested : AreSeamsTested input.column (place at) (segs_of (under ++ stay ++ over)) (length under ∷ length (under ++ stay) ∷ []) old new) where
+    (tested : AreSeamsTested input.column (place at) (segs_of (under ++ stay ++ over)) (seams_at (is_in_column input.column (place at)) (length under) (length (under ++ stay))) old new) where
   abbrev r : Point
   r = place at
 
@@ -213,28 +217,60 @@ module _ (input : Input) (n : ℤ) (units : List Unit) (q : Point) (at : HPoint)
       from_later : (b x w y v : ℤ) → pos 0 <ℤ w → pos 0 <ℤ v → (b *ℤ w) ≤ℤ x → (x *ℤ v) ≤ℤ (y *ℤ w) → (b *ℤ v) ≤ℤ y
       from_later b x w y v hw hv h k = most_back (b *ℤ v) y w hw (omega (arith, ints, k, most_times (b *ℤ w) x v hv h, last_turned b w v))
 
-  abbrev seams : List ℕ
-  seams = length under ∷ length (under ++ stay) ∷ []
+  abbrev Found : Segment → Segment → Point → Type 0
+  Found a b p = pos 0 <ℤ p.w → IsCrossingOf a b p → point_cmp r p ≡ Less → IsUpTo input.column p → IsQueued (points_of new.ahead) p
 
-  grown : IsGrown input.column r u s o (r ∷ keys) (points_of new.ahead)
-  grown = record {
-    kept = kept;
-    tested = λ i d p which inside hp crossing less up_to. found i d p (seam i which) inside hp crossing less (within p hp less up_to);
-  }
+  -- on the right border of the column each node was known before
+  on_border : is_in_column input.column r ≡ false → (a b : Segment) (p : Point) → Contains (u ++ s ++ o) a → Contains (u ++ s ++ o) b → Found a b p
+  on_border out a b p among_a among_b hp crossing less up_to =
+      kept p hp (come.queue.fixed p hp (fixed_on_border segments (input.column + 1) p (not_last input.column at come.few past) node (on_right input.column r p hr hp past less up_to))
+      (less_through q r p stands.come.full.status_at.small.positive hr hp first.after less) up_to) less
     where
+      past : (border (input.column + 1) *ℤ r.w) ≤ℤ r.x
+      past = not_left input.column r first.from out
+
+      whole : (v : Segment) → Contains (u ++ s ++ o) v → IsStretchOf segments v
+      whole v c = stretch_of v (subst (λ (us : List Segment). Contains us v) (sym (segs_parts under stay over)) c)
+
+      node : IsTrue (is_node segments p)
+      node = stretches_cross segments a b p (whole a among_a) (whole b among_b) hp crossing.on_first crossing.on_second crossing.not_parallel
+
+  -- in it the two seams are tested
+  in_column : is_in_column input.column r ≡ true → (i : ℕ) (d : Segment) (p : Point) → (i + 1 ≡ length u) ⊎ (i + 1 ≡ length (u ++ s)) → i + 1 < length (u ++ s ++ o)
+      → Found (get_or (u ++ s ++ o) i d) (get_or (u ++ s ++ o) (i + 1) d) p
+  in_column inner i d p which inside hp crossing less up_to = found i d p (seam i which) inside hp crossing less (within p hp less up_to)
+    where
+      seams : List ℕ
+      seams = length under ∷ length (under ++ stay) ∷ []
+
+      both : AreSeamsTested input.column r (segs_of (under ++ stay ++ over)) seams old new
+      both = subst (λ b. AreSeamsTested input.column r (segs_of (under ++ stay ++ over)) (seams_at b (length under) (length (under ++ stay))) old new) inner tested
+
       found : (i : ℕ) (d : Segment) (p : Point) → Contains seams (i + 1) → i + 1 < length (u ++ s ++ o) → pos 0 <ℤ p.w → IsCrossingOf (get_or (u ++ s ++ o) i d) (get_or (u ++ s ++ o) (i + 1) d) p
           → point_cmp r p ≡ Less → IsTrue (is_in_closed_column input.column p) → IsQueued (points_of new.ahead) p
       found =
           subst (λ (us : List Segment).
           (i : ℕ) (d : Segment) (p : Point) → Contains seams (i + 1) → i + 1 < length us → pos 0 <ℤ p.w → IsCrossingOf (get_or us i d) (get_or us (i + 1) d) p
           → point_cmp r p ≡ Less → IsTrue (is_in_closed_column input.column p) → IsQueued (points_of new.ahead) p)
-          (segs_parts under stay over) tested.found
+          (segs_parts under stay over) both.found
 
       seam : (i : ℕ) → (i + 1 ≡ length u) ⊎ (i + 1 ≡ length (u ++ s)) → Contains seams (i + 1)
       seam i (inl f) = subst (λ x. Contains seams x) (sym (f ∙ length-map under seg_of)) (contains_first (length under) (length (under ++ stay) ∷ []))
       seam i (inr f) =
           subst (λ x. Contains seams x) (sym (f ∙ ap length (sym (map-append seg_of under stay)) ∙ length-map (under ++ stay) seg_of))
           (contains_rest (length under) (length (under ++ stay) ∷ []) (length (under ++ stay)) (contains_first (length (under ++ stay)) []))
+
+  grown : IsGrown input.column r u s o (r ∷ keys) (points_of new.ahead)
+  grown = record { kept = kept; tested = λ i d p which inside. by i d p which inside (told (is_in_column input.column r)) }
+    where
+      by : (i : ℕ) (d : Segment) (p : Point) → (i + 1 ≡ length u) ⊎ (i + 1 ≡ length (u ++ s)) → i + 1 < length (u ++ s ++ o) → Told (is_in_column input.column r)
+          → Found (get_or (u ++ s ++ o) i d) (get_or (u ++ s ++ o) (i + 1) d) p
+      by i d p which inside (yes e) = in_column e i d p which inside
+      by i d p which inside (no e) =
+          on_border e (get_or (u ++ s ++ o) i d) (get_or (u ++ s ++ o) (i + 1) d) p (Contains-get_or (u ++ s ++ o) i d (before_next i (length (u ++ s ++ o)) inside)) (Contains-get_or (u ++ s ++ o) (i + 1) d inside)
+        where
+          before_next : (i n : ℕ) → i + 1 < n → i < n
+          before_next i n l = omega (arith, l)
 
   pub is_step : IsStepTo segments input.column r u b o e s t keys (points_of new.ahead)
   is_step = record {
@@ -257,7 +293,7 @@ module _ (input : Input) (at : HPoint) (begin : Begin) (ms after turned stay : L
     (moved : IsPermutation (filter (unit_after (place at)) (units_of (slice_range ms low high) ++ map (λ (s : Start). s.unit) (take k coming))) (units_of turned))
     (sorted : AllPairs (λ a b. pos 0 ≤ℤ turn_of a b) (segs_of turned)) (labelled : units_of stay ≡ units_of turned)
     (begun : AreBegun input.steps (mask_over 0 (take low ms)) begin (is_in_column input.column (place at)) stay) (closed : more_rows ≡ rows ++ rows_of begin (slice_range ms low high))
-    (is : after ≡ take low ms ++ stay ++ drop high ms) (long : len ≡ length stay) (tested : AreSeamsTested input.column (place at) (segs_of after) (low ∷ (low + len) ∷ []) old new) where
+    (is : after ≡ take low ms ++ stay ++ drop high ms) (long : len ≡ length stay) (tested : AreSeamsTested input.column (place at) (segs_of after) (seams_at (is_in_column input.column (place at)) low (low + len)) old new) where
   was : ms ≡ take low ms ++ slice_range ms low high ++ drop high ms
   was =
       sym (take-append-drop low ms) ∙ ap (λ ys. take low ms ++ ys) (drop_split ms low high in_order) ∙ sym (append_assoc (take low ms) (slice_range ms low high) (drop high ms))
@@ -268,10 +304,13 @@ module _ (input : Input) (at : HPoint) (begin : Begin) (ms after turned stay : L
   up : low + len ≡ length (take low ms ++ stay)
   up = omega (arith, length-append (take low ms) stay, below, long)
 
-  at_seams : AreSeamsTested input.column (place at) (segs_of after) (length (take low ms) ∷ length (take low ms ++ stay) ∷ []) old new
+  abbrev inside : Bool
+  inside = is_in_column input.column (place at)
+
+  at_seams : AreSeamsTested input.column (place at) (segs_of after) (seams_at inside (length (take low ms)) (length (take low ms ++ stay))) old new
   at_seams =
-      subst (λ j. AreSeamsTested input.column (place at) (segs_of after) (j ∷ length (take low ms ++ stay) ∷ []) old new) (sym below)
-      (subst (λ j. AreSeamsTested input.column (place at) (segs_of after) (low ∷ j ∷ []) old new) up tested)
+      subst (λ j. AreSeamsTested input.column (place at) (segs_of after) (seams_at inside j (length (take low ms ++ stay))) old new) (sym below)
+      (subst (λ j. AreSeamsTested input.column (place at) (segs_of after) (seams_at inside low j) old new) up tested)
 
   stay_moved : IsPermutation (filter (unit_after (place at)) (units_of (slice_range ms low high) ++ map (λ (s : Start). s.unit) (take k coming))) (units_of stay)
   stay_moved =
@@ -298,5 +337,5 @@ module _ (input : Input) (at : HPoint) (begin : Begin) (ms after turned stay : L
         is_step input n units q at (take low ms) (slice_range ms low high) (drop high ms) stay coming (take k coming) (drop k coming) old new
         (subst (λ (xs : List Member). StandsBefore n input units q at xs coming old.ahead) was stands) (ap (λ j. take j coming) count) (ap (λ j. drop j coming) count)
         (λ falls. split (subst (λ (xs : List Member). SidesFallAlong (place at) (segs_of xs)) (sym was) falls)) (segs_moved (place at) (slice_range ms low high) stay (take k coming) stay_moved) stay_sorted
-        (subst (λ (xs : List Member). AreSeamsTested input.column (place at) (segs_of xs) (length (take low ms) ∷ length (take low ms ++ stay) ∷ []) old new) is at_seams);
+        (subst (λ (xs : List Member). AreSeamsTested input.column (place at) (segs_of xs) (seams_at inside (length (take low ms)) (length (take low ms ++ stay))) old new) is at_seams);
   }

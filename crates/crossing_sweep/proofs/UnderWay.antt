@@ -13,7 +13,7 @@ use Rattle.std.proofs.lemmas.List.Sorted.{All-permutation, length_permutation}
 use Rattle.std.proofs.lemmas.Nat.{mul-le}
 use Rattle.std.proofs.Math.ListN.{length-append}
 use Rattle.overlay_terms.specs.Plane.{Point, Segment, whole, point_cmp, same_place, is_on}
-use Rattle.overlay_terms.specs.Column.{columns, border}
+use Rattle.overlay_terms.specs.Column.{columns, border, is_in_column}
 use Rattle.overlay_terms.specs.Tiles.{Input, is_end, is_on_border, is_vertical}
 use Rattle.overlay_terms.specs.TileLaws.{IsInput, IsProper}
 use Rattle.overlay_terms.proofs.InputNumbers.{less_back, less_times, last_turned}
@@ -28,6 +28,7 @@ use Rattle.exact_point.specs.declared.point_name.PointName.{PointName}
 use Rattle.exact_point.proofs.PlaceOrder.{one_positive, same_through, on_same, level_from}
 use Rattle.tile_laws.proofs.Statements.{segments_in}
 use Rattle.arrange.specs.Marked.{segments_max}
+use Rattle.arrange.specs.Units.{IsUnit}
 use Rattle.arrange.specs.declared.unit.Unit.{Unit}
 use Rattle.arrange.proofs.NodeLemmas.{one_of_two}
 use Rattle.crossing_sweep.specs.Leaning.{IsSteep, IsSmall}
@@ -36,17 +37,18 @@ use Rattle.crossing_sweep.specs.Passing.{HasCome, IsEntry, IsStepTo, IsTaken}
 use Rattle.crossing_sweep.specs.Beginning.{foot}
 use Rattle.crossing_sweep.specs.Ahead.{points_of, AreKnownPlaces}
 use Rattle.crossing_sweep.specs.Start.{AreStarts}
-use Rattle.crossing_sweep.specs.Member.{segs_of}
-use Rattle.crossing_sweep.specs.Testing.{IsFoundIn}
+use Rattle.crossing_sweep.specs.Member.{seg_of, segs_of}
+use Rattle.crossing_sweep.specs.Testing.{IsFoundIn, seams_at}
 use Rattle.crossing_sweep.specs.Stepping.{segs_to_come, StandsBefore, IsStepped}
 use Rattle.crossing_sweep.specs.RowLaws.{AreAll}
 use Rattle.crossing_sweep.specs.Rows.{IsRow, AreSorted, BeginAt, Carries}
-use Rattle.crossing_sweep.specs.Crossed.{IsInner, IsCrossingAmong, IsSpan, AreCounted, HasFound, IsCaused, IsKey, IsUnderWay}
+use Rattle.crossing_sweep.specs.Crossed.{IsInner, IsUnitPair, IsCrossingAmong, IsSpan, AreCounted, HasFound, IsCaused, IsKey, IsUnderWay}
 use Rattle.crossing_sweep.specs.declared.member.Begin.{Begin}
 use Rattle.crossing_sweep.specs.declared.member.Member.{Member}
 use Rattle.crossing_sweep.specs.declared.start.Start.{Start}
 use Rattle.crossing_sweep.specs.declared.row.Row.{Row}
 use Rattle.crossing_sweep.specs.declared.search.Search.{Search}
+use Rattle.crossing_sweep.proofs.MaskLemmas.{from_map}
 use Rattle.crossing_sweep.proofs.Pairs.{all_first, all_second, pairs_second}
 use Rattle.crossing_sweep.proofs.KnownLemmas.{point_small}
 use Rattle.crossing_sweep.proofs.UnitStretchLemmas.{units_are_stretches}
@@ -82,6 +84,7 @@ begins_way input listed starts ahead valid are known = record {
   carries = rows_begin (pos (2 ^ 200)) input valid;
   counted = refl;
   few = omega arith;
+  pairs = All-nil (IsUnitPair input.marked);
   unlisted = λ e. refl;
   keys = λ i d l. let one = known.named i d l in record { named = one.0; told = one.1; caused = inl (known.fixed i d l) };
   causes = All-nil (IsCaused input listed []);
@@ -227,8 +230,28 @@ module _ (input : Input) (valid : IsInput input) (status after : List Member) (c
   few : length new.tests.items ≤ 2 * (nodes + 1)
   few =
       let long : length new.tests.items ≡ length old.tests.items + length stepped.tested.more = ap length stepped.tested.tests ∙ length-append old.tests.items stepped.tested.more in
-      let two : length stepped.tested.more ≤ 2 = stepped.tested.few in
-      omega (arith, long, two, way.few)
+      let some : length (seams_at within (length u) (length (u ++ s))) ≤ 2 = at_most_two within (length u) (length (u ++ s)) in
+      omega (arith, long, stepped.tested.few, some, way.few)
+    where
+      within : Bool
+      within = is_in_column input.column (place at)
+
+      at_most_two : (b : Bool) (i j : ℕ) → length (seams_at b i j) ≤ 2
+      at_most_two true i j = omega arith
+      at_most_two false i j = omega arith
+
+  -- each member is of a unit
+  is_unit : (v : Segment) → Contains (segs_of after) v → IsUnit input.marked v
+  is_unit v c =
+      let m = from_map seg_of after v c in
+      let of : Contains way.units m.0.unit = All-contains IsOfUnit after m.0 after_units m.1 in
+      subst (λ x. IsUnit input.marked x) m.2 (All-contains (λ (u : Unit). IsUnit input.marked u.seg) way.units m.0.unit way.are.sound of)
+
+  pairs : All (IsUnitPair input.marked) new.tests.items
+  pairs =
+      subst (λ (l : List (Segment × Segment)). All (IsUnitPair input.marked) l) (sym stepped.tested.tests)
+      (All-append (IsUnitPair input.marked) old.tests.items stepped.tested.more way.pairs
+      (λ i d l. let both = stepped.tested.pairs i d l in (is_unit (get_or stepped.tested.more i d).0 both.0, is_unit (get_or stepped.tested.more i d).1 both.1)))
 
   unlisted : new.listed ≡ false → new.tests.items ≡ []
   unlisted l =
@@ -253,6 +276,7 @@ module _ (input : Input) (valid : IsInput input) (status after : List Member) (c
     carries = carries;
     counted = ap (λ k. k + 1) way.counted ∙ sym (length-append way.passed (place at ∷ []));
     few = few;
+    pairs = pairs;
     unlisted = unlisted;
     keys = all_of (IsKey input new.listed new.tests.items) new.ahead (λ x c. new_key x (stepped.tested.only x c));
     causes = All-push (IsCaused input new.listed new.tests.items) way.passed (place at) (λ i d l. still (get_or way.passed i d) (way.causes i d l)) (still (place at) key.caused);
@@ -376,6 +400,7 @@ module _ (input : Input) (valid : IsInput input) (listed : Bool) (status : List 
     too_many = λ more. rows_tell_oversize way.n input way.q way.passed status rows sorted cap valid way.carries are (omega (arith, more, as_many));
     are_counted = counted;
     few = way.few;
+    pairs = way.pairs;
     unlisted = way.unlisted;
     crossings = crossings;
   }

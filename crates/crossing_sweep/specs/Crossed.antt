@@ -6,6 +6,7 @@ use Rattle.overlay_terms.specs.Column.{border}
 use Rattle.overlay_terms.specs.Histories.{oversize, IsTileAt}
 use Rattle.overlay_terms.specs.Tiles.{Input, is_end, is_on_border, is_node, IsTileOf}
 use Rattle.overlay_terms.specs.TileLaws.{IsInput}
+use Rattle.overlay_terms.specs.Layers.{Marked}
 use Rattle.exact_point.specs.Crossing.{IsCrossingOf}
 use Rattle.exact_point.specs.Place.{place}
 use Rattle.exact_point.specs.PlaceOf.{place_of}
@@ -13,7 +14,7 @@ use Rattle.exact_point.specs.PointName.{HasPlace}
 use Rattle.exact_point.specs.declared.point.HPoint.{HPoint}
 use Rattle.exact_point.specs.declared.point_name.PointName.{PointName}
 use Rattle.arrange.specs.Arrangement.{segments_in}
-use Rattle.arrange.specs.Units.{AreUnits}
+use Rattle.arrange.specs.Units.{IsUnit, AreUnits}
 use Rattle.arrange.specs.declared.unit.Unit.{Unit}
 use Rattle.crossing_sweep.specs.Leaning.{IsSteep}
 use Rattle.crossing_sweep.specs.Queue.{IsUpTo, IsQueued}
@@ -47,6 +48,10 @@ pub record IsInner (input : Input) (p : Point) : Type 0 where
 abbrev pub IsCrossingAmong : List (Segment × Segment) → Point → Type 0
 IsCrossingAmong tests p = Any (λ t. IsCrossingOf t.0 t.1 p) tests
 
+-- both segments of a pair are units
+abbrev pub IsUnitPair : List Marked → Segment × Segment → Type 0
+IsUnitPair marked t = IsUnit marked t.0 × IsUnit marked t.1
+
 -- both names of a row have places on its support, the first before the second
 pub record IsSpan (row : Row) : Type 0 where
   pub from_named : HasPlace row.from
@@ -72,6 +77,7 @@ pub record HasFound (input : Input) (cap : ℕ) (listed : Bool) (rows : List Row
   pub too_many : cap < length rows → IsTileAt cap input oversize
   pub are_counted : AreCounted input (length rows ≤ cap) nodes
   pub few : length tests ≤ 2 * nodes
+  pub pairs : All (IsUnitPair input.marked) tests
   pub unlisted : listed ≡ false → tests ≡ []
   pub crossings : listed ≡ true → length rows ≤ cap → (p : Point) → IsInner input p → IsCrossingAmong tests p
 
@@ -108,6 +114,7 @@ pub record IsUnderWay (input : Input) (listed : Bool) (status : List Member) (co
   pub carries : Carries n input q passed status rows
   pub counted : nodes ≡ length passed
   pub few : length tests ≤ 2 * nodes
+  pub pairs : All (IsUnitPair input.marked) tests
   pub unlisted : listed ≡ false → tests ≡ []
   pub keys : All (IsKey input listed tests) ahead
   pub causes : All (IsCaused input listed tests) passed

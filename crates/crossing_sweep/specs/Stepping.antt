@@ -1,5 +1,5 @@
 -- One step of a pass, from the members and the units to come before the next node to those after it.
-use Rattle.std.specs.Prelude.{◌≡◌, ℤ, ◌++◌, [], ◌∷◌, List, map, length, All, AllPairs, Contains}
+use Rattle.std.specs.Prelude.{◌≡◌, ℤ, ◌++◌, ◌∷◌, List, map, length, All, AllPairs, Contains}
 use Rattle.std.specs.declared.cmp.Ordering.TheVariants.{Less}
 use Rattle.overlay_terms.specs.Plane.{Point, Segment, point_cmp}
 use Rattle.overlay_terms.specs.Column.{is_in_column}
@@ -18,7 +18,7 @@ use Rattle.crossing_sweep.specs.Member.{segs_of}
 use Rattle.crossing_sweep.specs.Rows.{AreBegun, mask_over, rows_of}
 use Rattle.crossing_sweep.specs.declared.member.Begin.{Begin}
 use Rattle.crossing_sweep.specs.declared.row.Row.{Row}
-use Rattle.crossing_sweep.specs.Testing.{AreSeamsTested}
+use Rattle.crossing_sweep.specs.Testing.{AreSeamsTested, seams_at}
 use Rattle.crossing_sweep.specs.declared.member.Member.{Member}
 use Rattle.crossing_sweep.specs.declared.start.Start.{Start}
 use Rattle.crossing_sweep.specs.declared.search.Search.{Search}
@@ -40,7 +40,7 @@ pub record StandsBefore (n : ℤ) (input : Input) (units : List Unit) (q : Point
   pub ordered : AllPairs (λ s t. ¬ (point_cmp (place t.at) (place s.at) ≡ Less)) coming
 
 -- a step to a place: the pieces of the members that hold it are closed, and these give way to those that stay, whose pieces begin there; some
--- units to come enter, and the neighbours at the two new seams are tested. So it is one step of the pass
+-- units to come enter, and within the column the neighbours at the two new seams are tested. So it is one step of the pass
 pub record IsStepped (input : Input) (at : HPoint) (begin : Begin) (status after : List Member) (coming rest : List Start) (old new : Search) (rows more_rows : List Row) : Type 0 where
   pub under : List Member
   pub bundle : List Member
@@ -53,6 +53,6 @@ pub record IsStepped (input : Input) (at : HPoint) (begin : Begin) (status after
   pub among : (units : List Unit) → All (λ m. Contains units m.unit) bundle → All (λ s. Contains units s.unit) entering → All (λ m. Contains units m.unit) stay
   pub begun : AreBegun input.steps (mask_over 0 under) begin (is_in_column input.column (place at)) stay
   pub closed : more_rows ≡ rows ++ rows_of begin bundle
-  pub tested : AreSeamsTested input.column (place at) (segs_of after) (length under ∷ length (under ++ stay) ∷ []) old new
+  pub tested : AreSeamsTested input.column (place at) (segs_of after) (seams_at (is_in_column input.column (place at)) (length under) (length (under ++ stay))) old new
   pub step : (n : ℤ) (units : List Unit) (q : Point) → StandsBefore n input units q at status coming old.ahead
       → IsStepTo (segments_in input) input.column (place at) (segs_of under) (segs_of bundle) (segs_of over) (segs_to_come entering) (segs_of stay) (segs_to_come rest) (points_of old.ahead) (points_of new.ahead)

@@ -1,5 +1,5 @@
 -- What a test of neighbours finds: where two segments cross after a place, in a closed column.
-use Rattle.std.specs.Prelude.{◌≡◌, ℕ, pos, ◌+◌, ◌≤◌, ◌<◌, ◌++◌, [], ◌<ℤ◌, ◌⊎◌, Bool, true, false, IsTrue, List, length, get_or, Contains}
+use Rattle.std.specs.Prelude.{◌≡◌, ℕ, pos, ◌+◌, ◌≤◌, ◌<◌, ◌++◌, [], ◌∷◌, ◌<ℤ◌, ◌⊎◌, Bool, true, false, IsTrue, List, length, get_or, All, Contains}
 use Rattle.std.specs.declared.cmp.Ordering.TheVariants.{Less}
 use Rattle.overlay_terms.specs.Plane.{Point, Segment, point_cmp}
 use Rattle.exact_point.specs.Crossing.{IsCrossingOf}
@@ -36,8 +36,13 @@ pub record IsFoundIn (column : ℕ) (r : Point) (status : List Segment) (listed 
   pub found : IsFound column r lower upper e
   pub told : listed ≡ true → Contains tests (lower, upper)
 
+-- the seams at which a step tests, of which the members under the node and those that stay there make two: on the right border of the column none
+abbrev pub seams_at : Bool → ℕ → ℕ → List ℕ
+seams_at true low high = low ∷ high ∷ []
+seams_at false low high = []
+
 -- the neighbours at some seams of a status have been tested: at a seam the members under it end. What was known is known, where neighbours
--- at a seam cross after r in the closed column is known, and nothing else has come; at most one test a seam is listed, and none where no list is kept
+-- at a seam cross after r in the closed column is known, and nothing else has come; at most one test a seam is listed, of members, and none where no list is kept
 pub record AreSeamsTested (column : ℕ) (r : Point) (status : List Segment) (seams : List ℕ) (old new : Search) : Type 0 where
   pub listed : new.listed ≡ old.listed
   pub kept : (e : HPoint × PointName) → Contains old.ahead e → Contains new.ahead e
@@ -47,4 +52,5 @@ pub record AreSeamsTested (column : ℕ) (r : Point) (status : List Segment) (se
   pub more : List (Segment × Segment)
   pub tests : new.tests.items ≡ old.tests.items ++ more
   pub few : length more ≤ length seams
+  pub pairs : All (λ t. Contains status t.0 × Contains status t.1) more
   pub unlisted : old.listed ≡ false → more ≡ []

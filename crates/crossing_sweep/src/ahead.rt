@@ -13,7 +13,7 @@ use std::marker::Model;
 
 /// Places in their order, each once, under the name by which it was found first.
 #[derive(Drop)]
-pub struct Ahead {
+pub(crate) struct Ahead {
     places: BTreeMap<HPoint, PointName>,
 }
 
@@ -29,7 +29,7 @@ impl Model for Ahead {
 
 impl Ahead {
     /// No place.
-    pub fn new(alloc: Global) -> Ahead
+    pub(crate) fn new(alloc: Global) -> Ahead
         ensures { result ≡ [] }
     {
         Ahead {
@@ -38,7 +38,7 @@ impl Ahead {
     }
 
     /// Adds a place, unless it is there already.
-    pub fn add(&mut self, at: HPoint, name: PointName) -> Result<(), AllocError>
+    pub(crate) fn add(&mut self, at: HPoint, name: PointName) -> Result<(), AllocError>
         ensures { OnOk result (HasAdded self.old at name self.new) }
     {
         if !self.places.contains_key(&at) {
@@ -48,7 +48,7 @@ impl Ahead {
     }
 
     /// Takes out the first place, if there is one.
-    pub fn take_first(&mut self) -> Option<(HPoint, PointName)>
+    pub(crate) fn take_first(&mut self) -> Option<(HPoint, PointName)>
         ensures first { IfSome result (λ e. self.old ≡ e ∷ self.new) }
         ensures least { IfSome result (λ e. All (λ other. point_cmp (place e.0) (place other.0) ≡ Less) self.new) }
         ensures none { IsNone result → self.old ≡ [] }

@@ -12,7 +12,7 @@ use exact_point::point::HPoint;
 use exact_point::side::side;
 
 /// Where the members of a status that hold a place begin and end.
-pub fn bundle_at(status: &[Member], at: &HPoint) -> (usize, usize)
+pub(crate) fn bundle_at(status: &[Member], at: &HPoint) -> (usize, usize)
     ensures in_order { result.0 ≤ result.1 }
     ensures few { result.1 ≤ length status.now }
     ensures split { SidesFallAlong (place at.now) (segs_of status.now) →

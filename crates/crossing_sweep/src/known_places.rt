@@ -14,7 +14,7 @@ use std::alloc::{AllocError, Global};
 
 /// The ends of an input's segments, and where the borders of the column cut them, in the closed
 /// column.
-pub fn known_places(alloc: Global, input: &TileInput) -> Result<Ahead, AllocError>
+pub(crate) fn known_places(alloc: Global, input: &TileInput) -> Result<Ahead, AllocError>
     ensures { IfOk result (λ ahead. AreKnownPlaces input.now ahead) }
 {
     let mut ahead = Ahead::new(alloc);

@@ -10,7 +10,7 @@ use std::cmp::Ordering;
 
 /// Where a piece begins: the name of the place, and how many nodes were passed before it.
 #[derive(Clone, Copy, Debug)]
-pub struct Begin {
+pub(crate) struct Begin {
     pub name: PointName,
     pub number: u64,
 }
@@ -19,7 +19,7 @@ pub struct Begin {
 /// that holds just over it, and whether the piece that begins there is one of the boundary. The
 /// order is by direction, the vertical one last.
 #[derive(Clone, Copy, Debug)]
-pub struct Member {
+pub(crate) struct Member {
     pub unit: Unit,
     pub begin: Begin,
     pub over: u32,

@@ -21,7 +21,7 @@ fn ends_after(seg: &Seg, at: &HPoint) -> bool
 
 /// The members of a bundle that go on after a place, with the units that enter there and go on, in
 /// the order of their directions.
-pub fn turned(
+pub(crate) fn turned(
     alloc: Global,
     bundle: &[Member],
     entering: &[Start],
@@ -51,7 +51,7 @@ fn staying(alloc: Global, bundle: &[Member], at: &HPoint) -> Result<Vec<Member>,
 }
 
 /// How many of the units to come enter at a place: the first ones.
-pub fn count_entering(coming: &[Start], at: &HPoint) -> usize
+pub(crate) fn count_entering(coming: &[Start], at: &HPoint) -> usize
     ensures { result ≡ prefix_len (λ s. same_hpoint s.at at.now) coming.now }
 {
     coming.iter().take_while(|start| start.at == *at).count()

@@ -1,8 +1,6 @@
 //! One pass over a column from node to node: crossings are found from neighbours alone, and the
 //! boundary is carried along.
 ghost use Rattle.std.specs.Prelude.{◌≡◌, ◌<◌, ◌≤◌, ◌+◌, ◌++◌, ◌⊎◌, [], true, false, length, take, drop, IfOk, OnOk};
-ghost use Rattle.overlay_terms.specs.Column.{is_in_column};
-ghost use Rattle.exact_point.specs.Place.{place};
 ghost use Rattle.crossing_sweep.specs.Crossed.{IsCrossed, IsPassing};
 ghost use Rattle.crossing_sweep.specs.Stepping.{IsStepped};
 
@@ -16,8 +14,7 @@ use crate::start::Start;
 use crate::starts::starts;
 use arrange::tile_input::TileInput;
 use exact_point::point::HPoint;
-use exact_point::side::border_side;
-use plane_base::column::Column;
+use exact_point::side::is_in;
 use plane_base::point::Seg;
 use std::alloc::{AllocError, Global};
 
@@ -158,26 +155,14 @@ impl Pass {
             begin,
         )?;
         let under = mask_over(&self.status[..low]);
-        label(input, &mut stay, under, begin, is_in(input.column(), at));
+        let within = is_in(input.column(), at);
+        label(input, &mut stay, under, begin, within);
         let top = low + stay.len();
         replace(&mut self.status, low, high, stay)?;
         self.search
-            .test_both(input.column(), at, &self.status, low, top)?;
+            .test_new(within, input.column(), at, &self.status, low, top)?;
         self.entered += entered;
         Ok(())
-    }
-}
-
-/// Whether a place lies in a column.
-fn is_in(column: Column, at: &HPoint) -> bool
-    ensures { result ≡ is_in_column column (place at.now) }
-{
-    if border_side(column, at).is_lt() {
-        return false;
-    }
-    match Column::new(u64::from(column.number()) + 1) {
-        Some(next) => border_side(next, at).is_lt(),
-        None => true,
     }
 }
 

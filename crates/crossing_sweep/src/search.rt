@@ -5,7 +5,7 @@ ghost use Rattle.overlay_terms.specs.Plane.{point_cmp};
 ghost use Rattle.exact_point.specs.Place.{place};
 ghost use Rattle.arrange.specs.Arrangement.{is_in_closed_column};
 ghost use Rattle.crossing_sweep.specs.Member.{segs_of};
-ghost use Rattle.crossing_sweep.specs.Testing.{AreTested, AreSeamsTested};
+ghost use Rattle.crossing_sweep.specs.Testing.{AreTested, AreSeamsTested, seams_at};
 
 use crate::ahead::Ahead;
 use crate::member::Member;
@@ -20,7 +20,7 @@ use std::alloc::AllocError;
 /// The places that a pass has found ahead, and the pairs of neighbours that it has tested, if they
 /// are listed.
 #[derive(Drop)]
-pub struct Search {
+pub(crate) struct Search {
     pub ahead: Ahead,
     pub listed: bool,
     pub tests: Vec<(Seg, Seg)>,
@@ -42,7 +42,7 @@ impl Search {
 
     /// Tests the two neighbours at a seam of a status, so many members from the lowest one on, if
     /// there are two.
-    pub fn test_at(
+    pub(crate) fn test_at(
         &mut self,
         column: Column,
         at: &HPoint,
@@ -64,8 +64,28 @@ impl Search {
         Ok(())
     }
 
+    /// Tests the neighbours at the two seams of a node in the column. On its right border there are no
+    /// neighbours to test: all nodes there are known.
+    pub(crate) fn test_new(
+        &mut self,
+        within: bool,
+        column: Column,
+        at: &HPoint,
+        status: &[Member],
+        low: usize,
+        high: usize,
+    ) -> Result<(), AllocError>
+        requires in_order { low ≤ high }
+        ensures { OnOk result (AreSeamsTested column (place at.now) (segs_of status.now) (seams_at within low high) self.old self.new) }
+    {
+        if !within {
+            return Ok(());
+        }
+        self.test_both(column, at, status, low, high)
+    }
+
     /// Tests the neighbours at two seams, which may be one.
-    pub fn test_both(
+    fn test_both(
         &mut self,
         column: Column,
         at: &HPoint,
@@ -85,7 +105,7 @@ impl Search {
 }
 
 /// Tests two neighbours: where they cross after a place, in the closed column, that place is found.
-pub fn test_pair(
+pub(crate) fn test_pair(
     ahead: &mut Ahead,
     column: Column,
     at: &HPoint,

@@ -11,7 +11,7 @@ use std::cmp::Ordering;
 /// A unit and the first place of a closed column on it. The order is by that place, then by
 /// direction, the vertical one first.
 #[derive(Clone, Copy, Debug)]
-pub struct Start {
+pub(crate) struct Start {
     pub at: HPoint,
     pub unit: Unit,
     pub ghost ahead: { whole_cmp unit.seg.left unit.seg.right ≡ Less },

@@ -16,7 +16,7 @@ use plane_base::point::Seg;
 use std::alloc::{AllocError, Global};
 
 /// The units with a place of the closed column, in the order in which a pass meets them.
-pub fn starts(alloc: Global, input: &TileInput) -> Result<Vec<Start>, AllocError>
+pub(crate) fn starts(alloc: Global, input: &TileInput) -> Result<Vec<Start>, AllocError>
     ensures { IfOk result (λ list. AreStarts input.now list.items) }
 {
     let units = units(alloc, input)?;

@@ -141,13 +141,6 @@ pub write_seen : (file : List ℕ) (calls next : List Call) (at : ℕ) (bytes se
 write_seen file calls next at bytes seen done copy played is same more =
     is ∙ (λ i. over (played i) at (sym same i)) ∙ sym (seen_after file calls next (Write at copy) more)
 
--- a write that failed, and was not noted
-pub torn_nothing : (at n : ℕ) (file : List ℕ) → Torn at n file file
-torn_nothing at n file = record { no_shorter = omega arith; no_longer = omega arith; below = λ i h b. refl; above = λ i h a. refl }
-
-pub lost_crash : (file : List ℕ) (calls next : List Call) (at n : ℕ) → next ≡ calls → OneStepOn (Torn at n) (MayLeave (At file calls)) (MayLeave (At file next))
-lost_crash file calls next at n is c left = (c, same_crash file calls next is c left, torn_nothing at n c)
-
 -- a write that was noted and done, or neither
 pub write_noted : {E : Type 0} (result : Result (Unit {0}) E) (file : List ℕ) (calls next : List Call) (at : ℕ) (bytes seen done : List ℕ) (copy : Vec ℕ Global) → seen ≡ (At file calls).seen → copy.items ≡ bytes
     → OnOk result (done ≡ over seen at bytes) → OnOk result (next ≡ calls ++ Write at copy ∷ []) → OnErr result ((done ≡ seen) × (next ≡ calls)) → done ≡ (At file next).seen

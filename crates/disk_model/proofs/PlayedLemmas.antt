@@ -3,12 +3,12 @@ use Rattle.std.proofs.Common.{◌≡◌, ◌⊎◌, ⊎_elim, ℕ, ◌+◌, ◌-
 use Rattle.std.specs.Prelude.{IfOk}
 use Rattle.std.specs.declared.alloc.Global.{Global}
 use Rattle.std.proofs.lemmas.Bool.{cases_lt}
-use Rattle.std.proofs.lemmas.List.{get_or-replicate, length-replicate, take_all}
+use Rattle.std.proofs.lemmas.List.{get_or-replicate, length-replicate}
 use Rattle.disk_model.specs.declared.image.Choice.{Choice}
 use Rattle.disk_model.specs.declared.image.Choice.TheVariants.{Old, New, Fill}
 use Rattle.disk_model.specs.declared.image.Faces.{Faces}
 use Rattle.disk_model.specs.declared.mem_disk.Call.{Call}
-use Rattle.disk_model.specs.declared.mem_disk.Call.TheVariants.{Write, Sync}
+use Rattle.disk_model.specs.declared.mem_disk.Call.TheVariants.{Write}
 use Rattle.disk_model.specs.Bytes.{length-over, over_torn, over_within, over_gap}
 use Rattle.disk_model.specs.Image.{IsWithin, IsFilled, IsChosen}
 use Rattle.disk_model.specs.declared.mem_disk.MemDisk.{MemDisk}
@@ -24,18 +24,6 @@ unwritten byte s c none is = record {
   size = ap length is;
   written = λ i w. absurd (subst (λ (rs : List (ℕ × ℕ)). IsWithin rs i) none w);
   others = λ i h out. ap (λ (l : List ℕ). get_or l i 0) is;
-}
-
-pub plays_first : (byte : ℕ) (file : List ℕ) (faces : Faces) → faces.synced.items ≡ file → faces.seen.items ≡ file → faces.filled.items ≡ file → Plays (start file) byte faces
-plays_first byte file faces synced seen filled =
-    record { synced = synced; seen = seen; filled = unwritten byte (start file) faces.filled.items refl filled; within = λ i w. absurd w }
-
-pub plays_sync : (byte : ℕ) (s : State) (old new : Faces) → Plays s byte old → new.synced.items ≡ old.seen.items → new.seen.items ≡ old.seen.items → new.filled.items ≡ old.seen.items → Plays (after Sync s) byte new
-plays_sync byte s old new plays synced seen filled = record {
-  synced = synced ∙ plays.seen;
-  seen = seen ∙ plays.seen;
-  filled = unwritten byte (after Sync s) new.filled.items refl (filled ∙ plays.seen);
-  within = λ i w. absurd w;
 }
 
 -- a filled file with a filled range written over it
@@ -109,10 +97,6 @@ pub plays_more : (byte : ℕ) (file : List ℕ) (calls : List Call) (i : ℕ) (c
     → Plays (after call (replay (start file) (take i calls))) byte faces → Plays (replay (start file) (take (i + 1) calls)) byte faces
 plays_more byte file calls i call faces is plays =
     subst (λ (s : State). Plays s byte faces) (sym (ap (replay (start file)) is ∙ replay_push (start file) (take i calls) call)) plays
-
--- all of the record
-pub plays_all : (byte : ℕ) (file : List ℕ) (calls : List Call) (i : ℕ) (faces : Faces) → length calls ≤ i → Plays (replay (start file) (take i calls)) byte faces → Plays (replay (start file) calls) byte faces
-plays_all byte file calls i faces past plays = subst (λ (cs : List Call). Plays (replay (start file) cs) byte faces) (take_all i calls past) plays
 
 -- each image is one of what a crash may leave
 image_stays : (s : State) (choice : Choice) (c : List ℕ) → MayLeave s s.seen → IsChosen s choice c → MayLeave s c

@@ -1,13 +1,14 @@
 //! What a disk answers where it failed.
-ghost use Rattle.std.specs.Prelude.{◌≡◌, Some};
+ghost use Rattle.std.specs.Prelude.{◌≡◌};
+ghost use Rattle.fault_texts.specs.FaultText.{shown, IsBrief};
 ghost use Rattle.disk_model.specs.Fault.{code_of, text_of};
 
-use std::fmt;
+use fault_texts::{CommonFault, FaultText};
 use thiserror::Error;
 
 /// Why a call of a disk failed.
 #[derive(Clone, Copy, Debug, PartialEq, Eq, Error)]
-#[error("{}", Text(*self))]
+#[error("{}", self.text())]
 pub enum DiskFault {
     /// The device failed in this call.
     Device,
@@ -19,21 +20,17 @@ impl DiskFault {
         ensures { result ≡ code_of self.now }
     {
         match self {
-            DiskFault::Device => 30,
+            DiskFault::Device => CommonFault::Device.code(),
         }
     }
-}
 
-/// The text of a fault, as a reply says it behind the number.
-#[derive(Clone, Copy, Debug)]
-pub struct Text(pub DiskFault);
-
-impl fmt::Display for Text {
-    ghost output = { λ text. Some (text_of text.0) };
-
-    fn fmt<W: fmt::Write>(&self, f: &mut fmt::Formatter<W>) -> fmt::Result {
-        f.write_str(match self.0 {
-            DiskFault::Device => "device",
-        })
+    /// The text that is printed behind the number.
+    pub fn text(&self) -> FaultText
+        ensures text { shown result ≡ text_of self.now }
+        ensures brief { IsBrief result }
+    {
+        match self {
+            DiskFault::Device => CommonFault::Device.text(),
+        }
     }
 }

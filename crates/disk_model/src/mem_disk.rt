@@ -20,7 +20,7 @@ pub enum Call {
 }
 
 /// A file in memory with the calls that were made on it. A growth that it is refused is a failure of its device.
-#[derive(Drop)]
+#[derive(Debug, Drop)]
 pub struct MemDisk {
     alloc: Global,
     first: Vec<u8>,

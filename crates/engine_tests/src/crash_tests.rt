@@ -1,19 +1,10 @@
 //! Crashes at each device call of two commits, and of the recoveries after them.
-use crate::testing::{CREATED, SHIFTED, SQUARE, Words, created, drive, joined, recovered};
+use crate::testing::{CHOICES, CREATED, SHIFTED, SQUARE, Words, created, drive, joined, recovered};
 use disk_model::image::Choice;
 use disk_model::mem_disk::MemDisk;
 use overlay_engine::step::Reply;
 use std::alloc::Global;
 use std::test::Fail;
-
-/// What a crash makes of the bytes that are written and not synced.
-const CHOICES: [Choice; 5] = [
-    Choice::Old,
-    Choice::New,
-    Choice::Fill(0),
-    Choice::Fill(0x55),
-    Choice::Fill(0xA7),
-];
 
 /// How many calls the commits of A, and then of B beside it, make.
 const FIRST: usize = 8;

@@ -1,6 +1,8 @@
 //! Engines for the tests, and steps by their texts.
 use disk_model::disk::Disk;
+use disk_model::image::Choice;
 use disk_model::mem_disk::MemDisk;
+use layer_book::batch::Batch;
 use layer_book::command::Command;
 use layer_expr::name::Name;
 use layer_expr::reading::read_expr;
@@ -17,6 +19,15 @@ pub const SHIFTED: &str = "POLYGON ((5 5, 15 5, 15 15, 5 15, 5 5))";
 
 pub const SMALLER: &str = "POLYGON ((0 0, 9 0, 9 9, 0 9, 0 0))";
 
+/// What a crash makes of the bytes that are written and not synced.
+pub const CHOICES: [Choice; 5] = [
+    Choice::Old,
+    Choice::New,
+    Choice::Fill(0),
+    Choice::Fill(0x55),
+    Choice::Fill(0xA7),
+];
+
 /// How many device calls make a new store.
 pub const CREATED: usize = 5;
 
@@ -26,6 +37,8 @@ pub enum Words {
     Put(&'static str, &'static str),
     Define(&'static str, &'static str),
     Drop(&'static str),
+    /// A batch of two commands: a layer and its text, and another. One without a text is dropped.
+    Both(&'static str, &'static str, &'static str, &'static str),
     Take(&'static str, u8),
     Finish(u32),
     Device,
@@ -44,6 +57,20 @@ fn define(alloc: Global, name: Name, text: &str) -> Result<Command, Fail> {
     Ok(Command::Define(name, Arc::new(alloc, expression)?))
 }
 
+/// The batch that puts layers with a text, and drops those without one.
+fn batch_of(alloc: Global, list: &[(&str, &str)]) -> Result<Batch, Fail> {
+    let mut commands = Vec::new(alloc);
+    for &(name, text) in list {
+        let name = name_of(alloc, name)?;
+        if text.is_empty() {
+            commands.push(Command::Remove(name))?;
+        } else {
+            commands.push(put(alloc, name, text)?)?;
+        }
+    }
+    Ok(Batch::new(commands)?)
+}
+
 fn name_of(alloc: Global, name: &str) -> Result<Name, Fail> {
     Ok(Name::new(alloc, name.as_bytes())?)
 }
@@ -53,6 +80,10 @@ fn step_of(alloc: Global, words: Words) -> Result<Step, Fail> {
         Words::Put(name, text) => Ok(Step::Submit(put(alloc, name_of(alloc, name)?, text)?)),
         Words::Define(name, text) => Ok(Step::Submit(define(alloc, name_of(alloc, name)?, text)?)),
         Words::Drop(name) => Ok(Step::Submit(Command::Remove(name_of(alloc, name)?))),
+        Words::Both(first, text, second, other) => Ok(Step::SubmitAll(batch_of(
+            alloc,
+            &[(first, text), (second, other)],
+        )?)),
         Words::Take(name, column) => Ok(Step::Take(name_of(alloc, name)?, column)),
         Words::Finish(number) => Ok(Step::Finish(number)),
         Words::Device => Ok(Step::Device),

@@ -1,13 +1,14 @@
 //! What the constructors of points refuse.
-ghost use Rattle.std.specs.Prelude.{◌≡◌, Some};
+ghost use Rattle.std.specs.Prelude.{◌≡◌};
+ghost use Rattle.fault_texts.specs.FaultText.{shown, IsBrief};
 ghost use Rattle.exact_point.specs.Fault.{code_of, text_of};
 
-use std::fmt;
+use fault_texts::FaultText;
 use thiserror::Error;
 
 /// Why a point is refused.
 #[derive(Clone, Copy, Debug, PartialEq, Eq, Error)]
-#[error("{}", Text(*self))]
+#[error("{}", self.text())]
 pub enum PointFault {
     PointRange,
 }
@@ -21,18 +22,14 @@ impl PointFault {
             PointFault::PointRange => 20,
         }
     }
-}
 
-/// The text of a fault, as a reply says it behind the number.
-#[derive(Clone, Copy, Debug)]
-pub struct Text(pub PointFault);
-
-impl fmt::Display for Text {
-    ghost output = { λ text. Some (text_of text.0) };
-
-    fn fmt<W: fmt::Write>(&self, f: &mut fmt::Formatter<W>) -> fmt::Result {
-        match self.0 {
-            PointFault::PointRange => write!(f, "point out of range"),
+    /// The text that is printed behind the number.
+    pub fn text(&self) -> FaultText
+        ensures text { shown result ≡ text_of self.now }
+        ensures brief { IsBrief result }
+    {
+        match self {
+            PointFault::PointRange => FaultText::Plain("point out of range"),
         }
     }
 }

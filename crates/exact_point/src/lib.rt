@@ -19,4 +19,4 @@ pub use point::HPoint;
 pub use point_name::PointName;
 pub use query::QueryPoint;
 pub use reducing::reduced;
-pub use side::{below, border_side, on, x_cmp};
+pub use side::{below, border_side, end_side, is_in, on, x_cmp};

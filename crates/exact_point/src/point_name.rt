@@ -30,7 +30,7 @@ impl PointName {
         match self {
             PointName::Vertex(vertex) => Some(HPoint::of(*vertex)),
             PointName::Cross(a, b) => cross_of(a, b),
-            PointName::Border(seg, column) => cut_of(seg, *column),
+            PointName::Border(seg, number) => border_cut(seg, *number),
         }
     }
 
@@ -44,14 +44,27 @@ impl PointName {
     }
 }
 
+/// Where the border of the column with this number cuts a segment, if there is such a column.
+fn border_cut(seg: &Seg, number: u8) -> Option<HPoint>
+    ensures known { IsSome result ↔ IsCutBy seg.now number }
+    ensures place { IfSome result (λ z. IsCutOf seg.now number (place z)) }
+    ensures only { IfSome result (λ z. (p : Point) → pos 0 <ℤ p.w → IsCutOf seg.now number p → IsTrue (same_place (place z) p)) }
+    ensures value { IfSome result (λ z. place z ≡ cut_place seg.now number) }
+{
+    match Column::new(u64::from(number)) {
+        Some(column) => cut_of(seg, column),
+        None => None,
+    }
+}
+
 /// Where the border of a column cuts a segment, unless it lies at an end or outside.
-fn cut_of(seg: &Seg, column: u8) -> Option<HPoint>
+fn cut_of(seg: &Seg, column: Column) -> Option<HPoint>
     ensures known { IsSome result ↔ IsCutBy seg.now column }
     ensures place { IfSome result (λ z. IsCutOf seg.now column (place z)) }
     ensures only { IfSome result (λ z. (p : Point) → pos 0 <ℤ p.w → IsCutOf seg.now column p → IsTrue (same_place (place z) p)) }
     ensures value { IfSome result (λ z. place z ≡ cut_place seg.now column) }
 {
-    let border = Column::new(u64::from(column))?.border();
+    let border = column.border();
     let (left, right) = (seg.left().x(), seg.right().x());
     if border <= left {
         return None;

@@ -1,9 +1,9 @@
 //! Points against segments.
-ghost use Rattle.std.specs.Prelude.{◌≡◌, ◌^◌, ◌-ℤ◌, ◌*ℤ◌};
+ghost use Rattle.std.specs.Prelude.{◌≡◌, ◌+◌, ◌^◌, ◌-ℤ◌, ◌*ℤ◌};
 ghost use Rattle.overlay_terms.specs.Within.{IsWithin};
 ghost use Rattle.std.specs.Ordering.{int_cmp};
 ghost use Rattle.exact_point.specs.Place.{place};
-ghost use Rattle.overlay_terms.specs.Column.{border};
+ghost use Rattle.overlay_terms.specs.Column.{border, is_in_column};
 ghost use Rattle.overlay_terms.specs.Plane.{whole, point_cmp, height_over, side_of, is_below, is_on};
 
 use crate::arithmetic::{cross, minus, offset, product, scaled};
@@ -92,4 +92,25 @@ pub fn border_side(column: Column, p: &HPoint) -> Ordering
     ensures { result ≡ int_cmp (place p.now).x (border column *ℤ (place p.now).w) }
 {
     p.x.cmp(&scaled(column.border(), p.w))
+}
+
+/// A point against the right border of a column: less left of it. The last column has no other column
+/// right of it, and all points lie left of its right border.
+pub fn end_side(column: Column, p: &HPoint) -> Ordering
+    ensures { result ≡ int_cmp (place p.now).x (border (column + 1) *ℤ (place p.now).w) }
+{
+    match Column::new(u64::from(column.number()) + 1) {
+        Some(next) => border_side(next, p),
+        None => Ordering::Less,
+    }
+}
+
+/// Whether a point lies in a column: at its left border or right of it, and left of its right border.
+pub fn is_in(column: Column, p: &HPoint) -> bool
+    ensures { result ≡ is_in_column column (place p.now) }
+{
+    if border_side(column, p).is_lt() {
+        return false;
+    }
+    end_side(column, p).is_lt()
 }

@@ -10,7 +10,7 @@ use crate::first_fit::{blocks_of, first_fit};
 use std::alloc::{AllocError, Global};
 
 /// Extents that are taken, in ascending order, and the number of blocks that the file may have.
-#[derive(Drop)]
+#[derive(Debug, Drop)]
 pub struct Extents {
     taken: Vec<Extent>,
     limit: u64,

@@ -1,15 +1,16 @@
 //! Why blocks are refused.
-ghost use Rattle.std.specs.Prelude.{◌≡◌, Some};
+ghost use Rattle.std.specs.Prelude.{◌≡◌};
+ghost use Rattle.fault_texts.specs.FaultText.{shown, IsBrief};
 ghost use Rattle.extent_map.specs.Fault.{code_of, text_of};
 ghost use Rattle.extent_map.specs.declared.fault.ExtentFault.TheVariants.{OutOfMemory};
 
+use fault_texts::{CommonFault, FaultText};
 use std::alloc::{AllocError, AllocFailed};
-use std::fmt;
 use thiserror::Error;
 
 /// Why extents are refused, or no place is found.
 #[derive(Clone, Copy, Debug, PartialEq, Eq, Error)]
-#[error("{}", Text(*self))]
+#[error("{}", self.text())]
 pub enum ExtentFault {
     /// Some length finds no free run.
     Full,
@@ -24,9 +25,21 @@ impl ExtentFault {
         ensures { result ≡ code_of self.now }
     {
         match self {
-            ExtentFault::Full => 31,
+            ExtentFault::Full => CommonFault::Full.code(),
             ExtentFault::Overlap => 33,
-            ExtentFault::OutOfMemory => 40,
+            ExtentFault::OutOfMemory => CommonFault::OutOfMemory.code(),
+        }
+    }
+
+    /// The text that is printed behind the number.
+    pub fn text(&self) -> FaultText
+        ensures text { shown result ≡ text_of self.now }
+        ensures brief { IsBrief result }
+    {
+        match self {
+            ExtentFault::Full => CommonFault::Full.text(),
+            ExtentFault::Overlap => FaultText::Plain("damaged 9"),
+            ExtentFault::OutOfMemory => CommonFault::OutOfMemory.text(),
         }
     }
 }
@@ -44,21 +57,5 @@ impl<T: Drop> From<AllocFailed<T>> for ExtentFault {
 
     fn from(_e: AllocFailed<T>) -> ExtentFault {
         ExtentFault::OutOfMemory
-    }
-}
-
-/// The text of a fault, as a reply says it behind the number.
-#[derive(Clone, Copy, Debug)]
-pub struct Text(pub ExtentFault);
-
-impl fmt::Display for Text {
-    ghost output = { λ text. Some (text_of text.0) };
-
-    fn fmt<W: fmt::Write>(&self, f: &mut fmt::Formatter<W>) -> fmt::Result {
-        f.write_str(match self.0 {
-            ExtentFault::Full => "full",
-            ExtentFault::Overlap => "damaged 9",
-            ExtentFault::OutOfMemory => "out of memory",
-        })
     }
 }

@@ -5,6 +5,9 @@ ghost use Rattle.extent_map.specs.FirstFit.{IsFirstFit, NoFit, blocks_for};
 
 use crate::extent::Extent;
 
+/// How many bytes a block has.
+pub const BLOCK: usize = 4096;
+
 /// The first block that a record may take: the two before it are root slots.
 pub const FIRST_BLOCK: u64 = 2;
 
@@ -12,7 +15,8 @@ pub const FIRST_BLOCK: u64 = 2;
 pub fn blocks_of(length: u32) -> u64
     ensures { result ≡ blocks_for length }
 {
-    let blocks = (u64::from(length) + 4095) / 4096;
+    let block = BLOCK as u64;
+    let blocks = (u64::from(length) + (block - 1)) / block;
     if blocks == 0 { 1 } else { blocks }
 }
 

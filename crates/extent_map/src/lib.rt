@@ -6,3 +6,5 @@ pub mod extents;
 pub mod fault;
 mod first_fit;
 pub mod laws;
+
+pub use first_fit::{BLOCK, blocks_of};

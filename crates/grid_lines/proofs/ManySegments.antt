@@ -97,14 +97,6 @@ edges_more rise segs i s before now after h e len was new j near =
     new j (omega (arith, len, near)) ∙ ap (λ b. b || is_on s p) (was j near) ∙ or_assoc (is_marked before j) (is_on_any (take i segs) p) (is_on s p)
     ∙ ap (λ b. is_marked before j || b) (sym (on_more segs i s p h e))
 
--- ---- one mask after another
-turned_zero : (turns : List ℕ) (k : ℕ) → turned turns 0 k ≡ false
-turned_zero [] k = refl
-turned_zero (t ∷ turns) k = refl
-
-pub bits_none : (turns : List ℕ) (k : ℕ) → mask_bits 0 k ≡ turned turns 0 k
-bits_none turns k = ap (λ n. n == 1) (bit_at-zero k) ∙ sym (turned_zero turns k)
-
 -- the next mask changes the bits that it has
 pub bits_more : (turns : List ℕ) (j mask k : ℕ) → j < length turns → mask_bits mask k ≡ turned turns j k → mask_bits (bit_xor mask (slice_index turns j)) k ≡ turned turns (j + 1) k
 bits_more turns j mask k h e =

@@ -27,11 +27,6 @@ not_back_y : (x y : ℤ) → x ≡ pos 0 → NotBack x y → pos 0 ≤ℤ y
 not_back_y x y e (inl l) = absurd (omega (arith, ints))
 not_back_y x y e (inr (f, l)) = l
 
--- a segment right of a point does not hold it, nor one left of it
-pub off_right : (s : Segment) (x y : ℤ) → x <ℤ s.left.x → is_on s (at x y) ≡ false
-off_right s x y h =
-    false_from_ne_true (is_on s (at x y)) (λ t. let back : pos 0 ≤ℤ (x -ℤ s.left.x *ℤ pos 1) = not_back_x _ _ (reached s (at x y) t).from_left in absurd (omega (arith, ints)))
-
 pub off_left : (s : Segment) (x y : ℤ) → s.right.x <ℤ x → is_on s (at x y) ≡ false
 off_left s x y h =
     false_from_ne_true (is_on s (at x y)) (λ t. let back : pos 0 ≤ℤ (s.right.x *ℤ pos 1 -ℤ x) = not_back_x _ _ (reached s (at x y) t).to_right in absurd (omega (arith, ints)))

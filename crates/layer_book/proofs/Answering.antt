@@ -9,7 +9,7 @@ use Rattle.overlay_terms.specs.Plane.{Point}
 use Rattle.overlay_terms.specs.Trees.{Tree, truth, leaves}
 use Rattle.overlay_terms.specs.Layers.{Name, base, Layer, named}
 use Rattle.overlay_terms.specs.Commands.{index_of}
-use Rattle.layer_book.specs.Question.{Question, IsInside, IsEdge, content_answer, answers, labelled, if_wanted, wanted_layers, content_at}
+use Rattle.layer_book.specs.Question.{Question, content_answer, answers, labelled, if_wanted, wanted_layers, content_at}
 
 -- what stands beside a name is what stands at its index
 named_by_index : (layers : List Layer) (known : List Bool) (used : Name) → length known ≤ length layers → named false (labelled layers known) used ≡ unwrap_or (slice_get known (index_of layers used)) false
@@ -30,11 +30,6 @@ module _ (layers : List Layer) (known : List Bool) (h : length known ≤ length 
 
   pub edge_by_index : (t u : Tree Name) → t ≡ u → list_any (λ used. unwrap_or (slice_get known (index_of layers used)) false) (leaves t) ≡ list_any (named false (labelled layers known)) (leaves u)
   edge_by_index t u e = ap (λ at. list_any at (leaves t)) by_index ∙ ap (λ v. list_any (named false (labelled layers known)) (leaves v)) e
-
--- nothing is inside or on an edge of no rings
-pub nothing_there : (question : Question) (p : Point) (known : List (Name × Bool)) → content_answer question p known (base []) ≡ false
-nothing_there IsInside p known = refl
-nothing_there IsEdge p known = refl
 
 pub layer_there : (layers : List Layer) (i : ℕ) → i < length layers → (layer : Layer) × (slice_get layers i ≡ Some layer)
 layer_there [] i h = absurd (omega arith)

@@ -60,10 +60,6 @@ marked_all layers ws (u ∷ us) i h a =
     and_from _ _ (marked_keeps layers (slice_set ws (index_of layers u) true) us (index_of layers u) (set_marks ws (index_of layers u) near))
     (marked_all layers (slice_set ws (index_of layers u) true) us i (omega arith) both.1)
 
-pub marked_length : (layers : List Layer) (ws : List Bool) (us : List Name) → length (marked layers ws us) ≡ length ws
-marked_length layers ws [] = refl
-marked_length layers ws (u ∷ us) = marked_length layers (slice_set ws (index_of layers u) true) us ∙ set_length ws (index_of layers u)
-
 by_indices : (a b : Bool) (u j : ℕ) → ((a || b) || nat_lt u j) ≡ true → (a || nat_lt (cond b 0 (u + 1)) (suc j)) ≡ true
 by_indices true b u j h = refl
 by_indices false true u j h = grind (arith, nat_tests)
@@ -130,12 +126,6 @@ kept_marks layers ws k i h = split (at_index ws k) where
   split : (b : Bool) → at_index (cond b (marked layers ws (used_names (content_at layers k))) ws) i ≡ true
   split true = marked_keeps layers ws (used_names (content_at layers k)) i h
   split false = h
-
-pub same_room : (layers : List Layer) (ws : List Bool) (k : ℕ) → length (cond (at_index ws k) (marked layers ws (used_names (content_at layers k))) ws) ≡ length ws
-same_room layers ws k = split (at_index ws k) where
-  split : (b : Bool) → length (cond b (marked layers ws (used_names (content_at layers k))) ws) ≡ length ws
-  split true = marked_length layers ws (used_names (content_at layers k))
-  split false = refl
 
 pub first_mark : (ws made : List Bool) (i k : ℕ) → made ≡ slice_set ws i true → i ≡ k → k < length made → at_index made k ≡ true
 first_mark ws made i k e same h =

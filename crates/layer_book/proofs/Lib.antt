@@ -18,3 +18,5 @@ pub mod SameMarks
 pub mod TouchedLemmas
 pub mod Sketches
 pub mod BatchRefusals
+pub mod HavingLemmas
+pub mod ReplacedLemmas

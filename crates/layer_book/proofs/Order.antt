@@ -1,7 +1,7 @@
 -- What order says of layers: each has a name of its own; and what keeps them in order.
 use Rattle.std.proofs.Common.{◌≡◌, Bool, true, false, not, cond, ◌||◌, ◌&&◌, List, [], ◌∷◌, ◌++◌, map, refl, ap, sym, ◌∙◌, subst, bytes_eq}
 use Rattle.std.specs.List.{list_all}
-use Rattle.std.proofs.lemmas.Bool.{both_ways, not-true, and_parts, and_from, or_parts, or_from, or_left, or_right, not_from_false, false_from_ne_true}
+use Rattle.std.proofs.lemmas.Bool.{both_ways, not-true, and_parts, or_parts, or_from, or_left, or_right, false_from_ne_true}
 use Rattle.std.proofs.lemmas.List.Folds.{list_any-append}
 use Rattle.overlay_terms.specs.Layers.{Name, Content, Layer}
 use Rattle.overlay_terms.specs.Commands.{stands}
@@ -20,9 +20,6 @@ head_of known layer layers h =
     let both = and_parts (not (is_among known layer.name) && list_all (is_among known) (used_names layer.content)) (is_orderly_after (known ++ layer.name ∷ []) layers) h in
     let first = and_parts (not (is_among known layer.name)) (list_all (is_among known) (used_names layer.content)) both.0 in
     record { own = not-true _ first.0; earlier = first.1; behind = both.1 }
-
-pub head_from : (known : List Name) (layer : Layer) (layers : List Layer) → IsHead known layer layers → is_orderly_after known (layer ∷ layers) ≡ true
-head_from known layer layers h = and_from _ _ (and_from _ _ (not_from_false _ h.own) h.earlier) h.behind
 
 pub or_false : (b : Bool) → (b || false) ≡ b
 or_false true = refl

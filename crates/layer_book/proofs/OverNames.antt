@@ -66,3 +66,8 @@ over_derived layers own under h =
 pub over_none : (layers : List Layer) (own under : Name) → stands_as_derived layers own ≡ false → false ≡ list_any (bytes_eq own) (derived_over layers under)
 over_none layers own under none =
     ap (λ c. c && reaches_name layers own under) (sym none) ∙ sym (named_among (λ n. reaches_name layers n under) own layers)
+
+-- a layer that is over a name reaches it
+pub over_reaches : (layers : List Layer) (own under : Name) → list_any (bytes_eq own) (derived_over layers under) ≡ true → reaches_name layers own under ≡ true
+over_reaches layers own under h =
+    (and_parts (stands_as_derived layers own) (reaches_name layers own under) (sym (named_among (λ n. reaches_name layers n under) own layers) ∙ h)).1

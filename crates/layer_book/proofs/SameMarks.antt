@@ -33,7 +33,7 @@ kept_marks column n (s ∷ segs) = split (touches column s) (kept_marks column n
   split false e = e
 
 -- those of the first base layer, then those of the others
-first_and_rest : (column n : ℕ) (b : List (List WholePoint)) (bs : List (List (List WholePoint)))
+pub first_and_rest : (column n : ℕ) (b : List (List WholePoint)) (bs : List (List (List WholePoint)))
     → marked_from column n (b ∷ bs) ≡ map (mark n) (filter (touches column) (segments_of b)) ++ marked_from column (n + 1) bs
 first_and_rest column n b bs =
     filter-append (λ (m : Marked). touches column m.segment) (map (mark n) (segments_of b))
@@ -97,6 +97,16 @@ pub drop_there : {A : Type 0} (xs : List A) (i : ℕ) (x : A) → i < length xs 
 drop_there xs i x h e =
     drop-cons xs i x h ∙ ap (λ y. y ∷ drop (suc i) xs) (sym e) ∙ ap (λ k. x ∷ drop k xs) (sym (add-one i))
 
+-- the segments of the first base layers are compared apart
+pub first_compared : (column n : ℕ) (new old : List (List WholePoint)) (news olds : List (List (List WholePoint))) →
+    pointwise same_marked (marked_from column n (new ∷ news)) (marked_from column n (old ∷ olds))
+    ≡ (pointwise same_segment (filter (touches column) (segments_of new)) (filter (touches column) (segments_of old)) && pointwise same_marked
+    (marked_from column (n + 1) news) (marked_from column (n + 1) olds))
+first_compared column n new old news olds =
+    (λ i. pointwise same_marked (first_and_rest column n new news i) (first_and_rest column n old olds i))
+    ∙ split_marks n (filter (touches column) (segments_of new)) (filter (touches column) (segments_of old))
+    (marked_from column (n + 1) news) (marked_from column (n + 1) olds) (from_all column news (n + 1)) (from_all column olds (n + 1))
+
 -- one base layer more is compared
 pub compared_more : (column n : ℕ) (news olds : List (List (List WholePoint))) (new old : List (List WholePoint)) → drop n news ≡ new ∷ drop (n + 1) news → drop n olds ≡ old ∷ drop (n + 1) olds →
     pointwise same_marked (marked_from column n (drop n news)) (marked_from column n (drop n olds))
@@ -104,10 +114,7 @@ pub compared_more : (column n : ℕ) (news olds : List (List (List WholePoint)))
     (marked_from column (n + 1) (drop (n + 1) news)) (marked_from column (n + 1) (drop (n + 1) olds)))
 compared_more column n news olds new old e f =
     (λ i. pointwise same_marked (marked_from column n (e i)) (marked_from column n (f i)))
-    ∙ (λ i. pointwise same_marked (first_and_rest column n new (drop (n + 1) news) i) (first_and_rest column n old (drop (n + 1) olds) i))
-    ∙ split_marks n (filter (touches column) (segments_of new)) (filter (touches column) (segments_of old))
-    (marked_from column (n + 1) (drop (n + 1) news)) (marked_from column (n + 1) (drop (n + 1) olds))
-    (from_all column (drop (n + 1) news) (n + 1)) (from_all column (drop (n + 1) olds) (n + 1))
+    ∙ first_compared column n new old (drop (n + 1) news) (drop (n + 1) olds)
 
 -- a segment that is next, by whether it has a point in the column
 pub next_kept : (column : ℕ) (segs : List Segment) (i : ℕ) (s : Segment) → i < length segs → s ≡ get_or segs i s → touches column s ≡ true

@@ -41,7 +41,7 @@ all_one p b h zero a = refl
 all_one p b h (suc n) a = λ i. h a i ∷ all_one p b h n (a + 1) i
 
 -- the same truths
-same_all : (p q : ℕ → Bool) → ((k : ℕ) → p k ≡ q k) → (ks : List ℕ) → map p ks ≡ map q ks
+pub same_all : (p q : ℕ → Bool) → ((k : ℕ) → p k ≡ q k) → (ks : List ℕ) → map p ks ≡ map q ks
 same_all p q h [] = refl
 same_all p q h (k ∷ ks) = λ i. h k i ∷ same_all p q h ks i
 
@@ -66,7 +66,7 @@ all_touched layers command name before after =
     (stands_as_derived (applied layers command) name && same_input (input_of (applied layers command) name k) (input_of layers name k)) before
     (ap (λ b. b && same_input (input_of (applied layers command) name k) (input_of layers name k)) after)) column_count 0)
 
-both_derived : (d e s : Bool) → d ≡ true → e ≡ true → not s ≡ (d && not (e && s))
+pub both_derived : (d e s : Bool) → d ≡ true → e ≡ true → not s ≡ (d && not (e && s))
 both_derived true true s p q = refl
 both_derived true false s p q = absurd (both_ways false refl q)
 both_derived false e s p q = absurd (both_ways false refl p)

@@ -74,7 +74,7 @@ module _ (is_in : Name → Bool) where
       same true e a = answer_where question p known other layer.content h a
       same false e a = cc
 
-stands_at : (layers : List Layer) (i : ℕ) (layer : Layer) → slice_get layers i ≡ Some layer → stands layers layer.name ≡ true
+pub stands_at : (layers : List Layer) (i : ℕ) (layer : Layer) → slice_get layers i ≡ Some layer → stands layers layer.name ≡ true
 stands_at [] i layer e = cc
 stands_at (l ∷ layers) zero layer e =
     let same : l ≡ layer = cc in

@@ -6,5 +6,6 @@ pub mod Sketch
 pub mod Place
 pub mod Listing
 pub mod Question
+pub mod Having
 pub mod TileRefusal
 pub mod Touching

@@ -1,17 +1,23 @@
 -- The tiles that a command touches, as a table: a row for each layer, with a mark for each column.
-use Rattle.std.specs.Prelude.{ℕ, Bool, List, map}
+use Rattle.std.specs.Prelude.{◌≡◌, ℕ, Bool, true, List, map, bytes_eq}
+use Rattle.std.specs.List.{list_any}
 use Rattle.overlay_terms.specs.Plane.{WholePoint}
 use Rattle.overlay_terms.specs.Column.{columns}
 use Rattle.overlay_terms.specs.Layers.{Name, Layer, Marked, marked_segments}
 use Rattle.overlay_terms.specs.Commands.{Command}
-use Rattle.overlay_terms.specs.Touched.{is_touched}
+use Rattle.overlay_terms.specs.Touched.{is_touched, derived_over, name_of}
 use Rattle.arrange.specs.Marked.{kept_in}
 
 -- in which columns a command touches the tile of a layer
 abbrev pub touched_columns : List Layer → Command → Name → List Bool
 touched_columns layers command name = map (is_touched layers command name) columns
 
--- the same of each layer
+-- marks are those of each derived layer that reaches the name of a command
+abbrev pub AreOfAllOver : List Layer → Command → List Bool → Type 0
+AreOfAllOver layers command row =
+    (name : Name) → list_any (bytes_eq name) (derived_over layers (name_of command)) ≡ true → row ≡ touched_columns layers command name
+
+-- in which columns a command touches the tiles of each layer
 abbrev pub touched_rows : List Layer → Command → List (List Bool)
 touched_rows layers command = map (λ (layer : Layer). touched_columns layers command layer.name) layers
 

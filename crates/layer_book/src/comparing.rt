@@ -24,6 +24,19 @@ pub(crate) fn changed_columns(new: &[&BaseLayer], old: &[&BaseLayer]) -> [bool; 
     changed
 }
 
+/// In which columns two lists have other segments.
+pub(crate) fn differing_columns(new: &[Seg], old: &[Seg]) -> [bool; COLUMNS]
+    ensures { result ≡ map (λ k. not (pointwise same_segment (filter (touches k) new.now) (filter (touches k) old.now))) columns }
+{
+    let mut differing = [false; COLUMNS];
+    for number in 0..COLUMN_COUNT {
+        if let Some(column) = Column::new(u64::from(number)) {
+            differing[usize::from(number)] = !is_same_in(column, new, old);
+        }
+    }
+    differing
+}
+
 /// Whether as many base layers have the same segments in a column, in the same order.
 fn are_same_in(column: Column, new: &[&BaseLayer], old: &[&BaseLayer]) -> bool
     requires { length new.now ≡ length old.now }

@@ -1,15 +1,16 @@
 //! Why a command is refused.
-ghost use Rattle.std.specs.Prelude.{◌≡◌, Some};
+ghost use Rattle.std.specs.Prelude.{◌≡◌};
+ghost use Rattle.fault_texts.specs.FaultText.{shown, IsBrief};
 ghost use Rattle.layer_book.specs.Fault.{code_of, text_of};
 ghost use Rattle.layer_book.specs.declared.fault.LayerFault.TheVariants.{OutOfMemory};
 
+use fault_texts::{CommonFault, FaultText};
 use std::alloc::AllocError;
-use std::fmt;
 use thiserror::Error;
 
 /// Why a command on the layers, or a question about them, is refused.
 #[derive(Clone, Copy, Debug, PartialEq, Eq, Error)]
-#[error("{}", Text(*self))]
+#[error("{}", self.text())]
 pub enum LayerFault {
     UnknownLayer,
     NotBase,
@@ -40,7 +41,26 @@ impl LayerFault {
             LayerFault::VersionLimit => 16,
             LayerFault::BatchSize => 17,
             LayerFault::BadColumn => 23,
-            LayerFault::OutOfMemory => 40,
+            LayerFault::OutOfMemory => CommonFault::OutOfMemory.code(),
+        }
+    }
+
+    /// The text that is printed behind the number.
+    pub fn text(&self) -> FaultText
+        ensures text { shown result ≡ text_of self.now }
+        ensures brief { IsBrief result }
+    {
+        match self {
+            LayerFault::UnknownLayer => FaultText::Plain("unknown layer"),
+            LayerFault::NotBase => FaultText::Plain("not a base layer"),
+            LayerFault::NotDerived => FaultText::Plain("not a derived layer"),
+            LayerFault::LaterLayer => FaultText::Plain("later layer"),
+            LayerFault::InUse => FaultText::Plain("in use"),
+            LayerFault::TooManyLayers => FaultText::Plain("too many layers"),
+            LayerFault::VersionLimit => FaultText::Plain("version limit"),
+            LayerFault::BatchSize => FaultText::Plain("batch size"),
+            LayerFault::BadColumn => FaultText::Plain("bad column"),
+            LayerFault::OutOfMemory => CommonFault::OutOfMemory.text(),
         }
     }
 }
@@ -50,28 +70,5 @@ impl From<AllocError> for LayerFault {
 
     fn from(_e: AllocError) -> LayerFault {
         LayerFault::OutOfMemory
-    }
-}
-
-/// The text of a fault, as a reply says it behind the number.
-#[derive(Clone, Copy, Debug)]
-pub struct Text(pub LayerFault);
-
-impl fmt::Display for Text {
-    ghost output = { λ text. Some (text_of text.0) };
-
-    fn fmt<W: fmt::Write>(&self, f: &mut fmt::Formatter<W>) -> fmt::Result {
-        match self.0 {
-            LayerFault::UnknownLayer => write!(f, "unknown layer"),
-            LayerFault::NotBase => write!(f, "not a base layer"),
-            LayerFault::NotDerived => write!(f, "not a derived layer"),
-            LayerFault::LaterLayer => write!(f, "later layer"),
-            LayerFault::InUse => write!(f, "in use"),
-            LayerFault::TooManyLayers => write!(f, "too many layers"),
-            LayerFault::VersionLimit => write!(f, "version limit"),
-            LayerFault::BatchSize => write!(f, "batch size"),
-            LayerFault::BadColumn => write!(f, "bad column"),
-            LayerFault::OutOfMemory => write!(f, "out of memory"),
-        }
     }
 }

@@ -81,8 +81,8 @@ impl Layers {
         ensures { IfOk result (λ steps. steps ≡ steps_in_reach self.now name.now) }
     {
         let wanted = self.reach(name);
-        let layers = self.wanted_layers(alloc, &wanted)?;
-        let steps = StepList::of(alloc, &layers)?;
+        let (layers, count) = self.wanted_layers(name, &wanted);
+        let steps = StepList::of(alloc, &layers[..count])?;
         Ok(steps)
     }
 }

@@ -1,8 +1,7 @@
 //! Layers in order of creation.
 ghost use Rattle.std.specs.Prelude.{◌≡◌, ◌<◌, ◌↔◌, [], length, slice_get, is_some, None, false, IfSome, IfOk, OnOk, IsTrue, ◌++◌, ◌∷◌};
-ghost use Rattle.std.specs.List.{list_any};
 ghost use Rattle.std.specs.Option.{option_map};
-ghost use Rattle.overlay_terms.specs.Commands.{index_of, stands, uses, with_content, refusal_of, refusal_of_remove};
+ghost use Rattle.overlay_terms.specs.Commands.{index_of, stands, with_content, refusal_of, refusal_of_remove};
 ghost use Rattle.overlay_terms.specs.Orderly.{IsOrderly};
 ghost use Rattle.layer_book.specs.Layer.{content, content_named, keeping, layers_of, named_layer, others, IsBook};
 
@@ -82,13 +81,6 @@ impl Layers {
         self.map.get(name)
     }
 
-    /// Whether a definition names the name.
-    pub fn is_used(&self, name: &Name) -> bool
-        ensures { result ≡ list_any (λ layer. uses name.now layer.content) self.now }
-    {
-        is_used_in(self.map.values().as_slice(), name)
-    }
-
     /// The same layers once more. Rings and expressions are shared.
     pub fn try_copy(&self, alloc: Global) -> Result<Layers, AllocError>
         ensures { IfOk result (λ copy. copy ≡ self.now) }
@@ -119,12 +111,6 @@ impl Layers {
         map.shift_remove(name);
         Ok(Layers { map })
     }
-}
-
-fn is_used_in(layers: &[Layer], name: &Name) -> bool
-    ensures { result ≡ list_any (λ layer. uses name.now (content layer)) layers.now }
-{
-    layers.iter().any(|layer| layer.uses(name))
 }
 
 /// The entries once more, with room for another.

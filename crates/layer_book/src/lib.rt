@@ -10,6 +10,7 @@ mod comparing;
 pub mod direct_answer;
 pub mod fault;
 pub mod finding_input;
+mod having_input;
 pub mod layer;
 pub mod layers;
 pub mod listing;

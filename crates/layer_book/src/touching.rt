@@ -1,5 +1,5 @@
 //! Which tiles a command touches: the inputs before and after it are compared by their parts.
-ghost use Rattle.std.specs.Prelude.{◌≡◌, true, not, None, map, bytes_eq, IfOk};
+ghost use Rattle.std.specs.Prelude.{◌≡◌, true, not, None, map, bytes_eq, IfOk, IfSome};
 ghost use Rattle.std.specs.List.{list_any};
 ghost use Rattle.overlay_terms.specs.Column.{columns};
 ghost use Rattle.overlay_terms.specs.Tiles.{input_of};
@@ -9,10 +9,11 @@ ghost use Rattle.overlay_terms.specs.Commands.{applied, refusal_of, stands_as_de
 ghost use Rattle.overlay_terms.specs.Touched.{derived_over, is_touched};
 ghost use Rattle.layer_book.specs.Command.{command};
 ghost use Rattle.layer_book.specs.Layer.{IsBook};
-ghost use Rattle.layer_book.specs.Touching.{touched_columns, touched_rows};
+ghost use Rattle.layer_book.specs.Touching.{AreOfAllOver, touched_columns, touched_rows};
 
 use crate::command::Command;
-use crate::comparing::changed_columns;
+use crate::comparing::{changed_columns, differing_columns};
+use crate::layer::Layer;
 use crate::layers::Layers;
 use layer_expr::name::Name;
 use plane_base::{COLUMN_COUNT, Column};
@@ -34,10 +35,11 @@ impl Layers {
         requires made { after.now ≡ applied self.now (command change.now) }
         ensures { IfOk result (λ rows. rows.items ≡ touched_rows self.now (command change.now)) }
     {
+        let replaced = self.replaced_columns(change);
         let mut rows = Vec::new(alloc);
         for i in 0..self.len() {
             if let Some((name, _)) = self.at(i) {
-                let row = self.touched_columns(alloc, change, after, name)?;
+                let row = self.touched_columns(alloc, change, after, name, &replaced)?;
                 rows.push(row)?;
             }
         }
@@ -54,6 +56,20 @@ impl Layers {
         }
     }
 
+    /// In which columns a command touches the tiles of all layers over its name, where it puts rings in the place of
+    /// others: those in which the segments differ. They are compared once.
+    fn replaced_columns(&self, change: &Command) -> Option<[bool; COLUMNS]>
+        ensures { IfSome result (AreOfAllOver self.now (command change.now)) }
+    {
+        let Command::Put(name, rings) = change else {
+            return None;
+        };
+        match self.get(name) {
+            Some(Layer::Base(old)) => Some(differing_columns(rings.segs(), old.segs())),
+            _ => None,
+        }
+    }
+
     /// In which columns a command touches the tile of a layer. No other layers than those that reach
     /// the command's name are compared.
     fn touched_columns(
@@ -62,14 +78,19 @@ impl Layers {
         change: &Command,
         after: &Layers,
         name: &Name,
+        replaced: &Option<[bool; COLUMNS]>,
     ) -> Result<[bool; COLUMNS], AllocError>
         requires book { IsBook self.now }
         requires accepted { refusal_of self.now (command change.now) ≡ None }
         requires made { after.now ≡ applied self.now (command change.now) }
+        requires replaced { IfSome replaced.now (AreOfAllOver self.now (command change.now)) }
         ensures { IfOk result (λ row. row ≡ touched_columns self.now (command change.now) name.now) }
     {
         if !self.is_over(name, change.name()) {
             return Ok([false; COLUMNS]);
+        }
+        if let Some(row) = replaced {
+            return Ok(*row);
         }
         if !after.stands_as_derived(name) {
             return Ok([true; COLUMNS]);

@@ -1,6 +1,6 @@
 //! The wanted layers, in order, as the input of a tile takes them.
-ghost use Rattle.std.specs.Prelude.{◌≡◌, ◌++◌, ◌∷◌, [], map, filter_map, option_copied, IfOk, OnOk};
-ghost use Rattle.overlay_terms.specs.Layers.{base_of};
+ghost use Rattle.std.specs.Prelude.{◌≡◌, ◌++◌, ◌∷◌, [], ◌≤◌, map, take, filter_map, option_copied, IfOk, OnOk};
+ghost use Rattle.overlay_terms.specs.Layers.{base_of, layers_max};
 ghost use Rattle.layer_expr.specs.StepList.{reached, reached_of};
 ghost use Rattle.layer_book.specs.Layer.{content, named_layer, rings_in};
 ghost use Rattle.layer_book.specs.Question.{marked_layers};
@@ -33,23 +33,27 @@ impl Layers {
         Ok(bases)
     }
 
-    /// The layers at the wanted indices, each with its name and, where it is derived, its expression.
+    /// The layers at the wanted indices, each with its name and, where it is derived, its expression, and how many they
+    /// are. The places behind them hold a name that is handed in. It takes no memory.
     pub fn wanted_layers<'a>(
         &'a self,
-        alloc: Global,
+        blank: &'a Name,
         wanted: &[bool; MAX_LAYERS],
-    ) -> Result<Vec<(&'a Name, Option<&'a Expr>)>, AllocError>
-        ensures { IfOk result (λ layers. reached layers.items ≡ map reached_of (marked_layers wanted.now self.now)) }
+    ) -> ([(&'a Name, Option<&'a Expr>); MAX_LAYERS], usize)
+        ensures layers { reached (take result.1 result.0) ≡ map reached_of (marked_layers wanted.now self.now) }
+        ensures few { result.1 ≤ layers_max }
     {
-        let mut layers = Vec::new(alloc);
+        let mut layers = [(blank, None); MAX_LAYERS];
+        let mut count = 0;
         for i in 0..self.len() {
             if let Some((name, layer)) = self.at(i) {
                 if wanted[i] {
-                    layers.push(with_expression(name, layer))?;
+                    layers[count] = with_expression(name, layer);
+                    count += 1;
                 }
             }
         }
-        Ok(layers)
+        (layers, count)
     }
 }
 

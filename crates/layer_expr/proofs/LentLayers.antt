@@ -8,7 +8,7 @@ use Rattle.layer_expr.specs.StepList.{reached, base_names, definitions_of, defin
 use Rattle.layer_expr.proofs.NameNumbers.{Lent}
 use Rattle.layer_expr.proofs.StepOrder.{names_earlier-numbered}
 
-length-base_names : (layers : List Lent) → length (filter (λ layer. is_none layer.1) layers) ≡ length (base_names (reached layers))
+pub length-base_names : (layers : List Lent) → length (filter (λ layer. is_none layer.1) layers) ≡ length (base_names (reached layers))
 length-base_names [] = refl
 length-base_names ((name, None) ∷ layers) = ap suc (length-base_names layers)
 length-base_names ((name, Some e) ∷ layers) = length-base_names layers

@@ -5,6 +5,7 @@ pub mod MaskedSteps
 pub mod StepOrder
 pub mod StepEvaluation
 pub mod LentLayers
+pub mod NumberedLemmas
 pub mod StandingLemmas
 pub mod TokenLemmas
 pub mod ReadingLemmas

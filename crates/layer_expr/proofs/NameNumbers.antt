@@ -17,9 +17,6 @@ abbrev pub first_of : Name → List Name → List Name → ℕ → Source
 first_of name definitions [] k = among name definitions 0
 first_of name definitions (b ∷ bs) k = if bytes_eq b name then base_bit k else first_of name definitions bs (k + 1)
 
-pub source_of_is : (bases definitions : List Name) (name : Name) → source_of bases definitions name ≡ first_of name definitions bases 0
-source_of_is bases definitions name = refl
-
 -- names that miss are passed over
 pub first_of-miss : (name : Name) (definitions missed others : List Name) (k : ℕ) → is_among missed name ≡ false → first_of name definitions (missed ++ others) k ≡ first_of name definitions others (k + length missed)
 first_of-miss name definitions [] others k h = ap (first_of name definitions others) (omega arith)

@@ -1,15 +1,16 @@
 //! What the readers of names and expressions refuse.
-ghost use Rattle.std.specs.Prelude.{◌≡◌, Some};
+ghost use Rattle.std.specs.Prelude.{◌≡◌};
+ghost use Rattle.fault_texts.specs.FaultText.{shown, IsBrief};
 ghost use Rattle.layer_expr.specs.Fault.{code_of, text_of};
 ghost use Rattle.layer_expr.specs.declared.fault.ExprFault.TheVariants.{OutOfMemory};
 
+use fault_texts::{CommonFault, FaultText};
 use std::alloc::AllocError;
-use std::fmt;
 use thiserror::Error;
 
 /// Why a name or an expression is refused.
 #[derive(Clone, Copy, Debug, PartialEq, Eq, Error)]
-#[error("{}", Text(*self))]
+#[error("{}", self.text())]
 pub enum ExprFault {
     /// The offset of the token that cannot stand there, or the length of the text.
     ExprSyntax(usize),
@@ -27,7 +28,20 @@ impl ExprFault {
             ExprFault::ExprSyntax(_) => 7,
             ExprFault::ExprTooLong => 8,
             ExprFault::BadName => 9,
-            ExprFault::OutOfMemory => 40,
+            ExprFault::OutOfMemory => CommonFault::OutOfMemory.code(),
+        }
+    }
+
+    /// The text that is printed behind the number.
+    pub fn text(&self) -> FaultText
+        ensures text { shown result ≡ text_of self.now }
+        ensures brief { IsBrief result }
+    {
+        match self {
+            ExprFault::ExprSyntax(at) => FaultText::At("expression syntax at ", *at),
+            ExprFault::ExprTooLong => FaultText::Plain("expression too long"),
+            ExprFault::BadName => FaultText::Plain("bad name"),
+            ExprFault::OutOfMemory => CommonFault::OutOfMemory.text(),
         }
     }
 }
@@ -37,22 +51,5 @@ impl From<AllocError> for ExprFault {
 
     fn from(_e: AllocError) -> ExprFault {
         ExprFault::OutOfMemory
-    }
-}
-
-/// The text of a fault, as a reply says it behind the number.
-#[derive(Clone, Copy, Debug)]
-pub struct Text(pub ExprFault);
-
-impl fmt::Display for Text {
-    ghost output = { λ text. Some (text_of text.0) };
-
-    fn fmt<W: fmt::Write>(&self, f: &mut fmt::Formatter<W>) -> fmt::Result {
-        match self.0 {
-            ExprFault::ExprSyntax(at) => write!(f, "expression syntax at {at}"),
-            ExprFault::ExprTooLong => write!(f, "expression too long"),
-            ExprFault::BadName => write!(f, "bad name"),
-            ExprFault::OutOfMemory => write!(f, "out of memory"),
-        }
     }
 }

@@ -1,6 +1,8 @@
 //! Layers in reach as a list of definitions, with numbers for names.
 ghost use Rattle.std.specs.Prelude.{◌≡◌, ℕ, Bool, false, ◌≤◌, ◌<◌, length, filter, position, is_none, is_some, not, bytes_eq, take_while, IfOk, IfSome, map};
+ghost use Rattle.std.specs.Cmp.Lexicographic.{pointwise};
 ghost use Rattle.overlay_terms.specs.Layers.{layers_max};
+ghost use Rattle.overlay_terms.specs.SameInput.{same_definition, same_steps};
 ghost use Rattle.overlay_terms.specs.Trees.{relabel, steps_value, mask_bits};
 ghost use Rattle.layer_expr.specs.Expr.{tree};
 ghost use Rattle.layer_expr.specs.SameSteps.{SameAreEqual};
@@ -75,6 +77,15 @@ impl StepList {
     {
         let last_base = self.bases.saturating_sub(1);
         last_value(&self.definitions, mask, is_bit_set(mask, last_base))
+    }
+
+    /// Whether it is what layers in reach give. They are compared by name and expression, with no memory.
+    pub fn is_of(&self, layers: &[(&Name, Option<&Expr>)]) -> bool
+        requires { length layers.now ≤ layers_max }
+        ensures { result ≡ same_steps self.now (numbered_steps (reached layers.now)) }
+    {
+        let bases = base_count(layers);
+        usize::from(self.bases) == bases && are_numbered(&self.definitions, layers)
     }
 
     /// An equal list in memory of its own.
@@ -153,6 +164,41 @@ pub(crate) fn numbered(
             let right = numbered(alloc, right, layers)?;
             Ok(StepNode::Combine(*operation, Box::new(alloc, left)?, Box::new(alloc, right)?))
         }
+    }
+}
+
+/// Whether definitions are the expressions among the layers, in order, with numbers for names.
+fn are_numbered(definitions: &[StepNode], layers: &[(&Name, Option<&Expr>)]) -> bool
+    requires { length layers.now ≤ layers_max }
+    ensures { result ≡ pointwise same_definition (map step_tree definitions.now) (numbered_steps (reached layers.now)).definitions }
+{
+    let mut next = 0;
+    for layer in layers {
+        if let Some(expr) = layer.1 {
+            if next >= definitions.len() || !is_numbered(&definitions[next], expr.root(), layers) {
+                return false;
+            }
+            next += 1;
+        }
+    }
+    next >= definitions.len()
+}
+
+/// Whether a definition is an expression with each name replaced by its number.
+pub(crate) fn is_numbered(
+    definition: &StepNode,
+    node: &Node,
+    layers: &[(&Name, Option<&Expr>)],
+) -> bool
+    requires { length layers.now ≤ layers_max }
+    ensures { result ≡ same_definition (step_tree definition.now) (relabel (source_among (reached layers.now)) (tree node.now)) }
+{
+    match (definition, node) {
+        (StepNode::Leaf(source), Node::Leaf(name)) => *source == source_named(name, layers),
+        (StepNode::Combine(o, l, r), Node::Combine(p, m, s)) => {
+            *o == *p && is_numbered(l, m, layers) && is_numbered(r, s, layers)
+        }
+        _ => false,
     }
 }
 

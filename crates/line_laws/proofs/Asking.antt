@@ -1,8 +1,10 @@
--- The command that a line asks for, if its words are one: each line asks for one thing.
-use Rattle.std.proofs.Common.{◌≡◌, ℕ, ◌⊎◌, inl, inr, true, false, IsTrue, List, Option, Some, None, refl, sym, ap, ◌∙◌}
+-- The command that a line asks for, or the batch that lines ask for, if their words are one: each turn asks for one thing.
+use Rattle.std.proofs.Common.{◌≡◌, ℕ, ◌⊎◌, inl, inr, true, false, IsTrue, List, [], ◌∷◌, ◌++◌, Option, Some, None, refl, sym, ap, ◌∙◌, subst}
 use Rattle.std.proofs.lemmas.Bool.{true≢false}
 use Rattle.overlay_terms.specs.Plane.{WholePoint}
 use Rattle.overlay_terms.specs.Trees.{Tree}
+use Rattle.std.specs.Option.{option_map}
+use Rattle.overlay_terms.specs.Batches.{Batch}
 use Rattle.overlay_terms.specs.Commands.{Command}
 use Rattle.overlay_terms.specs.Commands as terms
 use Rattle.layer_expr.specs.Name.{is_name}
@@ -12,7 +14,10 @@ use Rattle.layer_expr.proofs.LawLemmas as expr_laws
 use Rattle.wkt_form.specs.Grammar as wkt
 use Rattle.wkt_form.specs.declared.fault.WktFault.{WktFault}
 use Rattle.wkt_form.proofs.OneMeaning as wkt_laws
-use Rattle.script_form.specs.Requests.{Request, nothing, too_long, malformed, put, define, remove, locate, grid, list_layers, edges, wait, verify, sync}
+use Rattle.script_form.specs.declared.fault.CommandFault.{CommandFault}
+use Rattle.script_form.specs.BatchLines.{IsCommandOf, IsNoCommand, AreCommandsOf, IsFirstUnread}
+use Rattle.script_form.specs.Turns.{Turn, alone, together, cut_off}
+use Rattle.script_form.specs.Requests.{Request, nothing, too_long, malformed, put, define, remove, locate, grid, list_layers, edges, wait, verify, sync, batch}
 
 -- a command of a name that is one, and of a text that is read
 pub record IsPutOf (name text : List ℕ) (command : Command) : Type 0 where
@@ -45,6 +50,7 @@ AsksFor (edges name k) o = o ≡ None
 AsksFor (wait name) o = o ≡ None
 AsksFor (verify name k) o = o ≡ None
 AsksFor sync o = o ≡ None
+AsksFor (batch size) o = o ≡ None
 
 -- a name that is one and is none
 clash : (name : List ℕ) → IsTrue (is_name name) → is_name name ≡ false → ⊥
@@ -88,3 +94,100 @@ asks_for_one (edges name k) o p a b = a ∙ sym b
 asks_for_one (wait name) o p a b = a ∙ sym b
 asks_for_one (verify name k) o p a b = a ∙ sym b
 asks_for_one sync o p a b = a ∙ sym b
+asks_for_one (batch size) o p a b = a ∙ sym b
+
+-- ==== The lines of a batch
+
+-- a line of a batch is one command
+is_one : (request : Request) (c d : Command) → IsCommandOf request c → IsCommandOf request d → c ≡ d
+is_one (put name text) c d a b = a.command_is ∙ ap (terms.put name) (wkt_laws.spells_one_layer text a.rings b.rings a.read b.read) ∙ sym b.command_is
+is_one (define name text) c d a b = a.command_is ∙ ap (terms.define name) (expr_laws.one_tree text a.tree b.tree a.read b.read) ∙ sym b.command_is
+is_one (remove name) c d a b = a.command_is ∙ sym b.command_is
+is_one nothing c d a b = absurd a
+is_one too_long c d a b = absurd a
+is_one malformed c d a b = absurd a
+is_one (locate name x y w) c d a b = absurd a
+is_one (grid name x y step nx ny) c d a b = absurd a
+is_one list_layers c d a b = absurd a
+is_one (edges name k) c d a b = absurd a
+is_one (wait name) c d a b = absurd a
+is_one (verify name k) c d a b = absurd a
+is_one sync c d a b = absurd a
+is_one (batch size) c d a b = absurd a
+
+are_one : (requests : List Request) (cs ds : Batch) → AreCommandsOf requests cs → AreCommandsOf requests ds → cs ≡ ds
+are_one [] [] [] a b = refl
+are_one [] [] (d ∷ ds) a b = absurd b
+are_one [] (c ∷ cs) ds a b = absurd a
+are_one (request ∷ requests) [] ds a b = absurd a
+are_one (request ∷ requests) (c ∷ cs) [] a b = absurd b
+are_one (request ∷ requests) (c ∷ cs) (d ∷ ds) a b =
+    ap (λ (first : Command). first ∷ cs) (is_one request c d a.0 b.0) ∙ ap (λ (more : Batch). d ∷ more) (are_one requests cs ds a.1 b.1)
+
+-- it is never a command and none
+one_or_not : (request : Request) (c : Command) (fault : CommandFault) → IsCommandOf request c → IsNoCommand request fault → ⊥
+one_or_not (put name text) c fault a (inl none) = clash name a.named none.0
+one_or_not (put name text) c fault a (inr (named, wrong, by, is)) = wkt_laws.never_both text a.rings wrong a.read by
+one_or_not (define name text) c fault a (inl none) = clash name a.named none.0
+one_or_not (define name text) c fault a (inr (named, wrong, by, is)) = expr_laws.never_both text a.tree wrong a.read by
+one_or_not (remove name) c fault a none = clash name a.named none.0
+one_or_not nothing c fault a none = absurd a
+one_or_not too_long c fault a none = absurd a
+one_or_not malformed c fault a none = absurd a
+one_or_not (locate name x y w) c fault a none = absurd a
+one_or_not (grid name x y step nx ny) c fault a none = absurd a
+one_or_not list_layers c fault a none = absurd a
+one_or_not (edges name k) c fault a none = absurd a
+one_or_not (wait name) c fault a none = absurd a
+one_or_not (verify name k) c fault a none = absurd a
+one_or_not sync c fault a none = absurd a
+one_or_not (batch size) c fault a none = absurd a
+
+some_or_not : (before behind : List Request) (request : Request) (cs : Batch) (fault : CommandFault) → AreCommandsOf (before ++ request ∷ behind) cs → IsNoCommand request fault → ⊥
+some_or_not [] behind request [] fault a none = absurd a
+some_or_not [] behind request (c ∷ cs) fault a none = one_or_not request c fault a.0 none
+some_or_not (first ∷ before) behind request [] fault a none = absurd a
+some_or_not (first ∷ before) behind request (c ∷ cs) fault a none = some_or_not before behind request cs fault a.1 none
+
+-- ==== Turns
+
+-- a line that asks for none of its first lines' commands
+pub record AreUnread (requests : List Request) : Type 0 where
+  pub place : ℕ
+  pub fault : CommandFault
+  pub first : IsFirstUnread requests place fault
+
+-- what a turn asks for: a batch, where a command alone is a batch of one, or none
+abbrev pub TurnAsks : Turn → Option Batch → Type 0
+TurnAsks (alone request) (Some commands) = (command : Command) × AsksFor request (Some command) × (commands ≡ command ∷ [])
+TurnAsks (alone request) None = AsksFor request None
+TurnAsks (together requests) (Some commands) = AreCommandsOf requests commands
+TurnAsks (together requests) None = AreUnread requests
+TurnAsks (cut_off requests) o = o ≡ None
+
+one_of : Option Command → Option Batch
+one_of o = option_map (λ (command : Command). command ∷ []) o
+
+read_or_not : (requests : List Request) (cs : Batch) → AreCommandsOf requests cs → AreUnread requests → ⊥
+read_or_not requests cs read none =
+    some_or_not none.first.before none.first.behind none.first.request cs none.fault (subst (λ (rs : List Request). AreCommandsOf rs cs) none.first.lines read) none.first.why
+
+alone_one : (request : Request) (cs ds : Batch) → TurnAsks (alone request) (Some cs) → TurnAsks (alone request) (Some ds) → Some cs ≡ Some ds
+unfolding one_of
+alone_one request cs ds (c, a, is) (d, b, it) = ap Some is ∙ ap one_of (asks_for_one request (Some c) (Some d) a b) ∙ ap Some (sym it)
+
+alone_or_not : (request : Request) (cs : Batch) → TurnAsks (alone request) (Some cs) → AsksFor request None → Some cs ≡ None
+unfolding one_of
+alone_or_not request cs (c, a, is) none = ap Some is ∙ ap one_of (asks_for_one request (Some c) None a none)
+
+-- a turn asks for one batch, or for none
+pub turn_asks_one : (turn : Turn) (o p : Option Batch) → TurnAsks turn o → TurnAsks turn p → o ≡ p
+turn_asks_one (alone request) (Some cs) (Some ds) a b = alone_one request cs ds a b
+turn_asks_one (alone request) (Some cs) None a b = alone_or_not request cs a b
+turn_asks_one (alone request) None (Some ds) a b = sym (alone_or_not request ds b a)
+turn_asks_one (alone request) None None a b = refl
+turn_asks_one (together requests) (Some cs) (Some ds) a b = ap Some (are_one requests cs ds a b)
+turn_asks_one (together requests) (Some cs) None a b = absurd (read_or_not requests cs a b)
+turn_asks_one (together requests) None (Some ds) a b = absurd (read_or_not requests ds b a)
+turn_asks_one (together requests) None None a b = refl
+turn_asks_one (cut_off requests) o p a b = a ∙ sym b

@@ -1,21 +1,21 @@
--- The commands in entries, and what entries make of the number and the layers of a version.
+-- The batches in entries, and what entries make of the number and the layers of a version.
 use Rattle.std.proofs.Common.{◌≡◌, ℕ, ◌+◌, List, [], ◌∷◌, ◌++◌, length, map, fold, refl, sym, ap, ◌∙◌, subst, arith}
 use Rattle.std.proofs.lemmas.List.{length-append, map-append}
 use Rattle.std.proofs.lemmas.List.Elements.{filter_map-append}
 use Rattle.overlay_terms.specs.Layers.{Layer}
-use Rattle.overlay_terms.specs.Commands.{Command, applied}
+use Rattle.overlay_terms.specs.Batches.{Batch, applied_all}
 use Rattle.overlay_terms.specs.Histories.{Version, Event, Entry, History, AllFollow, IsHistory, GoesOnBy, last_version, newest, command_of, commands_in, accepted_in}
 use Rattle.overlay_terms.specs.HistoryLaws.{IsWithCommands}
 use Rattle.overlay_terms.proofs.HistoryFolds.{newest_has_commands}
 use Rattle.line_laws.specs.Deciding.{Decided, decided}
 
--- the commands in entries, and in more behind them
+-- the batches in entries, and in more behind them
 pub accepted_more : (xs ys : List Entry) → accepted_in (xs ++ ys) ≡ accepted_in xs ++ accepted_in ys
 accepted_more xs ys =
-    ap (map (λ (c : ℕ × Command). c.1)) (filter_map-append (λ (entry : Entry). command_of entry.event) xs ys)
-    ∙ map-append (λ (c : ℕ × Command). c.1) (commands_in xs) (commands_in ys)
+    ap (map (λ (c : ℕ × Batch). c.1)) (filter_map-append (λ (entry : Entry). command_of entry.event) xs ys)
+    ∙ map-append (λ (c : ℕ × Batch). c.1) (commands_in xs) (commands_in ys)
 
--- how many commands were accepted in a history
+-- how many batches were accepted in a history
 abbrev pub count : History → ℕ
 count history = length (accepted_in history.entries)
 
@@ -48,13 +48,13 @@ history_rest before after more on history = follow_rest before.start before.entr
 pub newest_more : (before after : History) (more : List Entry) → GoesOnBy before more after → newest after ≡ last_version (newest before) more
 newest_more before after more on = ap newest on ∙ last_more before.start before.entries more
 
--- a number and layers with commands made
-abbrev pub with_commands : Decided → List Command → Decided
-with_commands d commands = record { number = d.number + length commands; layers = fold applied d.layers commands }
+-- a number and layers with batches made
+abbrev pub with_batches : Decided → List Batch → Decided
+with_batches d batches = record { number = d.number + length batches; layers = fold applied_all d.layers batches }
 
 -- what entries make of the number and the layers of a version
 pub decided_more : (version : Version) (entries : List Entry) → AllFollow version entries
-    → decided (last_version version entries) ≡ with_commands (decided version) (accepted_in entries)
+    → decided (last_version version entries) ≡ with_batches (decided version) (accepted_in entries)
 decided_more version entries follow =
     let all : IsWithCommands version (accepted_in entries) (last_version version entries) =
     newest_has_commands (record { start = version; entries = entries }) follow in

@@ -1,9 +1,12 @@
--- What a turn comes to: nothing is made, or the command that its line asks for is accepted.
-use Rattle.std.proofs.Common.{◌≡◌, ℕ, ℤ, ◌⊎◌, inl, inr, Bool, true, false, List, [], Option, Some, None, refl, sym, ap, ◌∙◌, subst, bytes_eq}
+-- What a turn comes to: nothing is made, or the batch that it asks for is accepted.
+use Rattle.std.proofs.Common.{◌≡◌, ℕ, ℤ, ◌⊎◌, inl, inr, Bool, true, false, List, [], ◌∷◌, Option, Some, None, refl, sym, ap, ◌∙◌, subst, bytes_eq}
 use Rattle.std.proofs.lemmas.Bool.{true≢false, or_left, or_right}
+use Rattle.std.specs.Option.{option_map}
+use Rattle.overlay_terms.specs.Batches.{Batch, BatchRefusal, at, whole, reason_of, batch_refusal_at}
 use Rattle.overlay_terms.specs.Commands.{Command, Refusal, refusal_at}
 use Rattle.overlay_terms.specs.Commands as terms
 use Rattle.overlay_terms.specs.Histories.{History, Version, newest}
+use Rattle.overlay_terms.proofs.BatchLemmas.{one_is_refused_alike}
 use Rattle.overlay_terms.proofs.NameLemmas.{name_itself}
 use Rattle.version_core.specs.declared.fault.VersionFault.{VersionFault}
 use Rattle.version_core.specs.Building.{wait_refusal}
@@ -12,96 +15,134 @@ use Rattle.overlay_grid.specs.declared.fault.GridFault.{GridFault}
 use Rattle.script_form.specs.declared.fault.CommandFault.{CommandFault}
 use Rattle.script_form.specs.declared.fault.CommandFault.TheVariants.{OutOfMemory, Closing, Gone}
 use Rattle.script_form.specs.Replies.{error_line}
-use Rattle.script_form.specs.Requests.{Request, nothing, too_long, malformed, put, define, remove, locate, grid, list_layers, edges, wait, verify, sync, request_of}
-use Rattle.script_form.specs.Transcript.{IsRefused, IsAcceptedBy, IsSubmitted, IsAnswered, IsOutOfMemory, IsTurn, Asked, Drawn, IsEdgesTold, IsVerdictTold, IsBuiltTold, IsWaitClosed, asked_column}
+use Rattle.script_form.specs.Requests.{Request, nothing, too_long, malformed, put, define, remove, locate, grid, list_layers, edges, wait, verify, sync, batch}
+use Rattle.script_form.specs.Transcript.{IsRefused, IsAcceptedBy, IsSubmitted, IsSubmittedAll, IsRefusedBatch, IsAnswered, AreAnswered, IsOutOfMemory, IsTaken, IsTurn, Asked, Drawn, IsEdgesTold, IsVerdictTold, IsBuiltTold, IsWaitClosed, asked_column}
+use Rattle.script_form.specs.Turns.{Turn, alone, together, cut_off}
 use Rattle.line_laws.specs.Deciding.{is_from_outside}
-use Rattle.line_laws.proofs.Asking.{AsksFor}
+use Rattle.line_laws.proofs.Asking.{AsksFor, TurnAsks}
 
--- the layers decide that no command is made: none is asked for, or the version refuses the one that is
-pub record IsDeclined (request : Request) (version : Version) : Type 0 where
-  pub asked : Option Command
-  pub asks : AsksFor request asked
-  pub why : (asked ≡ None) ⊎ ((command : Command) × (refusal : Refusal) × (asked ≡ Some command) × (refusal_at version.number version.layers command ≡ Some refusal))
+-- the layers decide that no batch is made: none is asked for, or the version refuses the one that is
+pub record IsDeclined (turn : Turn) (version : Version) : Type 0 where
+  pub asked : Option Batch
+  pub asks : TurnAsks turn asked
+  pub why : (asked ≡ None) ⊎ ((commands : Batch) × (refusal : BatchRefusal) × (asked ≡ Some commands) × (batch_refusal_at version.number version.layers commands ≡ Some refusal))
 
 -- nothing is made: from outside, or as it is declined
-pub record IsUnmade (request : Request) (after : History) (made : List Command) (reply : List ℕ) : Type 0 where
+pub record IsUnmade (turn : Turn) (after : History) (made : List Batch) (reply : List ℕ) : Type 0 where
   pub none : made ≡ []
-  pub declined : is_from_outside reply ≡ false → IsDeclined request (newest after)
+  pub declined : is_from_outside reply ≡ false → IsDeclined turn (newest after)
 
--- the command that is asked for is accepted
-pub record IsMade (session : ℕ) (before : History) (request : Request) (after : History) (made : List Command) (reply : List ℕ) : Type 0 where
-  pub command : Command
-  pub asks : AsksFor request (Some command)
-  pub how : IsAcceptedBy session before command after made reply
+-- the batch that is asked for is accepted
+pub record IsMade (session : ℕ) (before : History) (turn : Turn) (after : History) (made : List Batch) (reply : List ℕ) : Type 0 where
+  pub commands : Batch
+  pub asks : TurnAsks turn (Some commands)
+  pub how : IsAcceptedBy session before commands after made reply
 
-abbrev pub Comes : ℕ → History → Request → History → List Command → List ℕ → Type 0
-Comes session before request after made reply = IsUnmade request after made reply ⊎ IsMade session before request after made reply
+abbrev pub Comes : ℕ → History → Turn → History → List Batch → List ℕ → Type 0
+Comes session before turn after made reply = IsUnmade turn after made reply ⊎ IsMade session before turn after made reply
 
 -- ==== Faults from outside
 
-refuses : (fault : CommandFault) (made : List Command) (reply : List ℕ) → IsRefused fault made reply → bytes_eq reply (error_line fault) ≡ true
+refuses : (fault : CommandFault) (made : List Batch) (reply : List ℕ) → IsRefused fault made reply → bytes_eq reply (error_line fault) ≡ true
 refuses fault made reply r = ap (λ (l : List ℕ). bytes_eq l (error_line fault)) r.told ∙ name_itself (error_line fault)
 
-memory_outside : (made : List Command) (reply : List ℕ) → IsRefused OutOfMemory made reply → is_from_outside reply ≡ true
+memory_outside : (made : List Batch) (reply : List ℕ) → IsRefused OutOfMemory made reply → is_from_outside reply ≡ true
 memory_outside made reply r = or_left (bytes_eq reply (error_line OutOfMemory)) _ (refuses OutOfMemory made reply r)
 
-closing_outside : (made : List Command) (reply : List ℕ) → IsRefused Closing made reply → is_from_outside reply ≡ true
+closing_outside : (made : List Batch) (reply : List ℕ) → IsRefused Closing made reply → is_from_outside reply ≡ true
 closing_outside made reply r =
     or_right (bytes_eq reply (error_line OutOfMemory)) _ (or_left (bytes_eq reply (error_line Closing)) _ (refuses Closing made reply r))
 
-gone_outside : (made : List Command) (reply : List ℕ) → IsRefused Gone made reply → is_from_outside reply ≡ true
+gone_outside : (made : List Batch) (reply : List ℕ) → IsRefused Gone made reply → is_from_outside reply ≡ true
 gone_outside made reply r =
     or_right (bytes_eq reply (error_line OutOfMemory)) _ (or_right (bytes_eq reply (error_line Closing)) _ (refuses Gone made reply r))
 
-outside : (request : Request) (after : History) (made : List Command) (reply : List ℕ) → made ≡ [] → is_from_outside reply ≡ true → IsUnmade request after made reply
-outside request after made reply none is = record { none = none; declined = λ other. absurd (true≢false (sym is ∙ other)) }
+outside : (turn : Turn) (after : History) (made : List Batch) (reply : List ℕ) → made ≡ [] → is_from_outside reply ≡ true → IsUnmade turn after made reply
+outside turn after made reply none is = record { none = none; declined = λ other. absurd (true≢false (sym is ∙ other)) }
 
 -- ==== Commands
 
 -- nothing is asked for
-idle : (request : Request) (after : History) (made : List Command) (reply : List ℕ) → AsksFor request None → made ≡ [] → IsUnmade request after made reply
-idle request after made reply asks none = record { none = none; declined = λ _. record { asked = None; asks = asks; why = inl refl } }
+idle : (turn : Turn) (after : History) (made : List Batch) (reply : List ℕ) → TurnAsks turn None → made ≡ [] → IsUnmade turn after made reply
+idle turn after made reply asks none = record { none = none; declined = λ _. record { asked = None; asks = asks; why = inl refl } }
 
-submitted : (session : ℕ) (before : History) (request : Request) (command : Command) (after : History) (made : List Command) (reply : List ℕ)
-    → AsksFor request (Some command) → IsSubmitted session before command after made reply → Comes session before request after made reply
+idle_line : (request : Request) (after : History) (made : List Batch) (reply : List ℕ) → AsksFor request None → made ≡ [] → IsUnmade (alone request) after made reply
+idle_line request after made reply asks none = idle (alone request) after made reply asks none
+
+-- a reason without its place comes of one with it
+some_reason : (o : Option BatchRefusal) (refusal : Refusal) → option_map reason_of o ≡ Some refusal → (reason : BatchRefusal) × (o ≡ Some reason)
+some_reason None refusal is = absurd (cc)
+some_reason (Some reason) refusal is = (reason, refl)
+
+submitted : (session : ℕ) (before : History) (request : Request) (command : Command) (after : History) (made : List Batch) (reply : List ℕ)
+    → AsksFor request (Some command) → IsSubmitted session before command after made reply → Comes session before (alone request) after made reply
 submitted session before request command after made reply asks (inl closing) =
-    inl (outside request after made reply closing.nothing_made (closing_outside made reply closing))
+    inl (outside (alone request) after made reply closing.nothing_made (closing_outside made reply closing))
 submitted session before request command after made reply asks (inr (inl gone)) =
-    inl (outside request after made reply gone.nothing_made (gone_outside made reply gone))
+    inl (outside (alone request) after made reply gone.nothing_made (gone_outside made reply gone))
 submitted session before request command after made reply asks (inr (inr (inl (refusal, is, refused)))) =
+    let version = newest after in
+    let reason = some_reason (batch_refusal_at version.number version.layers (command ∷ [])) refusal (one_is_refused_alike version.number version.layers command ∙ is) in
     inl (record {
       none = refused.nothing_made;
-      declined = λ _. record { asked = Some command; asks = asks; why = inr (command, refusal, refl, is) };
+      declined = λ _. record { asked = Some (command ∷ []); asks = (command, asks, refl); why = inr (command ∷ [], reason.0, refl, reason.1) };
     })
-submitted session before request command after made reply asks (inr (inr (inr by))) = inr (record { command = command; asks = asks; how = by })
+submitted session before request command after made reply asks (inr (inr (inr by))) =
+    inr (record { commands = command ∷ []; asks = (command, asks, refl); how = by })
+
+-- ==== Batches
+
+refused_none : (refusal : BatchRefusal) (made : List Batch) (reply : List ℕ) → IsRefusedBatch refusal made reply → made ≡ []
+refused_none (at place reason) made reply refused = refused.nothing_made
+refused_none (whole reason) made reply refused = refused.nothing_made
+
+submitted_all : (session : ℕ) (before : History) (requests : List Request) (commands : Batch) (after : History) (made : List Batch) (reply : List ℕ)
+    → TurnAsks (together requests) (Some commands) → IsSubmittedAll session before commands after made reply → Comes session before (together requests) after made reply
+submitted_all session before requests commands after made reply asks (inl closing) =
+    inl (outside (together requests) after made reply closing.nothing_made (closing_outside made reply closing))
+submitted_all session before requests commands after made reply asks (inr (inl gone)) =
+    inl (outside (together requests) after made reply gone.nothing_made (gone_outside made reply gone))
+submitted_all session before requests commands after made reply asks (inr (inr (inl (refusal, is, refused)))) =
+    inl (record {
+      none = refused_none refusal made reply refused;
+      declined = λ _. record { asked = Some commands; asks = asks; why = inr (commands, refusal, refl, is) };
+    })
+submitted_all session before requests commands after made reply asks (inr (inr (inr by))) = inr (record { commands = commands; asks = asks; how = by })
+
+together_comes : (session : ℕ) (before : History) (requests : List Request) (after : History) (made : List Batch) (reply : List ℕ)
+    → AreAnswered session before requests after made reply → Comes session before (together requests) after made reply
+together_comes session before requests after made reply (inl (place, fault, first, refused)) =
+    inl (idle (together requests) after made reply (record { place = place; fault = fault; first = first }) refused.nothing_made)
+together_comes session before requests after made reply (inr (commands, read, by)) =
+    submitted_all session before requests commands after made reply read by
 
 -- ==== Questions
 
-asked_none : (o : Option VersionFault) (made : List Command) (reply : List ℕ) (T : Type 0) → (T → made ≡ []) → Asked o made reply T → made ≡ []
+asked_none : (o : Option VersionFault) (made : List Batch) (reply : List ℕ) (T : Type 0) → (T → made ≡ []) → Asked o made reply T → made ≡ []
 asked_none (Some fault) made reply T then refused = refused.nothing_made
 asked_none None made reply T then answered = then answered
 
-drawn_none : (o : Option GridFault) (text : List ℕ) (made : List Command) (reply : List ℕ) → Drawn o text made reply → made ≡ []
+drawn_none : (o : Option GridFault) (text : List ℕ) (made : List Batch) (reply : List ℕ) → Drawn o text made reply → made ≡ []
 drawn_none (Some fault) text made reply refused = refused.nothing_made
 drawn_none None text made reply told = told.nothing_made
 
 -- ==== Each request
 
-module _ (stored : Bool) (session : ℕ) (before after : History) (made : List Command) (reply : List ℕ) where
-  put_comes : (name text : List ℕ) → IsAnswered stored session before (put name text) after made reply → Comes session before (put name text) after made reply
-  put_comes name text (inl (none, refused)) = inl (idle (put name text) after made reply (inl none) refused.nothing_made)
-  put_comes name text (inr (named, inl (fault, wrong, refused))) = inl (idle (put name text) after made reply (inr (fault, wrong)) refused.nothing_made)
+module _ (stored : Bool) (session : ℕ) (before after : History) (made : List Batch) (reply : List ℕ) where
+  put_comes : (name text : List ℕ) → IsAnswered stored session before (put name text) after made reply → Comes session before (alone (put name text)) after made reply
+  put_comes name text (inl (none, refused)) = inl (idle_line (put name text) after made reply (inl none) refused.nothing_made)
+  put_comes name text (inr (named, inl (fault, wrong, refused))) = inl (idle_line (put name text) after made reply (inr (fault, wrong)) refused.nothing_made)
   put_comes name text (inr (named, inr (rings, read, by))) =
       submitted session before (put name text) (terms.put name rings) after made reply (record { named = named; rings = rings; read = read; is = refl }) by
 
-  define_comes : (name text : List ℕ) → IsAnswered stored session before (define name text) after made reply → Comes session before (define name text) after made reply
-  define_comes name text (inl (none, refused)) = inl (idle (define name text) after made reply (inl none) refused.nothing_made)
-  define_comes name text (inr (named, inl (fault, wrong, refused))) = inl (idle (define name text) after made reply (inr (fault, wrong)) refused.nothing_made)
+  define_comes : (name text : List ℕ) → IsAnswered stored session before (define name text) after made reply → Comes session before (alone (define name text)) after made reply
+  define_comes name text (inl (none, refused)) = inl (idle_line (define name text) after made reply (inl none) refused.nothing_made)
+  define_comes name text (inr (named, inl (fault, wrong, refused))) = inl (idle_line (define name text) after made reply (inr (fault, wrong)) refused.nothing_made)
   define_comes name text (inr (named, inr (tree, read, by))) =
       submitted session before (define name text) (terms.define name tree) after made reply (record { named = named; tree = tree; read = read; is = refl }) by
 
-  remove_comes : (name : List ℕ) → IsAnswered stored session before (remove name) after made reply → Comes session before (remove name) after made reply
-  remove_comes name (inl (none, refused)) = inl (idle (remove name) after made reply none refused.nothing_made)
+  remove_comes : (name : List ℕ) → IsAnswered stored session before (remove name) after made reply → Comes session before (alone (remove name)) after made reply
+  remove_comes name (inl (none, refused)) = inl (idle_line (remove name) after made reply none refused.nothing_made)
   remove_comes name (inr (named, by)) = submitted session before (remove name) (terms.remove name) after made reply (named, refl) by
 
   locate_none : (name : List ℕ) (x y w : ℤ) → IsAnswered stored session before (locate name x y w) after made reply → made ≡ []
@@ -152,25 +193,29 @@ module _ (stored : Bool) (session : ℕ) (before after : History) (made : List C
   sync_none (inr (inr (inl (some, told)))) = told.nothing_made
   sync_none (inr (inr (inr (some, told)))) = told.refused.nothing_made
 
-  answered_comes : (request : Request) → IsAnswered stored session before request after made reply → Comes session before request after made reply
-  answered_comes nothing told = inl (idle nothing after made reply refl told.nothing_made)
-  answered_comes too_long refused = inl (idle too_long after made reply refl refused.nothing_made)
-  answered_comes malformed refused = inl (idle malformed after made reply refl refused.nothing_made)
+  answered_comes : (request : Request) → IsAnswered stored session before request after made reply → Comes session before (alone request) after made reply
+  answered_comes nothing told = inl (idle_line nothing after made reply refl told.nothing_made)
+  answered_comes too_long refused = inl (idle_line too_long after made reply refl refused.nothing_made)
+  answered_comes malformed refused = inl (idle_line malformed after made reply refl refused.nothing_made)
   answered_comes (put name text) answered = put_comes name text answered
   answered_comes (define name text) answered = define_comes name text answered
   answered_comes (remove name) answered = remove_comes name answered
-  answered_comes (locate name x y w) answered = inl (idle (locate name x y w) after made reply refl (locate_none name x y w answered))
-  answered_comes (grid name x y step nx ny) answered = inl (idle (grid name x y step nx ny) after made reply refl (grid_none name x y step nx ny answered))
-  answered_comes list_layers answered = inl (idle list_layers after made reply refl (list_none answered))
-  answered_comes (edges name k) answered = inl (idle (edges name k) after made reply refl (edges_none name k answered))
-  answered_comes (wait name) answered = inl (idle (wait name) after made reply refl (wait_none name answered))
-  answered_comes (verify name k) answered = inl (idle (verify name k) after made reply refl (verify_none name k answered))
-  answered_comes sync answered = inl (idle sync after made reply refl (sync_none answered))
+  answered_comes (locate name x y w) answered = inl (idle_line (locate name x y w) after made reply refl (locate_none name x y w answered))
+  answered_comes (grid name x y step nx ny) answered = inl (idle_line (grid name x y step nx ny) after made reply refl (grid_none name x y step nx ny answered))
+  answered_comes list_layers answered = inl (idle_line list_layers after made reply refl (list_none answered))
+  answered_comes (edges name k) answered = inl (idle_line (edges name k) after made reply refl (edges_none name k answered))
+  answered_comes (wait name) answered = inl (idle_line (wait name) after made reply refl (wait_none name answered))
+  answered_comes (verify name k) answered = inl (idle_line (verify name k) after made reply refl (verify_none name k answered))
+  answered_comes sync answered = inl (idle_line sync after made reply refl (sync_none answered))
+  answered_comes (batch size) refused = inl (idle_line (batch size) after made reply refl refused.nothing_made)
+
+  taken_comes : (turn : Turn) → IsTaken stored session before turn after made reply → Comes session before turn after made reply
+  taken_comes (alone request) (inl memory) = inl (outside (alone request) after made reply memory.1.nothing_made (memory_outside made reply memory.1))
+  taken_comes (alone request) (inr by) = answered_comes request by
+  taken_comes (together requests) (inl memory) = inl (outside (together requests) after made reply memory.nothing_made (memory_outside made reply memory))
+  taken_comes (together requests) (inr by) = together_comes session before requests after made reply by
+  taken_comes (cut_off requests) refused = inl (idle (cut_off requests) after made reply refl refused.nothing_made)
 
   -- each turn comes to one of both
-  pub comes : (line : List ℕ) → IsTurn stored session before line after made reply → Comes session before (request_of line) after made reply
-  comes line turn =
-      elim turn.answered [
-        | inl memory ↦ inl (outside (request_of line) after made reply memory.1.nothing_made (memory_outside made reply memory.1))
-        | inr by ↦ answered_comes (request_of line) by
-      ]
+  pub comes : (turn : Turn) → IsTurn stored session before turn after made reply → Comes session before turn after made reply
+  comes turn taken = taken_comes turn taken.answered

@@ -1,74 +1,76 @@
--- What lines decide of a history: the version after each of them.
+-- What turns decide of a history: the version after each of them.
 use Rattle.std.specs.Prelude.{◌≡◌, ℕ, Bool, ◌||◌, List, [], ◌∷◌, ◌++◌, map, flat_map, bytes_eq}
 use Rattle.overlay_terms.specs.Layers.{Layer}
-use Rattle.overlay_terms.specs.Commands.{Command}
+use Rattle.overlay_terms.specs.Batches.{Batch}
 use Rattle.overlay_terms.specs.Histories.{Version, History, IsHistory, newest, accepted_in}
 use Rattle.script_form.specs.declared.fault.CommandFault.TheVariants.{OutOfMemory, Closing, Gone}
 use Rattle.script_form.specs.Replies.{error_line}
 use Rattle.script_form.specs.Transcript.{IsTurn, IsTranscript}
+use Rattle.script_form.specs.Turns.{Turn}
 
--- a line that was answered: the history that it led to, the commands that its session made, and the reply
-pub record Turn : Type 0 where
-  pub line : List ℕ
+-- a turn that was answered, of a line or of a batch with its lines: the history that it led to, the batches that its session
+-- made, and the reply
+pub record Answered : Type 0 where
+  pub turn : Turn
   pub after : History
-  pub made : List Command
+  pub made : List Batch
   pub reply : List ℕ
 
 -- the history that turns have led to
-abbrev pub history_after : History → List Turn → History
+abbrev pub history_after : History → List Answered → History
 history_after seen [] = seen
-history_after seen (turn ∷ turns) = history_after turn.after turns
+history_after seen (one ∷ more) = history_after one.after more
 
-abbrev pub lines_of : List Turn → List (List ℕ)
-lines_of turns = map (λ (turn : Turn). turn.line) turns
+abbrev pub turns_in : List Answered → List Turn
+turns_in all = map (λ (one : Answered). one.turn) all
 
--- all commands that were made by turns
-abbrev pub made_by : List Turn → List Command
-made_by turns = flat_map (λ (turn : Turn). turn.made) turns
+-- all batches that were made by turns
+abbrev pub made_by : List Answered → List Batch
+made_by all = flat_map (λ (one : Answered). one.made) all
 
--- lines of a session that were answered in turn, from what it had seen
-abbrev pub AreTurns : Bool → ℕ → History → List Turn → Type 0
-AreTurns stored session seen [] = Unit {0}
-AreTurns stored session seen (turn ∷ turns) =
-    IsTurn stored session seen turn.line turn.after turn.made turn.reply × AreTurns stored session turn.after turns
+-- turns of a session that were answered one after another, from what it had seen
+abbrev pub AreAnswered : Bool → ℕ → History → List Answered → Type 0
+AreAnswered stored session seen [] = Unit {0}
+AreAnswered stored session seen (one ∷ more) =
+    IsTurn stored session seen one.turn one.after one.made one.reply × AreAnswered stored session one.after more
 
--- a run of lines, as a transcript tells it: the lines, the history that they led to, the commands that were made, and
--- the replies
+-- a run of turns, as a transcript tells it: the turns, the history that they led to, the batches that were made, and the
+-- replies
 pub record Run : Type 0 where
-  pub lines : List (List ℕ)
+  pub turns : List Turn
   pub after : History
-  pub made : List Command
+  pub made : List Batch
   pub replies : List ℕ
 
 abbrev pub IsRun : Bool → ℕ → History → Run → Type 0
-IsRun stored session seen run = IsTranscript stored session seen run.lines run.after run.made run.replies
+IsRun stored session seen run = IsTranscript stored session seen run.turns run.after run.made run.replies
 
--- turns that tell the same
+-- the same, told turn by turn
 pub record AreTurnsOf (stored : Bool) (session : ℕ) (seen : History) (run : Run) : Type 0 where
-  pub turns : List Turn
-  pub told : AreTurns stored session seen turns
-  pub same_lines : lines_of turns ≡ run.lines
-  pub same_after : history_after seen turns ≡ run.after
-  pub same_made : made_by turns ≡ run.made
-  pub same_replies : flat_map (λ (turn : Turn). turn.reply) turns ≡ run.replies
+  pub all : List Answered
+  pub told : AreAnswered stored session seen all
+  pub same_turns : turns_in all ≡ run.turns
+  pub same_after : history_after seen all ≡ run.after
+  pub same_made : made_by all ≡ run.made
+  pub same_replies : flat_map (λ (one : Answered). one.reply) all ≡ run.replies
 
--- each transcript is told by turns
+-- each transcript is told turn by turn
 abbrev pub TranscriptsHaveTurns : Type 0
 TranscriptsHaveTurns =
     (stored : Bool) (session : ℕ) (seen : History) (run : Run) →
     IsRun stored session seen run → AreTurnsOf stored session seen run
 
--- whether a reply refuses a line for what neither lines nor layers decide: memory ran out, the book closes or is behind
+-- whether a reply refuses a turn for what neither lines nor layers decide: memory ran out, the book closes or is behind
 abbrev pub is_from_outside : List ℕ → Bool
 is_from_outside reply =
     bytes_eq reply (error_line OutOfMemory) || (bytes_eq reply (error_line Closing) || bytes_eq reply (error_line Gone))
 
--- turns of a session that was alone: they led to a history, and the commands that were accepted meanwhile are just
--- those that they made
-pub record AreAlone (stored : Bool) (session : ℕ) (seen : History) (turns : List Turn) : Type 0 where
-  pub told : AreTurns stored session seen turns
-  pub history : IsHistory (history_after seen turns)
-  pub alone : accepted_in (history_after seen turns).entries ≡ accepted_in seen.entries ++ made_by turns
+-- turns of a session that was alone: they led to a history, and the batches that were accepted meanwhile are just those
+-- that they made
+pub record AreAlone (stored : Bool) (session : ℕ) (seen : History) (all : List Answered) : Type 0 where
+  pub told : AreAnswered stored session seen all
+  pub history : IsHistory (history_after seen all)
+  pub alone : accepted_in (history_after seen all).entries ≡ accepted_in seen.entries ++ made_by all
 
 -- what is decided of a version: its number and its layers
 pub record Decided : Type 0 where
@@ -79,22 +81,23 @@ abbrev pub decided : Version → Decided
 decided version = record { number = version.number; layers = version.layers }
 
 -- the same of the newest version behind each turn
-abbrev pub decided_by : List Turn → List Decided
-decided_by turns = map (λ (turn : Turn). decided (newest turn.after)) turns
+abbrev pub decided_by : List Answered → List Decided
+decided_by all = map (λ (one : Answered). decided (newest one.after)) all
 
 -- which of some turns were refused from outside
-abbrev pub outside_of : List Turn → List Bool
-outside_of turns = map (λ (turn : Turn). is_from_outside turn.reply) turns
+abbrev pub outside_of : List Answered → List Bool
+outside_of all = map (λ (one : Answered). is_from_outside one.reply) all
 
--- two runs go alike: the versions behind their turns have the same numbers and layers, and the same commands were made
-pub record GoAlike (turns others : List Turn) : Type 0 where
-  pub versions : decided_by turns ≡ decided_by others
-  pub commands : map (λ (turn : Turn). turn.made) turns ≡ map (λ (turn : Turn). turn.made) others
+-- two runs go alike: the versions behind their turns have the same numbers and layers, and the same batches were made
+pub record GoAlike (all others : List Answered) : Type 0 where
+  pub versions : decided_by all ≡ decided_by others
+  pub batches : map (λ (one : Answered). one.made) all ≡ map (λ (one : Answered). one.made) others
 
--- two runs of the same lines from versions that are alike, of which the same were refused from outside, go alike
+-- two runs of the same turns from versions that are alike, of which the same were refused from outside, go alike; the turns
+-- are what the lines ask for, and so the same where the lines are
 abbrev pub LinesDecide : Type 0
 LinesDecide =
-    (stored other_stored : Bool) (session other : ℕ) (seen other_seen : History) (turns others : List Turn) →
-    AreAlone stored session seen turns → AreAlone other_stored other other_seen others →
-    decided (newest seen) ≡ decided (newest other_seen) → lines_of turns ≡ lines_of others →
-    outside_of turns ≡ outside_of others → GoAlike turns others
+    (stored other_stored : Bool) (session other : ℕ) (seen other_seen : History) (all others : List Answered) →
+    AreAlone stored session seen all → AreAlone other_stored other other_seen others →
+    decided (newest seen) ≡ decided (newest other_seen) → turns_in all ≡ turns_in others →
+    outside_of all ≡ outside_of others → GoAlike all others

@@ -3,7 +3,7 @@ use Rattle.std.proofs.Common.{◌≡◌, inl, inr, ℕ, true, List, Result, Ok, 
 use Rattle.std.proofs.lemmas.Bool.{false≢true}
 use Rattle.disk_model.specs.declared.disk.Disk.{Ghosts}
 use Rattle.disk_model.specs.Moments.{Leaves}
-use Rattle.overlay_terms.specs.Commands.{Command}
+use Rattle.overlay_terms.specs.Batches.{Batch}
 use Rattle.overlay_terms.specs.Histories.{Version}
 use Rattle.commit_plan.specs.declared.fault.StoreFault.{StoreFault}
 use Rattle.root_store.specs.declared.phase.Phase.{Phase}
@@ -41,12 +41,12 @@ module _ {D : Type 0} (g : Ghosts D) where
   busy_commits e version busy (inr (idle, same)) = absurd (false≢true (sym idle ∙ busy))
 
   -- where the store rests, the commit that begins is of the newest version
-  pub begun_commits : (start : Start) (commands : List Command) (e : Engine D) (mid : Flusher D) (version : Version) → e.flusher.commit.phase ≡ Idle
+  pub begun_commits : (start : Start) (batches : List Batch) (e : Engine D) (mid : Flusher D) (version : Version) → e.flusher.commit.phase ≡ Idle
       → ((x : Kept) → Stands g e.flusher.commit x → (y : Kept) × IsCommitOf e.version y × Runs g mid.commit x y)
-      → Covers g start e.flusher e.version commands → IsToCommit g e version → Commits g mid version
-  begun_commits start commands e mid version idle begun covers (inl commits) =
+      → Covers g start e.flusher e.version batches → IsToCommit g e version → Commits g mid version
+  begun_commits start batches e mid version idle begun covers (inl commits) =
       absurd (subst (λ (q : Phase). Before g q e.flusher.commit commits.x commits.y) idle commits.runs.before)
-  begun_commits start commands e mid version idle begun covers (inr (resting, same)) =
-      let rest : AtRest g start e.flusher commands = subst (λ (q : Phase). In g start q e.flusher commands) idle covers.store in
+  begun_commits start batches e mid version idle begun covers (inr (resting, same)) =
+      let rest : AtRest g start e.flusher batches = subst (λ (q : Phase). In g start q e.flusher batches) idle covers.store in
       let run = begun rest.x rest.stands in
       record { x = rest.x; y = run.0; of = subst (λ (v : Version). IsCommitOf v run.0) (sym same) run.1; runs = run.2 }

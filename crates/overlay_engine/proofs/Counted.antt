@@ -4,9 +4,13 @@ use Rattle.std.proofs.lemmas.Bool.{false≢true}
 use Rattle.std.specs.List.{AllByRecursion}
 use Rattle.disk_model.specs.declared.disk.Disk.{Ghosts}
 use Rattle.disk_model.specs.Disk as disks
+use Rattle.overlay_terms.specs.Batches.{BatchRefusal, at, whole}
 use Rattle.layer_book.specs.declared.fault.LayerFault.{LayerFault}
 use Rattle.layer_book.specs.declared.fault.LayerFault.TheVariants as layer
 use Rattle.layer_book.specs.Fault as layer_faults
+use Rattle.layer_book.specs.BatchFault as batch_faults
+use Rattle.layer_book.specs.declared.batch_fault.BatchFault.{BatchFault}
+use Rattle.layer_book.specs.declared.batch_fault.BatchFault.TheVariants.{Whole}
 use Rattle.commit_plan.specs.declared.fault.StoreFault.{StoreFault}
 use Rattle.commit_plan.specs.declared.fault.StoreFault.TheVariants as store
 use Rattle.commit_plan.specs.Fault as store_faults
@@ -21,7 +25,7 @@ use Rattle.flush_core.specs.declared.flusher.Flusher.{Flusher}
 use Rattle.flush_core.specs.Stored.{calls_of}
 use Rattle.overlay_engine.specs.declared.engine.Engine.{Engine}
 use Rattle.overlay_engine.specs.declared.step.Step.{Step}
-use Rattle.overlay_engine.specs.declared.step.Step.TheVariants.{Submit, Take, Finish, Device, Report}
+use Rattle.overlay_engine.specs.declared.step.Step.TheVariants.{Submit, SubmitAll, Take, Finish, Device, Report}
 use Rattle.overlay_engine.specs.declared.step.Reply.{Reply}
 use Rattle.overlay_engine.specs.declared.step.Reply.TheVariants.{Refused, Going, Done}
 use Rattle.overlay_engine.specs.Steps.{RefusedAs}
@@ -49,6 +53,18 @@ no_refusal : (reason : Option LayerFault) → RefusedAs reason 30 → ⊥
 no_refusal (Some fault) is = no_layer_fault fault is
 no_refusal None is = omega (arith, is)
 
+-- the number of the fault of a batch, where it has one
+code_in : Option BatchFault → ℕ
+code_in None = 0
+code_in (Some fault) = batch_faults.code_of fault
+
+no_batch_refusal : (reason : Option BatchRefusal) → batch_faults.RefusedAllBy reason (Whole 30) → ⊥
+unfolding code_in
+no_batch_refusal reason (inl (memory, none)) = omega (arith, ap batch_faults.code_of memory)
+no_batch_refusal None (inr is) = omega (arith, ap code_in is)
+no_batch_refusal (Some (at place reason)) (inr is) = no_layer_fault (layer_faults.fault_of reason) (sym (ap code_in is))
+no_batch_refusal (Some (whole reason)) (inr is) = no_layer_fault (layer_faults.fault_of reason) (sym (ap code_in is))
+
 -- no commit is kept from beginning by the device
 no_reason : {D : Type 0} (s : Commit D) (no_room : Type 0) (why : StoreFault) → IsReason s.phase s.root no_room why → 30 ≡ store_faults.code_of why → ⊥
 no_reason s no_room store.Device reason is = reason
@@ -70,6 +86,7 @@ module _ {D : Type 0} (g : Ghosts D) where
 
   pub device_refusals : DeviceRefusals g
   device_refusals (Submit change) old new acts = absurd (no_refusal _ acts.0)
+  device_refusals (SubmitAll batch) old new acts = absurd (no_batch_refusal _ acts.0)
   device_refusals (Take name column) old new acts = absurd (no_refusal _ acts.0)
   device_refusals (Finish number) old new acts = absurd (omega (arith, acts.1))
   device_refusals Device old new acts = (refl, device_failed old new acts)
@@ -127,6 +144,7 @@ module _ {D : Type 0} (g : Ghosts D) where
   one_more Device old reply new goes_on left acts =
       device_going old new left (subst (λ (r : Reply). Devices g old r new) (goes_on refl) acts)
   one_more (Submit change) old reply new goes_on left acts = other (Submit change) old new refl left ((makes g (Submit change) old reply new acts).1 refl)
+  one_more (SubmitAll batch) old reply new goes_on left acts = other (SubmitAll batch) old new refl left ((makes g (SubmitAll batch) old reply new acts).1 refl)
   one_more (Take name column) old reply new goes_on left acts = other (Take name column) old new refl left ((makes g (Take name column) old reply new acts).1 refl)
   one_more (Finish number) old reply new goes_on left acts = other (Finish number) old new refl left ((makes g (Finish number) old reply new acts).1 refl)
   one_more Report old reply new goes_on left acts = other Report old new refl left ((makes g Report old reply new acts).1 refl)
@@ -197,6 +215,7 @@ module _ {D : Type 0} (g : Ghosts D) where
       → g.is_honest old.flusher.commit.disk → g.is_honest new.flusher.commit.disk × (made_by new ≡ made_by old + calls_asked step)
   made_more Device old reply new goes_on left acts = once_going old new left (subst (λ (r : Reply). Devices g old r new) (goes_on refl) acts)
   made_more (Submit change) old reply new goes_on left acts = none_other (Submit change) old new refl ((makes g (Submit change) old reply new acts).1 refl)
+  made_more (SubmitAll batch) old reply new goes_on left acts = none_other (SubmitAll batch) old new refl ((makes g (SubmitAll batch) old reply new acts).1 refl)
   made_more (Take name column) old reply new goes_on left acts = none_other (Take name column) old new refl ((makes g (Take name column) old reply new acts).1 refl)
   made_more (Finish number) old reply new goes_on left acts = none_other (Finish number) old new refl ((makes g (Finish number) old reply new acts).1 refl)
   made_more Report old reply new goes_on left acts = none_other Report old new refl ((makes g Report old reply new acts).1 refl)

@@ -4,7 +4,7 @@ use Rattle.std.proofs.lemmas.List.{take-append-le, append-nil}
 use Rattle.disk_model.specs.declared.disk.Disk.{Ghosts}
 use Rattle.disk_model.specs.Moments.{Leaves}
 use Rattle.overlay_terms.specs.Layers.{Layer}
-use Rattle.overlay_terms.specs.Commands.{Command, applied}
+use Rattle.overlay_terms.specs.Batches.{Batch, applied_all}
 use Rattle.overlay_terms.specs.Histories.{Version, Event, accepted, kept, durable_to, Follows}
 use Rattle.overlay_terms.specs.KeptLaws.{IsExact}
 use Rattle.overlay_terms.proofs.KeptHistories.{exactness_stays, layers_stay_orderly}
@@ -21,32 +21,32 @@ use Rattle.overlay_engine.specs.Start.{Start, layers_from}
 use Rattle.overlay_engine.specs.Covers.{IsStored, Covered, UnderWay, In, Covers, added, ReportsStored}
 use Rattle.overlay_engine.specs.Laws.{EventsCover, CoveredStays}
 
--- ---- more commands, and a smaller least
+-- ---- more batches, and a smaller least
 
 module _ (start : Start) where
-  pub stored_more : (commands more : List Command) (x : Held) → IsStored start commands x → IsStored start (commands ++ more) x
-  stored_more commands more x is = record {
+  pub stored_more : (batches more : List Batch) (x : Held) → IsStored start batches x → IsStored start (batches ++ more) x
+  stored_more batches more x is = record {
     since = is.since;
-    no_later = omega (arith, is.no_later, length-append commands more);
-    layers = is.layers ∙ ap (layers_from start) (sym (take-append-le (x.number - start.number) commands more (omega (arith, is.no_later))));
+    no_later = omega (arith, is.no_later, length-append batches more);
+    layers = is.layers ∙ ap (layers_from start) (sym (take-append-le (x.number - start.number) batches more (omega (arith, is.no_later))));
     exact = is.exact;
   }
 
-  pub covered_more : (least : ℕ) (commands more : List Command) (file : List ℕ) → Covered start least commands file → Covered start least (commands ++ more) file
-  covered_more least commands more file c = record { held = c.held; no_less = c.no_less; stored = stored_more commands more c.held c.stored; stands = c.stands }
+  pub covered_more : (least : ℕ) (batches more : List Batch) (file : List ℕ) → Covered start least batches file → Covered start least (batches ++ more) file
+  covered_more least batches more file c = record { held = c.held; no_less = c.no_less; stored = stored_more batches more c.held c.stored; stands = c.stands }
 
-  pub covered_less : (low least : ℕ) (commands : List Command) (file : List ℕ) → low ≤ least → Covered start least commands file → Covered start low commands file
-  covered_less low least commands file le c = record { held = c.held; no_less = omega (arith, le, c.no_less); stored = c.stored; stands = c.stands }
+  pub covered_less : (low least : ℕ) (batches : List Batch) (file : List ℕ) → low ≤ least → Covered start least batches file → Covered start low batches file
+  covered_less low least batches file le c = record { held = c.held; no_less = omega (arith, le, c.no_less); stored = c.stored; stands = c.stands }
 
   -- either end of a commit is covered
-  pub either_covered : (least : ℕ) (commands : List Command) (x y : Kept) (file : List ℕ) → least ≤ x.held.number → least ≤ y.held.number
-      → IsStored start commands x.held → IsStored start commands y.held → Either x y file → Covered start least commands file
-  either_covered least commands x y file le_x le_y is_x is_y (inl old) = record { held = x.held; no_less = le_x; stored = is_x; stands = old }
-  either_covered least commands x y file le_x le_y is_x is_y (inr new) = record { held = y.held; no_less = le_y; stored = is_y; stands = new }
+  pub either_covered : (least : ℕ) (batches : List Batch) (x y : Kept) (file : List ℕ) → least ≤ x.held.number → least ≤ y.held.number
+      → IsStored start batches x.held → IsStored start batches y.held → Either x y file → Covered start least batches file
+  either_covered least batches x y file le_x le_y is_x is_y (inl old) = record { held = x.held; no_less = le_x; stored = is_x; stands = old }
+  either_covered least batches x y file le_x le_y is_x is_y (inr new) = record { held = y.held; no_less = le_y; stored = is_y; stands = new }
 
-layers_push : (commands : List Command) (command : Command) (layers : List Layer) → fold applied layers (commands ++ command ∷ []) ≡ applied (fold applied layers commands) command
-layers_push [] command layers = refl
-layers_push (c ∷ commands) command layers = layers_push commands command (applied layers c)
+layers_push : (batches : List Batch) (batch : Batch) (layers : List Layer) → fold applied_all layers (batches ++ batch ∷ []) ≡ applied_all (fold applied_all layers batches) batch
+layers_push [] batch layers = refl
+layers_push (first ∷ batches) batch layers = layers_push batches batch (applied_all layers first)
 
 pub exact_after : (old new : Version) (event : Event) → Follows old event new → IsExact old → IsExact new
 exact_after old new event follows exact =
@@ -67,64 +67,64 @@ module _ {D : Type 0} (g : Ghosts D) where
 module _ {D : Type 0} (g : Ghosts D) (start : Start) where
   -- ---- what a crash leaves
 
-  pub way_either : (f : Flusher D) (commands : List Command) (way : UnderWay g start f commands) (c : List ℕ) → Either way.x way.y c → Covered start f.commit.root.version commands c
-  way_either f commands way c either = either_covered start f.commit.root.version commands way.x way.y c (omega (arith, way.number)) way.later way.stored way.storing either
+  pub way_either : (f : Flusher D) (batches : List Batch) (way : UnderWay g start f batches) (c : List ℕ) → Either way.x way.y c → Covered start f.commit.root.version batches c
+  way_either f batches way c either = either_covered start f.commit.root.version batches way.x way.y c (omega (arith, way.number)) way.later way.stored way.storing either
 
-  pub way_covered : (f : Flusher D) (commands : List Command) → UnderWay g start f commands → Leaves g f.commit.disk (Covered start f.commit.root.version commands)
-  way_covered f commands way c left = way_either f commands way c (before_leaves g f.commit.phase f.commit way.x way.y way.runs.before c left)
+  pub way_covered : (f : Flusher D) (batches : List Batch) → UnderWay g start f batches → Leaves g f.commit.disk (Covered start f.commit.root.version batches)
+  way_covered f batches way c left = way_either f batches way c (before_leaves g f.commit.phase f.commit way.x way.y way.runs.before c left)
 
   -- whatever the phase, each outcome is covered
-  in_covered : (p : Phase) (f : Flusher D) (commands : List Command) → In g start p f commands → Leaves g f.commit.disk (Covered start f.commit.root.version commands)
-  in_covered Idle f commands rest c left = record { held = rest.x.held; no_less = omega (arith, rest.number); stored = rest.stored; stands = calm_stands rest.x c (rest.stands.leaves c left) }
-  in_covered Failed f commands store c left = store c left
-  in_covered Close f commands way c left = way_covered f commands way c left
-  in_covered Settle f commands way c left = way_covered f commands way c left
-  in_covered Put f commands way c left = way_covered f commands way c left
-  in_covered Open f commands way c left = way_covered f commands way c left
-  in_covered Finish f commands way c left = way_covered f commands way c left
+  in_covered : (p : Phase) (f : Flusher D) (batches : List Batch) → In g start p f batches → Leaves g f.commit.disk (Covered start f.commit.root.version batches)
+  in_covered Idle f batches rest c left = record { held = rest.x.held; no_less = omega (arith, rest.number); stored = rest.stored; stands = calm_stands rest.x c (rest.stands.leaves c left) }
+  in_covered Failed f batches store c left = store c left
+  in_covered Close f batches way c left = way_covered f batches way c left
+  in_covered Settle f batches way c left = way_covered f batches way c left
+  in_covered Put f batches way c left = way_covered f batches way c left
+  in_covered Open f batches way c left = way_covered f batches way c left
+  in_covered Finish f batches way c left = way_covered f batches way c left
 
-  pub stored_leaves : (f : Flusher D) (version : Version) (commands : List Command) → Covers g start f version commands → Leaves g f.commit.disk (Covered start f.commit.root.version commands)
-  stored_leaves f version commands covers = in_covered f.commit.phase f commands covers.store
+  pub stored_leaves : (f : Flusher D) (version : Version) (batches : List Batch) → Covers g start f version batches → Leaves g f.commit.disk (Covered start f.commit.root.version batches)
+  stored_leaves f version batches covers = in_covered f.commit.phase f batches covers.store
 
-  pub reported_leaves : (f : Flusher D) (version : Version) (commands : List Command) → Covers g start f version commands → Leaves g f.commit.disk (Covered start version.durable commands)
-  reported_leaves f version commands covers c left = covered_less start version.durable f.commit.root.version commands c covers.reported (stored_leaves f version commands covers c left)
+  pub reported_leaves : (f : Flusher D) (version : Version) (batches : List Batch) → Covers g start f version batches → Leaves g f.commit.disk (Covered start version.durable batches)
+  reported_leaves f version batches covers c left = covered_less start version.durable f.commit.root.version batches c covers.reported (stored_leaves f version batches covers c left)
 
   -- ---- events
 
-  way_more : (f : Flusher D) (commands more : List Command) → UnderWay g start f commands → UnderWay g start f (commands ++ more)
-  way_more f commands more way = record {
+  way_more : (f : Flusher D) (batches more : List Batch) → UnderWay g start f batches → UnderWay g start f (batches ++ more)
+  way_more f batches more way = record {
     x = way.x;
     y = way.y;
     number = way.number;
-    stored = stored_more start commands more way.x.held way.stored;
+    stored = stored_more start batches more way.x.held way.stored;
     next_number = way.next_number;
-    storing = stored_more start commands more way.y.held way.storing;
+    storing = stored_more start batches more way.y.held way.storing;
     later = way.later;
     runs = way.runs;
   }
 
-  in_more : (p : Phase) (f : Flusher D) (commands more : List Command) → In g start p f commands → In g start p f (commands ++ more)
-  in_more Idle f commands more rest = record { x = rest.x; number = rest.number; stored = stored_more start commands more rest.x.held rest.stored; stands = rest.stands }
-  in_more Failed f commands more store = λ c left. covered_more start f.commit.root.version commands more c (store c left)
-  in_more Close f commands more way = way_more f commands more way
-  in_more Settle f commands more way = way_more f commands more way
-  in_more Put f commands more way = way_more f commands more way
-  in_more Open f commands more way = way_more f commands more way
-  in_more Finish f commands more way = way_more f commands more way
+  in_more : (p : Phase) (f : Flusher D) (batches more : List Batch) → In g start p f batches → In g start p f (batches ++ more)
+  in_more Idle f batches more rest = record { x = rest.x; number = rest.number; stored = stored_more start batches more rest.x.held rest.stored; stands = rest.stands }
+  in_more Failed f batches more store = λ c left. covered_more start f.commit.root.version batches more c (store c left)
+  in_more Close f batches more way = way_more f batches more way
+  in_more Settle f batches more way = way_more f batches more way
+  in_more Put f batches more way = way_more f batches more way
+  in_more Open f batches more way = way_more f batches more way
+  in_more Finish f batches more way = way_more f batches more way
 
-  event_covers : (f : Flusher D) (old new : Version) (event : Event) (commands : List Command) → Covers g start f old commands → Follows old event new → ReportsStored f event
-      → Covers g start f new (commands ++ added event)
-  event_covers f old new (accepted session command) commands covers follows reported = record {
+  event_covers : (f : Flusher D) (old new : Version) (event : Event) (batches : List Batch) → Covers g start f old batches → Follows old event new → ReportsStored f event
+      → Covers g start f new (batches ++ added event)
+  event_covers f old new (accepted session batch) batches covers follows reported = record {
     honest = covers.honest;
-    number = follows.number ∙ omega (arith, covers.number, length-append commands (command ∷ []));
-    layers = follows.layers ∙ ap (λ (l : List Layer). applied l command) covers.layers ∙ sym (layers_push commands command start.layers);
-    exact = exact_after old new (accepted session command) follows covers.exact;
+    number = follows.number ∙ omega (arith, covers.number, length-append batches (batch ∷ []));
+    layers = follows.layers ∙ ap (λ (l : List Layer). applied_all l batch) covers.layers ∙ sym (layers_push batches batch start.layers);
+    exact = exact_after old new (accepted session batch) follows covers.exact;
     reported = omega (arith, covers.reported, follows.durable);
     stored = omega (arith, covers.stored, follows.number);
-    store = in_more f.commit.phase f commands (command ∷ []) covers.store;
+    store = in_more f.commit.phase f batches (batch ∷ []) covers.store;
   }
-  event_covers f old new (kept name column tile) commands covers follows reported =
-      subst (Covers g start f new) (sym (append-nil commands)) (record {
+  event_covers f old new (kept name column tile) batches covers follows reported =
+      subst (Covers g start f new) (sym (append-nil batches)) (record {
         honest = covers.honest;
         number = follows.number ∙ covers.number;
         layers = follows.layers ∙ covers.layers;
@@ -133,8 +133,8 @@ module _ {D : Type 0} (g : Ghosts D) (start : Start) where
         stored = omega (arith, covers.stored, follows.number);
         store = covers.store;
       })
-  event_covers f old new (durable_to number) commands covers follows reported =
-      subst (Covers g start f new) (sym (append-nil commands)) (record {
+  event_covers f old new (durable_to number) batches covers follows reported =
+      subst (Covers g start f new) (sym (append-nil batches)) (record {
         honest = covers.honest;
         number = follows.same_number ∙ covers.number;
         layers = follows.layers ∙ covers.layers;
@@ -145,7 +145,7 @@ module _ {D : Type 0} (g : Ghosts D) (start : Start) where
       })
 
 pub events_cover : {D : Type 0} (g : Ghosts D) → EventsCover g
-events_cover g start f old new event commands covers follows reported = event_covers g start f old new event commands covers follows reported
+events_cover g start f old new event batches covers follows reported = event_covers g start f old new event batches covers follows reported
 
 pub covers_leaves : {D : Type 0} (g : Ghosts D) → CoveredStays g
-covers_leaves g start f version commands covers = stored_leaves g start f version commands covers
+covers_leaves g start f version batches covers = stored_leaves g start f version batches covers

@@ -4,7 +4,7 @@ use Rattle.std.proofs.lemmas.Bool.{false≢true}
 use Rattle.disk_model.specs.declared.disk.Disk.{Ghosts}
 use Rattle.disk_model.specs.Moments.{Leaves}
 use Rattle.disk_model.proofs.Runs.{widened}
-use Rattle.overlay_terms.specs.Commands.{Command}
+use Rattle.overlay_terms.specs.Batches.{Batch}
 use Rattle.overlay_terms.specs.Histories.{Version}
 use Rattle.commit_plan.specs.declared.fault.StoreFault.{StoreFault}
 use Rattle.root_store.specs.declared.phase.Phase.{Phase}
@@ -21,30 +21,30 @@ use Rattle.overlay_engine.specs.Covers.{Covered, CoveredExactly, UnderWay, In, C
 use Rattle.overlay_engine.proofs.Covering.{covered_less, way_either, way_covered}
 
 module _ {D : Type 0} (g : Ghosts D) (start : Start) where
-  way_of : (p : Phase) (f : Flusher D) (commands : List Command) → is_busy p ≡ true → In g start p f commands → UnderWay g start f commands
-  way_of Idle f commands busy store = absurd (false≢true busy)
-  way_of Failed f commands busy store = absurd (false≢true busy)
-  way_of Close f commands busy store = store
-  way_of Settle f commands busy store = store
-  way_of Put f commands busy store = store
-  way_of Open f commands busy store = store
-  way_of Finish f commands busy store = store
+  way_of : (p : Phase) (f : Flusher D) (batches : List Batch) → is_busy p ≡ true → In g start p f batches → UnderWay g start f batches
+  way_of Idle f batches busy store = absurd (false≢true busy)
+  way_of Failed f batches busy store = absurd (false≢true busy)
+  way_of Close f batches busy store = store
+  way_of Settle f batches busy store = store
+  way_of Put f batches busy store = store
+  way_of Open f batches busy store = store
+  way_of Finish f batches busy store = store
 
-  way_in : (p : Phase) (f : Flusher D) (commands : List Command) → f.commit.phase ≡ p → UnderWay g start f commands → In g start p f commands
-  way_in Idle f commands is way = absurd (subst (λ (q : Phase). Before g q f.commit way.x way.y) is way.runs.before)
-  way_in Failed f commands is way = way_covered g start f commands way
-  way_in Close f commands is way = way
-  way_in Settle f commands is way = way
-  way_in Put f commands is way = way
-  way_in Open f commands is way = way
-  way_in Finish f commands is way = way
+  way_in : (p : Phase) (f : Flusher D) (batches : List Batch) → f.commit.phase ≡ p → UnderWay g start f batches → In g start p f batches
+  way_in Idle f batches is way = absurd (subst (λ (q : Phase). Before g q f.commit way.x way.y) is way.runs.before)
+  way_in Failed f batches is way = way_covered g start f batches way
+  way_in Close f batches is way = way
+  way_in Settle f batches is way = way
+  way_in Put f batches is way = way
+  way_in Open f batches is way = way
+  way_in Finish f batches is way = way
 
-  module _ (f new : Flusher D) (version : Version) (commands : List Command) (covers : Covers g start f version commands) (way : UnderWay g start f commands) where
-    reported : (c : List ℕ) → Either way.x way.y c → Covered start version.durable commands c
-    reported c either = covered_less start version.durable f.commit.root.version commands c covers.reported (way_either g start f commands way c either)
+  module _ (f new : Flusher D) (version : Version) (batches : List Batch) (covers : Covers g start f version batches) (way : UnderWay g start f batches) where
+    reported : (c : List ℕ) → Either way.x way.y c → Covered start version.durable batches c
+    reported c either = covered_less start version.durable f.commit.root.version batches c covers.reported (way_either g start f batches way c either)
 
     moved : (result : Result Progress StoreFault) → new.commit.root.version ≡ stored_after result f.commit.root.version → (g.is_honest f.commit.disk → g.is_honest new.commit.disk)
-        → Stepped g f.commit new.commit result way.x way.y → Moves g start f new version commands
+        → Stepped g f.commit new.commit result way.x way.y → Moves g start f new version batches
     moved (Ok progress.Idle) stored honest stepped = absurd stepped.ok
     moved (Ok progress.Going) stored honest stepped = record {
       covers = record {
@@ -54,7 +54,7 @@ module _ {D : Type 0} (g : Ghosts D) (start : Start) where
         exact = covers.exact;
         reported = omega (arith, covers.reported, stored);
         stored = omega (arith, covers.stored, stored);
-        store = way_in new.commit.phase new commands refl (record {
+        store = way_in new.commit.phase new batches refl (record {
           x = way.x;
           y = way.y;
           number = way.number ∙ sym stored;
@@ -65,7 +65,7 @@ module _ {D : Type 0} (g : Ghosts D) (start : Start) where
           runs = stepped.ok;
         });
       };
-      moments = widened g f.commit.disk new.commit.disk (Either way.x way.y) (Covered start version.durable commands) reported stepped.moments;
+      moments = widened g f.commit.disk new.commit.disk (Either way.x way.y) (Covered start version.durable batches) reported stepped.moments;
     }
     moved (Ok (progress.Done number)) stored honest stepped =
         let stands = stepped.ok.0 in
@@ -78,9 +78,9 @@ module _ {D : Type 0} (g : Ghosts D) (start : Start) where
             exact = covers.exact;
             reported = omega (arith, covers.reported, way.later, here);
             stored = omega (arith, way.storing.no_later, here, covers.number);
-            store = subst (λ (q : Phase). In g start q new commands) (sym stands.idle) (record { x = way.y; number = here; stored = way.storing; stands = stands });
+            store = subst (λ (q : Phase). In g start q new batches) (sym stands.idle) (record { x = way.y; number = here; stored = way.storing; stands = stands });
           };
-          moments = widened g f.commit.disk new.commit.disk (Either way.x way.y) (Covered start version.durable commands) reported stepped.moments;
+          moments = widened g f.commit.disk new.commit.disk (Either way.x way.y) (Covered start version.durable batches) reported stepped.moments;
         }
     moved (Err fault) stored honest stepped = record {
       covers = record {
@@ -90,26 +90,26 @@ module _ {D : Type 0} (g : Ghosts D) (start : Start) where
         exact = covers.exact;
         reported = omega (arith, covers.reported, stored);
         stored = omega (arith, covers.stored, stored);
-        store = subst (λ (q : Phase). In g start q new commands) (sym stepped.err.1)
-            (λ c left. subst (λ (n : ℕ). Covered start n commands c) (sym stored) (way_either g start f commands way c (stepped.err.0 c left)));
+        store = subst (λ (q : Phase). In g start q new batches) (sym stepped.err.1)
+            (λ c left. subst (λ (n : ℕ). Covered start n batches c) (sym stored) (way_either g start f batches way c (stepped.err.0 c left)));
       };
-      moments = widened g f.commit.disk new.commit.disk (Either way.x way.y) (Covered start version.durable commands) reported stepped.moments;
+      moments = widened g f.commit.disk new.commit.disk (Either way.x way.y) (Covered start version.durable batches) reported stepped.moments;
     }
 
   -- a call keeps the store covering, and a crash at any moment of it leaves what is no older than what was durable
-  pub called : (f new : Flusher D) (version : Version) (commands : List Command) (result : Result Progress StoreFault) → is_busy f.commit.phase ≡ true → new.commit.root.version ≡ stored_after result f.commit.root.version
+  pub called : (f new : Flusher D) (version : Version) (batches : List Batch) (result : Result Progress StoreFault) → is_busy f.commit.phase ≡ true → new.commit.root.version ≡ stored_after result f.commit.root.version
       → (g.is_honest f.commit.disk → g.is_honest new.commit.disk) → ((x y : Kept) → Runs g f.commit x y → Stepped g f.commit new.commit result x y)
-      → Covers g start f version commands → Moves g start f new version commands
-  called f new version commands result busy stored honest steps covers =
-      let way = way_of f.commit.phase f commands busy covers.store in
-      moved f new version commands covers way result stored honest (steps way.x way.y way.runs)
+      → Covers g start f version batches → Moves g start f new version batches
+  called f new version batches result busy stored honest steps covers =
+      let way = way_of f.commit.phase f batches busy covers.store in
+      moved f new version batches covers way result stored honest (steps way.x way.y way.runs)
 
   -- after the last call a crash leaves what the commit began with
-  pub ended : (f new : Flusher D) (version : Version) (commands : List Command) (result : Result Progress StoreFault) (number : ℕ) → is_busy f.commit.phase ≡ true → result ≡ Ok (progress.Done number)
-      → ((x y : Kept) → Runs g f.commit x y → Stepped g f.commit new.commit result x y) → Covers g start f version commands
-      → Leaves g new.commit.disk (CoveredExactly start number commands)
-  ended f new version commands result number busy is steps covers c left =
-      let way = way_of f.commit.phase f commands busy covers.store in
+  pub ended : (f new : Flusher D) (version : Version) (batches : List Batch) (result : Result Progress StoreFault) (number : ℕ) → is_busy f.commit.phase ≡ true → result ≡ Ok (progress.Done number)
+      → ((x y : Kept) → Runs g f.commit x y → Stepped g f.commit new.commit result x y) → Covers g start f version batches
+      → Leaves g new.commit.disk (CoveredExactly start number batches)
+  ended f new version batches result number busy is steps covers c left =
+      let way = way_of f.commit.phase f batches busy covers.store in
       let stepped : Stepped g f.commit new.commit (Ok (progress.Done number)) way.x way.y =
       subst (λ (r : Result Progress StoreFault). Stepped g f.commit new.commit r way.x way.y) is (steps way.x way.y way.runs) in
       record { held = way.y.held; exactly = way.next_number ∙ sym stepped.ok.1; stored = way.storing; stands = calm_stands way.y c (stepped.ok.0.leaves c left) }

@@ -3,7 +3,7 @@ use Rattle.std.proofs.Common.{◌≡◌, ℕ, false, List, Result, Ok, Err, refl
 use Rattle.std.proofs.lemmas.Bool.{false≢true}
 use Rattle.disk_model.specs.declared.disk.Disk.{Ghosts}
 use Rattle.disk_model.specs.Moments.{LeavesOnly}
-use Rattle.overlay_terms.specs.Commands.{Command}
+use Rattle.overlay_terms.specs.Batches.{Batch}
 use Rattle.overlay_terms.specs.Histories.{Version}
 use Rattle.root_store.specs.declared.phase.Phase.{Phase}
 use Rattle.root_store.specs.declared.phase.Phase.TheVariants.{Idle, Close, Settle, Put, Open, Finish, Failed}
@@ -35,20 +35,20 @@ resting Finish busy well = absurd (false≢true (sym busy))
 
 module _ {D : Type 0} (g : Ghosts D) (start : Start) where
   -- what the first call of a commit that begins does, the step does
-  pub begun_moves : (f mid new : Flusher D) (version : Version) (commands : List Command) → f.commit.phase ≡ Idle → mid.commit.disk ≡ f.commit.disk
-      → IsBegun g f mid version → (Covers g start mid version commands → Moves g start mid new version commands)
-      → Covers g start f version commands → Moves g start f new version commands
-  begun_moves f mid new version commands idle disk begun call covers =
-      let moves = call (begun_covers g start f mid version commands idle covers begun) in
+  pub begun_moves : (f mid new : Flusher D) (version : Version) (batches : List Batch) → f.commit.phase ≡ Idle → mid.commit.disk ≡ f.commit.disk
+      → IsBegun g f mid version → (Covers g start mid version batches → Moves g start mid new version batches)
+      → Covers g start f version batches → Moves g start f new version batches
+  begun_moves f mid new version batches idle disk begun call covers =
+      let moves = call (begun_covers g start f mid version batches idle covers begun) in
       record {
         covers = moves.covers;
-        moments = subst (λ (d : D). LeavesOnly g d new.commit.disk (Covered start version.durable commands)) disk moves.moments;
+        moments = subst (λ (d : D). LeavesOnly g d new.commit.disk (Covered start version.durable batches)) disk moves.moments;
       }
 
   -- a step that makes no call moves nothing
-  pub stays : (f new : Flusher D) (version : Version) (commands : List Command) → new ≡ f
+  pub stays : (f new : Flusher D) (version : Version) (batches : List Batch) → new ≡ f
       → ((c : List ℕ) → g.left_since f.commit.disk (g.moment f.commit.disk) c → g.may_leave f.commit.disk c)
-      → Covers g start f version commands → Moves g start f new version commands
-  stays f new version commands is now covers =
-      subst (λ (n : Flusher D). Moves g start f n version commands) (sym is)
-      (record { covers = covers; moments = stays_covered g start f version commands f.commit.disk refl now covers })
+      → Covers g start f version batches → Moves g start f new version batches
+  stays f new version batches is now covers =
+      subst (λ (n : Flusher D). Moves g start f n version batches) (sym is)
+      (record { covers = covers; moments = stays_covered g start f version batches f.commit.disk refl now covers })

@@ -1,16 +1,17 @@
 -- What each step makes of the version and the store, whatever the disk does.
-use Rattle.std.proofs.Common.{◌≡◌, ◌⊎◌, inl, inr, ◌≤◌, ℕ, sym, ap, subst, arith}
+use Rattle.std.proofs.Common.{◌≡◌, ◌⊎◌, inl, inr, ◌≤◌, ℕ, [], ◌∷◌, sym, ap, subst, arith}
 use Rattle.disk_model.specs.declared.disk.Disk.{Ghosts}
 use Rattle.overlay_terms.specs.Histories.{Version, Event, accepted, kept, durable_to, Follows}
 use Rattle.overlay_terms.specs.KeptLaws.{IsExact}
+use Rattle.overlay_terms.proofs.BatchLemmas.{one_follows_alike}
 use Rattle.layer_book.specs.Command.{command}
 use Rattle.root_store.specs.Running.{KeepsTo}
 use Rattle.flush_core.specs.declared.flusher.Flusher.{Flusher}
 use Rattle.overlay_engine.specs.declared.engine.Engine.{Engine}
 use Rattle.overlay_engine.specs.declared.step.Step.{Step}
-use Rattle.overlay_engine.specs.declared.step.Step.TheVariants.{Submit, Take, Finish, Device, Report}
+use Rattle.overlay_engine.specs.declared.step.Step.TheVariants.{Submit, SubmitAll, Take, Finish, Device, Report}
 use Rattle.overlay_engine.specs.declared.step.Reply.{Reply}
-use Rattle.overlay_engine.specs.declared.step.Reply.TheVariants.{Accepted, Refused, Taken, NoJob, Kept, Stale, Going, Done, Durable}
+use Rattle.overlay_engine.specs.declared.step.Reply.TheVariants.{Accepted, Refused, RefusedAt, Taken, NoJob, Kept, Stale, Going, Done, Durable}
 use Rattle.overlay_engine.specs.Acts.{Acts}
 use Rattle.overlay_engine.specs.Counting.{calls_asked}
 use Rattle.overlay_engine.proofs.Covering.{exact_after}
@@ -29,21 +30,33 @@ module _ {D : Type 0} (g : Ghosts D) where
   all_same step old new same = (inl (ap (λ (e : Engine D). e.version) same), λ none. ap (λ (e : Engine D). e.flusher) same)
 
   pub makes : (step : Step) (old : Engine D) (reply : Reply) (new : Engine D) → Acts g step old reply new → Makes step old new
-  makes (Submit change) old (Accepted number) new acts = (inr (accepted 0 (command change), acts.0), λ none. ap (λ (e : Engine D). e.flusher) acts.2)
+  makes (Submit change) old (Accepted number) new acts = (inr (accepted 0 (command change ∷ []), (one_follows_alike old.version new.version (command change)).1 acts.0), λ none. ap (λ (e : Engine D). e.flusher) acts.2)
   makes (Submit change) old (Refused code) new acts = all_same (Submit change) old new acts.1
   makes (Submit change) old (Taken number) new acts = absurd acts
   makes (Submit change) old NoJob new acts = absurd acts
   makes (Submit change) old Kept new acts = absurd acts
   makes (Submit change) old Stale new acts = absurd acts
+  makes (Submit change) old (RefusedAt place code) new acts = absurd acts
   makes (Submit change) old Going new acts = absurd acts
   makes (Submit change) old (Done number) new acts = absurd acts
   makes (Submit change) old (Durable number) new acts = absurd acts
+  makes (SubmitAll batch) old (Accepted number) new acts = (inr (accepted 0 batch, acts.0), λ none. ap (λ (e : Engine D). e.flusher) acts.2)
+  makes (SubmitAll batch) old (Refused code) new acts = all_same (SubmitAll batch) old new acts.1
+  makes (SubmitAll batch) old (RefusedAt place code) new acts = all_same (SubmitAll batch) old new acts.1
+  makes (SubmitAll batch) old (Taken number) new acts = absurd acts
+  makes (SubmitAll batch) old NoJob new acts = absurd acts
+  makes (SubmitAll batch) old Kept new acts = absurd acts
+  makes (SubmitAll batch) old Stale new acts = absurd acts
+  makes (SubmitAll batch) old Going new acts = absurd acts
+  makes (SubmitAll batch) old (Done number) new acts = absurd acts
+  makes (SubmitAll batch) old (Durable number) new acts = absurd acts
   makes (Take name column) old (Taken number) new acts = (inl acts.2.version, λ none. acts.2.flusher)
   makes (Take name column) old NoJob new acts = all_same (Take name column) old new acts.2
   makes (Take name column) old (Refused code) new acts = (inl acts.2.version, λ none. acts.2.flusher)
   makes (Take name column) old (Accepted number) new acts = absurd acts
   makes (Take name column) old Kept new acts = absurd acts
   makes (Take name column) old Stale new acts = absurd acts
+  makes (Take name column) old (RefusedAt place code) new acts = absurd acts
   makes (Take name column) old Going new acts = absurd acts
   makes (Take name column) old (Done number) new acts = absurd acts
   makes (Take name column) old (Durable number) new acts = absurd acts
@@ -52,6 +65,7 @@ module _ {D : Type 0} (g : Ghosts D) where
   makes (Finish job) old NoJob new acts = all_same (Finish job) old new acts.1
   makes (Finish job) old (Refused code) new acts = all_same (Finish job) old new acts.2
   makes (Finish job) old (Accepted number) new acts = absurd acts
+  makes (Finish job) old (RefusedAt place code) new acts = absurd acts
   makes (Finish job) old (Taken number) new acts = absurd acts
   makes (Finish job) old Going new acts = absurd acts
   makes (Finish job) old (Done number) new acts = absurd acts
@@ -65,6 +79,7 @@ module _ {D : Type 0} (g : Ghosts D) where
   makes Report old NoJob new acts = absurd acts
   makes Report old Kept new acts = absurd acts
   makes Report old Stale new acts = absurd acts
+  makes Report old (RefusedAt place code) new acts = absurd acts
   makes Report old Going new acts = absurd acts
   makes Report old (Done number) new acts = absurd acts
 
@@ -84,6 +99,6 @@ module _ {D : Type 0} (g : Ghosts D) where
   durable_rises step old reply new acts = risen (makes step old reply new acts).0 where
     risen : GoesOn old.version new.version → old.version.durable ≤ new.version.durable
     risen (inl same) = omega (arith, ap (λ (v : Version). v.durable) same)
-    risen (inr (accepted session command, follows)) = omega (arith, follows.durable)
+    risen (inr (accepted session batch, follows)) = omega (arith, follows.durable)
     risen (inr (kept name column tile, follows)) = omega (arith, follows.durable)
     risen (inr (durable_to number, follows)) = omega (arith, follows.durable, follows.risen)

@@ -4,7 +4,7 @@ use Rattle.std.proofs.lemmas.List.{take-take, take-append-le}
 use Rattle.std.specs.List.{AllByRecursion}
 use Rattle.disk_model.specs.declared.disk.Disk.{Ghosts}
 use Rattle.disk_model.specs.Moments.{Leaves}
-use Rattle.overlay_terms.specs.Commands.{Command}
+use Rattle.overlay_terms.specs.Batches.{Batch}
 use Rattle.overlay_engine.specs.Start.{Start, up_to}
 use Rattle.overlay_engine.specs.Covers.{Covered, Covers}
 use Rattle.overlay_engine.specs.Acts.{accepted_by}
@@ -12,36 +12,36 @@ use Rattle.overlay_engine.specs.Lives.{Stage, IsCovered, StepsTo, TriesTo, Crash
 use Rattle.overlay_engine.proofs.Following.{durable_rises}
 
 module _ {D : Type 0} (g : Ghosts D) (start : Start) where
-  -- the commands up to what is durable are there
-  durable_there : (stage : Stage D) → IsCovered g start stage → stage.engine.version.durable - start.number ≤ length stage.commands
+  -- the batches up to what is durable are there
+  durable_there : (stage : Stage D) → IsCovered g start stage → stage.engine.version.durable - start.number ≤ length stage.batches
   durable_there stage covered = omega (arith, covered.reported, covered.stored, covered.number)
 
   over_a_step : (old new : Stage D) → StepsTo g start old new → IsCovered g start old → Keeps g start old new
   over_a_step old new steps covered =
       let d = old.engine.version.durable - start.number in
       record {
-        covered = subst (Covers g start new.engine.flusher new.engine.version) (sym steps.commands) (steps.survives covered).covers;
+        covered = subst (Covers g start new.engine.flusher new.engine.version) (sym steps.batches) (steps.survives covered).covers;
         durable = durable_rises g steps.step old.engine steps.reply new.engine steps.acts;
-        same = ap (up_to start old.engine.version.durable) steps.commands ∙ take-append-le d old.commands (accepted_by steps.step steps.reply) (durable_there old covered);
+        same = ap (up_to start old.engine.version.durable) steps.batches ∙ take-append-le d old.batches (accepted_by steps.step steps.reply) (durable_there old covered);
       }
 
   -- what a recovery that is stopped leaves is as old as what was there
-  tried : (least : ℕ) (commands : List Command) (disk : D) (more : List D) (last : D) → TriesTo g start disk more last
-      → Leaves g disk (Covered start least commands) → Leaves g last (Covered start least commands)
-  tried least commands disk [] last same all = subst (λ (d : D). Leaves g d (Covered start least commands)) (sym same) all
-  tried least commands disk (next ∷ more) last (tries, later) all =
-      tried least commands next more last later (λ c left. (tries.moments least commands all).each c (tries.leaves c left))
+  tried : (least : ℕ) (batches : List Batch) (disk : D) (more : List D) (last : D) → TriesTo g start disk more last
+      → Leaves g disk (Covered start least batches) → Leaves g last (Covered start least batches)
+  tried least batches disk [] last same all = subst (λ (d : D). Leaves g d (Covered start least batches)) (sym same) all
+  tried least batches disk (next ∷ more) last (tries, later) all =
+      tried least batches next more last later (λ c left. (tries.moments least batches all).each c (tries.leaves c left))
 
   over_a_crash : (old new : Stage D) → CrashesTo g start old new → IsCovered g start old → Keeps g start old new
   over_a_crash old new crash covered =
       let least = old.engine.version.durable in
-      let left : Leaves g crash.disk (Covered start least old.commands) = (λ c left. (crash.survives covered).moments.each c (crash.leaves c left)) in
-      let is = crash.recovered least old.commands (tried least old.commands crash.disk crash.tried crash.last crash.tries left) in
+      let left : Leaves g crash.disk (Covered start least old.batches) = (λ c left. (crash.survives covered).moments.each c (crash.leaves c left)) in
+      let is = crash.recovered least old.batches (tried least old.batches crash.disk crash.tried crash.last crash.tries left) in
       let number = new.engine.version.number in
       record {
-        covered = subst (Covers g start new.engine.flusher new.engine.version) (sym crash.commands) is.covers;
+        covered = subst (Covers g start new.engine.flusher new.engine.version) (sym crash.batches) is.covers;
         durable = omega (arith, is.no_less, is.durable);
-        same = ap (up_to start least) crash.commands ∙ take-take (least - start.number) (number - start.number) old.commands (omega (arith, is.no_less));
+        same = ap (up_to start least) crash.batches ∙ take-take (least - start.number) (number - start.number) old.batches (omega (arith, is.no_less));
       }
 
   onward : (a b c : Stage D) → Keeps g start a b → Keeps g start b c → Keeps g start a c
@@ -52,7 +52,7 @@ module _ {D : Type 0} (g : Ghosts D) (start : Start) where
       record {
         covered = next.covered;
         durable = omega (arith, first.durable, next.durable);
-        same = sym (take-take d e c.commands within) ∙ ap (λ (l : List Command). take d l) next.same ∙ take-take d e b.commands within ∙ first.same;
+        same = sym (take-take d e c.batches within) ∙ ap (λ (l : List Batch). take d l) next.same ∙ take-take d e b.batches within ∙ first.same;
       }
 
   over_one : (old new : Stage D) → StepsTo g start old new ⊎ CrashesTo g start old new → IsCovered g start old → Keeps g start old new

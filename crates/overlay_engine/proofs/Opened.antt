@@ -4,7 +4,7 @@ use Rattle.disk_model.specs.declared.disk.Disk.{Ghosts}
 use Rattle.disk_model.specs.Moments.{Leaves, LeavesOnly}
 use Rattle.disk_model.proofs.Runs.{widened}
 use Rattle.overlay_terms.specs.Layers.{Layer, answer_at}
-use Rattle.overlay_terms.specs.Commands.{Command}
+use Rattle.overlay_terms.specs.Batches.{Batch}
 use Rattle.overlay_terms.specs.Histories.{Version}
 use Rattle.store_terms.specs.declared.damage.Damage.{Damage}
 use Rattle.store_terms.specs.declared.root.Root.{Root}
@@ -36,27 +36,27 @@ only_failing Failed read x is tells = absurd tells
 only_failing SequenceLimit read x is tells = absurd tells
 only_failing OutOfMemory read x is tells = inr refl
 
-module _ {D : Type 0} (g : Ghosts D) (start : Start) (disk : D) (least : ℕ) (commands : List Command) (all : Leaves g disk (Covered start least commands)) (stays : g.may_leave disk (g.seen disk)) where
-  covered : (c : List ℕ) → Opened g disk c → Covered start least commands c
-  covered c opened = opening_is_covered g start disk least commands all stays c opened
+module _ {D : Type 0} (g : Ghosts D) (start : Start) (disk : D) (least : ℕ) (batches : List Batch) (all : Leaves g disk (Covered start least batches)) (stays : g.may_leave disk (g.seen disk)) where
+  covered : (c : List ℕ) → Opened g disk c → Covered start least batches c
+  covered c opened = opening_is_covered g start disk least batches all stays c opened
 
   recovered : (e : Engine D) (k : Kept) (x : Held) → reading (g.seen disk) ≡ Ok x → k.held ≡ x → Stands g e.flusher.commit k → e.flusher.commit.root.version ≡ x.number → e.version ≡ version_of x
-      → LeavesOnly g disk e.flusher.commit.disk (Opened g disk) → InPhases g disk e.flusher.commit.disk → Recovered g start disk e least commands
+      → LeavesOnly g disk e.flusher.commit.disk (Opened g disk) → InPhases g disk e.flusher.commit.disk → Recovered g start disk e least batches
   recovered e k x reads same stands stored version moments phases =
       let is : e.version ≡ version_of k.held = version ∙ ap version_of (sym same) in
-      let found = opened_recovers g start disk e.flusher k least commands all
+      let found = opened_recovers g start disk e.flusher k least batches all
       (record { stays = stays; reads = reads ∙ ap Ok (sym same); stands = stands; stored = stored ∙ ap (λ (h : Held). h.number) (sym same) }) in
       record {
         no_less = subst (λ (v : Version). least ≤ v.number) (sym is) found.no_less;
         no_more = omega (arith, ap (λ (v : Version). v.number) is, found.no_more);
         durable = subst (λ (v : Version). v.durable ≡ v.number) (sym is) refl;
-        covers = subst (λ (v : Version). Covers g start e.flusher v (up_to start v.number commands)) (sym is) found.covers;
-        moments = widened g disk e.flusher.commit.disk (Opened g disk) (Covered start least commands) covered moments;
+        covers = subst (λ (v : Version). Covers g start e.flusher v (up_to start v.number batches)) (sym is) found.covers;
+        moments = widened g disk e.flusher.commit.disk (Opened g disk) (Covered start least batches) covered moments;
         phases = phases;
       }
 
   pub recovered_with : (e : Engine D) (s : Commit D) (k : Kept) (x : Held) → e.flusher ≡ record { commit = s } → s.root.version ≡ e.version.number → e.version ≡ version_of x
-      → reading (g.seen disk) ≡ Ok x → k.held ≡ x → Stands g s k → LeavesOnly g disk s.disk (Opened g disk) → InPhases g disk s.disk → Recovered g start disk e least commands
+      → reading (g.seen disk) ≡ Ok x → k.held ≡ x → Stands g s k → LeavesOnly g disk s.disk (Opened g disk) → InPhases g disk s.disk → Recovered g start disk e least batches
   recovered_with e s k x flusher number version reads same stands moments phases =
       recovered e k x reads same (subst (λ (f : Flusher D). Stands g f.commit k) (sym flusher) stands)
       (ap (λ (f : Flusher D). f.commit.root.version) flusher ∙ number ∙ ap (λ (v : Version). v.number) version) version
@@ -64,22 +64,22 @@ module _ {D : Type 0} (g : Ghosts D) (start : Start) (disk : D) (least : ℕ) (c
       (subst (λ (f : Flusher D). InPhases g disk f.commit.disk) (sym flusher) phases)
 
   pub refused_as : (refused : OpenFault D) → Tells refused.fault (reading (g.seen disk)) → g.is_honest refused.disk → Leaves g refused.disk (Opened g disk)
-      → LeavesOnly g disk refused.disk (Opened g disk) → Stops g disk (refused.fault ≡ Device) refused.disk → Refused g start disk refused least commands
+      → LeavesOnly g disk refused.disk (Opened g disk) → Stops g disk (refused.fault ≡ Device) refused.disk → Refused g start disk refused least batches
   refused_as refused tells honest leaves moments stops = record {
     honest = honest;
     leaves = λ c left. covered c (leaves c left);
-    moments = widened g disk refused.disk (Opened g disk) (Covered start least commands) covered moments;
+    moments = widened g disk refused.disk (Opened g disk) (Covered start least batches) covered moments;
     stops = stops;
     cause = let here = all (g.seen disk) stays in only_failing refused.fault (reading (g.seen disk)) here.held here.stands tells;
   }
 
   -- memory runs out once the store is opened
   pub given_up : (s : Commit D) (k : Kept) (x : Held) → reading (g.seen disk) ≡ Ok x → k.held ≡ x → Stands g s k → LeavesOnly g disk s.disk (Opened g disk)
-      → InPhases g disk s.disk → Refused g start disk (record { fault = OutOfMemory; disk = s.disk }) least commands
+      → InPhases g disk s.disk → Refused g start disk (record { fault = OutOfMemory; disk = s.disk }) least batches
   given_up s k x reads same stands moments phases = record {
     honest = stands.honest;
     leaves = λ c left. covered c (inr (calm_stands k c (stands.leaves c left) ∙ ap Ok same ∙ sym reads));
-    moments = widened g disk s.disk (Opened g disk) (Covered start least commands) covered moments;
+    moments = widened g disk s.disk (Opened g disk) (Covered start least batches) covered moments;
     stops = inr phases;
     cause = inr refl;
   }
@@ -113,5 +113,5 @@ pub writes_of : {D : Type 0} (g : Ghosts D) (old : List ℕ) (f : Flusher D) (s 
 writes_of g old f s is writes = subst (λ (h : Flusher _). Writes old (g.seen h.commit.disk)) (sym is) writes
 
 pub recovered_answers : {D : Type 0} (g : Ghosts D) → RecoveredAnswers g
-recovered_answers g start disk e least commands recovered name query told tells =
-    tells recovered.covers.exact.exact ∙ ap (λ (layers : List Layer). answer_at layers name query) recovered.covers.layers
+recovered_answers g start disk e least batches recovered name query told tells =
+    tells ∙ ap (λ (layers : List Layer). answer_at layers name query) recovered.covers.layers

@@ -5,7 +5,7 @@ use Rattle.disk_model.specs.declared.disk.Disk.{Ghosts}
 use Rattle.disk_model.specs.Moments.{LeavesOnly}
 use Rattle.disk_model.proofs.Runs.{started}
 use Rattle.overlay_terms.specs.Layers.{Layer}
-use Rattle.overlay_terms.specs.Commands.{Command}
+use Rattle.overlay_terms.specs.Batches.{Batch}
 use Rattle.overlay_terms.specs.Histories.{Version}
 use Rattle.overlay_terms.specs.KeptLaws.{IsExact}
 use Rattle.overlay_terms.specs.Orderly.{IsOrderly}
@@ -33,13 +33,13 @@ image_exact version x image exact = record {
 
 module _ {D : Type 0} (g : Ghosts D) where
   pub opened_recovers : OpenedRecovers g
-  opened_recovers start disk f x least commands all opened =
+  opened_recovers start disk f x least batches all opened =
       let here = all (g.seen disk) opened.stays in
       let same : here.held ≡ x.held = same_held (g.seen disk) here.held x.held here.stands opened.reads in
-      let is : IsStored start commands x.held = subst (IsStored start commands) same here.stored in
-      let first = up_to start x.held.number commands in
-      let count : length first ≡ x.held.number - start.number = omega (arith, length-take (x.held.number - start.number) commands, is.no_later) in
-      let again : up_to start x.held.number first ≡ first = take-take (x.held.number - start.number) (x.held.number - start.number) commands (omega arith) in
+      let is : IsStored start batches x.held = subst (IsStored start batches) same here.stored in
+      let first = up_to start x.held.number batches in
+      let count : length first ≡ x.held.number - start.number = omega (arith, length-take (x.held.number - start.number) batches, is.no_later) in
+      let again : up_to start x.held.number first ≡ first = take-take (x.held.number - start.number) (x.held.number - start.number) batches (omega arith) in
       let whole : IsStored start first x.held =
       record { since = is.since; no_later = omega (arith, count, is.since); layers = is.layers ∙ ap (layers_from start) (sym again); exact = is.exact } in
       record {
@@ -57,17 +57,17 @@ module _ {D : Type 0} (g : Ghosts D) where
       }
 
   pub opening_is_covered : OpeningIsCovered g
-  opening_is_covered start disk least commands all stays c (inl before) = all c before
-  opening_is_covered start disk least commands all stays c (inr same) =
+  opening_is_covered start disk least batches all stays c (inl before) = all c before
+  opening_is_covered start disk least batches all stays c (inr same) =
       let here = all (g.seen disk) stays in record { held = here.held; no_less = here.no_less; stored = here.stored; stands = same ∙ here.stands }
 
   pub begun_covers : BegunCovers g
-  begun_covers start old new version commands idle covers begun =
-      let rest : AtRest g start old commands = subst (λ (q : Phase). In g start q old commands) idle covers.store in
+  begun_covers start old new version batches idle covers begun =
+      let rest : AtRest g start old batches = subst (λ (q : Phase). In g start q old batches) idle covers.store in
       let run = begun.runs rest.x rest.stands in
       let y = run.0 in
       let image = run.1.image in
-      let all : up_to start y.held.number commands ≡ commands = take_all (y.held.number - start.number) commands (omega (arith, image.number, covers.number)) in
+      let all : up_to start y.held.number batches ≡ batches = take_all (y.held.number - start.number) batches (omega (arith, image.number, covers.number)) in
       record {
         honest = begun.honest covers.honest;
         number = covers.number;
@@ -75,7 +75,7 @@ module _ {D : Type 0} (g : Ghosts D) where
         exact = covers.exact;
         reported = omega (arith, covers.reported, begun.stored);
         stored = omega (arith, covers.stored, begun.stored);
-        store = subst (λ (q : Phase). In g start q new commands) (sym begun.began) (record {
+        store = subst (λ (q : Phase). In g start q new batches) (sym begun.began) (record {
           x = rest.x;
           y = y;
           number = rest.number ∙ sym begun.stored;
@@ -93,10 +93,10 @@ module _ {D : Type 0} (g : Ghosts D) where
       }
 
   -- a step that makes no call leaves what was covered
-  pub stays_covered : (start : Start) (f : Flusher D) (version : Version) (commands : List Command) → (disk : D) → f.commit.disk ≡ disk
-      → ((c : List ℕ) → g.left_since disk (g.moment disk) c → g.may_leave disk c) → Covers g start f version commands
-      → LeavesOnly g disk disk (Covered start version.durable commands)
-  stays_covered start f version commands disk is now covers =
-      started g disk (Covered start version.durable commands) (λ c left.
-      covered_less start version.durable f.commit.root.version commands c covers.reported
-      (covers_leaves g start f version commands covers c (subst (λ (d : D). g.may_leave d c) (sym is) (now c left))))
+  pub stays_covered : (start : Start) (f : Flusher D) (version : Version) (batches : List Batch) → (disk : D) → f.commit.disk ≡ disk
+      → ((c : List ℕ) → g.left_since disk (g.moment disk) c → g.may_leave disk c) → Covers g start f version batches
+      → LeavesOnly g disk disk (Covered start version.durable batches)
+  stays_covered start f version batches disk is now covers =
+      started g disk (Covered start version.durable batches) (λ c left.
+      covered_less start version.durable f.commit.root.version batches c covers.reported
+      (covers_leaves g start f version batches covers c (subst (λ (d : D). g.may_leave d c) (sym is) (now c left))))

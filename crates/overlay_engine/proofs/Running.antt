@@ -3,7 +3,7 @@ use Rattle.std.proofs.Common.{◌≡◌, List, [], ◌∷◌, ◌++◌, refl, sy
 use Rattle.std.proofs.lemmas.List.{map-append}
 use Rattle.disk_model.specs.declared.disk.Disk.{Ghosts}
 use Rattle.disk_model.specs.Moments.{Leaves}
-use Rattle.overlay_terms.specs.Commands.{Command}
+use Rattle.overlay_terms.specs.Batches.{Batch}
 use Rattle.overlay_engine.specs.declared.engine.Engine.{Engine}
 use Rattle.overlay_engine.specs.declared.step.Step.{Step}
 use Rattle.overlay_engine.specs.declared.step.Reply.{Reply}
@@ -16,7 +16,7 @@ accepted_push : {D : Type 0} (run : List (Made D)) (made : Made D) → accepted_
 accepted_push [] made = append-nil (accepted_by made.step made.reply)
 accepted_push (first ∷ run) made =
     let own = accepted_by first.step first.reply in
-    ap (λ (more : List Command). own ++ more) (accepted_push run made) ∙ sym (append_assoc own (accepted_in run) (accepted_by made.step made.reply))
+    ap (λ (more : List Batch). own ++ more) (accepted_push run made) ∙ sym (append_assoc own (accepted_in run) (accepted_by made.step made.reply))
 
 module _ {D : Type 0} (g : Ghosts D) where
   leads_on : (old mid : Engine D) (run : List (Made D)) (made : Made D) → Leads g old run mid → made.old ≡ mid → Acts g made.step made.old made.reply made.new
@@ -24,15 +24,15 @@ module _ {D : Type 0} (g : Ghosts D) where
   leads_on old mid [] made same joins acts = (joins ∙ same, acts, refl)
   leads_on old mid (first ∷ run) made (first_joins, acted, leads) joins acts = (first_joins, acted, leads_on first.new mid run made leads joins acts)
 
-  survive_on : (start : Start) (commands : List Command) (run : List (Made D)) (made : Made D) → EachSurvives g start commands run
-      → Survives g start (commands ++ accepted_in run) made.step made.old made.reply made.new → EachSurvives g start commands (run ++ made ∷ [])
-  survive_on start commands [] made each last =
-      (subst (λ (cs : List Command). Survives g start cs made.step made.old made.reply made.new) (append-nil commands) last, tt)
-  survive_on start commands (first ∷ run) made (survives, each) last = (
+  survive_on : (start : Start) (batches : List Batch) (run : List (Made D)) (made : Made D) → EachSurvives g start batches run
+      → Survives g start (batches ++ accepted_in run) made.step made.old made.reply made.new → EachSurvives g start batches (run ++ made ∷ [])
+  survive_on start batches [] made each last =
+      (subst (λ (cs : List Batch). Survives g start cs made.step made.old made.reply made.new) (append-nil batches) last, tt)
+  survive_on start batches (first ∷ run) made (survives, each) last = (
     survives,
-    survive_on start (commands ++ accepted_by first.step first.reply) run made each
-        (subst (λ (cs : List Command). Survives g start cs made.step made.old made.reply made.new)
-        (sym (append_assoc commands (accepted_by first.step first.reply) (accepted_in run))) last),
+    survive_on start (batches ++ accepted_by first.step first.reply) run made each
+        (subst (λ (cs : List Batch). Survives g start cs made.step made.old made.reply made.new)
+        (sym (append_assoc batches (accepted_by first.step first.reply) (accepted_in run))) last),
   )
 
   -- before the first step
@@ -40,11 +40,11 @@ module _ {D : Type 0} (g : Ghosts D) where
   not_driven old = record {
     run = [];
     is = record { asked = refl; answered = refl; leads = refl };
-    survives = λ start commands covers. (tt, subst (Covers g start old.flusher old.version) (sym (append-nil commands)) covers);
+    survives = λ start batches covers. (tt, subst (Covers g start old.flusher old.version) (sym (append-nil batches)) covers);
   }
 
   pub driven_on : (steps : List Step) (old : Engine D) (replies : List Reply) (mid : Engine D) (step : Step) (reply : Reply) (new : Engine D) → Drives g steps old replies mid
-      → Acts g step mid reply new → ((start : Start) (commands : List Command) → Covers g start mid.flusher mid.version commands → Survives g start commands step mid reply new)
+      → Acts g step mid reply new → ((start : Start) (batches : List Batch) → Covers g start mid.flusher mid.version batches → Survives g start batches step mid reply new)
       → Drives g (steps ++ step ∷ []) old (replies ++ reply ∷ []) new
   driven_on steps old replies mid step reply new drives acts survives =
       let made : Made D = record { step = step; old = mid; reply = reply; new = new } in
@@ -56,26 +56,26 @@ module _ {D : Type 0} (g : Ghosts D) where
           answered = map-append (λ (m : Made D). m.reply) run (made ∷ []) ∙ ap (λ (l : List Reply). l ++ reply ∷ []) drives.is.answered;
           leads = leads_on old mid run made drives.is.leads refl acts;
         };
-        survives = λ start commands covers.
-            let so_far = drives.survives start commands covers in
-            let last = survives start (commands ++ accepted_in run) so_far.1 in
-            let all : (commands ++ accepted_in run) ++ accepted_by step reply ≡ commands ++ accepted_in (run ++ made ∷ []) =
-            append_assoc commands (accepted_in run) (accepted_by step reply) ∙ ap (λ (more : List Command). commands ++ more) (sym (accepted_push run made)) in
-            (survive_on start commands run made so_far.0 last, subst (Covers g start new.flusher new.version) all last.covers);
+        survives = λ start batches covers.
+            let so_far = drives.survives start batches covers in
+            let last = survives start (batches ++ accepted_in run) so_far.1 in
+            let all : (batches ++ accepted_in run) ++ accepted_by step reply ≡ batches ++ accepted_in (run ++ made ∷ []) =
+            append_assoc batches (accepted_in run) (accepted_by step reply) ∙ ap (λ (more : List Batch). batches ++ more) (sym (accepted_push run made)) in
+            (survive_on start batches run made so_far.0 last, subst (Covers g start new.flusher new.version) all last.covers);
       }
 
-  survives_at : (start : Start) (commands : List Command) (before after : List (Made D)) (made : Made D) → EachSurvives g start commands (before ++ made ∷ after)
-      → Survives g start (commands ++ accepted_in before) made.step made.old made.reply made.new
-  survives_at start commands [] after made each =
-      subst (λ (cs : List Command). Survives g start cs made.step made.old made.reply made.new) (sym (append-nil commands)) each.0
-  survives_at start commands (first ∷ before) after made each =
-      subst (λ (cs : List Command). Survives g start cs made.step made.old made.reply made.new)
-      (append_assoc commands (accepted_by first.step first.reply) (accepted_in before))
-      (survives_at start (commands ++ accepted_by first.step first.reply) before after made each.1)
+  survives_at : (start : Start) (batches : List Batch) (before after : List (Made D)) (made : Made D) → EachSurvives g start batches (before ++ made ∷ after)
+      → Survives g start (batches ++ accepted_in before) made.step made.old made.reply made.new
+  survives_at start batches [] after made each =
+      subst (λ (cs : List Batch). Survives g start cs made.step made.old made.reply made.new) (sym (append-nil batches)) each.0
+  survives_at start batches (first ∷ before) after made each =
+      subst (λ (cs : List Batch). Survives g start cs made.step made.old made.reply made.new)
+      (append_assoc batches (accepted_by first.step first.reply) (accepted_in before))
+      (survives_at start (batches ++ accepted_by first.step first.reply) before after made each.1)
 
   -- what a crash within a step of a run leaves is covered, no older than what was durable as the step began
-  pub crash_covered : (start : Start) (commands : List Command) (run : List (Made D)) (disk : D) (crash : CrashesIn g run disk) → EachSurvives g start commands run
-      → Leaves g disk (Covered start crash.made.old.version.durable (commands ++ accepted_in crash.before))
-  crash_covered start commands run disk crash each c left =
-      let survives = survives_at start commands crash.before crash.after crash.made (subst (EachSurvives g start commands) crash.among each) in
+  pub crash_covered : (start : Start) (batches : List Batch) (run : List (Made D)) (disk : D) (crash : CrashesIn g run disk) → EachSurvives g start batches run
+      → Leaves g disk (Covered start crash.made.old.version.durable (batches ++ accepted_in crash.before))
+  crash_covered start batches run disk crash each c left =
+      let survives = survives_at start batches crash.before crash.after crash.made (subst (EachSurvives g start batches) crash.among each) in
       survives.moments.each c (crash.leaves c left)

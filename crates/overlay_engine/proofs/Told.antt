@@ -4,9 +4,9 @@ use Rattle.disk_model.specs.declared.disk.Disk.{Ghosts}
 use Rattle.overlay_terms.specs.Histories.{Version}
 use Rattle.overlay_engine.specs.declared.engine.Engine.{Engine}
 use Rattle.overlay_engine.specs.declared.step.Step.{Step}
-use Rattle.overlay_engine.specs.declared.step.Step.TheVariants.{Submit, Take, Finish, Device, Report}
+use Rattle.overlay_engine.specs.declared.step.Step.TheVariants.{Submit, SubmitAll, Take, Finish, Device, Report}
 use Rattle.overlay_engine.specs.declared.step.Reply.{Reply}
-use Rattle.overlay_engine.specs.declared.step.Reply.TheVariants.{Accepted, Refused, Taken, NoJob, Kept, Stale, Going, Done, Durable}
+use Rattle.overlay_engine.specs.declared.step.Reply.TheVariants.{Accepted, Refused, RefusedAt, Taken, NoJob, Kept, Stale, Going, Done, Durable}
 use Rattle.overlay_engine.specs.Acts.{Acts}
 use Rattle.overlay_engine.specs.Devices.{Calls, Devices}
 use Rattle.overlay_engine.specs.Runs.{Made, Leads}
@@ -41,6 +41,7 @@ module _ {D : Type 0} (g : Ghosts D) where
   called_tells old NoJob new calls = absurd calls
   called_tells old Kept new calls = absurd calls
   called_tells old Stale new calls = absurd calls
+  called_tells old (RefusedAt place code) new calls = absurd calls
   called_tells old (Durable number) new calls = absurd calls
 
   device_tells : (old : Engine D) (reply : Reply) (new : Engine D) → Devices g old reply new → TellsOf old reply new
@@ -57,15 +58,27 @@ module _ {D : Type 0} (g : Ghosts D) where
   acts_tell (Submit change) old NoJob new acts = absurd acts
   acts_tell (Submit change) old Kept new acts = absurd acts
   acts_tell (Submit change) old Stale new acts = absurd acts
+  acts_tell (Submit change) old (RefusedAt place code) new acts = absurd acts
   acts_tell (Submit change) old Going new acts = absurd acts
   acts_tell (Submit change) old (Done number) new acts = absurd acts
   acts_tell (Submit change) old (Durable number) new acts = absurd acts
+  acts_tell (SubmitAll batch) old (Accepted number) new acts = (tt, ap (λ (e : Engine D). e.next_job) acts.2, acts.0.durable)
+  acts_tell (SubmitAll batch) old (Refused code) new acts = (tt, job_of old new acts.1, durable_of old new acts.1)
+  acts_tell (SubmitAll batch) old (RefusedAt place code) new acts = (tt, job_of old new acts.1, durable_of old new acts.1)
+  acts_tell (SubmitAll batch) old (Taken number) new acts = absurd acts
+  acts_tell (SubmitAll batch) old NoJob new acts = absurd acts
+  acts_tell (SubmitAll batch) old Kept new acts = absurd acts
+  acts_tell (SubmitAll batch) old Stale new acts = absurd acts
+  acts_tell (SubmitAll batch) old Going new acts = absurd acts
+  acts_tell (SubmitAll batch) old (Done number) new acts = absurd acts
+  acts_tell (SubmitAll batch) old (Durable number) new acts = absurd acts
   acts_tell (Take name column) old (Taken number) new acts = (acts.2.next, acts.2.risen, ap (λ (v : Version). v.durable) acts.2.version)
   acts_tell (Take name column) old NoJob new acts = (tt, job_of old new acts.2, durable_of old new acts.2)
   acts_tell (Take name column) old (Refused code) new acts = (tt, acts.2.next_job, ap (λ (v : Version). v.durable) acts.2.version)
   acts_tell (Take name column) old (Accepted number) new acts = absurd acts
   acts_tell (Take name column) old Kept new acts = absurd acts
   acts_tell (Take name column) old Stale new acts = absurd acts
+  acts_tell (Take name column) old (RefusedAt place code) new acts = absurd acts
   acts_tell (Take name column) old Going new acts = absurd acts
   acts_tell (Take name column) old (Done number) new acts = absurd acts
   acts_tell (Take name column) old (Durable number) new acts = absurd acts
@@ -74,6 +87,7 @@ module _ {D : Type 0} (g : Ghosts D) where
   acts_tell (Finish job) old NoJob new acts = (tt, job_of old new acts.1, durable_of old new acts.1)
   acts_tell (Finish job) old (Refused code) new acts = (tt, job_of old new acts.2, durable_of old new acts.2)
   acts_tell (Finish job) old (Accepted number) new acts = absurd acts
+  acts_tell (Finish job) old (RefusedAt place code) new acts = absurd acts
   acts_tell (Finish job) old (Taken number) new acts = absurd acts
   acts_tell (Finish job) old Going new acts = absurd acts
   acts_tell (Finish job) old (Done number) new acts = absurd acts
@@ -86,6 +100,7 @@ module _ {D : Type 0} (g : Ghosts D) where
   acts_tell Report old NoJob new acts = absurd acts
   acts_tell Report old Kept new acts = absurd acts
   acts_tell Report old Stale new acts = absurd acts
+  acts_tell Report old (RefusedAt place code) new acts = absurd acts
   acts_tell Report old Going new acts = absurd acts
   acts_tell Report old (Done number) new acts = absurd acts
 

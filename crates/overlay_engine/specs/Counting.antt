@@ -6,7 +6,7 @@ use Rattle.root_store.specs.Running.{is_busy}
 use Rattle.flush_core.specs.Stored.{calls_of}
 use Rattle.overlay_engine.specs.declared.engine.Engine.{Engine}
 use Rattle.overlay_engine.specs.declared.step.Step.{Step}
-use Rattle.overlay_engine.specs.declared.step.Step.TheVariants.{Submit, Take, Finish, Device, Report}
+use Rattle.overlay_engine.specs.declared.step.Step.TheVariants.{Submit, SubmitAll, Take, Finish, Device, Report}
 use Rattle.overlay_engine.specs.declared.step.Reply.TheVariants.{Refused, Going, Done}
 use Rattle.overlay_engine.specs.Acts.{Acts}
 use Rattle.overlay_engine.specs.Devices.{DeviceFailed}
@@ -15,6 +15,7 @@ use Rattle.overlay_engine.specs.Runs.{Made, Leads}
 -- how many device calls are asked for by a step
 abbrev pub calls_asked : Step → ℕ
 calls_asked (Submit change) = 0
+calls_asked (SubmitAll batch) = 0
 calls_asked (Take name column) = 0
 calls_asked (Finish number) = 0
 calls_asked Device = 1

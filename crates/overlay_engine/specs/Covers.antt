@@ -2,7 +2,7 @@
 use Rattle.std.specs.Prelude.{◌≡◌, ℕ, ◌+◌, ◌≤◌, List, [], ◌∷◌, length}
 use Rattle.disk_model.specs.declared.disk.Disk.{Ghosts}
 use Rattle.disk_model.specs.Moments.{Leaves, LeavesOnly}
-use Rattle.overlay_terms.specs.Commands.{Command}
+use Rattle.overlay_terms.specs.Batches.{Batch}
 use Rattle.overlay_terms.specs.Histories.{Version, Event, accepted, kept, durable_to}
 use Rattle.overlay_terms.specs.KeptLaws.{IsExact}
 use Rattle.store_terms.specs.Image.{Held}
@@ -18,79 +18,79 @@ use Rattle.overlay_engine.specs.Start.{Start, layers_from, up_to}
 abbrev pub version_of : Held → Version
 version_of x = record { number = x.number; layers = x.layers; tiles = x.tiles; durable = x.number }
 
--- what is held is the version of its number: the layers after the commands up to it, and right tiles
-pub record IsStored (start : Start) (commands : List Command) (x : Held) : Type 0 where
+-- what is held is the version of its number: the layers after the batches up to it, and right tiles
+pub record IsStored (start : Start) (batches : List Batch) (x : Held) : Type 0 where
   pub since : start.number ≤ x.number
-  pub no_later : x.number ≤ start.number + length commands
-  pub layers : x.layers ≡ layers_from start (up_to start x.number commands)
+  pub no_later : x.number ≤ start.number + length batches
+  pub layers : x.layers ≡ layers_from start (up_to start x.number batches)
   pub exact : IsExact (version_of x)
 
 -- the file stands for such a version, of at least this number
-pub record Covered (start : Start) (least : ℕ) (commands : List Command) (file : List ℕ) : Type 0 where
+pub record Covered (start : Start) (least : ℕ) (batches : List Batch) (file : List ℕ) : Type 0 where
   pub held : Held
   pub no_less : least ≤ held.number
-  pub stored : IsStored start commands held
+  pub stored : IsStored start batches held
   pub stands : StandsFor held file
 
 -- the file stands for such a version, of exactly this number
-pub record CoveredExactly (start : Start) (number : ℕ) (commands : List Command) (file : List ℕ) : Type 0 where
+pub record CoveredExactly (start : Start) (number : ℕ) (batches : List Batch) (file : List ℕ) : Type 0 where
   pub held : Held
   pub exactly : held.number ≡ number
-  pub stored : IsStored start commands held
+  pub stored : IsStored start batches held
   pub stands : StandsFor held file
 
 module _ {D : Type 0} (g : Ghosts D) (start : Start) where
   -- no commit is under way: the file stands for the version that is stored
-  pub record AtRest (f : Flusher D) (commands : List Command) : Type 0 where
+  pub record AtRest (f : Flusher D) (batches : List Batch) : Type 0 where
     pub x : Kept
     pub number : x.held.number ≡ f.commit.root.version
-    pub stored : IsStored start commands x.held
+    pub stored : IsStored start batches x.held
     pub stands : Stands g f.commit x
 
   -- a commit is under way, from the version that is stored to one that is no older
-  pub record UnderWay (f : Flusher D) (commands : List Command) : Type 0 where
+  pub record UnderWay (f : Flusher D) (batches : List Batch) : Type 0 where
     pub x : Kept
     pub y : Kept
     pub number : x.held.number ≡ f.commit.root.version
-    pub stored : IsStored start commands x.held
+    pub stored : IsStored start batches x.held
     pub next_number : y.held.number ≡ y.root.version
-    pub storing : IsStored start commands y.held
+    pub storing : IsStored start batches y.held
     pub later : f.commit.root.version ≤ y.held.number
     pub runs : Runs g f.commit x y
 
   -- what is known of a store, by where its commit stands
-  abbrev pub In : Phase → Flusher D → List Command → Type 0
-  In Idle f commands = AtRest f commands
-  In Failed f commands = Leaves g f.commit.disk (Covered start f.commit.root.version commands)
-  In Close f commands = UnderWay f commands
-  In Settle f commands = UnderWay f commands
-  In Put f commands = UnderWay f commands
-  In Open f commands = UnderWay f commands
-  In Finish f commands = UnderWay f commands
+  abbrev pub In : Phase → Flusher D → List Batch → Type 0
+  In Idle f batches = AtRest f batches
+  In Failed f batches = Leaves g f.commit.disk (Covered start f.commit.root.version batches)
+  In Close f batches = UnderWay f batches
+  In Settle f batches = UnderWay f batches
+  In Put f batches = UnderWay f batches
+  In Open f batches = UnderWay f batches
+  In Finish f batches = UnderWay f batches
 
-  -- the version is the one after all the commands, its tiles are right, what is reported is stored, and the store holds a version of these commands whatever happens
-  pub record Covers (f : Flusher D) (version : Version) (commands : List Command) : Type 0 where
+  -- the version is the one after all the batches, its tiles are right, what is reported is stored, and the store holds a version of these batches whatever happens
+  pub record Covers (f : Flusher D) (version : Version) (batches : List Batch) : Type 0 where
     pub honest : g.is_honest f.commit.disk
-    pub number : version.number ≡ start.number + length commands
-    pub layers : version.layers ≡ layers_from start commands
+    pub number : version.number ≡ start.number + length batches
+    pub layers : version.layers ≡ layers_from start batches
     pub exact : IsExact version
     pub reported : version.durable ≤ f.commit.root.version
     pub stored : f.commit.root.version ≤ version.number
-    pub store : In f.commit.phase f commands
+    pub store : In f.commit.phase f batches
 
   -- a device call: the store covers the same version, and a crash at any moment of the call leaves one that is no older than what was reported as it began
-  pub record Moves (old new : Flusher D) (version : Version) (commands : List Command) : Type 0 where
-    pub covers : Covers new version commands
-    pub moments : LeavesOnly g old.commit.disk new.commit.disk (Covered start version.durable commands)
+  pub record Moves (old new : Flusher D) (version : Version) (batches : List Batch) : Type 0 where
+    pub covers : Covers new version batches
+    pub moments : LeavesOnly g old.commit.disk new.commit.disk (Covered start version.durable batches)
 
--- the commands that an event adds
-abbrev pub added : Event → List Command
-added (accepted session command) = command ∷ []
+-- the batches that an event adds
+abbrev pub added : Event → List Batch
+added (accepted session batch) = batch ∷ []
 added (kept name column tile) = []
 added (durable_to number) = []
 
 -- what an event reports durable is stored
 abbrev pub ReportsStored : {D : Type 0} → Flusher D → Event → Type 0
-ReportsStored f (accepted session command) = Unit {0}
+ReportsStored f (accepted session batch) = Unit {0}
 ReportsStored f (kept name column tile) = Unit {0}
 ReportsStored f (durable_to number) = number ≤ f.commit.root.version

@@ -3,7 +3,7 @@ use Rattle.std.specs.Prelude.{◌≡◌, ◌⊎◌, ℕ, ◌≤◌, List, [], �
 use Rattle.std.specs.List.{AllByRecursion}
 use Rattle.disk_model.specs.declared.disk.Disk.{Ghosts}
 use Rattle.disk_model.specs.Moments.{Leaves, LeavesOnly}
-use Rattle.overlay_terms.specs.Commands.{Command}
+use Rattle.overlay_terms.specs.Batches.{Batch}
 use Rattle.overlay_engine.specs.declared.engine.Engine.{Engine}
 use Rattle.overlay_engine.specs.declared.step.Step.{Step}
 use Rattle.overlay_engine.specs.declared.step.Reply.{Reply}
@@ -12,27 +12,27 @@ use Rattle.overlay_engine.specs.Covers.{Covered, Covers}
 use Rattle.overlay_engine.specs.Acts.{Acts, Survives, accepted_by}
 use Rattle.overlay_engine.specs.Recovery.{Recovered}
 
--- an engine, and the commands that it has accepted since the start
+-- an engine, and the batches that it has accepted since the start
 pub record Stage (D : Type 0) : Type 0 where
   pub engine : Engine D
-  pub commands : List Command
+  pub batches : List Batch
 
 module _ {D : Type 0} (g : Ghosts D) (start : Start) where
   abbrev pub IsCovered : Stage D → Type 0
-  IsCovered stage = Covers g start stage.engine.flusher stage.engine.version stage.commands
+  IsCovered stage = Covers g start stage.engine.flusher stage.engine.version stage.batches
 
   -- a step is made: what `act` tells of it
   pub record StepsTo (old new : Stage D) : Type 0 where
     pub step : Step
     pub reply : Reply
     pub acts : Acts g step old.engine reply new.engine
-    pub survives : IsCovered old → Survives g start old.commands step old.engine reply new.engine
-    pub commands : new.commands ≡ old.commands ++ accepted_by step reply
+    pub survives : IsCovered old → Survives g start old.batches step old.engine reply new.engine
+    pub batches : new.batches ≡ old.batches ++ accepted_by step reply
 
   -- a recovery of one disk is stopped, or refused, and leaves another: what `recover` tells of each moment of it
   pub record Tries (disk next : D) : Type 0 where
     pub end : D
-    pub moments : (least : ℕ) (commands : List Command) → Leaves g disk (Covered start least commands) → LeavesOnly g disk end (Covered start least commands)
+    pub moments : (least : ℕ) (batches : List Batch) → Leaves g disk (Covered start least batches) → LeavesOnly g disk end (Covered start least batches)
     pub leaves : (c : List ℕ) → g.may_leave next c → g.left_since end (g.moment disk) c
 
   -- one such recovery after the other
@@ -45,25 +45,25 @@ module _ {D : Type 0} (g : Ghosts D) (start : Start) where
     pub step : Step
     pub reply : Reply
     pub end : Engine D
-    pub survives : IsCovered old → Survives g start old.commands step old.engine reply end
+    pub survives : IsCovered old → Survives g start old.batches step old.engine reply end
     pub disk : D
     pub leaves : (c : List ℕ) → g.may_leave disk c → g.left_since end.flusher.commit.disk (g.moment old.engine.flusher.commit.disk) c
     pub tried : List D
     pub last : D
     pub tries : TriesTo disk tried last
-    pub recovered : (least : ℕ) (commands : List Command) → Leaves g last (Covered start least commands) → Recovered g start last new.engine least commands
-    pub commands : new.commands ≡ up_to start new.engine.version.number old.commands
+    pub recovered : (least : ℕ) (batches : List Batch) → Leaves g last (Covered start least batches) → Recovered g start last new.engine least batches
+    pub batches : new.batches ≡ up_to start new.engine.version.number old.batches
 
   -- each stage is had from the one before it, by a step or over a crash
   abbrev pub Lives : Stage D → List (Stage D) → Type 0
   Lives stage [] = Unit {0}
   Lives stage (next ∷ more) = (StepsTo stage next ⊎ CrashesTo stage next) × Lives next more
 
-  -- what was durable at one stage stands at a later one: its version is that of commands which begin with the same ones
+  -- what was durable at one stage stands at a later one: its version is that of batches which begin with the same ones
   pub record Keeps (old new : Stage D) : Type 0 where
     pub covered : IsCovered new
     pub durable : old.engine.version.durable ≤ new.engine.version.durable
-    pub same : up_to start old.engine.version.durable new.commands ≡ up_to start old.engine.version.durable old.commands
+    pub same : up_to start old.engine.version.durable new.batches ≡ up_to start old.engine.version.durable old.batches
 
   -- through any steps, crashes and recoveries nothing is lost that was durable at some moment
   abbrev pub NothingIsLost : Type 0

@@ -4,8 +4,7 @@ use Rattle.disk_model.specs.declared.disk.Disk.{Ghosts}
 use Rattle.disk_model.specs.Moments.{Leaves, LeavesOnly}
 use Rattle.overlay_terms.specs.Plane.{Point}
 use Rattle.overlay_terms.specs.Layers.{Name, answer_at}
-use Rattle.overlay_terms.specs.Commands.{Command}
-use Rattle.overlay_terms.specs.KeptLaws.{TilesAreExact}
+use Rattle.overlay_terms.specs.Batches.{Batch}
 use Rattle.layer_book.specs.declared.direct_answer.Place.{Place}
 use Rattle.layer_book.specs.Place.{location}
 use Rattle.commit_plan.specs.declared.fault.StoreFault.TheVariants.{Device, OutOfMemory}
@@ -16,28 +15,28 @@ use Rattle.overlay_engine.specs.Start.{Start, layers_from, up_to}
 use Rattle.overlay_engine.specs.Covers.{Covered, Covers}
 
 module _ {D : Type 0} (g : Ghosts D) (start : Start) (disk : D) where
-  -- an engine is recovered: its version is the one after the first commands, no older than the least, and durable; a crash meanwhile leaves what recovers as well
-  pub record Recovered (e : Engine D) (least : ℕ) (commands : List Command) : Type 0 where
+  -- an engine is recovered: its version is the one after the first batches, no older than the least, and durable; a crash meanwhile leaves what recovers as well
+  pub record Recovered (e : Engine D) (least : ℕ) (batches : List Batch) : Type 0 where
     pub no_less : least ≤ e.version.number
-    pub no_more : e.version.number ≤ start.number + length commands
+    pub no_more : e.version.number ≤ start.number + length batches
     pub durable : e.version.durable ≡ e.version.number
-    pub covers : Covers g start e.flusher e.version (up_to start e.version.number commands)
-    pub moments : LeavesOnly g disk e.flusher.commit.disk (Covered start least commands)
+    pub covers : Covers g start e.flusher e.version (up_to start e.version.number batches)
+    pub moments : LeavesOnly g disk e.flusher.commit.disk (Covered start least batches)
     -- what might have been left before is left until the first sync has succeeded, and from then on what stands for the same
     pub phases : InPhases g disk e.flusher.commit.disk
 
   -- a recovery is refused: for the device or for memory, and what is left recovers as well
-  pub record Refused (refused : OpenFault D) (least : ℕ) (commands : List Command) : Type 0 where
+  pub record Refused (refused : OpenFault D) (least : ℕ) (batches : List Batch) : Type 0 where
     pub honest : g.is_honest refused.disk
-    pub leaves : Leaves g refused.disk (Covered start least commands)
-    pub moments : LeavesOnly g disk refused.disk (Covered start least commands)
+    pub leaves : Leaves g refused.disk (Covered start least batches)
+    pub moments : LeavesOnly g disk refused.disk (Covered start least batches)
     -- so it is here, unless the device failed in that sync
     pub stops : Stops g disk (refused.fault ≡ Device) refused.disk
     pub cause : (refused.fault ≡ Device) ⊎ (refused.fault ≡ OutOfMemory)
 
--- where a point lies for a layer of a recovered version: what `locate` tells, under the premise that the tiles are right, is right; the premise holds
+-- where a point lies for a layer of a recovered version: what `locate` tells of it is right for the layers after the commands
 abbrev pub RecoveredAnswers : {D : Type 0} → Ghosts D → Type 0
 RecoveredAnswers {D = D} g =
-    (start : Start) (disk : D) (e : Engine D) (least : ℕ) (commands : List Command) → Recovered g start disk e least commands
-    → (name : Name) (query : Point) (told : Place) → (TilesAreExact e.version → location told ≡ answer_at e.version.layers name query)
-    → location told ≡ answer_at (layers_from start (up_to start e.version.number commands)) name query
+    (start : Start) (disk : D) (e : Engine D) (least : ℕ) (batches : List Batch) → Recovered g start disk e least batches
+    → (name : Name) (query : Point) (told : Place) → location told ≡ answer_at e.version.layers name query
+    → location told ≡ answer_at (layers_from start (up_to start e.version.number batches)) name query

@@ -1,7 +1,7 @@
 -- Runs of an engine: steps, one after the other.
 use Rattle.std.specs.Prelude.{◌≡◌, ℕ, List, [], ◌∷◌, ◌++◌, map, flat_map}
 use Rattle.disk_model.specs.declared.disk.Disk.{Ghosts}
-use Rattle.overlay_terms.specs.Commands.{Command}
+use Rattle.overlay_terms.specs.Batches.{Batch}
 use Rattle.overlay_engine.specs.declared.engine.Engine.{Engine}
 use Rattle.overlay_engine.specs.declared.step.Step.{Step}
 use Rattle.overlay_engine.specs.declared.step.Reply.{Reply}
@@ -16,8 +16,8 @@ pub record Made (D : Type 0) : Type 0 where
   pub reply : Reply
   pub new : Engine D
 
--- the commands that were accepted in a run
-abbrev pub accepted_in : {D : Type 0} → List (Made D) → List Command
+-- the batches that were accepted in a run
+abbrev pub accepted_in : {D : Type 0} → List (Made D) → List Batch
 accepted_in {D = D} run = flat_map (λ (made : Made D). accepted_by made.step made.reply) run
 
 module _ {D : Type 0} (g : Ghosts D) where
@@ -32,18 +32,18 @@ module _ {D : Type 0} (g : Ghosts D) where
     pub answered : map (λ (made : Made D). made.reply) run ≡ replies
     pub leads : Leads old run new
 
-  -- a crash within any step of a run leaves a version of the commands that were accepted before the step, no older than what was durable as the step began
-  abbrev pub EachSurvives : Start → List Command → List (Made D) → Type 0
-  EachSurvives start commands [] = Unit {0}
-  EachSurvives start commands (made ∷ run) =
-      Survives g start commands made.step made.old made.reply made.new × EachSurvives start (commands ++ accepted_by made.step made.reply) run
+  -- a crash within any step of a run leaves a version of the batches that were accepted before the step, no older than what was durable as the step began
+  abbrev pub EachSurvives : Start → List Batch → List (Made D) → Type 0
+  EachSurvives start batches [] = Unit {0}
+  EachSurvives start batches (made ∷ run) =
+      Survives g start batches made.step made.old made.reply made.new × EachSurvives start (batches ++ accepted_by made.step made.reply) run
 
-  -- steps are made one after the other, by a run that a crash within any of its steps survives; in the end the store covers the commands, with those that were accepted
+  -- steps are made one after the other, by a run that a crash within any of its steps survives; in the end the store covers the batches, with those that were accepted
   pub record Drives (steps : List Step) (old : Engine D) (replies : List Reply) (new : Engine D) : Type 0 where
     pub run : List (Made D)
     pub is : IsRun steps old replies new run
-    pub survives : (start : Start) (commands : List Command) → Covers g start old.flusher old.version commands
-        → EachSurvives start commands run × Covers g start new.flusher new.version (commands ++ accepted_in run)
+    pub survives : (start : Start) (batches : List Batch) → Covers g start old.flusher old.version batches
+        → EachSurvives start batches run × Covers g start new.flusher new.version (batches ++ accepted_in run)
 
   -- a machine crashes within a step of a run: a disk may leave only what a crash at some moment of that step may have left
   pub record CrashesIn (run : List (Made D)) (disk : D) : Type 0 where

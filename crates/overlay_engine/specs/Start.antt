@@ -1,9 +1,9 @@
--- Where the commands of an engine begin, and the layers that they make from there.
+-- Where the batches of an engine begin, and the layers that they make from there. A single command is a batch of one.
 use Rattle.std.specs.Prelude.{ℕ, ◌-◌, List, [], take, fold}
 use Rattle.overlay_terms.specs.Layers.{Layer}
-use Rattle.overlay_terms.specs.Commands.{Command, applied}
+use Rattle.overlay_terms.specs.Batches.{Batch, applied_all}
 
--- the version before the first command: its number and its layers
+-- the version before the first batch: its number and its layers
 pub record Start : Type 0 where
   pub number : ℕ
   pub layers : List Layer
@@ -12,10 +12,10 @@ pub record Start : Type 0 where
 abbrev pub from_nothing : Start
 from_nothing = record { number = 0; layers = [] }
 
--- the layers after commands
-abbrev pub layers_from : Start → List Command → List Layer
-layers_from start commands = fold applied start.layers commands
+-- the layers after batches
+abbrev pub layers_from : Start → List Batch → List Layer
+layers_from start batches = fold applied_all start.layers batches
 
--- the first commands, up to the version of this number
-abbrev pub up_to : Start → ℕ → List Command → List Command
-up_to start number commands = take (number - start.number) commands
+-- the first batches, up to the version of this number
+abbrev pub up_to : Start → ℕ → List Batch → List Batch
+up_to start number batches = take (number - start.number) batches

@@ -5,10 +5,13 @@ use Rattle.std.specs.Option.{option_map}
 use Rattle.overlay_terms.specs.Layers.{Name}
 use Rattle.overlay_terms.specs.Tiles.{input_of}
 use Rattle.overlay_terms.specs.Commands.{Command, refusal_at}
-use Rattle.overlay_terms.specs.Histories.{Version, Tile, tile_at, FollowsCommand, FollowsTile, IsReported}
+use Rattle.overlay_terms.specs.Batches.{Batch, batch_refusal_at}
+use Rattle.overlay_terms.specs.Histories.{Version, Tile, tile_at, FollowsCommand, FollowsBatch, FollowsTile, IsReported}
 use Rattle.overlay_terms.specs.Column.{column_numbered}
 use Rattle.layer_book.specs.declared.fault.LayerFault.{LayerFault}
 use Rattle.layer_book.specs.Fault.{code_of, fault_of}
+use Rattle.layer_book.specs.BatchFault.{RefusedAllBy}
+use Rattle.layer_book.specs.declared.batch_fault.BatchFault.TheVariants.{At, Whole}
 use Rattle.layer_book.specs.TileRefusal.{tile_refusal}
 use Rattle.version_core.specs.Finish.{IsAwaited}
 use Rattle.version_core.specs.declared.finishing.Finish.{Finish}
@@ -16,7 +19,7 @@ use Rattle.version_core.specs.declared.finishing.Finish.TheVariants as finish
 use Rattle.overlay_engine.specs.declared.engine.Engine.{Engine}
 use Rattle.overlay_engine.specs.declared.engine.HeldJob.{HeldJob}
 use Rattle.overlay_engine.specs.declared.step.Reply.{Reply}
-use Rattle.overlay_engine.specs.declared.step.Reply.TheVariants.{Accepted, Refused, Taken, NoJob, Kept, Stale, Done, Durable}
+use Rattle.overlay_engine.specs.declared.step.Reply.TheVariants.{Accepted, Refused, RefusedAt, Taken, NoJob, Kept, Stale, Done, Durable}
 
 -- the number of a refusal: that of the first reason; where there is none, that of want of memory
 abbrev pub RefusedAs : Option LayerFault → ℕ → Type 0
@@ -57,6 +60,17 @@ module _ {D : Type 0} where
   Submits command old (Refused code) new =
       RefusedAs (option_map fault_of (refusal_at old.version.number old.version.layers command)) code × (new ≡ old)
   Submits command old reply new = ⊥
+
+  -- an engine makes a batch: it is accepted as one version; or it is refused for the first reason, with the place of the
+  -- command where it is one's; or memory runs out
+  abbrev pub SubmitsAll : Batch → Engine D → Reply → Engine D → Type 0
+  SubmitsAll batch old (Accepted number) new =
+      FollowsBatch old.version batch new.version × (number ≡ new.version.number) × (new ≡ record old { version = new.version })
+  SubmitsAll batch old (RefusedAt place code) new =
+      RefusedAllBy (batch_refusal_at old.version.number old.version.layers batch) (At place code) × (new ≡ old)
+  SubmitsAll batch old (Refused code) new =
+      RefusedAllBy (batch_refusal_at old.version.number old.version.layers batch) (Whole code) × (new ≡ old)
+  SubmitsAll batch old reply new = ⊥
 
   -- a job more is held, under the next number: of the present input of a tile
   pub record Holds (name : Name) (column : ℕ) (old : Engine D) (number : ℕ) (new : Engine D) : Type 0 where

@@ -1,6 +1,6 @@
 //! One step of an engine.
 ghost use Rattle.std.specs.Prelude.{ℕ, List};
-ghost use Rattle.overlay_terms.specs.Commands.{Command};
+ghost use Rattle.overlay_terms.specs.Batches.{Batch};
 ghost use Rattle.overlay_terms.specs.KeptLaws.{IsExact};
 ghost use Rattle.root_store.specs.Running.{KeepsTo};
 ghost use Rattle.overlay_engine.specs.Start.{Start};
@@ -20,13 +20,14 @@ impl<D: Disk> Engine<D> {
         ensures exact { IsExact self.old.version → IsExact self.new.version }
         // The blocks that the file may have stay as many.
         ensures blocks { (limit : ℕ) → KeepsTo limit self.old.flusher.commit → KeepsTo limit self.new.flusher.commit }
-        // The store goes on covering the commands, with the one that the step accepted, and a crash at any moment of
+        // The store goes on covering the batches, with the one that the step accepted, and a crash at any moment of
         // the step leaves what is no older than what was durable as it began.
-        ensures survives { (start : Start) (commands : List Command) → Covers D.Disk start self.old.flusher self.old.version commands
-            → Survives D.Disk start commands step.now self.old result self.new }
+        ensures survives { (start : Start) (batches : List Batch) → Covers D.Disk start self.old.flusher self.old.version batches
+            → Survives D.Disk start batches step.now self.old result self.new }
     {
         match step {
             Step::Submit(change) => self.submit(alloc, change),
+            Step::SubmitAll(batch) => self.submit_all(alloc, batch),
             Step::Take(name, column) => self.take(alloc, name, *column),
             Step::Finish(number) => self.finish(alloc, *number),
             Step::Device => self.device(alloc),

@@ -1,7 +1,7 @@
 //! Device calls.
 ghost use Rattle.std.specs.Prelude.{◌≡◌, ℕ, true, List};
 ghost use Rattle.disk_model.specs.Moments.{Leaves};
-ghost use Rattle.overlay_terms.specs.Commands.{Command};
+ghost use Rattle.overlay_terms.specs.Batches.{Batch};
 ghost use Rattle.overlay_terms.specs.Histories.{Version};
 ghost use Rattle.root_store.specs.Running.{KeepsTo, is_busy};
 ghost use Rattle.overlay_engine.specs.Start.{Start};
@@ -23,14 +23,14 @@ impl<D: Disk> Engine<D> {
         // The blocks that the file may have stay as many.
         ensures blocks { (limit : ℕ) → KeepsTo limit self.old.flusher.commit → KeepsTo limit self.new.flusher.commit }
         // A crash at any moment of the call leaves what is no older than what was durable as it began.
-        ensures moves { (start : Start) (commands : List Command) → Covers D.Disk start self.old.flusher self.old.version commands
-            → Moves D.Disk start self.old.flusher self.new.flusher self.old.version commands }
+        ensures moves { (start : Start) (batches : List Batch) → Covers D.Disk start self.old.flusher self.old.version batches
+            → Moves D.Disk start self.old.flusher self.new.flusher self.old.version batches }
         // What is committed is the version with which the commit began.
         ensures commits { (version : Version) → Commits D.Disk self.old.flusher version
             → Committed D.Disk version result self.new.flusher }
         // After the last call a crash leaves what the commit began with, and nothing older.
-        ensures done { (start : Start) (commands : List Command) → Covers D.Disk start self.old.flusher self.old.version commands
-            → IfDone result (λ number. Leaves D.Disk self.new.flusher.commit.disk (CoveredExactly start number commands)) }
+        ensures done { (start : Start) (batches : List Batch) → Covers D.Disk start self.old.flusher self.old.version batches
+            → IfDone result (λ number. Leaves D.Disk self.new.flusher.commit.disk (CoveredExactly start number batches)) }
     {
         match self.flusher.step() {
             Ok(Progress::Done(number)) => Reply::Done(number),

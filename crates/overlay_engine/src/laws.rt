@@ -8,7 +8,7 @@ ghost use Rattle.overlay_engine.specs.Telling.{CrashKeepsTold, DurableIsTold, Jo
 
 use disk_model::disk::Disk;
 
-/// What is published keeps a store covering: for the commands with the accepted one, where one is accepted.
+/// What is published keeps a store covering: for the batches with the accepted one, where one is accepted.
 pub fn events_cover<D: Disk>()
     ensures { EventsCover D.Disk }
 {}
@@ -28,12 +28,12 @@ pub fn opening_is_covered<D: Disk>()
     ensures { OpeningIsCovered D.Disk }
 {}
 
-/// A commit of the present version that begins leaves the store covering the same commands.
+/// A commit of the present version that begins leaves the store covering the same batches.
 pub fn begun_covers<D: Disk>()
     ensures { BegunCovers D.Disk }
 {}
 
-/// Of a recovered version `Version::locate` tells where a point lies for the layers after the commands: no premise is left.
+/// Of a recovered version `Version::locate` tells where a point lies for the layers after the batches.
 pub fn recovered_answers<D: Disk>()
     ensures { RecoveredAnswers D.Disk }
 {}

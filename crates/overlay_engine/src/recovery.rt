@@ -1,7 +1,7 @@
 //! Recovery of an engine from what a crash has left.
 ghost use Rattle.std.specs.Prelude.{◌≡◌, ◌↔◌, [], ◌++◌, ℕ, List, Ok, IfOk, IfErr, MatchResult};
 ghost use Rattle.disk_model.specs.Moments.{Leaves};
-ghost use Rattle.overlay_terms.specs.Commands.{Command};
+ghost use Rattle.overlay_terms.specs.Batches.{Batch};
 ghost use Rattle.store_terms.specs.Image.{Held};
 ghost use Rattle.store_terms.specs.StandsFor.{reading};
 ghost use Rattle.store_terms.specs.declared.damage.Damage.{Damage};
@@ -30,17 +30,17 @@ impl<D: Disk> Engine<D> {
     /// The version that a crash has left on a disk, all of it durable, with just the finished tiles of the file.
     /// It may itself be stopped, or fail, and what is left recovers as well.
     pub fn recover(alloc: Global, disk: D, max_blocks: u32) -> Result<Engine<D>, OpenFault<D>>
-        // Of a file that a crash may have left of an engine, the version is the one after the first so many commands.
-        ensures ok { D.is_honest disk → IfOk result (λ e. (start : Start) (least : ℕ) (commands : List Command)
-            → Leaves D.Disk disk (Covered start least commands) → Recovered D.Disk start disk e least commands) }
+        // Of a file that a crash may have left of an engine, the version is the one after the first so many batches.
+        ensures ok { D.is_honest disk → IfOk result (λ e. (start : Start) (least : ℕ) (batches : List Batch)
+            → Leaves D.Disk disk (Covered start least batches) → Recovered D.Disk start disk e least batches) }
         // Such a file is refused only for the device or for memory, and is left such a file.
-        ensures err { D.is_honest disk → IfErr result (λ refused. (start : Start) (least : ℕ) (commands : List Command)
-            → Leaves D.Disk disk (Covered start least commands) → Refused D.Disk start disk refused least commands) }
+        ensures err { D.is_honest disk → IfErr result (λ refused. (start : Start) (least : ℕ) (batches : List Batch)
+            → Leaves D.Disk disk (Covered start least batches) → Refused D.Disk start disk refused least batches) }
         // So it is after a crash within any step of a run of an engine: at least what was durable as that step began.
-        ensures crashed { D.is_honest disk → (start : Start) (commands : List Command) (run : List (Made D))
-            → EachSurvives D.Disk start commands run → (crash : CrashesIn D.Disk run disk)
-            → MatchResult result (λ e. Recovered D.Disk start disk e crash.made.old.version.durable (commands ++ accepted_in crash.before))
-            (λ refused. Refused D.Disk start disk refused crash.made.old.version.durable (commands ++ accepted_in crash.before)) }
+        ensures crashed { D.is_honest disk → (start : Start) (batches : List Batch) (run : List (Made D))
+            → EachSurvives D.Disk start batches run → (crash : CrashesIn D.Disk run disk)
+            → MatchResult result (λ e. Recovered D.Disk start disk e crash.made.old.version.durable (batches ++ accepted_in crash.before))
+            (λ refused. Refused D.Disk start disk refused crash.made.old.version.durable (batches ++ accepted_in crash.before)) }
         // Of any file the version is what it stands for, or the fault is what is wrong with it.
         ensures gives { D.is_honest disk → MatchResult result (λ e. (x : Held) × (reading (D.seen disk) ≡ Ok x) × (e.version ≡ version_of x))
             (λ refused. Tells refused.fault (reading (D.seen disk))) }

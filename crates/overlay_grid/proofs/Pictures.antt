@@ -3,7 +3,7 @@ use Rattle.std.specs.Prelude.{◌≡◌, ℕ, pos, ◌+ℤ◌, ◌*ℤ◌, ◌+�
 use Rattle.std.specs.List.{range_with_len}
 use Rattle.std.proofs.Common.{zero, suc, refl, ap, sym, ◌∙◌, arith, get_or, take, take_all, append_assoc, append-nil}
 use Rattle.std.proofs.lemmas.Grind.{flat_map-append}
-use Rattle.std.proofs.lemmas.List.{length-map, get_or-map, map-id, map_more}
+use Rattle.std.proofs.lemmas.List.{length-map, get_or-map, map-id}
 use Rattle.std.proofs.lemmas.List.FromFn.{get_or-map-range_with_len, length-map-range_with_len, map-range_with_len_more}
 use Rattle.overlay_terms.specs.Plane.{WholePoint, Point}
 use Rattle.overlay_terms.specs.Trees.{Steps}
@@ -98,14 +98,6 @@ row_ended items columns i j before text new far was added =
     added ∙ ap (λ (t : List ℕ). t ++ 10 ∷ []) was ∙ append_assoc before (map (λ c. slice_index (items c) j) (take i columns)) (10 ∷ [])
     ∙ ap (λ cs. before ++ (map (λ c. slice_index (items c) j) cs ++ 10 ∷ [])) (take_all i columns far)
     ∙ ap (λ (t : List ℕ). before ++ (t ++ 10 ∷ [])) (sym (map_twice (λ (c : List ℕ). slice_index c j) items columns))
-
--- one more character
-pub row_begun : {V : Type 0} (items : V → List ℕ) (columns : List V) (i j : ℕ) (c : V) (before text new : List ℕ) → i < length columns → c ≡ get_or columns i c → text ≡ before ++ map (λ v. slice_index (items v) j) (take i columns) →
-    new ≡ text ++ slice_index (items c) j ∷ [] → new ≡ before ++ map (λ v. slice_index (items v) j) (take (i + 1) columns)
-row_begun items columns i j c before text new h is was added =
-    added ∙ ap (λ (t : List ℕ). t ++ slice_index (items c) j ∷ []) was ∙ append_assoc before (map (λ v. slice_index (items v) j) (take i columns)) (slice_index (items c) j ∷ [])
-    ∙ ap (λ v. before ++ (map (λ w. slice_index (items w) j) (take i columns) ++ slice_index (items v) j ∷ [])) is
-    ∙ ap (λ (t : List ℕ). before ++ t) (sym (map_more (λ v. slice_index (items v) j) columns i c h))
 
 -- ---- one column
 pub column_from : (marked : List Marked) (steps : Steps) (r : Rise) (g : Grid) (i n : ℕ) → r.x ≡ g.x +ℤ (g.step *ℤ pos i) → r.y ≡ g.y → r.step ≡ g.step → n ≡ g.ny → column_text marked steps r n ≡ column_at marked steps g i

@@ -1,9 +1,9 @@
 -- Coordinates at equal steps: all are in range where the first and the last are.
-use Rattle.std.specs.Prelude.{◌≡◌, ℕ, ℤ, pos, neg_ℤ, negsuc, ◌+◌, ◌-◌, ◌*◌, ◌<◌, ◌≤◌, ◌+ℤ◌, ◌*ℤ◌, ◌<ℤ◌, ◌≤ℤ◌, int_le, Bool, true, false}
+use Rattle.std.specs.Prelude.{◌≡◌, ℕ, ℤ, pos, neg_ℤ, negsuc, ◌+◌, ◌-◌, ◌*◌, ◌<◌, ◌≤◌, ◌+ℤ◌, ◌*ℤ◌, ◌≤ℤ◌, int_le, Bool, true, false}
 use Rattle.std.specs.List.{list_all, range_with_len}
 use Rattle.std.specs.Cmp.{both_ways}
 use Rattle.std.proofs.Common.{zero, suc, refl, ap, sym, ◌∙◌, arith}
-use Rattle.std.proofs.lemmas.Bool.{and_parts, and_from, and_left, and_right, false≢true, true_from_ne_false}
+use Rattle.std.proofs.lemmas.Bool.{and_parts, and_from, false≢true, true_from_ne_false}
 use Rattle.std.proofs.lemmas.Int.{ints}
 use Rattle.std.proofs.lemmas.List.Folds.{list_all_at}
 use Rattle.std.proofs.lemmas.List.FromFn.{length-range_with_len, get_or-range_with_len}
@@ -18,9 +18,6 @@ le_says a b e = grind (arith, ints)
 le_test : (a b : ℤ) → a ≤ℤ b → int_le a b ≡ true
 le_test a b h = grind (arith, ints)
 
-lt_test : (a b : ℤ) → b <ℤ a → int_le a b ≡ false
-lt_test a b h = grind (arith, ints)
-
 in_says : (n : ℤ) → in_range n ≡ true → InRange n
 in_says n e =
     let parts = and_parts (int_le (neg_ℤ (pos 1048576)) n) (int_le n (pos 1048576)) e in
@@ -28,12 +25,6 @@ in_says n e =
 
 in_test : (n : ℤ) → InRange n → in_range n ≡ true
 in_test n h = and_from (int_le (neg_ℤ (pos 1048576)) n) (int_le n (pos 1048576)) (le_test (neg_ℤ (pos 1048576)) n h.0) (le_test n (pos 1048576) h.1)
-
-pub out_below : (n : ℤ) → n <ℤ neg_ℤ (pos 1048576) → in_range n ≡ false
-out_below n h = and_left (int_le (neg_ℤ (pos 1048576)) n) (int_le n (pos 1048576)) (lt_test (neg_ℤ (pos 1048576)) n h)
-
-pub out_above : (n : ℤ) → pos 1048576 <ℤ n → in_range n ≡ false
-out_above n h = and_right (int_le (neg_ℤ (pos 1048576)) n) (int_le n (pos 1048576)) (lt_test n (pos 1048576) h)
 
 -- ---- a test at each place
 all_true : (p : ℕ → Bool) (a n : ℕ) → ((i : ℕ) → i < a + n → p i ≡ true) → list_all p (range_with_len a n) ≡ true
@@ -47,11 +38,6 @@ one_false p n i h e =
 
 one_true : (p : ℕ → Bool) (n i : ℕ) → i < n → list_all p (range_with_len 0 n) ≡ true → p i ≡ true
 one_true p n i h e = true_from_ne_false (p i) (λ f. false≢true (sym (one_false p n i h f) ∙ e))
-
--- ---- coordinates
-pub first_out : (from step : ℤ) (count : ℕ) → 1 ≤ count → in_range from ≡ false → false ≡ all_in_range from step count
-first_out from step count some e =
-    sym (one_false (λ i. in_range (from +ℤ (step *ℤ pos i))) count 0 (omega arith) (ap in_range (sym (first_is from step)) ∙ e))
 
 -- a coordinate of those in range
 pub one_in_range : (from step : ℤ) (count i : ℕ) → i < count → all_in_range from step count ≡ true → InRange (from +ℤ (step *ℤ pos i))

@@ -1,18 +1,19 @@
 //! Why a picture is refused.
-ghost use Rattle.std.specs.Prelude.{◌≡◌, Some};
+ghost use Rattle.std.specs.Prelude.{◌≡◌};
+ghost use Rattle.fault_texts.specs.FaultText.{shown, IsBrief};
 ghost use Rattle.overlay_grid.specs.Fault.{code_of, text_of};
 ghost use Rattle.overlay_grid.specs.declared.fault.GridFault.TheVariants.{Layer};
 ghost use Rattle.layer_book.specs.declared.fault.LayerFault.TheVariants.{OutOfMemory};
 
 use exact_point::fault::PointFault;
+use fault_texts::FaultText;
 use layer_book::fault::LayerFault;
 use std::alloc::AllocError;
-use std::fmt;
 use thiserror::Error;
 
 /// Why a grid is none, or no picture of a layer is drawn on it.
 #[derive(Clone, Copy, Debug, PartialEq, Eq, Error)]
-#[error("{}", Text(*self))]
+#[error("{}", self.text())]
 pub enum GridFault {
     /// The grid has no point, too many in a row or column, or its step is too short or too long.
     GridSize,
@@ -32,6 +33,18 @@ impl GridFault {
             GridFault::Point(fault) => fault.code(),
         }
     }
+
+    /// The text that is printed behind the number.
+    pub fn text(&self) -> FaultText
+        ensures text { shown result ≡ text_of self.now }
+        ensures brief { IsBrief result }
+    {
+        match self {
+            GridFault::GridSize => FaultText::Plain("grid size"),
+            GridFault::Layer(fault) => fault.text(),
+            GridFault::Point(fault) => fault.text(),
+        }
+    }
 }
 
 impl From<AllocError> for GridFault {
@@ -39,21 +52,5 @@ impl From<AllocError> for GridFault {
 
     fn from(_e: AllocError) -> GridFault {
         GridFault::Layer(LayerFault::OutOfMemory)
-    }
-}
-
-/// The text of a fault, as a reply says it behind the number.
-#[derive(Clone, Copy, Debug)]
-pub struct Text(pub GridFault);
-
-impl fmt::Display for Text {
-    ghost output = { λ text. Some (text_of text.0) };
-
-    fn fmt<W: fmt::Write>(&self, f: &mut fmt::Formatter<W>) -> fmt::Result {
-        match self.0 {
-            GridFault::GridSize => write!(f, "grid size"),
-            GridFault::Layer(fault) => write!(f, "{}", layer_book::fault::Text(fault)),
-            GridFault::Point(fault) => write!(f, "{}", exact_point::fault::Text(fault)),
-        }
     }
 }

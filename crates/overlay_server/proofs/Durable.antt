@@ -1,6 +1,6 @@
--- What stands for a version of a history is covered for its commands.
+-- What stands for a version of a history is covered for its batches.
 use Rattle.std.proofs.Common.{◌≡◌, ℕ, ◌+◌, ◌-◌, ◌≤◌, List, [], ◌∷◌, ◌++◌, length, map, take, refl, sym, ap, subst, ◌∙◌, length-append, arith}
-use Rattle.overlay_terms.specs.Commands.{Command}
+use Rattle.overlay_terms.specs.Batches.{Batch}
 use Rattle.overlay_terms.specs.Histories.{Version, Event, accepted, kept, durable_to, Entry, History, AllFollow, IsHistory, BeginsWith, newest, accepted_in}
 use Rattle.overlay_terms.specs.KeptLaws.{IsExact}
 use Rattle.overlay_terms.proofs.HistoryFolds.{newest_has_commands}
@@ -8,7 +8,7 @@ use Rattle.overlay_terms.proofs.KeptHistories.{history_is_exact}
 use Rattle.overlay_engine.specs.Start.{layers_from, up_to}
 use Rattle.overlay_engine.proofs.Recovering.{image_exact}
 use Rattle.store_flushing.specs.Among.{IsVersionIn, IsFileIn}
-use Rattle.overlay_server.specs.Durability.{FilesAreCovered, VersionsAreExact, start_of_commands}
+use Rattle.overlay_server.specs.Durability.{FilesAreCovered, VersionsAreExact, start_of_batches}
 
 -- versions that follow one another, and the first of them
 follow_first : (v : Version) (xs ys : List Entry) → AllFollow v (xs ++ ys) → AllFollow v xs
@@ -24,7 +24,7 @@ same_start history earlier on = ap (λ (h : History). h.start) on.1
 
 accepted_one : (event : Event) (version : Version) (xs ys : List Entry) → accepted_in (xs ++ ys) ≡ accepted_in xs ++ accepted_in ys
     → accepted_in (record { event = event; version = version } ∷ xs ++ ys) ≡ accepted_in (record { event = event; version = version } ∷ xs) ++ accepted_in ys
-accepted_one (accepted session command) version xs ys is = ap (λ (cs : List Command). command ∷ cs) is
+accepted_one (accepted session batch) version xs ys is = ap (λ (bs : List Batch). batch ∷ bs) is
 accepted_one (kept name column tile) version xs ys is = is
 accepted_one (durable_to number) version xs ys is = is
 
@@ -32,13 +32,13 @@ accepted_append : (xs ys : List Entry) → accepted_in (xs ++ ys) ≡ accepted_i
 accepted_append [] ys = refl
 accepted_append (x ∷ xs) ys = accepted_one x.event x.version xs ys (accepted_append xs ys)
 
-take_first : (cs ds : List Command) → take (length cs) (cs ++ ds) ≡ cs
-take_first [] ds = refl
-take_first (c ∷ cs) ds = ap (λ (xs : List Command). c ∷ xs) (take_first cs ds)
+take_first : (bs more : List Batch) → take (length bs) (bs ++ more) ≡ bs
+take_first [] more = refl
+take_first (b ∷ bs) more = ap (λ (xs : List Batch). b ∷ xs) (take_first bs more)
 
--- the commands up to the version that the first of them make
-first_up_to : (start number : ℕ) (cs ds : List Command) → number ≡ start + length cs → take (number - start) (cs ++ ds) ≡ cs
-first_up_to start number cs ds is = ap (λ (n : ℕ). take n (cs ++ ds)) (omega (arith, is)) ∙ take_first cs ds
+-- the batches up to the version that the first of them make
+first_up_to : (start number : ℕ) (bs more : List Batch) → number ≡ start + length bs → take (number - start) (bs ++ more) ≡ bs
+first_up_to start number bs more is = ap (λ (n : ℕ). take n (bs ++ more)) (omega (arith, is)) ∙ take_first bs more
 
 pub versions_are_exact : VersionsAreExact
 versions_are_exact history version is exact among =
@@ -51,7 +51,7 @@ files_are_covered history least file is exact stands =
     let among = stands.among.among in
     let image = stands.among.image in
     let earlier = among.earlier in
-    let start = start_of_commands history.start in
+    let start = start_of_batches history.start in
     let begins = same_start history earlier among.begins in
     let made = newest_has_commands earlier (earlier_is_history history earlier among.begins is) in
     let first = accepted_in earlier.entries in
@@ -62,8 +62,8 @@ files_are_covered history least file is exact stands =
     let number : stands.held.number ≡ start.number + length first =
     image.number ∙ ap (λ (v : Version). v.number) among.newest ∙ newest_number in
     let these : up_to start stands.held.number (accepted_in history.entries) ≡ first =
-    ap (λ (cs : List Command). take (stands.held.number - start.number) cs) all ∙ first_up_to start.number stands.held.number first later number in
-    let count : length (accepted_in history.entries) ≡ length first + length later = ap (λ (cs : List Command). length cs) all ∙ length-append first later in
+    ap (λ (bs : List Batch). take (stands.held.number - start.number) bs) all ∙ first_up_to start.number stands.held.number first later number in
+    let count : length (accepted_in history.entries) ≡ length first + length later = ap (λ (bs : List Batch). length bs) all ∙ length-append first later in
     record {
       held = stands.held;
       no_less = stands.no_less;
@@ -71,7 +71,7 @@ files_are_covered history least file is exact stands =
         since = omega (arith, number);
         no_later = omega (arith, number, count);
         layers = image.layers ∙ ap (λ (v : Version). v.layers) among.newest ∙ made.layers
-            ∙ ap (λ (v : Version). layers_from (start_of_commands v) first) (sym begins) ∙ ap (λ (cs : List Command). layers_from start cs) (sym these);
+            ∙ ap (λ (v : Version). layers_from (start_of_batches v) first) (sym begins) ∙ ap (λ (bs : List Batch). layers_from start bs) (sym these);
         exact = image_exact stands.among.version stands.held image (versions_are_exact history stands.among.version is exact among);
       };
       stands = stands.stands;

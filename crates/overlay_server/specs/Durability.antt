@@ -17,17 +17,17 @@ use Rattle.overlay_server.specs.Serving.{first_log}
 abbrev pub NewEnginesAreStores : {D : Type 0} → Ghosts D → Type 0
 NewEnginesAreStores {D = D} g = (e : Engine D) → IsNewEngine g e → IsStoreOf g (history_of (first_log e.version)) e.flusher
 
--- where the commands of a history begin
-abbrev pub start_of_commands : Version → Start
-start_of_commands version = record { number = version.number; layers = version.layers }
+-- where the batches of a history begin
+abbrev pub start_of_batches : Version → Start
+start_of_batches version = record { number = version.number; layers = version.layers }
 
 -- each version of a history has right tiles where its first one has
 abbrev pub VersionsAreExact : Type 0
 VersionsAreExact = (history : History) (version : Version) → IsHistory history → IsExact history.start → IsVersionIn history version → IsExact version
 
--- a file that stands for a version of a history is covered: it stands for the layers after the first of the commands that
+-- a file that stands for a version of a history is covered: it stands for the layers after the first of the batches that
 -- were accepted in the history, with right tiles, and for no earlier version
 abbrev pub FilesAreCovered : Type 0
 FilesAreCovered =
     (history : History) (least : ℕ) (file : List ℕ) → IsHistory history → IsExact history.start → IsFileIn history least file
-    → Covered (start_of_commands history.start) least (accepted_in history.entries) file
+    → Covered (start_of_batches history.start) least (accepted_in history.entries) file

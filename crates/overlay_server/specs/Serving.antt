@@ -46,7 +46,7 @@ pub record Part (R : Type 0) : Type 0 where
   pub outcome : Outcome
 
 -- a session was served: what it wrote are the replies to its reader's lines, by histories that it has seen then; the log
--- has all of that, and of the session's commands just those that it made; `stored` says whether there is a store
+-- has all of that, and of the session's batches just those that it made; `stored` says whether there is a store
 pub record IsServed {R : Type 0} (stored : Bool) (remaining : R → Option (List ℕ)) (log : List Entry) (part : Part R) : Type 0 where
   pub now : Known
   pub left : Option (List ℕ)

@@ -14,7 +14,7 @@ pub struct ServeOptions {
 }
 
 /// What a session wrote, and how it ended.
-#[derive(Drop)]
+#[derive(Debug, Drop)]
 pub struct Outcome {
     pub bytes: Vec<u8>,
     pub end: SessionEnd,

@@ -1,50 +1,14 @@
 -- What is published leaves each tile that of its input.
-use Rattle.std.specs.Prelude.{◌≡◌, ℕ, ◌<◌, ◌==◌, ◌≤◌, Bool, true, false, ◌&&◌, IsTrue, List, [], ◌∷◌, length, bytes_eq, Option, Some, None, if◌then◌else◌}
+use Rattle.std.specs.Prelude.{◌≡◌, ℕ, ◌==◌, ◌≤◌, Bool, true, false, ◌&&◌, List, [], ◌∷◌, length, bytes_eq, Option, Some, if◌then◌else◌}
 use Rattle.std.proofs.Common.{refl, sym, ◌∙◌, subst}
 use Rattle.std.proofs.lemmas.Bool.{and_parts, eqb-true}
-use Rattle.overlay_terms.specs.Column.{column_count}
 use Rattle.overlay_terms.specs.Layers.{layers_max, Name, Layer}
-use Rattle.overlay_terms.specs.Tiles.{input_of}
 use Rattle.overlay_terms.specs.Orderly.{IsOrderly}
-use Rattle.overlay_terms.specs.Commands.{Command, refusal_of, refusal_at, applied, when, version_max, version_limit, stands_as_derived}
-use Rattle.overlay_terms.specs.Touched.{is_touched}
-use Rattle.overlay_terms.specs.Histories.{Tile, Finished, pieces_max, IsTileAt, tile_at, Version, Event, accepted, kept, durable_to, Follows, Entry, AllFollow, last_version}
-use Rattle.overlay_terms.specs.KeptLaws.{TilesFit, TilesAreExact, ExactnessStays, LayersStayOrderly, IsExact, HistoryIsExact, HistoryHasRoom}
+use Rattle.overlay_terms.specs.Histories.{Tile, tile_at, Version, Event, accepted, kept, durable_to, Follows, Entry, AllFollow, last_version}
+use Rattle.overlay_terms.specs.KeptLaws.{ExactnessStays, LayersStayOrderly, IsExact, HistoryIsExact, HistoryHasRoom}
 use Rattle.overlay_terms.proofs.NameLemmas.{same_name}
-use Rattle.overlay_terms.proofs.AcceptedLemmas.{step_orderly, step_room}
-use Rattle.overlay_terms.proofs.Options.{both_absent}
-use Rattle.overlay_terms.proofs.KeptCommands.{untouched_input_stays}
-
--- what a tile of a layer and column must be: its layer is derived, its column is there, and it is that of its input
-pub record IsRight (layers : List Layer) (name : Name) (k : ℕ) (tile : Tile) : Type 0 where
-  pub derived_layer : IsTrue (stands_as_derived layers name)
-  pub known_column : k < column_count
-  pub exact : IsTileAt pieces_max (input_of layers name k) tile
-
--- each tile of some is as it must be
-abbrev pub AreRight : List Layer → List Finished → Type 0
-AreRight layers tiles = (name : Name) (k : ℕ) (tile : Tile) → tile_at tiles name k ≡ Some tile → IsRight layers name k tile
-
--- tiles that have their place and are exact are as they must be
-pub are_right : (version : Version) → TilesFit version → TilesAreExact version → AreRight version.layers version.tiles
-are_right version fit exact name k tile e =
-    record { derived_layer = (fit name k tile e).0; known_column = (fit name k tile e).1; exact = exact name k tile e }
-
--- a command that is accepted at a version is accepted by its layers
-pub accepted_by_layers : (old : Version) (command : Command) → refusal_at old.number old.layers command ≡ None → refusal_of old.layers command ≡ None
-accepted_by_layers old command e = (both_absent (refusal_of old.layers command) (when (old.number == version_max) version_limit) e).first
-
--- a tile after a command was there before it, and is untouched
-pub right_after_command : (layers : List Layer) (command : Command) (name : Name) (k : ℕ) (tile : Tile) (b : Bool) (before : Option Tile) → is_touched layers command name k ≡ b → (before ≡ Some tile → IsRight layers name k tile) → (if b then None else before) ≡ Some tile → IsRight (applied layers command) name k tile
-right_after_command layers command name k tile true before touched right there = absurd (cc)
-right_after_command layers command name k tile false before untouched right there =
-    let old = right there in
-    let stays = (untouched_input_stays layers command name k old.derived_layer).0 untouched in
-    record {
-      derived_layer = stays.still_derived;
-      known_column = old.known_column;
-      exact = subst (λ input. IsTileAt pieces_max input tile) (sym stays.same_input) old.exact;
-    }
+use Rattle.overlay_terms.proofs.RightTiles.{IsRight, AreRight, are_right}
+use Rattle.overlay_terms.proofs.BatchLemmas.{right_after_batch, orderly_after_batch, room_after_batch}
 
 -- a tile after one is kept is that one, or was there before
 right_after_tile : (layers : List Layer) (name : Name) (column : ℕ) (kept_tile : Tile) (other : Name) (k : ℕ) (tile : Tile) (b : Bool) (before : Option Tile) → (bytes_eq name other && (column == k)) ≡ b → IsRight layers name column kept_tile → (before ≡ Some tile → IsRight layers other k tile) → (if b then Some kept_tile else before) ≡ Some tile → IsRight layers other k tile
@@ -57,10 +21,7 @@ right_after_tile layers name column kept_tile other k tile false before away new
 
 -- each tile is as it must be after what is published
 right_after : (old new : Version) (event : Event) → Follows old event new → AreRight old.layers old.tiles → AreRight new.layers new.tiles
-right_after old new (accepted session command) follows right name k tile e =
-    subst (λ layers. IsRight layers name k tile) (sym follows.layers)
-    (right_after_command old.layers command name k tile (is_touched old.layers command name k) (tile_at old.tiles name k) refl (right name k tile)
-    (sym (follows.tiles name k) ∙ e))
+right_after old new (accepted session batch) follows right name k tile e = right_after_batch old new batch follows right name k tile e
 right_after old new (kept name column tile) follows right other k found e =
     subst (λ layers. IsRight layers other k found) (sym follows.layers)
     (right_after_tile old.layers name column tile other k found (bytes_eq name other && (column == k)) (tile_at old.tiles other k) refl
@@ -76,11 +37,8 @@ exactness_stays old new event follows orderly fit exact =
 
 -- what is published leaves orderly layers so, and leaves room
 pub layers_stay_orderly : LayersStayOrderly
-layers_stay_orderly old new (accepted session command) follows =
-    let e = accepted_by_layers old command follows.accepted_there in (
-      λ orderly. subst IsOrderly (sym follows.layers) (step_orderly old.layers command e orderly),
-      λ room. subst (λ layers. length layers ≤ layers_max) (sym follows.layers) (step_room old.layers command e room),
-    )
+layers_stay_orderly old new (accepted session batch) follows =
+    (λ orderly. orderly_after_batch old new batch follows orderly, λ room. room_after_batch old new batch follows room)
 layers_stay_orderly old new (kept name column tile) follows =
     (λ orderly. subst IsOrderly (sym follows.layers) orderly, λ room. subst (λ layers. length layers ≤ layers_max) (sym follows.layers) room)
 layers_stay_orderly old new (durable_to number) follows =

@@ -1,7 +1,6 @@
 pub mod Difference
 pub mod Bounds
 pub mod Ratios
-pub mod Meet
 mod Rows
 pub mod Functions
 pub mod Options
@@ -33,8 +32,8 @@ pub mod KeptReach
 pub mod KeptDerived
 pub mod KeptBounds
 pub mod KeptCommands
+pub mod RightTiles
+pub mod BatchLemmas
 pub mod KeptHistories
-pub mod BuildingLemmas
 pub mod FormLemmas
 pub mod HistoryFolds
-pub mod BatchLemmas

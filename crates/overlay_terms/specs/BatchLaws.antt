@@ -4,9 +4,9 @@ use Rattle.std.specs.Option.{option_map}
 use Rattle.overlay_terms.specs.Layers.{layers_max, Name, Layer}
 use Rattle.overlay_terms.specs.Orderly.{IsOrderly}
 use Rattle.overlay_terms.specs.Commands.{Command, Refusal, AllAccepted, refusal_of, refusal_at}
-use Rattle.overlay_terms.specs.Histories.{Version, tile_at, FollowsCommand}
+use Rattle.overlay_terms.specs.Histories.{Version, tile_at, FollowsCommand, FollowsBatch}
 use Rattle.overlay_terms.specs.KeptLaws.{TilesFit, TilesAreExact}
-use Rattle.overlay_terms.specs.Batches.{Batch, at, reason_of, applied_all, refusal_from, batch_refusal_at, FollowsBatch, MadeInTurn}
+use Rattle.overlay_terms.specs.Batches.{Batch, at, reason_of, applied_all, refusal_from, batch_refusal_at}
 
 -- a batch of one command is refused where the command is, for its reason
 abbrev pub OneIsRefusedAlike : Type 0
@@ -18,6 +18,12 @@ OneIsRefusedAlike =
 abbrev pub OneFollowsAlike : Type 0
 OneFollowsAlike =
     (old new : Version) (command : Command) → FollowsBatch old (command ∷ []) new ↔ FollowsCommand old command new
+
+-- from one version to another by commands one at a time, each a version of its own
+abbrev pub MadeInTurn : Version → Batch → Version → Type 0
+MadeInTurn old [] last = last ≡ old
+MadeInTurn old (command ∷ commands) last =
+    (next : Version) × FollowsCommand old command next × MadeInTurn next commands last
 
 -- one version is another but for its number
 pub record IsSameButNumber (a b : Version) : Type 0 where

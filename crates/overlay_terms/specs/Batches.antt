@@ -1,10 +1,9 @@
 -- Batches: commands that are accepted as one version, or refused whole.
-use Rattle.std.specs.Prelude.{◌≡◌, ℕ, ◌+◌, ◌==◌, ◌≤◌, Bool, false, ◌||◌, List, [], ◌∷◌, fold, length, Option, Some, None, if◌then◌else◌}
+use Rattle.std.specs.Prelude.{◌≡◌, ℕ, ◌+◌, ◌==◌, ◌≤◌, Bool, false, ◌||◌, List, [], ◌∷◌, fold, length, Option, None}
 use Rattle.std.specs.Option.{option_or, option_map}
 use Rattle.overlay_terms.specs.Layers.{Name, Layer}
 use Rattle.overlay_terms.specs.Commands.{Command, Refusal, version_limit, version_max, refusal_of, when, applied}
 use Rattle.overlay_terms.specs.Touched.{is_touched}
-use Rattle.overlay_terms.specs.Histories.{Version, tile_at, FollowsCommand}
 
 -- commands in order; a command alone is a batch of one
 abbrev pub Batch : Type 0
@@ -39,6 +38,11 @@ refusal_from i layers [] = None
 refusal_from i layers (command ∷ commands) =
     option_or (option_map (at i) (refusal_of layers command)) (refusal_from (i + 1) (applied layers command) commands)
 
+-- each batch is accepted by the layers after those before it
+abbrev pub AllBatchesAccepted : List Layer → List Batch → Type 0
+AllBatchesAccepted layers [] = Unit {0}
+AllBatchesAccepted layers (batch ∷ batches) = (refusal_from 0 layers batch ≡ None) × AllBatchesAccepted (applied_all layers batch) batches
+
 -- why a batch is refused at a version: for a command; or the number of the version is the last
 abbrev pub batch_refusal_at : ℕ → List Layer → Batch → Option BatchRefusal
 batch_refusal_at number layers batch =
@@ -53,18 +57,3 @@ is_touched_from seen layers (command ∷ commands) name k =
 -- whether a batch touches the tile of a layer and column: one of its commands does, among the layers that it meets
 abbrev pub is_touched_by_all : List Layer → Batch → Name → ℕ → Bool
 is_touched_by_all layers batch name k = is_touched_from false layers batch name k
-
--- the version after a batch: its number one higher, the layers changed by each command, the touched tiles pending again
-pub record FollowsBatch (old : Version) (batch : Batch) (new : Version) : Type 0 where
-  pub accepted_there : batch_refusal_at old.number old.layers batch ≡ None
-  pub number : new.number ≡ old.number + 1
-  pub layers : new.layers ≡ applied_all old.layers batch
-  pub tiles : (name : Name) (k : ℕ) →
-      tile_at new.tiles name k ≡ (if is_touched_by_all old.layers batch name k then None else tile_at old.tiles name k)
-  pub durable : new.durable ≡ old.durable
-
--- from one version to another by commands one at a time, each a version of its own
-abbrev pub MadeInTurn : Version → Batch → Version → Type 0
-MadeInTurn old [] last = last ≡ old
-MadeInTurn old (command ∷ commands) last =
-    (next : Version) × FollowsCommand old command next × MadeInTurn next commands last

@@ -8,6 +8,7 @@ use Rattle.overlay_terms.specs.Layers.{Name, Layer}
 use Rattle.overlay_terms.specs.Tiles.{IsTileOf, pair_cmp, Input, input_of}
 use Rattle.overlay_terms.specs.Commands.{Command, refusal_at, applied, stands_as_derived}
 use Rattle.overlay_terms.specs.Touched.{is_touched}
+use Rattle.overlay_terms.specs.Batches.{Batch, applied_all, batch_refusal_at, is_touched_by_all}
 
 -- a finished tile: the ends of its pieces, or that it has too many
 pub data Tile : Type 0 where
@@ -61,9 +62,9 @@ abbrev pub tile_at : List Finished → Name → ℕ → Option Tile
 tile_at [] name column = None
 tile_at (f ∷ fs) name column = if bytes_eq f.name name && (f.column == column) then Some f.tile else tile_at fs name column
 
--- what is published: an accepted command of a session, a tile that is kept, a number that is durable
+-- what is published: an accepted batch of a session, a tile that is kept, a number that is durable
 pub data Event : Type 0 where
-  accepted : ℕ → Command → Event
+  accepted : ℕ → Batch → Event
   kept : Name → ℕ → Tile → Event
   durable_to : ℕ → Event
 
@@ -73,6 +74,15 @@ pub record FollowsCommand (old : Version) (command : Command) (new : Version) : 
   pub number : new.number ≡ old.number + 1
   pub layers : new.layers ≡ applied old.layers command
   pub tiles : (name : Name) (k : ℕ) → tile_at new.tiles name k ≡ (if is_touched old.layers command name k then None else tile_at old.tiles name k)
+  pub durable : new.durable ≡ old.durable
+
+-- the version after a batch: its number one higher, the layers changed by each command, the touched tiles pending again
+pub record FollowsBatch (old : Version) (batch : Batch) (new : Version) : Type 0 where
+  pub accepted_there : batch_refusal_at old.number old.layers batch ≡ None
+  pub number : new.number ≡ old.number + 1
+  pub layers : new.layers ≡ applied_all old.layers batch
+  pub tiles : (name : Name) (k : ℕ) →
+      tile_at new.tiles name k ≡ (if is_touched_by_all old.layers batch name k then None else tile_at old.tiles name k)
   pub durable : new.durable ≡ old.durable
 
 -- the version after a tile is kept: a pending tile of a derived layer, made of the layer's present input
@@ -106,7 +116,7 @@ IsReported old number new = FollowsReport old number new ⊎ StaysAtReport old n
 
 -- a version follows another by an event
 abbrev pub Follows : Version → Event → Version → Type 0
-Follows old (accepted session command) new = FollowsCommand old command new
+Follows old (accepted session batch) new = FollowsBatch old batch new
 Follows old (kept name column tile) new = FollowsTile old name column tile new
 Follows old (durable_to number) new = FollowsReport old number new
 
@@ -146,31 +156,31 @@ GoesOnBy earlier entries later = later ≡ record { start = earlier.start; entri
 abbrev pub BeginsWith : History → History → Type 0
 BeginsWith later earlier = (entries : List Entry) × GoesOnBy earlier entries later
 
--- a session's command among the events
-abbrev pub own_command : ℕ → Event → Option Command
-own_command session (accepted by command) = if by == session then Some command else None
+-- a session's batch among the events
+abbrev pub own_command : ℕ → Event → Option Batch
+own_command session (accepted by batch) = if by == session then Some batch else None
 own_command session (kept name column tile) = None
 own_command session (durable_to number) = None
 
--- the accepted commands of a session in some entries, in order
-abbrev pub commands_of : ℕ → List Entry → List Command
+-- the accepted batches of a session in some entries, in order
+abbrev pub commands_of : ℕ → List Entry → List Batch
 commands_of session entries = filter_map (λ (entry : Entry). own_command session entry.event) entries
 
--- the command of an event, with its session
-abbrev pub command_of : Event → Option (ℕ × Command)
-command_of (accepted session command) = Some (session, command)
+-- the batch of an event, with its session
+abbrev pub command_of : Event → Option (ℕ × Batch)
+command_of (accepted session batch) = Some (session, batch)
 command_of (kept name column tile) = None
 command_of (durable_to number) = None
 
--- the accepted commands of all sessions in some entries, in order
-abbrev pub commands_in : List Entry → List (ℕ × Command)
+-- the accepted batches of all sessions in some entries, in order
+abbrev pub commands_in : List Entry → List (ℕ × Batch)
 commands_in entries = filter_map (λ (entry : Entry). command_of entry.event) entries
 
 -- the same without their sessions
-abbrev pub accepted_in : List Entry → List Command
+abbrev pub accepted_in : List Entry → List Batch
 accepted_in entries = map (λ c. c.1) (commands_in entries)
 
--- from one version to another by tiles that are kept, and by no command
+-- from one version to another by tiles that are kept, and by no batch
 pub record BuildsUp (old new : Version) : Type 0 where
   pub entries : List Entry
   pub follow : AllFollow old entries

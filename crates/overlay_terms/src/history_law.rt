@@ -2,12 +2,12 @@
 
 ghost use Rattle.overlay_terms.specs.HistoryLaws.{NewestHasCommands, OwnAreAmongAll};
 
-/// The newest version of a history has the number of its start plus the count of the accepted commands, and the layers of its start changed by each of them in turn.
+/// The newest version of a history has the number of its start plus the count of the accepted batches, and the layers of its start changed by each of them in turn.
 pub fn newest_has_commands()
     ensures { NewestHasCommands }
 {}
 
-/// The commands of a session are those of all accepted commands that have its number.
+/// The batches of a session are those of all accepted batches that have its number.
 pub fn own_are_among_all()
     ensures { OwnAreAmongAll }
 {}

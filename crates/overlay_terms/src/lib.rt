@@ -1,4 +1,4 @@
-//! The definitions that the contracts of the overlay cite, laws over them, and the white space of texts.
+//! The definitions that the contracts of the overlay cite, laws over them, limits, and the white space of texts.
 #![tactic(auto)]
 
 pub mod batch_law;
@@ -7,3 +7,4 @@ pub mod history_law;
 pub mod input_law;
 pub mod kept_law;
 pub mod laws;
+pub mod limits;

@@ -1,30 +1,14 @@
 //! Batches by their calls: what one makes, why one is refused, and which tiles it touches.
 use crate::rows::check;
-use crate::testing::{Change, SHIFTED, SQUARE, command, input_in, layers_of, name_of};
+use crate::testing::{Change, SHIFTED, SQUARE, batch, command, input_in, layers_of, name_of};
 use layer_book::batch::Batch;
 use layer_book::batch_fault::BatchFault;
-use layer_book::command::Command;
 use layer_book::layers::Layers;
 use std::alloc::Global;
 use std::process::Abort;
 use tile_build::Built;
 use version_core::finishing::Finish;
 use version_core::version::Version;
-
-/// The commands that make these changes.
-fn commands(rt: &impl Abort, alloc: Global, changes: &[Change]) -> Vec<Command> {
-    let mut commands = Vec::new(alloc);
-    for change in changes {
-        let one = command(rt, alloc, change);
-        commands.push(one).expect(rt, "memory");
-    }
-    commands
-}
-
-/// These changes as a batch.
-fn batch(rt: &impl Abort, alloc: Global, changes: &[Change]) -> Batch {
-    Batch::new(commands(rt, alloc, changes)).expect(rt, "a batch")
-}
 
 /// Two squares, and where both are.
 const OVERLAP: &[Change] = &[

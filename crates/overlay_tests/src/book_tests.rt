@@ -2,6 +2,7 @@
 //! numbers, and how it closes.
 use crate::books::{Call, Row, WaitFor, play};
 use crate::testing::{Change, Corners, SHIFTED, SQUARE};
+use layer_book::batch_fault::BatchFault;
 use layer_book::fault::LayerFault;
 use version_book::fault::{BookFault, ToldFault};
 use version_core::fault::VersionFault;
@@ -18,6 +19,42 @@ const SNAPSHOT: &[&[Row]] = &[&[
 #[test]
 fn a_command_is_in_the_next_snapshot(rt: HostRuntime) {
     play(&rt, rt.alloc(), false, SNAPSHOT, 1);
+}
+
+/// The squares A and B, and I where both are, all at once.
+const ALL_THREE: Row = Row::SubmitsAll(
+    &[
+        Change::Put("A", SQUARE),
+        Change::Put("B", SHIFTED),
+        Change::Define("I", "A & B"),
+    ],
+    Ok(1),
+);
+
+/// The second session submits batches; what the first one sees is all of each, or nothing.
+const BATCHES: &[&[Row]] = &[&[
+    ALL_THREE,
+    Row::Calls(Call::Snapshot("I", 7, 7), Ok(Some(1))),
+    Row::SubmitsAll(
+        &[Change::Put("C", SQUARE), Change::Remove("Z")],
+        Err(BatchFault::At(1, 10)),
+    ),
+    Row::SubmitsAll(
+        &[Change::Remove("A"), Change::Remove("I")],
+        Err(BatchFault::At(0, 14)),
+    ),
+    Row::Calls(Call::Snapshot("C", 7, 7), Ok(None)),
+    Row::Calls(Call::Snapshot("I", 7, 7), Ok(Some(1))),
+    Row::Calls(PUT_A, Ok(Some(2))),
+    Row::SubmitsAll(&[Change::Remove("I"), Change::Remove("B")], Ok(3)),
+    Row::Calls(Call::BeginClose, Ok(None)),
+    Row::SubmitsAll(&[Change::Remove("Z")], Err(BatchFault::Whole(43))),
+    Row::Calls(Call::Snapshot("A", 2, 2), Ok(Some(3))),
+]];
+
+#[test]
+fn a_batch_is_one_version_for_every_session_or_none(rt: HostRuntime) {
+    play(&rt, rt.alloc(), false, BATCHES, 3);
 }
 
 const BESIDE: Row = Row::SubmitBeside(Change::Put("A", SQUARE), Change::Put("B", SHIFTED));
@@ -79,6 +116,28 @@ const NO_MEMORY: BookFault = BookFault::Version(VersionFault::Layer(LayerFault::
 #[test]
 fn a_wait_tells_of_a_tile_that_was_given_back(rt: HostRuntime) {
     play(&rt, rt.alloc(), false, GIVEN_BACK, 3);
+}
+
+const BUILT: &[&[Row]] = &[
+    OVERLAP,
+    &[BUILDS; 16],
+    &[
+        Row::WaitsBeside(WaitFor::Built("I"), Call::Build, Ok(Some(3))),
+        Row::Calls(PUT_A, Ok(Some(4))),
+        Row::Calls(Call::Submit(Change::Define("I", "A | B")), Ok(Some(5))),
+        Row::WaitsBeside(
+            WaitFor::Built("I"),
+            Call::Submit(Change::Remove("I")),
+            Err(UNKNOWN_LAYER),
+        ),
+    ],
+];
+
+const UNKNOWN_LAYER: BookFault = BookFault::Version(VersionFault::Layer(LayerFault::UnknownLayer));
+
+#[test]
+fn the_last_tile_and_a_command_each_end_a_wait(rt: HostRuntime) {
+    play(&rt, rt.alloc(), false, BUILT, 6);
 }
 
 const DURABLE: &[&[Row]] = &[&[

@@ -4,9 +4,10 @@ ghost use Rattle.version_book.specs.Logs.{entry, no_event};
 ghost use Rattle.version_book.specs.Rules.{head_of};
 
 use crate::rows::check;
-use crate::testing::{Change, command, name_of};
+use crate::testing::{Change, batch, command, name_of};
 use crate::threads::{Work, beside, submit_beside, wait_beside};
 use exact_point::QueryPoint;
+use layer_book::batch_fault::BatchFault;
 use layer_book::direct_answer::Place;
 use std::alloc::Global;
 use std::marker::Brand;
@@ -33,6 +34,8 @@ pub enum Call {
     NextVersion,
     Report(u64),
     StoreFailed(ToldFault),
+    /// A tile is taken and built, which is kept.
+    Build,
     /// A tile is taken and given back, as if memory had run out.
     GiveBack,
     BeginClose,
@@ -53,6 +56,8 @@ pub type Answer = Result<Option<u64>, BookFault>;
 pub enum Row {
     /// A call, and its answer.
     Calls(Call, Answer),
+    /// A batch of the second session, and its answer.
+    SubmitsAll(&'static [Change], Result<u64, BatchFault>),
     /// A tile is taken, and finished behind the last row: whether it is kept then.
     Builds(bool),
     /// A tile is asked for and given back: whether there is one.
@@ -198,6 +203,11 @@ fn play_row<J: Naming + Send + Sync, R: Threads + Wait + Clock + Abort + Sync>(
             );
             None
         }
+        Row::SubmitsAll(changes, want) => {
+            let batch = batch(rt, alloc, changes);
+            check(rt, at, &shared.submit_all(rt, alloc, other, &batch), want);
+            None
+        }
         Row::Builds(is_kept) => Some((take(rt, alloc, shared).expect(rt, "no tile"), *is_kept)),
         Row::GivesBack(is_there) => {
             check(rt, at, &give_back(rt, alloc, shared), is_there);
@@ -300,6 +310,11 @@ pub fn answer<J: Naming, R: Wait + Abort>(
         Call::Report(number) => told(shared.report(rt, alloc, reporter, *number)),
         Call::StoreFailed(fault) => {
             shared.store_failed(rt, reporter, *fault);
+            Ok(None)
+        }
+        Call::Build => {
+            let job = take(rt, alloc, shared).expect(rt, "no tile");
+            assert!(rt; finish(rt, alloc, shared, job));
             Ok(None)
         }
         Call::GiveBack => {

@@ -1,5 +1,6 @@
 //! Layers and inputs of tiles for the tests, by the corners of their rings. What cannot be made ends the test.
 use arrange::TileInput;
+use layer_book::batch::Batch;
 use layer_book::command::Command;
 use layer_book::layers::Layers;
 use layer_expr::name::Name;
@@ -185,4 +186,19 @@ pub fn input_of(
 ) -> TileInput {
     let layers = layers_of(rt, alloc, first, second, definition);
     input_in(rt, alloc, &layers, "I", column)
+}
+
+/// The commands that make these changes.
+fn commands(rt: &impl Abort, alloc: Global, changes: &[Change]) -> Vec<Command> {
+    let mut commands = Vec::new(alloc);
+    for change in changes {
+        let one = command(rt, alloc, change);
+        commands.push(one).expect(rt, "memory");
+    }
+    commands
+}
+
+/// These changes as a batch.
+pub fn batch(rt: &impl Abort, alloc: Global, changes: &[Change]) -> Batch {
+    Batch::new(commands(rt, alloc, changes)).expect(rt, "a batch")
 }

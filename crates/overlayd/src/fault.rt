@@ -1,13 +1,14 @@
 //! The faults of the program's own.
-ghost use Rattle.std.specs.Prelude.{◌≡◌, ◌⊎◌, Some};
+ghost use Rattle.std.specs.Prelude.{◌≡◌, ◌⊎◌};
+ghost use Rattle.fault_texts.specs.FaultText.{shown, IsBrief};
 ghost use Rattle.overlayd.specs.Fault.{code_of, status_of, text_of};
 ghost use Rattle.overlayd.specs.declared.fault.ProgramFault.TheVariants as faults;
 ghost use Rattle.program_words.specs.Fault as words;
 
 use commit_plan::fault::StoreFault;
+use fault_texts::{CommonFault, FaultText};
 use program_words::fault::WordFault;
 use std::alloc::{AllocError, AllocFailed};
-use std::fmt;
 
 /// Why the program runs no script, or why what it leaves is not all.
 #[derive(Clone, Copy, Debug, PartialEq, Eq)]
@@ -32,12 +33,12 @@ impl ProgramFault {
         ensures { result ≡ code_of self.now }
     {
         match self {
-            ProgramFault::Words => 50,
-            ProgramFault::Script => 48,
+            ProgramFault::Words => CommonFault::Words.code(),
+            ProgramFault::Script => CommonFault::Read.code(),
             ProgramFault::Store(fault) => fault.code(),
-            ProgramFault::OutOfMemory => 40,
-            ProgramFault::Gone => 44,
-            ProgramFault::Write => 49,
+            ProgramFault::OutOfMemory => CommonFault::OutOfMemory.code(),
+            ProgramFault::Gone => CommonFault::Gone.code(),
+            ProgramFault::Write => CommonFault::Write.code(),
         }
     }
 
@@ -59,6 +60,21 @@ impl ProgramFault {
         match code {
             44 => ProgramFault::Gone,
             _ => ProgramFault::OutOfMemory,
+        }
+    }
+
+    /// The text that is printed behind the number.
+    pub fn text(&self) -> FaultText
+        ensures text { shown result ≡ text_of self.now }
+        ensures brief { IsBrief result }
+    {
+        match self {
+            ProgramFault::Words => CommonFault::Words.text(),
+            ProgramFault::Script => CommonFault::Read.text(),
+            ProgramFault::Store(fault) => fault.text(),
+            ProgramFault::OutOfMemory => CommonFault::OutOfMemory.text(),
+            ProgramFault::Gone => CommonFault::Gone.text(),
+            ProgramFault::Write => CommonFault::Write.text(),
         }
     }
 }
@@ -87,24 +103,5 @@ impl From<WordFault> for ProgramFault {
             WordFault::Words => ProgramFault::Words,
             WordFault::OutOfMemory => ProgramFault::OutOfMemory,
         }
-    }
-}
-
-/// The text of a fault, as it is printed behind the number.
-#[derive(Clone, Copy, Debug)]
-pub struct Text(pub ProgramFault);
-
-impl fmt::Display for Text {
-    ghost output = { λ text. Some (text_of text.0) };
-
-    fn fmt<W: fmt::Write>(&self, f: &mut fmt::Formatter<W>) -> fmt::Result {
-        f.write_str(match self.0 {
-            ProgramFault::Words => "words",
-            ProgramFault::Script => "read",
-            ProgramFault::Store(fault) => return write!(f, "{}", commit_plan::fault::Text(fault)),
-            ProgramFault::OutOfMemory => "out of memory",
-            ProgramFault::Gone => "gone",
-            ProgramFault::Write => "write",
-        })
     }
 }

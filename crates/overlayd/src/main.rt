@@ -8,7 +8,6 @@ mod running;
 mod script;
 mod store;
 
-use crate::fault::Text;
 use crate::running::run;
 use std::process::ExitCode;
 
@@ -17,7 +16,7 @@ fn main(rt: HostRuntime) -> ExitCode {
         Ok(true) => ExitCode::SUCCESS,
         Ok(false) => ExitCode::FAILURE,
         Err(fault) => {
-            let _printed = eprintln!(rt; "error {} {}", fault.code(), Text(fault));
+            let _printed = eprintln!(rt; "error {} {}", fault.code(), fault.text());
             ExitCode::from(fault.status())
         }
     }

@@ -1,15 +1,16 @@
 //! What the constructors of the plane refuse.
-ghost use Rattle.std.specs.Prelude.{◌≡◌, ℕ, Some};
+ghost use Rattle.std.specs.Prelude.{◌≡◌, ℕ};
+ghost use Rattle.fault_texts.specs.FaultText.{shown, IsBrief};
 ghost use Rattle.plane_base.specs.Fault.{code_of, text_of};
 ghost use Rattle.plane_base.specs.declared.fault.PlaneFault.TheVariants.{OutOfMemory};
 
+use fault_texts::{CommonFault, FaultText};
 use std::alloc::AllocError;
-use std::fmt;
 use thiserror::Error;
 
 /// Why a point or a base layer is refused.
 #[derive(Clone, Copy, Debug, PartialEq, Eq, Error)]
-#[error("{}", Text(*self))]
+#[error("{}", self.text())]
 pub enum PlaneFault {
     CoordRange,
     /// A ring, counted from 0, whose last point is not its first.
@@ -30,7 +31,21 @@ impl PlaneFault {
             PlaneFault::RingOpen(_) => 4,
             PlaneFault::RingShort(_) => 5,
             PlaneFault::TooManySegments => 6,
-            PlaneFault::OutOfMemory => 40,
+            PlaneFault::OutOfMemory => CommonFault::OutOfMemory.code(),
+        }
+    }
+
+    /// The text that is printed behind the number.
+    pub fn text(&self) -> FaultText
+        ensures text { shown result ≡ text_of self.now }
+        ensures brief { IsBrief result }
+    {
+        match self {
+            PlaneFault::CoordRange => FaultText::Plain("coordinate out of range"),
+            PlaneFault::RingOpen(ring) => FaultText::Ring(*ring, " open"),
+            PlaneFault::RingShort(ring) => FaultText::Ring(*ring, " short"),
+            PlaneFault::TooManySegments => FaultText::Plain("too many segments"),
+            PlaneFault::OutOfMemory => CommonFault::OutOfMemory.text(),
         }
     }
 }
@@ -40,23 +55,5 @@ impl From<AllocError> for PlaneFault {
 
     fn from(_e: AllocError) -> PlaneFault {
         PlaneFault::OutOfMemory
-    }
-}
-
-/// The text of a fault, as a reply says it behind the number.
-#[derive(Clone, Copy, Debug)]
-pub struct Text(pub PlaneFault);
-
-impl fmt::Display for Text {
-    ghost output = { λ text. Some (text_of text.0) };
-
-    fn fmt<W: fmt::Write>(&self, f: &mut fmt::Formatter<W>) -> fmt::Result {
-        match self.0 {
-            PlaneFault::CoordRange => write!(f, "coordinate out of range"),
-            PlaneFault::RingOpen(ring) => write!(f, "ring {ring} open"),
-            PlaneFault::RingShort(ring) => write!(f, "ring {ring} short"),
-            PlaneFault::TooManySegments => write!(f, "too many segments"),
-            PlaneFault::OutOfMemory => write!(f, "out of memory"),
-        }
     }
 }

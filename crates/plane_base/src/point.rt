@@ -58,6 +58,7 @@ impl Pt {
     pub(crate) fn known(self)
         ensures { IsInRange self }
     {
+        // Both coordinates are in range by the type: the clause rests on that.
         let _ = self.x;
     }
 }

@@ -58,11 +58,6 @@ of_not_lt a b e = grind (arith, ints)
 pub is_less : (a b x y : ℤ) → a ≡ x → b ≡ y → int_lt a b ≡ true → x <ℤ y
 is_less a b x y f g e = rw (sym f, sym g) (lt_true a b e)
 
-pub is_most : (a b x y : ℤ) → a ≡ x → b ≡ y → int_lt a b ≡ false → y ≤ℤ x
-is_most a b x y f g e = rw (sym f, sym g) (most a b e) where
-  most : (a b : ℤ) → int_lt a b ≡ false → b ≤ℤ a
-  most a b e = grind (arith, ints)
-
 -- less than a whole number: by the greatest one that is at most x / w
 less_by_floor : (n x w a : ℤ) → pos 0 <ℤ w → IsFloor n x w → int_lt n a ≡ int_lt x (a *ℤ w)
 less_by_floor n x w a positive h =

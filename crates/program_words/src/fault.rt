@@ -1,15 +1,16 @@
 //! Why words are refused.
-ghost use Rattle.std.specs.Prelude.{◌≡◌, Some};
+ghost use Rattle.std.specs.Prelude.{◌≡◌};
+ghost use Rattle.fault_texts.specs.FaultText.{shown, IsBrief};
 ghost use Rattle.program_words.specs.Fault.{code_of, text_of};
 ghost use Rattle.program_words.specs.declared.fault.WordFault.TheVariants.{OutOfMemory};
 
+use fault_texts::{CommonFault, FaultText};
 use std::alloc::AllocError;
-use std::fmt;
 use thiserror::Error;
 
 /// Why words make no plan.
 #[derive(Clone, Copy, Debug, PartialEq, Eq, Error)]
-#[error("{}", Text(*self))]
+#[error("{}", self.text())]
 pub enum WordFault {
     /// They are not those of the synopsis, or a number or a count is outside its limits.
     Words,
@@ -23,24 +24,20 @@ impl WordFault {
         ensures { result ≡ code_of self.now }
     {
         match self {
-            WordFault::Words => 50,
-            WordFault::OutOfMemory => 40,
+            WordFault::Words => CommonFault::Words.code(),
+            WordFault::OutOfMemory => CommonFault::OutOfMemory.code(),
         }
     }
-}
 
-/// The text of a fault, as it is printed behind the number.
-#[derive(Clone, Copy, Debug)]
-pub struct Text(pub WordFault);
-
-impl fmt::Display for Text {
-    ghost output = { λ text. Some (text_of text.0) };
-
-    fn fmt<W: fmt::Write>(&self, f: &mut fmt::Formatter<W>) -> fmt::Result {
-        f.write_str(match self.0 {
-            WordFault::Words => "words",
-            WordFault::OutOfMemory => "out of memory",
-        })
+    /// The text that is printed behind the number.
+    pub fn text(&self) -> FaultText
+        ensures text { shown result ≡ text_of self.now }
+        ensures brief { IsBrief result }
+    {
+        match self {
+            WordFault::Words => CommonFault::Words.text(),
+            WordFault::OutOfMemory => CommonFault::OutOfMemory.text(),
+        }
     }
 }
 

@@ -1,6 +1,8 @@
 -- The faults of records: their numbers and texts.
 use Rattle.std.specs.Prelude.{ℕ, List, ◌++◌, codes, decimal, Option, Some, None}
 use Rattle.store_terms.specs.Damage as damages
+use Rattle.fault_texts.specs.CommonFault as common
+use Rattle.fault_texts.specs.declared.common_fault.CommonFault.TheVariants as faults
 use Rattle.record_bytes.specs.declared.fault.RecordFault.{RecordFault}
 use Rattle.record_bytes.specs.declared.fault.RecordFault.TheVariants.{Damaged, OutOfMemory}
 
@@ -12,7 +14,7 @@ code_of_damage (Some code) = 33
 -- the number under which a fault is printed
 abbrev pub code_of : RecordFault → ℕ
 code_of (Damaged damage) = code_of_damage (damages.code_of damage)
-code_of OutOfMemory = 40
+code_of OutOfMemory = common.code_of faults.OutOfMemory
 
 abbrev pub text_of_damage : Option ℕ → List ℕ
 text_of_damage None = codes "not a store"
@@ -21,4 +23,4 @@ text_of_damage (Some code) = codes "damaged " ++ decimal code
 -- the text that is printed behind the number
 abbrev pub text_of : RecordFault → List ℕ
 text_of (Damaged damage) = text_of_damage (damages.code_of damage)
-text_of OutOfMemory = codes "out of memory"
+text_of OutOfMemory = common.text_of faults.OutOfMemory

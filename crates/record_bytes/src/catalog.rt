@@ -17,14 +17,14 @@ use store_terms::root::RecordExtent;
 
 /// Where the records of a layer lie: that of a base layer; or that of a definition, and by column
 /// those of its finished tiles.
-#[derive(Drop)]
+#[derive(Debug, Drop)]
 pub enum Records {
     Base(RecordExtent),
     Derived(RecordExtent, Vec<Option<RecordExtent>>),
 }
 
 /// The name of a layer, as its bytes, and where its records lie.
-#[derive(Drop)]
+#[derive(Debug, Drop)]
 pub struct Listed {
     pub name: Vec<u8>,
     pub records: Records,

@@ -1,12 +1,13 @@
 //! Why a record is not read.
-ghost use Rattle.std.specs.Prelude.{◌≡◌, Some};
+ghost use Rattle.std.specs.Prelude.{◌≡◌};
+ghost use Rattle.fault_texts.specs.FaultText.{shown, IsBrief};
 ghost use Rattle.record_bytes.specs.Answers.{failed_as, told_as};
 ghost use Rattle.record_bytes.specs.Fault.{code_of, text_of};
 ghost use Rattle.record_bytes.specs.declared.fault.ReadFault.TheVariants.{Memory};
 
+use fault_texts::{CommonFault, FaultText};
 use layer_expr::fault::ExprFault;
 use std::alloc::{AllocError, AllocFailed};
-use std::fmt;
 use store_terms::damage::Damage;
 use thiserror::Error;
 
@@ -20,7 +21,7 @@ pub enum ReadFault {
 
 /// Why a record is not read.
 #[derive(Clone, Copy, Debug, PartialEq, Eq, Error)]
-#[error("{}", Text(*self))]
+#[error("{}", self.text())]
 pub enum RecordFault {
     /// What is wrong with the bytes.
     Damaged(Damage),
@@ -37,25 +38,21 @@ impl RecordFault {
                 None => 32,
                 Some(_) => 33,
             },
-            RecordFault::OutOfMemory => 40,
+            RecordFault::OutOfMemory => CommonFault::OutOfMemory.code(),
         }
     }
-}
 
-/// The text of a fault, as a reply says it behind the number.
-#[derive(Clone, Copy)]
-pub struct Text(pub RecordFault);
-
-impl fmt::Display for Text {
-    ghost output = { λ text. Some (text_of text.0) };
-
-    fn fmt<W: fmt::Write>(&self, f: &mut fmt::Formatter<W>) -> fmt::Result {
-        match self.0 {
+    /// The text that is printed behind the number.
+    pub fn text(&self) -> FaultText
+        ensures text { shown result ≡ text_of self.now }
+        ensures brief { IsBrief result }
+    {
+        match self {
             RecordFault::Damaged(damage) => match damage.code() {
-                None => f.write_str("not a store"),
-                Some(code) => write!(f, "damaged {code}"),
+                None => FaultText::Plain("not a store"),
+                Some(code) => FaultText::At("damaged ", usize::from(code)),
             },
-            RecordFault::OutOfMemory => f.write_str("out of memory"),
+            RecordFault::OutOfMemory => CommonFault::OutOfMemory.text(),
         }
     }
 }

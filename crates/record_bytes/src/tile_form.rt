@@ -7,10 +7,9 @@ ghost use Rattle.overlay_terms.specs.Histories as terms;
 ghost use Rattle.overlay_terms.specs.Histories.{is_formed as has_form, is_rising};
 ghost use Rattle.overlay_terms.specs.Tiles.{pair_cmp};
 ghost use Rattle.exact_point.specs.NamedPiece.{ends_of};
-ghost use Rattle.exact_point.specs.Place.{place};
 ghost use Rattle.tile_build.specs.Tile.{tile_of};
 
-use exact_point::{HPoint, border_side};
+use exact_point::is_in;
 use plane_base::Column;
 use tile_build::{PIECES_MAX, Piece, Tile};
 
@@ -47,19 +46,6 @@ fn begin_in(pieces: &[Piece], column: Column) -> bool
         }
     }
     true
-}
-
-/// Whether a place lies in a column.
-fn is_in(column: Column, p: &HPoint) -> bool
-    ensures { result ≡ is_in_column column (place p.now) }
-{
-    if border_side(column, p).is_lt() {
-        return false;
-    }
-    match Column::new(u64::from(column.number()) + 1) {
-        Some(next) => border_side(next, p).is_lt(),
-        None => true,
-    }
 }
 
 /// Whether each piece stands before the next: by the left end, then by the right end.

@@ -6,19 +6,10 @@ ghost use Rattle.root_reading.specs.Looking.{Gives, Looks, Causes};
 
 use crate::load_fault::LoadFault;
 use disk_model::disk::Disk;
+pub use extent_map::{BLOCK, blocks_of};
 use std::alloc::Global;
 use store_terms::damage::Damage;
 use store_terms::root::RecordExtent;
-
-/// How many bytes a block has.
-pub const BLOCK: usize = 4096;
-
-/// How many blocks a record of so many bytes takes.
-pub fn blocks_of(size: u32) -> u64
-    ensures { result ≡ blocks size }
-{
-    ((u64::from(size) + 4095) / 4096).max(1)
-}
 
 /// Whether a record lies behind the slots in a file of so many blocks.
 fn is_within(extent: RecordExtent, whole: u64) -> bool

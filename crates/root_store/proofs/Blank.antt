@@ -117,6 +117,17 @@ blank_put old new bytes empty blank torn held =
       unused = λ i at. same i at.within ∙ blank.unused i at;
     }
 
+-- and with both gates shut, if they are in the blank
+pub first_put : (old new bytes : List ℕ) → length old ≡ 0 → IsFirstWrite bytes → Torn 0 (length bytes) old new
+    → Holds new 0 bytes → IsFirstWrite new
+first_put old new bytes empty first torn held =
+    let size = first.blank.size in
+    record {
+      blank = blank_put old new bytes empty first.blank torn held;
+      shut = held.each 0 (omega (arith, size)) ∙ first.shut;
+      other_shut = held.each 4096 (omega (arith, size)) ∙ first.other_shut;
+    }
+
 -- the first gate may be anything
 pub blank_kept : (old new : List ℕ) → IsBlank old → Torn 0 1 old new → IsBlank new
 blank_kept old new blank torn = record {

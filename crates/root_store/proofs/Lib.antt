@@ -6,3 +6,4 @@ mod TakenLemmas
 mod HealingLemmas
 pub mod Reasons
 mod OpeningLemmas
+mod CreatingLemmas

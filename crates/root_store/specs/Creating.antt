@@ -1,6 +1,8 @@
 -- A new file.
 use Rattle.std.specs.Prelude.{◌≡◌, ◌⊎◌, ℕ, ◌+◌, ◌<◌, ◌≤◌, slice_index, List, [], ◌∷◌, length, take, ◌==◌, nat_lt, not, if◌then◌else◌, Option, Some, None}
-use Rattle.disk_model.specs.Disk.{part}
+use Rattle.disk_model.specs.declared.disk.Disk.{Ghosts}
+use Rattle.disk_model.specs.Disk.{part, Torn}
+use Rattle.disk_model.specs.Moments.{Leaves, LeavesOnly}
 use Rattle.store_terms.specs.declared.root.Root.{Root}
 use Rattle.store_terms.specs.Roots.{body_text}
 use Rattle.store_terms.specs.StandsFor.{gate, open_gate, body_at}
@@ -49,6 +51,18 @@ pub record IsNewFile (file : List ℕ) : Type 0 where
   pub blank : IsBlank file
   pub opened : gate file 0 ≡ open_gate
   pub other_shut : gate file 1 ≡ 0
+
+-- the first write, torn anywhere: what a crash might have left before, but for the three blocks
+abbrev pub Begun : {D : Type 0} → Ghosts D → D → List ℕ → Type 0
+Begun g old file = (was : List ℕ) × g.may_leave old was × Torn 0 12288 was file
+
+-- a store is made in two phases: until the first sync has succeeded, a crash leaves what the first write has torn; that sync leaves three blocks whose gates are shut; from then on a crash leaves the same three blocks, whatever the first gate
+pub record MadeInPhases {D : Type 0} (g : Ghosts D) (old new : D) : Type 0 where
+  -- the disk as that sync left it
+  pub synced : D
+  pub before : LeavesOnly g old synced (Begun g old)
+  pub first : Leaves g synced IsFirstWrite
+  pub after : LeavesOnly g synced new IsBlank
 
 -- with its first gate open it is a store that holds nothing
 abbrev pub BlankIsAtRest : Type 0

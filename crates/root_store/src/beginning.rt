@@ -9,7 +9,7 @@ ghost use Rattle.commit_plan.specs.Drafting.{IsNext};
 ghost use Rattle.commit_plan.specs.Fitting.{HasRoom, HasNoRoom};
 ghost use Rattle.commit_plan.specs.Live.{standing};
 ghost use Rattle.commit_plan.specs.Sizes.{new_records};
-ghost use Rattle.root_store.specs.Beginning.{IsRefusal, IsReason};
+ghost use Rattle.root_store.specs.Beginning.{IsRefusal, IsReason, IsLaid};
 
 use crate::commit::Commit;
 use crate::finding::NUMBER_MAX;
@@ -29,6 +29,7 @@ impl<D: Disk> Commit<D> {
             → IsNext x held next → (y : Kept) × (y.held ≡ held) × Runs D.Disk self.new x y }
         ensures disk { self.new.disk ≡ self.old.disk }
         ensures root { self.new.next_root ≡ next.root }
+        ensures plan { self.new.plan.items ≡ next.plan.items }
         ensures live { self.new.root ≡ self.old.root }
         ensures blocks { (limit : ℕ) → limit_of self.old.live.room.map ≡ limit → limit_of next.live.room.map ≡ limit
             → KeepsTo limit self.new }
@@ -78,6 +79,9 @@ impl<D: Disk> Commit<D> {
         ensures number { OnOk result (self.new.next_root.version ≡ image.number) }
         ensures begins { OnOk result (self.new.phase ≡ Phase.Close) }
         ensures busy { OnOk result (is_busy self.new.phase ≡ true) }
+        // The new records, the catalog and the body, in this order; each record and the catalog in the lowest run of free
+        // blocks, in whole blocks.
+        ensures laid { OnOk result (IsLaid self.old image self.new) }
         // One for each new record and the catalog, and six more.
         ensures calls { OnOk result (calls_left self.new ≡ new_records (standing self.old.live) image + 7) }
         ensures disk { self.new.disk ≡ self.old.disk }

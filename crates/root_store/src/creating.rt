@@ -1,12 +1,12 @@
 //! Making a store of an empty file.
 ghost use Rattle.std.specs.Prelude.{◌≡◌, ◌≢◌, ◌↔◌, ◌+◌, ◌≤◌, length, None, replicate, OnOk, IfOk, IfErr, IsErrOf, MatchResult};
-ghost use Rattle.disk_model.specs.Disk.{Holds, Torn, Fewer, Failed, CountsFailure};
+ghost use Rattle.disk_model.specs.Disk.{Holds, Torn, Fewer, Elapses, Failed, CountsFailure};
 ghost use Rattle.disk_model.specs.Moments.{Leaves};
 ghost use Rattle.extent_map.specs.Taken.{taken_of, limit_of};
 ghost use Rattle.commit_plan.specs.Kept.{Rest, extents_in};
 ghost use Rattle.root_store.specs.Running.{Stands, KeepsTo};
 ghost use Rattle.root_reading.specs.Taking.{IsMapOf};
-ghost use Rattle.root_store.specs.Creating.{nothing_kept, first_root, IsFirstWrite, IsNewFile, refusal_of_new, Tells, CallsBehind};
+ghost use Rattle.root_store.specs.Creating.{nothing_kept, first_root, IsFirstWrite, IsNewFile, MadeInPhases, refusal_of_new, Tells, CallsBehind};
 
 use crate::commit::Commit;
 use crate::finding::GATE_OPEN;
@@ -73,6 +73,9 @@ fn check<D: Disk>(disk: &mut D, max_blocks: u32) -> Result<(), StoreFault>
         (λ fault. Tells fault (refusal_of_new (D.seen disk.old) max_blocks)) }
     ensures seen { D.is_honest disk.old → D.seen disk.new ≡ D.seen disk.old }
     ensures crash { D.is_honest disk.old → Fewer (D.may_leave disk.old) (D.may_leave disk.new) }
+    ensures time { D.is_honest disk.old
+        → Elapses (D.moment disk.old) (D.moment disk.new) (D.left_since disk.old) (D.left_since disk.new)
+        (D.may_leave disk.new) }
     ensures cause { D.is_honest disk.old → IsErrOf result StoreFault.Device
         → Failed (D.faults disk.old) (D.faults disk.new) }
     ensures count { D.is_honest disk.old → OnOk result (D.faults disk.new ≡ D.faults disk.old) }
@@ -95,6 +98,8 @@ fn format<D: Disk>(disk: &mut D, bytes: &[u8]) -> Result<(), DiskFault>
     ensures ready { D.is_honest disk.old → length (D.seen disk.old) ≡ 0
         → OnOk result (Leaves D.Disk disk.new (Rest nothing_kept)) }
     ensures file { D.is_honest disk.old → length (D.seen disk.old) ≡ 0 → OnOk result (Leaves D.Disk disk.new IsNewFile) }
+    ensures phases { D.is_honest disk.old → length (D.seen disk.old) ≡ 0
+        → OnOk result (MadeInPhases D.Disk disk.old disk.new) }
     ensures cause { D.is_honest disk.old → CountsFailure result (D.faults disk.old) (D.faults disk.new) }
     ensures calls { D.is_honest disk.old → MatchResult result (λ _. D.calls disk.new ≡ D.calls disk.old + 4)
         (λ _. D.calls disk.new ≤ D.calls disk.old + 4) }
@@ -129,6 +134,7 @@ fn prepare<D: Disk>(
     ensures honest { D.is_honest disk.new ↔ D.is_honest disk.old }
     ensures ready { D.is_honest disk.old → IfOk result (λ rooms. Leaves D.Disk disk.new (Rest nothing_kept)) }
     ensures file { D.is_honest disk.old → IfOk result (λ rooms. Leaves D.Disk disk.new IsNewFile) }
+    ensures phases { D.is_honest disk.old → IfOk result (λ rooms. MadeInPhases D.Disk disk.old disk.new) }
     ensures room { IfOk result (λ rooms. IsMapOf (extents_in nothing_kept) (taken_of rooms.0.map)) }
     ensures limit { IfOk result (λ rooms. limit_of rooms.0.map ≡ max_blocks) }
     ensures next_limit { IfOk result (λ rooms. limit_of rooms.1.map ≡ max_blocks) }
@@ -159,6 +165,9 @@ pub fn create<D: Disk>(
     ensures ok { D.is_honest disk → IfOk result (λ store. Stands D.Disk store nothing_kept) }
     // Three blocks that are zero but for the bodies, the catalog and the first gate, which alone is open.
     ensures file { D.is_honest disk → IfOk result (λ store. Leaves D.Disk store.disk IsNewFile) }
+    // What is written first has both gates shut, and is synced before the first gate opens: from then on a crash leaves
+    // those three blocks, whatever that gate.
+    ensures phases { D.is_honest disk → IfOk result (λ store. MadeInPhases D.Disk disk store.disk) }
     // No commit is under way.
     ensures idle { IfOk result (λ store. store.phase ≡ Phase.Idle) }
     ensures root { IfOk result (λ store. store.root ≡ first_root) }

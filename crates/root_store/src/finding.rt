@@ -7,6 +7,7 @@ ghost use Rattle.root_reading.specs.Looking.{Gives, Looks, Causes};
 ghost use Rattle.root_store.specs.Finding.{IsSlot, has_shut_gate};
 
 use disk_model::disk::Disk;
+use overlay_terms::limits::VERSION_MAX;
 use record_bytes::root_body::{FORMAT, read_body};
 use root_reading::fetching::BLOCK;
 use root_reading::load_fault::LoadFault;
@@ -17,7 +18,7 @@ use store_terms::root::{Body, Root};
 pub const GATE_OPEN: u8 = 0xA7;
 
 /// The greatest number of a commit, and of a version.
-pub const NUMBER_MAX: u64 = 1 << 62;
+pub const NUMBER_MAX: u64 = VERSION_MAX;
 
 /// What stands in a slot: its gate, and its body whatever the gate.
 #[derive(Clone, Copy)]

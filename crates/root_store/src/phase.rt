@@ -1,7 +1,7 @@
 //! Where a commit stands, and what a step of it answers.
 
 /// The device call that a commit makes next. Each step makes one and goes on to the next.
-#[derive(Clone, Copy)]
+#[derive(Clone, Copy, Debug)]
 pub enum Phase {
     /// None: no commit is under way.
     Idle,

@@ -5,6 +5,8 @@ pub mod LongLines
 pub mod Texts
 pub mod ReadLemmas
 pub mod TranscriptLemmas
+pub mod TurnLemmas
+pub mod GatheringLemmas
 pub mod ShapeLemmas
 pub mod ShapeFrom
 pub mod LineLaws

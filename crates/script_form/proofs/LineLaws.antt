@@ -4,8 +4,8 @@ use Rattle.std.specs.List.{list_all}
 use Rattle.std.proofs.lemmas.Bool.{and_parts, or_from, or_left, or_right, not-true, cond-true, cond-false, true≢false, lt-leb, ne_eqb}
 use Rattle.overlay_terms.specs.Blank.{is_blank}
 use Rattle.script_form.specs.Lines.{line_max, is_gap, is_too_long, begins_comment}
-use Rattle.script_form.specs.Requests.{Request, nothing, too_long, malformed, put, define, remove, locate, grid, list_layers, edges, wait, verify, sync, is_word_byte, is_name_side, is_empty, begins, number_of, skip_while, words_of, behind_first_word, by_words, put_of, define_of, behind_sign, located, gridded, edges_at, verify_at, numbered, request_of}
-use Rattle.script_form.specs.Shapes.{IsShort, AreGaps, ArePartingGaps, AreSome, IsWord, IsBlankOrComment, IsPutLine, IsDefineLine, IsDropLine, IsWholePointLine, IsPointLine, IsLocateLine, IsGridLine, IsLayersLine, IsWaitLine, IsSyncLine, IsColumnLine, IsShapeOf}
+use Rattle.script_form.specs.Requests.{Request, nothing, too_long, malformed, put, define, remove, locate, grid, list_layers, edges, wait, verify, sync, batch, is_word_byte, is_name_side, is_empty, begins, number_of, skip_while, words_of, behind_first_word, by_words, put_of, define_of, behind_sign, located, gridded, sized, edges_at, verify_at, numbered, request_of}
+use Rattle.script_form.specs.Shapes.{IsShort, AreGaps, ArePartingGaps, AreSome, IsWord, IsBlankOrComment, IsPutLine, IsDefineLine, IsDropLine, IsWholePointLine, IsPointLine, IsLocateLine, IsGridLine, IsLayersLine, IsWaitLine, IsSyncLine, IsBatchLine, IsColumnLine, IsShapeOf}
 use Rattle.script_form.specs.Laws as laws
 use Rattle.script_form.proofs.ShapeLemmas.{skip_front, take_front, begins_some, begins_gap, begins_word, some_bytes, words_of-gaps, words_of-word, begins_no_comment, asked, asked_line, line_words, skipped}
 use Rattle.script_form.proofs.ShapeFrom.{made_of, Asks, tells}
@@ -54,6 +54,9 @@ wait_read name line short is = asked_line line (codes "WAIT") (name ∷ []) shor
 
 sync_read : (line : List ℕ) → IsShort line → IsSyncLine line → request_of line ≡ sync
 sync_read line short is = asked_line line (codes "SYNC") [] short is refl
+
+batch_read : (size : ℤ) (line : List ℕ) → IsShort line → IsBatchLine size line → request_of line ≡ batch size
+batch_read size line short is = asked_line line (codes "BATCH") (is.digits ∷ []) short is.words refl ∙ ap sized is.size_is
 
 edges_read : (name : List ℕ) (column : ℤ) (line : List ℕ) → IsShort line → IsColumnLine (codes "EDGES") name column line → request_of line ≡ edges name column
 edges_read name column line short is =
@@ -194,6 +197,9 @@ wait_line name line = (λ h. wait_read name line h.0 h.1, back line (wait name))
 pub sync_line : laws.SyncLine
 sync_line line = (λ h. sync_read line h.0 h.1, back line sync)
 
+pub batch_line : laws.BatchLine
+batch_line size line = (λ h. batch_read size line h.0 h.1, back line (batch size))
+
 pub edges_line : laws.EdgesLine
 edges_line name column line = (λ h. edges_read name column line h.0 h.1, back line (edges name column))
 
@@ -217,6 +223,7 @@ shaped line (edges name column) short is = edges_read name column line short is
 shaped line (wait name) short is = wait_read name line short is
 shaped line (verify name column) short is = verify_read name column line short is
 shaped line sync short is = sync_read line short is
+shaped line (batch size) short is = batch_read size line short is
 
 is_malformed : Request → Bool
 is_malformed nothing = false
@@ -232,6 +239,7 @@ is_malformed (edges name column) = false
 is_malformed (wait name) = false
 is_malformed (verify name column) = false
 is_malformed sync = false
+is_malformed (batch size) = false
 
 well_formed : (line : List ℕ) (request : Request) → IsShapeOf request line → is_malformed request ≡ false
 unfolding is_malformed
@@ -248,6 +256,7 @@ well_formed line (edges name column) is = refl
 well_formed line (wait name) is = refl
 well_formed line (verify name column) is = refl
 well_formed line sync is = refl
+well_formed line (batch size) is = refl
 
 no_shape : (line : List ℕ) → request_of line ≡ malformed → (request : Request) → IsShapeOf request line → ⊥
 unfolding is_malformed
@@ -268,6 +277,7 @@ none_else line (edges name column) short none asks = absurd (none (edges name co
 none_else line (wait name) short none asks = absurd (none (wait name) asks.1)
 none_else line (verify name column) short none asks = absurd (none (verify name column) asks.1)
 none_else line sync short none asks = absurd (none sync asks.1)
+none_else line (batch size) short none asks = absurd (none (batch size) asks.1)
 
 pub malformed_line : laws.MalformedLine
 malformed_line line = (λ h. none_else line (request_of line) h.0 h.1 (tells line), λ is. (back line malformed is, no_shape line is))

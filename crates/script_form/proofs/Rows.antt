@@ -1,7 +1,7 @@
 -- What worked lines ask for, and the lines of worked scripts.
 use Rattle.std.proofs.Common.{◌≡◌, pos, negsuc, Some, None, [], ◌∷◌, refl, codes}
 use Rattle.script_form.specs.Lines.{ended_lines, whole_lines}
-use Rattle.script_form.specs.Requests.{nothing, malformed, put, define, remove, locate, grid, list_layers, edges, wait, verify, sync, number_of, request_of}
+use Rattle.script_form.specs.Requests.{nothing, malformed, put, define, remove, locate, grid, list_layers, edges, wait, verify, sync, batch, number_of, request_of}
 
 a_text_runs_to_the_end_of_its_line : request_of (codes "PUT A POLYGON  EMPTY ") ≡ put (codes "A") (codes "POLYGON  EMPTY ")
 a_text_runs_to_the_end_of_its_line = refl
@@ -77,6 +77,18 @@ sync_stands_alone = refl
 
 sync_takes_no_name : request_of (codes "SYNC I") ≡ malformed
 sync_takes_no_name = refl
+
+batch_takes_a_number : request_of (codes "BATCH 3") ≡ batch (pos 3)
+batch_takes_a_number = refl
+
+batch_wants_its_number : request_of (codes "BATCH") ≡ malformed
+batch_wants_its_number = refl
+
+batch_takes_one_number : request_of (codes "BATCH 2 3") ≡ malformed
+batch_takes_one_number = refl
+
+a_batch_has_a_number : request_of (codes "BATCH two") ≡ malformed
+a_batch_has_a_number = refl
 
 commands_are_in_upper_case : request_of (codes "layers") ≡ malformed
 commands_are_in_upper_case = refl

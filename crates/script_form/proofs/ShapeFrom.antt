@@ -7,8 +7,8 @@ use Rattle.std.proofs.lemmas.List.{take-append-drop}
 use Rattle.overlay_terms.specs.Blank.{is_blank}
 use Rattle.overlay_terms.proofs.NameLemmas.{same_name}
 use Rattle.script_form.specs.Lines.{line_max, is_gap, is_too_long, is_skipped, begins_comment}
-use Rattle.script_form.specs.Requests.{Request, nothing, too_long, malformed, put, define, remove, locate, grid, list_layers, edges, wait, verify, sync, is_word_byte, is_name_side, is_empty, begins, number_of, skip_while, words_of, behind_first_word, by_words, put_of, define_of, behind_sign, located, locate_of, gridded, grid_of, remove_of, list_of, wait_of, sync_of, numbered, name_and_number, edges_at, verify_at, about_tiles, request_of}
-use Rattle.script_form.specs.Shapes.{IsShort, AreGaps, ArePartingGaps, IsWord, IsLineOf, IsBlankOrComment, IsPutLine, IsDefineLine, IsDropLine, IsLocateLine, IsGridLine, IsLayersLine, IsWaitLine, IsSyncLine, IsColumnLine}
+use Rattle.script_form.specs.Requests.{Request, nothing, too_long, malformed, put, define, remove, locate, grid, list_layers, edges, wait, verify, sync, batch, is_word_byte, is_name_side, is_empty, begins, number_of, skip_while, words_of, behind_first_word, by_words, put_of, define_of, behind_sign, located, locate_of, gridded, grid_of, remove_of, list_of, sized, batch_of, wait_of, sync_of, numbered, name_and_number, edges_at, verify_at, about_tiles, request_of}
+use Rattle.script_form.specs.Shapes.{IsShort, AreGaps, ArePartingGaps, IsWord, IsLineOf, IsBlankOrComment, IsPutLine, IsDefineLine, IsDropLine, IsLocateLine, IsGridLine, IsLayersLine, IsWaitLine, IsSyncLine, IsBatchLine, IsColumnLine}
 use Rattle.script_form.proofs.WordLemmas.{prefix_more, prefix_none, no_word, some_word}
 use Rattle.script_form.proofs.ShapeLemmas.{take_front}
 
@@ -170,6 +170,7 @@ Asks (edges name column) line = IsShort line × IsColumnLine (codes "EDGES") nam
 Asks (wait name) line = IsShort line × IsWaitLine name line
 Asks (verify name column) line = IsShort line × IsColumnLine (codes "VERIFY") name column line
 Asks sync line = IsShort line × IsSyncLine line
+Asks (batch size) line = IsShort line × IsBatchLine size line
 
 -- of two requests by a test
 either : (A : Request → Type 0) (b : Bool) (x y : Request) → (b ≡ true → A x) → (b ≡ false → A y) → A (cond b x y)
@@ -273,6 +274,14 @@ module _ (line : List ℕ) (short : IsShort line) where
   sync_tells [] is = (short, is)
   sync_tells (word ∷ words) is = short
 
+  batch_tells : (words : List (List ℕ)) → IsLineOf (codes "BATCH" ∷ words) line → Asks (batch_of words) line
+  batch_tells [] is = short
+  batch_tells (digits ∷ []) is = by (number_of digits) refl where
+    by : (size : Option ℤ) → number_of digits ≡ size → Asks (sized size) line
+    by (Some size) e = (short, record { digits = digits; words = is; size_is = e })
+    by None e = short
+  batch_tells (digits ∷ next ∷ words) is = short
+
   -- a whole point
   whole_tells : (name x y : List ℕ) → IsLineOf (codes "LOCATE" ∷ name ∷ x ∷ y ∷ []) line → (a b : Option ℤ) → number_of x ≡ a → number_of y ≡ b
       → Asks (located name a b (Some (pos 1))) line
@@ -360,7 +369,8 @@ module _ (line : List ℕ) (short : IsShort line) where
       (λ _. either (λ r. Asks r line) (bytes_eq word (codes "LOCATE")) _ _ (λ e. locate_tells words (of_command word (codes "LOCATE") words is e))
       (λ _. either (λ r. Asks r line) (bytes_eq word (codes "GRID")) _ _ (λ e. grid_tells words (of_command word (codes "GRID") words is e))
       (λ _. either (λ r. Asks r line) (bytes_eq word (codes "LAYERS")) _ _ (λ e. layers_tells words (of_command word (codes "LAYERS") words is e))
-      (λ _. tiles_tell word words is))))))
+      (λ _. either (λ r. Asks r line) (bytes_eq word (codes "BATCH")) _ _ (λ e. batch_tells words (of_command word (codes "BATCH") words is e))
+      (λ _. tiles_tell word words is)))))))
 
 -- a line that begins with `#` is a comment
 comment_is : (line : List ℕ) → begins_comment line ≡ true → (text : List ℕ) × (line ≡ 35 ∷ text)

@@ -1,32 +1,33 @@
--- A transcript with one more line at the end.
+-- Transcripts one after the other.
 use Rattle.std.proofs.Common.{ℕ, Bool, List, [], ◌∷◌, ◌++◌, refl, sym, ap, ◌∙◌, subst, append_assoc, append-nil}
-use Rattle.overlay_terms.specs.Commands.{Command}
+use Rattle.overlay_terms.specs.Batches.{Batch}
 use Rattle.overlay_terms.specs.Histories.{History}
 use Rattle.script_form.specs.Transcript.{IsTurn, IsTranscript}
+use Rattle.script_form.specs.Turns.{Turn}
 
--- one more line is answered at the history that the lines before have led to
-pub transcript-push : (stored : Bool) (session : ℕ) (seen : History) (lines : List (List ℕ)) (after : History) (made : List Command) (replies : List ℕ)
-    → IsTranscript stored session seen lines after made replies → (line : List ℕ) (later : History) (first : List Command) (reply : List ℕ)
-    → IsTurn stored session after line later first reply → IsTranscript stored session seen (lines ++ line ∷ []) later (made ++ first) (replies ++ reply)
-transcript-push stored session seen [] after made replies (same, none, empty) line later first reply turn = (
-  later,
-  first,
-  [],
-  reply,
-  [],
-  subst (λ (h : History). IsTurn stored session h line later first reply) same turn,
-  (refl, refl, refl),
-  ap (λ m. m ++ first) none ∙ sym (append-nil first),
-  ap (λ r. r ++ reply) empty ∙ sym (append-nil reply),
-)
-transcript-push stored session seen (line ∷ lines) after made replies (mid, one, others, told, rest, turn, run, all_made, all_told) last later first reply last_turn = (
-  mid,
+-- one turn alone
+pub transcript-one : (stored : Bool) (session : ℕ) (seen : History) (turn : Turn) (after : History) (made : List Batch) (reply : List ℕ)
+    → IsTurn stored session seen turn after made reply → IsTranscript stored session seen (turn ∷ []) after made reply
+transcript-one stored session seen turn after made reply taken =
+    (after, made, [], reply, [], taken, (refl, refl, refl), sym (append-nil made), sym (append-nil reply))
+
+-- turns are answered at the history that the turns before have led to
+pub transcript-join : (stored : Bool) (session : ℕ) (seen : History) (turns : List Turn) (mid : History) (made : List Batch) (replies : List ℕ)
+    → IsTranscript stored session seen turns mid made replies
+    → (more : List Turn) (after : History) (others : List Batch) (rest : List ℕ) → IsTranscript stored session mid more after others rest
+    → IsTranscript stored session seen (turns ++ more) after (made ++ others) (replies ++ rest)
+transcript-join stored session seen [] mid made replies (same, none, empty) more after others rest run =
+    subst (λ (m : List Batch). IsTranscript stored session seen more after m (replies ++ rest)) (ap (λ (m : List Batch). m ++ others) (sym none))
+    (subst (λ (r : List ℕ). IsTranscript stored session seen more after others r) (ap (λ (r : List ℕ). r ++ rest) (sym empty))
+    (subst (λ (h : History). IsTranscript stored session h more after others rest) same run))
+transcript-join stored session seen (turn ∷ turns) mid made replies (next, one, two, first, second, taken, told, all_made, all_told) more after others rest run = (
+  next,
   one,
-  others ++ first,
-  told,
-  rest ++ reply,
-  turn,
-  transcript-push stored session mid lines after others rest run last later first reply last_turn,
-  ap (λ m. m ++ first) all_made ∙ append_assoc one others first,
-  ap (λ r. r ++ reply) all_told ∙ append_assoc told rest reply,
+  two ++ others,
+  first,
+  second ++ rest,
+  taken,
+  transcript-join stored session next turns mid two second told more after others rest run,
+  ap (λ (m : List Batch). m ++ others) all_made ∙ append_assoc one two others,
+  ap (λ (r : List ℕ). r ++ rest) all_told ∙ append_assoc first second rest,
 )

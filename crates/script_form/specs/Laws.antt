@@ -2,8 +2,8 @@
 use Rattle.std.specs.Prelude.{◌≡◌, ℕ, ℤ, ◌<◌, ◌==◌, ◌↔◌, not, IsTrue, List, [], ◌∷◌, ◌++◌, length, codes}
 use Rattle.std.specs.List.{list_all}
 use Rattle.script_form.specs.Lines.{line_max, pieces_of}
-use Rattle.script_form.specs.Requests.{Request, nothing, too_long, malformed, put, define, remove, locate, grid, list_layers, edges, wait, verify, sync, words_of, request_of}
-use Rattle.script_form.specs.Shapes.{IsShort, IsLineOf, IsBlankOrComment, IsPutLine, IsDefineLine, IsDropLine, IsLocateLine, IsGridLine, IsLayersLine, IsWaitLine, IsSyncLine, IsColumnLine, IsShapeOf}
+use Rattle.script_form.specs.Requests.{Request, nothing, too_long, malformed, put, define, remove, locate, grid, list_layers, edges, wait, verify, sync, batch, words_of, request_of}
+use Rattle.script_form.specs.Shapes.{IsShort, IsLineOf, IsBlankOrComment, IsPutLine, IsDefineLine, IsDropLine, IsLocateLine, IsGridLine, IsLayersLine, IsWaitLine, IsSyncLine, IsBatchLine, IsColumnLine, IsShapeOf}
 
 -- pieces, with a line feed between each two
 abbrev pub joined : List (List ℕ) → List ℕ
@@ -56,6 +56,9 @@ WaitLine = (name line : List ℕ) → (IsShort line × IsWaitLine name line) ↔
 
 abbrev pub SyncLine : Type 0
 SyncLine = (line : List ℕ) → (IsShort line × IsSyncLine line) ↔ (request_of line ≡ sync)
+
+abbrev pub BatchLine : Type 0
+BatchLine = (size : ℤ) (line : List ℕ) → (IsShort line × IsBatchLine size line) ↔ (request_of line ≡ batch size)
 
 abbrev pub EdgesLine : Type 0
 EdgesLine = (name : List ℕ) (column : ℤ) (line : List ℕ) → (IsShort line × IsColumnLine (codes "EDGES") name column line) ↔ (request_of line ≡ edges name column)

@@ -2,11 +2,13 @@ pub mod Lines
 pub mod Requests
 pub mod Request
 pub mod Fault
-pub mod FaultText
 pub mod Replies
 pub mod Writing
 pub mod LineReply
+pub mod Turns
 pub mod Transcript
 pub mod Reading
+pub mod BatchLines
+pub mod Gathering
 pub mod Shapes
 pub mod Laws

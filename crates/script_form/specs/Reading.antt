@@ -11,11 +11,12 @@ use Rattle.wkt_form.specs.Grammar as wkt
 use Rattle.wkt_form.specs.declared.fault.WktFault.{WktFault}
 use Rattle.script_form.specs.declared.fault.CommandFault.{CommandFault}
 use Rattle.script_form.specs.declared.fault.CommandFault.TheVariants.{Wkt, Expression, OutOfMemory}
+use Rattle.script_form.specs.Fault.{code_of}
 use Rattle.script_form.specs.Replies.{error_line}
 
 -- memory ran out behind a name that is one, wherever it was asked for: the fault is told as that one
 abbrev pub IsMemory : List ℕ → CommandFault → Type 0
-IsMemory name fault = IsTrue (is_name name) × (error_line fault ≡ error_line OutOfMemory)
+IsMemory name fault = IsTrue (is_name name) × (error_line fault ≡ error_line OutOfMemory) × (code_of fault ≡ 40)
 
 -- the bytes are no name
 abbrev pub IsNoName : List ℕ → CommandFault → Type 0

@@ -21,6 +21,10 @@ durable_line number = codes "durable " ++ (decimal number ++ 10 ∷ [])
 abbrev pub error_line : CommandFault → List ℕ
 error_line fault = codes "error " ++ (decimal (code_of fault) ++ (codes " " ++ (text_of fault ++ 10 ∷ [])))
 
+-- a fault of a line of a batch, counted from 0
+abbrev pub refused_line : ℕ → CommandFault → List ℕ
+refused_line place fault = codes "refused " ++ (decimal place ++ (codes " " ++ error_line fault))
+
 abbrev pub location_line : Location → List ℕ
 location_line inside = codes "in\n"
 location_line outside = codes "out\n"

@@ -1,7 +1,7 @@
 -- Requests of the code as requests of the definitions.
 use Rattle.script_form.specs.Requests as terms
 use Rattle.script_form.specs.declared.request.Request.{Request}
-use Rattle.script_form.specs.declared.request.Request.TheVariants.{Nothing, TooLong, Malformed, Put, Define, Remove, Locate, Grid, ListLayers, Edges, Wait, Verify, Sync}
+use Rattle.script_form.specs.declared.request.Request.TheVariants.{Nothing, TooLong, Malformed, Put, Define, Remove, Locate, Grid, ListLayers, Edges, Wait, Verify, Sync, Batch}
 
 abbrev pub request : Request → terms.Request
 request Nothing = terms.nothing
@@ -17,3 +17,4 @@ request (Edges name number) = terms.edges name.now number
 request (Wait name) = terms.wait name.now
 request (Verify name number) = terms.verify name.now number
 request Sync = terms.sync
+request (Batch size) = terms.batch size

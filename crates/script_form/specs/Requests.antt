@@ -5,7 +5,8 @@ use Rattle.std.specs.Char.{is_ascii_digit}
 use Rattle.overlay_terms.specs.Blank.{is_blank}
 use Rattle.script_form.specs.Lines.{is_gap, is_skipped, is_too_long}
 
--- a request: a name and a text, a name, a point with its denominator, a grid, a name and a column's number, or no more than its word
+-- a request: a name and a text, a name, a point with its denominator, a grid, a name and a column's number, how many commands
+-- a batch has, or no more than its word
 pub data Request : Type 0 where
   nothing : Request
   too_long : Request
@@ -20,6 +21,7 @@ pub data Request : Type 0 where
   wait : List ℕ → Request
   verify : List ℕ → ℤ → Request
   sync : Request
+  batch : ℤ → Request
 
 -- the bytes from the first on that fails the test
 abbrev pub skip_while : (ℕ → Bool) → List ℕ → List ℕ
@@ -136,6 +138,15 @@ abbrev pub sync_of : List (List ℕ) → Request
 sync_of [] = sync
 sync_of (word ∷ words) = malformed
 
+-- BATCH: how many commands it has
+abbrev pub sized : Option ℤ → Request
+sized None = malformed
+sized (Some n) = batch n
+
+abbrev pub batch_of : List (List ℕ) → Request
+batch_of (size ∷ []) = sized (number_of size)
+batch_of other = malformed
+
 -- EDGES and VERIFY: a name and the number of a column
 abbrev pub numbered : List ℕ → Option ℤ → Option (List ℕ × ℤ)
 numbered name None = None
@@ -170,7 +181,8 @@ by_words (word ∷ words) rest =
     else (if bytes_eq word (codes "DROP") then remove_of words
     else (if bytes_eq word (codes "LOCATE") then locate_of words
     else (if bytes_eq word (codes "GRID") then grid_of words
-    else (if bytes_eq word (codes "LAYERS") then list_of words else about_tiles word words)))))
+    else (if bytes_eq word (codes "LAYERS") then list_of words
+    else (if bytes_eq word (codes "BATCH") then batch_of words else about_tiles word words))))))
 
 abbrev pub request_of : List ℕ → Request
 request_of line =

@@ -3,7 +3,7 @@ use Rattle.std.specs.Prelude.{◌≡◌, ℕ, ℤ, pos, ◌<◌, ◌≤◌, ◌�
 use Rattle.std.specs.List.{list_all}
 use Rattle.overlay_terms.specs.Blank.{is_blank}
 use Rattle.script_form.specs.Lines.{line_max, is_gap}
-use Rattle.script_form.specs.Requests.{Request, nothing, too_long, malformed, put, define, remove, locate, grid, list_layers, edges, wait, verify, sync, is_word_byte, is_name_side, number_of, begins}
+use Rattle.script_form.specs.Requests.{Request, nothing, too_long, malformed, put, define, remove, locate, grid, list_layers, edges, wait, verify, sync, batch, is_word_byte, is_name_side, number_of, begins}
 
 -- not too long
 abbrev pub IsShort : List ℕ → Type 0
@@ -124,6 +124,12 @@ IsWaitLine name line = IsLineOf (codes "WAIT" ∷ name ∷ []) line
 abbrev pub IsSyncLine : List ℕ → Type 0
 IsSyncLine line = IsLineOf (codes "SYNC" ∷ []) line
 
+-- BATCH and how many commands
+pub record IsBatchLine (size : ℤ) (line : List ℕ) : Type 0 where
+  pub digits : List ℕ
+  pub words : IsLineOf (codes "BATCH" ∷ digits ∷ []) line
+  pub size_is : number_of digits ≡ Some size
+
 -- a command, a name and the number of a column
 pub record IsColumnLine (command name : List ℕ) (column : ℤ) (line : List ℕ) : Type 0 where
   pub digits : List ℕ
@@ -145,3 +151,4 @@ IsShapeOf (edges name column) line = IsColumnLine (codes "EDGES") name column li
 IsShapeOf (wait name) line = IsWaitLine name line
 IsShapeOf (verify name column) line = IsColumnLine (codes "VERIFY") name column line
 IsShapeOf sync line = IsSyncLine line
+IsShapeOf (batch size) line = IsBatchLine size line

@@ -1,15 +1,16 @@
--- The replies of a script: for each line a history that goes on from the one before, and the reply at its newest version.
+-- The replies of a script: for each line, and for each batch of lines, a history that goes on from the one before, and the
+-- reply at its newest version.
 -- `stored` says whether the book has a store.
 use Rattle.std.specs.Prelude.{◌≡◌, ◌<◌, ◌≤◌, ℕ, ℤ, pos, negsuc, ◌⊎◌, Bool, true, false, IsTrue, List, [], ◌∷◌, ◌++◌, Option, Some, None}
 use Rattle.overlay_terms.specs.Plane.{WholePoint, Point}
 use Rattle.overlay_terms.specs.Trees.{Tree}
 use Rattle.overlay_terms.specs.Layers.{Layer as BookLayer, Location, answer_at}
 use Rattle.overlay_terms.specs.Commands.{Refusal, Command, stands, refusal_at}
+use Rattle.overlay_terms.specs.Batches.{Batch, BatchRefusal, at, whole, batch_refusal_at}
 use Rattle.overlay_terms.specs.Column.{column_numbered}
 use Rattle.overlay_terms.specs.Commands as terms
 use Rattle.overlay_terms.specs.Histories.{Event, accepted, Entry, History, GoesOnBy, BeginsWith, newest}
 use Rattle.overlay_terms.specs.Histories as versions
-use Rattle.overlay_terms.specs.KeptLaws.{TilesAreExact}
 use Rattle.exact_point.specs.Query.{IsQuery}
 use Rattle.exact_point.specs.declared.fault.PointFault.TheVariants.{PointRange}
 use Rattle.layer_expr.specs.Name.{is_name}
@@ -19,7 +20,7 @@ use Rattle.layer_expr.specs.declared.fault.ExprFault.TheVariants.{BadName}
 use Rattle.wkt_form.specs.Grammar as wkt
 use Rattle.wkt_form.specs.declared.fault.WktFault.{WktFault}
 use Rattle.layer_book.specs.Fault.{fault_of}
-use Rattle.layer_book.specs.declared.fault.LayerFault.TheVariants.{UnknownLayer}
+use Rattle.layer_book.specs.declared.fault.LayerFault.TheVariants.{UnknownLayer, BatchSize}
 use Rattle.layer_book.specs.Listing.{layers_text}
 use Rattle.version_core.specs.declared.fault.VersionFault.{VersionFault}
 use Rattle.version_core.specs.declared.fault.VersionFault.TheVariants.{Layer}
@@ -31,51 +32,72 @@ use Rattle.overlay_grid.specs.Grid.{Grid, IsGridSize, grid_of, grid_refusal, gri
 use Rattle.overlay_grid.specs.declared.fault.GridFault.{GridFault}
 use Rattle.script_form.specs.declared.fault.CommandFault.{CommandFault}
 use Rattle.script_form.specs.declared.fault.CommandFault.TheVariants.{Wkt, Expression, Query, Version, Device, Full, StoreFailed, SequenceLimit, OutOfMemory, CommandSyntax, LineTooLong, Closing, Gone, GridSize, NoStore}
+use Rattle.script_form.specs.BatchLines.{AreCommandsOf, IsFirstUnread}
 use Rattle.script_form.specs.Fault.{of_grid}
-use Rattle.script_form.specs.Requests.{Request, nothing, too_long, malformed, put, define, remove, locate, grid, list_layers, edges, wait, verify, sync, request_of}
-use Rattle.script_form.specs.Replies.{ok_line, error_line, location_line, built_line, durable_line, verdict_line}
+use Rattle.script_form.specs.Requests.{Request, nothing, too_long, malformed, put, define, remove, locate, grid, list_layers, edges, wait, verify, sync, batch}
+use Rattle.script_form.specs.Turns.{Turn, alone, together, cut_off}
+use Rattle.script_form.specs.Replies.{ok_line, error_line, refused_line, location_line, built_line, durable_line, verdict_line}
 
 -- a refused line: nothing is made, and the reply is the fault
-pub record IsRefused (fault : CommandFault) (made : List Command) (reply : List ℕ) : Type 0 where
+pub record IsRefused (fault : CommandFault) (made : List Batch) (reply : List ℕ) : Type 0 where
   pub nothing_made : made ≡ []
   pub told : reply ≡ error_line fault
 
 -- the book closes
-abbrev pub IsClosing : List Command → List ℕ → Type 0
+abbrev pub IsClosing : List Batch → List ℕ → Type 0
 IsClosing made reply = IsRefused Closing made reply
 
 -- the book is behind what was seen, or cannot show a version
-abbrev pub IsGone : List Command → List ℕ → Type 0
+abbrev pub IsGone : List Batch → List ℕ → Type 0
 IsGone made reply = IsRefused Gone made reply
 
--- an accepted command: the newest entry is this session's, and the reply is its version's number
-pub record IsAcceptedBy (session : ℕ) (before : History) (command : Command) (after : History) (made : List Command) (reply : List ℕ) : Type 0 where
+-- an accepted batch: the newest entry is this session's, and the reply is its version's number
+pub record IsAcceptedBy (session : ℕ) (before : History) (commands : Batch) (after : History) (made : List Batch) (reply : List ℕ) : Type 0 where
   pub between : List Entry
   pub version : versions.Version
-  pub goes_on : GoesOnBy before (between ++ record { event = accepted session command; version = version } ∷ []) after
-  pub only : made ≡ command ∷ []
+  pub goes_on : GoesOnBy before (between ++ record { event = accepted session commands; version = version } ∷ []) after
+  pub only : made ≡ commands ∷ []
   pub told : reply ≡ ok_line version.number
 
 -- a command: refused by the first reason that applies at the newest version, or accepted; or the book closes, or is behind
-abbrev pub IsSubmitted : ℕ → History → Command → History → List Command → List ℕ → Type 0
+abbrev pub IsSubmitted : ℕ → History → Command → History → List Batch → List ℕ → Type 0
 IsSubmitted session before command after made reply =
     IsClosing made reply
     ⊎ IsGone made reply
     ⊎ ((refusal : Refusal) × (refusal_at (newest after).number (newest after).layers command ≡ Some refusal) × IsRefused (Version (Layer (fault_of refusal))) made reply)
-    ⊎ IsAcceptedBy session before command after made reply
+    ⊎ IsAcceptedBy session before (command ∷ []) after made reply
+
+-- a batch that is refused for one of its lines, counted from 0: nothing is made, and the reply is the place and the fault
+pub record IsRefusedAt (place : ℕ) (fault : CommandFault) (made : List Batch) (reply : List ℕ) : Type 0 where
+  pub nothing_made : made ≡ []
+  pub told : reply ≡ refused_line place fault
+
+-- a batch that is refused for one of its commands, or as a whole
+abbrev pub IsRefusedBatch : BatchRefusal → List Batch → List ℕ → Type 0
+IsRefusedBatch (at place refusal) made reply = IsRefusedAt place (Version (Layer (fault_of refusal))) made reply
+IsRefusedBatch (whole refusal) made reply = IsRefused (Version (Layer (fault_of refusal))) made reply
+
+-- a batch of commands: refused by the first reason that applies at the newest version, or accepted; or the book closes, or
+-- is behind
+abbrev pub IsSubmittedAll : ℕ → History → Batch → History → List Batch → List ℕ → Type 0
+IsSubmittedAll session before commands after made reply =
+    IsClosing made reply
+    ⊎ IsGone made reply
+    ⊎ ((refusal : BatchRefusal) × (batch_refusal_at (newest after).number (newest after).layers commands ≡ Some refusal) × IsRefusedBatch refusal made reply)
+    ⊎ IsAcceptedBy session before commands after made reply
 
 -- a line with a name: refused where it is no name, else answered
-abbrev pub WithName : List ℕ → List Command → List ℕ → Type 0 → Type 0
+abbrev pub WithName : List ℕ → List Batch → List ℕ → Type 0 → Type 0
 WithName name made reply answered =
     ((is_name name ≡ false) × IsRefused (Expression BadName) made reply) ⊎ (IsTrue (is_name name) × answered)
 
 -- what is answered without a change
-pub record IsTold (text : List ℕ) (made : List Command) (reply : List ℕ) : Type 0 where
+pub record IsTold (text : List ℕ) (made : List Batch) (reply : List ℕ) : Type 0 where
   pub nothing_made : made ≡ []
   pub told : reply ≡ text
 
 -- a question about a version: refused by the first reason that applies, or answered
-abbrev pub Asked : Option VersionFault → List Command → List ℕ → Type 0 → Type 0
+abbrev pub Asked : Option VersionFault → List Batch → List ℕ → Type 0 → Type 0
 Asked (Some fault) made reply answered = IsRefused (Version fault) made reply
 Asked None made reply answered = answered
 
@@ -84,41 +106,41 @@ abbrev pub asked_column : ℤ → Option ℕ
 asked_column (pos k) = column_numbered k
 asked_column (negsuc k) = None
 
--- where a point lies: the place that is told is the right one, where the version's finished tiles are right
-pub record IsLocated (version : versions.Version) (name : List ℕ) (query : Point) (made : List Command) (reply : List ℕ) : Type 0 where
+-- where a point lies: the place that is told is the right one
+pub record IsLocated (version : versions.Version) (name : List ℕ) (query : Point) (made : List Batch) (reply : List ℕ) : Type 0 where
   pub nothing_made : made ≡ []
   pub place : Location
-  pub right : TilesAreExact version → place ≡ answer_at version.layers name query
+  pub right : place ≡ answer_at version.layers name query
   pub told : reply ≡ location_line place
 
 -- a picture: refused by the first reason that applies, or drawn
-abbrev pub Drawn : Option GridFault → List ℕ → List Command → List ℕ → Type 0
+abbrev pub Drawn : Option GridFault → List ℕ → List Batch → List ℕ → Type 0
 Drawn (Some fault) text made reply = IsRefused (of_grid fault) made reply
 Drawn None text made reply = IsTold text made reply
 
-abbrev pub IsPictured : List BookLayer → List ℕ → Grid → List Command → List ℕ → Type 0
+abbrev pub IsPictured : List BookLayer → List ℕ → Grid → List Batch → List ℕ → Type 0
 IsPictured layers name g made reply = Drawn (grid_refusal layers name g) (grid_text layers name g) made reply
 
 -- the pieces of a tile, line by line
-pub record IsEdgesTold (version : versions.Version) (name : List ℕ) (column : Option ℕ) (made : List Command) (reply : List ℕ) : Type 0 where
+pub record IsEdgesTold (version : versions.Version) (name : List ℕ) (column : Option ℕ) (made : List Batch) (reply : List ℕ) : Type 0 where
   pub nothing_made : made ≡ []
   pub told : AreEdges version name column reply
 
 -- whether the finished tile is that of its present input
-pub record IsVerdictTold (version : versions.Version) (name : List ℕ) (column : Option ℕ) (made : List Command) (reply : List ℕ) : Type 0 where
+pub record IsVerdictTold (version : versions.Version) (name : List ℕ) (column : Option ℕ) (made : List Batch) (reply : List ℕ) : Type 0 where
   pub nothing_made : made ≡ []
   pub verdict : Verdict
   pub right : IsVerdict version name column verdict
   pub told : reply ≡ verdict_line verdict
 
 -- no tile of a layer is pending, and the reply is the number of the version
-pub record IsBuiltTold (version : versions.Version) (name : List ℕ) (made : List Command) (reply : List ℕ) : Type 0 where
+pub record IsBuiltTold (version : versions.Version) (name : List ℕ) (made : List Batch) (reply : List ℕ) : Type 0 where
   pub nothing_made : made ≡ []
   pub built : IsBuilt version name
   pub told : reply ≡ built_line version.number
 
 -- a wait ends as the book closes, where a tile of a layer is pending
-pub record IsWaitClosed (version : versions.Version) (name : List ℕ) (made : List Command) (reply : List ℕ) : Type 0 where
+pub record IsWaitClosed (version : versions.Version) (name : List ℕ) (made : List Batch) (reply : List ℕ) : Type 0 where
   pub pending : ¬ (IsBuilt version name)
   pub closing : IsClosing made reply
 
@@ -128,28 +150,29 @@ IsOfStore fault =
     (fault ≡ Device) ⊎ (fault ≡ Full) ⊎ (fault ≡ StoreFailed) ⊎ (fault ≡ SequenceLimit) ⊎ (fault ≡ OutOfMemory) ⊎ (fault ≡ Closing)
 
 -- the version that had been seen is durable, and the reply is the durable number
-pub record IsDurableTold (asked : ℕ) (durable : ℕ) (made : List Command) (reply : List ℕ) : Type 0 where
+pub record IsDurableTold (asked : ℕ) (durable : ℕ) (made : List Batch) (reply : List ℕ) : Type 0 where
   pub nothing_made : made ≡ []
   pub reached : asked ≤ durable
   pub told : reply ≡ durable_line durable
 
 -- the version that had been seen is not durable, for what the store says
-pub record IsNotDurable (asked : ℕ) (durable : ℕ) (made : List Command) (reply : List ℕ) : Type 0 where
+pub record IsNotDurable (asked : ℕ) (durable : ℕ) (made : List Batch) (reply : List ℕ) : Type 0 where
   pub behind : durable < asked
   pub fault : CommandFault
   pub of_store : IsOfStore fault
   pub refused : IsRefused fault made reply
 
 -- whether the version that a session had seen is durable: where the book has no store, nobody can say
-abbrev pub IsSynced : Bool → ℕ → ℕ → List Command → List ℕ → Type 0
+abbrev pub IsSynced : Bool → ℕ → ℕ → List Batch → List ℕ → Type 0
 IsSynced stored asked durable made reply =
     ((stored ≡ false) × IsRefused NoStore made reply)
     ⊎ IsGone made reply
     ⊎ (IsTrue stored × IsDurableTold asked durable made reply)
     ⊎ (IsTrue stored × IsNotDurable asked durable made reply)
 
--- what a request makes of the history, what the session makes, and the reply
-abbrev pub IsAnswered : Bool → ℕ → History → Request → History → List Command → List ℕ → Type 0
+-- what a request makes of the history, what the session makes, and the reply. A BATCH line that begins no batch has no size
+-- of one
+abbrev pub IsAnswered : Bool → ℕ → History → Request → History → List Batch → List ℕ → Type 0
 IsAnswered stored session before nothing after made reply = IsTold [] made reply
 IsAnswered stored session before too_long after made reply = IsRefused LineTooLong made reply
 IsAnswered stored session before malformed after made reply = IsRefused CommandSyntax made reply
@@ -190,6 +213,13 @@ IsAnswered stored session before (verify name k) after made reply =
     (IsGone made reply
     ⊎ Asked (finished_refusal (newest after) name (asked_column k)) made reply (IsVerdictTold (newest after) name (asked_column k) made reply))
 IsAnswered stored session before sync after made reply = IsSynced stored (newest before).number (newest after).durable made reply
+IsAnswered stored session before (batch size) after made reply = IsRefused (Version (Layer BatchSize)) made reply
+
+-- the lines of a batch: refused for the first that is no command, or submitted
+abbrev pub AreAnswered : ℕ → History → List Request → History → List Batch → List ℕ → Type 0
+AreAnswered session before requests after made reply =
+    ((place : ℕ) × (fault : CommandFault) × IsFirstUnread requests place fault × IsRefusedAt place fault made reply)
+    ⊎ ((commands : Batch) × AreCommandsOf requests commands × IsSubmittedAll session before commands after made reply)
 
 -- whether a request takes memory: for the name in it, which has to be one, or for the lines of its reply
 abbrev pub takes_memory : Request → Bool
@@ -206,21 +236,32 @@ takes_memory (edges name k) = is_name name
 takes_memory (wait name) = is_name name
 takes_memory (verify name k) = is_name name
 takes_memory sync = false
+takes_memory (batch size) = false
 
 -- memory ran out for a request that takes some: nothing is made, and the reply is that fault
-abbrev pub IsOutOfMemory : Request → List Command → List ℕ → Type 0
+abbrev pub IsOutOfMemory : Request → List Batch → List ℕ → Type 0
 IsOutOfMemory request made reply = IsTrue (takes_memory request) × IsRefused OutOfMemory made reply
 
--- one line: its history goes on from the one before, and it is answered there, or memory ran out for it
-pub record IsTurn (stored : Bool) (session : ℕ) (before : History) (line : List ℕ) (after : History) (made : List Command) (reply : List ℕ) : Type 0 where
-  pub goes_on : BeginsWith after before
-  pub answered : IsOutOfMemory (request_of line) made reply ⊎ IsAnswered stored session before (request_of line) after made reply
+-- what a turn makes of the history, what the session makes, and the reply, or memory ran out for it; a batch that is cut
+-- off is refused
+abbrev pub IsTaken : Bool → ℕ → History → Turn → History → List Batch → List ℕ → Type 0
+IsTaken stored session before (alone request) after made reply =
+    IsOutOfMemory request made reply ⊎ IsAnswered stored session before request after made reply
+IsTaken stored session before (together requests) after made reply =
+    IsRefused OutOfMemory made reply ⊎ AreAnswered session before requests after made reply
+IsTaken stored session before (cut_off requests) after made reply = IsRefused CommandSyntax made reply
 
--- the lines in turn: the replies joined, and all that the session made, from what it had seen before to what it has seen then
-abbrev pub IsTranscript : Bool → ℕ → History → List (List ℕ) → History → List Command → List ℕ → Type 0
+-- one turn: its history goes on from the one before, and it is answered there
+pub record IsTurn (stored : Bool) (session : ℕ) (before : History) (turn : Turn) (after : History) (made : List Batch) (reply : List ℕ) : Type 0 where
+  pub goes_on : BeginsWith after before
+  pub answered : IsTaken stored session before turn after made reply
+
+-- the turns one after another: the replies joined, and all that the session made, from what it had seen before to what it
+-- has seen then
+abbrev pub IsTranscript : Bool → ℕ → History → List Turn → History → List Batch → List ℕ → Type 0
 IsTranscript stored session seen [] after made replies = (after ≡ seen) × (made ≡ []) × (replies ≡ [])
-IsTranscript stored session seen (line ∷ lines) after made replies =
-    (mid : History) × (first : List Command) × (others : List Command) × (reply : List ℕ) × (rest : List ℕ)
-    × IsTurn stored session seen line mid first reply
-    × IsTranscript stored session mid lines after others rest
+IsTranscript stored session seen (turn ∷ turns) after made replies =
+    (mid : History) × (first : List Batch) × (others : List Batch) × (reply : List ℕ) × (rest : List ℕ)
+    × IsTurn stored session seen turn mid first reply
+    × IsTranscript stored session mid turns after others rest
     × (made ≡ first ++ others) × (replies ≡ reply ++ rest)

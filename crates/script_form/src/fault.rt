@@ -1,21 +1,21 @@
 //! Why a line is refused, or a session ends early.
-ghost use Rattle.std.specs.Prelude.{◌≡◌, Some};
-ghost use Rattle.script_form.specs.Fault.{code_of, of_grid, text_of};
+ghost use Rattle.std.specs.Prelude.{◌≡◌};
+ghost use Rattle.script_form.specs.Fault.{code_of, of_grid};
 ghost use Rattle.script_form.specs.declared.fault.CommandFault.TheVariants.{Wkt, Expression, Query, Version, OutOfMemory};
 
-use crate::fault_text::{FaultText, fault_text};
+use crate::fault_text::fault_text;
 use exact_point::PointFault;
+use fault_texts::CommonFault;
 use layer_expr::fault::ExprFault;
 use overlay_grid::GridFault;
 use std::alloc::AllocError;
-use std::fmt;
 use thiserror::Error;
 use version_core::fault::VersionFault;
 use wkt_form::fault::WktFault;
 
 /// A fault that is printed as a line `error N text`.
 #[derive(Clone, Copy, Debug, PartialEq, Eq, Error)]
-#[error("{}", Text(*self))]
+#[error("{}", fault_text(*self))]
 pub enum CommandFault {
     Wkt(WktFault),
     /// Of a name or an expression.
@@ -56,20 +56,20 @@ impl CommandFault {
             CommandFault::Expression(fault) => fault.code(),
             CommandFault::Query(fault) => fault.code(),
             CommandFault::Version(fault) => fault.code(),
-            CommandFault::Device => 30,
-            CommandFault::Full => 31,
-            CommandFault::StoreFailed => 35,
-            CommandFault::SequenceLimit => 36,
-            CommandFault::OutOfMemory => 40,
+            CommandFault::Device => CommonFault::Device.code(),
+            CommandFault::Full => CommonFault::Full.code(),
+            CommandFault::StoreFailed => CommonFault::StoreFailed.code(),
+            CommandFault::SequenceLimit => CommonFault::SequenceLimit.code(),
+            CommandFault::OutOfMemory => CommonFault::OutOfMemory.code(),
             CommandFault::CommandSyntax => 41,
             CommandFault::LineTooLong => 42,
-            CommandFault::Closing => 43,
-            CommandFault::Gone => 44,
-            CommandFault::GridSize => 45,
-            CommandFault::NoStore => 46,
+            CommandFault::Closing => CommonFault::Closing.code(),
+            CommandFault::Gone => CommonFault::Gone.code(),
+            CommandFault::GridSize => GridFault::GridSize.code(),
+            CommandFault::NoStore => CommonFault::NoStore.code(),
             CommandFault::ReadLimit => 47,
-            CommandFault::Read => 48,
-            CommandFault::Write => 49,
+            CommandFault::Read => CommonFault::Read.code(),
+            CommandFault::Write => CommonFault::Write.code(),
         }
     }
 }
@@ -122,22 +122,6 @@ impl From<GridFault> for CommandFault {
             GridFault::GridSize => CommandFault::GridSize,
             GridFault::Layer(fault) => CommandFault::Version(VersionFault::Layer(fault)),
             GridFault::Point(fault) => CommandFault::Query(fault),
-        }
-    }
-}
-
-/// The text of a fault, as a reply says it behind the number.
-#[derive(Clone, Copy, Debug)]
-pub struct Text(pub CommandFault);
-
-impl fmt::Display for Text {
-    ghost output = { λ text. Some (text_of text.0) };
-
-    fn fmt<W: fmt::Write>(&self, f: &mut fmt::Formatter<W>) -> fmt::Result {
-        match fault_text(self.0) {
-            FaultText::Plain(text) => write!(f, "{text}"),
-            FaultText::At(text, number) => write!(f, "{text}{number}"),
-            FaultText::Ring(number, text) => write!(f, "ring {number}{text}"),
         }
     }
 }

@@ -1,5 +1,5 @@
 //! Laws of lines, and of what they ask for.
-ghost use Rattle.script_form.specs.Laws.{PiecesJoinToTheBytes, NoPieceHasALineFeed, WordsAreRead, LongLine, SkippedLine, PutLine, DefineLine, DropLine, LocateLine, GridLine, LayersLine, WaitLine, SyncLine, EdgesLine, VerifyLine, MalformedLine};
+ghost use Rattle.script_form.specs.Laws.{PiecesJoinToTheBytes, NoPieceHasALineFeed, WordsAreRead, LongLine, SkippedLine, PutLine, DefineLine, DropLine, LocateLine, GridLine, LayersLine, WaitLine, SyncLine, BatchLine, EdgesLine, VerifyLine, MalformedLine};
 
 /// The pieces of a script, joined by line feeds, are its bytes, and none of them has a line feed.
 pub fn pieces_law()
@@ -60,6 +60,11 @@ pub fn wait_law()
 /// What SYNC asks for, and that no other line asks for it.
 pub fn sync_law()
     ensures { SyncLine }
+{}
+
+/// What BATCH asks for, and that no other line asks for it.
+pub fn batch_law()
+    ensures { BatchLine }
 {}
 
 /// What EDGES and VERIFY ask for, and that no other line asks for it.

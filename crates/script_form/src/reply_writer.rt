@@ -2,9 +2,9 @@
 ghost use Rattle.std.specs.Prelude.{◌≡◌, ◌+◌, ◌≤◌, ◌++◌, IfErr};
 ghost use Rattle.arrayvec.specs.ArrayString.{array_string_len};
 ghost use Rattle.layer_book.specs.Place.{location};
-ghost use Rattle.script_form.specs.Replies.{ok_line, error_line, location_line, built_line, durable_line, verdict_line};
+ghost use Rattle.script_form.specs.Replies.{ok_line, error_line, refused_line, location_line, built_line, durable_line, verdict_line};
 ghost use Rattle.script_form.specs.LineReply.{reply_text};
-ghost use Rattle.script_form.specs.FaultText.{shown, IsBrief};
+ghost use Rattle.fault_texts.specs.FaultText.{shown, IsBrief};
 ghost use Rattle.script_form.specs.Writing.{Writes};
 
 use crate::fault::CommandFault;
@@ -45,6 +45,9 @@ pub fn write_reply<W: Write>(writer: &mut W, reply: &LineReply) -> Result<(), Co
         LineReply::Durable(number) => write_text(writer, durable_text(*number).as_str().as_bytes()),
         LineReply::Compared(verdict) => write_text(writer, verdict_text(*verdict)),
         LineReply::Fault(fault) => write_text(writer, error_text(*fault).as_str().as_bytes()),
+        LineReply::RefusedAt(place, fault) => {
+            write_text(writer, refused_text(*place, *fault).as_str().as_bytes())
+        }
         LineReply::Lines(lines) => write_text(writer, lines.as_slice()),
     }
 }
@@ -105,14 +108,35 @@ fn location_text(place: Place) -> &'static [u8]
 fn error_text(fault: CommandFault) -> ArrayString<128>
     ensures { result.bytes ≡ error_line fault }
 {
+    let mut line = ArrayString::new();
+    push_error(&mut line, fault);
+    line
+}
+
+/// The line that tells a fault of a line of a batch.
+fn refused_text(place: u32, fault: CommandFault) -> ArrayString<128>
+    ensures { result.bytes ≡ refused_line place fault }
+{
     let mut digits = Buffer::new();
     let mut line = ArrayString::new();
+    line.push_str("refused ");
+    line.push_str(digits.format(place));
+    line.push_str(" ");
+    push_error(&mut line, fault);
+    line
+}
+
+/// Puts the line that tells a fault behind what stands before it, if that is short.
+fn push_error(line: &mut ArrayString<128>, fault: CommandFault)
+    requires room { array_string_len line.old ≤ 30 }
+    ensures { line.new.bytes ≡ line.old.bytes ++ error_line fault }
+{
+    let mut digits = Buffer::new();
     line.push_str("error ");
     line.push_str(digits.format(fault.code()));
     line.push_str(" ");
-    push_text(&mut line, fault_text(fault));
+    push_text(line, fault_text(fault));
     line.push_str("\n");
-    line
 }
 
 /// Puts the text of a fault behind a line that has room for it.

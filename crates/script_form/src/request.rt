@@ -2,7 +2,7 @@
 ghost use Rattle.std.specs.Prelude.{◌≡◌, bytes_eq, option_map};
 ghost use Rattle.std.specs.List.{list_all};
 ghost use Rattle.script_form.specs.Lines.{is_skipped, begins_comment, is_gap};
-ghost use Rattle.script_form.specs.Requests.{request_of, by_words, words_of, behind_first_word, put_of, define_of, behind_sign, remove_of, locate_of, list_of, located, grid_of, gridded, about_tiles, edges_at, verify_at, name_and_number, wait_of, sync_of};
+ghost use Rattle.script_form.specs.Requests.{request_of, by_words, words_of, behind_first_word, put_of, define_of, behind_sign, remove_of, locate_of, list_of, batch_of, located, grid_of, gridded, about_tiles, edges_at, verify_at, name_and_number, wait_of, sync_of};
 ghost use Rattle.script_form.specs.Request.{request};
 
 use crate::number::number_of;
@@ -34,6 +34,8 @@ pub enum Request<'a> {
     /// A name and the number of a column.
     Verify(&'a [u8], i64),
     Sync,
+    /// How many commands a batch is to have.
+    Batch(i64),
 }
 
 /// What the line asks for.
@@ -95,6 +97,9 @@ fn by_words(line: &[u8]) -> Request<'_>
     }
     if is_word(word, b"LAYERS") {
         return list_of(rest);
+    }
+    if is_word(word, b"BATCH") {
+        return batch_of(rest);
     }
     about_tiles(word, rest)
 }
@@ -220,6 +225,21 @@ fn list_of(rest: &[u8]) -> Request<'_>
         return Request::Malformed;
     }
     Request::ListLayers
+}
+
+fn batch_of(rest: &[u8]) -> Request<'_>
+    ensures { request result ≡ batch_of (words_of rest.now) }
+{
+    let Some((size, rest)) = first_word(rest) else {
+        return Request::Malformed;
+    };
+    if first_word(rest).is_some() {
+        return Request::Malformed;
+    }
+    match number_of(size) {
+        Some(size) => Request::Batch(size),
+        None => Request::Malformed,
+    }
 }
 
 fn locate_of(rest: &[u8]) -> Request<'_>

@@ -1,18 +1,22 @@
 -- What is answered to each request, from what its name and text are read as and what the book makes of it.
-use Rattle.std.proofs.Common.{◌≡◌, ℕ, ℤ, Bool, true, false, IsTrue, List, [], ◌∷◌, ◌++◌, Option, Some, None, refl, sym, ap, subst, ◌∙◌, ◌⊎◌, inl, inr, append-nil}
+use Rattle.std.proofs.Common.{◌≡◌, ℕ, ℤ, Bool, true, false, IsTrue, List, [], ◌∷◌, ◌++◌, Option, Some, None, Result, Ok, Err, refl, sym, ap, subst, ◌∙◌, ◌⊎◌, inl, inr, append-nil}
 use Rattle.std.specs.Option.{option_map}
 use Rattle.std.proofs.lemmas.Bool.{false≢true}
 use Rattle.overlay_terms.specs.Plane.{Point}
 use Rattle.overlay_terms.specs.Layers.{Location, answer_at}
+use Rattle.overlay_terms.specs.Batches.{Batch, BatchRefusal, at, whole, batch_refusal_at}
+use Rattle.overlay_terms.specs.Commands as terms
 use Rattle.overlay_terms.specs.Commands.{Command, Refusal, refusal_at, stands}
 use Rattle.overlay_terms.specs.Histories.{BeginsWith, newest}
 use Rattle.overlay_terms.specs.Histories as versions
-use Rattle.overlay_terms.specs.KeptLaws.{TilesAreExact}
 use Rattle.exact_point.specs.Query.{IsQuery}
 use Rattle.exact_point.specs.declared.fault.PointFault.TheVariants.{PointRange}
 use Rattle.layer_expr.specs.Name.{is_name}
 use Rattle.layer_expr.specs.declared.fault.ExprFault.TheVariants.{BadName}
 use Rattle.layer_book.specs.Fault.{RefusedBy, fault_of}
+use Rattle.layer_book.specs.BatchFault as batch_faults
+use Rattle.layer_book.specs.BatchFault.{RefusedAllBy}
+use Rattle.layer_book.specs.declared.batch_fault.BatchFault.{BatchFault}
 use Rattle.layer_book.specs.Listing.{layers_text}
 use Rattle.layer_book.specs.declared.fault.LayerFault.TheVariants as layer_fault
 use Rattle.version_core.specs.Fault as version_fault
@@ -21,7 +25,7 @@ use Rattle.version_core.specs.declared.fault.VersionFault.TheVariants.{Layer}
 use Rattle.overlay_grid.specs.Grid.{Grid, IsGridSize, grid_of, grid_refusal, grid_text}
 use Rattle.overlay_grid.specs.declared.fault.GridFault.{GridFault}
 use Rattle.overlay_grid.specs.declared.fault.GridFault.TheVariants as picture
-use Rattle.book_history.specs.Fault.{IfGone, IsRefused as IsRefusedBy}
+use Rattle.book_history.specs.Fault.{IfGone, IfBatchGone, IsBatchRefused, IsRefused as IsRefusedBy}
 use Rattle.book_history.specs.Known.{Known, seen, IsOwn}
 use Rattle.book_history.specs.Logs.{IsAccepted}
 use Rattle.book_history.specs.declared.fault.BookFault.{BookFault}
@@ -30,12 +34,22 @@ use Rattle.script_form.specs.declared.fault.CommandFault.{CommandFault}
 use Rattle.script_form.specs.declared.fault.CommandFault.TheVariants.{Expression, Query, Version, CommandSyntax, OutOfMemory, Closing, Gone, GridSize}
 use Rattle.script_form.specs.Fault.{of_grid}
 use Rattle.script_form.specs.Reading.{IsMemory, IsNoName, IsPut, IsPutRefused, IsDefine, IsDefineRefused, IsRemove}
-use Rattle.script_form.specs.Replies.{ok_line, error_line, location_line}
+use Rattle.script_form.specs.Replies.{ok_line, error_line, refused_line, location_line}
 use Rattle.script_form.specs.Requests.{Request, put, define, remove, locate, grid, list_layers, request_of}
-use Rattle.script_form.specs.Transcript.{IsRefused, IsSubmitted, IsAnswered, IsOutOfMemory, IsTold, Drawn, WithName}
-use Rattle.server_session.specs.Answering.{Answers, Submits}
-use Rattle.server_session.specs.Fault.{fault_told}
+use Rattle.script_form.specs.Transcript.{IsRefused, IsRefusedBatch, IsSubmitted, IsSubmittedAll, IsAnswered, IsOutOfMemory, IsTold, Drawn, WithName}
+use Rattle.script_form.specs.Turns.{Turn, alone, together}
+use Rattle.script_form.specs.Gathering.{TakesLine}
+use Rattle.script_form.specs.Request.{request}
+use Rattle.script_form.specs.declared.request.Request as code
+use Rattle.script_form.specs.declared.gathering.Gathering.{Gathering}
+use Rattle.script_form.specs.declared.gathering.LinesFault.{LinesFault}
+use Rattle.script_form.specs.declared.gathering.LinesFault.TheVariants.{Unread, OutOfMemory as NoMemory}
+use Rattle.script_form.specs.declared.line_turn.LineTurn.TheVariants.{Waits, Alone, Whole}
+use Rattle.server_session.specs.Answering.{Answers, AnswersAll, Submits, SubmitsAll}
+use Rattle.server_session.specs.Fault.{batch_told, fault_told, numbered}
+use Rattle.server_session.specs.Session.{IsSharedRun}
 use Rattle.server_session.specs.Turn.{Stays, TakesTurn}
+use Rattle.server_session.proofs.Runs.{run-none, run-one}
 use Rattle.server_session.proofs.Turns.{stays_self}
 
 -- ==== A session that makes nothing
@@ -72,10 +86,10 @@ unnamed name fault T (inr none) = inr (inl (no_name name fault none))
 -- ==== Commands
 
 pub submits_accepted : (was now : Known) (command : Command) (number : ℕ) → BeginsWith (seen now) (seen was) → (now.book ≡ was.book) × (now.session ≡ was.session)
-    → IsAccepted was.session (seen was) command (seen now) number → now.made ≡ was.made ++ command ∷ [] → Submits was command now (ok_line number)
+    → IsAccepted was.session (seen was) (command ∷ []) (seen now) number → now.made ≡ was.made ++ (command ∷ []) ∷ [] → Submits was command now (ok_line number)
 submits_accepted was now command number on same accepted made = record {
   stays = record { book = same.0; session = same.1; goes_on = on };
-  made = command ∷ [];
+  made = (command ∷ []) ∷ [];
   submitted =
       inr (inr (inr (inr (record {
         between = accepted.between;
@@ -121,6 +135,103 @@ submits_refused was now command fault on same unchanged refused told is =
       submitted = submit_refused was now command fault refused;
       only = makes_nothing was now stays (made_none fault was now unchanged);
     })
+
+-- ==== Batches
+
+pub submits_all_accepted : (was now : Known) (commands : Batch) (number : ℕ) → BeginsWith (seen now) (seen was) → (now.book ≡ was.book) × (now.session ≡ was.session)
+    → IsAccepted was.session (seen was) commands (seen now) number → now.made ≡ was.made ++ commands ∷ [] → SubmitsAll was commands now (ok_line number)
+submits_all_accepted was now commands number on same accepted made = record {
+  stays = record { book = same.0; session = same.1; goes_on = on };
+  made = commands ∷ [];
+  submitted =
+      inr (inr (inr (inr (record {
+        between = accepted.between;
+        version = accepted.version;
+        goes_on = accepted.goes_on;
+        only = refl;
+        told = ap ok_line (sym accepted.told);
+      }))));
+  only = made;
+}
+
+batch_reported : (o : Option BatchRefusal) (fault : BatchFault) → option_map batch_faults.fault_of o ≡ Some fault
+    → (refusal : BatchRefusal) × (o ≡ Some refusal) × (fault ≡ batch_faults.fault_of refusal)
+batch_reported None fault e = absurd (cc)
+batch_reported (Some refusal) fault e = (refusal, refl, cc)
+
+-- the number of a reason stands for its fault
+numbered_reason : (reason : Refusal) → numbered (batch_faults.code_for reason) ≡ Version (Layer (fault_of reason))
+numbered_reason terms.unknown_layer = refl
+numbered_reason terms.not_base = refl
+numbered_reason terms.not_derived = refl
+numbered_reason terms.later_layer = refl
+numbered_reason terms.in_use = refl
+numbered_reason terms.too_many_layers = refl
+numbered_reason terms.version_limit = refl
+
+refusal_told : (refusal : BatchRefusal) → IsRefusedBatch refusal [] (batch_told (batch_faults.fault_of refusal))
+refusal_told (at place reason) = record { nothing_made = refl; told = ap (refused_line place) (numbered_reason reason) }
+refusal_told (whole reason) = record { nothing_made = refl; told = ap error_line (numbered_reason reason) }
+
+-- a batch that was refused makes nothing
+batch_made_none : (fault : BatchFault) (was now : Known) → IfBatchGone fault (now ≡ was) ((now.made ≡ was.made) × IsOwn now) → now.made ≡ was.made
+batch_made_none fault was now (inl gone) = ap (λ (k : Known). k.made) gone.1
+batch_made_none fault was now (inr other) = other.1.0
+
+batch_refused_by : (was now : Known) (commands : Batch) (fault : BatchFault)
+    → RefusedAllBy (batch_refusal_at (newest (seen now)).number (newest (seen now)).layers commands) fault
+    → IsRefused OutOfMemory [] (batch_told fault) ⊎ IsSubmittedAll was.session (seen was) commands (seen now) [] (batch_told fault)
+batch_refused_by was now commands fault (inl memory) = inl (record { nothing_made = refl; told = ap batch_told memory.0 })
+batch_refused_by was now commands fault (inr by) =
+    let r = batch_reported (batch_refusal_at (newest (seen now)).number (newest (seen now)).layers commands) fault by in
+    inr (inr (inr (inl (r.0, r.1, subst (λ (f : BatchFault). IsRefusedBatch r.0 [] (batch_told f)) (sym r.2) (refusal_told r.0)))))
+
+submit_all_refused : (was now : Known) (commands : Batch) (fault : BatchFault) → IsBatchRefused true (newest (seen now)) commands fault
+    → IsRefused OutOfMemory [] (batch_told fault) ⊎ IsSubmittedAll was.session (seen was) commands (seen now) [] (batch_told fault)
+submit_all_refused was now commands fault (inl gone) = inr (inr (inl (record { nothing_made = refl; told = ap batch_told gone })))
+submit_all_refused was now commands fault (inr (inl closing)) = inr (inl (record { nothing_made = refl; told = ap batch_told closing.1 }))
+submit_all_refused was now commands fault (inr (inr by)) = batch_refused_by was now commands fault by
+
+pub submits_all_refused : (was now : Known) (commands : Batch) (fault : BatchFault) → BeginsWith (seen now) (seen was) → (now.book ≡ was.book) × (now.session ≡ was.session)
+    → IfBatchGone fault (now ≡ was) ((now.made ≡ was.made) × IsOwn now) → IsBatchRefused true (newest (seen now)) commands fault
+    → (reply : List ℕ) → reply ≡ batch_told fault → SubmitsAll was commands now reply
+submits_all_refused was now commands fault on same unchanged refused reply is =
+    let stays : Stays was now = record { book = same.0; session = same.1; goes_on = on } in
+    subst (SubmitsAll was commands now) (sym is) (record {
+      stays = stays;
+      made = [];
+      submitted = submit_all_refused was now commands fault refused;
+      only = makes_nothing was now stays (batch_made_none fault was now unchanged);
+    })
+
+-- the lines of a batch are read, and the batch is submitted
+pub answers_all : (was now : Known) (commands : Batch) (reply : List ℕ) → SubmitsAll was commands now reply → AnswersAll was (Ok commands) now reply
+answers_all was now commands reply s = record {
+  stays = s.stays;
+  answered = λ requests read. record {
+    made = s.made;
+    answered = elim s.submitted [ inl memory ↦ inl memory | inr by ↦ inr (inr (commands, read, by)) ];
+    only = s.only;
+  };
+}
+
+-- one of them is no command
+pub answers_unread : (me : Known) (place : ℕ) (fault : CommandFault) → AnswersAll me (Err (Unread place fault)) me (refused_line place fault)
+answers_unread me place fault = record {
+  stays = stays_self me;
+  answered = λ requests first. record {
+    made = [];
+    answered = inr (inl (place, fault, first, record { nothing_made = refl; told = refl }));
+    only = makes_nothing me me (stays_self me) refl;
+  };
+}
+
+-- or memory ran out for one
+pub answers_no_memory : (me : Known) → AnswersAll me (Err NoMemory) me (error_line OutOfMemory)
+answers_no_memory me = record {
+  stays = stays_self me;
+  answered = λ requests tt. record { made = []; answered = inl (refused_so OutOfMemory); only = makes_nothing me me (stays_self me) refl };
+}
 
 -- ==== PUT, DEFINE, DROP
 
@@ -273,12 +384,12 @@ module _ (was now : Known) (stays : Stays was now) (made : now.made ≡ was.made
 
   pub locate_told : (stored : Bool) (name known : List ℕ) (x y w : ℤ) (p : Point) (version : versions.Version) (place : Location) → version ≡ newest (seen now)
       → known ≡ name → p ≡ record { x = x; y = y; w = w } → IsTrue (is_name name) → IsQuery x y w → IsTrue (stands version.layers known)
-      → (TilesAreExact version → place ≡ answer_at version.layers known p) → Answers stored was (locate name x y w) now (location_line place)
+      → place ≡ answer_at version.layers known p → Answers stored was (locate name x y w) now (location_line place)
   locate_told stored name known x y w p version place is same point named query stood right =
       let there : stands (newest (seen now)).layers name ≡ true =
       ap (λ (v : versions.Version). stands v.layers name) (sym is) ∙ ap (stands version.layers) (sym same) ∙ stood in
-      let told : TilesAreExact (newest (seen now)) → place ≡ answer_at (newest (seen now)).layers name (record { x = x; y = y; w = w }) =
-      λ exact. right (subst (λ (v : versions.Version). TilesAreExact v) (sym is) exact)
+      let told : place ≡ answer_at (newest (seen now)).layers name (record { x = x; y = y; w = w }) =
+      right
       ∙ ap (λ n. answer_at version.layers n p) same ∙ ap (answer_at version.layers name) point
       ∙ ap (λ (v : versions.Version). answer_at v.layers name (record { x = x; y = y; w = w })) is in
       answers_so was now stays made stored (locate name x y w) (location_line place)
@@ -334,22 +445,42 @@ module _ (was now : Known) (stays : Stays was now) (made : now.made ≡ was.made
 
 -- ==== Lines
 
--- a line is answered as what it asks for
-pub takes_turn : (stored : Bool) (was now : Known) (line : List ℕ) (request : Request) (reply : List ℕ) → request ≡ request_of line → Answers stored was request now reply
-    → TakesTurn stored was line now reply
-takes_turn stored was now line request reply asked answers =
-    let a = answers.answered in
-    record {
-      stays = answers.stays;
-      answered = record {
-        made = a.made;
-        turn = record {
-          goes_on = answers.stays.goes_on;
-          answered = elim a.answered [
-            | inl memory ↦ inl (subst (λ (r : Request). IsOutOfMemory r a.made reply) asked memory)
-            | inr by ↦ inr (subst (λ (r : Request). IsAnswered stored was.session (seen was) r (seen now) a.made reply) asked by)
-          ];
-        };
-        only = a.only;
+-- a line that belongs to a batch, or begins one, has no reply
+pub takes_waiting : (stored : Bool) (me : Known) (old new : Option Gathering) (line : List ℕ) → TakesLine old (request_of line) new Waits → TakesTurn stored me old line me new []
+takes_waiting stored me old new line taken = record {
+  stays = stays_self me;
+  taken = λ waiting there.
+      let t = taken waiting there in
+      record { waits = t.open_then; answered = subst (λ (turns : List Turn). IsSharedRun stored me turns me []) (sym t.ended) (run-none stored me) };
+}
+
+-- a line alone is answered as what it asks for
+pub takes_alone : (stored : Bool) (was now : Known) (old new : Option Gathering) (line : List ℕ) (asked : code.Request) (reply : List ℕ)
+    → TakesLine old (request_of line) new (Alone asked) → Answers stored was (request asked) now reply → TakesTurn stored was old line now new reply
+takes_alone stored was now old new line asked reply taken answers = record {
+  stays = answers.stays;
+  taken = λ waiting there.
+      let t = taken waiting there in
+      let a = answers.answered in
+      record {
+        waits = t.open_then;
+        answered = subst (λ (turns : List Turn). IsSharedRun stored was turns now reply) (sym t.ended)
+            (run-one stored was now (alone (request asked)) a.made reply (record { goes_on = answers.stays.goes_on; answered = a.answered }) a.only);
       };
-    }
+}
+
+-- the last line of a batch is answered as all of its lines
+pub takes_whole : (stored : Bool) (was now : Known) (old new : Option Gathering) (line : List ℕ) (read : Result Batch LinesFault) (reply : List ℕ)
+    → TakesLine old (request_of line) new (Whole read) → AnswersAll was read now reply → TakesTurn stored was old line now new reply
+takes_whole stored was now old new line read reply taken answers = record {
+  stays = answers.stays;
+  taken = λ waiting there.
+      let t = taken waiting there in
+      let (requests, ended, are) = t.ended in
+      let a = answers.answered requests are in
+      record {
+        waits = t.open_then;
+        answered = subst (λ (turns : List Turn). IsSharedRun stored was turns now reply) (sym ended)
+            (run-one stored was now (together requests) a.made reply (record { goes_on = answers.stays.goes_on; answered = a.answered }) a.only);
+      };
+}

@@ -1,5 +1,5 @@
 -- How a session ends, from where it stands.
-use Rattle.std.proofs.Common.{◌≡◌, ℕ, zero, suc, ◌+◌, ◌-◌, ◌<◌, ◌≤◌, min, ◌⊎◌, inl, inr, Bool, true, false, Option, Result, Ok, Err, MatchResult, List, [], ◌∷◌, ◌++◌, length, take, lit<, refl, sym, ap, ◌∙◌, subst, append_assoc, append-nil, arith}
+use Rattle.std.proofs.Common.{◌≡◌, ℕ, zero, suc, ◌+◌, ◌-◌, ◌<◌, ◌≤◌, min, ◌⊎◌, inl, inr, Bool, true, false, Option, Some, None, is_none, Result, Ok, Err, MatchResult, List, [], ◌∷◌, ◌++◌, length, take, lit<, refl, sym, ap, ◌∙◌, subst, append_assoc, append-nil, arith}
 use Rattle.std.proofs.lemmas.List.{take_all, take-take, length-take, length-append}
 use Rattle.std.proofs.lemmas.Bool.{cases_lt, false≢true, true≢false}
 use Rattle.std.specs.Result.{is_err}
@@ -8,7 +8,10 @@ use Rattle.std.proofs.KnownBytes.{Appends-nil, Appends-trans, Consumes-nil, Cons
 use Rattle.book_history.specs.Known.{Known}
 use Rattle.script_form.specs.declared.session_end.SessionEnd.{SessionEnd}
 use Rattle.script_form.specs.declared.session_end.SessionEnd.TheVariants.{End, Failed}
-use Rattle.script_form.specs.declared.fault.CommandFault.TheVariants.{ReadLimit, Read}
+use Rattle.script_form.specs.declared.fault.CommandFault.TheVariants.{CommandSyntax, ReadLimit, Read}
+use Rattle.script_form.specs.declared.gathering.Gathering.{Gathering}
+use Rattle.script_form.specs.Gathering.{IsOpen}
+use Rattle.script_form.specs.Turns.{Turn, Waiting, cut_off, waiting_behind, turns_of, cut_off_in, all_turns_of}
 use Rattle.script_form.specs.Lines.{script_max, line_room, ended_lines, unended, last_line, whole_lines}
 use Rattle.script_form.specs.Replies.{error_line}
 use Rattle.script_form.specs.Requests.{request_of}
@@ -16,10 +19,10 @@ use Rattle.script_form.specs.Writing.{IsCutShort}
 use Rattle.script_form.proofs.LongLines.{request_of-cut, take-nil}
 use Rattle.server_session.specs.Session.{IsSharedRun, IsPastLimit, IsReadFault, IsCutOff, EndsSo, IsSharedSession}
 use Rattle.server_session.specs.Turn.{Stays, TakesTurn}
-use Rattle.server_session.specs.Loop.{Stands, IsStopped, TakesAll, Finishes, EndsBy}
-use Rattle.server_session.proofs.Runs.{run-push, takes_turn-same}
-use Rattle.server_session.proofs.Steps.{cut_run}
-use Rattle.server_session.proofs.Turns.{stays_self}
+use Rattle.server_session.specs.Loop.{Stands, IsStopped, TakesAll, Finishes, EndsWith, EndsBatch, EndsBy}
+use Rattle.server_session.proofs.Runs.{run-none, run-one, run-join, pushed_run, pushed_waits, takes_turn-same}
+use Rattle.server_session.proofs.Steps.{cut_run, cut_off-longer}
+use Rattle.server_session.proofs.Turns.{stays_self, stays_trans}
 
 -- nothing is kept where nothing stands behind the last line feed
 some_room : 0 < line_room
@@ -41,53 +44,130 @@ last_line-is : (rest : List ℕ) → 0 < length rest → last_line rest ≡ rest
 last_line-is [] some = absurd (omega arith)
 last_line-is (b ∷ rest) some = refl
 
--- the script ends behind a line feed
-pub finishes-empty : (stored : Bool) (me : Known) (line : List ℕ) (output : Option (List ℕ)) → length line ≡ 0 → Finishes stored End me line me output output
-finishes-empty stored me line output none = λ was taken replies stands. (
+-- ==== Behind the last line
+
+-- no batch waits
+all_alone : (waiting : Option Waiting) → IsOpen waiting None → cut_off_in waiting ≡ []
+all_alone None waits = refl
+all_alone (Some waiting) waits = absurd waits
+
+pub ends-alone : (waiting : Option Gathering) (output : Option (List ℕ)) → is_none waiting ≡ true → EndsBatch End waiting output output
+ends-alone None output none = λ stored was me lines replies stays run waits. (
   [],
   Appends-nil output,
-  subst (IsSharedRun stored was (whole_lines taken) me) (sym (append-nil replies))
-      (subst (λ l. IsSharedRun stored was l me replies) (sym (no_last_line taken (no_rest (unended taken) (sym (ap length stands.rest) ∙ none)))) stands.told),
+  subst (λ (turns : List Turn). IsSharedRun stored was turns me (replies ++ []))
+      (sym (ap (λ (turns : List Turn). turns_of lines ++ turns) (all_alone (waiting_behind lines) waits) ∙ append-nil (turns_of lines)))
+      (subst (IsSharedRun stored was (turns_of lines) me) (sym (append-nil replies)) run),
+)
+ends-alone (Some gathering) output none = absurd (false≢true none)
+
+-- a batch waits, and is refused
+cut_off_run : (stored : Bool) (me : Known) (waiting : Option Waiting) (gathering : Gathering) → IsOpen waiting (Some gathering)
+    → IsSharedRun stored me (cut_off_in waiting) me (error_line CommandSyntax)
+cut_off_run stored me None gathering waits = absurd waits
+cut_off_run stored me (Some waiting) gathering waits =
+    run-one stored me me (cut_off waiting.came) [] (error_line CommandSyntax)
+    (record { goes_on = (stays_self me).goes_on; answered = record { nothing_made = refl; told = refl } }) (sym (append-nil me.made))
+
+refused_run : (stored : Bool) (was me : Known) (lines : List (List ℕ)) (replies : List ℕ) (gathering : Gathering) → Stays was me
+    → IsSharedRun stored was (turns_of lines) me replies → IsOpen (waiting_behind lines) (Some gathering)
+    → IsSharedRun stored was (all_turns_of lines) me (replies ++ error_line CommandSyntax)
+refused_run stored was me lines replies gathering stays run waits =
+    run-join stored was me me (turns_of lines) (cut_off_in (waiting_behind lines)) replies (error_line CommandSyntax) stays run
+    (cut_off_run stored me (waiting_behind lines) gathering waits)
+
+pub ends-refused : (waiting : Option Gathering) (output all : Option (List ℕ)) → is_none waiting ≡ false → Appends output all (error_line CommandSyntax) → EndsBatch End waiting output all
+ends-refused None output all some appended = absurd (true≢false some)
+ends-refused (Some gathering) output all some appended = λ stored was me lines replies stays run waits.
+    (error_line CommandSyntax, appended, refused_run stored was me lines replies gathering stays run waits)
+
+pub ends-refused_cut : (waiting : Option Gathering) (output all : Option (List ℕ)) → is_none waiting ≡ false
+    → ((front : List ℕ) × IsCutShort (error_line CommandSyntax) front × Appends output all front) → EndsBatch (Failed 49) waiting output all
+ends-refused_cut None output all some cut = absurd (true≢false some)
+ends-refused_cut (Some gathering) output all some (front, short, appended) = λ stored was me lines replies stays run waits. (
+  front,
+  appended,
+  (refl, cut_run stored was me (all_turns_of lines) replies (error_line CommandSyntax) front (refused_run stored was me lines replies gathering stays run waits) short),
 )
 
--- the last line, and its run
-last_run : (stored : Bool) (was : Known) (taken replies line : List ℕ) (old new : Known) (reply : List ℕ) → 0 < length line → Stands stored was taken replies line old → TakesTurn stored old line new reply
-    → IsSharedRun stored was (whole_lines taken) new (replies ++ reply)
-last_run stored was taken replies line old new reply some stands takes =
-    let long : length line ≤ length (unended taken) = omega (arith, ap length stands.rest, length-take line_room (unended taken)) in
-    let turn = takes_turn-same stored line (unended taken) (ap request_of stands.rest ∙ request_of-cut (unended taken)) old new reply takes in
-    subst (λ l. IsSharedRun stored was (ended_lines taken ++ l) new (replies ++ reply)) (sym (last_line-is (unended taken) (omega arith)))
-    (run-push stored was old new (ended_lines taken) replies (unended taken) reply stands.stays stands.told turn.answered)
+-- ==== The end of the script
 
-pub finishes-told : (stored : Bool) (old new : Known) (line bytes : List ℕ) (output all : Option (List ℕ)) → bytes ≡ line → 0 < length line
-    → ((reply : List ℕ) × TakesTurn stored old bytes new reply × Appends output all reply) → Finishes stored End old line new output all
-finishes-told stored old new line bytes output all is some (reply, takes, appended) = λ was taken replies stands.
-    (reply, appended, last_run stored was taken replies line old new reply some stands (subst (λ l. TakesTurn stored old l new reply) is takes))
+-- the script ends behind a line feed
+pub finishes-empty : (stored : Bool) (end : SessionEnd) (me : Known) (line : List ℕ) (waiting : Option Gathering) (output all : Option (List ℕ)) → length line ≡ 0
+    → EndsBatch end waiting output all → Finishes stored end me line waiting me output all
+finishes-empty stored end me line waiting output all none ends = λ was taken replies stands.
+    let (written, appended, ended) = ends stored was me (ended_lines taken) replies stands.stays stands.told stands.waits in (
+      written,
+      appended,
+      subst (λ lines. EndsWith stored end was me (all_turns_of lines) (replies ++ written))
+          (sym (no_last_line taken (no_rest (unended taken) (sym (ap length stands.rest) ∙ none)))) ended,
+    )
 
-pub finishes-cut : (stored : Bool) (old new : Known) (line bytes : List ℕ) (output all : Option (List ℕ)) → bytes ≡ line → 0 < length line
-    → ((reply : List ℕ) × TakesTurn stored old bytes new reply × ((front : List ℕ) × IsCutShort reply front × Appends output all front)) → Finishes stored (Failed 49) old line new output all
-finishes-cut stored old new line bytes output all is some (reply, takes, (front, short, appended)) = λ was taken replies stands.
-    let run = last_run stored was taken replies line old new reply some stands (subst (λ l. TakesTurn stored old l new reply) is takes) in
-    (front, appended, (refl, cut_run stored was new (whole_lines taken) replies reply front run short))
+-- the last line
+module _ (stored : Bool) (was : Known) (taken replies line : List ℕ) (before after : Option Gathering) (old new : Known) (reply : List ℕ) (some : 0 < length line)
+    (stands : Stands stored was taken replies line before old) (takes : TakesTurn stored old before line new after reply) where
+  last_turn : TakesTurn stored old before (unended taken) new after reply
+  last_turn = takes_turn-same stored line (unended taken) (ap request_of stands.rest ∙ request_of-cut (unended taken)) old new before after reply takes
+
+  with_last : ended_lines taken ++ unended taken ∷ [] ≡ whole_lines taken
+  with_last =
+      let long : length line ≤ length (unended taken) = omega (arith, ap length stands.rest, length-take line_room (unended taken)) in
+      ap (λ l. ended_lines taken ++ l) (sym (last_line-is (unended taken) (omega arith)))
+
+  last_run : IsSharedRun stored was (turns_of (whole_lines taken)) new (replies ++ reply)
+  last_run =
+      subst (λ lines. IsSharedRun stored was (turns_of lines) new (replies ++ reply)) with_last
+      (pushed_run stored was old new (ended_lines taken) (unended taken) replies reply before after stands.waits last_turn stands.stays stands.told)
+
+  last_waits : IsOpen (waiting_behind (whole_lines taken)) after
+  last_waits =
+      subst (λ lines. IsOpen (waiting_behind lines) after) with_last
+      (pushed_waits stored was old new (ended_lines taken) (unended taken) replies reply before after stands.waits last_turn)
+
+pub finishes-told : (stored : Bool) (end : SessionEnd) (old new : Known) (line bytes : List ℕ) (before after : Option Gathering) (output mid all : Option (List ℕ)) → bytes ≡ line → 0 < length line
+    → ((reply : List ℕ) × TakesTurn stored old before bytes new after reply × Appends output mid reply) → EndsBatch end after mid all → Finishes stored end old line before new output all
+finishes-told stored end old new line bytes before after output mid all is some (reply, takes, appended) ends = λ was taken replies stands.
+    let same = subst (λ l. TakesTurn stored old before l new after reply) is takes in
+    let run = last_run stored was taken replies line before after old new reply some stands same in
+    let waits = last_waits stored was taken replies line before after old new reply some stands same in
+    let (written, more, ended) = ends stored was new (whole_lines taken) (replies ++ reply) (stays_trans was old new stands.stays takes.stays) run waits in (
+      reply ++ written,
+      Appends-trans output mid all reply written appended more,
+      subst (EndsWith stored end was new (all_turns_of (whole_lines taken))) (append_assoc replies reply written) ended,
+    )
+
+pub finishes-cut : (stored : Bool) (old new : Known) (line bytes : List ℕ) (before after : Option Gathering) (output all : Option (List ℕ)) → bytes ≡ line → 0 < length line
+    → ((reply : List ℕ) × TakesTurn stored old before bytes new after reply × ((front : List ℕ) × IsCutShort reply front × Appends output all front))
+    → Finishes stored (Failed 49) old line before new output all
+finishes-cut stored old new line bytes before after output all is some (reply, takes, (front, short, appended)) = λ was taken replies stands.
+    let run = last_run stored was taken replies line before after old new reply some stands (subst (λ l. TakesTurn stored old before l new after reply) is takes) in (
+      front,
+      appended,
+      (
+        refl,
+        cut_off-longer stored was new (turns_of (whole_lines taken)) (cut_off_in (waiting_behind (whole_lines taken))) (replies ++ front)
+            (cut_run stored was new (turns_of (whole_lines taken)) replies reply front run short),
+      ),
+    )
 
 -- a session under way: what it took and wrote, and where it stands, a byte too many left out
-pub record IsUnderWay (stored : Bool) (was : Known) (input left output all : Option (List ℕ)) (count : ℕ) (line : List ℕ) (now : Known) : Type 0 where
+pub record IsUnderWay (stored : Bool) (was : Known) (input left output all : Option (List ℕ)) (count : ℕ) (line : List ℕ) (waiting : Option Gathering) (now : Known) : Type 0 where
   pub taken : List ℕ
   pub as_many : length taken ≡ count
   pub reads : Consumes input left taken
   pub written : List ℕ
   pub writes : Appends output all written
-  pub stands : Stands stored was (take script_max taken) written line now
+  pub stands : Stands stored was (take script_max taken) written line waiting now
 
 -- the front of a script that is not too long is the whole of it
 in_limit : (taken : List ℕ) → length taken ≤ script_max → take script_max taken ≡ taken
 in_limit taken short = take_all script_max taken short
 
 -- at the end of the script
-pub ends-finished : (stored : Bool) (was : Known) (end : SessionEnd) (input left left_after output mid all : Option (List ℕ)) (count : ℕ) (line : List ℕ) (old new : Known)
-    → IsUnderWay stored was input left output mid count line old → count ≤ script_max → Consumes left left_after [] → IsAtEnd left_after
-    → Finishes stored end old line new mid all → IsSharedSession stored end was new input left_after output all
-ends-finished stored was End input left left_after output mid all count line old new way within reads at_end finishes =
+pub ends-finished : (stored : Bool) (was : Known) (end : SessionEnd) (input left left_after output mid all : Option (List ℕ)) (count : ℕ) (line : List ℕ) (waiting : Option Gathering) (old new : Known)
+    → IsUnderWay stored was input left output mid count line waiting old → count ≤ script_max → Consumes left left_after [] → IsAtEnd left_after
+    → Finishes stored end old line waiting new mid all → IsSharedSession stored end was new input left_after output all
+ends-finished stored was End input left left_after output mid all count line waiting old new way within reads at_end finishes =
     let (more, appended, told) = finishes was (take script_max way.taken) way.written way.stands in
     record {
       taken = way.taken;
@@ -97,10 +177,10 @@ ends-finished stored was End input left left_after output mid all count line old
       ended = record {
         all_taken = at_end;
         short = subst (λ n. n ≤ script_max) (sym way.as_many) within;
-        told = subst (λ t. IsSharedRun stored was (whole_lines t) new (way.written ++ more)) (in_limit way.taken (subst (λ n. n ≤ script_max) (sym way.as_many) within)) told;
+        told = subst (λ t. IsSharedRun stored was (all_turns_of (whole_lines t)) new (way.written ++ more)) (in_limit way.taken (subst (λ n. n ≤ script_max) (sym way.as_many) within)) told;
       };
     }
-ends-finished stored was (Failed code) input left left_after output mid all count line old new way within reads at_end finishes =
+ends-finished stored was (Failed code) input left left_after output mid all count line waiting old new way within reads at_end finishes =
     let (more, appended, (is, cut)) = finishes was (take script_max way.taken) way.written way.stands in
     let short = subst (λ n. n ≤ script_max) (sym way.as_many) within in
     record {
@@ -108,7 +188,7 @@ ends-finished stored was (Failed code) input left left_after output mid all coun
       written = way.written ++ more;
       reads = subst (Consumes input left_after) (append-nil way.taken) (Consumes-trans input left left_after way.taken [] way.reads reads);
       writes = Appends-trans output mid all way.written more way.writes appended;
-      ended = inr (inr (inl (is, inr (inl (at_end, short, subst (λ t. IsCutOff stored was new (whole_lines t) (way.written ++ more)) (in_limit way.taken short) cut)))));
+      ended = inr (inr (inl (is, inr (inl (at_end, short, subst (λ t. IsCutOff stored was new (all_turns_of (whole_lines t)) (way.written ++ more)) (in_limit way.taken short) cut)))));
     }
 
 -- what a session wrote and took, with a fault's line
@@ -127,12 +207,12 @@ cut_line written line front short = record {
 }
 
 -- a read failed
-pub ends-at_read : (stored : Bool) (was : Known) (end : SessionEnd) (input left left_after output mid all : Option (List ℕ)) (count : ℕ) (line : List ℕ) (now : Known) (text : List ℕ)
-    → IsUnderWay stored was input left output mid count line now → count ≤ script_max → Keeps left left_after → text ≡ error_line Read → EndsBy end 48 text mid all
+pub ends-at_read : (stored : Bool) (was : Known) (end : SessionEnd) (input left left_after output mid all : Option (List ℕ)) (count : ℕ) (line : List ℕ) (waiting : Option Gathering) (now : Known) (text : List ℕ)
+    → IsUnderWay stored was input left output mid count line waiting now → count ≤ script_max → Keeps left left_after → text ≡ error_line Read → EndsBy end 48 text mid all
     → IsSharedSession stored end was now input left_after output all
-ends-at_read stored was end input left left_after output mid all count line now text way within kept is ends =
+ends-at_read stored was end input left left_after output mid all count line waiting now text way within kept is ends =
     let short = subst (λ n. n ≤ script_max) (sym way.as_many) within in
-    let told = subst (λ t. IsSharedRun stored was (ended_lines t) now way.written) (in_limit way.taken short) way.stands.told in
+    let told = subst (λ t. IsSharedRun stored was (turns_of (ended_lines t)) now way.written) (in_limit way.taken short) way.stands.told in
     let fault : IsReadFault stored was now way.taken (way.written ++ text) = record { short = short; replies = way.written; told = told; fault = ap (λ l. way.written ++ l) is } in
     let reads = Consumes-kept input left left_after way.taken way.reads kept in
     by_line (fault_line end 48 text mid all ends) short fault reads where
@@ -155,10 +235,10 @@ ends-at_read stored was end input left left_after output mid all count line now 
       }
 
 -- a byte too many was read
-pub ends-past_limit : (stored : Bool) (was : Known) (end : SessionEnd) (input left output mid all : Option (List ℕ)) (count : ℕ) (line : List ℕ) (now : Known) (text : List ℕ)
-    → IsUnderWay stored was input left output mid count line now → count ≡ script_max + 1 → text ≡ error_line ReadLimit → EndsBy end 47 text mid all
+pub ends-past_limit : (stored : Bool) (was : Known) (end : SessionEnd) (input left output mid all : Option (List ℕ)) (count : ℕ) (line : List ℕ) (waiting : Option Gathering) (now : Known) (text : List ℕ)
+    → IsUnderWay stored was input left output mid count line waiting now → count ≡ script_max + 1 → text ≡ error_line ReadLimit → EndsBy end 47 text mid all
     → IsSharedSession stored end was now input left output all
-ends-past_limit stored was end input left output mid all count line now text way past is ends =
+ends-past_limit stored was end input left output mid all count line waiting now text way past is ends =
     let fault : IsPastLimit stored was now way.taken (way.written ++ text) = record { one_more = way.as_many ∙ past; replies = way.written; told = way.stands.told; fault = ap (λ l. way.written ++ l) is } in
     by_line (fault_line end 47 text mid all ends) fault where
       by_line : ((end ≡ Failed 47) × Appends mid all text) ⊎ ((end ≡ Failed 49) × ((front : List ℕ) × IsCutShort text front × Appends mid all front))
@@ -203,11 +283,11 @@ let_in taken chunk count allowed short is =
     ∙ sym (take_of_append script_max taken (take count chunk) short)
 
 -- bytes are read and taken
-pub goes_on : (stored : Bool) (was : Known) (input left left_after output mid all : Option (List ℕ)) (count more allowed : ℕ) (line line_after chunk : List ℕ) (old new : Known)
-    → IsUnderWay stored was input left output mid count line old → count ≤ script_max → more ≤ length chunk → allowed ≡ min more (script_max - count)
-    → Consumes left left_after (take more chunk) → TakesAll stored old line (take allowed chunk) new line_after mid all
-    → IsUnderWay stored was input left_after output all (count + more) line_after new
-goes_on stored was input left left_after output mid all count more allowed line line_after chunk old new way within room is reads takes =
+pub goes_on : (stored : Bool) (was : Known) (input left left_after output mid all : Option (List ℕ)) (count more allowed : ℕ) (line line_after chunk : List ℕ) (waiting waiting_then : Option Gathering) (old new : Known)
+    → IsUnderWay stored was input left output mid count line waiting old → count ≤ script_max → more ≤ length chunk → allowed ≡ min more (script_max - count)
+    → Consumes left left_after (take more chunk) → TakesAll stored old line waiting (take allowed chunk) new line_after waiting_then mid all
+    → IsUnderWay stored was input left_after output all (count + more) line_after waiting_then new
+goes_on stored was input left left_after output mid all count more allowed line line_after chunk waiting waiting_then old new way within room is reads takes =
     let short = subst (λ n. n ≤ script_max) (sym way.as_many) within in
     let (written, appended, stands) = takes was (take script_max way.taken) way.written way.stands in
     record {
@@ -216,16 +296,16 @@ goes_on stored was input left left_after output mid all count more allowed line 
       reads = Consumes-trans input left left_after way.taken (take more chunk) way.reads reads;
       written = way.written ++ written;
       writes = Appends-trans output mid all way.written written way.writes appended;
-      stands = subst (λ t. Stands stored was t (way.written ++ written) line_after new)
+      stands = subst (λ t. Stands stored was t (way.written ++ written) line_after waiting_then new)
           (let_in way.taken chunk more allowed short (is ∙ ap (λ n. min more (script_max - n)) (sym way.as_many))) stands;
     }
 
 -- bytes are read, and a write failed
-pub ends-stopped : (stored : Bool) (was : Known) (input left left_after output mid all : Option (List ℕ)) (count more allowed : ℕ) (line chunk : List ℕ) (old new : Known)
-    → IsUnderWay stored was input left output mid count line old → count ≤ script_max → allowed ≡ min more (script_max - count)
-    → Consumes left left_after (take more chunk) → IsStopped stored old line (take allowed chunk) new mid all
+pub ends-stopped : (stored : Bool) (was : Known) (input left left_after output mid all : Option (List ℕ)) (count more allowed : ℕ) (line chunk : List ℕ) (waiting : Option Gathering) (old new : Known)
+    → IsUnderWay stored was input left output mid count line waiting old → count ≤ script_max → allowed ≡ min more (script_max - count)
+    → Consumes left left_after (take more chunk) → IsStopped stored old line waiting (take allowed chunk) new mid all
     → IsSharedSession stored (Failed 49) was new input left_after output all
-ends-stopped stored was input left left_after output mid all count more allowed line chunk old new way within is reads stopped =
+ends-stopped stored was input left left_after output mid all count more allowed line chunk waiting old new way within is reads stopped =
     let short = subst (λ n. n ≤ script_max) (sym way.as_many) within in
     let (written, appended, cut) = stopped was (take script_max way.taken) way.written way.stands in
     record {
@@ -235,22 +315,24 @@ ends-stopped stored was input left left_after output mid all count more allowed 
       writes = Appends-trans output mid all way.written written way.writes appended;
       ended = inr (inr (inl (
         refl,
-        inl (subst (λ t. IsCutOff stored was new (ended_lines t) (way.written ++ written))
+        inl (subst (λ t. IsCutOff stored was new (turns_of (ended_lines t)) (way.written ++ written))
             (let_in way.taken chunk more allowed short (is ∙ ap (λ n. min more (script_max - n)) (sym way.as_many))) cut),
       )));
     }
 
 -- a session begins with nothing taken and nothing written
-pub begins : (stored : Bool) (was : Known) (input output : Option (List ℕ)) (line : List ℕ) → line ≡ [] → IsUnderWay stored was input input output output 0 line was
-begins stored was input output line empty = record {
+pub begins : (stored : Bool) (was : Known) (input output : Option (List ℕ)) (line : List ℕ) (waiting : Option Gathering) → line ≡ [] → waiting ≡ None
+    → IsUnderWay stored was input input output output 0 line waiting was
+begins stored was input output line waiting empty alone = record {
   taken = [];
   as_many = refl;
   reads = Consumes-nil input;
   written = [];
   writes = Appends-nil output;
-  stands = subst (λ t. Stands stored was t [] line was) (sym (take-nil script_max)) (record {
+  stands = subst (λ t. Stands stored was t [] line waiting was) (sym (take-nil script_max)) (record {
     stays = stays_self was;
-    told = record { made = []; told = (refl, refl, refl); only = sym (append-nil was.made) };
+    told = run-none stored was;
+    waits = subst (λ (o : Option Gathering). IsOpen None o) (sym alone) tt;
     rest = empty ∙ sym (take-nil line_room);
   });
 }

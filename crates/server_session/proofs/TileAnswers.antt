@@ -1,7 +1,7 @@
 -- What is answered to questions about tiles and about the store.
 use Rattle.std.specs.Prelude.{IsErrAnd}
 use Rattle.std.proofs.Common.{◌≡◌, ◌≤◌, ◌<◌, ℕ, ℤ, Bool, true, false, IsTrue, List, [], Option, Some, None, Result, Ok, Err, refl, sym, ap, subst, ◌∙◌, ◌⊎◌, inl, inr, ⊎_elim}
-use Rattle.overlay_terms.specs.Commands.{Command}
+use Rattle.overlay_terms.specs.Batches.{Batch}
 use Rattle.overlay_terms.specs.Histories as versions
 use Rattle.overlay_terms.specs.Histories.{BeginsWith, newest}
 use Rattle.layer_expr.specs.Name.{is_name}
@@ -34,7 +34,7 @@ use Rattle.server_session.proofs.AnswerLemmas.{answers_so, answers_there, unname
 asked_some : (o : Option VersionFault) (wrong : VersionFault) (T : Type 0) → o ≡ Some wrong → Asked o [] (error_line (Version wrong)) T
 asked_some o wrong T is = subst (λ r. Asked r [] (error_line (Version wrong)) T) (sym is) (record { nothing_made = refl; told = refl })
 
-asked_none : (o : Option VersionFault) (made : List Command) (reply : List ℕ) (T : Type 0) → o ≡ None → T → Asked o made reply T
+asked_none : (o : Option VersionFault) (made : List Batch) (reply : List ℕ) (T : Type 0) → o ≡ None → T → Asked o made reply T
 asked_none o made reply T is answered = subst (λ r. Asked r made reply T) (sym is) answered
 
 -- what holds of a version, a name and a column holds of the newest version, of the name as it was read and of the column as it was asked for

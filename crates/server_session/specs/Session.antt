@@ -2,7 +2,7 @@
 -- `stored` says whether the book has a store.
 use Rattle.std.specs.Prelude.{◌≡◌, ℕ, ◌+◌, ◌≤◌, ◌⊎◌, Bool, List, [], ◌++◌, take, length, Option}
 use Rattle.std.specs.Io.KnownBytes.{Appends, Consumes, IsAtEnd}
-use Rattle.overlay_terms.specs.Commands.{Command}
+use Rattle.overlay_terms.specs.Batches.{Batch}
 use Rattle.book_history.specs.Known.{Known, seen}
 use Rattle.script_form.specs.declared.fault.CommandFault.TheVariants.{ReadLimit, Read}
 use Rattle.script_form.specs.declared.session_end.SessionEnd.{SessionEnd}
@@ -11,50 +11,52 @@ use Rattle.script_form.specs.Lines.{script_max, ended_lines, whole_lines}
 use Rattle.script_form.specs.Replies.{error_line}
 use Rattle.script_form.specs.Writing.{IsCutShort}
 use Rattle.script_form.specs.Transcript.{IsTranscript}
+use Rattle.script_form.specs.Turns.{Turn, turns_of, all_turns_of}
 
--- the replies to these lines, by histories from what the session had seen to what it has seen then; it made just what they made
-pub record IsSharedRun (stored : Bool) (was : Known) (lines : List (List ℕ)) (now : Known) (replies : List ℕ) : Type 0 where
-  pub made : List Command
-  pub told : IsTranscript stored was.session (seen was) lines (seen now) made replies
+-- the replies to these turns, by histories from what the session had seen to what it has seen then; it made just what they made
+pub record IsSharedRun (stored : Bool) (was : Known) (turns : List Turn) (now : Known) (replies : List ℕ) : Type 0 where
+  pub made : List Batch
+  pub told : IsTranscript stored was.session (seen was) turns (seen now) made replies
   pub only : now.made ≡ was.made ++ made
 
 -- how a session ended, by what it had known and knows then, the bytes that it took, what the reader has left, and the
 -- bytes that it wrote
--- its script ended: each line has its reply
+-- its script ended: each line, or the batch that it is of, has its reply
 pub record IsEnded (stored : Bool) (was now : Known) (taken : List ℕ) (left : Option (List ℕ)) (written : List ℕ) : Type 0 where
   pub all_taken : IsAtEnd left
   pub short : length taken ≤ script_max
-  pub told : IsSharedRun stored was (whole_lines taken) now written
+  pub told : IsSharedRun stored was (all_turns_of (whole_lines taken)) now written
 
--- a byte too many came: the lines that were ended before it have their replies, and the fault is the last line
+-- a byte too many came: the turns of the lines that were ended before it have their replies, and the fault is the last line; a
+-- batch that waits then has none
 pub record IsPastLimit (stored : Bool) (was now : Known) (taken written : List ℕ) : Type 0 where
   pub one_more : length taken ≡ script_max + 1
   pub replies : List ℕ
-  pub told : IsSharedRun stored was (ended_lines (take script_max taken)) now replies
+  pub told : IsSharedRun stored was (turns_of (ended_lines (take script_max taken))) now replies
   pub fault : written ≡ replies ++ error_line ReadLimit
 
--- a read failed: the lines that were ended by then have their replies, and the fault is the last line
+-- a read failed: the turns of the lines that were ended by then have their replies, and the fault is the last line
 pub record IsReadFault (stored : Bool) (was now : Known) (taken written : List ℕ) : Type 0 where
   pub short : length taken ≤ script_max
   pub replies : List ℕ
-  pub told : IsSharedRun stored was (ended_lines taken) now replies
+  pub told : IsSharedRun stored was (turns_of (ended_lines taken)) now replies
   pub fault : written ≡ replies ++ error_line Read
 
--- a front of what tells the first of some lines
-pub record IsCutOff (stored : Bool) (was now : Known) (lines : List (List ℕ)) (written : List ℕ) : Type 0 where
-  pub answered : List (List ℕ)
-  pub later : List (List ℕ)
-  pub read : lines ≡ answered ++ later
+-- a front of what tells the first of some turns
+pub record IsCutOff (stored : Bool) (was now : Known) (turns : List Turn) (written : List ℕ) : Type 0 where
+  pub answered : List Turn
+  pub later : List Turn
+  pub read : turns ≡ answered ++ later
   pub replies : List ℕ
   pub told : IsSharedRun stored was answered now replies
   pub front : IsCutShort replies written
 
--- a write failed: what is written is a front of the replies to the first of the lines that were ended within the limit,
+-- a write failed: what is written is a front of the replies to the first of the turns that were ended within the limit,
 -- of the whole script's where it was read to its end, or of all that another fault's session writes
 abbrev pub IsWriteFault : Bool → Known → Known → List ℕ → Option (List ℕ) → List ℕ → Type 0
 IsWriteFault stored was now taken left written =
-    IsCutOff stored was now (ended_lines (take script_max taken)) written
-    ⊎ (IsAtEnd left × (length taken ≤ script_max) × IsCutOff stored was now (whole_lines taken) written)
+    IsCutOff stored was now (turns_of (ended_lines (take script_max taken))) written
+    ⊎ (IsAtEnd left × (length taken ≤ script_max) × IsCutOff stored was now (all_turns_of (whole_lines taken)) written)
     ⊎ ((text : List ℕ) × (IsPastLimit stored was now taken text ⊎ IsReadFault stored was now taken text) × IsCutShort text written)
 
 -- no memory for the session itself: it read and wrote nothing, and saw and made nothing

@@ -1,9 +1,12 @@
 -- What a line makes of a session.
-use Rattle.std.specs.Prelude.{◌≡◌, ℕ, Bool, List, ◌++◌}
-use Rattle.overlay_terms.specs.Commands.{Command}
+use Rattle.std.specs.Prelude.{◌≡◌, ℕ, Bool, List, Option}
 use Rattle.overlay_terms.specs.Histories.{BeginsWith}
 use Rattle.book_history.specs.Known.{Known, seen}
-use Rattle.script_form.specs.Transcript.{IsTurn}
+use Rattle.script_form.specs.Gathering.{IsOpen}
+use Rattle.script_form.specs.Requests.{request_of}
+use Rattle.script_form.specs.Turns.{Waiting, waiting_after, ended_by}
+use Rattle.script_form.specs.declared.gathering.Gathering.{Gathering}
+use Rattle.server_session.specs.Session.{IsSharedRun}
 
 -- a session is of the same book under the same number, and what it has seen goes on
 pub record Stays (was now : Known) : Type 0 where
@@ -11,13 +14,13 @@ pub record Stays (was now : Known) : Type 0 where
   pub session : now.session ≡ was.session
   pub goes_on : BeginsWith (seen now) (seen was)
 
--- a line is answered by this session of a book with or without a store: from what it had seen to what it has seen then, and it made just what the turn made
-pub record IsTurnOf (stored : Bool) (was : Known) (line : List ℕ) (now : Known) (reply : List ℕ) : Type 0 where
-  pub made : List Command
-  pub turn : IsTurn stored was.session (seen was) line (seen now) made reply
-  pub only : now.made ≡ was.made ++ made
+-- a line is taken where a batch waits or none does: the turn that it ends is answered by this session of a book with or
+-- without a store; and which batch waits then
+pub record IsLineTaken (stored : Bool) (was : Known) (waiting : Option Waiting) (line : List ℕ) (now : Known) (open_then : Option Gathering) (reply : List ℕ) : Type 0 where
+  pub waits : IsOpen (waiting_after waiting (request_of line)) open_then
+  pub answered : IsSharedRun stored was (ended_by waiting (request_of line)) now reply
 
 -- the same, and the session stays of its book
-pub record TakesTurn (stored : Bool) (was : Known) (line : List ℕ) (now : Known) (reply : List ℕ) : Type 0 where
+pub record TakesTurn (stored : Bool) (was : Known) (open_before : Option Gathering) (line : List ℕ) (now : Known) (open_then : Option Gathering) (reply : List ℕ) : Type 0 where
   pub stays : Stays was now
-  pub answered : IsTurnOf stored was line now reply
+  pub taken : (waiting : Option Waiting) → IsOpen waiting open_before → IsLineTaken stored was waiting line now open_then reply

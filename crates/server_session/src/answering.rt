@@ -12,13 +12,16 @@ ghost use Rattle.server_session.specs.Answering.{Answers, Submits, result_text};
 ghost use Rattle.server_session.specs.Turn.{Stays, TakesTurn};
 ghost use Rattle.version_book.specs.Store.{has_store};
 
+use crate::answering_all::answer_batch;
 use crate::fault::command_fault;
 use exact_point::QueryPoint;
 use layer_book::command::Command;
+use layer_book::fault::LayerFault;
 use overlay_grid::{GridSpec, grid};
 use plane_base::Column;
 use script_form::{
-    CommandFault, LineReply, Request, read_define, read_name, read_put, read_remove, request_of,
+    CommandFault, Gathering, LineReply, LineTurn, Request, read_define, read_name, read_put,
+    read_remove, take_line,
 };
 use std::alloc::Global;
 use std::sync::{Arc, Wait};
@@ -26,21 +29,41 @@ use std::thread::Threads;
 use version_book::seen_log::Naming;
 use version_book::session::Session;
 use version_book::shared::Shared;
+use version_core::fault::VersionFault;
 use version_core::version::Version;
 
-/// What a line makes of the book and the session, and the reply. A line that is too long may be handed in cut off
-/// behind its first 65,537 bytes.
+/// What a line makes of the book, of the session and of the batch that waits for lines, and the reply to the turn that
+/// it ends. A line that is too long may be handed in cut off behind its first 65,537 bytes.
 pub fn answer<J: Naming, S: Wait + Drop, Q: Wait + Threads + Sync>(
     rt: &Q,
     alloc: Global,
     shared: &Shared<J, S>,
     me: &mut Session,
+    waiting: &mut Option<Gathering>,
     line: &[u8],
 ) -> LineReply
     requires { me.old.book ≡ J.book }
-    ensures { TakesTurn (has_store shared.now) me.old line.now me.new (reply_text result) }
+    ensures { TakesTurn (has_store shared.now) me.old waiting.old line.now me.new waiting.new (reply_text result) }
 {
-    match answer_request(rt, alloc, shared, me, request_of(line)) {
+    match take_line(alloc, waiting, line) {
+        LineTurn::Waits => LineReply::Nothing,
+        LineTurn::Alone(asked) => answer_alone(rt, alloc, shared, me, asked),
+        LineTurn::Whole(read) => answer_batch(rt, alloc, shared, me, read),
+    }
+}
+
+/// The reply to a line that is in no batch.
+fn answer_alone<J: Naming, S: Wait + Drop, Q: Wait + Threads + Sync>(
+    rt: &Q,
+    alloc: Global,
+    shared: &Shared<J, S>,
+    me: &mut Session,
+    asked: Request<'_>,
+) -> LineReply
+    requires { me.old.book ≡ J.book }
+    ensures { Answers (has_store shared.now) me.old (request asked.entry) me.new (reply_text result) }
+{
+    match answer_request(rt, alloc, shared, me, asked) {
         Ok(reply) => reply,
         Err(fault) => LineReply::Fault(fault),
     }
@@ -78,6 +101,8 @@ fn answer_request<J: Naming, S: Wait + Drop, Q: Wait + Threads + Sync>(
         Request::Wait(name) => answer_wait(rt, alloc, shared, me, name),
         Request::Verify(name, number) => answer_verify(alloc, me, name, number),
         Request::Sync => answer_sync(rt, shared, me),
+        // A batch that has lines is not asked for here: the size is wrong.
+        Request::Batch(_) => Err(CommandFault::Version(VersionFault::Layer(LayerFault::BatchSize))),
     }
 }
 

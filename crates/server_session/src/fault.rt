@@ -1,9 +1,11 @@
 //! What the book refuses, as a reply tells it.
 ghost use Rattle.std.specs.Prelude.{◌≡◌};
-ghost use Rattle.server_session.specs.Fault.{fault_told, store_told};
+ghost use Rattle.server_session.specs.Fault.{fault_told, numbered, store_told};
 
+use layer_book::fault::LayerFault;
 use script_form::CommandFault;
 use version_book::fault::{BookFault, ToldFault};
+use version_core::fault::VersionFault;
 
 /// The fault as a reply tells it.
 pub(crate) fn command_fault(fault: BookFault) -> CommandFault
@@ -28,4 +30,23 @@ fn store_fault(fault: ToldFault) -> CommandFault
         ToldFault::SequenceLimit => CommandFault::SequenceLimit,
         ToldFault::OutOfMemory => CommandFault::OutOfMemory,
     }
+}
+
+/// The fault that the number of a batch's refusal stands for.
+pub(crate) fn numbered(code: u8) -> CommandFault
+    ensures { result ≡ numbered code }
+{
+    let fault = match code {
+        10 => LayerFault::UnknownLayer,
+        11 => LayerFault::NotBase,
+        12 => LayerFault::NotDerived,
+        13 => LayerFault::LaterLayer,
+        14 => LayerFault::InUse,
+        15 => LayerFault::TooManyLayers,
+        16 => LayerFault::VersionLimit,
+        43 => return CommandFault::Closing,
+        44 => return CommandFault::Gone,
+        _ => return CommandFault::OutOfMemory,
+    };
+    CommandFault::Version(VersionFault::Layer(fault))
 }

@@ -2,6 +2,7 @@
 #![tactic(auto)]
 
 pub mod answering;
+mod answering_all;
 mod fault;
 pub mod session;
 

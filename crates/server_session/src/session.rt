@@ -1,14 +1,17 @@
 //! A session of a book that threads share, from the bytes of a script to the bytes of its replies.
-ghost use Rattle.std.specs.Prelude.{◌≡◌, ◌<◌, ◌∷◌, [], length, IfOk};
+ghost use Rattle.std.specs.Prelude.{◌≡◌, ◌<◌, ◌∷◌, [], length, IfOk, None};
 ghost use Rattle.overlay_terms.specs.Histories.{BeginsWith};
 ghost use Rattle.book_history.specs.Known.{seen};
 ghost use Rattle.version_book.specs.Store.{has_store};
 ghost use Rattle.server_session.specs.Session.{IsSharedSession};
-ghost use Rattle.server_session.specs.Loop.{AnswersLine, TakesBytes, Finishes, EndsBy};
+ghost use Rattle.server_session.specs.Loop.{AnswersLine, TakesBytes, Finishes, EndsBatch, EndsBy};
 ghost use Rattle.server_session.specs.Turn.{Stays};
 
 use crate::answering::answer;
-use script_form::{LineBuffer, SCRIPT_MAX, SessionEnd, read_chunk, write_reply, write_text};
+use script_form::{
+    CommandFault, Gathering, LineBuffer, LineReply, SCRIPT_MAX, SessionEnd, read_chunk,
+    write_reply, write_text,
+};
 use std::alloc::{AllocError, Global};
 use std::io::{Read, Write};
 use std::sync::Wait;
@@ -48,6 +51,7 @@ pub fn session_run<J: Naming, S: Wait + Drop, Q: Wait + Threads + Sync, R: Read,
             shared,
             me,
             &mut line,
+            &mut None,
             chunk.as_mut_slice(),
             reader,
             writer,
@@ -72,12 +76,14 @@ fn run<J: Naming, S: Wait + Drop, Q: Wait + Threads + Sync, R: Read, W: Write>(
     shared: &Shared<J, S>,
     me: &mut Session,
     line: &mut LineBuffer,
+    waiting: &mut Option<Gathering>,
     chunk: &mut [u8],
     reader: &mut R,
     writer: &mut W,
 ) -> SessionEnd
     requires book { me.old.book ≡ J.book }
     requires empty { line.old ≡ [] }
+    requires alone { waiting.old ≡ None }
     requires room { 0 < length chunk.old }
     ensures run { IsSharedSession (has_store shared.now) result me.old me.new (R.remaining reader.old)
         (R.remaining reader.new) (W.contents writer.old) (W.contents writer.new) }
@@ -87,11 +93,12 @@ fn run<J: Naming, S: Wait + Drop, Q: Wait + Threads + Sync, R: Read, W: Write>(
     while taken <= SCRIPT_MAX {
         let count = match read_chunk(reader, chunk, taken) {
             Err(_) => return end_by(48, b"error 48 read\n", writer),
-            Ok(0) => return finish(rt, alloc, shared, me, line, writer),
+            Ok(0) => return finish(rt, alloc, shared, me, line, waiting, writer),
             Ok(count) => count,
         };
         let allowed = count.min(SCRIPT_MAX - taken);
-        let told = take_bytes(rt, alloc, shared, me, line, &chunk[..allowed], writer);
+        let bytes = &chunk[..allowed];
+        let told = take_bytes(rt, alloc, shared, me, line, waiting, bytes, writer);
         if told.is_err() {
             return SessionEnd::Failed(49);
         }
@@ -100,23 +107,24 @@ fn run<J: Naming, S: Wait + Drop, Q: Wait + Threads + Sync, R: Read, W: Write>(
     end_by(47, b"error 47 read limit\n", writer)
 }
 
-/// Takes bytes of the script, and answers each line that they end.
+/// Takes bytes of the script, and answers each turn that they end.
 fn take_bytes<J: Naming, S: Wait + Drop, Q: Wait + Threads + Sync, W: Write>(
     rt: &Q,
     alloc: Global,
     shared: &Shared<J, S>,
     me: &mut Session,
     line: &mut LineBuffer,
+    waiting: &mut Option<Gathering>,
     bytes: &[u8],
     writer: &mut W,
 ) -> Result<(), WriteFailed>
     requires { me.old.book ≡ J.book }
-    ensures takes { TakesBytes (has_store shared.now) result me.old line.old bytes.now me.new line.new
+    ensures takes { TakesBytes (has_store shared.now) result me.old line.old waiting.old bytes.now me.new line.new waiting.new
         (W.contents writer.old) (W.contents writer.new) }
     ensures stays { Stays me.old me.new }
 {
     for byte in bytes {
-        take_byte(rt, alloc, shared, me, line, *byte, writer)?;
+        take_byte(rt, alloc, shared, me, line, waiting, *byte, writer)?;
     }
     Ok(())
 }
@@ -127,11 +135,12 @@ fn take_byte<J: Naming, S: Wait + Drop, Q: Wait + Threads + Sync, W: Write>(
     shared: &Shared<J, S>,
     me: &mut Session,
     line: &mut LineBuffer,
+    waiting: &mut Option<Gathering>,
     byte: u8,
     writer: &mut W,
 ) -> Result<(), WriteFailed>
     requires { me.old.book ≡ J.book }
-    ensures takes { TakesBytes (has_store shared.now) result me.old line.old (byte ∷ []) me.new line.new
+    ensures takes { TakesBytes (has_store shared.now) result me.old line.old waiting.old (byte ∷ []) me.new line.new waiting.new
         (W.contents writer.old) (W.contents writer.new) }
     ensures stays { Stays me.old me.new }
 {
@@ -139,7 +148,7 @@ fn take_byte<J: Naming, S: Wait + Drop, Q: Wait + Threads + Sync, W: Write>(
         line.push(byte);
         return Ok(());
     }
-    answer_line(rt, alloc, shared, me, line.without_cr(), writer)?;
+    answer_line(rt, alloc, shared, me, waiting, line.without_cr(), writer)?;
     line.clear();
     Ok(())
 }
@@ -149,39 +158,54 @@ fn answer_line<J: Naming, S: Wait + Drop, Q: Wait + Threads + Sync, W: Write>(
     alloc: Global,
     shared: &Shared<J, S>,
     me: &mut Session,
+    waiting: &mut Option<Gathering>,
     line: &[u8],
     writer: &mut W,
 ) -> Result<(), WriteFailed>
     requires { me.old.book ≡ J.book }
-    ensures { AnswersLine (has_store shared.now) result me.old line.now me.new
+    ensures { AnswersLine (has_store shared.now) result me.old waiting.old line.now me.new waiting.new
         (W.contents writer.old) (W.contents writer.new) }
 {
-    let reply = answer(rt, alloc, shared, me, line);
+    let reply = answer(rt, alloc, shared, me, waiting, line);
     match write_reply(writer, &reply) {
         Ok(()) => Ok(()),
         Err(_) => Err(WriteFailed),
     }
 }
 
-/// At the end of the script: answers a last line that lacks its line feed.
+/// At the end of the script: answers a last line that lacks its line feed, and a batch that waits.
 fn finish<J: Naming, S: Wait + Drop, Q: Wait + Threads + Sync, W: Write>(
     rt: &Q,
     alloc: Global,
     shared: &Shared<J, S>,
     me: &mut Session,
     line: &LineBuffer,
+    waiting: &mut Option<Gathering>,
     writer: &mut W,
 ) -> SessionEnd
     requires { me.old.book ≡ J.book }
-    ensures finishes { Finishes (has_store shared.now) result me.old line.now me.new
+    ensures finishes { Finishes (has_store shared.now) result me.old line.now waiting.old me.new
         (W.contents writer.old) (W.contents writer.new) }
     ensures stays { Stays me.old me.new }
 {
     let bytes = line.bytes();
     if bytes.is_empty() {
+        return end_batch(waiting, writer);
+    }
+    match answer_line(rt, alloc, shared, me, waiting, bytes, writer) {
+        Ok(()) => end_batch(waiting, writer),
+        Err(_) => SessionEnd::Failed(49),
+    }
+}
+
+/// Behind the last line: refuses a batch whose lines did not all come.
+fn end_batch<W: Write>(waiting: &Option<Gathering>, writer: &mut W) -> SessionEnd
+    ensures { EndsBatch result waiting.now (W.contents writer.old) (W.contents writer.new) }
+{
+    if waiting.is_none() {
         return SessionEnd::End;
     }
-    match answer_line(rt, alloc, shared, me, bytes, writer) {
+    match write_reply(writer, &LineReply::Fault(CommandFault::CommandSyntax)) {
         Ok(()) => SessionEnd::End,
         Err(_) => SessionEnd::Failed(49),
     }

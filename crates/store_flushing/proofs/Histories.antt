@@ -18,7 +18,7 @@ pub begins_same : (a b : History) → b ≡ a → BeginsWith b a
 begins_same a b is = subst (λ (h : History). BeginsWith h a) (sym is) (begins_self a)
 
 rises : (old new : Version) (event : Event) → Follows old event new → old.number ≤ new.number
-rises old new (accepted session command) f = omega (arith, f.number)
+rises old new (accepted session batch) f = omega (arith, f.number)
 rises old new (kept name column tile) f = omega (arith, f.number)
 rises old new (durable_to number) f = omega (arith, f.same_number)
 

@@ -1,14 +1,14 @@
 //! Roots, and where the records of a store lie.
 
 /// Where a record lies: its first block, and how many bytes it has.
-#[derive(Clone, Copy, PartialEq, Eq)]
+#[derive(Clone, Copy, Debug, PartialEq, Eq)]
 pub struct RecordExtent {
     pub block: u64,
     pub size: u32,
 }
 
 /// The number of a commit, that of the version which it wrote, and where its catalog lies.
-#[derive(Clone, Copy, PartialEq, Eq)]
+#[derive(Clone, Copy, Debug, PartialEq, Eq)]
 pub struct Root {
     pub sequence: u64,
     pub version: u64,
@@ -16,7 +16,7 @@ pub struct Root {
 }
 
 /// What the body of a slot says, whether it is ours or not.
-#[derive(Clone, Copy, PartialEq, Eq)]
+#[derive(Clone, Copy, Debug, PartialEq, Eq)]
 pub struct Body {
     /// Whether it begins with the magic.
     pub is_ours: bool,

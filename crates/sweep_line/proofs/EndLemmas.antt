@@ -6,7 +6,7 @@ use Rattle.std.specs.List.Sorted.{IsPartitionedBy, IsPartitionPoint}
 use Rattle.std.proofs.lemmas.Int.{ints}
 use Rattle.std.proofs.lemmas.List.{length-take-le, get_or_at}
 use Rattle.std.proofs.lemmas.List.Edits.{length-remove}
-use Rattle.std.proofs.lemmas.List.Sums.{sum_by-cons, sum_by_push, sum_by-insert, sum_by-remove}
+use Rattle.std.proofs.lemmas.List.Sums.{sum_by-cons, sum_by_push, sum_by-remove}
 use Rattle.std.proofs.lemmas.List.Filters.{sum_by-filter_both}
 use Rattle.overlay_terms.specs.Plane.{Point}
 use Rattle.overlay_terms.proofs.InputNumbers.{lt_true, true_lt}
@@ -16,7 +16,7 @@ use Rattle.exact_point.proofs.ByX.{left_before}
 use Rattle.sweep_line.specs.RightEnds.{lies_right, AreLeftmostLast, IsLast}
 use Rattle.sweep_line.specs.Status.{goes_on, HasEndsFor, HasLostOne}
 use Rattle.sweep_line.specs.declared.status.Entry.{Entry}
-use Rattle.sweep_line.proofs.ListLemmas.{pairs_take, pairs_insert}
+use Rattle.sweep_line.proofs.ListLemmas.{pairs_insert}
 use Rattle.sweep_line.proofs.Passing.{Order, before, equal, behind, order_of}
 
 -- ---- tests
@@ -85,27 +85,12 @@ one_more_end ends k v ordered point =
     not_right : (u : HPoint) → lies_right (place v) u ≡ true → lies_right (place u) v ≡ false
     not_right u right = turned ((place v).x *ℤ (place u).w) ((place u).x *ℤ (place v).w) right
 
--- without the last
-pub one_less_end : (ends : List HPoint) → AreLeftmostLast ends → AreLeftmostLast (take (length ends - 1) ends)
-one_less_end ends ordered = pairs_take (λ u t. lies_right (place u) t ≡ false) (length ends - 1) ends (omega arith) ordered
-
 -- ---- the pieces that end
 abbrev ended : Point → Entry → ℕ
 ended q e = cond (not (goes_on q e)) 1 0
 
 abbrev stays : Point → HPoint → ℕ
 stays q v = cond (not (lies_right q v)) 1 0
-
--- before the first piece
-pub no_ends : HasEndsFor [] []
-no_ends q hq = omega arith
-
--- one more right end, and a piece that ends there
-pub with_end : (entries : List Entry) (ends : List HPoint) (k : ℕ) (v : HPoint) → HasEndsFor entries ends → HasEndsFor entries (insert ends k v)
-with_end entries ends k v have q hq = omega (arith, have q hq, sum_by-insert (stays q) ends k v)
-
-pub with_piece : (entries : List Entry) (ends : List HPoint) (k n : ℕ) (e : Entry) → HasEndsFor entries ends → HasEndsFor (insert entries n e) (insert ends k e.to)
-with_piece entries ends k n e have q hq = omega (arith, have q hq, sum_by-insert (stays q) ends k e.to, sum_by-insert (ended q) entries n e)
 
 -- without some pieces
 pub fewer_pieces : (p : Point) (entries : List Entry) (ends : List HPoint) → HasEndsFor entries ends → HasEndsFor (filter (goes_on p) entries) ends

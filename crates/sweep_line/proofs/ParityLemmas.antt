@@ -1,12 +1,12 @@
 -- Parities of the segments below a point and on it, and masks whose bits they are.
-use Rattle.std.proofs.Common.{◌≡◌, ℕ, ◌+◌, ◌%◌, ◌<◌, ◌==◌, ℤ, pos, zero, suc, Bool, true, false, not, ◌&&◌, ◌||◌, cond, List, [], ◌∷◌, ◌++◌, refl, ap, sym, ◌∙◌, arith, ⊎_elim, ◌^◌, ◌*ℤ◌}
+use Rattle.std.proofs.Common.{◌≡◌, ℕ, ◌+◌, ◌%◌, ◌<◌, ◌==◌, ℤ, pos, zero, suc, Bool, true, false, not, ◌&&◌, ◌||◌, cond, List, [], ◌∷◌, refl, ap, sym, ◌∙◌, arith, ⊎_elim, ◌^◌, ◌*ℤ◌}
 use Rattle.std.specs.Prelude.{int_lt, int_le, if◌then◌else◌, sum_by}
 use Rattle.std.specs.Ordering.{int_eq, is_lt, is_gt}
 use Rattle.std.specs.Int.{bit_at}
 use Rattle.std.specs.Int.RustNames.{bit_xor}
 use Rattle.std.proofs.lemmas.Bool.{eq-eqb, ne_eqb, cases_eq}
 use Rattle.std.proofs.lemmas.Bool.Decides.{nat_tests, Decides-int_eq}
-use Rattle.std.proofs.lemmas.List.Sums.{sum_by-cons, sum_by_push}
+use Rattle.std.proofs.lemmas.List.Sums.{sum_by-cons}
 use Rattle.std.proofs.lemmas.Nat.Bits.{bit_at_xor, bit_at-lt, bit_at-pow_same, bit_at-pow_other}
 use Rattle.overlay_terms.specs.Plane.{Point, Segment, whole, point_cmp, height_over, is_below, is_on}
 use Rattle.overlay_terms.specs.Layers.{Marked}
@@ -41,18 +41,6 @@ left_out s true n b e f = cc
 -- how a marked segment counts for a layer at a point
 abbrev weight : Point → ℕ → Marked → ℕ
 weight p k m = cond ((m.layer == k) && is_below m.segment p) 1 0
-
--- one more segment that is below changes its layer's bit
-pub below_bits_more : (marked : List Marked) (m : Marked) (p : Point) (k : ℕ) (b : Bool) → b ≡ below_bits marked p k → is_below m.segment p ≡ true → (if m.layer == k then not b else b) ≡ below_bits (marked ++ m ∷ []) p k
-below_bits_more marked m p k b e h =
-    counted (m.layer == k) (is_below m.segment p) (sum_by (weight p k) marked) b e h
-    ∙ ap (λ n. n % 2 == 1) (sym (sum_by_push (weight p k) marked m))
-
--- one more that is not below changes none
-pub below_bits_same : (marked : List Marked) (m : Marked) (p : Point) (k : ℕ) (b : Bool) → b ≡ below_bits marked p k → is_below m.segment p ≡ false → b ≡ below_bits (marked ++ m ∷ []) p k
-below_bits_same marked m p k b e h =
-    left_out (m.layer == k) (is_below m.segment p) (sum_by (weight p k) marked) b e h
-    ∙ ap (λ n. n % 2 == 1) (sym (sum_by_push (weight p k) marked m))
 
 -- ---- below or on
 not_at_once : (l e : Bool) → (e ≡ true → l ≡ false) → (l && e) ≡ false

@@ -6,7 +6,7 @@ use crate::building::pieces_of;
 use crate::counted::Counted;
 use crate::tile::Tile;
 use arrange::TileInput;
-use crossing_sweep::pass::cross;
+use crossing_sweep::cross;
 use std::alloc::{AllocError, Global};
 
 /// The tile of an input as `build` makes it, by one pass over the column that tests neighbours

@@ -5,7 +5,7 @@ ghost use Rattle.exact_point.specs.Place.{place};
 ghost use Rattle.exact_point.specs.NamedPiece.{ends_of};
 
 use arrange::Elementary;
-use crossing_sweep::row::Row;
+use crossing_sweep::Row;
 use exact_point::side::side;
 use exact_point::{HPoint, PointName, on, x_cmp};
 use plane_base::Seg;
@@ -145,6 +145,7 @@ impl Piece {
     pub(crate) fn known(&self)
         ensures { IsPositivePair (ends_of self.now) }
     {
+        // Both ends have places by the type: the clause rests on that.
         let _ = &self.support;
     }
 

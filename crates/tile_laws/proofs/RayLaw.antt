@@ -225,9 +225,6 @@ least a h = omega (arith, ints)
 weaker : (a : ℤ) → pos 0 <ℤ a → pos 0 ≤ℤ a
 weaker a h = omega (arith, ints)
 
-less_turned : (a b : ℤ) → pos 0 ≤ℤ (a -ℤ b) → (b -ℤ a) ≤ℤ pos 0
-less_turned a b h = omega (arith, ints)
-
 -- a segment and a point off it
 module _ (p : Point) (hp : pos 0 <ℤ p.w) (t : Segment) (ahead : Forward (width t) (rise t)) (off : is_on t p ≡ false) where
   abbrev h : ℤ

@@ -3,10 +3,12 @@ use Rattle.std.proofs.Common.{◌≡◌, ◌⊎◌, inl, inr, ℕ, ◌<◌, ◌�
 use Rattle.std.specs.Prelude.{IsErrAnd}
 use mathlib.Core.List.{IsPrefix}
 use Rattle.overlay_terms.specs.Commands.{Command}
+use Rattle.overlay_terms.specs.Batches.{Batch}
 use Rattle.overlay_terms.specs.Layers.{Name}
 use Rattle.overlay_terms.specs.Histories.{Version, Entry, accepted, commands_of, newest, BeginsWith, IsHistory}
 use Rattle.book_history.specs.Logs.{entry, newest_in, history_of, IsAccepted, IsLog}
-use Rattle.book_history.specs.Fault.{IfGone, IsRefused}
+use Rattle.layer_book.specs.declared.batch_fault.BatchFault.{BatchFault}
+use Rattle.book_history.specs.Fault.{IfBatchGone, IfGone, IsBatchRefused, IsRefused}
 use Rattle.book_history.specs.Known.{Known, seen, IsOwn}
 use Rattle.book_lock.specs.Steps.{HasLooked, IsReportedIn}
 use Rattle.version_book.specs.Heard.{Heard, HasHeard, IsReportedBy}
@@ -16,7 +18,7 @@ use Rattle.book_history.specs.declared.fault.BookFault.{BookFault}
 use Rattle.book_history.specs.declared.fault.BookFault.TheVariants as fault
 use Rattle.book_history.proofs.Chains.{begins_with, commands_in_log, is_history}
 use Rattle.book_history.proofs.Fronts.{prefix_self, prefix_trans}
-use Rattle.book_history.proofs.Gone.{gone_or, gone_map}
+use Rattle.book_history.proofs.Gone.{batch_gone_map, batch_gone_or, gone_or, gone_map}
 use Rattle.book_lock.proofs.Growing.{report_longer, report_reaches}
 
 -- a log that goes on by some entries is that of a history that does
@@ -26,7 +28,7 @@ history_more [] old new e p long is = absurd (omega arith)
 history_more (x ∷ xs) old new e p long is =
     ap history_of (is ∙ ap (λ l. l ++ e ∷ []) (sym p.1) ∙ append_assoc (x ∷ xs) p.0 (e ∷ []))
 
-pub accepts : {F : Type 0} (r : Result ℕ F) (session : ℕ) (c : Command) (old new : List Entry) (was now : Known) (P : Type 0)
+pub accepts : {F : Type 0} (r : Result ℕ F) (session : ℕ) (c : Batch) (old new : List Entry) (was now : Known) (P : Type 0)
     → 0 < length was.log
     → IfOk r (λ n. P × (new ≡ old ++ entry (accepted session c) (newest_in new) ∷ []) × ((newest_in new).number ≡ n))
     → IfOk r (λ n. IsPrefix was.log old × (now.log ≡ new))
@@ -100,26 +102,58 @@ refused_more fault.Gone closing v c q = q
 refused_more fault.NoStore closing v c q = q
 refused_more (fault.Store r) closing v c q = q
 
+-- the same of a batch
+batch_refused_more : (f : BatchFault) (closing : Bool) (v : Version) (b : Batch) → IsBatchRefused closing v b f → IsBatchRefused true v b f
+batch_refused_more f closing v b (inl gone) = inl gone
+batch_refused_more f closing v b (inr (inl closes)) = inr (inl (refl, closes.1))
+batch_refused_more f closing v b (inr (inr refused)) = inr (inr refused)
+
+-- the fault of a batch is one at the newest version that was seen
+batch_at : (f : BatchFault) (was now : Known) (log : List Entry) (closing : Bool) (b : Batch) → IsBatchRefused closing (newest_in log) b f
+    → IfBatchGone f (now ≡ was) (HasLooked was log now) → IsBatchRefused true (newest (seen now)) b f
+batch_at f was now log closing b q (inl gone) = inl gone.0
+batch_at f was now log closing b q (inr looked) =
+    subst (λ v. IsBatchRefused true v b f) (sym (looked_at was now log looked.1)) (batch_refused_more f closing (newest_in log) b q)
+
+-- a session that is refused has looked, or is as it was
+abbrev pub Ended : Known → Known → List Entry → Type 0
+Ended was now log = (now ≡ was) ⊎ HasLooked was log now
+
+pub ended : (was now : Known) (log : List Entry) (f : BookFault) → IfGone f (now ≡ was) (HasLooked was log now) → Ended was now log
+ended was now log f h = gone_or f (λ same. inl same) (λ looked. inr looked) h
+
+pub batch_ended : (was now : Known) (log : List Entry) (f : BatchFault) → IfBatchGone f (now ≡ was) (HasLooked was log now) → Ended was now log
+batch_ended was now log f h = batch_gone_or f (λ same. inl same) (λ looked. inr looked) h
+
+ended_goes : (was now : Known) (log : List Entry) → 0 < length was.log → Ended was now log → BeginsWith (seen now) (seen was)
+ended_goes was now log long (inl same) = same_goes was now long same
+ended_goes was now log long (inr looked) = looked_goes was now log long looked
+
 -- ---- of a call that may add an entry
 module _ (was now : Known) (old new : List Entry) where
-  pub submit_goes : (r : Result ℕ BookFault) (e : Entry) (P Q : ℕ → Type 0) (A B : BookFault → Type 0) → 0 < length was.log
+  pub submit_goes : {F : Type 0} (r : Result ℕ F) (e : Entry) (P Q : ℕ → Type 0) (A B D : F → Type 0) → ((f : F) → D f → Ended was now old) → 0 < length was.log
       → IfOk r (λ n. P n × (new ≡ old ++ e ∷ []) × Q n) → IfOk r (λ n. IsPrefix was.log old × (now.log ≡ new))
-      → IfErr r (λ f. A f × B f × IfGone f (now ≡ was) (HasLooked was old now)) → BeginsWith (seen now) (seen was)
-  submit_goes (Ok n) e P Q A B long a b d =
+      → IfErr r (λ f. A f × B f × D f) → BeginsWith (seen now) (seen was)
+  submit_goes (Ok n) e P Q A B D end long a b d =
       begins_with was.log now.log long (subst (λ l. IsPrefix was.log l) (sym (b.1 ∙ a.1)) (prefix_trans was.log old (old ++ e ∷ []) b.0 (e ∷ [], refl)))
-  submit_goes (Err f) e P Q A B long a b d = gone_or f (same_goes was now long) (looked_goes was now old long) d.2
+  submit_goes (Err f) e P Q A B D end long a b d = ended_goes was now old long (end f d.2)
 
-  pub submit_own : (r : Result ℕ BookFault) (A : Type 0) → now.session ≡ was.session → IfOk r (λ n. IsPrefix was.log old × (now.log ≡ new))
+  pub submit_own : {F : Type 0} (r : Result ℕ F) (A : Type 0) → now.session ≡ was.session → IfOk r (λ n. IsPrefix was.log old × (now.log ≡ new))
       → IfOk r (λ _. A × (commands_of was.session new ≡ now.made) × IsLog new) → IfOk r (λ _. IsOwn now)
   submit_own (Ok n) A same b m =
       let log : now.log ≡ new = b.1 in
       sym (commands_in_log now.session now.log (subst IsLog (sym log) m.2)) ∙ (ap (λ l. commands_of now.session l) log ∙ ap (λ s. commands_of s new) same) ∙ m.1
   submit_own (Err f) A same b m = tt
 
-  pub submit_history : (r : Result ℕ BookFault) (A B : Type 0) → IfOk r (λ n. IsPrefix was.log old × (now.log ≡ new))
+  pub submit_history : {F : Type 0} (r : Result ℕ F) (A B : Type 0) → IfOk r (λ n. IsPrefix was.log old × (now.log ≡ new))
       → IfOk r (λ _. A × B × IsLog new) → IfOk r (λ _. IsHistory (seen now))
   submit_history (Ok n) A B b m = subst (λ l. IsHistory (history_of l)) (sym b.1) (is_history new m.2)
   submit_history (Err f) A B b m = tt
+
+  pub submit_made : {F : Type 0} (r : Result ℕ F) (made : List Batch) (A B : Type 0)
+      → IfOk r (λ _. (now.made ≡ made) × A × B) → IfOk r (λ _. now.made ≡ made)
+  submit_made (Ok n) made A B m = m.0
+  submit_made (Err f) made A B m = tt
 
   pub submit_err : (r : Result ℕ BookFault) (A B : BookFault → Type 0) → IfErr r (λ f. A f × B f × IfGone f (now ≡ was) (HasLooked was old now))
       → IfErr r (λ f. IfGone f (now ≡ was) ((now.made ≡ was.made) × IsOwn now))
@@ -132,10 +166,16 @@ module _ (was now : Known) (old new : List Entry) where
   submit_refused (Ok n) A B closing c d q = tt
   submit_refused (Err f) A B closing c d q = at_fault f was now old (λ v g. IsRefused true v c g) (λ v. tt) (refused_more f closing (newest_in old) c q) d.2
 
-  pub submit_made : (r : Result ℕ BookFault) (made : List Command) (A B : Type 0)
-      → IfOk r (λ _. (now.made ≡ made) × A × B) → IfOk r (λ _. now.made ≡ made)
-  submit_made (Ok n) made A B m = m.0
-  submit_made (Err f) made A B m = tt
+  pub batch_err : (r : Result ℕ BatchFault) (A B : BatchFault → Type 0) → IfErr r (λ f. A f × B f × IfBatchGone f (now ≡ was) (HasLooked was old now))
+      → IfErr r (λ f. IfBatchGone f (now ≡ was) ((now.made ≡ was.made) × IsOwn now))
+  batch_err (Ok n) A B d = tt
+  batch_err (Err f) A B d = batch_gone_map f (λ s. s) (λ h. (ap (λ k. k.made) h.knows, looked_own was now old h)) d.2
+
+  pub batch_refused : (r : Result ℕ BatchFault) (A B : BatchFault → Type 0) (closing : Bool) (b : Batch)
+      → IfErr r (λ f. A f × B f × IfBatchGone f (now ≡ was) (HasLooked was old now)) → IfErr r (λ f. IsBatchRefused closing (newest_in old) b f)
+      → IfErr r (λ f. IsBatchRefused true (newest (seen now)) b f)
+  batch_refused (Ok n) A B closing b d q = tt
+  batch_refused (Err f) A B closing b d q = batch_at f was now old closing b q d.2
 
 -- ---- of a report
 module _ (was now : Heard) (log after : List Entry) (n : ℕ) where

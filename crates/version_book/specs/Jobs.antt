@@ -7,7 +7,8 @@ use Rattle.overlay_terms.specs.InputCode.{input_code}
 use Rattle.overlay_terms.specs.Layers.{Name}
 use Rattle.overlay_terms.specs.Tiles.{Input, input_of}
 use Rattle.version_core.specs.Finish.{IsPending}
-use Rattle.book_history.specs.Codes.{entry_code, name_code}
+use Rattle.overlay_terms.specs.CommandCode.{name_code}
+use Rattle.book_history.specs.Codes.{entry_code}
 use Rattle.book_history.specs.Logs.{newest_in, IsLog}
 use Rattle.book_lock.specs.Steps.{IsFinishedIn}
 use Rattle.book_history.specs.HeldTiles.{is_held}

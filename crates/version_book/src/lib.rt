@@ -19,7 +19,7 @@ pub mod job {
 
 /// Why a call on the book is refused.
 pub mod fault {
-    pub use book_history::fault::{BookFault, StoreText, Text, ToldFault};
+    pub use book_history::fault::{BookFault, ToldFault};
 }
 
 /// A session: what it has seen and made.

@@ -4,7 +4,7 @@ ghost use Rattle.std.specs.Prelude.{length, true, false, Err, IsErrAnd};
 ghost use Rattle.std.specs.Arc.{arc_value};
 ghost use Rattle.overlay_terms.specs.Histories.{newest, BeginsWith, IsHistory};
 ghost use Rattle.layer_book.specs.Command.{command};
-ghost use Rattle.book_history.specs.Fault.{IfGone, IsRefused, no_memory};
+ghost use Rattle.book_history.specs.Fault.{IfBatchGone, IfGone, IsBatchRefused, IsRefused, no_memory};
 ghost use Rattle.book_history.specs.Known.{seen, IsOwn};
 ghost use Rattle.book_history.specs.Logs.{entry, history_of, newest_in, no_event, IsAccepted, IsLog};
 ghost use Rattle.book_history.specs.Rules.{head_of};
@@ -28,6 +28,8 @@ use book_history::seen_log::{Head, Naming, SeenLog};
 use book_history::standing::Standing;
 use book_lock::locked_log::LockedLog;
 use book_lock::session::Session;
+use layer_book::batch::Batch;
+use layer_book::batch_fault::BatchFault;
 use layer_book::command::Command;
 use layer_expr::name::Name;
 use std::alloc::Global;
@@ -90,8 +92,8 @@ impl<J: Naming, R: Wait + Drop> Shared<J, R> {
         requires book { me.old.book ≡ J.book }
         ensures goes_on { BeginsWith (seen me.new) (seen me.old) }
         ensures history { IfOk result (λ _. IsHistory (seen me.new)) }
-        ensures ok { IfOk result (λ n. IsAccepted me.old.session (seen me.old) (command change.now) (seen me.new) n) }
-        ensures made { IfOk result (λ _. me.new.made ≡ me.old.made ++ command change.now ∷ []) }
+        ensures ok { IfOk result (λ n. IsAccepted me.old.session (seen me.old) (command change.now ∷ []) (seen me.new) n) }
+        ensures made { IfOk result (λ _. me.new.made ≡ me.old.made ++ (command change.now ∷ []) ∷ []) }
         ensures own { IfOk result (λ _. IsOwn me.new) }
         ensures err { IfErr result (λ fault. IfGone fault (me.new ≡ me.old) ((me.new.made ≡ me.old.made)
             × IsOwn me.new)) }
@@ -102,6 +104,32 @@ impl<J: Naming, R: Wait + Drop> Shared<J, R> {
         let _ = me.number();
         let mut turn = self.turns.next(rt);
         turn.book.submit(alloc, me, change)
+    }
+
+    /// Accepts a batch of a session as one version, and answers its number. Where it is refused, none of its commands
+    /// is made.
+    pub fn submit_all<W: Wait>(
+        &self,
+        rt: &W,
+        alloc: Global,
+        me: &mut Session,
+        batch: &Batch,
+    ) -> Result<u64, BatchFault>
+        requires book { me.old.book ≡ J.book }
+        ensures goes_on { BeginsWith (seen me.new) (seen me.old) }
+        ensures history { IfOk result (λ _. IsHistory (seen me.new)) }
+        ensures ok { IfOk result (λ n. IsAccepted me.old.session (seen me.old) batch.now (seen me.new) n) }
+        ensures made { IfOk result (λ _. me.new.made ≡ me.old.made ++ batch.now ∷ []) }
+        ensures own { IfOk result (λ _. IsOwn me.new) }
+        ensures err { IfErr result (λ fault. IfBatchGone fault (me.new ≡ me.old) ((me.new.made ≡ me.old.made)
+            × IsOwn me.new)) }
+        ensures refused { IfErr result (λ fault. IsBatchRefused true (newest (seen me.new)) batch.now fault) }
+        ensures same { (me.new.book ≡ me.old.book) × (me.new.session ≡ me.old.session) }
+    {
+        // It has seen some version: the clauses rest on that.
+        let _ = me.number();
+        let mut turn = self.turns.next(rt);
+        turn.book.submit_all(alloc, me, batch)
     }
 
     /// Hands out a pending tile that is neither handed out nor marked. It waits for one; None comes at closing.

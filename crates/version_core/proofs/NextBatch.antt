@@ -8,9 +8,9 @@ use Rattle.overlay_terms.specs.Column.{column_count}
 use Rattle.overlay_terms.specs.Layers.{Name, Layer}
 use Rattle.overlay_terms.specs.Commands.{Refusal, AllAccepted, applied, when, version_max, version_limit, stands_as_derived}
 use Rattle.overlay_terms.specs.Touched.{is_touched}
-use Rattle.overlay_terms.specs.Histories.{Tile, Finished, Version, tile_at}
+use Rattle.overlay_terms.specs.Histories.{Tile, Finished, Version, tile_at, FollowsBatch}
 use Rattle.overlay_terms.specs.KeptLaws.{AreFitting}
-use Rattle.overlay_terms.specs.Batches.{Batch, BatchRefusal, whole, applied_all, refusal_from, batch_refusal_at, is_touched_from, FollowsBatch}
+use Rattle.overlay_terms.specs.Batches.{Batch, BatchRefusal, whole, applied_all, refusal_from, batch_refusal_at, is_touched_from}
 use Rattle.overlay_terms.proofs.AcceptedLemmas.{not_when}
 use Rattle.overlay_terms.proofs.Options.{both_absent}
 use Rattle.overlay_terms.proofs.BatchLemmas.{accepted_in_turn}

@@ -1,5 +1,5 @@
 -- The versions that commands and kept tiles leave are versions.
-use Rattle.std.specs.Prelude.{◌≡◌, ◌≢◌, ℕ, ◌+◌, ◌<◌, ◌≤◌, ◌==◌, Bool, true, false, not, IsTrue, List, [], ◌∷◌, ◌++◌, ◌&&◌, bytes_eq, Option, Some, None, if◌then◌else◌}
+use Rattle.std.specs.Prelude.{◌≡◌, ◌≢◌, ◌↔◌, ℕ, ◌+◌, ◌<◌, ◌≤◌, ◌==◌, Bool, true, false, not, IsTrue, List, [], ◌∷◌, ◌++◌, ◌&&◌, bytes_eq, Option, Some, None, if◌then◌else◌}
 use Rattle.std.proofs.Common.{refl, ap, sym, ◌∙◌, subst, arith}
 use Rattle.std.proofs.lemmas.Bool.{and_parts, eqb-true, eqb-false}
 use Rattle.std.proofs.lemmas.List.Kept.{AllPairs-filter}
@@ -15,7 +15,6 @@ use Rattle.overlay_terms.proofs.AcceptedLemmas.{not_when}
 use Rattle.overlay_terms.proofs.Options.{both_absent}
 use Rattle.overlay_terms.proofs.FormLemmas.{formed_at}
 use Rattle.overlay_terms.proofs.KeptCommands.{untouched_input_stays}
-use Rattle.overlay_terms.specs.SameInput.{same_input, same_input-Decides}
 use Rattle.layer_book.specs.Fault.{fault_of}
 use Rattle.layer_book.specs.Layer.{IsBook}
 use Rattle.version_core.specs.Tiles.{is_of, untouched, AreDistinct}
@@ -139,9 +138,10 @@ module _ (old : Version) (name : Name) (input : Input) (tile : Tile) (valid : Is
     durable = refl;
   }
 
--- a test of inputs decides whether a tile is awaited, where its layer is derived and it is pending
-pub awaited_decides : (version : Version) (name : Name) (input present : Input) (same : Bool) → stands_as_derived version.layers name ≡ true → tile_at version.tiles name input.column ≡ None → present ≡ input_of version.layers name input.column → same ≡ same_input input present → (IsTrue same → IsAwaited version name input) × (IsAwaited version name input → IsTrue same)
-awaited_decides version name input present same derived_layer pending e r = (
-  λ t. ((derived_layer, pending), (same_input-Decides input present).0 (sym r ∙ t) ∙ e),
-  λ a. r ∙ (same_input-Decides input present).1 (a.1 ∙ sym e),
-)
+-- whether an input is the present one tells whether its tile is awaited, where its layer is derived and it is pending
+pub awaited_by : (version : Version) (name : Name) (input : Input) (layers : List Layer) (same : Bool) → stands_as_derived version.layers name ≡ true → tile_at version.tiles name input.column ≡ None → layers ≡ version.layers → IsTrue same ↔ (input ≡ input_of layers name input.column) → IsTrue same ↔ IsAwaited version name input
+awaited_by version name input layers same derived_layer pending is told =
+    let present : input_of layers name input.column ≡ input_of version.layers name input.column = ap (λ ls. input_of ls name input.column) is in (
+      λ t. ((derived_layer, pending), told.0 t ∙ present),
+      λ a. told.1 (a.1 ∙ sym present),
+    )

@@ -1,17 +1,18 @@
 //! Why a question about a version, or a change of it, is refused.
-ghost use Rattle.std.specs.Prelude.{◌≡◌, Some};
+ghost use Rattle.std.specs.Prelude.{◌≡◌};
+ghost use Rattle.fault_texts.specs.FaultText.{shown, IsBrief};
 ghost use Rattle.version_core.specs.Fault.{code_of, text_of};
 ghost use Rattle.version_core.specs.declared.fault.VersionFault.TheVariants.{Layer};
 ghost use Rattle.layer_book.specs.declared.fault.LayerFault.TheVariants.{OutOfMemory};
 
+use fault_texts::FaultText;
 use layer_book::fault::LayerFault;
 use std::alloc::AllocError;
-use std::fmt;
 use thiserror::Error;
 
 /// Why a call on a version is refused.
 #[derive(Clone, Copy, Debug, PartialEq, Eq, Error)]
-#[error("{}", Text(*self))]
+#[error("{}", self.text())]
 pub enum VersionFault {
     Layer(LayerFault),
     /// The tile is not finished.
@@ -31,6 +32,18 @@ impl VersionFault {
             VersionFault::Oversize => 22,
         }
     }
+
+    /// The text that is printed behind the number.
+    pub fn text(&self) -> FaultText
+        ensures text { shown result ≡ text_of self.now }
+        ensures brief { IsBrief result }
+    {
+        match self {
+            VersionFault::Layer(fault) => fault.text(),
+            VersionFault::Pending => FaultText::Plain("pending"),
+            VersionFault::Oversize => FaultText::Plain("oversize"),
+        }
+    }
 }
 
 impl From<LayerFault> for VersionFault {
@@ -46,21 +59,5 @@ impl From<AllocError> for VersionFault {
 
     fn from(_e: AllocError) -> VersionFault {
         VersionFault::Layer(LayerFault::OutOfMemory)
-    }
-}
-
-/// The text of a fault, as a reply says it behind the number.
-#[derive(Clone, Copy, Debug)]
-pub struct Text(pub VersionFault);
-
-impl fmt::Display for Text {
-    ghost output = { λ text. Some (text_of text.0) };
-
-    fn fmt<W: fmt::Write>(&self, f: &mut fmt::Formatter<W>) -> fmt::Result {
-        match self.0 {
-            VersionFault::Layer(fault) => write!(f, "{}", layer_book::fault::Text(fault)),
-            VersionFault::Pending => write!(f, "pending"),
-            VersionFault::Oversize => write!(f, "oversize"),
-        }
     }
 }

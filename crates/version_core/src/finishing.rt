@@ -56,27 +56,25 @@ impl Version {
         ensures err { IfErr result (λ fault. fault ≡ VersionFault.Layer LayerFault.OutOfMemory) }
         ensures pending { IfErr result (λ _. IsPending self.now name.now built.now.0.column) }
     {
-        if self.is_awaited(alloc, name, built.input())? {
+        if self.is_awaited(name, built.input()) {
             Ok(Finish::Kept(self.with_tile(alloc, name, built)?))
         } else {
             Ok(Finish::Stale)
         }
     }
 
-    /// Whether the tile of an input is awaited.
-    fn is_awaited(&self, alloc: Global, name: &Name, input: &TileInput) -> Result<bool, AllocError>
-        ensures ok { IfOk result (λ awaited. IsTrue awaited ↔ IsAwaited self.now name.now input.now) }
-        ensures err { IfErr result (λ _. IsPending self.now name.now input.now.column) }
+    /// Whether the tile of an input is awaited: it is pending, and the input is the present one. It takes no memory.
+    pub fn is_awaited(&self, name: &Name, input: &TileInput) -> bool
+        ensures { IsTrue result ↔ IsAwaited self.now name.now input.now }
     {
         let column = input.column().number();
         if !self.layers().stands_as_derived(name) {
-            return Ok(false);
+            return false;
         }
         if self.tile(name, column).is_some() {
-            return Ok(false);
+            return false;
         }
-        let present = self.layers().input_in_reach(alloc, name, input.column())?;
-        Ok(*input == present)
+        self.layers().has_input(name, input)
     }
 
     /// The version with a built tile more, which is awaited.

@@ -2,7 +2,8 @@
 ghost use Rattle.std.specs.Prelude.{◌≡◌, None, IfOk, IfErr, map};
 ghost use Rattle.std.specs.Option.{option_map};
 ghost use Rattle.overlay_terms.specs.Commands.{AllAccepted};
-ghost use Rattle.overlay_terms.specs.Batches.{FollowsBatch, applied_all, batch_refusal_at};
+ghost use Rattle.overlay_terms.specs.Histories.{FollowsBatch};
+ghost use Rattle.overlay_terms.specs.Batches.{applied_all, batch_refusal_at};
 ghost use Rattle.layer_book.specs.Command.{command};
 ghost use Rattle.layer_book.specs.BatchFault.{RefusedAllBy, fault_of};
 ghost use Rattle.version_core.specs.Tiles.{finished, untouched_all};

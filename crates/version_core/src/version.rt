@@ -9,14 +9,12 @@ ghost use Rattle.version_core.specs.Version.{IsVersion};
 use crate::tiles::{FinishedTile, tile_among};
 use layer_book::layers::Layers;
 use layer_expr::name::Name;
+pub use overlay_terms::limits::VERSION_MAX;
 use plane_base::Column;
 use std::alloc::Global;
 use std::marker::Model;
 use std::sync::Arc;
 use tile_build::Tile;
-
-/// The greatest number of a version, 2^62.
-pub const VERSION_MAX: u64 = 4611686018427387904;
 
 /// Layers with a number and their finished tiles, and the number of the version that is reported durable.
 #[derive(Debug)]

@@ -123,15 +123,6 @@ visible_past_blanks bytes at n e short =
     let stops = prefix_len_stops is_blank (drop at bytes) 0 (omega (arith, length-drop at bytes)) in
     ap is_blank (ap (λ k. get_or bytes (at + k) 0) size ∙ sym (get_or-drop at bytes _ 0)) ∙ stops
 
--- a first token from an offset on, and those behind it
-pub seen_first : (bytes : List ℕ) (at n : ℕ) (rest : List ℕ) (token : code.Token) → rest ≡ take (length bytes - at) (drop at bytes) → seen_from at rest ≡ token ∷ seen_from (at + n) (drop n rest) → seen_from at (drop at bytes) ≡ token ∷ seen_from (at + n) (drop (at + n) bytes)
-seen_first bytes at n rest token e first =
-    let whole : rest ≡ drop at bytes = e ∙ take_rest bytes at in
-    ap (seen_from at) (sym whole)
-    ∙ first
-    ∙ ap (λ r. token ∷ seen_from (at + n) (drop n r)) whole
-    ∙ ap (λ r. token ∷ seen_from (at + n) r) (drop-drop n at bytes)
-
 -- ==== Words in any case
 
 uppercase-lowercase : (c : ℕ) → to_ascii_uppercase (to_ascii_lowercase c) ≡ to_ascii_uppercase c

@@ -1,5 +1,6 @@
 -- The faults of texts: their numbers and texts, and those that the rings of a base layer have.
 use Rattle.std.specs.Prelude.{ℕ, List, ◌++◌, codes, decimal}
+use Rattle.plane_base.specs.Fault as rings
 use Rattle.plane_base.specs.declared.fault.PlaneFault.{PlaneFault}
 use Rattle.plane_base.specs.declared.fault.PlaneFault.TheVariants as plane
 use Rattle.wkt_form.specs.declared.fault.WktFault.{WktFault}
@@ -9,21 +10,21 @@ use Rattle.wkt_form.specs.declared.fault.WktFault.TheVariants.{Syntax, NotWhole,
 abbrev pub code_of : WktFault → ℕ
 code_of (Syntax _) = 1
 code_of (NotWhole _) = 2
-code_of (CoordRange _) = 3
-code_of (RingOpen _) = 4
-code_of (RingShort _) = 5
-code_of TooManySegments = 6
-code_of OutOfMemory = 40
+code_of (CoordRange _) = rings.code_of plane.CoordRange
+code_of (RingOpen ring) = rings.code_of (plane.RingOpen ring)
+code_of (RingShort ring) = rings.code_of (plane.RingShort ring)
+code_of TooManySegments = rings.code_of plane.TooManySegments
+code_of OutOfMemory = rings.code_of plane.OutOfMemory
 
 -- the text that is printed behind the number
 abbrev pub text_of : WktFault → List ℕ
 text_of (Syntax at) = codes "wkt syntax at " ++ decimal at
 text_of (NotWhole at) = codes "not whole at " ++ decimal at
 text_of (CoordRange at) = codes "coordinate out of range at " ++ decimal at
-text_of (RingOpen ring) = codes "ring " ++ (decimal ring ++ codes " open")
-text_of (RingShort ring) = codes "ring " ++ (decimal ring ++ codes " short")
-text_of TooManySegments = codes "too many segments"
-text_of OutOfMemory = codes "out of memory"
+text_of (RingOpen ring) = rings.text_of (plane.RingOpen ring)
+text_of (RingShort ring) = rings.text_of (plane.RingShort ring)
+text_of TooManySegments = rings.text_of plane.TooManySegments
+text_of OutOfMemory = rings.text_of plane.OutOfMemory
 
 -- a fault of the rings as a fault of their text; rings have points in range, so that a coordinate is none of them
 abbrev pub of_rings : PlaneFault → WktFault

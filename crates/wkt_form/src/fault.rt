@@ -1,16 +1,17 @@
 //! What the reader of Well-Known Text refuses.
-ghost use Rattle.std.specs.Prelude.{◌≡◌, Some};
+ghost use Rattle.std.specs.Prelude.{◌≡◌};
+ghost use Rattle.fault_texts.specs.FaultText.{shown, IsBrief};
 ghost use Rattle.wkt_form.specs.Fault.{code_of, text_of, of_rings};
 ghost use Rattle.wkt_form.specs.declared.fault.WktFault.TheVariants.{OutOfMemory};
 
+use fault_texts::FaultText;
 use plane_base::PlaneFault;
 use std::alloc::AllocError;
-use std::fmt;
 use thiserror::Error;
 
 /// Why a text is refused.
 #[derive(Clone, Copy, Debug, PartialEq, Eq, Error)]
-#[error("{}", Text(*self))]
+#[error("{}", self.text())]
 pub enum WktFault {
     /// The offset of the token that cannot stand there, or the length of the text.
     Syntax(usize),
@@ -34,11 +35,27 @@ impl WktFault {
         match self {
             WktFault::Syntax(_) => 1,
             WktFault::NotWhole(_) => 2,
-            WktFault::CoordRange(_) => 3,
-            WktFault::RingOpen(_) => 4,
-            WktFault::RingShort(_) => 5,
-            WktFault::TooManySegments => 6,
-            WktFault::OutOfMemory => 40,
+            WktFault::CoordRange(_) => PlaneFault::CoordRange.code(),
+            WktFault::RingOpen(ring) => PlaneFault::RingOpen(*ring).code(),
+            WktFault::RingShort(ring) => PlaneFault::RingShort(*ring).code(),
+            WktFault::TooManySegments => PlaneFault::TooManySegments.code(),
+            WktFault::OutOfMemory => PlaneFault::OutOfMemory.code(),
+        }
+    }
+
+    /// The text that is printed behind the number.
+    pub fn text(&self) -> FaultText
+        ensures text { shown result ≡ text_of self.now }
+        ensures brief { IsBrief result }
+    {
+        match self {
+            WktFault::Syntax(at) => FaultText::At("wkt syntax at ", *at),
+            WktFault::NotWhole(at) => FaultText::At("not whole at ", *at),
+            WktFault::CoordRange(at) => FaultText::At("coordinate out of range at ", *at),
+            WktFault::RingOpen(ring) => PlaneFault::RingOpen(*ring).text(),
+            WktFault::RingShort(ring) => PlaneFault::RingShort(*ring).text(),
+            WktFault::TooManySegments => PlaneFault::TooManySegments.text(),
+            WktFault::OutOfMemory => PlaneFault::OutOfMemory.text(),
         }
     }
 }
@@ -62,26 +79,6 @@ impl From<PlaneFault> for WktFault {
             // The points of rings are in range, so this is none of their faults.
             PlaneFault::CoordRange => WktFault::CoordRange(0),
             PlaneFault::OutOfMemory => WktFault::OutOfMemory,
-        }
-    }
-}
-
-/// The text of a fault, as a reply says it behind the number.
-#[derive(Clone, Copy, Debug)]
-pub struct Text(pub WktFault);
-
-impl fmt::Display for Text {
-    ghost output = { λ text. Some (text_of text.0) };
-
-    fn fmt<W: fmt::Write>(&self, f: &mut fmt::Formatter<W>) -> fmt::Result {
-        match self.0 {
-            WktFault::Syntax(at) => write!(f, "wkt syntax at {at}"),
-            WktFault::NotWhole(at) => write!(f, "not whole at {at}"),
-            WktFault::CoordRange(at) => write!(f, "coordinate out of range at {at}"),
-            WktFault::RingOpen(ring) => write!(f, "ring {ring} open"),
-            WktFault::RingShort(ring) => write!(f, "ring {ring} short"),
-            WktFault::TooManySegments => write!(f, "too many segments"),
-            WktFault::OutOfMemory => write!(f, "out of memory"),
         }
     }
 }

@@ -2,5 +2,5 @@ use Rattle.std.proofs.Common.{rules}
 use Rattle.arrange.proofs.finding_pieces.is_before_next.Goals as goal
 
 -- found by search alone: it stands here so that a wrong body is refused without working out what to write
-pub returns-in-Some : goal.returns-in-Some
-returns-in-Some c = search rules
+pub returns : goal.returns
+returns c = search rules

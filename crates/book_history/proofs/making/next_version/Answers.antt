@@ -1,6 +1,7 @@
-use Rattle.std.proofs.Common.{◌≡◌, false, sym, subst}
+use Rattle.std.proofs.Common.{◌≡◌, ◌∷◌, [], false, sym, subst}
 use Rattle.std.proofs.lemmas.Result.{IfOk-weaker, IfErr-weaker}
-use Rattle.overlay_terms.specs.Histories.{FollowsCommand}
+use Rattle.overlay_terms.specs.Histories.{FollowsBatch}
+use Rattle.overlay_terms.proofs.BatchLemmas.{one_follows_alike}
 use Rattle.layer_book.specs.Command.{command}
 use Rattle.book_history.specs.declared.fault.BookFault.{BookFault}
 use Rattle.book_history.specs.Fault.{IsRefused, IfGone, no_memory}
@@ -16,7 +17,7 @@ returns-in-Ok c =
     let want : (f : BookFault) → f ≡ no_memory → IsRefused false now change f × IfGone f ⊥ (Unit {0}) =
     λ f is. subst (λ (e : BookFault). IsRefused false now change e × IfGone e ⊥ (Unit {0})) (sym is) (for_want false now change follows.accepted_there, tt) in
     record {
-      ok = IfOk-weaker r _ _ (λ v is. subst (FollowsCommand now change) (sym is) follows) c.shared.ensures.ok;
+      ok = IfOk-weaker r _ _ (λ v is. subst (FollowsBatch now (change ∷ [])) (sym is) ((one_follows_alike now _ change).1 follows)) c.shared.ensures.ok;
       err = IfErr-weaker r (λ f. f ≡ no_memory) (IsRefused false now change) (λ f is. (want f is).0) c.shared.ensures.err;
       there = IfErr-weaker r (λ f. f ≡ no_memory) (λ f. IfGone f ⊥ (Unit {0})) (λ f is. (want f is).1) c.shared.ensures.err;
     }

@@ -15,7 +15,7 @@ above : (a b m n : ℤ) → le_z a b ≡ false → a ≡ m → b ≡ n → n <�
 above a b m n h ea eb = grind (arith, ints)
 
 at_border : (c : goal.After-part_way) → to_z w64 (of_z w64 c.border-border.result) ≡ border c.args.column
-at_border c = search (rules, to_z-of_z, c.border-border.ensures.value, c.in_ok-new.ensures, c.new.ensures)
+at_border c = search (rules, to_z-of_z, c.border-border.ensures.value)
 
 at_left : (c : goal.After-part_way) → to_z w64 (of_z w64 c.x-left.result) ≡ c.args.seg.now.left.x
 at_left c = search (rules, to_z-of_z, c.x-left.ensures.value)
@@ -31,7 +31,7 @@ cut c = record {
 }
 
 from_left : (c : goal.After-part_way) → to_z w128 (of_z w128 c.minus.result) ≡ border c.args.column -ℤ c.args.seg.now.left.x
-from_left c = search (rules, to_z-of_z, c.minus.ensures.value, c.border-border.ensures.value, c.in_ok-new.ensures, c.new.ensures)
+from_left c = search (rules, to_z-of_z, c.minus.ensures.value, c.border-border.ensures.value)
 
 whole_way : (c : goal.After-part_way) → to_z w128 (of_z w128 c.minus-2.result) ≡ c.args.seg.now.right.x -ℤ c.args.seg.now.left.x
 whole_way c = search (rules, to_z-of_z, c.minus-2.ensures.value)

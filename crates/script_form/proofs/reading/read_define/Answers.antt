@@ -11,4 +11,4 @@ returns-in_err-expression-clause-refused c =
 pub returns-in_err-definition-clause-refused : goal.returns-in_err-definition-clause-refused
 returns-in_err-definition-clause-refused c =
     let p = err_from_is_err_and c.from_residual-in_err-definition.result c.from_residual-in_err-definition.ensures.1 in
-    rw (p.1, p.2) (inl (c.in_ok-defined.ensures.ok.1, refl))
+    rw (p.1, p.2) (inl (c.in_ok-defined.ensures.ok.1, refl, refl))

@@ -11,4 +11,4 @@ returns-in_err-layer-clause-refused c =
 pub returns-in_err-rings-clause-refused : goal.returns-in_err-rings-clause-refused
 returns-in_err-rings-clause-refused c =
     let p = err_from_is_err_and c.from_residual-in_err-rings.result c.from_residual-in_err-rings.ensures.1 in
-    rw (p.1, p.2) (inl (c.in_ok-name.ensures.ok.1, refl))
+    rw (p.1, p.2) (inl (c.in_ok-name.ensures.ok.1, refl, refl))

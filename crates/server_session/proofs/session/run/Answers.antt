@@ -10,7 +10,7 @@ loop-taken-init g c = record {
   limited = omega arith;
   room = refl;
   stays = stays_self _;
-  way = begins _ _ _ _ _ c.requires.empty;
+  way = begins _ _ _ _ _ _ c.requires.empty c.requires.alone;
 }
 
 pub finish-requires : goal.finish-requires
@@ -20,7 +20,7 @@ pub returns-in-Err-clause-run : goal.returns-in-Err-clause-run
 unfolding script_max
 returns-in-Err-clause-run g c =
     let within : c.loop-taken.taken ≤ script_max = c.loop-taken-test.true in
-    ends-at_read _ c.args.me.now c.end_by.result _ _ _ _ (g.W.Write.contents c.loop-taken.writer) (g.W.Write.contents c.end_by.new.writer) _ _ c.loop-taken.me (codes "error 48 read\n")
+    ends-at_read _ c.args.me.now c.end_by.result _ _ _ _ (g.W.Write.contents c.loop-taken.writer) (g.W.Write.contents c.end_by.new.writer) _ _ _ c.loop-taken.me (codes "error 48 read\n")
     c.loop-taken.invariant.way within c.in-Err.ensures.err read c.end_by.ensures
 
 pub returns-in-Err-clause-stays : goal.returns-in-Err-clause-stays
@@ -30,7 +30,7 @@ pub returns-in-Ok-eq0-clause-run : goal.returns-in-Ok-eq0-clause-run
 unfolding script_max
 returns-in-Ok-eq0-clause-run g c =
     let within : c.loop-taken.taken ≤ script_max = c.loop-taken-test.true in
-    ends-finished _ c.args.me.now c.finish.result _ (g.R.Read.remaining c.loop-taken.reader) (g.R.Read.remaining c.read_chunk.new.reader) _ (g.W.Write.contents c.loop-taken.writer) (g.W.Write.contents c.finish.new.writer) _ c.loop-taken.line c.loop-taken.me c.finish.new.me
+    ends-finished _ c.args.me.now c.finish.result _ (g.R.Read.remaining c.loop-taken.reader) (g.R.Read.remaining c.read_chunk.new.reader) _ (g.W.Write.contents c.loop-taken.writer) (g.W.Write.contents c.finish.new.writer) _ c.loop-taken.line c.loop-taken.waiting c.loop-taken.me c.finish.new.me
     c.loop-taken.invariant.way within
     (reads_none _ _ c.in-Ok-eq0.field-0 c.read_chunk.new.chunk c.in-Ok-eq0.field-0-test c.in-Ok-eq0.ensures.bytes)
     (c.in-Ok-eq0.ensures.at_end c.in-Ok-eq0.field-0-test) c.finish.ensures.finishes
@@ -44,7 +44,7 @@ returns-then-is_err-clause-run g c =
     let within : c.loop-taken.taken ≤ script_max = c.loop-taken-test.true in
     let stopped = when_err _ _ c.take_bytes-told.result (sym c.if-is_err.ensures.value) c.take_bytes-told.ensures.takes in
     ends-stopped _ c.args.me.now _ (g.R.Read.remaining c.loop-taken.reader) (g.R.Read.remaining c.read_chunk.new.reader) _ (g.W.Write.contents c.loop-taken.writer) (g.W.Write.contents c.take_bytes-told.new.writer)
-    _ c.in-Ok.count c.min-allowed.result c.loop-taken.line c.read_chunk.new.chunk c.loop-taken.me c.take_bytes-told.new.me
+    _ c.in-Ok.count c.min-allowed.result c.loop-taken.line c.read_chunk.new.chunk c.loop-taken.waiting c.loop-taken.me c.take_bytes-told.new.me
     c.loop-taken.invariant.way within c.min-allowed.ensures c.in-Ok.ensures.bytes stopped
 
 pub returns-then-is_err-clause-stays : goal.returns-then-is_err-clause-stays
@@ -61,7 +61,7 @@ loop-taken-preserved g c =
       stays = stays_trans _ _ _ c.loop-taken.invariant.stays c.take_bytes-told.ensures.stays;
       way =
           goes_on _ c.args.me.now _ (g.R.Read.remaining c.loop-taken.reader) (g.R.Read.remaining c.read_chunk.new.reader) _ (g.W.Write.contents c.loop-taken.writer) (g.W.Write.contents c.take_bytes-told.new.writer)
-          c.loop-taken.taken c.in-Ok.count c.min-allowed.result c.loop-taken.line c.take_bytes-told.new.line c.read_chunk.new.chunk c.loop-taken.me c.take_bytes-told.new.me
+          c.loop-taken.taken c.in-Ok.count c.min-allowed.result c.loop-taken.line c.take_bytes-told.new.line c.read_chunk.new.chunk c.loop-taken.waiting c.take_bytes-told.new.waiting c.loop-taken.me c.take_bytes-told.new.me
           c.loop-taken.invariant.way within c.in-Ok.ensures.within c.min-allowed.ensures c.in-Ok.ensures.bytes takes;
     }
 
@@ -69,7 +69,7 @@ pub returns-clause-run : goal.returns-clause-run
 unfolding script_max
 returns-clause-run g c =
     let past : c.loop-taken.taken ≡ 16777217 = omega arith in
-    ends-past_limit _ c.args.me.now c.end_by-2.result _ _ _ (g.W.Write.contents c.loop-taken.writer) (g.W.Write.contents c.end_by-2.new.writer) _ _ c.loop-taken.me (codes "error 47 read limit\n")
+    ends-past_limit _ c.args.me.now c.end_by-2.result _ _ _ (g.W.Write.contents c.loop-taken.writer) (g.W.Write.contents c.end_by-2.new.writer) _ _ _ c.loop-taken.me (codes "error 47 read limit\n")
     c.loop-taken.invariant.way past read_limit c.end_by-2.ensures
 
 pub returns-clause-stays : goal.returns-clause-stays

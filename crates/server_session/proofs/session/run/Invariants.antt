@@ -10,7 +10,7 @@ invariant-loop-taken g l = record {
   limited : l.taken ≤ 16777217;
   room : length l.chunk ≡ length l.initial.chunk;
   stays : Stays l.initial.me l.me;
-  way : IsUnderWay (has_store l.shared) l.initial.me (g.R.Read.remaining l.initial.reader) (g.R.Read.remaining l.reader) (g.W.Write.contents l.initial.writer) (g.W.Write.contents l.writer) l.taken l.line l.me;
+  way : IsUnderWay (has_store l.shared) l.initial.me (g.R.Read.remaining l.initial.reader) (g.R.Read.remaining l.reader) (g.W.Write.contents l.initial.writer) (g.W.Write.contents l.writer) l.taken l.line l.waiting l.me;
 }
 
 abbrev pub decreases-loop-taken : goal.decreases-loop-taken

@@ -15,6 +15,7 @@ returns-then-len-cap c =
       tile = found.too_many more;
       nodes = counted_for c.args.input.now c.args.cap true c.in_ok-found.found.rows.items c.in_ok-found.found.tests.items c.in_ok-found.found.nodes found ⊥ (λ h. absurd h);
       few = found.few;
+      pairs = found.pairs;
       crossings = λ h. absurd h;
     }
 
@@ -33,5 +34,6 @@ returns c =
       tile = tile_for c.args.input.now c.args.cap true rows c.in_ok-found.found.tests.items c.in_ok-found.found.nodes found few (map ends_of c.in_ok-pieces.pieces.items) ends;
       nodes = counted_for c.args.input.now c.args.cap true rows c.in_ok-found.found.tests.items c.in_ok-found.found.nodes found (Unit {0}) (λ h. few);
       few = found.few;
+      pairs = found.pairs;
       crossings = crossings_for c.args.input.now c.args.cap true rows c.in_ok-found.found.tests.items c.in_ok-found.found.nodes found refl (Unit {0}) (λ h. few);
     }

@@ -1,17 +1,12 @@
-use Rattle.std.proofs.Common.{◌≡◌, length, ap, sym, ◌∙◌, subst, refl, false, arith}
-use mathlib.Core.List.{IsPrefix}
+use Rattle.std.proofs.Common.{◌≡◌, ◌++◌, ◌∷◌, [], map, ap, sym, ◌∙◌, subst, refl, false, IfOk}
 use Rattle.std.specs.Arc.{arc_value}
-use Rattle.overlay_terms.specs.Histories.{accepted, commands_of, FollowsCommand}
+use Rattle.overlay_terms.specs.Histories.{commands_of, FollowsBatch}
 use Rattle.layer_book.specs.Command.{command}
 use Rattle.book_history.specs.Fault.{IfGone, IsRefused}
-use Rattle.book_history.specs.Logs.{newest_in}
-use Rattle.book_history.proofs.Fronts.{prefix_trans}
-use Rattle.std.proofs.lemmas.Result.{IfOk-from_err}
-use Rattle.book_lock.proofs.Growing.{newest_of, told_by}
-use Rattle.book_history.specs.Trails.{Trail}
-use Rattle.book_history.proofs.Owned.{own_le, own_then}
+use Rattle.book_history.specs.Logs.{newest_in, IsLog}
+use Rattle.std.proofs.lemmas.Result.{IfErr-weaker, IfOk-from_err, IfOk-weaker}
 use Rattle.book_history.proofs.Gone.{gone_map, passed}
-use Rattle.book_lock.specs.Steps.{HasLooked}
+use Rattle.book_lock.specs.Steps.{HasLooked, IsAcceptedIn}
 use Rattle.book_lock.proofs.locked_log.LockedLog.submit.Goals as goal
 
 pub returns-then-not-is_level : goal.returns-then-not-is_level
@@ -49,75 +44,35 @@ returns-in-Err g c =
       refused = subst (λ v. IsRefused false v (command c.args.change.now) c.in-Err.fault) old c.in-Err.ensures.err;
     }
 
-pub add-requires : goal.add-requires
-add-requires g c =
+pub accept-requires : goal.accept-requires
+accept-requires g c =
     let old = c.deref.ensures ∙ c.last.ensures.version in
-    record {
-      follows = subst (λ o. FollowsCommand o (command c.args.change.now) (arc_value c.in-Ok.version)) old c.in-Ok.ensures.ok;
-      seat = omega (arith, c.number-by.ensures.value, c.if-not-is_level.ensures.seat refl);
-    }
-
-pub returns-in_err-add : goal.returns-in_err-add
-returns-in_err-add g c =
-    let failed = c.from_residual-in_err-add.ensures in
-    let e = c.in_err-add.ensures.err in
-    let me = c.args.me.now in
-    let change = command c.args.change.now in
-    record {
-      ok = IfOk-from_err _ _ failed.0;
-      seen = IfOk-from_err _ _ failed.0;
-      made = IfOk-from_err _ _ failed.0;
-      same = (refl, refl);
-      err = passed _ _ _ failed.1
-          (e.1, subst (λ f. IfGone f (me ≡ me) (HasLooked me c.args.self.now me)) (sym e.0) refl);
-      refused = passed _ _ _ failed.1
-          (subst (λ f. IsRefused false (newest_in c.args.self.now) change f) (sym e.0) tt);
-    }
-
-pub made_one-requires : goal.made_one-requires
-made_one-requires g c =
-    let me = c.args.me.now in
-    let last = c.last-last in
-    let change = command c.args.change.now in
-    let now = ap (λ t. t.log) last.ensures.trace ∙ c.in_ok-add.ensures.ok in
-    let number = c.number-accepted.ensures.value ∙ ap (λ v. v.number) (c.deref-2.ensures ∙ last.ensures.version) in
     let level = c.if-not-is_level.ensures in
-    let own = level.own refl in
+    let one = sym (ap (map command) c.from_ref.ensures.value) in
+    let new = arc_value c.in-Ok.version in
     record {
-      newest = ap (λ (t : Trail). (newest_in t.log).number) last.ensures.trace ∙ sym number;
-      book = ap (λ t. t.book) last.ensures.trace ∙ sym c.requires.book;
-      longer = subst (λ l. IsPrefix me.log l) (sym now) (prefix_trans me.log c.args.self.now _ (level.longer refl) (_, refl));
-      own = (
-        change,
-        own_then me.session _ c.args.self.now last.result.now.trace.log me.made change _ c.number-by.ensures.value now own,
-      );
-      room = omega (arith, own_le me.session c.args.self.now, ap length own, c.in_ok-add.ensures.room);
+      book = c.requires.book;
+      level = record { has_all = record { longer = level.longer refl; own = level.own refl }; seat = level.seat refl };
+      follows = subst (λ b. FollowsBatch (newest_in c.args.self.now) b new) one
+          (subst (λ o. FollowsBatch o (command c.args.change.now ∷ []) new) old c.in-Ok.ensures.ok);
     }
 
 pub returns : goal.returns
 returns g c =
+    let was = c.args.me.now in
+    let now = c.accept.new.me in
+    let log = c.args.self.now in
+    let after = c.accept.new.self in
+    let r = c.accept.result in
+    let e = c.accept.ensures in
     let change = command c.args.change.now in
-    let by = c.args.me.now.session in
-    let is = c.in_ok-add.ensures.ok in
-    let new = newest_of c.args.self.now c.add.new.self _ is in
-    let old = c.deref.ensures ∙ c.last.ensures.version in
-    let log = ap (λ t. t.log) c.last-last.ensures.trace in
-    let made = ap (λ k. k.made) c.made_one.ensures in
+    let one = ap (map command) c.from_ref.ensures.value in
     let level = c.if-not-is_level.ensures in
-    let then = subst (λ o. FollowsCommand o change (arc_value c.in-Ok.version)) old c.in-Ok.ensures.ok in
     record {
-      ok = (
-        subst (λ v. FollowsCommand (newest_in c.args.self.now) change v) (sym new) then,
-        told_by c.args.self.now c.add.new.self _ _ _ (ap (λ b. accepted b change) c.number-by.ensures.value) is,
-        sym (c.number-accepted.ensures.value ∙ ap (λ v. v.number) (c.deref-2.ensures ∙ c.last-last.ensures.version)),
-      );
-      seen = (level.longer refl, ap (λ k. k.log) c.made_one.ensures ∙ log);
-      made = (
-        made ∙ own_then by _ c.args.self.now c.last-last.result.now.trace.log c.args.me.now.made change _ c.number-by.ensures.value (log ∙ is) (level.own refl),
-        ap (commands_of by) (sym log) ∙ sym made,
-        c.last-last.ensures.log,
-      );
-      same = (ap (λ k. k.book) c.made_one.ensures, ap (λ k. k.session) c.made_one.ensures);
-      err = tt;
-      refused = tt;
+      ok = subst (λ b. IfOk r (λ n. IsAcceptedIn log was.session b after n)) one e.ok;
+      seen = IfOk-weaker r _ _ (λ n same. (level.longer refl, same)) e.seen;
+      made = subst (λ b. IfOk r (λ _. (now.made ≡ was.made ++ b ∷ []) × (commands_of was.session after ≡ now.made) × IsLog after)) one e.made;
+      same = e.same;
+      err = IfErr-weaker r _ _ (λ f gone. (gone.1, subst (λ x. IfGone x (now ≡ was) (HasLooked was log now)) (sym gone.0) gone.2)) e.err;
+      refused = IfErr-weaker r _ _ (λ f gone. subst (λ x. IsRefused false (newest_in log) change x) (sym gone.0) tt) e.err;
     }

@@ -12,7 +12,7 @@ use Rattle.crossing_sweep.specs.Step.{IsSplitAt}
 use Rattle.crossing_sweep.specs.Member.{units_of, segs_of}
 use Rattle.crossing_sweep.specs.Rows.{AreBegun, mask_over, rows_of}
 use Rattle.crossing_sweep.specs.Stepping.{IsStepped}
-use Rattle.crossing_sweep.specs.Testing.{AreSeamsTested}
+use Rattle.crossing_sweep.specs.Testing.{AreSeamsTested, seams_at}
 use Rattle.crossing_sweep.specs.declared.member.Member.{Member}
 use Rattle.crossing_sweep.specs.declared.row.Row.{Row}
 use Rattle.crossing_sweep.specs.declared.start.Start.{Start}
@@ -41,21 +41,23 @@ returns-clause-stepped c =
     let rows : List Row = self.rows.items in
     let Splits : List Member → Type 0 = λ xs. SidesFallAlong r (segs_of xs) → IsSplitAt r (segs_of (take low xs)) (segs_of (slice_range xs low high)) (segs_of (drop high xs)) in
     let Moved : List Member → Type 0 = λ xs. IsPermutation (filter (unit_after r) (units_of (slice_range xs low high) ++ map (λ (s : Start). s.unit) (take entered coming))) (units_of turned) in
-    let Tested : ℕ → List Member → Type 0 = λ j xs. AreSeamsTested j r (segs_of xs) (low ∷ (low + len) ∷ []) self.search c.test_both.new.self in
     let Begun : ℕ → Bool → Type 0 = λ mask within. AreBegun c.args.input.now.steps mask c.args.begin.now within stay in
     let Closed : List Member → Type 0 = λ xs. c.close.new.rows.items ≡ rows ++ rows_of c.args.begin.now (slice_range xs low high) in
     let long : len ≡ length stay = search rules in
     let few = subst (λ (xs : List Member). high ≤ length xs) c.deref-2.ensures.value c.bundle_at-low.ensures.few in
-    let tested = subst (λ j. Tested j after) c.column-2.ensures.value (subst (Tested c.column-2.result) c.deref-6.ensures.value c.in_ok-test_both.ensures) in
     let labelled : units_of stay ≡ units_of turned = search rules in
     let under : c.mask_over-under.result ≡ mask_over 0 (take low ms) = search rules in
-    let within : c.is_in.result ≡ is_in_column k r = c.is_in.ensures ∙ ap (λ j. is_in_column j r) c.column.ensures.value in
-    let begun : Begun (mask_over 0 (take low ms)) (is_in_column k r) = subst (Begun (mask_over 0 (take low ms))) within (subst (λ m. Begun m c.is_in.result) under c.label.ensures.begun) in
+    let within : c.is_in-within.result ≡ is_in_column k r = c.is_in-within.ensures ∙ ap (λ j. is_in_column j r) c.column.ensures.value in
+    let begun : Begun (mask_over 0 (take low ms)) (is_in_column k r) = subst (Begun (mask_over 0 (take low ms))) within (subst (λ m. Begun m c.is_in-within.result) under c.label.ensures.begun) in
+    let tested : AreSeamsTested k r (segs_of after) (seams_at (is_in_column k r) low (low + len)) self.search c.test_new.new.self =
+    subst (λ b. AreSeamsTested k r (segs_of after) (seams_at b low (low + len)) self.search c.test_new.new.self) within
+    (subst (λ j. AreSeamsTested j r (segs_of after) (seams_at c.is_in-within.result low (low + len)) self.search c.test_new.new.self) c.column-2.ensures.value
+    (subst (λ (xs : List Member). AreSeamsTested c.column-2.result r (segs_of xs) (seams_at c.is_in-within.result low (low + len)) self.search c.test_new.new.self) c.deref-6.ensures.value c.in_ok-test_new.ensures)) in
     let size : c.in_ok-stay.stay.len ≡ length stay = search rules in
     let whole : take c.in_ok-stay.stay.len (stay ++ drop (length stay) turned) ≡ stay = ap (λ j. take j (stay ++ drop (length stay) turned)) size ∙ take-append_seam stay (drop (length stay) turned) in
     let put = c.in_ok-replace.ensures ∙ ap (λ (xs : List Member). take low ms ++ xs ++ drop high ms) whole in
-    let done = stepped c.args.input.now c.args.at.now c.args.begin.now ms after turned stay low high len entered coming self.search c.test_both.new.self rows c.close.new.rows.items c.bundle_at-low.ensures.in_order few
+    let done = stepped c.args.input.now c.args.at.now c.args.begin.now ms after turned stay low high len entered coming self.search c.test_new.new.self rows c.close.new.rows.items c.bundle_at-low.ensures.in_order few
     (subst Splits c.deref-2.ensures.value c.bundle_at-low.ensures.split) c.count_entering-entered.ensures (subst Moved c.deref-4.ensures.value c.in_ok-stay.ensures.moved) c.in_ok-stay.ensures.turned labelled begun
     (subst Closed c.deref-3.ensures.value c.in_ok-close.ensures) put long tested in
-    let Stepped : List Start → List Start → Type 0 = λ l m. IsStepped c.args.input.now c.args.at.now c.args.begin.now ms after l m self.search c.test_both.new.self rows c.close.new.rows.items in
+    let Stepped : List Start → List Start → Type 0 = λ l m. IsStepped c.args.input.now c.args.at.now c.args.begin.now ms after l m self.search c.test_new.new.self rows c.close.new.rows.items in
     subst (Stepped (drop self.entered self.starts.items)) onward (subst (λ (l : List Start). Stepped l (drop entered l)) behind done)

@@ -1,28 +1,28 @@
-use Rattle.std.proofs.Common.{◌∙◌, ap, option_copied}
+use Rattle.std.proofs.Common.{take, option_copied}
 use Rattle.layer_expr.specs.StepList.{reached}
 use Rattle.layer_book.proofs.InputReach.{few_marked, ordered_marked, last_marked, steps_marked}
 use Rattle.layer_book.proofs.layers.Layers.steps_in_reach.Goals as goal
 
 pub of-requires-clause-few : goal.of-requires-clause-few
 of-requires-clause-few c =
-    few_marked (λ layer. (layer.0.now, option_copied layer.1)) c.args.self.now c.args.name.now c.reach-wanted.result c.deref.result.now
+    few_marked (λ layer. (layer.0.now, option_copied layer.1)) c.args.self.now c.args.name.now c.reach-wanted.result (take c.wanted_layers-count.result.1 c.wanted_layers-count.result.0)
     (record { book = c.reach-wanted.ensures.valid; standing = c.requires; exactly = c.reach-wanted.ensures.exactly })
-    (ap reached c.deref.ensures.value ∙ c.in_ok-layers.ensures)
+    c.wanted_layers-count.ensures.layers
 
 pub of-requires-clause-ordered : goal.of-requires-clause-ordered
 of-requires-clause-ordered c =
-    ordered_marked c.args.self.now c.args.name.now c.reach-wanted.result (reached c.deref.result.now)
+    ordered_marked c.args.self.now c.args.name.now c.reach-wanted.result (reached (take c.wanted_layers-count.result.1 c.wanted_layers-count.result.0))
     (record { book = c.reach-wanted.ensures.valid; standing = c.requires; exactly = c.reach-wanted.ensures.exactly })
-    (ap reached c.deref.ensures.value ∙ c.in_ok-layers.ensures)
+    c.wanted_layers-count.ensures.layers
 
 pub of-requires-clause-reaches : goal.of-requires-clause-reaches
 of-requires-clause-reaches c =
-    last_marked c.args.self.now c.args.name.now c.reach-wanted.result (reached c.deref.result.now)
+    last_marked c.args.self.now c.args.name.now c.reach-wanted.result (reached (take c.wanted_layers-count.result.1 c.wanted_layers-count.result.0))
     (record { book = c.reach-wanted.ensures.valid; standing = c.requires; exactly = c.reach-wanted.ensures.exactly })
-    (ap reached c.deref.ensures.value ∙ c.in_ok-layers.ensures)
+    c.wanted_layers-count.ensures.layers
 
 pub returns : goal.returns
 returns c =
-    steps_marked c.args.self.now c.args.name.now c.reach-wanted.result (reached c.deref.result.now) c.in_ok-steps.steps
+    steps_marked c.args.self.now c.args.name.now c.reach-wanted.result (reached (take c.wanted_layers-count.result.1 c.wanted_layers-count.result.0)) c.in_ok-steps.steps
     (record { book = c.reach-wanted.ensures.valid; standing = c.requires; exactly = c.reach-wanted.ensures.exactly })
-    (ap reached c.deref.ensures.value ∙ c.in_ok-layers.ensures) c.in_ok-steps.ensures.steps
+    c.wanted_layers-count.ensures.layers c.in_ok-steps.ensures.steps

@@ -4,24 +4,24 @@ use Rattle.overlay_engine.proofs.Committed.{commits_on, committed}
 use Rattle.overlay_engine.proofs.engine.Engine.call.Goals as goal
 
 pub returns-in-Ok-Done-clause-done : goal.returns-in-Ok-Done-clause-done
-returns-in-Ok-Done-clause-done g c start commands covers =
+returns-in-Ok-Done-clause-done g c start batches covers =
     let e = c.args.self.now in
-    ended g.D.Disk start e.flusher c.step.new.self e.version commands c.step.result c.in-Ok-Done.number c.requires (c.in-Ok-Done.is ∙ ap Ok c.in-Ok-Done.field-0-is) c.step.ensures.moves covers
+    ended g.D.Disk start e.flusher c.step.new.self e.version batches c.step.result c.in-Ok-Done.number c.requires (c.in-Ok-Done.is ∙ ap Ok c.in-Ok-Done.field-0-is) c.step.ensures.moves covers
 
 pub returns-in-Ok-Done-clause-moves : goal.returns-in-Ok-Done-clause-moves
-returns-in-Ok-Done-clause-moves g c start commands covers =
+returns-in-Ok-Done-clause-moves g c start batches covers =
     let e = c.args.self.now in
-    called g.D.Disk start e.flusher c.step.new.self e.version commands c.step.result c.requires c.step.ensures.stored c.step.ensures.honest.1 c.step.ensures.moves covers
+    called g.D.Disk start e.flusher c.step.new.self e.version batches c.step.result c.requires c.step.ensures.stored c.step.ensures.honest.1 c.step.ensures.moves covers
 
 pub returns-in-Ok-Going-clause-moves : goal.returns-in-Ok-Going-clause-moves
-returns-in-Ok-Going-clause-moves g c start commands covers =
+returns-in-Ok-Going-clause-moves g c start batches covers =
     let e = c.args.self.now in
-    called g.D.Disk start e.flusher c.step.new.self e.version commands c.step.result c.requires c.step.ensures.stored c.step.ensures.honest.1 c.step.ensures.moves covers
+    called g.D.Disk start e.flusher c.step.new.self e.version batches c.step.result c.requires c.step.ensures.stored c.step.ensures.honest.1 c.step.ensures.moves covers
 
 pub returns-in-Err-clause-moves : goal.returns-in-Err-clause-moves
-returns-in-Err-clause-moves g c start commands covers =
+returns-in-Err-clause-moves g c start batches covers =
     let e = c.args.self.now in
-    called g.D.Disk start e.flusher c.step.new.self e.version commands c.step.result c.requires c.step.ensures.stored c.step.ensures.honest.1 c.step.ensures.moves covers
+    called g.D.Disk start e.flusher c.step.new.self e.version batches c.step.result c.requires c.step.ensures.stored c.step.ensures.honest.1 c.step.ensures.moves covers
 
 pub returns-in-Ok-Done-clause-commits : goal.returns-in-Ok-Done-clause-commits
 returns-in-Ok-Done-clause-commits g c version commits =

@@ -14,27 +14,27 @@ returns-in-Ok-clause-device g c =
     ))
 
 pub returns-in-Ok-clause-moves : goal.returns-in-Ok-clause-moves
-returns-in-Ok-clause-moves g c start commands covers =
+returns-in-Ok-clause-moves g c start batches covers =
     let e = c.args.self.now in
     let mid = c.begin.new.self in
     let idle = resting e.flusher.commit.phase (sym c.busy.ensures ∙ c.if-busy.false) (λ failed. never_both c.begin.result _ _ c.in-Ok.is (c.begin.ensures.failed failed)) in
-    begun_moves g.D.Disk start e.flusher mid c.call-in-Ok.new.self.flusher e.version commands idle c.begin.ensures.disk
+    begun_moves g.D.Disk start e.flusher mid c.call-in-Ok.new.self.flusher e.version batches idle c.begin.ensures.disk
     (record { began = c.in-Ok.ensures.begins; honest = λ honest. subst g.D.Disk.is_honest (sym c.begin.ensures.disk) honest; runs = c.in-Ok.ensures.begun; stored = c.begin.ensures.stored })
-    (c.call-in-Ok.ensures.moves start commands) covers
+    (c.call-in-Ok.ensures.moves start batches) covers
 
 pub returns-in-Err-clause-moves : goal.returns-in-Err-clause-moves
-returns-in-Err-clause-moves g c start commands covers =
+returns-in-Err-clause-moves g c start batches covers =
     let e = c.args.self.now in
-    stays g.D.Disk start e.flusher c.begin.new.self e.version commands c.in-Err.ensures.err (λ f left. g.met.D.Disk.only_now e.flusher.commit.disk f covers.honest left) covers
+    stays g.D.Disk start e.flusher c.begin.new.self e.version batches c.in-Err.ensures.err (λ f left. g.met.D.Disk.only_now e.flusher.commit.disk f covers.honest left) covers
 
 pub returns-in-Ok-clause-commits : goal.returns-in-Ok-clause-commits
-returns-in-Ok-clause-commits g c start commands covers version is =
+returns-in-Ok-clause-commits g c start batches covers version is =
     let e = c.args.self.now in
     let idle = resting e.flusher.commit.phase (sym c.busy.ensures ∙ c.if-busy.false) (λ failed. never_both c.begin.result _ _ c.in-Ok.is (c.begin.ensures.failed failed)) in
-    c.call-in-Ok.ensures.commits version (begun_commits g.D.Disk start commands e c.begin.new.self version idle c.in-Ok.ensures.begun covers is)
+    c.call-in-Ok.ensures.commits version (begun_commits g.D.Disk start batches e c.begin.new.self version idle c.in-Ok.ensures.begun covers is)
 
 pub returns-then-busy-clause-commits : goal.returns-then-busy-clause-commits
-returns-then-busy-clause-commits g c start commands covers version is =
+returns-then-busy-clause-commits g c start batches covers version is =
     c.call.ensures.commits version (busy_commits g.D.Disk c.args.self.now version (sym c.busy.ensures ∙ c.if-busy.true) is)
 
 pub returns-in-Ok-clause-blocks : goal.returns-in-Ok-clause-blocks

@@ -1,5 +1,12 @@
-use Rattle.std.proofs.Common.{rules, ◌∙◌}
+use Rattle.std.proofs.Common.{rules, List, ℕ, sym, ◌∙◌, ap, subst}
+use Rattle.extent_map.specs.Taken.{taken_of}
+use Rattle.store_terms.specs.StandsFor.{body_at}
+use Rattle.store_terms.specs.declared.root.Root.{Root}
+use Rattle.commit_plan.specs.Drafting.{IsLaidOut}
 use Rattle.commit_plan.specs.Fitting.{HasNoRoom}
+use Rattle.commit_plan.specs.Kept.{other}
+use Rattle.commit_plan.specs.Live.{standing}
+use Rattle.commit_plan.specs.declared.write.Write.{Write}
 use Rattle.root_store.specs.Beginning.{IsReason}
 use Rattle.commit_plan.specs.declared.next.Next.{Next}
 use Rattle.root_store.proofs.Reasons.{refused_so, passed_on, no_room_or_memory}
@@ -24,3 +31,13 @@ returns-clause-blocks g c limit keeps = c.start.ensures.blocks limit keeps.0 (c.
 -- found by search alone: it stands here so that a wrong body is refused without working out what to write
 pub returns-clause-begun : goal.returns-clause-begun
 returns-clause-begun g c = search rules
+
+pub returns-clause-laid : goal.returns-clause-laid
+returns-clause-laid g c =
+    let s = c.args.self.now in
+    let laid = IsLaidOut (standing s.live) (taken_of s.live.room.map) s.live.room.max_blocks c.args.image in
+    let other_one = body_at (other s.root) in
+    let next = c.in_ok-next.next in
+    let there = subst (λ (at : ℕ). laid at next.root next.plan.items) c.other_body-body.ensures c.in_ok-next.ensures.laid in
+    let after = subst (λ (plan : List Write). laid other_one next.root plan) (sym c.start.ensures.plan) there in
+    subst (λ (r : Root). laid other_one r c.start.new.self.plan.items) (sym c.start.ensures.root) after

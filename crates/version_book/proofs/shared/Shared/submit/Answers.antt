@@ -1,5 +1,6 @@
+use Rattle.std.proofs.Common.{◌∷◌, []}
 use Rattle.layer_book.specs.Command.{command}
-use Rattle.version_book.proofs.Results.{accepts, submit_goes, submit_made, submit_own, submit_err, submit_history, submit_refused}
+use Rattle.version_book.proofs.Results.{accepts, ended, submit_goes, submit_made, submit_own, submit_err, submit_history, submit_refused}
 use Rattle.version_book.proofs.shared.Shared.submit.Goals as goal
 
 pub returns : goal.returns
@@ -14,9 +15,9 @@ returns g c =
     let r = s.result in
     let e = s.ensures in
     record {
-      goes_on = submit_goes me new log after r _ _ _ _ _ c.number.ensures.begun e.ok e.seen e.err;
+      goes_on = submit_goes me new log after r _ _ _ _ _ _ (ended me new log) c.number.ensures.begun e.ok e.seen e.err;
       history = submit_history me new log after r _ _ e.seen e.made;
-      ok = accepts r me.session change log after me new _ c.number.ensures.begun e.ok e.seen;
+      ok = accepts r me.session (change ∷ []) log after me new _ c.number.ensures.begun e.ok e.seen;
       made = submit_made me new log after r _ _ _ e.made;
       own = submit_own me new log after r _ e.same.1 e.seen e.made;
       err = submit_err me new log after r _ _ e.err;

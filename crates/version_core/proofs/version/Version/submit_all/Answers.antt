@@ -1,7 +1,7 @@
 use Rattle.std.proofs.Common.{◌≡◌, None, map, ap, sym, ◌∙◌, subst}
 use Rattle.overlay_terms.specs.Commands.{AllAccepted}
-use Rattle.overlay_terms.specs.Histories.{Version}
-use Rattle.overlay_terms.specs.Batches.{applied_all, batch_refusal_at, FollowsBatch}
+use Rattle.overlay_terms.specs.Histories.{Version, FollowsBatch}
+use Rattle.overlay_terms.specs.Batches.{applied_all, batch_refusal_at}
 use Rattle.layer_book.proofs.BatchRefusals.{no_batch_reason}
 use Rattle.version_core.specs.Tiles.{finished, untouched_all}
 use Rattle.version_core.proofs.NextBatch.{next_of, next_is_version, next_follows, accepted_parts}

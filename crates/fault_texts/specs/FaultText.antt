@@ -1,7 +1,7 @@
 -- The texts of faults, as the code has them.
 use Rattle.std.specs.Prelude.{ℕ, ◌≤◌, List, ◌++◌, length, codes, decimal}
-use Rattle.script_form.specs.declared.fault_text.FaultText.{FaultText}
-use Rattle.script_form.specs.declared.fault_text.FaultText.TheVariants.{Plain, At, Ring}
+use Rattle.fault_texts.specs.declared.fault_text.FaultText.{FaultText}
+use Rattle.fault_texts.specs.declared.fault_text.FaultText.TheVariants.{Plain, At, Ring}
 
 -- the bytes of a fault's text
 abbrev pub shown : FaultText → List ℕ

@@ -1,0 +1,78 @@
+#!/usr/bin/env python3
+"""What a version does under 30 derived layers takes so long: a PUT, keeping all tiles, listing those that are pending.
+
+python3 bench/versions.py [--built PROGRAM]..
+
+Cases: a triangle of three steps, and a star of 2,048, each in the place of another; the second changes the tiles of one
+column or of all. Told is the time of a PUT with no tile built and with all 510 built, that of building and keeping a
+tile, and that of the list of pending tiles where all are there. By the program of bench/versions, which is built over
+the libraries, unproved (bench/unproved.py; minutes); --built names ones that were built before. Where several are
+given they run in turns, five times each, and the least time is taken.
+"""
+
+import argparse
+import math
+import pathlib
+import subprocess
+import tempfile
+
+import unproved
+
+HERE = pathlib.Path(__file__).resolve().parent
+CRATES = ["version_core", "wkt_form"]
+ROUNDS = 5
+REACH = 1 << 20
+
+
+def polygon(points):
+    return "POLYGON ((" + ", ".join(f"{x} {y}" for x, y in [*points, points[0]]) + "))"
+
+
+def star(steps, shrunk):
+    """A polygon of so many steps over all columns, one corner moved where it is shrunk."""
+    points = []
+    for i in range(steps):
+        turn = 2 * math.pi * i / steps
+        radius = REACH - 1 if i % 2 else REACH // 2
+        points.append((round(radius * math.cos(turn)), round(radius * math.sin(turn))))
+    if shrunk:
+        points[0] = (points[0][0] - 5, points[0][1])
+    return polygon(points)
+
+
+def cases():
+    """The text that the program reads."""
+    wide = [polygon([(-REACH, 0), (REACH, 0), (x, 99)]) for x in (0, 1)]
+    for name, times, texts in (
+        ("three-steps", 2000, wide),
+        ("2048-steps-one-corner", 50, [star(2048, False), star(2048, True)]),
+    ):
+        yield "\n".join([name, str(times), *texts]) + "\n"
+
+
+def main():
+    parser = argparse.ArgumentParser(description=__doc__, formatter_class=argparse.RawDescriptionHelpFormatter)
+    parser.add_argument("--built", action="append", default=[])
+    words = parser.parse_args()
+    with tempfile.TemporaryDirectory() as folder:
+        programs = [pathlib.Path(one).resolve() for one in words.built]
+        if not programs:
+            programs = [unproved.built(HERE / "versions", CRATES, folder)]
+        file = pathlib.Path(folder) / "cases"
+        file.write_text("".join(cases()))
+        least, seen = {}, {}
+        for _ in range(ROUNDS):
+            for at, program in enumerate(programs):
+                done = subprocess.run([program, file], stdout=subprocess.PIPE, check=True, text=True)
+                for line in done.stdout.splitlines():
+                    case, what, times, pending, taken = line.split()
+                    if seen.setdefault((case, what), pending) != pending:
+                        raise SystemExit(f"{case} {what}: {pending} and {seen[case, what]} tiles pending")
+                    each = int(taken) / int(times)
+                    least[at, case, what] = min(each, least.get((at, case, what), each))
+        for (case, what), pending in seen.items():
+            rows = [f"{least[at, case, what]:.2f} us" for at in range(len(programs))]
+            print(f"{case} {what}: {', '.join(rows)} ({pending} pending)")
+
+
+main()

@@ -1,0 +1,71 @@
+//! Files that are no store, or that a part is cut off.
+use crate::testing::{SQUARE, Words, created, drive, joined};
+use commit_plan::fault::StoreFault;
+use disk_model::mem_disk::{Call, MemDisk};
+use overlay_engine::engine::Engine;
+use root_store::open_fault::OpenFault;
+use std::alloc::Global;
+use std::test::Fail;
+use store_terms::damage::Damage;
+
+/// A layer, and as many device calls as its commit makes.
+const COMMIT: &[&[Words]] = &[&[Words::Put("A", SQUARE)], &[Words::Device; 8]];
+
+/// So many bytes of the front of a store that holds a layer, why they are not recovered, and the number of that fault.
+const FRONTS: [(usize, Damage, u8); 3] = [
+    (0, Damage::NotAStore, 32),
+    (8191, Damage::NotAStore, 32),
+    // The catalog lies in the block behind.
+    (16384, Damage::CatalogPlace, 33),
+];
+
+/// The file of a store that holds a layer.
+fn stored(alloc: Global) -> Result<Vec<u8>, Fail> {
+    let mut engine = created(alloc, 100)?;
+    let steps = joined(alloc, COMMIT)?;
+    drive(alloc, &mut engine, &steps)?;
+    Ok(engine.into_disk().bytes().to_vec(alloc)?)
+}
+
+/// The fault, where nothing was written.
+fn told(refused: &OpenFault<MemDisk>) -> Result<StoreFault, Fail> {
+    for call in refused.disk.calls() {
+        if matches!(call, Call::Write(_, _)) {
+            return Err(Fail::new("written"));
+        }
+    }
+    Ok(refused.fault)
+}
+
+/// Why a file is not recovered.
+fn refusal(alloc: Global, file: &[u8]) -> Result<StoreFault, Fail> {
+    match Engine::recover(alloc, MemDisk::new(alloc, file.to_vec(alloc)?)?, 100) {
+        Ok(_) => Err(Fail::new("recovered")),
+        Err(refused) => told(&refused),
+    }
+}
+
+#[test]
+fn a_file_that_is_empty_or_cut_is_not_recovered(rt: HostRuntime) -> Result<(), Fail> {
+    let file = stored(rt.alloc())?;
+    for &(length, damage, code) in &FRONTS {
+        let front = file.get(0..length).unwrap_or(&[]);
+        let fault = refusal(rt.alloc(), front)?;
+        assert!(rt; fault == StoreFault::Damaged(damage));
+        assert_eq!(rt; fault.code(), code);
+    }
+    Ok(())
+}
+
+#[test]
+fn a_file_of_one_byte_is_made_no_store(rt: HostRuntime) -> Result<(), Fail> {
+    let disk = MemDisk::new(rt.alloc(), vec![in rt.alloc(); 0; 1]?)?;
+    match Engine::create(rt.alloc(), disk, 100) {
+        Ok(_) => Err(Fail::new("made")),
+        Err(refused) => {
+            assert_eq!(rt; told(&refused)?.code(), 34);
+            assert_eq!(rt; refused.disk.bytes().len(), 1);
+            Ok(())
+        }
+    }
+}

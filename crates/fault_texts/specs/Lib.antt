@@ -1,0 +1,2 @@
+pub mod CommonFault
+pub mod FaultText

@@ -1,0 +1,164 @@
+-- Marked segments, compared with those of one base layer after another.
+use Rattle.std.proofs.Common.{◌≡◌, ℕ, zero, suc, ◌+◌, ◌<◌, ◌≤◌, ◌==◌, Bool, true, false, cond, ◌&&◌, List, [], ◌∷◌, ◌++◌, length, map, filter, drop, get_or, nat_le, slice_get, Option, Some, None, refl, ap, sym, ◌∙◌, subst, arith, add-one, leb-false, if◌then◌else◌, IsTrue}
+use borrow.Author.Tests.{leb-true}
+use Rattle.std.specs.Prelude.{◌↔◌}
+use Rattle.std.specs.Cmp.Lexicographic.{pointwise}
+use Rattle.std.proofs.lemmas.Bool.Decides.{Decides-eqb}
+use Rattle.overlay_terms.specs.Plane.{WholePoint, Segment, segments_of}
+use Rattle.overlay_terms.specs.Column.{touches}
+use Rattle.overlay_terms.specs.Layers.{Name, Content, base, derived, Layer, Marked, layers_in_reach, steps_in_reach}
+use Rattle.overlay_terms.specs.Tiles.{Input, input_of}
+use Rattle.overlay_terms.specs.SameInput.{same_marked, same_steps, same_input, same_input-Decides}
+use Rattle.arrange.specs.declared.marked_seg.MarkedSeg.{MarkedSeg}
+use Rattle.arrange.specs.Marked.{marked_of}
+use Rattle.layer_book.specs.Having.{marks_in, past}
+use Rattle.layer_book.specs.Question.{at_index, marked_layers}
+use Rattle.layer_book.specs.Touching.{marked_in}
+use Rattle.layer_book.proofs.MarkedLayers.{rings_of}
+use Rattle.layer_book.proofs.SameMarks.{mark, marked_from, first_and_rest, drop_there, next_kept, next_skipped, none_left}
+
+-- whether what is left of marked segments is the rest of the expected ones
+abbrev tells : Option (List Marked) → List Marked → Bool
+tells None rest = false
+tells (Some left) rest = pointwise same_marked left rest
+
+-- expected segments are compared apart from those behind them
+past_tells : (expected marked rest : List Marked) → pointwise same_marked marked (expected ++ rest) ≡ tells (past expected marked) rest
+past_tells [] marked rest = refl
+past_tells (e ∷ expected) [] rest = refl
+past_tells (e ∷ expected) (m ∷ marked) rest = split (same_marked m e) (past_tells expected marked rest) where
+  split : (b : Bool) → pointwise same_marked marked (expected ++ rest) ≡ tells (past expected marked) rest → (b && pointwise same_marked marked (expected ++ rest)) ≡ tells (if b then past expected marked else None) rest
+  split true e = e
+  split false e = refl
+
+-- segments of a base layer in a column, and marked segments: what is left of both
+module _ (column number : ℕ) (segs : List Segment) (marked : List MarkedSeg) (whole : Option (List Marked)) (i next : ℕ) (told : whole ≡ past (marks_in column number (drop i segs)) (map marked_of (drop next marked))) where
+  pub past_skipped : (s : Segment) → i < length segs → s ≡ get_or segs i s → touches column s ≡ false
+      → whole ≡ past (marks_in column number (drop (i + 1) segs)) (map marked_of (drop next marked))
+  past_skipped s h e t = told ∙ ap (λ ss. past (map (mark number) ss) (map marked_of (drop next marked))) (next_skipped column segs i s h e t)
+
+  expected : (s : Segment) → i < length segs → s ≡ get_or segs i s → touches column s ≡ true
+      → whole ≡ past (mark number s ∷ marks_in column number (drop (i + 1) segs)) (map marked_of (drop next marked))
+  expected s h e t = told ∙ ap (λ ss. past (map (mark number) ss) (map marked_of (drop next marked))) (next_kept column segs i s h e t)
+
+  both : (s : Segment) (m : MarkedSeg) (r : Bool) → i < length segs → s ≡ get_or segs i s → touches column s ≡ true → next < length marked
+      → m ≡ get_or marked next m → r ≡ same_marked (marked_of m) (mark number s)
+      → whole ≡ (if r then past (marks_in column number (drop (i + 1) segs)) (map marked_of (drop (next + 1) marked)) else None)
+  both s m r h e t k f is =
+      expected s h e t ∙ ap (λ ms. past (mark number s ∷ marks_in column number (drop (i + 1) segs)) (map marked_of ms)) (drop_there marked next m k f)
+      ∙ ap (λ b. if b then past (marks_in column number (drop (i + 1) segs)) (map marked_of (drop (next + 1) marked)) else None) (sym is)
+
+  pub past_more : (s : Segment) (m : MarkedSeg) (r : Bool) → i < length segs → s ≡ get_or segs i s → touches column s ≡ true → next < length marked
+      → m ≡ get_or marked next m → r ≡ same_marked (marked_of m) (mark number s) → r ≡ true
+      → whole ≡ past (marks_in column number (drop (i + 1) segs)) (map marked_of (drop (next + 1) marked))
+  past_more s m r h e t k f is holds =
+      both s m r h e t k f is ∙ ap (λ b. if b then past (marks_in column number (drop (i + 1) segs)) (map marked_of (drop (next + 1) marked)) else None) holds
+
+  pub past_other : (s : Segment) (m : MarkedSeg) (r : Bool) → i < length segs → s ≡ get_or segs i s → touches column s ≡ true → next < length marked
+      → m ≡ get_or marked next m → r ≡ same_marked (marked_of m) (mark number s) → r ≡ false → None ≡ whole
+  past_other s m r h e t k f is fails =
+      sym (both s m r h e t k f is ∙ ap (λ b. if b then past (marks_in column number (drop (i + 1) segs)) (map marked_of (drop (next + 1) marked)) else None) fails)
+
+  pub past_short : (s : Segment) → i < length segs → s ≡ get_or segs i s → touches column s ≡ true → length marked ≤ next → None ≡ whole
+  past_short s h e t k =
+      sym (expected s h e t ∙ ap (λ ms. past (mark number s ∷ marks_in column number (drop (i + 1) segs)) (map marked_of ms)) (none_left marked next k))
+
+  pub past_all : length segs ≤ i → Some (map marked_of (drop next marked)) ≡ whole
+  past_all h = sym (told ∙ ap (λ ss. past (marks_in column number ss) (map marked_of (drop next marked))) (none_left segs i h))
+
+-- the wanted layers from an index on
+marked_drop : (ws : List Bool) (layers : List Layer) (i : ℕ) (layer : Layer) → slice_get layers i ≡ Some layer
+    → marked_layers (drop i ws) (drop i layers) ≡ cond (at_index ws i) (layer ∷ marked_layers (drop (suc i) ws) (drop (suc i) layers)) (marked_layers (drop (suc i) ws) (drop (suc i) layers))
+marked_drop [] layers zero layer e = refl
+marked_drop [] layers (suc i) layer e = refl
+marked_drop (w ∷ ws) [] i layer e = cc
+marked_drop (w ∷ ws) (l ∷ layers) zero layer e =
+    let same : l ≡ layer = cc in
+    ap (λ (m : Layer). cond w (m ∷ marked_layers ws layers) (marked_layers ws layers)) same
+marked_drop (w ∷ ws) (l ∷ layers) (suc i) layer e = marked_drop ws layers i layer e
+
+-- the wanted layers from an index on, by what is wanted there
+abbrev pub from_index : List Bool → List Layer → ℕ → List Layer
+from_index ws layers i = marked_layers (drop i ws) (drop i layers)
+
+marked_here : (ws : List Bool) (layers : List Layer) (i : ℕ) (layer : Layer) (b : Bool) → slice_get layers i ≡ Some layer → at_index ws i ≡ b
+    → from_index ws layers i ≡ cond b (layer ∷ from_index ws layers (i + 1)) (from_index ws layers (i + 1))
+marked_here ws layers i layer b e w =
+    marked_drop ws layers i layer e
+    ∙ (λ k. cond (w k) (layer ∷ from_index ws layers (sym (add-one i) k)) (from_index ws layers (sym (add-one i) k)))
+
+-- base layers and marked segments: what is left of both
+module _ (column : ℕ) (ws : List Bool) (layers : List Layer) (marked : List MarkedSeg) (whole : Bool) (i number next : ℕ) (told : whole ≡ pointwise same_marked (map marked_of (drop next marked)) (marked_from column number (rings_of (from_index ws layers i)))) where
+  pub unwanted_passed : (layer : Layer) → slice_get layers i ≡ Some layer → at_index ws i ≡ false
+      → whole ≡ pointwise same_marked (map marked_of (drop next marked)) (marked_from column number (rings_of (from_index ws layers (i + 1))))
+  unwanted_passed layer e w =
+      told ∙ ap (λ ls. pointwise same_marked (map marked_of (drop next marked)) (marked_from column number (rings_of ls))) (marked_here ws layers i layer false e w)
+
+  wanted : (layer : Layer) → slice_get layers i ≡ Some layer → at_index ws i ≡ true
+      → whole ≡ pointwise same_marked (map marked_of (drop next marked)) (marked_from column number (rings_of (layer ∷ from_index ws layers (i + 1))))
+  wanted layer e w =
+      told ∙ ap (λ ls. pointwise same_marked (map marked_of (drop next marked)) (marked_from column number (rings_of ls))) (marked_here ws layers i layer true e w)
+
+  pub derived_passed : (layer : Layer) (expression : _) → slice_get layers i ≡ Some layer → at_index ws i ≡ true → layer.content ≡ derived expression
+      → whole ≡ pointwise same_marked (map marked_of (drop next marked)) (marked_from column number (rings_of (from_index ws layers (i + 1))))
+  derived_passed layer expression e w is =
+      wanted layer e w
+      ∙ ap (λ c. pointwise same_marked (map marked_of (drop next marked)) (marked_from column number (rings_of (record { name = layer.name; content = c } ∷ from_index ws layers (i + 1))))) is
+
+  base_told : (layer : Layer) (rings : List (List WholePoint)) → slice_get layers i ≡ Some layer → at_index ws i ≡ true → layer.content ≡ base rings
+      → whole ≡ tells (past (marks_in column number (segments_of rings)) (map marked_of (drop next marked))) (marked_from column (number + 1) (rings_of (from_index ws layers (i + 1))))
+  base_told layer rings e w is =
+      wanted layer e w
+      ∙ ap (λ c. pointwise same_marked (map marked_of (drop next marked)) (marked_from column number (rings_of (record { name = layer.name; content = c } ∷ from_index ws layers (i + 1))))) is
+      ∙ ap (pointwise same_marked (map marked_of (drop next marked))) (first_and_rest column number rings (rings_of (from_index ws layers (i + 1))))
+      ∙ past_tells (marks_in column number (segments_of rings)) (map marked_of (drop next marked)) (marked_from column (number + 1) (rings_of (from_index ws layers (i + 1))))
+
+  pub base_passed : (layer : Layer) (rings : List (List WholePoint)) (end : ℕ) → slice_get layers i ≡ Some layer → at_index ws i ≡ true → layer.content ≡ base rings
+      → Some (map marked_of (drop end marked)) ≡ past (marks_in column number (segments_of rings)) (map marked_of (drop next marked))
+      → whole ≡ pointwise same_marked (map marked_of (drop end marked)) (marked_from column (number + 1) (rings_of (from_index ws layers (i + 1))))
+  base_passed layer rings end e w is there =
+      base_told layer rings e w is ∙ ap (λ o. tells o (marked_from column (number + 1) (rings_of (from_index ws layers (i + 1))))) (sym there)
+
+  pub base_other : (layer : Layer) (rings : List (List WholePoint)) → slice_get layers i ≡ Some layer → at_index ws i ≡ true → layer.content ≡ base rings
+      → None ≡ past (marks_in column number (segments_of rings)) (map marked_of (drop next marked)) → false ≡ whole
+  base_other layer rings e w is none =
+      sym (base_told layer rings e w is ∙ ap (λ o. tells o (marked_from column (number + 1) (rings_of (from_index ws layers (i + 1))))) (sym none))
+
+  pub all_passed : length layers ≤ i → nat_le (length marked) next ≡ whole
+  all_passed h = split (nat_le (length marked) next) refl where
+    none_wanted : (vs : List Bool) → marked_layers vs [] ≡ []
+    none_wanted [] = refl
+    none_wanted (v ∷ vs) = refl
+
+    ended : whole ≡ pointwise same_marked (map marked_of (drop next marked)) []
+    ended =
+        told ∙ ap (λ ls. pointwise same_marked (map marked_of (drop next marked)) (marked_from column number (rings_of ls)))
+        (ap (marked_layers (drop i ws)) (none_left layers i h) ∙ none_wanted (drop i ws))
+
+    more : (ms : List MarkedSeg) (k : ℕ) → k < length ms → pointwise same_marked (map marked_of (drop k ms)) [] ≡ false
+    more [] k h = absurd (omega arith)
+    more (m ∷ ms) zero h = refl
+    more (m ∷ ms) (suc k) h = more ms k (omega arith)
+
+    split : (b : Bool) → nat_le (length marked) next ≡ b → b ≡ whole
+    split true e = sym (ended ∙ ap (λ ms. pointwise same_marked (map marked_of ms) []) (none_left marked next (leb-true (length marked) next e)))
+    split false e = sym (ended ∙ more marked next (leb-false (length marked) next e))
+
+-- an input is the present one of its column where its parts are
+pub present_told : (layers : List Layer) (name : Name) (input : Input) (s m : Bool) → s ≡ same_steps input.steps (steps_in_reach layers name)
+    → m ≡ pointwise same_marked input.marked (marked_in input.column (rings_of (layers_in_reach layers name))) → IsTrue (s && m) ↔ (input ≡ input_of layers name input.column)
+present_told layers name input s m steps marks = (
+  λ h. (same_input-Decides input present).0 (sym same ∙ h),
+  λ e. same ∙ (same_input-Decides input present).1 e,
+) where
+  present : Input
+  present = input_of layers name input.column
+
+  turned : (a b : Bool) → (a && b) ≡ ((true && b) && a)
+  turned true true = refl
+  turned true false = refl
+  turned false true = refl
+  turned false false = refl
+
+  same : (s && m) ≡ same_input input present
+  same = turned s m ∙ (λ k. (sym ((Decides-eqb input.column input.column).1 refl) k && marks k) && steps k)

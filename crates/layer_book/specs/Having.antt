@@ -1,0 +1,16 @@
+-- Marked segments compared with those that base layers have in a column.
+use Rattle.std.specs.Prelude.{ℕ, List, [], ◌∷◌, map, filter, Option, Some, None, if◌then◌else◌}
+use Rattle.overlay_terms.specs.Plane.{Segment}
+use Rattle.overlay_terms.specs.Column.{touches}
+use Rattle.overlay_terms.specs.Layers.{Marked}
+use Rattle.overlay_terms.specs.SameInput.{same_marked}
+
+-- the segments that have a point in a column, each with the number of its base layer
+abbrev pub marks_in : ℕ → ℕ → List Segment → List Marked
+marks_in column number segs = map (λ s. record { layer = number; segment = s }) (filter (touches column) segs)
+
+-- what of marked segments is behind the expected ones; none where they do not begin with these
+abbrev pub past : List Marked → List Marked → Option (List Marked)
+past [] marked = Some marked
+past (e ∷ expected) [] = None
+past (e ∷ expected) (m ∷ marked) = if same_marked m e then past expected marked else None

@@ -1,0 +1,50 @@
+//! The answer to the lines of a batch.
+ghost use Rattle.std.specs.Prelude.{◌≡◌};
+ghost use Rattle.script_form.specs.LineReply.{reply_text};
+ghost use Rattle.server_session.specs.Answering.{AnswersAll, SubmitsAll};
+
+use crate::fault::numbered;
+use layer_book::batch::Batch;
+use layer_book::batch_fault::BatchFault;
+use script_form::{CommandFault, LineReply, LinesFault};
+use std::alloc::Global;
+use std::sync::Wait;
+use version_book::seen_log::Naming;
+use version_book::session::Session;
+use version_book::shared::Shared;
+
+/// The reply to the lines of a batch, by what they were read as.
+pub(crate) fn answer_batch<J: Naming, S: Wait + Drop, Q: Wait>(
+    rt: &Q,
+    alloc: Global,
+    shared: &Shared<J, S>,
+    me: &mut Session,
+    read: Result<Batch, LinesFault>,
+) -> LineReply
+    requires { me.old.book ≡ J.book }
+    ensures { AnswersAll me.old read.entry me.new (reply_text result) }
+{
+    match read {
+        Ok(batch) => submit_all(rt, alloc, shared, me, &batch),
+        Err(LinesFault::Unread(place, fault)) => LineReply::RefusedAt(place, fault),
+        Err(LinesFault::OutOfMemory) => LineReply::Fault(CommandFault::OutOfMemory),
+    }
+}
+
+/// The reply to a batch.
+fn submit_all<J: Naming, S: Wait + Drop, Q: Wait>(
+    rt: &Q,
+    alloc: Global,
+    shared: &Shared<J, S>,
+    me: &mut Session,
+    batch: &Batch,
+) -> LineReply
+    requires { me.old.book ≡ J.book }
+    ensures { SubmitsAll me.old batch.now me.new (reply_text result) }
+{
+    match shared.submit_all(rt, alloc, me, batch) {
+        Ok(number) => LineReply::Accepted(number),
+        Err(BatchFault::At(place, code)) => LineReply::RefusedAt(place, numbered(code)),
+        Err(BatchFault::Whole(code)) => LineReply::Fault(numbered(code)),
+    }
+}
