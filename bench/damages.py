@@ -9,13 +9,13 @@ disk has to come back, and what it may hold then (as it is seen; the bytes that 
 new, or all 0x00, 0x55 or 0xA7) has to be recovered as the old or the new content, from within `create` also as no
 store.
 
-Then files are altered, here, and recovered by the program: a store cut to every length; named alterations with the
-code that each has to give; and each byte of its slots, catalog and records set to 0x00 and to 0xFF (but where it
-is so already: these are counted apart), and each of their bits turned: the answer has to be a version, 32 or 33, and
-each finished tile's VERIFY has to return. Each answer is compared with that of bench/read_store.py too, which reads the
-file by itself: the version's number, the layers, and the edges of all finished tiles, or the refusal. At last sessions whose reader fails
-behind each byte of a script, whose writer fails at each write, and whose script has one byte too many. Ends with
-status 1 where anything is wrong.
+Then files are altered, here, and recovered by the program: a store cut to every length; named alterations with the code
+that each has to give; and each byte of its slots, catalog and records set to 0x00 and to 0xFF (but where it is so
+already: these are counted apart), and each of their bits turned: the answer has to be a version, 32 or 33, and each
+finished tile's VERIFY has to return. Each answer is compared with that of bench/read_store.py too, which reads the file
+by itself: the version's number, the layers, and the edges of all finished tiles, or the refusal. At last sessions whose
+reader fails behind each byte of a script, whose writer fails at each write, and whose script has one byte too many.
+Ends with status 1 where anything is wrong.
 """
 
 import collections
@@ -179,8 +179,8 @@ def each_byte(program, folder, name, data, changed):
             print(f"    {changes}: {answer}, by itself {read_by_itself(apply(data, len(data), changes))}")
             wrong += 1
     same, different, refused = tiles
-    print(f"{name}: bytes {len(offsets)}, so already {same_bytes}, cases {len(cases)}: {shown(counts)}; VERIFY same {same}, "
-          f"different {different}, refused {refused}; wrong {wrong}")
+    print(f"{name}: bytes {len(offsets)}, so already {same_bytes}, cases {len(cases)}: {shown(counts)}; "
+          f"VERIFY same {same}, different {different}, refused {refused}; wrong {wrong}")
     return wrong
 
 

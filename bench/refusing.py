@@ -212,8 +212,8 @@ def cut(judged):
 
 
 def check_cut(outcome, judged, fault):
-    """Looks at what one refused growth may cut off: a session that had no memory to begin, which has no reply then (40),
-    or none for a reply (49). A single session that has read a line has replies but for 49.
+    """Looks at what one refused growth may cut off: a session that had no memory to begin, which has no reply then
+    (40), or none for a reply (49). A single session that has read a line has replies but for 49.
     """
     sessions = cut(judged)
     if len(sessions) > 1:
@@ -294,8 +294,9 @@ def history_alone(scenario):
 
 
 def check_lost(outcome, made):
-    """Looks whether the first session may have made so many versions, of which no reply was printed: where the thread of
-    the next was refused; or, where it was the only one, the version of its first line, for whose reply it had no memory.
+    """Looks whether the first session may have made so many versions, of which no reply was printed: where the thread
+    of the next was refused; or, where it was the only one, the version of its first line, for whose reply it had no
+    memory.
     """
     is_write = outcome.fault.startswith("error 49 ")
     if outcome.sessions > 1 and not outcome.fault.startswith("error 40 ") or outcome.sessions == 1 and not is_write:
