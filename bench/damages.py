@@ -9,12 +9,13 @@ disk has to come back, and what it may hold then (as it is seen; the bytes that 
 new, or all 0x00, 0x55 or 0xA7) has to be recovered as the old or the new content, from within `create` also as no
 store.
 
-Then files are altered, here, and recovered by the program: a store cut to every length; named alterations with the
-code that each has to give; and each byte of its slots, catalog and records set to 0x00 and to 0xFF, and each of their
-bits turned: the answer has to be a version, 32 or 33, and each finished tile's VERIFY has to return. Each answer is
-compared with that of bench/read_store.py too, which reads the file by itself. At last sessions whose reader fails
-behind each byte of a script, whose writer fails at each write, and whose script has one byte too many. Ends with
-status 1 where anything is wrong.
+Then files are altered, here, and recovered by the program: a store cut to every length; named alterations with the code
+that each has to give; and each byte of its slots, catalog and records set to 0x00 and to 0xFF (but where it is so
+already: these are counted apart), and each of their bits turned: the answer has to be a version, 32 or 33, and each
+finished tile's VERIFY has to return. Each answer is compared with that of bench/read_store.py too, which reads the file
+by itself: the version's number, the layers, and the edges of all finished tiles, or the refusal. At last sessions whose
+reader fails behind each byte of a script, whose writer fails at each write, and whose script has one byte too many.
+Ends with status 1 where anything is wrong.
 """
 
 import collections
@@ -24,7 +25,9 @@ import subprocess
 import sys
 import tempfile
 
+import model
 import read_store
+import stress
 import unproved
 
 HERE = pathlib.Path(__file__).resolve().parent
@@ -68,16 +71,25 @@ def apply(data, length, changes):
 
 
 def read_by_itself(data):
-    """The answer of the reader that stands by itself: `32`, `33 CODE` or `version N`."""
-    return read_store.told(data)[0]
+    """The answer of the reader that stands by itself: `32`, `33 CODE` or `version N`, and what the version has."""
+    answer, *lines = read_store.told(data)
+    if not answer.startswith("version"):
+        return answer, None
+    layers = [line[len("layer ") :] for line in lines if line.startswith("layer ")]
+    names = [line.split()[0] for line in layers]
+    content = [f"layers {len(layers)}", *layers]
+    for (name, column), pieces in stress.tiles_in(data).items():
+        content.append(f"tile {column} of layer {names.index(name)}")
+        content += ["oversize"] if pieces is None else model.edge_lines(pieces)
+    return answer, "".join(line + ";" for line in content)
 
 
 def plain(answer):
-    """An answer of the program in the same words, and its counts of tiles where it is a version."""
-    words = answer.split()
+    """An answer of the program in the same words, with what the version has, and its counts of tiles."""
+    words = answer.split(" ", 5)
     if words[0] == "version":
-        return " ".join(words[:2]), [int(word) for word in words[2:]]
-    return ("33 " + words[1], None) if words[0] == "damaged" else (CODES.get(answer, answer), None)
+        return (" ".join(words[:2]), words[5]), [int(word) for word in words[2:5]]
+    return ("33 " + words[1] if words[0] == "damaged" else CODES.get(answer, answer), None), None
 
 
 def answers(program, folder, data, cases):
@@ -98,8 +110,8 @@ def cuts(program, folder, one):
     counts, wrong = collections.Counter(), 0
     for (length, _), answer in zip(cases, answers(program, folder, one, cases)):
         told, _ = plain(answer)
-        counts[told] += 1
-        if told != ("32" if length < 2 * BLOCK else "33 3") or told != read_by_itself(one[:length]):
+        counts[told[0]] += 1
+        if told[0] != ("32" if length < 2 * BLOCK else "33 3") or told != read_by_itself(one[:length]):
             print(f"    cut to {length}: {answer}")
             wrong += 1
     print(f"cut to every length below {len(one)}: {shown(counts)}, wrong {wrong}")
@@ -139,7 +151,7 @@ def alterations(program, folder, files):
     for name, data, changes, wanted in cases:
         told, _ = plain(answers(program, folder, data, [(len(data), changes)])[0])
         alone = read_by_itself(apply(data, len(data), changes))
-        if told != wanted or alone != wanted:
+        if told[0] != wanted or alone != told:
             print(f"    {name}: {told}, by itself {alone}, wanted {wanted}")
             wrong += 1
     print(f"named alterations {len(cases)}, wrong {wrong}")
@@ -155,19 +167,20 @@ def offsets_of(data):
 def each_byte(program, folder, name, data, changed):
     """Each byte of both slots, the catalog and the records changed."""
     offsets = offsets_of(data)
-    cases = [(len(data), [(at, byte)]) for at in offsets for byte in changed(data[at])]
+    cases = [(len(data), [(at, byte)]) for at in offsets for byte in changed(data[at]) if byte != data[at]]
+    same_bytes = sum(byte == data[at] for at in offsets for byte in changed(data[at]))
     counts, tiles, wrong = collections.Counter(), [0, 0, 0], 0
     for (_, changes), answer in zip(cases, answers(program, folder, data, cases)):
         told, verified = plain(answer)
         is_right = told == read_by_itself(apply(data, len(data), changes))
-        counts["a version" if verified else told] += 1
+        counts["a version" if verified else told[0]] += 1
         tiles = [one + other for one, other in zip(tiles, verified or [0, 0, 0])]
         if not is_right or verified and verified[2]:
             print(f"    {changes}: {answer}, by itself {read_by_itself(apply(data, len(data), changes))}")
             wrong += 1
     same, different, refused = tiles
-    print(f"{name}: bytes {len(offsets)}, cases {len(cases)}: {shown(counts)}; VERIFY same {same}, "
-          f"different {different}, refused {refused}; wrong {wrong}")
+    print(f"{name}: bytes {len(offsets)}, so already {same_bytes}, cases {len(cases)}: {shown(counts)}; "
+          f"VERIFY same {same}, different {different}, refused {refused}; wrong {wrong}")
     return wrong
 
 

@@ -11,8 +11,9 @@ sync that fails loses what was written since the last good one, wholly, or half 
 loses nothing. So a program that goes on behind a sync that failed leaves an older file than it tells. Two runs: two
 scripts over a new store, and one over a store that is opened, of which the older root's gate is half open, so that
 opening it writes. Each has to end by itself with status 0 or 1; its replies have to be those of the model, but that
-each SYNC of a session may tell 30 from one on, once a call has failed; standard error has the one line of 30 where the
-status is 1. The store that it leaves has to hold a version of the history, no older than what was told durable, the
+each SYNC of a session may tell 30 from one on, once a call has failed; none may lack, but all do where a call failed
+before the store was open (so many calls as runs with empty scripts make); standard error has the one line of 30 where
+the status is 1. The store that it leaves has to hold a version of the history, no older than what was told durable, the
 last one where the status is 0, with right tiles, and be opened by the program. Prints a table and, at last, how many of
 its lines are right; ends with status 1 where one is not.
 """
@@ -36,6 +37,7 @@ def fail(words, folder):
     print(refusing.HEAD)
     for scenario in (refusing.CREATED, refusing.OPENED):
         runner = refusing.Runner(words.program, scenario, library, folder, words.seconds)
+        runner.count_early("FAIL")
         plain = [runner.run({}, "FAIL") for _ in range(3)]
         faults = [fault for fault in (refusing.judge(runner, outcome, refusing.device) for outcome in plain) if fault]
         calls = max(outcome.counts[0] for outcome in plain)

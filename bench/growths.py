@@ -8,13 +8,15 @@ The program is made to load bench/growths.c, which counts its calls for memory a
 a number. Three runs: one script of all commands in memory, two scripts over a new store, and one over a store that is
 opened. Each has to end by itself with status 0 or 1; its replies have to be those of the model, but that a growth that
 was refused may be told once: as 40 by one line, or by each SYNC until the next accepted command, or as the one line of
-standard error, with status 1. The store that it leaves has to hold a version of the history, no older than what was
-told durable, with right tiles, and be opened by the program. The runs end when 20 in a row met no refusal. --step N
-refuses only each Nth growth in turn, and ends 20 behind the most of three plain runs, whatever the last runs met.
---every also tries each growth refused together with every second, third and hundredth behind it: there 40 may be told
-any number of times, and a run may be without end, as what asks again for memory is refused again and again, and is
-ended then and counted. Prints a table and, at last, how many of its lines are right; ends with status 1 where one is
-not. Threads draw their order anew in each run, so two tables may differ.
+standard error, with status 1. One session may be cut off then: where it had no memory for a reply (49), or none to
+begin (40), so that it has no reply. No replies at all are right where a thread was refused; of one script only where
+the growth was one of so many as a run with an empty script makes. The store that it leaves has to hold a version of the
+history, no older than what was told durable, with right tiles, and be opened by the program. The runs end when 20 in a
+row met no refusal. --step N refuses only each Nth growth in turn, and ends 20 behind the most of three plain runs,
+whatever the last runs met. --every also tries each growth refused together with every second, third and hundredth
+behind it: there 40 may be told any number of times, and a run may be without end, as what asks again for memory is
+refused again and again, and is ended then and counted. Prints a table and, at last, how many of its lines are right;
+ends with status 1 where one is not. Threads draw their order anew in each run, so two tables may differ.
 
 A program that takes its memory by calls that can't be counted so (built static, or with an allocator of its own) is
 told as such. The stacks of threads, which the C library takes from the system, stand for one growth a thread.
@@ -54,6 +56,7 @@ def refuse(words, folder):
     print(refusing.HEAD)
     for scenario in (refusing.MEMORY, refusing.CREATED, refusing.OPENED):
         runner = refusing.Runner(words.program, scenario, library, folder, words.seconds)
+        runner.count_early("REFUSE")
         plain = [runner.run({}, "REFUSE") for _ in range(3)]
         faults = [fault for fault in (refusing.judge(runner, outcome, one_growth) for outcome in plain) if fault]
         calls = max(outcome.counts[0] for outcome in plain)

@@ -606,7 +606,12 @@ class Meanings:
         pieces = self.tile(key, column)
         if pieces is None:
             raise Refused(22)
-        return [f"edges {len(pieces)}"] + [" ".join(f"{x} {y} {w}" for x, y, w in map(whole, p)) for p in pieces]
+        return edge_lines(pieces)
+
+
+def edge_lines(pieces):
+    """The lines of a reply to EDGES, of a tile's pieces."""
+    return [f"edges {len(pieces)}"] + [" ".join(f"{x} {y} {w}" for x, y, w in map(whole, p)) for p in pieces]
 
 
 def keys_in(tree):

@@ -56,13 +56,11 @@ class Scenario:
         script = "\n".join(self.before + ["WAIT I", "SYNC"]).encode()
         words = [program, "--store", str(path), "--create"]
         subprocess.run(words, input=script, stdout=subprocess.DEVNULL, check=True, timeout=60)
-        data = bytearray(path.read_bytes())
+        data = stress.half_opened(path.read_bytes())
         path.unlink()
-        data[read_store.BLOCK * ((read_store.find_root(data).sequence + 1) % 2)] = HALF_OPEN
-        return bytes(data)
+        return data
 
 
-HALF_OPEN = 0x55
 MEMORY = Scenario("one script in memory", [WORDS], 1, None)
 CREATED = Scenario("two scripts, a new store", [FIRST, SECOND], 2)
 OPENED = Scenario("one script, a store opened", [AFTER], 2, BEFORE)
@@ -80,12 +78,14 @@ def compiled(name, folder):
 class Outcome:
     """What a run left."""
 
-    def __init__(self, status, output, fault, store, counts):
+    def __init__(self, sessions, status, output, fault, store, counts, is_early):
+        self.sessions = sessions
         self.status = status  # None where it did not end by itself
         self.output = output
         self.fault = fault
         self.store = store
         self.counts = counts
+        self.is_early = is_early  # whether it was refused something before a session read a line
         self.is_lost = False
 
 
@@ -103,6 +103,15 @@ class Runner:
         for place, script in enumerate(scenario.scripts):
             self.paths.append(folder / f"script{place + 1}.txt")
             self.paths[-1].write_bytes(script)
+        self.early = 0
+
+    def count_early(self, prefix):
+        """Counts the calls of runs whose scripts are empty: at most these are made before a session reads a line."""
+        paths, empty = self.paths, self.folder / "empty.txt"
+        empty.write_bytes(b"")
+        self.paths = [empty] * len(paths)
+        self.early = max(self.run({}, prefix).counts[0] for _ in range(3))
+        self.paths = paths
 
     def words(self, store):
         words = [self.program, "--workers", str(self.scenario.workers)]
@@ -133,7 +142,9 @@ class Runner:
             numbers = counts.read_bytes() if counts.exists() else b""
             counted = tuple(int.from_bytes(numbers[at : at + 8], "little") for at in (0, 8))
             data = store.read_bytes() if store.exists() else None
-            return Outcome(status, output.decode(errors="replace"), fault.decode(errors="replace"), data, counted)
+            texts = output.decode(errors="replace"), fault.decode(errors="replace")
+            is_early = settings.get("FIRST", 0) <= self.early
+            return Outcome(len(self.paths), status, *texts, data, counted, is_early)
 
     def reopened(self, data):
         """What the program tells of the store that a run left, with nothing refused: its layers and its version."""
@@ -195,9 +206,24 @@ def only(codes, allowed):
         raise judging.Wrong(f"{sorted(codes)} are told, {sorted(allowed)} may be")
 
 
-def are_cut(judged):
-    """Whether a session ended before all its lines were answered."""
-    return any(len(session.replies) < len(session.asked) for session in judged.sessions)
+def cut(judged):
+    """The sessions that ended before all their lines were answered."""
+    return [session for session in judged.sessions if len(session.replies) < len(session.asked)] if judged else []
+
+
+def check_cut(outcome, judged, fault):
+    """Looks at what one refused growth may cut off: a session that had no memory to begin, which has no reply then
+    (40), or none for a reply (49). A single session that has read a line has replies but for 49.
+    """
+    sessions = cut(judged)
+    if len(sessions) > 1:
+        raise judging.Wrong(f"one growth cuts off {len(sessions)} sessions")
+    if fault == 49 and judged and not sessions:
+        raise judging.Wrong("49 is told, and each line is answered")
+    if fault != 49 and any(session.replies for session in sessions):
+        raise judging.Wrong(f"a session is cut off behind a reply, and {fault} is told")
+    if judged is None and outcome.sessions == 1 and fault != 49 and not outcome.is_early:
+        raise judging.Wrong(f"no replies, though the session had begun, and {fault} is told")
 
 
 def replies_behind(session, place, word):
@@ -210,8 +236,8 @@ def one_growth(outcome, judged):
     """
     lines, syncs, fault = told_outside(outcome, judged)
     only({code for _, _, code in lines + syncs}, {40})
-    # 49: a session had no memory for a reply, and ended.
-    only(set() if fault is None else {fault}, {40} if judged and not are_cut(judged) else {40, 49})
+    only(set() if fault is None else {fault}, {40, 49})
+    check_cut(outcome, judged, fault)
     is_store = bool(syncs) or is_silent(outcome)
     if len(lines) + is_store + (fault is not None) > 1:
         raise judging.Wrong(f"one growth is told by {len(lines)} lines, {len(syncs)} SYNCs and as {fault} at the end")
@@ -241,6 +267,10 @@ def device(outcome, judged):
     only(set() if fault is None else {fault}, {30})
     if is_silent(outcome):
         raise judging.Wrong("status 1 without a line")
+    if cut(judged):
+        raise judging.Wrong("a session is cut off, though all its lines could be read")
+    if judged is None and not outcome.is_early:
+        raise judging.Wrong("no replies, though the store was opened before a call failed")
     if any(replies_behind(session, place, "durable ") for session, place, _ in syncs):
         raise judging.Wrong("durable is told behind a SYNC that told 30")
 
@@ -261,6 +291,18 @@ def history_alone(scenario):
         if isinstance(asked, (model.Put, model.Define, model.Drop)) and not history.versions[-1].refusal(asked):
             history.add(asked)
     return history
+
+
+def check_lost(outcome, made):
+    """Looks whether the first session may have made so many versions, of which no reply was printed: where the thread
+    of the next was refused; or, where it was the only one, the version of its first line, for whose reply it had no
+    memory.
+    """
+    is_write = outcome.fault.startswith("error 49 ")
+    if outcome.sessions > 1 and not outcome.fault.startswith("error 40 ") or outcome.sessions == 1 and not is_write:
+        raise judging.Wrong(f"no replies, though sessions ran, and `{outcome.fault.strip()}` is told as the reason")
+    if is_write and made > 1:
+        raise judging.Wrong("no replies, though more than one line was run")
 
 
 def judge_content(runner, outcome, history, number):
@@ -287,9 +329,8 @@ def judge_store(runner, outcome, judged):
     history = judged.history if judged else history_before(runner.scenario)
     if judged is None and number > least:
         outcome.is_lost = True  # what a session made is in the store, and its replies were not printed
+        check_lost(outcome, number - least)
         history = history_alone(runner.scenario)
-        if outcome.fault.startswith("error 30 "):
-            raise judging.Wrong("no replies, though sessions ran, and the device is told as the reason")
     least = max(least, judged.durable if judged else 0)
     if not least <= number <= history.last():
         raise judging.Wrong(f"the store has version {number}; {least} was durable, {history.last()} the last")
@@ -394,8 +435,12 @@ TOLD = Scenario("replies", [[f"PUT A {SQUARE}", "LOCATE A 2 2", "SYNC", f"PUT B 
 REPLIES = ["ok 1", "in", "durable 1", "ok 2", "durable 2"]
 OUT = "error 40 out of memory"
 DEVICE = "error 30 device"
-# What may be told by a run of these lines, by what was refused: the replies that differ, by their places, whether
-# something was refused, what is on standard error (None: nothing, with status 1), and whether that is right.
+WRITE = "error 49 write"
+# No reply: where something was refused before a session read a line, or behind.
+EARLY, LATE = "early", "late"
+CUT = {3: None, 4: None}
+# What may be told by a run of these lines, by what was refused: the replies that differ or lack, by their places,
+# whether something was refused, what is on standard error (None: nothing, with status 1), and whether that is right.
 CASES = {
     one_growth: [
         ({}, 0, "", True),
@@ -409,11 +454,17 @@ CASES = {
         ({2: OUT, 4: OUT}, 1, "", False),
         ({1: OUT, 2: OUT}, 1, "", False),
         ({1: OUT, 4: OUT}, 1, "", False),
-        (None, 1, OUT, True),
-        (None, 1, "error 49 write", True),
-        (None, 1, DEVICE, False),
-        (None, 0, OUT, False),
-        ({}, 1, "error 49 write", False),
+        (EARLY, 1, OUT, True),
+        (EARLY, 1, DEVICE, False),
+        (EARLY, 0, OUT, False),
+        (LATE, 1, OUT, False),
+        (LATE, 1, WRITE, True),
+        ({}, 1, WRITE, False),
+        (CUT, 1, WRITE, True),
+        (CUT, 1, OUT, False),
+        (CUT, 1, "", False),
+        (CUT, 1, None, False),
+        (CUT | {1: OUT}, 1, WRITE, False),
         ({4: OUT}, 1, None, True),
         ({}, 1, None, True),
         ({}, 0, None, False),
@@ -436,60 +487,107 @@ CASES = {
         ({1: DEVICE}, 1, "", False),
         ({1: OUT}, 1, "", False),
         ({4: OUT}, 1, "", False),
-        (None, 1, DEVICE, True),
-        (None, 1, OUT, False),
-        (None, 0, DEVICE, False),
+        ({4: None}, 1, DEVICE, False),
+        (CUT, 1, DEVICE, False),
+        (CUT | {1: None, 2: None}, 1, DEVICE, False),
+        (EARLY, 1, DEVICE, True),
+        (EARLY, 1, OUT, False),
+        (EARLY, 0, DEVICE, False),
+        (LATE, 1, DEVICE, False),
     ],
 }
 
 
-# Runs of the same lines in which something was refused: what they leave, of version 1 with a layer of this name.
+# Two scripts, and what may be told of them: how many replies each has (None: nothing is printed), what is on standard
+# error, and whether that is right.
+PAIR = Scenario("two", [[f"PUT A {SQUARE}", "HELLO"], ["HELLO", "HELLO"]], 1)
+BAD = "error 41 command syntax"
+PAIR_REPLIES = [["ok 1", BAD], [BAD, BAD]]
+PAIRS = [
+    (one_growth, (2, 2), "", True),
+    (one_growth, (2, 0), OUT, True),
+    (one_growth, (0, 2), OUT, True),
+    (one_growth, (2, 1), OUT, False),
+    (one_growth, (0, 0), OUT, False),
+    (one_growth, (1, 2), WRITE, True),
+    (one_growth, (2, 1), WRITE, True),
+    (one_growth, (2, 0), WRITE, True),
+    (one_growth, (1, 1), WRITE, False),
+    (one_growth, None, OUT, True),
+    (device, (2, 2), "", True),
+    (device, (2, 2), DEVICE, True),
+    (device, (2, 1), DEVICE, False),
+    (device, (2, 0), DEVICE, False),
+    (device, None, DEVICE, False),
+]
+
+
+# Runs of lines in which something was refused: what they leave, of version 1 with a layer of this name.
 STORES = [
-    (device, {4: DEVICE}, DEVICE, "A", True),
-    (device, {2: DEVICE, 4: DEVICE}, DEVICE, "A", True),
-    (device, {4: DEVICE}, DEVICE, "B", False),
-    (device, {}, "", "A", False),
-    (device, {}, DEVICE, "A", False),
-    (device, {4: DEVICE}, "", "A", False),
-    (device, None, DEVICE, "A", False),
-    (one_growth, {4: OUT}, None, "A", True),
-    (one_growth, {}, "", "A", False),
-    (one_growth, None, OUT, "A", True),
-    (one_growth, None, OUT, "B", False),
+    (TOLD, device, {4: DEVICE}, DEVICE, "A", True),
+    (TOLD, device, {2: DEVICE, 4: DEVICE}, DEVICE, "A", True),
+    (TOLD, device, {4: DEVICE}, DEVICE, "B", False),
+    (TOLD, device, {}, "", "A", False),
+    (TOLD, device, {}, DEVICE, "A", False),
+    (TOLD, device, {4: DEVICE}, "", "A", False),
+    (TOLD, device, EARLY, DEVICE, "A", False),
+    (TOLD, one_growth, {4: OUT}, None, "A", True),
+    (TOLD, one_growth, {}, "", "A", False),
+    (TOLD, one_growth, EARLY, OUT, "A", False),
+    (TOLD, one_growth, LATE, WRITE, "A", True),
+    (TOLD, one_growth, LATE, WRITE, "B", False),
+    (PAIR, one_growth, LATE, OUT, "A", True),
+    (PAIR, one_growth, LATE, OUT, "B", False),
+    (PAIR, one_growth, LATE, WRITE, "A", False),
 ]
 
 
 class Opening:
-    """Stands for the runs of the lines above: what is left is opened as version 1."""
+    """Stands for the runs of a scenario: what is left is opened as version 1."""
 
-    scenario = TOLD
     prepared = None
+
+    def __init__(self, scenario):
+        self.scenario = scenario
 
     @staticmethod
     def reopened(_data):
         return [f"A MULTI{SQUARE.replace('((', '(((')})"], 1
 
 
-def outcome_of(changed, refused, fault, store=None):
-    replies = [] if changed is None else [changed.get(place, reply) for place, reply in enumerate(REPLIES)]
-    output = "".join(reply + "\n" for reply in replies)
-    return Outcome(0 if fault == "" else 1, output, fault + "\n" if fault else "", store, (9, refused))
+def outcome_of(changed, refused, fault, store=None, sessions=1):
+    """The outcome of a run of the lines above."""
+    replies = []
+    if changed not in (EARLY, LATE):
+        replies = [changed.get(place, reply) for place, reply in enumerate(REPLIES)]
+    output = "".join(reply + "\n" for reply in replies if reply is not None)
+    fault_line = fault + "\n" if fault else ""
+    return Outcome(sessions, 0 if fault == "" else 1, output, fault_line, store, (9, refused), changed == EARLY)
 
 
-def is_right(allows, changed, refused, fault):
-    """Whether a run of the lines above is taken as right."""
+def outcome_of_pair(counts, fault):
+    """The outcome of a run of the two scripts above."""
+    output = ""
+    for number, count in enumerate(counts or (), 1):
+        output += "".join(line + "\n" for line in [f"# script {number}", *PAIR_REPLIES[number - 1][:count]])
+    return Outcome(2, 0 if fault == "" else 1, output, fault + "\n" if fault else "", None, (9, 1), False)
+
+
+def is_right(allows, scenario, outcome):
+    """Whether a run is taken as right."""
     try:
-        judge_output(TOLD, outcome_of(changed, refused, fault), allows)
+        judge_output(scenario, outcome, allows)
     except judging.Wrong:
         return False
     return True
 
 
-def is_store_right(allows, changed, fault, name):
-    """Whether it is taken as right that a run of the lines above leaves a store of version 1 with this layer."""
+def is_store_right(scenario, allows, changed, fault, name):
+    """Whether it is taken as right that a run leaves a store of version 1 with this layer."""
     store = read_store.six_blocks(read_store.vectors_of(read_store.FORMAT_PAGE.read_text(encoding="utf-8")))
     store = read_store.changed(store, [f"16387: {name.encode().hex()}"])[: 5 * read_store.BLOCK]
-    return judge(Opening, outcome_of(changed, 1, fault, store), allows) is None
+    outcome = outcome_of(changed, 1, fault, store, len(scenario.scripts))
+    return judge(Opening(scenario), outcome, allows) is None
 
 
 def test(*kinds):
@@ -497,11 +595,16 @@ def test(*kinds):
     checks = []
     for allows in kinds:
         for changed, refused, fault, wanted in CASES[allows]:
-            checks.append((is_right(allows, changed, refused, fault), wanted, allows.__name__, changed, fault))
-        for kind, changed, fault, name, wanted in STORES:
-            if kind is allows:
-                found = is_store_right(allows, changed, fault, name)
-                checks.append((found, wanted, allows.__name__, changed, fault, f"version 1 with {name} is left"))
+            found = is_right(allows, TOLD, outcome_of(changed, refused, fault))
+            checks.append((found, wanted, allows.__name__, changed, fault))
+    for allows, counts, fault, wanted in PAIRS:
+        if allows in kinds:
+            found = is_right(allows, PAIR, outcome_of_pair(counts, fault))
+            checks.append((found, wanted, allows.__name__, counts, fault))
+    for scenario, allows, changed, fault, name, wanted in STORES:
+        if allows in kinds:
+            found = is_store_right(scenario, allows, changed, fault, name)
+            checks.append((found, wanted, allows.__name__, changed, fault, f"version 1 with {name} is left"))
     failed = [check for check in checks if check[0] != check[1]]
     for _, wanted, *what in failed:
         print(*what, "is not taken as", "right" if wanted else "wrong")

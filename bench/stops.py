@@ -5,8 +5,9 @@ python3 bench/stops.py PROGRAM [--most N] [--forget N] [--keep FOLDER]
 python3 bench/stops.py --test
 
 Runs the program twice on one new store under strace, gives it a script line by line, and takes down each write and sync
-of the store in the order of the trace. Between two syncs the writes may have come to the disk in any order, whole, in
-part or not at all; so each of these files is made:
+of the store in the order of the trace. For the second run the gate of the older root is half open, as a stop within the
+write that opens it leaves it, so that opening the store writes and syncs. Between two syncs the writes may have come to
+the disk in any order, whole, in part or not at all; so each of these files is made:
 
 - all writes but any set of them, where there are at most six; else each first part, each last part, each one alone,
   each one left out, and forty sets that are drawn;
@@ -377,6 +378,9 @@ def replay(words, folder):
     store = folder / "store.db"
     following, lines, replies = Replay(words.forget), [], []
     for place, (script, create) in enumerate([(FIRST, ["--create"]), (SECOND, [])]):
+        if place:
+            following.synced = stress.half_opened(following.synced)
+            store.write_bytes(following.synced)
         trace = folder / f"trace{place + 1}"
         told = traced(words.program, store, script, trace, *create)
         following.follow(events_of(trace.read_text(), str(store)), told)

@@ -186,6 +186,9 @@ def run(program, store, scripts, folder, workers, *words):
 # ---- the store
 
 
+HALF_OPEN = 0x55
+
+
 @functools.lru_cache(maxsize=10000)
 def tile_ends(record, column):
     """The ends of the pieces of a tile's record, None where it is oversize."""
@@ -205,6 +208,12 @@ def tiles_in(data):
             if extent is not None:
                 tiles[listed.name.decode(), column] = tile_ends(read_store.record_at(data, extent, 5), column)
     return tiles
+
+
+def half_opened(data):
+    """A store whose older root has a gate that is half open, so that opening the store writes and syncs."""
+    older = read_store.BLOCK * ((read_store.find_root(data).sequence + 1) % 2)
+    return data[:older] + bytes([HALF_OPEN]) + data[older + 1 :]
 
 
 class Final:
