@@ -1,11 +1,12 @@
 -- What recovery makes of what opening gives.
-use Rattle.std.proofs.Common.{◌≡◌, ◌⊎◌, inl, inr, ℕ, ◌≤◌, List, arith, Result, Ok, Err, refl, sym, ◌∙◌, ap, subst}
+use Rattle.std.proofs.Common.{rules, ◌≡◌, ◌⊎◌, inl, inr, ℕ, ◌≤◌, List, [], arith, Result, Ok, Err, refl, sym, ◌∙◌, ap, subst}
 use Rattle.disk_model.specs.declared.disk.Disk.{Ghosts}
 use Rattle.disk_model.specs.Moments.{Leaves, LeavesOnly}
 use Rattle.disk_model.proofs.Runs.{widened}
 use Rattle.overlay_terms.specs.Layers.{Layer, answer_at}
 use Rattle.overlay_terms.specs.Batches.{Batch}
-use Rattle.overlay_terms.specs.Histories.{Version}
+use Rattle.overlay_terms.specs.Histories.{Version, empty_version}
+use Rattle.overlay_terms.specs.KeptLaws.{IsExact}
 use Rattle.store_terms.specs.declared.damage.Damage.{Damage}
 use Rattle.store_terms.specs.declared.root.Root.{Root}
 use Rattle.store_terms.specs.Image.{◌>>=◌, Held, held_of}
@@ -15,14 +16,16 @@ use Rattle.commit_plan.specs.declared.fault.StoreFault.TheVariants.{Device, Full
 use Rattle.root_store.specs.declared.open_fault.OpenFault.{OpenFault}
 use Rattle.root_store.specs.declared.commit.Commit.{Commit}
 use Rattle.commit_plan.specs.Kept.{Kept}
+use Rattle.root_store.specs.declared.phase.Phase.{Phase}
+use Rattle.root_store.specs.Creating.{nothing_kept}
 use Rattle.root_store.specs.Running.{Stands}
 use Rattle.root_store.specs.Opening.{Opened, InPhases, Stops, Writes, HasRoot, Tells}
 use Rattle.commit_plan.proofs.Reading.{calm_stands}
 use Rattle.flush_core.specs.declared.flusher.Flusher.{Flusher}
 use Rattle.flush_core.specs.Stored.{IsImageOf}
 use Rattle.overlay_engine.specs.declared.engine.Engine.{Engine}
-use Rattle.overlay_engine.specs.Start.{Start, up_to}
-use Rattle.overlay_engine.specs.Covers.{version_of, Covered, Covers}
+use Rattle.overlay_engine.specs.Start.{Start, up_to, from_nothing}
+use Rattle.overlay_engine.specs.Covers.{version_of, IsStored, AtRest, Covered, Covers, In}
 use Rattle.overlay_engine.specs.NewEngine.{IsNewStore}
 use Rattle.overlay_engine.specs.Recovery.{Recovered, Refused, RecoveredAnswers}
 use Rattle.overlay_engine.proofs.Recovering.{opened_recovers, opening_is_covered}
@@ -97,6 +100,27 @@ rests_as g version f s k x flusher number is same stands =
       stored = stored;
       reported = omega (arith, stored, ap (λ (v : Version). v.durable) is, ap (λ (v : Version). v.number) is);
     }
+
+-- a store that holds nothing covers no command
+pub new_covers : {D : Type 0} (g : Ghosts D) (version : Version) (f : Flusher D) (s : Commit D) → f ≡ record { commit = s } → version ≡ empty_version → Stands g s nothing_kept
+    → Covers g from_nothing f version []
+new_covers g version f s flusher empty stands =
+    let exact : IsExact empty_version = search rules in
+    let stored : IsStored from_nothing [] nothing_kept.held = record { since = omega arith; no_later = omega arith; layers = refl; exact = exact } in
+    let number : s.root.version ≡ 0 = ap (λ (r : Root). r.version) stands.root in
+    let rests : AtRest g from_nothing (record { commit = s }) [] = record { x = nothing_kept; number = sym number; stored = stored; stands = stands } in
+    let covers : Covers g from_nothing (record { commit = s }) empty_version [] =
+    record {
+      honest = stands.honest;
+      number = refl;
+      layers = refl;
+      exact = exact;
+      reported = omega arith;
+      stored = omega (arith, number);
+      store = subst (λ (q : Phase). In g from_nothing q (record { commit = s }) []) (sym stands.idle) rests;
+    } in
+    subst (λ (h : Flusher _). Covers g from_nothing h version []) (sym flusher)
+    (subst (λ (v : Version). Covers g from_nothing (record { commit = s }) v []) (sym empty) covers)
 
 -- a file that is read has a root
 pub root_read : (file : List ℕ) (x : Held) → reading file ≡ Ok x → HasRoot file

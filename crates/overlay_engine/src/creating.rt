@@ -3,7 +3,7 @@ ghost use Rattle.std.specs.Prelude.{◌≡◌, ◌≢◌, ◌↔◌, ◌+◌, []
 ghost use Rattle.disk_model.specs.Disk.{Failed, Fewer};
 ghost use Rattle.overlay_terms.specs.Histories.{empty_version};
 ghost use Rattle.disk_model.specs.Moments.{Leaves};
-ghost use Rattle.root_store.specs.Creating.{IsNewFile, refusal_of_new, Tells, CallsBehind};
+ghost use Rattle.root_store.specs.Creating.{IsNewFile, MadeInPhases, refusal_of_new, Tells, CallsBehind};
 ghost use Rattle.root_store.specs.Running.{KeepsTo};
 ghost use Rattle.overlay_engine.specs.Start.{from_nothing};
 ghost use Rattle.overlay_engine.specs.Covers.{Covers};
@@ -28,6 +28,8 @@ impl<D: Disk> Engine<D> {
         ensures rests { D.is_honest disk → IfOk result (λ e. IsNewEngine D.Disk e) }
         // The file has three blocks that are zero but for the bodies, the catalog and the first gate, which alone is open.
         ensures file { D.is_honest disk → IfOk result (λ e. Leaves D.Disk e.flusher.commit.disk IsNewFile) }
+        // What is written first has both gates shut, and is synced before the first gate opens.
+        ensures phases { D.is_honest disk → IfOk result (λ e. MadeInPhases D.Disk disk e.flusher.commit.disk) }
         ensures idle { IfOk result (λ e. e.flusher.commit.phase ≡ Phase.Idle) }
         ensures version { IfOk result (λ e. e.version ≡ empty_version) }
         ensures jobs { IfOk result (λ e. (e.jobs.items ≡ []) × (e.next_job ≡ 0)) }
