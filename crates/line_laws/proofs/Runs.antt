@@ -195,7 +195,7 @@ same_made before after other_before other_after part made other_made reply other
 step_of : (stored : Bool) (session : ℕ) (seen : History) (turn : Answered) (part : Turn) → turn.turn ≡ part → IsTurn stored session seen turn.turn turn.after turn.made turn.reply
     → IsHistory turn.after → count turn.after ≡ count seen + length turn.made → IsStep seen turn.after part turn.made turn.reply
 step_of stored session seen turn part is told history alone =
-    subst (λ (l : List ℕ). IsStep seen turn.after l turn.made turn.reply) is (step stored session seen turn.after turn.turn turn.made turn.reply told history alone)
+    subst (λ (p : Turn). IsStep seen turn.after p turn.made turn.reply) is (step stored session seen turn.after turn.turn turn.made turn.reply told history alone)
 
 module _ (stored other_stored : Bool) (session other : ℕ) where
   alike : (seen other_seen : History) (turns others : List Answered) → AreAnswered stored session seen turns → AreAnswered other_stored other other_seen others
