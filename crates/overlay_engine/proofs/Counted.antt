@@ -4,7 +4,7 @@ use Rattle.std.proofs.lemmas.Bool.{false≢true}
 use Rattle.std.specs.List.{AllByRecursion}
 use Rattle.disk_model.specs.declared.disk.Disk.{Ghosts}
 use Rattle.disk_model.specs.Disk as disks
-use Rattle.overlay_terms.specs.Batches.{BatchRefusal, at, whole}
+use Rattle.overlay_terms.specs.Batches as batches
 use Rattle.layer_book.specs.declared.fault.LayerFault.{LayerFault}
 use Rattle.layer_book.specs.declared.fault.LayerFault.TheVariants as layer
 use Rattle.layer_book.specs.Fault as layer_faults
@@ -58,12 +58,12 @@ code_in : Option BatchFault → ℕ
 code_in None = 0
 code_in (Some fault) = batch_faults.code_of fault
 
-no_batch_refusal : (reason : Option BatchRefusal) → batch_faults.RefusedAllBy reason (Whole 30) → ⊥
+no_batch_refusal : (reason : Option batches.BatchRefusal) → batch_faults.RefusedAllBy reason (Whole 30) → ⊥
 unfolding code_in
 no_batch_refusal reason (inl (memory, none)) = omega (arith, ap batch_faults.code_of memory)
 no_batch_refusal None (inr is) = omega (arith, ap code_in is)
-no_batch_refusal (Some (at place reason)) (inr is) = no_layer_fault (layer_faults.fault_of reason) (sym (ap code_in is))
-no_batch_refusal (Some (whole reason)) (inr is) = no_layer_fault (layer_faults.fault_of reason) (sym (ap code_in is))
+no_batch_refusal (Some (batches.at place reason)) (inr is) = no_layer_fault (layer_faults.fault_of reason) (sym (ap code_in is))
+no_batch_refusal (Some (batches.whole reason)) (inr is) = no_layer_fault (layer_faults.fault_of reason) (sym (ap code_in is))
 
 -- no commit is kept from beginning by the device
 no_reason : {D : Type 0} (s : Commit D) (no_room : Type 0) (why : StoreFault) → IsReason s.phase s.root no_room why → 30 ≡ store_faults.code_of why → ⊥
@@ -291,6 +291,7 @@ module _ {D : Type 0} (g : Ghosts D) where
       → next_of new ≡ next_of old
   next_stays Device old reply new goes_on left acts = next_going old new left (subst (λ (r : Reply). Devices g old r new) (goes_on refl) acts)
   next_stays (Submit change) old reply new goes_on left acts = next_other old new ((makes g (Submit change) old reply new acts).1 refl)
+  next_stays (SubmitAll batch) old reply new goes_on left acts = next_other old new ((makes g (SubmitAll batch) old reply new acts).1 refl)
   next_stays (Take name column) old reply new goes_on left acts = next_other old new ((makes g (Take name column) old reply new acts).1 refl)
   next_stays (Finish number) old reply new goes_on left acts = next_other old new ((makes g (Finish number) old reply new acts).1 refl)
   next_stays Report old reply new goes_on left acts = next_other old new ((makes g Report old reply new acts).1 refl)

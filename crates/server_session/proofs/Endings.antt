@@ -1,5 +1,5 @@
 -- How a session ends, from where it stands.
-use Rattle.std.proofs.Common.{◌≡◌, ℕ, zero, suc, ◌+◌, ◌-◌, ◌<◌, ◌≤◌, min, ◌⊎◌, inl, inr, Bool, true, false, Option, Some, None, is_none, Result, Ok, Err, MatchResult, List, [], ◌∷◌, ◌++◌, length, take, lit<, refl, sym, ap, ◌∙◌, subst, append_assoc, append-nil, arith}
+use Rattle.std.proofs.Common.{◌≡◌, ℕ, zero, suc, ◌+◌, ◌-◌, ◌<◌, ◌≤◌, min, ◌⊎◌, inl, inr, Bool, true, false, Option, Some, None, is_some, Result, Ok, Err, MatchResult, List, [], ◌∷◌, ◌++◌, length, take, lit<, refl, sym, ap, ◌∙◌, subst, append_assoc, append-nil, arith}
 use Rattle.std.proofs.lemmas.List.{take_all, take-take, length-take, length-append}
 use Rattle.std.proofs.lemmas.Bool.{cases_lt, false≢true, true≢false}
 use Rattle.std.specs.Result.{is_err}
@@ -51,7 +51,7 @@ all_alone : (waiting : Option Waiting) → IsOpen waiting None → cut_off_in wa
 all_alone None waits = refl
 all_alone (Some waiting) waits = absurd waits
 
-pub ends-alone : (waiting : Option Gathering) (output : Option (List ℕ)) → is_none waiting ≡ true → EndsBatch End waiting output output
+pub ends-alone : (waiting : Option Gathering) (output : Option (List ℕ)) → is_some waiting ≡ false → EndsBatch End waiting output output
 ends-alone None output none = λ stored was me lines replies stays run waits. (
   [],
   Appends-nil output,
@@ -59,7 +59,7 @@ ends-alone None output none = λ stored was me lines replies stays run waits. (
       (sym (ap (λ (turns : List Turn). turns_of lines ++ turns) (all_alone (waiting_behind lines) waits) ∙ append-nil (turns_of lines)))
       (subst (IsSharedRun stored was (turns_of lines) me) (sym (append-nil replies)) run),
 )
-ends-alone (Some gathering) output none = absurd (false≢true none)
+ends-alone (Some gathering) output none = absurd (true≢false none)
 
 -- a batch waits, and is refused
 cut_off_run : (stored : Bool) (me : Known) (waiting : Option Waiting) (gathering : Gathering) → IsOpen waiting (Some gathering)
@@ -76,14 +76,14 @@ refused_run stored was me lines replies gathering stays run waits =
     run-join stored was me me (turns_of lines) (cut_off_in (waiting_behind lines)) replies (error_line CommandSyntax) stays run
     (cut_off_run stored me (waiting_behind lines) gathering waits)
 
-pub ends-refused : (waiting : Option Gathering) (output all : Option (List ℕ)) → is_none waiting ≡ false → Appends output all (error_line CommandSyntax) → EndsBatch End waiting output all
-ends-refused None output all some appended = absurd (true≢false some)
+pub ends-refused : (waiting : Option Gathering) (output all : Option (List ℕ)) → is_some waiting ≡ true → Appends output all (error_line CommandSyntax) → EndsBatch End waiting output all
+ends-refused None output all some appended = absurd (false≢true some)
 ends-refused (Some gathering) output all some appended = λ stored was me lines replies stays run waits.
     (error_line CommandSyntax, appended, refused_run stored was me lines replies gathering stays run waits)
 
-pub ends-refused_cut : (waiting : Option Gathering) (output all : Option (List ℕ)) → is_none waiting ≡ false
+pub ends-refused_cut : (waiting : Option Gathering) (output all : Option (List ℕ)) → is_some waiting ≡ true
     → ((front : List ℕ) × IsCutShort (error_line CommandSyntax) front × Appends output all front) → EndsBatch (Failed 49) waiting output all
-ends-refused_cut None output all some cut = absurd (true≢false some)
+ends-refused_cut None output all some cut = absurd (false≢true some)
 ends-refused_cut (Some gathering) output all some (front, short, appended) = λ stored was me lines replies stays run waits. (
   front,
   appended,

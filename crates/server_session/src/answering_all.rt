@@ -22,7 +22,7 @@ pub(crate) fn answer_batch<J: Naming, S: Wait + Drop, Q: Wait>(
     read: Result<Batch, LinesFault>,
 ) -> LineReply
     requires { me.old.book ≡ J.book }
-    ensures { AnswersAll me.old read.entry me.new (reply_text result) }
+    ensures { AnswersAll me.old read me.new (reply_text result) }
 {
     match read {
         Ok(batch) => submit_all(rt, alloc, shared, me, &batch),
