@@ -38,15 +38,15 @@ use Rattle.script_form.specs.Replies.{ok_line, error_line, refused_line, locatio
 use Rattle.script_form.specs.Requests.{Request, put, define, remove, locate, grid, list_layers, request_of}
 use Rattle.script_form.specs.Transcript.{IsRefused, IsRefusedBatch, IsSubmitted, IsSubmittedAll, IsAnswered, IsOutOfMemory, IsTold, Drawn, WithName}
 use Rattle.script_form.specs.Turns.{Turn, alone, together}
-use Rattle.script_form.specs.Gathering.{TakesLine}
+use Rattle.script_form.specs.Gathering.{AreRead, TakesLine}
 use Rattle.script_form.specs.Request.{request}
 use Rattle.script_form.specs.declared.request.Request as code
 use Rattle.script_form.specs.declared.gathering.Gathering.{Gathering}
 use Rattle.script_form.specs.declared.gathering.LinesFault.{LinesFault}
 use Rattle.script_form.specs.declared.gathering.LinesFault.TheVariants.{Unread, OutOfMemory as NoMemory}
 use Rattle.script_form.specs.declared.line_turn.LineTurn.TheVariants.{Waits, Alone, Whole}
-use Rattle.server_session.specs.Answering.{Answers, AnswersAll, Submits, SubmitsAll}
-use Rattle.server_session.specs.Fault.{batch_told, fault_told, numbered}
+use Rattle.server_session.specs.Answering.{Answers, AnswersAll, IsAnswerToAll, Submits, SubmitsAll}
+use Rattle.server_session.specs.Fault.{batch_told, fault_told, lines_told, numbered}
 use Rattle.server_session.specs.Session.{IsSharedRun}
 use Rattle.server_session.specs.Turn.{Stays, TakesTurn}
 use Rattle.server_session.proofs.Runs.{run-none, run-one}
@@ -215,23 +215,19 @@ answers_all was now commands reply s = record {
   };
 }
 
--- one of them is no command
-pub answers_unread : (me : Known) (place : ℕ) (fault : CommandFault) → AnswersAll me (Err (Unread place fault)) me (refused_line place fault)
-answers_unread me place fault = record {
-  stays = stays_self me;
-  answered = λ requests first. record {
-    made = [];
-    answered = inr (inl (place, fault, first, record { nothing_made = refl; told = refl }));
-    only = makes_nothing me me (stays_self me) refl;
-  };
+-- one of them is no command, or memory ran out for one
+unread_answered : (me : Known) (fault : LinesFault) (requests : List Request) → AreRead requests (Err fault) → IsAnswerToAll me requests me (lines_told fault)
+unread_answered me (Unread place fault) requests first = record {
+  made = [];
+  answered = inr (inl (place, fault, first, record { nothing_made = refl; told = refl }));
+  only = makes_nothing me me (stays_self me) refl;
 }
+unread_answered me NoMemory requests none =
+    record { made = []; answered = inl (refused_so OutOfMemory); only = makes_nothing me me (stays_self me) refl }
 
--- or memory ran out for one
-pub answers_no_memory : (me : Known) → AnswersAll me (Err NoMemory) me (error_line OutOfMemory)
-answers_no_memory me = record {
-  stays = stays_self me;
-  answered = λ requests tt. record { made = []; answered = inl (refused_so OutOfMemory); only = makes_nothing me me (stays_self me) refl };
-}
+pub answers_unread : (me : Known) (fault : LinesFault) (reply : List ℕ) → reply ≡ lines_told fault → AnswersAll me (Err fault) me reply
+answers_unread me fault reply is =
+    subst (AnswersAll me (Err fault) me) (sym is) (record { stays = stays_self me; answered = unread_answered me fault })
 
 -- ==== PUT, DEFINE, DROP
 

@@ -9,6 +9,8 @@ use Rattle.book_history.specs.declared.fault.BookFault.TheVariants as book
 use Rattle.book_history.specs.declared.fault.ToldFault.{ToldFault}
 use Rattle.book_history.specs.declared.fault.ToldFault.TheVariants as store
 use Rattle.script_form.specs.declared.fault.CommandFault.{CommandFault}
+use Rattle.script_form.specs.declared.gathering.LinesFault.{LinesFault}
+use Rattle.script_form.specs.declared.gathering.LinesFault.TheVariants as lines
 use Rattle.script_form.specs.Replies.{error_line, refused_line}
 use Rattle.script_form.specs.declared.fault.CommandFault.TheVariants.{Version, Device, Full, StoreFailed, SequenceLimit, OutOfMemory, Closing, Gone, NoStore}
 
@@ -43,3 +45,8 @@ numbered code =
 abbrev pub batch_told : BatchFault → List ℕ
 batch_told (At place code) = refused_line place (numbered code)
 batch_told (Whole code) = error_line (numbered code)
+
+-- the bytes that tell why the lines of a batch are not read as commands
+abbrev pub lines_told : LinesFault → List ℕ
+lines_told (lines.Unread place fault) = refused_line place fault
+lines_told lines.OutOfMemory = error_line OutOfMemory

@@ -2,6 +2,7 @@
 ghost use Rattle.std.specs.Prelude.{◌≡◌};
 ghost use Rattle.script_form.specs.LineReply.{reply_text};
 ghost use Rattle.server_session.specs.Answering.{AnswersAll, SubmitsAll};
+ghost use Rattle.server_session.specs.Fault.{lines_told};
 
 use crate::fault::numbered;
 use layer_book::batch::Batch;
@@ -26,8 +27,17 @@ pub(crate) fn answer_batch<J: Naming, S: Wait + Drop, Q: Wait>(
 {
     match read {
         Ok(batch) => submit_all(rt, alloc, shared, me, &batch),
-        Err(LinesFault::Unread(place, fault)) => LineReply::RefusedAt(place, fault),
-        Err(LinesFault::OutOfMemory) => LineReply::Fault(CommandFault::OutOfMemory),
+        Err(fault) => unread(fault),
+    }
+}
+
+/// The reply to lines that are not read as commands.
+fn unread(fault: LinesFault) -> LineReply
+    ensures { reply_text result ≡ lines_told fault }
+{
+    match fault {
+        LinesFault::Unread(place, fault) => LineReply::RefusedAt(place, fault),
+        LinesFault::OutOfMemory => LineReply::Fault(CommandFault::OutOfMemory),
     }
 }
 
