@@ -1,10 +1,10 @@
 -- The batches in entries, and what entries make of the number and the layers of a version.
-use Rattle.std.proofs.Common.{◌≡◌, ℕ, ◌+◌, List, [], ◌∷◌, ◌++◌, length, map, fold, refl, sym, ap, ◌∙◌, subst, arith}
+use Rattle.std.proofs.Common.{◌≡◌, ℕ, ◌+◌, List, [], ◌∷◌, ◌++◌, length, map, fold, refl, ap, ◌∙◌, subst}
 use Rattle.std.proofs.lemmas.List.{length-append, map-append}
 use Rattle.std.proofs.lemmas.List.Elements.{filter_map-append}
 use Rattle.overlay_terms.specs.Layers.{Layer}
 use Rattle.overlay_terms.specs.Batches.{Batch, applied_all}
-use Rattle.overlay_terms.specs.Histories.{Version, Event, Entry, History, AllFollow, IsHistory, GoesOnBy, last_version, newest, command_of, commands_in, accepted_in}
+use Rattle.overlay_terms.specs.Histories.{Version, Entry, History, AllFollow, IsHistory, GoesOnBy, last_version, newest, command_of, commands_in, accepted_in}
 use Rattle.overlay_terms.specs.HistoryLaws.{IsWithCommands}
 use Rattle.overlay_terms.proofs.HistoryFolds.{newest_has_commands}
 use Rattle.line_laws.specs.Deciding.{Decided, decided}

@@ -1,8 +1,7 @@
 -- Two runs of the same turns go alike, turn by turn.
-use Rattle.std.proofs.Common.{◌≡◌, ℕ, ◌+◌, ◌≤◌, ◌⊎◌, inl, inr, Bool, true, false, List, [], ◌∷◌, ◌++◌, length, map, flat_map, fold, Option, Some, None, refl, sym, ap, ◌∙◌, subst, arith}
-use Rattle.std.proofs.lemmas.Bool.{cases_Bool, true≢false}
+use Rattle.std.proofs.Common.{◌≡◌, ℕ, ◌+◌, ◌≤◌, ◌⊎◌, inl, inr, Bool, true, false, List, [], ◌∷◌, ◌++◌, length, map, Option, Some, None, refl, sym, ap, ◌∙◌, subst, arith}
+use Rattle.std.proofs.lemmas.Bool.{true≢false}
 use Rattle.std.proofs.lemmas.List.{length-append}
-use Rattle.overlay_terms.specs.Layers.{Layer}
 use Rattle.overlay_terms.specs.Batches.{Batch, BatchRefusal, batch_refusal_at}
 use Rattle.overlay_terms.specs.Histories.{Version, Entry, History, accepted, AllFollow, IsHistory, FollowsBatch, GoesOnBy, last_version, newest, accepted_in}
 use Rattle.script_form.specs.Replies.{ok_line}
@@ -11,7 +10,7 @@ use Rattle.script_form.specs.Turns.{Turn}
 use Rattle.line_laws.specs.Deciding.{Answered, history_after, turns_in, made_by, AreAnswered, AreTurnsOf, TranscriptsHaveTurns, is_from_outside, Decided, decided, decided_by, outside_of, GoAlike, LinesDecide}
 use Rattle.line_laws.proofs.Asking.{TurnAsks, turn_asks_one}
 use Rattle.line_laws.proofs.Entries.{accepted_more, count, count_more, follow_front, follow_rest, history_front, history_rest, newest_more, with_batches, decided_more}
-use Rattle.line_laws.proofs.Views.{IsDeclined, IsUnmade, IsMade, Comes, comes}
+use Rattle.line_laws.proofs.Views.{IsDeclined, Comes, comes}
 
 -- ==== What a turn makes
 

@@ -31,7 +31,7 @@ use Rattle.book_history.specs.Logs.{IsAccepted}
 use Rattle.book_history.specs.declared.fault.BookFault.{BookFault}
 use Rattle.book_history.specs.declared.fault.BookFault.TheVariants as book
 use Rattle.script_form.specs.declared.fault.CommandFault.{CommandFault}
-use Rattle.script_form.specs.declared.fault.CommandFault.TheVariants.{Expression, Query, Version, CommandSyntax, OutOfMemory, Closing, Gone, GridSize}
+use Rattle.script_form.specs.declared.fault.CommandFault.TheVariants.{Expression, Query, Version, OutOfMemory, Closing, Gone, GridSize}
 use Rattle.script_form.specs.Fault.{of_grid}
 use Rattle.script_form.specs.Reading.{IsMemory, IsNoName, IsPut, IsPutRefused, IsDefine, IsDefineRefused, IsRemove}
 use Rattle.script_form.specs.Replies.{ok_line, error_line, refused_line, location_line}

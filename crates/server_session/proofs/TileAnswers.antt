@@ -1,6 +1,6 @@
 -- What is answered to questions about tiles and about the store.
 use Rattle.std.specs.Prelude.{IsErrAnd}
-use Rattle.std.proofs.Common.{◌≡◌, ◌≤◌, ◌<◌, ℕ, ℤ, Bool, true, false, IsTrue, List, [], Option, Some, None, Result, Ok, Err, refl, sym, ap, subst, ◌∙◌, ◌⊎◌, inl, inr, ⊎_elim}
+use Rattle.std.proofs.Common.{◌≡◌, ◌≤◌, ℕ, ℤ, Bool, true, false, IsTrue, List, [], Option, Some, None, Result, Ok, Err, refl, sym, ap, subst, ◌∙◌, ◌⊎◌, inl, inr, ⊎_elim}
 use Rattle.overlay_terms.specs.Batches.{Batch}
 use Rattle.overlay_terms.specs.Histories as versions
 use Rattle.overlay_terms.specs.Histories.{BeginsWith, newest}
@@ -10,7 +10,6 @@ use Rattle.layer_book.specs.declared.fault.LayerFault.TheVariants as layer_fault
 use Rattle.version_core.specs.declared.fault.VersionFault.{VersionFault}
 use Rattle.version_core.specs.declared.fault.VersionFault.TheVariants.{Layer}
 use Rattle.version_core.specs.declared.verifying.Verdict.{Verdict}
-use Rattle.version_core.specs.Building.{IsBuilt, wait_refusal}
 use Rattle.version_core.specs.Verdict.{IsVerdict}
 use Rattle.version_core.specs.Edges.{edges_refusal, finished_refusal, AreEdges}
 use Rattle.book_history.specs.Known.{Known, seen}
@@ -20,7 +19,7 @@ use Rattle.book_history.specs.declared.fault.ToldFault.{ToldFault}
 use Rattle.book_history.specs.declared.fault.ToldFault.TheVariants as store
 use Rattle.version_book.specs.Waits.{IsBuiltAt, IsSyncRefused, IsWaitRefused}
 use Rattle.script_form.specs.declared.fault.CommandFault.{CommandFault}
-use Rattle.script_form.specs.declared.fault.CommandFault.TheVariants.{Version, OutOfMemory, Closing, Gone, NoStore}
+use Rattle.script_form.specs.declared.fault.CommandFault.TheVariants.{Version, Closing, Gone, NoStore}
 use Rattle.script_form.specs.Reading.{IsMemory, IsNoName}
 use Rattle.script_form.specs.Replies.{error_line, built_line, durable_line, verdict_line}
 use Rattle.script_form.specs.Requests.{edges, wait, verify, sync}
