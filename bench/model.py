@@ -33,6 +33,7 @@ PIECES_MAX = 65536
 LINE_MAX = 65536
 SCRIPT_MAX = 2**24
 WEIGHT_MAX = 1024
+BATCH_MAX = 64
 GRID_MAX = 256
 STEP_MAX = 2**21
 
@@ -40,7 +41,7 @@ TEXTS = {
     1: "wkt syntax at #", 2: "not whole at #", 3: "coordinate out of range at #", 4: "ring # open", 5: "ring # short",
     6: "too many segments", 7: "expression syntax at #", 8: "expression too long", 9: "bad name", 10: "unknown layer",
     11: "not a base layer", 12: "not a derived layer", 13: "later layer", 14: "in use", 15: "too many layers",
-    16: "version limit", 20: "point out of range", 21: "pending", 22: "oversize", 23: "bad column", 30: "device",
+    16: "version limit", 17: "batch size", 20: "point out of range", 21: "pending", 22: "oversize", 23: "bad column", 30: "device",
     31: "full", 32: "not a store", 33: "damaged #", 34: "not empty", 35: "store failed", 36: "sequence limit",
     40: "out of memory", 41: "command syntax", 42: "line too long", 43: "closing", 44: "gone", 45: "grid size",
     46: "no store", 47: "read limit", 48: "read", 49: "write", 50: "words",
@@ -62,6 +63,18 @@ class Refused(Exception):
 
     def line(self):
         return f"error {self.code} " + TEXTS[self.code].replace("#", str(self.carried))
+
+
+class RefusedAt(Exception):
+    """A refusal of a batch for one of its commands."""
+
+    def __init__(self, place, why):
+        super().__init__(place)
+        self.place = place
+        self.why = why
+
+    def line(self):
+        return f"refused {self.place} {self.why.line()}"
 
 
 # ---- Well-Known Text
@@ -334,6 +347,26 @@ def read_line(line):
     if word not in QUESTIONS:
         raise Refused(41)
     return question_of(word, words)
+
+
+def batch_size(line):
+    """How many lines belong to a BATCH line; none for another line."""
+    words = re.findall(rb"[^ \t]+", line)
+    if len(line) > LINE_MAX or words[0] != b"BATCH":
+        return None
+    if len(words) != 2 or not NUMBER.fullmatch(words[1]):
+        raise Refused(41)
+    if not 1 <= int(words[1]) <= BATCH_MAX:
+        raise Refused(17)
+    return int(words[1])
+
+
+def command_of(line):
+    """The command of a line of a batch."""
+    asked = read_line(line)
+    if isinstance(asked, Question):
+        raise Refused(41)
+    return asked
 
 
 # ---- layers
@@ -656,11 +689,15 @@ class Book:
         self.layers = Layers()
         self.keys = {}
 
-    def submit(self, command):
-        code = self.layers.refusal(command)
-        if code is not None:
-            raise Refused(code)
-        self.layers = self.layers.after(command)
+    def submit(self, commands):
+        """Accepts commands at once, or is refused for the first that is refused after those before it."""
+        layers = self.layers
+        for place, command in enumerate(commands):
+            code = layers.refusal(command)
+            if code is not None:
+                raise RefusedAt(place, Refused(code))
+            layers = layers.after(command)
+        self.layers = layers
         self.number += 1
         self.keys = {}
         for name in self.layers.names:
@@ -670,7 +707,10 @@ class Book:
         """The lines of the reply to a line."""
         asked = read_line(line)
         if not isinstance(asked, Question):
-            self.submit(asked)
+            try:
+                self.submit([asked])
+            except RefusedAt as refusal:
+                raise refusal.why from None
             return [f"ok {self.number}"]
         if asked.word == "SYNC":
             raise Refused(46)
@@ -684,13 +724,33 @@ class Book:
         return answer(self.meanings, asked, self.keys.get(asked.name))
 
 
+    def reply_to_batch(self, lines, size):
+        """The reply to as many lines as belong to a batch, or to those that are left of a script."""
+        if len(lines) < size:
+            raise Refused(41)
+        commands = []
+        for place, line in enumerate(lines):
+            try:
+                commands.append(command_of(line))
+            except Refused as refusal:
+                raise RefusedAt(place, refusal) from None
+        self.submit(commands)
+        return [f"ok {self.number}"]
+
+
 def replies_of(script):
-    """The reply, a list of lines, of each line of a script that has one."""
-    book, replies = Book(Meanings()), []
-    for line in lines_of(script):
+    """The reply, a list of lines, of each line of a script that has one, and of each batch."""
+    book, replies, lines = Book(Meanings()), [], lines_of(script)
+    while lines:
+        line, lines = lines[0], lines[1:]
         try:
-            replies.append(book.reply(line))
-        except Refused as refusal:
+            size = batch_size(line)
+            if size is None:
+                replies.append(book.reply(line))
+            else:
+                batch, lines = lines[:size], lines[size:]
+                replies.append(book.reply_to_batch(batch, size))
+        except (Refused, RefusedAt) as refusal:
             replies.append([refusal.line()])
     return replies
 
