@@ -13,6 +13,7 @@ LIMIT = 2**20
 COLUMNS = 17
 COLUMN_WIDTH = 2**17
 LONGEST_LINE = 65536
+LARGEST_BATCH = 64
 
 
 class Unusable(Exception):
@@ -24,17 +25,33 @@ def column_begin(column):
     return -LIMIT + column * COLUMN_WIDTH
 
 
+def batch_size(line):
+    """How many lines belong to this line (bytes): those of a BATCH line that asks for 1 to 64, else none."""
+    found = re.fullmatch(rb"[ \t]*BATCH[ \t]+(\+?[0-9]{1,18})[ \t]*", line) if len(line) <= LONGEST_LINE else None
+    size = int(found.group(1)) if found else 0
+    return size if size <= LARGEST_BATCH else 0
+
+
 def requests(script):
-    """The lines of a script (bytes) that have a reply, without their ends."""
+    """What has a reply in a script (bytes), each as its lines without their ends: a line, or a batch with its lines.
+
+    And how many lines the last of them still lacks, as where a script ends within a batch.
+    """
     lines = script.split(b"\n")
     if lines[-1] == b"":
         lines.pop()
-    found = []
+    found, lacking = [], 0
     for line in lines:
         line = line[:-1] if line.endswith(b"\r") else line
-        if len(line) > LONGEST_LINE or (line.strip(b" \t") and not line.startswith(b"#")):
-            found.append(line.decode("utf-8", "replace"))
-    return found
+        if len(line) <= LONGEST_LINE and (not line.strip(b" \t") or line.startswith(b"#")):
+            continue
+        if lacking:
+            lacking -= 1
+        else:
+            lacking = batch_size(line)
+            found.append([])
+        found[-1].append(line.decode("utf-8", "replace"))
+    return found, lacking
 
 
 def reply_lines(replies, at):
@@ -68,7 +85,7 @@ class Session:
         self.definitions = {}  # name: the expression as given
         self.edges = {}  # (name, column): list of pieces, or the line of the refusal
         self.grids = {}  # name: (x, y, step, rows)
-        self.refused = []  # (request, line of the refusal)
+        self.refused = []  # (lines of the request as one text, line of the refusal)
 
     def reach(self, name):
         """The layer itself and all that its definition names, directly or through others."""
@@ -107,7 +124,21 @@ class Session:
         self.definitions.pop(name, None)
 
     def answered(self, request, reply):
-        """Takes in one request with the lines of its reply."""
+        """Takes in one request, a line or a batch with its lines, with the lines of its reply."""
+        if len(request) > 1:
+            self.answered_batch(request, reply)
+        else:
+            self.answered_line(request[0], reply)
+
+    def answered_batch(self, request, reply):
+        """A batch changes all that its lines change, or nothing."""
+        if reply[0].startswith(("error ", "refused ")):
+            self.refused.append(("\n".join(request), reply[0]))
+        else:
+            for line in request[1:]:
+                self.answered_line(line, reply)
+
+    def answered_line(self, request, reply):
         word, _, rest = request.strip(" \t").replace("\t", " ").partition(" ")
         rest = rest.strip(" ")
         if reply[0].startswith("error "):
@@ -134,12 +165,12 @@ def read(script, replies):
     lines = replies.decode("utf-8", "replace").split("\n")
     if lines[-1] == "":
         lines.pop()
-    for request in requests(script):
+    for request in requests(script)[0]:
         try:
             reply = reply_lines(lines, at)
             session.answered(request, reply)
         except (ValueError, AttributeError, IndexError, TypeError, wkt.WktFault) as fault:
-            raise Unusable(f"line {at + 1} of the replies is no reply to: {request[:60]}") from fault
+            raise Unusable(f"line {at + 1} of the replies is no reply to: {request[0][:60]}") from fault
         at += len(reply)
     if at < len(lines):
         raise Unusable(f"line {at + 1} of the replies answers no line of the script: {lines[at][:60]}")
@@ -149,8 +180,8 @@ def read(script, replies):
 def last_defined(script):
     """The name that the last DEFINE of a script gives."""
     found = None
-    for request in requests(script):
-        match = re.match(r"[ \t]*DEFINE[ \t]+([A-Za-z][A-Za-z0-9_]*)[ \t]*=", request)
+    for line in (line for request in requests(script)[0] for line in request):
+        match = re.match(r"[ \t]*DEFINE[ \t]+([A-Za-z][A-Za-z0-9_]*)[ \t]*=", line)
         found = match.group(1) if match else found
     if found is None:
         raise Unusable("the script defines no layer: DEFINE one, for a base layer A by DEFINE L = A")
@@ -159,6 +190,8 @@ def last_defined(script):
 
 def with_questions(script, layer, grid=None):
     """The script and, behind it, the questions for all columns of a layer, and for a grid (x, y, step, nx, ny)."""
+    if requests(script)[1]:
+        raise Unusable("the script ends within a batch")
     lines = [f"WAIT {layer}"] + [f"EDGES {layer} {column}" for column in range(COLUMNS)]
     if grid:
         lines.append(f"GRID {layer} " + " ".join(str(number) for number in grid))
@@ -169,10 +202,10 @@ def with_questions(script, layer, grid=None):
 def put_by(script):
     """The rings of the base layers that a script puts, as far as its lines can be read."""
     session = Session()
-    for request in requests(script):
-        if request.strip(" \t").startswith("PUT"):
+    for line in (line for request in requests(script)[0] for line in request):
+        if line.strip(" \t").startswith("PUT"):
             try:
-                session.answered(request, ["ok"])
+                session.answered_line(line, ["ok"])
             except (ValueError, AttributeError, IndexError, TypeError, wkt.WktFault):
                 continue
     return session.base

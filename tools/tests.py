@@ -448,6 +448,40 @@ class Sessions(unittest.TestCase):
         session = sessions.read(script, replies.encode())
         self.assertEqual((session.base, session.definitions, len(session.refused)), ({}, {}, 2))
 
+    def test_a_batch_has_one_reply(self):
+        lines = [b"BATCH 3", b"PUT A " + SQUARE.encode(), b"", b"# PUT B", b"PUT B " + SQUARE.encode(),
+                 b"DEFINE I = A & B", b" BATCH\t+2 \r", b"DROP I", b"DROP Z", b"LAYERS", b"BATCH 2", b"DROP I", b"#" * 65537, b"BATCH 1",
+                 b"BATCH 1", b"EDGES I 8"]
+        replies = ["ok 1", "refused 1 error 10 unknown layer", "layers 3", "A MULTI" + SQUARE, "B MULTI" + SQUARE,
+                   "I = A & B", "refused 1 error 42 line too long", "refused 0 error 41 command syntax", "edges 0"]
+        session = sessions.read(b"\n".join(lines), "\n".join(replies).encode())
+        self.assertEqual((list(session.base), session.definitions, session.edges),
+                         (["A", "B"], {"I": "A & B"}, {("I", 8): []}))
+        self.assertEqual([text.split("\n")[0] for text, _ in session.refused], [" BATCH\t+2 ", "BATCH 2", "BATCH 1"])
+        batch = b"\n".join(lines[:6])
+        self.assertEqual((sessions.last_defined(batch), list(sessions.put_by(batch))), ("I", ["A", "B"]))
+
+    def test_a_batch_changes_all_or_nothing(self):
+        put = b"PUT A " + SQUARE.encode()
+        script = b"\n".join([put, b"BATCH 3", b"DROP A", b"PUT B " + SQUARE.encode(), b"DEFINE I = B"])
+        for reply, base, definitions in ((b"ok 2", ["B"], {"I": "B"}), (b"refused 2 error 10 unknown layer", ["A"], {}),
+                                         (b"error 40 out of memory", ["A"], {})):
+            session = sessions.read(script, b"ok 1\n" + reply)
+            self.assertEqual((list(session.base), session.definitions), (base, definitions))
+
+    def test_no_line_belongs_to_a_batch_line_that_is_refused(self):
+        for line in (b"BATCH 0", b"BATCH 65", b"BATCH -1", b"BATCH", b"BATCH 2 2", b"BATCH two", b"batch 2",
+                     b"BATCH " + b"0" * 18 + b"2", b"BATCH 2" + b" " * 65530, b"XBATCH 2"):
+            session = sessions.read(line + b"\nPUT A " + SQUARE.encode() + b"\nDROP Z",
+                                    b"error 17 batch size\nok 1\nerror 10 unknown layer")
+            self.assertEqual((list(session.base), len(session.refused)), (["A"], 2), line[:20])
+
+    def test_a_script_that_ends_within_a_batch(self):
+        script = b"DEFINE I = A\nBATCH 2\nDROP I\n\n"
+        self.assertEqual(len(sessions.read(script, b"error 10 unknown layer\nerror 41 command syntax").refused), 2)
+        with self.assertRaisesRegex(sessions.Unusable, "ends within a batch"):
+            sessions.with_questions(script, "I")
+
     def test_replies_of_another_script(self):
         for replies in (b"", b"ok 1\nok 2\n", b"edges 2\n1 1 1 2 2 1\n"):
             with self.assertRaises(sessions.Unusable):
