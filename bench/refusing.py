@@ -213,7 +213,8 @@ def cut(judged):
 
 def check_cut(outcome, judged, fault):
     """Looks at what one refused growth may cut off: a session that had no memory to begin, which has no reply then
-    (40), or none for a reply (49). A single session that has read a line has replies but for 49.
+    (40), or none for a reply (49). A single session that has read a line has replies but for 49; of several something
+    is printed but for 40.
     """
     sessions = cut(judged)
     if len(sessions) > 1:
@@ -224,6 +225,8 @@ def check_cut(outcome, judged, fault):
         raise judging.Wrong(f"a session is cut off behind a reply, and {fault} is told")
     if judged is None and outcome.sessions == 1 and fault != 49 and not outcome.is_early:
         raise judging.Wrong(f"no replies, though the session had begun, and {fault} is told")
+    if judged is None and outcome.sessions > 1 and fault != 40:
+        raise judging.Wrong(f"nothing is printed of {outcome.sessions} sessions, and {fault} is told")
 
 
 def replies_behind(session, place, word):
@@ -318,6 +321,12 @@ def judge_content(runner, outcome, history, number):
         raise judging.Wrong("the program opens the store as another version")
 
 
+def last_accepted(judged):
+    """The greatest number that was told as accepted, 0 where none was."""
+    replies = [reply for session in judged.sessions for reply in session.replies]
+    return max((judging.number_of(reply) for reply in replies if reply[0].startswith("ok ")), default=0)
+
+
 def judge_store(runner, outcome, judged):
     """Looks at the store that a run left: a version of the history, all that was told durable, right tiles."""
     lines = read_store.told(outcome.store) if outcome.store is not None else ["32"]
@@ -332,6 +341,8 @@ def judge_store(runner, outcome, judged):
         check_lost(outcome, number - least)
         history = history_alone(runner.scenario)
     least = max(least, judged.durable if judged else 0)
+    if judged and outcome.counts[1] == 1 and outcome.fault.startswith("error 49 "):
+        least = max(least, last_accepted(judged))  # a session was refused, so the store was not
     if not least <= number <= history.last():
         raise judging.Wrong(f"the store has version {number}; {least} was durable, {history.last()} the last")
     if judged and outcome.status == 0 and number != history.last():
@@ -514,6 +525,7 @@ PAIRS = [
     (one_growth, (2, 0), WRITE, True),
     (one_growth, (1, 1), WRITE, False),
     (one_growth, None, OUT, True),
+    (one_growth, None, WRITE, False),
     (device, (2, 2), "", True),
     (device, (2, 2), DEVICE, True),
     (device, (2, 1), DEVICE, False),
@@ -534,6 +546,8 @@ STORES = [
     (TOLD, one_growth, {4: OUT}, None, "A", True),
     (TOLD, one_growth, {}, "", "A", False),
     (TOLD, one_growth, EARLY, OUT, "A", False),
+    (TOLD, one_growth, {4: None}, WRITE, "A", False),
+    (TOLD, one_growth, CUT | {2: None}, WRITE, "A", True),
     (TOLD, one_growth, LATE, WRITE, "A", True),
     (TOLD, one_growth, LATE, WRITE, "B", False),
     (PAIR, one_growth, LATE, OUT, "A", True),
