@@ -1,13 +1,12 @@
 -- At the right border of a column all nodes are known: each is an end or a border place.
-use Rattle.std.proofs.Common.{◌≡◌, ℕ, ℤ, pos, ◌+◌, ◌<◌, ◌*ℤ◌, ◌<ℤ◌, ◌≤ℤ◌, inl, inr, ◌⊎◌, false, refl, subst, arith}
-use Rattle.std.specs.Prelude.{int_le, int_lt, ◌&&◌, ◌≢◌}
+use Rattle.std.proofs.Common.{◌≡◌, ℕ, ℤ, pos, ◌+◌, ◌<◌, ◌*ℤ◌, ◌<ℤ◌, ◌≤ℤ◌, inl, inr, ◌⊎◌, false, subst, arith}
+use Rattle.std.specs.Prelude.{int_le, int_lt, ◌≢◌}
 use Rattle.std.proofs.lemmas.Int.{ints, by_lt_z}
 use Rattle.std.proofs.lemmas.Bool.{both_ways, and_from, cases_eq}
 use Rattle.overlay_terms.specs.Plane.{Point, point_cmp}
 use Rattle.overlay_terms.specs.Column.{column_count, border, is_in_column}
 use Rattle.overlay_terms.proofs.InputNumbers.{x_in_order, most_back, most_times, last_turned, true_le, true_lt}
 use Rattle.std.specs.declared.cmp.Ordering.TheVariants.{Less}
-use Rattle.exact_point.specs.Place.{place}
 use Rattle.exact_point.specs.declared.point.HPoint.{HPoint}
 use Rattle.crossing_sweep.specs.Queue.{IsUpTo}
 

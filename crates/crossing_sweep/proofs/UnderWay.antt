@@ -1,5 +1,5 @@
 -- A pass under way: how it begins, goes on from node to node, and what it has found at the end.
-use Rattle.std.proofs.Common.{◌≡◌, ℕ, ℤ, pos, ◌+◌, ◌-◌, ◌*◌, ◌<◌, ◌≤◌, ◌^◌, ◌*ℤ◌, ◌<ℤ◌, ◌≤ℤ◌, inl, inr, ◌⊎◌, Bool, true, false, ◌&&◌, ◌||◌, List, [], ◌∷◌, ◌++◌, length, get_or, map, refl, ap, sym, subst, ◌∙◌, arith}
+use Rattle.std.proofs.Common.{◌≡◌, ℕ, ℤ, pos, ◌+◌, ◌*◌, ◌<◌, ◌≤◌, ◌^◌, ◌*ℤ◌, ◌<ℤ◌, ◌≤ℤ◌, inl, inr, ◌⊎◌, Bool, true, false, ◌&&◌, ◌||◌, List, [], ◌∷◌, ◌++◌, length, get_or, map, refl, ap, sym, subst, ◌∙◌, arith}
 use Rattle.std.specs.Prelude.{IsTrue, All, AllPairs, Contains, not}
 use Rattle.std.specs.List.{list_any}
 use Rattle.std.specs.Ordering.{int_eq}
@@ -40,6 +40,7 @@ use Rattle.crossing_sweep.specs.Start.{AreStarts}
 use Rattle.crossing_sweep.specs.Member.{seg_of, segs_of}
 use Rattle.crossing_sweep.specs.Testing.{IsFoundIn, seams_at}
 use Rattle.crossing_sweep.specs.Stepping.{segs_to_come, StandsBefore, IsStepped}
+use Rattle.crossing_sweep.specs.Standing.{nodes_max}
 use Rattle.crossing_sweep.specs.RowLaws.{AreAll}
 use Rattle.crossing_sweep.specs.Rows.{IsRow, AreSorted, BeginAt, Carries}
 use Rattle.crossing_sweep.specs.Crossed.{IsInner, IsUnitPair, IsCrossingAmong, IsSpan, AreCounted, HasFound, IsCaused, IsKey, IsUnderWay}
@@ -408,16 +409,12 @@ module _ (input : Input) (valid : IsInput input) (listed : Bool) (status : List 
 -- ---- numbers that fit
 -- no more nodes are counted than there can be
 pub count_most : (input : Input) {listed : Bool} {status : List Member} {coming : List Start} {ahead : List (HPoint × PointName)} {tests : List (Segment × Segment)} {rows : List Row} (nodes : ℕ) → IsUnderWay input listed status coming ahead tests rows nodes
-    → nodes ≤ length input.marked * (length input.marked * 3 + 17)
+    → nodes ≤ nodes_max input
 count_most input nodes way =
-    most nodes (length way.passed) (length input.marked * (length input.marked * 3 + 17)) way.counted (nodes_are_few input way.q way.passed way.valid way.carries.passes)
+    most nodes (length way.passed) (nodes_max input) way.counted (nodes_are_few input way.q way.passed way.valid way.carries.passes)
   where
     most : (k p m : ℕ) → k ≡ p → p ≤ m → k ≤ m
     most k p m e h = omega (arith, e, h)
-
--- one more leaves fewer to come
-pub fewer_left : (m old new : ℕ) → new ≡ old + 1 → new ≤ m → m - new < m - old
-fewer_left m old new e h = omega (arith, e, h)
 
 -- so few nodes are counted that one more fits
 pub count_fits : (input : Input) {listed : Bool} {status : List Member} {coming : List Start} {ahead : List (HPoint × PointName)} {tests : List (Segment × Segment)} {rows : List Row} (nodes : ℕ) → IsUnderWay input listed status coming ahead tests rows nodes

@@ -27,7 +27,7 @@ use Rattle.crossing_sweep.specs.declared.member.Member.{Member}
 use Rattle.crossing_sweep.specs.declared.start.Start.{Start}
 use Rattle.crossing_sweep.specs.declared.row.Row.{Row}
 use Rattle.crossing_sweep.specs.declared.pass.Crossed.{Crossed}
-use Rattle.crossing_sweep.specs.declared.pass.Pass.{Pass}
+use Rattle.crossing_sweep.specs.declared.progress.Progress.{Progress}
 
 -- a node of the closed column
 pub record IsNodeIn (input : Input) (p : Point) : Type 0 where
@@ -120,6 +120,6 @@ pub record IsUnderWay (input : Input) (listed : Bool) (status : List Member) (co
   pub causes : All (IsCaused input listed tests) passed
 
 -- so is the code's, which counts the units that have entered
-pub record IsPassing (input : Input) (pass : Pass) : Type 0 where
-  pub way : IsUnderWay input pass.search.listed pass.status.items (drop pass.entered pass.starts.items) pass.search.ahead pass.search.tests.items pass.rows.items pass.nodes
-  pub known : pass.entered ≤ length pass.starts.items
+pub record IsPassing (input : Input) (progress : Progress) : Type 0 where
+  pub way : IsUnderWay input progress.search.listed progress.status.items (drop progress.entered progress.starts.items) progress.search.ahead progress.search.tests.items progress.rows.items progress.nodes
+  pub known : progress.entered ≤ length progress.starts.items

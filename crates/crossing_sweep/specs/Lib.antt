@@ -19,4 +19,5 @@ pub mod Rows
 pub mod RowLaws
 pub mod Testing
 pub mod Stepping
+pub mod Standing
 pub mod Crossed

@@ -1,8 +1,8 @@
 -- Laws of what a pass carries along: at the left border, from node to node, and at the end.
-use Rattle.std.specs.Prelude.{◌≡◌, ℕ, ℤ, pos, ◌+◌, ◌*◌, ◌<◌, ◌≤◌, ◌++◌, [], ◌∷◌, ◌≤ℤ◌, ◌<ℤ◌, ◌*ℤ◌, IsTrue, List, length, map, AllPairs}
+use Rattle.std.specs.Prelude.{◌≡◌, ℕ, ℤ, pos, ◌<◌, ◌≤◌, ◌++◌, [], ◌∷◌, ◌≤ℤ◌, ◌<ℤ◌, ◌*ℤ◌, IsTrue, List, length, map, AllPairs}
 use Rattle.std.specs.declared.cmp.Ordering.TheVariants.{Less}
 use Rattle.overlay_terms.specs.Plane.{Point, Segment}
-use Rattle.overlay_terms.specs.Column.{column_count, border}
+use Rattle.overlay_terms.specs.Column.{border}
 use Rattle.overlay_terms.specs.Histories.{oversize, IsTileAt}
 use Rattle.overlay_terms.specs.Tiles.{Input, is_node, pair_cmp, IsTileOf}
 use Rattle.overlay_terms.specs.TileLaws.{IsInput}
@@ -15,6 +15,7 @@ use Rattle.crossing_sweep.specs.Queue.{GoesOn, IsUpTo, IsQueued}
 use Rattle.crossing_sweep.specs.Passing.{HasCome, IsStepTo}
 use Rattle.crossing_sweep.specs.Beginning.{foot}
 use Rattle.crossing_sweep.specs.Member.{segs_of}
+use Rattle.crossing_sweep.specs.Standing.{nodes_max}
 use Rattle.crossing_sweep.specs.Rows.{ArePassed, is_one_of, under_unit, up_to_unit, row_ends, AreSorted, rows_of, BeginAt, Carries}
 use Rattle.crossing_sweep.specs.declared.member.Begin.{Begin}
 use Rattle.crossing_sweep.specs.declared.member.Member.{Member}
@@ -73,4 +74,4 @@ RowsEnd =
 
 -- the places passed are few: for each segment three by each, and one on each border
 abbrev pub NodesAreFew : Type 0
-NodesAreFew = (input : Input) (q : Point) (passed : List Point) → IsInput input → ArePassed (segments_in input) input.column q passed → length passed ≤ length input.marked * (length input.marked * 3 + column_count)
+NodesAreFew = (input : Input) (q : Point) (passed : List Point) → IsInput input → ArePassed (segments_in input) input.column q passed → length passed ≤ nodes_max input

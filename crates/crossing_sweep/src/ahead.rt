@@ -1,5 +1,5 @@
 //! The places that a sweep has found ahead, each with a name.
-ghost use Rattle.std.specs.Prelude.{◌≡◌, [], ◌∷◌, All, IfSome, IsNone, OnOk};
+ghost use Rattle.std.specs.Prelude.{◌≡◌, [], ◌∷◌, All, IfSome, IsNone, IsTrue, ◌↔◌, OnOk};
 ghost use Rattle.std.specs.declared.cmp.Ordering.TheVariants.{Less};
 ghost use Rattle.overlay_terms.specs.Plane.{point_cmp};
 ghost use Rattle.exact_point.specs.Place.{place};
@@ -45,6 +45,13 @@ impl Ahead {
             self.places.insert(at, name)?;
         }
         Ok(())
+    }
+
+    /// Whether there is no place.
+    pub(crate) fn is_empty(&self) -> bool
+        ensures { IsTrue result ↔ (self.now ≡ []) }
+    {
+        self.places.is_empty()
     }
 
     /// Takes out the first place, if there is one.

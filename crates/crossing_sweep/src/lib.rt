@@ -8,6 +8,7 @@ pub mod laws;
 mod member;
 mod members_after;
 mod pass;
+mod progress;
 mod row;
 mod search;
 mod start;

@@ -1,22 +1,18 @@
-//! One pass over a column from node to node: crossings are found from neighbours alone, and the
-//! boundary is carried along.
-ghost use Rattle.std.specs.Prelude.{◌≡◌, ◌<◌, ◌≤◌, ◌+◌, ◌++◌, ◌⊎◌, [], true, false, length, take, drop, IfOk, OnOk};
-ghost use Rattle.crossing_sweep.specs.Crossed.{IsCrossed, IsPassing};
-ghost use Rattle.crossing_sweep.specs.Stepping.{IsStepped};
+//! One pass over a column from node to node.
+ghost use Rattle.std.specs.Prelude.{◌≡◌, ◌<◌, ◌≤◌, ◌+◌, ℕ, ◌⊎◌, true, false, IfOk};
+ghost use Rattle.crossing_sweep.specs.Crossed.{IsCrossed};
+ghost use Rattle.crossing_sweep.specs.Standing.{nodes_max};
 
-use crate::bundle::bundle_at;
 use crate::known_places::known_places;
-use crate::member::{Begin, Member};
-use crate::members_after::{count_entering, turned};
-use crate::row::{Row, close, label, mask_over, sort};
+use crate::member::Begin;
+use crate::progress::Progress;
+use crate::row::{Row, sort};
 use crate::search::Search;
-use crate::start::Start;
 use crate::starts::starts;
 use arrange::tile_input::TileInput;
-use exact_point::point::HPoint;
-use exact_point::side::is_in;
 use plane_base::point::Seg;
 use std::alloc::{AllocError, Global};
+use std::marker::Model;
 
 /// What a pass over a column has found.
 #[derive(Drop)]
@@ -30,15 +26,26 @@ pub struct Crossed {
     pub nodes: u64,
 }
 
-/// A pass over a column that has come to some place.
+/// A pass over the column of an input that has come to some place.
 #[derive(Drop)]
-pub(crate) struct Pass {
-    pub(crate) starts: Vec<Start>,
-    pub(crate) entered: usize,
-    pub(crate) status: Vec<Member>,
-    pub(crate) search: Search,
-    pub(crate) rows: Vec<Row>,
-    pub(crate) nodes: u64,
+pub(crate) struct Pass<'a> {
+    input: &'a TileInput,
+    progress: Progress,
+}
+
+impl<'a> Model for Pass<'a> {
+    ghost use Rattle.std.specs.Prelude.{length};
+    ghost use Rattle.crossing_sweep.specs.Standing.{Standing, standing_code};
+
+    ghost Value = { Standing };
+
+    ghost coded = { standing_code };
+
+    ghost use Rattle.crossing_sweep.specs.Crossed.{IsPassing};
+
+    ghost view = { λ p. record { input = p.input.now; listed = p.progress.search.listed; ahead = length p.progress.search.ahead; rows = length p.progress.rows.items; nodes = p.progress.nodes } };
+
+    ghost invariant = { λ p. IsPassing p.input.now p.progress };
 }
 
 /// The boundary of an input, found by one pass that stops after more than so many pieces.
@@ -50,32 +57,22 @@ pub fn cross(
 ) -> Result<Crossed, AllocError>
     ensures { IfOk result (λ found. IsCrossed input.now cap listed found) }
 {
-    // An input has closed rings: the pass rests on that.
-    let _ = input.column();
-    let mut pass = Pass::new(alloc, input, listed)?;
-    pass.run(alloc, input, cap)?;
-    let nodes = pass.nodes;
-    let search = pass.search;
-    let mut rows = pass.rows;
-    sort(&mut rows);
-    Ok(Crossed {
-        rows,
-        tests: search.tests,
-        nodes,
-    })
+    let pass = Pass::new(alloc, input, listed)?;
+    let pass = pass.run(alloc, cap)?;
+    Ok(pass.into_crossed())
 }
 
-impl Pass {
+impl<'a> Pass<'a> {
     /// A pass that is to begin.
-    fn new(alloc: Global, input: &TileInput, listed: bool) -> Result<Pass, AllocError>
-        ensures way { IfOk result (λ pass. IsPassing input.now pass) }
-        ensures listed { IfOk result (λ pass. pass.search.listed ≡ listed) }
+    fn new(alloc: Global, input: &'a TileInput, listed: bool) -> Result<Pass<'a>, AllocError>
+        ensures input { IfOk result (λ pass. pass.input ≡ input.now) }
+        ensures listed { IfOk result (λ pass. pass.listed ≡ listed) }
     {
         // An input has closed rings: the pass rests on that.
         let _ = input.column();
         let starts = starts(alloc, input)?;
         let ahead = known_places(alloc, input)?;
-        Ok(Pass {
+        let progress = Progress {
             starts,
             entered: 0,
             status: Vec::new(alloc),
@@ -86,97 +83,71 @@ impl Pass {
             },
             rows: Vec::new(alloc),
             nodes: 0,
-        })
+        };
+        Ok(Pass { input, progress })
     }
 
     /// Goes from node to node to the end of the column, or until there are more rows than a cap.
-    fn run(&mut self, alloc: Global, input: &TileInput, cap: usize) -> Result<(), AllocError>
-        requires { IsPassing input.now self.old }
-        ensures way { OnOk result (IsPassing input.now self.new) }
-        ensures listed { OnOk result (self.new.search.listed ≡ self.old.search.listed) }
-        ensures ended { OnOk result ((self.new.search.ahead ≡ []) ⊎ (cap < length self.new.rows.items)) }
+    fn run(self, alloc: Global, cap: usize) -> Result<Pass<'a>, AllocError>
+        ensures input { IfOk result (λ pass. pass.input ≡ self.entry.input) }
+        ensures listed { IfOk result (λ pass. pass.listed ≡ self.entry.listed) }
+        ensures ended { IfOk result (λ pass. (pass.ahead ≡ 0) ⊎ (cap < pass.rows)) }
     {
-        while self.rows.len() <= cap {
-            if !self.go_on(alloc, input)? {
-                return Ok(());
-            }
+        let mut pass = self;
+        while pass.is_under_way(cap) {
+            pass = pass.go_on(alloc)?;
         }
-        Ok(())
+        Ok(pass)
+    }
+
+    /// Whether a place is ahead, and there are no more rows than a cap.
+    fn is_under_way(&self, cap: usize) -> bool
+        ensures way { result ≡ true → ¬ (self.now.ahead ≡ 0) }
+        ensures ended { result ≡ false → (self.now.ahead ≡ 0) ⊎ (cap < self.now.rows) }
+    {
+        !self.progress.search.ahead.is_empty() && self.progress.rows.len() <= cap
     }
 
     /// Passes the next node, if there is one ahead.
-    fn go_on(&mut self, alloc: Global, input: &TileInput) -> Result<bool, AllocError>
-        requires { IsPassing input.now self.old }
-        ensures way { OnOk result (IsPassing input.now self.new) }
-        ensures listed { OnOk result (self.new.search.listed ≡ self.old.search.listed) }
-        ensures more { IfOk result (λ more. more ≡ true → self.new.nodes ≡ self.old.nodes + 1) }
-        ensures ended { IfOk result (λ more. more ≡ false → self.new.search.ahead ≡ []) }
+    fn go_on(self, alloc: Global) -> Result<Pass<'a>, AllocError>
+        ensures input { IfOk result (λ pass. pass.input ≡ self.entry.input) }
+        ensures listed { IfOk result (λ pass. pass.listed ≡ self.entry.listed) }
+        ensures more { IfOk result (λ pass. ¬ (self.entry.ahead ≡ 0) → pass.nodes ≡ self.entry.nodes + 1) }
+        ensures few { IfOk result (λ pass. pass.nodes ≤ nodes_max pass.input) }
     {
-        let Some((at, name)) = self.search.ahead.take_first() else {
-            return Ok(false);
+        let Pass {
+            input,
+            mut progress,
+        } = self;
+        let Some((at, name)) = progress.search.ahead.take_first() else {
+            return Ok(Pass { input, progress });
         };
         // An input has few segments, and so a count of its nodes fits.
         let _ = input.marked();
         let begin = Begin {
             name,
-            number: self.nodes,
+            number: progress.nodes,
         };
-        self.step(alloc, input, &at, &begin)?;
-        self.nodes += 1;
-        Ok(true)
+        progress.step(alloc, input, &at, &begin)?;
+        progress.nodes += 1;
+        Ok(Pass { input, progress })
     }
 
-    /// Passes a node: the pieces of the members that hold it are closed, these give way to those that
-    /// go on or enter there, and the new neighbours are tested.
-    fn step(
-        &mut self,
-        alloc: Global,
-        input: &TileInput,
-        at: &HPoint,
-        begin: &Begin,
-    ) -> Result<(), AllocError>
-        requires { self.old.entered ≤ length self.old.starts.items }
-        ensures few { OnOk result (self.new.entered ≤ length self.new.starts.items) }
-        ensures stepped { OnOk result
-            (IsStepped input.now at.now begin.now self.old.status.items self.new.status.items
-            (drop self.old.entered self.old.starts.items) (drop self.new.entered self.new.starts.items)
-            self.old.search self.new.search self.old.rows.items self.new.rows.items) }
-        ensures nodes { self.new.nodes ≡ self.old.nodes }
+    /// What it has found, where it has come to the end, or has more rows than a cap.
+    fn into_crossed(self) -> Crossed
+        ensures { (cap : ℕ) → (self.entry.ahead ≡ 0) ⊎ (cap < self.entry.rows) → IsCrossed self.entry.input cap self.entry.listed result }
     {
-        let coming = &self.starts[self.entered..];
-        let (low, high) = bundle_at(&self.status, at);
-        close(&mut self.rows, &self.status[low..high], begin)?;
-        let entered = count_entering(coming, at);
-        let mut stay = turned(
-            alloc,
-            &self.status[low..high],
-            &coming[..entered],
-            at,
-            begin,
-        )?;
-        let under = mask_over(&self.status[..low]);
-        let within = is_in(input.column(), at);
-        label(input, &mut stay, under, begin, within);
-        let top = low + stay.len();
-        replace(&mut self.status, low, high, stay)?;
-        self.search
-            .test_new(within, input.column(), at, &self.status, low, top)?;
-        self.entered += entered;
-        Ok(())
+        let Progress {
+            search,
+            mut rows,
+            nodes,
+            ..
+        } = self.progress;
+        sort(&mut rows);
+        Crossed {
+            rows,
+            tests: search.tests,
+            nodes,
+        }
     }
-}
-
-/// Puts members in the place of those of a range.
-fn replace(
-    status: &mut Vec<Member>,
-    low: usize,
-    high: usize,
-    stay: Vec<Member>,
-) -> Result<(), AllocError>
-    requires in_order { low ≤ high }
-    requires few { high ≤ length status.old.items }
-    ensures { OnOk result (status.new.items ≡ take low status.old.items ++ stay.items ++ drop high status.old.items) }
-{
-    status.splice(low..high, stay)?;
-    Ok(())
 }

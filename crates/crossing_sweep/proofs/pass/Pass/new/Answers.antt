@@ -2,8 +2,8 @@ use Rattle.std.proofs.Common.{arith}
 use Rattle.crossing_sweep.proofs.UnderWay.{begins_there}
 use Rattle.crossing_sweep.proofs.pass.Pass.new.Goals as goal
 
-pub returns-clause-way : goal.returns-clause-way
-returns-clause-way c = record {
+pub invariant_of-result : goal.invariant_of-result
+invariant_of-result c = record {
   way = begins_there c.args.input.now c.args.listed c.in_ok-starts.starts.items c.in_ok-ahead.ahead _ _ _ c.column.ensures.valid c.in_ok-starts.ensures c.in_ok-ahead.ensures c.new.ensures.items c.new-2.ensures.items c.new-3.ensures.items;
   known = omega arith;
 }

@@ -1,12 +1,12 @@
-use Rattle.std.proofs.Common.{◌≡◌, ◌+◌, ◌-◌, ◌*◌, length}
-use Rattle.crossing_sweep.specs.Crossed.{IsPassing}
+use Rattle.std.proofs.Common.{◌≡◌, ◌-◌}
+use Rattle.crossing_sweep.specs.Standing.{nodes_max}
 use Rattle.crossing_sweep.proofs.pass.Pass.run.Given as goal
 
 abbrev pub invariant-loop-alloc : goal.invariant-loop-alloc
 invariant-loop-alloc l = record {
-  way : IsPassing l.input l.self;
-  listed : l.self.search.listed ≡ l.fn.self.search.listed;
+  input : l.pass.input ≡ l.fn.self.input;
+  listed : l.pass.listed ≡ l.fn.self.listed;
 }
 
 abbrev pub decreases-loop-alloc : goal.decreases-loop-alloc
-decreases-loop-alloc l = length l.input.marked * (length l.input.marked * 3 + 17) - l.self.nodes
+decreases-loop-alloc l = nodes_max l.pass.input - l.pass.nodes

@@ -1,4 +1,4 @@
-use Rattle.std.proofs.Common.{rules, ◌≡◌, ℕ, ◌+◌, ◌-◌, ◌≤◌, Bool, List, [], ◌∷◌, ◌++◌, map, length, take, drop, subst, ap, ◌∙◌}
+use Rattle.std.proofs.Common.{rules, ◌≡◌, ℕ, ◌+◌, ◌-◌, ◌≤◌, Bool, List, ◌++◌, map, length, take, drop, subst, ap, ◌∙◌}
 use Rattle.std.proofs.Math.Seq.{take-append_seam}
 use Rattle.std.proofs.lemmas.List.{drop-drop, take_rest}
 use Rattle.std.specs.Prelude.{filter}
@@ -18,7 +18,7 @@ use Rattle.crossing_sweep.specs.declared.row.Row.{Row}
 use Rattle.crossing_sweep.specs.declared.start.Start.{Start}
 use Rattle.crossing_sweep.proofs.TurnedLemmas.{unit_after}
 use Rattle.crossing_sweep.proofs.TakenLemmas.{stepped}
-use Rattle.crossing_sweep.proofs.pass.Pass.step.Goals as goal
+use Rattle.crossing_sweep.proofs.progress.Progress.step.Goals as goal
 
 pub returns-clause-stepped : goal.returns-clause-stepped
 returns-clause-stepped c =

@@ -4,7 +4,7 @@ use Rattle.std.proofs.lemmas.List.{map-id}
 use Rattle.std.proofs.lemmas.Iterator.{items_from_drains}
 use Rattle.std.proofs.lemmas.Iterator.Adapters.{YieldsList-from_vec}
 use Rattle.crossing_sweep.specs.declared.member.Member.{Member}
-use Rattle.crossing_sweep.proofs.pass.replace.Goals as goal
+use Rattle.crossing_sweep.proofs.progress.replace.Goals as goal
 
 pub returns : goal.returns
 returns c =

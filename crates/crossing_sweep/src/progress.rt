@@ -1,0 +1,82 @@
+//! What a pass over a column has, and one step of it: crossings are found from neighbours alone, and
+//! the boundary is carried along.
+ghost use Rattle.std.specs.Prelude.{◌≡◌, ◌≤◌, ◌++◌, length, take, drop, OnOk};
+ghost use Rattle.crossing_sweep.specs.Stepping.{IsStepped};
+
+use crate::bundle::bundle_at;
+use crate::member::{Begin, Member};
+use crate::members_after::{count_entering, turned};
+use crate::row::{Row, close, label, mask_over};
+use crate::search::Search;
+use crate::start::Start;
+use arrange::tile_input::TileInput;
+use exact_point::point::HPoint;
+use exact_point::side::is_in;
+use std::alloc::{AllocError, Global};
+
+/// What a pass over a column has when it has come to some place.
+#[derive(Drop)]
+pub(crate) struct Progress {
+    pub starts: Vec<Start>,
+    pub entered: usize,
+    pub status: Vec<Member>,
+    pub search: Search,
+    pub rows: Vec<Row>,
+    pub nodes: u64,
+}
+
+impl Progress {
+    /// Passes a node: the pieces of the members that hold it are closed, these give way to those that
+    /// go on or enter there, and the new neighbours are tested.
+    pub(crate) fn step(
+        &mut self,
+        alloc: Global,
+        input: &TileInput,
+        at: &HPoint,
+        begin: &Begin,
+    ) -> Result<(), AllocError>
+        requires { self.old.entered ≤ length self.old.starts.items }
+        ensures few { OnOk result (self.new.entered ≤ length self.new.starts.items) }
+        ensures stepped { OnOk result
+            (IsStepped input.now at.now begin.now self.old.status.items self.new.status.items
+            (drop self.old.entered self.old.starts.items) (drop self.new.entered self.new.starts.items)
+            self.old.search self.new.search self.old.rows.items self.new.rows.items) }
+        ensures nodes { self.new.nodes ≡ self.old.nodes }
+    {
+        let coming = &self.starts[self.entered..];
+        let (low, high) = bundle_at(&self.status, at);
+        close(&mut self.rows, &self.status[low..high], begin)?;
+        let entered = count_entering(coming, at);
+        let mut stay = turned(
+            alloc,
+            &self.status[low..high],
+            &coming[..entered],
+            at,
+            begin,
+        )?;
+        let under = mask_over(&self.status[..low]);
+        let within = is_in(input.column(), at);
+        label(input, &mut stay, under, begin, within);
+        let top = low + stay.len();
+        replace(&mut self.status, low, high, stay)?;
+        self.search
+            .test_new(within, input.column(), at, &self.status, low, top)?;
+        self.entered += entered;
+        Ok(())
+    }
+}
+
+/// Puts members in the place of those of a range.
+fn replace(
+    status: &mut Vec<Member>,
+    low: usize,
+    high: usize,
+    stay: Vec<Member>,
+) -> Result<(), AllocError>
+    requires in_order { low ≤ high }
+    requires few { high ≤ length status.old.items }
+    ensures { OnOk result (status.new.items ≡ take low status.old.items ++ stay.items ++ drop high status.old.items) }
+{
+    status.splice(low..high, stay)?;
+    Ok(())
+}
