@@ -15,7 +15,6 @@ use Rattle.overlay_terms.specs.Tiles.{Input, is_node}
 use Rattle.overlay_terms.specs.TileLaws.{IsInput}
 use Rattle.overlay_terms.specs.Trees.{steps_value, mask_bits}
 use Rattle.overlay_terms.proofs.InputNumbers.{x_in_order, less_times, less_back, last_turned, lt_true, true_lt, true_le}
-use Rattle.exact_point.specs.PlaceOf.{place_of}
 use Rattle.tile_laws.proofs.Statements.{segments_in}
 use Rattle.arrange.specs.Units.{IsUnit, AreUnits, cover_bits}
 use Rattle.arrange.specs.declared.unit.Unit.{Unit}
@@ -24,9 +23,8 @@ use Rattle.crossing_sweep.specs.Status.{IsStretchOf}
 use Rattle.crossing_sweep.specs.Queue.{GoesOn, IsStatusAt}
 use Rattle.crossing_sweep.specs.Sides.{IsNodal}
 use Rattle.crossing_sweep.specs.Masks.{MasksGoUp}
-use Rattle.crossing_sweep.specs.Rows.{IsNumbered, is_one_of, HasBits, under_unit, up_to_unit, sides_differ, IsCarriedFrom, IsCarried, mask_over, IsBegun, AreBegun}
+use Rattle.crossing_sweep.specs.Rows.{place_at, is_one_of, HasBits, under_unit, up_to_unit, sides_differ, IsCarriedFrom, IsCarried, mask_over, IsBegun, AreBegun}
 use Rattle.crossing_sweep.specs.Member.{seg_of}
-use Rattle.crossing_sweep.specs.declared.member.Begin.{Begin}
 use Rattle.crossing_sweep.specs.declared.member.Member.{Member}
 use Rattle.crossing_sweep.proofs.KeptLemmas.{masks_are_kept}
 use Rattle.crossing_sweep.proofs.LastNodeLemmas.{last_node_is_new}
@@ -57,15 +55,15 @@ before_in_column k p r hp hr from less within =
     below x y w v b hw hv h l = less_back x (b *ℤ w) v hv (omega (arith, ints, h, less_times y (b *ℤ v) w hw l, last_turned b v w))
 
 module _ (n : ℤ) (input : Input) (units : List Unit) (r : Point) (passed : List Point) (steep : IsSteep n) (valid : IsInput input) (are : AreUnits input.marked units) (nodal : IsNodal r)
-    (node : IsTrue (is_node (segments_in input) r)) (end : Begin) (at : place_of end.name ≡ r) (numbered : IsNumbered passed end.name end.number) where
+    (node : IsTrue (is_node (segments_in input) r)) (end : ℕ) (end_known : end < length passed) (at : place_at passed end ≡ r) where
   hr : pos 0 <ℤ r.w
   hr = nodal.small.positive
 
   -- a member that begins there
   begins_there : (m : Member) → m.begin ≡ end → IsCarriedFrom n input r r m → IsCarried n input passed r m
   begins_there m e carried = record {
-    begins = let P : Begin → Type 0 = λ b. IsNumbered passed b.name b.number in subst P (sym e) numbered;
-    carried = let P : Point → Type 0 = λ p. IsCarriedFrom n input p r m in subst P (sym (ap (λ (b : Begin). place_of b.name) e ∙ at)) carried;
+    known = let P : ℕ → Type 0 = λ b. b < length passed in subst P (sym e) end_known;
+    carried = let P : Point → Type 0 = λ p. IsCarriedFrom n input p r m in subst P (sym (ap (λ (b : ℕ). place_at passed b) e ∙ at)) carried;
   }
 
   -- ---- on the right border
@@ -148,7 +146,7 @@ module _ (n : ℤ) (input : Input) (units : List Unit) (r : Point) (passed : Lis
 
     -- what the highest member under the node carries is what lies under the first that begins there
     module _ (within : IsTrue (is_in_column input.column r)) (under : List Member) (rest : List Segment) (split : full ≡ map seg_of under ++ rest) (carried : All (IsCarried n input passed r) under)
-        (in_column : All (λ m. IsTrue (is_in_column input.column (place_of m.begin.name))) under) where
+        (in_column : All (λ m. IsTrue (is_in_column input.column (place_at passed m.begin))) under) where
       long : length (map seg_of under) ≡ length under
       long = length-map under seg_of
 
@@ -180,7 +178,7 @@ module _ (n : ℤ) (input : Input) (units : List Unit) (r : Point) (passed : Lis
         up_there : HasBits (get_or under j d).over (up_to_unit n input (seg_of (get_or under j d)) r)
         up_there k few =
             let c = in_column j d known in
-            carry.carried.over c k few ∙ (masks_are_kept n input (seg_of (get_or under j d)) (place_of (get_or under j d).begin.name) r k steep valid stretch lasts nodal.small within (carry.carried.last c) ends).1
+            carry.carried.over c k few ∙ (masks_are_kept n input (seg_of (get_or under j d)) (place_at passed (get_or under j d).begin) r k steep valid stretch lasts nodal.small within (carry.carried.last c) ends).1
 
         some : IsUnderNext (map seg_of under) (mask_over 0 under)
         some e m k few =

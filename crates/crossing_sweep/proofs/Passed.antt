@@ -1,5 +1,5 @@
 -- The places passed: one more at each step, and what their numbers stand for.
-use Rattle.std.proofs.Common.{◌≡◌, ℕ, pos, ◌+◌, ◌*ℤ◌, ◌<ℤ◌, ◌≤ℤ◌, List, [], ◌∷◌, ◌++◌, length, get_or, ap, sym, ◌∙◌, arith}
+use Rattle.std.proofs.Common.{◌≡◌, ℕ, pos, ◌+◌, ◌<◌, ◌*ℤ◌, ◌<ℤ◌, ◌≤ℤ◌, List, [], ◌∷◌, ◌++◌, length, get_or, ap, ◌∙◌, arith}
 use Rattle.std.specs.Prelude.{IsTrue, All}
 use Rattle.std.proofs.lemmas.List.{get_or_append_left, get_or-append-add}
 use Rattle.std.proofs.lemmas.List.Elements.{All-nil, All-cons, All-push, Contains-push}
@@ -9,14 +9,11 @@ use Rattle.overlay_terms.specs.Plane.{Point, Segment, point_cmp, same_place}
 use Rattle.overlay_terms.specs.Column.{border}
 use Rattle.overlay_terms.specs.Tiles.{is_node}
 use Rattle.overlay_terms.proofs.Lists.{any_from, any_left}
-use Rattle.exact_point.specs.PointName.{HasPlace}
-use Rattle.exact_point.specs.PlaceOf.{place_of}
-use Rattle.exact_point.specs.declared.point_name.PointName.{PointName}
 use Rattle.exact_point.proofs.PlaceOrder.{Way, before, at, after, way_of, less_through, alike_left, not_before_self, not_after_less}
 use Rattle.crossing_sweep.specs.Leaning.{IsSmall}
 use Rattle.crossing_sweep.specs.NextNode.{IsNextNode}
 use Rattle.crossing_sweep.specs.Queue.{IsUpTo, IsQueued}
-use Rattle.crossing_sweep.specs.Rows.{ArePassed, IsNumbered}
+use Rattle.crossing_sweep.specs.Rows.{ArePassed, place_at}
 use Rattle.crossing_sweep.proofs.Pairs.{all_pairs_append}
 
 -- what is not after a place is before what comes after it
@@ -33,19 +30,17 @@ module _ (passed : List Point) (r : Point) where
   long : length (passed ++ r ∷ []) ≡ length passed + 1
   long = length-append passed (r ∷ [])
 
-  pub still_numbered : (name : PointName) (number : ℕ) → IsNumbered passed name number → IsNumbered (passed ++ r ∷ []) name number
-  still_numbered name number is = record {
-    named = is.named;
-    known = omega (arith, long, is.known);
-    at = λ d. get_or_append_left passed (r ∷ []) d number is.known ∙ is.at d;
-  }
+  pub still_known : (number : ℕ) → number < length passed → number < length (passed ++ r ∷ [])
+  still_known number l = omega (arith, long, l)
 
-  pub last_numbered : (name : PointName) (number : ℕ) → HasPlace name → place_of name ≡ r → number ≡ length passed → IsNumbered (passed ++ r ∷ []) name number
-  last_numbered name number named here e = record {
-    named = named;
-    known = omega (arith, long, e);
-    at = λ d. ap (λ i. get_or (passed ++ r ∷ []) i d) (e ∙ plus_zero (length passed)) ∙ get_or-append-add passed (r ∷ []) 0 d ∙ sym here;
-  }
+  pub still_at : (number : ℕ) → number < length passed → place_at (passed ++ r ∷ []) number ≡ place_at passed number
+  still_at number l = get_or_append_left passed (r ∷ []) _ number l
+
+  pub last_known : (number : ℕ) → number ≡ length passed → number < length (passed ++ r ∷ [])
+  last_known number e = omega (arith, long, e)
+
+  pub last_at : (number : ℕ) → number ≡ length passed → place_at (passed ++ r ∷ []) number ≡ r
+  last_at number e = ap (λ i. place_at (passed ++ r ∷ []) i) (e ∙ plus_zero (length passed)) ∙ get_or-append-add passed (r ∷ []) 0 _
     where
       plus_zero : (i : ℕ) → i ≡ i + 0
       plus_zero i = omega arith

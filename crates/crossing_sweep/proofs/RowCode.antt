@@ -3,7 +3,6 @@ use Rattle.std.proofs.Common.{◌≡◌, ℕ, ◌<◌, Bool, List, [], ◌∷◌
 use Rattle.std.proofs.lemmas.List.{map-set, get_or-map, set-get_or}
 use Rattle.overlay_terms.specs.Trees.{Steps}
 use Rattle.crossing_sweep.specs.Rows.{mask_over, IsBegun, AreBegun}
-use Rattle.crossing_sweep.specs.declared.member.Begin.{Begin}
 use Rattle.crossing_sweep.specs.declared.member.Member.{Member}
 
 -- ---- members that begin
@@ -11,7 +10,7 @@ pub mask_over_more : (under : ℕ) (ms : List Member) (m : Member) → mask_over
 mask_over_more under [] m = refl
 mask_over_more under (x ∷ xs) m = mask_over_more x.over xs m
 
-pub begun_more : (steps : Steps) (begin : Begin) (within : Bool) (under : ℕ) (ms : List Member) (m : Member) → AreBegun steps under begin within ms → IsBegun steps (mask_over under ms) begin within m
+pub begun_more : (steps : Steps) (begin : ℕ) (within : Bool) (under : ℕ) (ms : List Member) (m : Member) → AreBegun steps under begin within ms → IsBegun steps (mask_over under ms) begin within m
     → AreBegun steps under begin within (ms ++ m ∷ [])
 begun_more steps begin within under [] m all one = (one, all)
 begun_more steps begin within under (x ∷ xs) m all one = (all.0, begun_more steps begin within x.over xs m all.1 one)

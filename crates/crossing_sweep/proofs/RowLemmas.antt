@@ -3,7 +3,7 @@ use Rattle.std.proofs.Common.{◌≡◌, ℕ, ℤ, pos, ◌+◌, ◌<◌, ◌-�
 use Rattle.std.specs.Prelude.{IsTrue, All, AllPairs, Any, Contains, int_le, int_lt}
 use Rattle.std.proofs.lemmas.Int.{ints}
 use Rattle.std.proofs.lemmas.Bool.{and_parts, and_from}
-use Rattle.std.proofs.lemmas.List.{get_or-map, length-map}
+use Rattle.std.proofs.lemmas.List.{get_or-map, get_or_default, length-map}
 use Rattle.std.proofs.lemmas.List.Elements.{All-head, All-map, All-filter, All-contains, All-append, filter_passes, Contains-append_cases, Contains-append_left, Contains-append_right}
 use Rattle.std.proofs.lemmas.List.Kept.{AllPairs-filter}
 use Rattle.std.proofs.Math.IntN.{*ℤ-zero, *ℤ_comm}
@@ -16,7 +16,6 @@ use Rattle.overlay_terms.specs.Trees.{steps_value}
 use Rattle.overlay_terms.proofs.InputNumbers.{le_true, left_most, most_times, last_turned}
 use Rattle.overlay_terms.proofs.Lists.{any_from, any_left, any_contains, contains_map}
 use Rattle.exact_point.specs.Crossing.{turn_of}
-use Rattle.exact_point.specs.PlaceOf.{place_of}
 use Rattle.exact_point.proofs.Lexical.{Forward}
 use Rattle.exact_point.proofs.Lines.{gap, gap_at, flat_gap}
 use Rattle.exact_point.proofs.OnLine.{within_on, on_line, one_direction, after_left, before_right, forward_from_less, way_up}
@@ -38,9 +37,8 @@ use Rattle.crossing_sweep.specs.Sides.{IsNodal}
 use Rattle.crossing_sweep.specs.Border.{IsWaiting}
 use Rattle.crossing_sweep.specs.Passing.{begins_left, waiting, IsToCome, IsAhead, HasCome, IsEntry, IsStepTo, IsTaken}
 use Rattle.crossing_sweep.specs.Member.{seg_of, segs_of}
-use Rattle.crossing_sweep.specs.Rows.{IsNumbered, is_one_of, under_unit, up_to_unit, sides_differ, IsCarried, IsRow, row_to, rows_of, mask_over, BeginAt, Carries}
+use Rattle.crossing_sweep.specs.Rows.{place_at, is_one_of, under_unit, up_to_unit, sides_differ, IsCarriedFrom, IsCarried, IsRow, row_to, rows_of, mask_over, BeginAt, Carries}
 use Rattle.crossing_sweep.specs.RowLaws.{RowsGoOn}
-use Rattle.crossing_sweep.specs.declared.member.Begin.{Begin}
 use Rattle.crossing_sweep.specs.declared.member.Member.{Member}
 use Rattle.crossing_sweep.specs.declared.row.Row.{Row}
 use Rattle.crossing_sweep.proofs.Lean.{lean_height, lean_turn}
@@ -51,7 +49,7 @@ use Rattle.crossing_sweep.proofs.LastNodeLemmas.{last_node_stays}
 use Rattle.crossing_sweep.proofs.ClosedLemmas.{stretch_is_closed}
 use Rattle.crossing_sweep.proofs.UnitStretchLemmas.{units_are_stretches}
 use Rattle.crossing_sweep.proofs.PassLemmas.{pass_goes_on, entered_holds, filter_contains, contains_filter, all_of}
-use Rattle.crossing_sweep.proofs.Passed.{not_after_before, still_numbered, last_numbered, one_passed}
+use Rattle.crossing_sweep.proofs.Passed.{not_after_before, still_known, still_at, last_known, last_at, one_passed}
 use Rattle.crossing_sweep.proofs.Labels.{before_in_column, all_out, all_in, first_under}
 
 -- ---- lists
@@ -117,7 +115,7 @@ module _ (column : ℕ) (q p : Point) (u : Segment) (proper : IsProper u) (hq : 
   no_earlier (after e) not_after = not_after e
 
 -- ---- one step
-module _ (n : ℤ) (input : Input) (units : List Unit) (q r : Point) (under bundle over stay : List Member) (entering rest : List Segment) (keys new passed : List Point) (rows : List Row) (end : Begin)
+module _ (n : ℤ) (input : Input) (units : List Unit) (q r : Point) (under bundle over stay : List Member) (entering rest : List Segment) (keys new passed : List Point) (rows : List Row) (end : ℕ)
     (steep : IsSteep n) (valid : IsInput input) (are : AreUnits input.marked units)
     (come : HasCome n (segments_in input) (map (λ (u : Unit). u.seg) units) input.column q (segs_of under ++ segs_of bundle ++ segs_of over) (entering ++ rest) (r ∷ keys))
     (step : IsStepTo (segments_in input) input.column r (segs_of under) (segs_of bundle) (segs_of over) entering (segs_of stay) rest keys new)
@@ -149,39 +147,45 @@ module _ (n : ℤ) (input : Input) (units : List Unit) (q r : Point) (under bund
   abbrev later : List Point
   later = passed ++ r ∷ []
 
-  ends_there : IsNumbered (passed ++ r ∷ []) end.name end.number
-  ends_there = last_numbered passed r end.name end.number begin.named begin.at begin.number
+  end_known : end < length (passed ++ r ∷ [])
+  end_known = last_known passed r end begin.number
+
+  end_at : place_at (passed ++ r ∷ []) end ≡ r
+  end_at = last_at passed r end begin.number
 
   -- ---- the members
   members_low : All (IsCarried n input passed q) (under ++ bundle)
   members_low = all_first (IsCarried n input passed q) (under ++ bundle) over carries.members
 
   -- where a member begins
-  begin_place : (m : Member) → IsCarried n input passed q m → Contains passed (place_of m.begin.name)
-  begin_place m c = (m.begin.number, c.begins.known, c.begins.at (place_of m.begin.name))
+  begin_place : (m : Member) → IsCarried n input passed q m → Contains passed (place_at passed m.begin)
+  begin_place m c = (m.begin, c.known, get_or_default passed m.begin (place_at passed m.begin) _ c.known)
 
-  positive_begin : (m : Member) → IsCarried n input passed q m → pos 0 <ℤ (place_of m.begin.name).w
-  positive_begin m c = (All-contains IsSmall passed (place_of m.begin.name) carries.passes.small (begin_place m c)).positive
+  positive_begin : (m : Member) → IsCarried n input passed q m → pos 0 <ℤ (place_at passed m.begin).w
+  positive_begin m c = (All-contains IsSmall passed (place_at passed m.begin) carries.passes.small (begin_place m c)).positive
 
-  not_later_begin : (m : Member) → IsCarried n input passed q m → point_cmp q (place_of m.begin.name) ≡ Less → ⊥
-  not_later_begin m c = All-contains (λ z. point_cmp q z ≡ Less → ⊥) passed (place_of m.begin.name) carries.passes.up_to (begin_place m c)
+  not_later_begin : (m : Member) → IsCarried n input passed q m → point_cmp q (place_at passed m.begin) ≡ Less → ⊥
+  not_later_begin m c = All-contains (λ z. point_cmp q z ≡ Less → ⊥) passed (place_at passed m.begin) carries.passes.up_to (begin_place m c)
 
-  before_r : (m : Member) → IsCarried n input passed q m → point_cmp (place_of m.begin.name) r ≡ Less
-  before_r m c = not_after_before (place_of m.begin.name) q r (positive_begin m c) hq hr (not_later_begin m c) next.after
+  before_r : (m : Member) → IsCarried n input passed q m → point_cmp (place_at passed m.begin) r ≡ Less
+  before_r m c = not_after_before (place_at passed m.begin) q r (positive_begin m c) hq hr (not_later_begin m c) next.after
 
-  from_border : (m : Member) → IsCarried n input passed q m → (border input.column *ℤ (place_of m.begin.name).w) ≤ℤ (place_of m.begin.name).x
-  from_border m c = All-contains (λ z. (border input.column *ℤ z.w) ≤ℤ z.x) passed (place_of m.begin.name) carries.passes.from (begin_place m c)
+  from_border : (m : Member) → IsCarried n input passed q m → (border input.column *ℤ (place_at passed m.begin).w) ≤ℤ (place_at passed m.begin).x
+  from_border m c = All-contains (λ z. (border input.column *ℤ z.w) ≤ℤ z.x) passed (place_at passed m.begin) carries.passes.from (begin_place m c)
 
   -- one that does not hold the node goes on as it was
   kept : (m : Member) → IsCarried n input passed q m → (height_over (seg_of m) r ≡ pos 0 → ⊥) → IsCarried n input (passed ++ r ∷ []) r m
   kept m c off = record {
-    begins = still_numbered passed r m.begin.name m.begin.number c.begins;
-    carried = record {
-      on = c.carried.on;
-      last = λ within. last_node_stays input (seg_of m) (place_of m.begin.name) q r hq (c.carried.last within) next off;
-      over = c.carried.over;
-      differs = c.carried.differs;
-    };
+    known = still_known passed r m.begin c.known;
+    carried =
+        let P : Point → Type 0 = λ p. IsCarriedFrom n input p r m in
+        subst P (sym (still_at passed r m.begin c.known))
+        (record {
+          on = c.carried.on;
+          last = λ within. last_node_stays input (seg_of m) (place_at passed m.begin) q r hq (c.carried.last within) next off;
+          over = c.carried.over;
+          differs = c.carried.differs;
+        });
   }
 
   kept_under : All (IsCarried n input (passed ++ r ∷ []) r) under
@@ -225,14 +229,17 @@ module _ (n : ℤ) (input : Input) (units : List Unit) (q r : Point) (under bund
       split : segs_of under ++ segs_of stay ++ segs_of over ++ waiting input.column rest ≡ segs_of under ++ (segs_of stay ++ (segs_of over ++ waiting input.column rest))
       split = append_assoc (segs_of under ++ segs_of stay) (segs_of over) (waiting input.column rest) ∙ append_assoc (segs_of under) (segs_of stay) (segs_of over ++ waiting input.column rest)
 
+      Within : Point → Type 0
+      Within z = IsTrue (is_in_column input.column z)
+
       by : Told (is_in_column input.column r) → All (IsCarried n input (passed ++ r ∷ []) r) stay
-      by (no e) = all_out n input units r (passed ++ r ∷ []) steep valid are nodal next.node end begin.at ends_there e (mask_over 0 under) stay stay_on begin.begun
+      by (no e) = all_out n input units r (passed ++ r ∷ []) steep valid are nodal next.node end end_known end_at e (mask_over 0 under) stay stay_on begin.begun
       by (yes e) =
           let go_up = masks_step_up n input r full steep valid new_status in
-          all_in n input units r (passed ++ r ∷ []) steep valid are nodal next.node end begin.at ends_there full (segs_of over ++ waiting input.column rest) new_status go_up (segs_of under) stay (mask_over 0 under) split begin.among stay_on
-          (first_under n input units r (passed ++ r ∷ []) steep valid are nodal next.node end begin.at ends_there full (segs_of over ++ waiting input.column rest) new_status go_up e under (segs_of stay ++ (segs_of over ++ waiting input.column rest)) split kept_under
+          all_in n input units r (passed ++ r ∷ []) steep valid are nodal next.node end end_known end_at full (segs_of over ++ waiting input.column rest) new_status go_up (segs_of under) stay (mask_over 0 under) split begin.among stay_on
+          (first_under n input units r (passed ++ r ∷ []) steep valid are nodal next.node end end_known end_at full (segs_of over ++ waiting input.column rest) new_status go_up e under (segs_of stay ++ (segs_of over ++ waiting input.column rest)) split kept_under
           (λ i d l. let c = all_first (IsCarried n input passed q) under bundle members_low i d l in
-          before_in_column input.column (place_of (get_or under i d).begin.name) r (positive_begin (get_or under i d) c) hr (from_border (get_or under i d) c) (before_r (get_or under i d) c) e)
+          subst Within (sym (still_at passed r (get_or under i d).begin c.known)) (before_in_column input.column (place_at passed (get_or under i d).begin) r (positive_begin (get_or under i d) c) hr (from_border (get_or under i d) c) (before_r (get_or under i d) c) e))
           under refl)
           begin.begun
 
@@ -264,52 +271,54 @@ module _ (n : ℤ) (input : Input) (units : List Unit) (q r : Point) (under bund
 
   module _ (m : Member) (is : IsEnding m) where
     abbrev p : Point
-    p = place_of m.begin.name
+    p = place_at passed m.begin
 
     on_r : IsTrue (is_on (seg_of m) r)
     on_r =
         within_on (seg_of m) r hr is.level (λ h. is.goes.begun (less_through q r (whole (seg_of m).left) hq hr one_positive next.after h))
         (λ h. next.clear (whole (seg_of m).right) one_positive is.ends is.goes.lasting h)
 
-    module _ (within : IsTrue (is_in_column input.column (place_of m.begin.name))) where
+    module _ (within : IsTrue (is_in_column input.column (place_at passed m.begin))) where
       abbrev Sides : Type 0
-      Sides = (below_bits input.marked (midpoint (place_of m.begin.name) r) ≡ under_unit n input (seg_of m) (place_of m.begin.name))
-          × (over_bits input.marked (midpoint (place_of m.begin.name) r) ≡ up_to_unit n input (seg_of m) (place_of m.begin.name))
+      Sides = (below_bits input.marked (midpoint (place_at passed m.begin) r) ≡ under_unit n input (seg_of m) (place_at passed m.begin))
+          × (over_bits input.marked (midpoint (place_at passed m.begin) r) ≡ up_to_unit n input (seg_of m) (place_at passed m.begin))
 
       -- the sides of the piece are what is under the unit and up to it where the piece begins
       sides : Sides
       sides =
-          let closed = stretch_is_closed n input (seg_of m) (place_of m.begin.name) q r steep valid is.stretch is.goes (is.carried.carried.last within) next nodal hq is.level is.ends in
+          let closed = stretch_is_closed n input (seg_of m) (place_at passed m.begin) q r steep valid is.stretch is.goes (is.carried.carried.last within) next nodal hq is.level is.ends in
           ((λ i k. closed.under k i), (λ i k. closed.over k i))
 
-      differ_there : (steps_value input.steps (below_bits input.marked (midpoint (place_of m.begin.name) r)) ≡ steps_value input.steps (over_bits input.marked (midpoint (place_of m.begin.name) r)) → ⊥)
-          → sides_differ n input (seg_of m) (place_of m.begin.name) ≡ true
+      differ_there : (steps_value input.steps (below_bits input.marked (midpoint (place_at passed m.begin) r)) ≡ steps_value input.steps (over_bits input.marked (midpoint (place_at passed m.begin) r)) → ⊥)
+          → sides_differ n input (seg_of m) (place_at passed m.begin) ≡ true
       differ_there apart =
-          differ_back (steps_value input.steps (under_unit n input (seg_of m) (place_of m.begin.name))) (steps_value input.steps (up_to_unit n input (seg_of m) (place_of m.begin.name)))
+          differ_back (steps_value input.steps (under_unit n input (seg_of m) (place_at passed m.begin))) (steps_value input.steps (up_to_unit n input (seg_of m) (place_at passed m.begin)))
           (λ e. apart (ap (steps_value input.steps) sides.0 ∙ e ∙ sym (ap (steps_value input.steps) sides.1)))
 
-      piece_ends : sides_differ n input (seg_of m) (place_of m.begin.name) ≡ true → IsBoundary input.marked input.steps input.column (place_of m.begin.name) r
+      piece_ends : sides_differ n input (seg_of m) (place_at passed m.begin) ≡ true → IsBoundary input.marked input.steps input.column (place_at passed m.begin) r
       piece_ends d =
-          let closed = stretch_is_closed n input (seg_of m) (place_of m.begin.name) q r steep valid is.stretch is.goes (is.carried.carried.last within) next nodal hq is.level is.ends in
+          let closed = stretch_is_closed n input (seg_of m) (place_at passed m.begin) q r steep valid is.stretch is.goes (is.carried.carried.last within) next nodal hq is.level is.ends in
           record {
             piece = closed.piece;
             column = within;
-            sides = λ e. differ_from (steps_value input.steps (under_unit n input (seg_of m) (place_of m.begin.name))) (steps_value input.steps (up_to_unit n input (seg_of m) (place_of m.begin.name))) d
+            sides = λ e. differ_from (steps_value input.steps (under_unit n input (seg_of m) (place_at passed m.begin))) (steps_value input.steps (up_to_unit n input (seg_of m) (place_at passed m.begin))) d
                 (sym (ap (steps_value input.steps) sides.0) ∙ e ∙ ap (steps_value input.steps) sides.1);
           }
 
     -- one that differs becomes a row
     one_row : m.differs ≡ true → IsRow input (passed ++ r ∷ []) (row_to end m)
     one_row d =
-        let parts = and_parts (is_in_column input.column (place_of m.begin.name)) (sides_differ n input (seg_of m) (place_of m.begin.name)) (sym is.carried.carried.differs ∙ d) in
-        let P : Point → Type 0 = λ z. IsBoundary input.marked input.steps input.column (place_of m.begin.name) z in
+        let parts = and_parts (is_in_column input.column (place_at passed m.begin)) (sides_differ n input (seg_of m) (place_at passed m.begin)) (sym is.carried.carried.differs ∙ d) in
+        let begins_at : place_at (passed ++ r ∷ []) m.begin ≡ place_at passed m.begin = still_at passed r m.begin is.carried.known in
+        let P : Point → Type 0 = λ z. IsBoundary input.marked input.steps input.column (place_at (passed ++ r ∷ []) m.begin) z in
+        let R : Point → Type 0 = λ z. IsBoundary input.marked input.steps input.column z r in
         let Q : Point → Type 0 = λ z. IsTrue (is_on (seg_of m) z) in
         record {
-          from = still_numbered passed r m.begin.name m.begin.number is.carried.begins;
-          to = ends_there;
-          from_on = is.carried.carried.on;
-          to_on = subst Q (sym begin.at) on_r;
-          boundary = subst P (sym begin.at) (piece_ends parts.0 parts.1);
+          from_known = still_known passed r m.begin is.carried.known;
+          to_known = end_known;
+          from_on = subst Q (sym begins_at) is.carried.carried.on;
+          to_on = subst Q (sym end_at) on_r;
+          boundary = subst P (sym end_at) (subst R (sym begins_at) (piece_ends parts.0 parts.1));
         }
 
   new_rows : All (IsRow input (passed ++ r ∷ [])) (rows_of end bundle)
@@ -319,26 +328,35 @@ module _ (n : ℤ) (input : Input) (units : List Unit) (q r : Point) (under bund
 
   old_row : (row : Row) → IsRow input passed row → IsRow input (passed ++ r ∷ []) row
   old_row row is = record {
-    from = still_numbered passed r row.from row.first is.from;
-    to = still_numbered passed r row.to row.last is.to;
-    from_on = is.from_on;
-    to_on = is.to_on;
-    boundary = is.boundary;
+    from_known = still_known passed r row.first is.from_known;
+    to_known = still_known passed r row.last is.to_known;
+    from_on = subst On (sym (still_at passed r row.first is.from_known)) is.from_on;
+    to_on = subst On (sym (still_at passed r row.last is.to_known)) is.to_on;
+    boundary = subst From (sym (still_at passed r row.first is.from_known)) (subst To (sym (still_at passed r row.last is.to_known)) is.boundary);
   }
+    where
+      On : Point → Type 0
+      On z = IsTrue (is_on row.support z)
+
+      To : Point → Type 0
+      To z = IsBoundary input.marked input.steps input.column (place_at passed row.first) z
+
+      From : Point → Type 0
+      From z = IsBoundary input.marked input.steps input.column z (place_at (passed ++ r ∷ []) row.last)
 
   -- ---- each once
-  apart : (a b : Member) → IsEnding a → IsEnding b → IsAfter (lean_segment n (seg_of a)) (lean_segment n (seg_of b)) (lean n q) → a.begin.number ≡ b.begin.number → ⊥
+  apart : (a b : Member) → IsEnding a → IsEnding b → IsAfter (lean_segment n (seg_of a)) (lean_segment n (seg_of b)) (lean n q) → a.begin ≡ b.begin → ⊥
   apart a b is_a is_b after_it e = by after_it
     where
-      same_begin : place_of a.begin.name ≡ place_of b.begin.name
-      same_begin = sym (is_a.carried.begins.at r) ∙ ap (λ i. get_or passed i r) e ∙ is_b.carried.begins.at r
+      same_begin : place_at passed a.begin ≡ place_at passed b.begin
+      same_begin = ap (place_at passed) e
 
-      b_there : height_over (seg_of b) (place_of a.begin.name) ≡ pos 0
-      b_there = ap (λ z. height_over (seg_of b) z) same_begin ∙ on_line (seg_of b) (place_of b.begin.name) is_b.carried.carried.on
+      b_there : height_over (seg_of b) (place_at passed a.begin) ≡ pos 0
+      b_there = ap (λ z. height_over (seg_of b) z) same_begin ∙ on_line (seg_of b) (place_at passed b.begin) is_b.carried.carried.on
 
       none : turn_of (seg_of a) (seg_of b) ≡ pos 0
       none =
-          one_direction (seg_of a) (seg_of b) (place_of a.begin.name) r (on_line (seg_of a) (place_of a.begin.name) is_a.carried.carried.on) is_a.level b_there is_b.level (before_r a is_a.carried)
+          one_direction (seg_of a) (seg_of b) (place_at passed a.begin) r (on_line (seg_of a) (place_at passed a.begin) is_a.carried.carried.on) is_a.level b_there is_b.level (before_r a is_a.carried)
 
       no_turn : turn_of (lean_segment n (seg_of a)) (lean_segment n (seg_of b)) ≡ pos 0
       no_turn = lean_turn n (seg_of a) (seg_of b) ∙ ap (λ z. n *ℤ z) none ∙ *ℤ-zero n
@@ -375,14 +393,14 @@ module _ (n : ℤ) (input : Input) (units : List Unit) (q r : Point) (under bund
   once : AllPairs AreApart (rows ++ rows_of end bundle)
   once =
       all_pairs_append AreApart rows (rows_of end bundle) carries.are_rows.once once_new
-      (λ i d l. All-map (AreApart (get_or rows i d)) (row_to end) (filter (λ m. m.differs) bundle) (λ j e m f g. not_last (get_or rows i d).last (carries.are_rows.sound i d l).to.known g))
+      (λ i d l. All-map (AreApart (get_or rows i d)) (row_to end) (filter (λ m. m.differs) bundle) (λ j e m f g. not_last (get_or rows i d).last (carries.are_rows.sound i d l).to_known g))
     where
-      not_last : (k : ℕ) → k < length passed → k ≡ end.number → ⊥
+      not_last : (k : ℕ) → k < length passed → k ≡ end → ⊥
       not_last k l e = omega (arith, l, e, begin.number)
 
   -- ---- all of them
   abbrev IsOf : Point → Point → Row → Type 0
-  IsOf a b row = IsTrue (same_place a (place_of row.from) && same_place b (place_of row.to))
+  IsOf a b row = IsTrue (same_place a (place_at (passed ++ r ∷ []) row.first) && same_place b (place_at (passed ++ r ∷ []) row.last))
 
   -- a piece of the boundary that ends at the node lies on the unit of a member, and is its row
   module _ (a b : Point) (boundary : IsBoundary input.marked input.steps input.column a b) (at_r : IsTrue (same_place b r)) where
@@ -399,25 +417,25 @@ module _ (n : ℤ) (input : Input) (units : List Unit) (q r : Point) (under bund
     not_later_a h = next.clear a ha boundary.piece.from_node h a_before_r
 
     module _ (m : Member) (among : Contains bundle m) (is : IsEnding m) (piece : IsUnitPiece input.marked (seg_of m) a b) where
-      same_from : Way (place_of m.begin.name) a → IsTrue (same_place a (place_of m.begin.name))
+      same_from : Way (place_at passed m.begin) a → IsTrue (same_place a (place_at passed m.begin))
       same_from (before e) =
-          let within = before_in_column input.column (place_of m.begin.name) a (positive_begin m is.carried) ha (from_border m is.carried) e boundary.column in
+          let within = before_in_column input.column (place_at passed m.begin) a (positive_begin m is.carried) ha (from_border m is.carried) e boundary.column in
           absurd ((is.carried.carried.last within).last a ha piece.from_on boundary.piece.from_node e not_later_a)
-      same_from (at e) = same_turned (place_of m.begin.name) a e
+      same_from (at e) = same_turned (place_at passed m.begin) a e
       same_from (after e) =
-          absurd (piece.none_between (place_of m.begin.name) (positive_begin m is.carried) is.carried.carried.on e (alike_right (place_of m.begin.name) b r (positive_begin m is.carried) hb hr at_r ∙ before_r m is.carried)
-          (All-contains (λ z. IsTrue (is_node (segments_in input) z)) passed (place_of m.begin.name) carries.passes.nodes (begin_place m is.carried)))
+          absurd (piece.none_between (place_at passed m.begin) (positive_begin m is.carried) is.carried.carried.on e (alike_right (place_at passed m.begin) b r (positive_begin m is.carried) hb hr at_r ∙ before_r m is.carried)
+          (All-contains (λ z. IsTrue (is_node (segments_in input) z)) passed (place_at passed m.begin) carries.passes.nodes (begin_place m is.carried)))
 
-      found_row : IsTrue (same_place a (place_of m.begin.name)) → Any (IsOf a b) (rows_of end bundle)
+      found_row : IsTrue (same_place a (place_at passed m.begin)) → Any (IsOf a b) (rows_of end bundle)
       found_row e =
-          let within : IsTrue (is_in_column input.column (place_of m.begin.name)) = sym (in_column_alike a (place_of m.begin.name) ha (positive_begin m is.carried) e input.column) ∙ boundary.column in
-          let there = boundary_alike input.marked input.steps input.column (a, b) (place_of m.begin.name, r) (positive_begin m is.carried, hr) (and_from (same_place a (place_of m.begin.name)) (same_place b r) e at_r) boundary in
-          let d : m.differs ≡ true = is.carried.carried.differs ∙ and_from (is_in_column input.column (place_of m.begin.name)) (sides_differ n input (seg_of m) (place_of m.begin.name)) within (differ_there m is within there.sides) in
+          let within : IsTrue (is_in_column input.column (place_at passed m.begin)) = sym (in_column_alike a (place_at passed m.begin) ha (positive_begin m is.carried) e input.column) ∙ boundary.column in
+          let there = boundary_alike input.marked input.steps input.column (a, b) (place_at passed m.begin, r) (positive_begin m is.carried, hr) (and_from (same_place a (place_at passed m.begin)) (same_place b r) e at_r) boundary in
+          let d : m.differs ≡ true = is.carried.carried.differs ∙ and_from (is_in_column input.column (place_at passed m.begin)) (sides_differ n input (seg_of m) (place_at passed m.begin)) within (differ_there m is within there.sides) in
           any_from (IsOf a b) (rows_of end bundle) (row_to end m) (contains_map (row_to end) (filter (λ m. m.differs) bundle) m (contains_filter (λ (m : Member). m.differs) bundle m among d))
-          (and_from (same_place a (place_of m.begin.name)) (same_place b (place_of end.name)) e (ap (λ z. same_place b z) begin.at ∙ at_r))
+          (and_from (same_place a (place_at (passed ++ r ∷ []) m.begin)) (same_place b (place_at (passed ++ r ∷ []) end)) (ap (λ z. same_place a z) (still_at passed r m.begin is.carried.known) ∙ e) (ap (λ z. same_place b z) end_at ∙ at_r))
 
       found : Any (IsOf a b) (rows_of end bundle)
-      found = found_row (same_from (way_of (place_of m.begin.name) a (positive_begin m is.carried) ha))
+      found = found_row (same_from (way_of (place_at passed m.begin) a (positive_begin m is.carried) ha))
 
     on_unit : (u : Segment) → IsUnitPiece input.marked u a b → Any (IsOf a b) (rows_of end bundle)
     on_unit u piece = last (Contains-append_cases (segs_of under ++ segs_of bundle ++ segs_of over) (waiting input.column (entering ++ rest)) u in_status)
@@ -471,6 +489,18 @@ module _ (n : ℤ) (input : Input) (units : List Unit) (q r : Point) (under bund
     ends_at_r : Any (IsOf a b) (rows_of end bundle)
     ends_at_r = let unit = piece_on_unit input.marked valid.proper a b boundary.piece in on_unit unit.0 unit.1
 
+  -- a row has its places with one more passed
+  still_of : (a b : Point) → Any (λ row. IsTrue (same_place a (place_at passed row.first) && same_place b (place_at passed row.last))) rows → Any (IsOf a b) rows
+  still_of a b any =
+      any_from (IsOf a b) rows any.1 among
+      (ap (λ z. same_place a z && same_place b (place_at (passed ++ r ∷ []) any.1.last)) (still_at passed r any.1.first is.from_known) ∙ ap (λ z. same_place a (place_at passed any.1.first) && same_place b z) (still_at passed r any.1.last is.to_known) ∙ any.4)
+    where
+      among : Contains rows any.1
+      among = any_contains (λ (row : Row). IsTrue (same_place a (place_at passed row.first) && same_place b (place_at passed row.last))) rows any
+
+      is : IsRow input passed any.1
+      is = All-contains (IsRow input passed) rows any.1 carries.are_rows.sound among
+
   complete : (a b : Point) → IsBoundary input.marked input.steps input.column a b → (point_cmp r b ≡ Less → ⊥) → Any (IsOf a b) (rows ++ rows_of end bundle)
   complete a b boundary not_after = by (way_of b r hb hr)
     where
@@ -478,7 +508,7 @@ module _ (n : ℤ) (input : Input) (units : List Unit) (q r : Point) (under bund
       hb = boundary.piece.to_positive
 
       by : Way b r → Any (IsOf a b) (rows ++ rows_of end bundle)
-      by (before e) = any_left (IsOf a b) rows (rows_of end bundle) (carries.are_rows.complete a b boundary (λ h. next.clear b hb boundary.piece.to_node h e))
+      by (before e) = any_left (IsOf a b) rows (rows_of end bundle) (still_of a b (carries.are_rows.complete a b boundary (λ h. next.clear b hb boundary.piece.to_node h e)))
       by (at e) = any_right (ends_at_r a b boundary e)
         where
           any_right : Any (IsOf a b) (rows_of end bundle) → Any (IsOf a b) (rows ++ rows_of end bundle)

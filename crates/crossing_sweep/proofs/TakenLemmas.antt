@@ -33,7 +33,6 @@ use Rattle.crossing_sweep.specs.Passing.{waiting, IsAhead, HasCome, IsEntry, IsS
 use Rattle.crossing_sweep.specs.Ahead.{points_of}
 use Rattle.crossing_sweep.specs.Member.{seg_of, units_of, segs_of, ends_after}
 use Rattle.crossing_sweep.specs.Rows.{AreBegun, mask_over, rows_of}
-use Rattle.crossing_sweep.specs.declared.member.Begin.{Begin}
 use Rattle.crossing_sweep.specs.declared.row.Row.{Row}
 use Rattle.crossing_sweep.specs.Testing.{IsFoundIn, AreSeamsTested, seams_at}
 use Rattle.crossing_sweep.specs.Stepping.{segs_to_come, StandsBefore, IsStepped}
@@ -286,7 +285,7 @@ module _ (input : Input) (n : ℤ) (units : List Unit) (q : Point) (at : HPoint)
   }
 
 -- what the code has done, by the numbers of members
-module _ (input : Input) (at : HPoint) (begin : Begin) (ms after turned stay : List Member) (low high len k : ℕ) (coming : List Start) (old new : Search) (rows more_rows : List Row) (in_order : low ≤ high)
+module _ (input : Input) (at : HPoint) (begin : ℕ) (ms after turned stay : List Member) (low high len k : ℕ) (coming : List Start) (old new : Search) (rows more_rows : List Row) (in_order : low ≤ high)
     (few : high ≤ length ms)
     (split : SidesFallAlong (place at) (segs_of ms) → IsSplitAt (place at) (segs_of (take low ms)) (segs_of (slice_range ms low high)) (segs_of (drop high ms)))
     (count : k ≡ prefix_len (λ s. same_hpoint s.at at) coming)

@@ -6,11 +6,10 @@ use Rattle.std.specs.Ordering.{int_eq}
 use Rattle.std.specs.declared.cmp.Ordering.TheVariants.{Less}
 use Rattle.std.proofs.lemmas.Int.{ints}
 use Rattle.std.proofs.lemmas.Bool.{and_parts, both_ways, or_cases, or_left, or_right}
-use Rattle.std.proofs.lemmas.List.{map-append}
+use Rattle.std.proofs.lemmas.List.{get_or-map, length-map, map-append}
 use Rattle.std.proofs.lemmas.List.Elements.{All-nil, All-head, All-tail, All-map, All-append, All-push, All-weaker, All-contains, Contains-append_left}
 use Rattle.std.proofs.lemmas.List.Folds.{Any-from_list_any, list_any-from_Any}
 use Rattle.std.proofs.lemmas.List.Sorted.{All-permutation, length_permutation}
-use Rattle.std.proofs.lemmas.Nat.{mul-le}
 use Rattle.std.proofs.Math.ListN.{length-append}
 use Rattle.overlay_terms.specs.Plane.{Point, Segment, whole, point_cmp, same_place, is_on}
 use Rattle.overlay_terms.specs.Column.{columns, border, is_in_column}
@@ -27,7 +26,6 @@ use Rattle.exact_point.specs.declared.point.HPoint.{HPoint}
 use Rattle.exact_point.specs.declared.point_name.PointName.{PointName}
 use Rattle.exact_point.proofs.PlaceOrder.{one_positive, same_through, on_same, level_from}
 use Rattle.tile_laws.proofs.Statements.{segments_in}
-use Rattle.arrange.specs.Marked.{segments_max}
 use Rattle.arrange.specs.Units.{IsUnit}
 use Rattle.arrange.specs.declared.unit.Unit.{Unit}
 use Rattle.arrange.proofs.NodeLemmas.{one_of_two}
@@ -42,9 +40,8 @@ use Rattle.crossing_sweep.specs.Testing.{IsFoundIn, seams_at}
 use Rattle.crossing_sweep.specs.Stepping.{segs_to_come, StandsBefore, IsStepped}
 use Rattle.crossing_sweep.specs.Standing.{nodes_max}
 use Rattle.crossing_sweep.specs.RowLaws.{AreAll}
-use Rattle.crossing_sweep.specs.Rows.{IsRow, AreSorted, BeginAt, Carries}
-use Rattle.crossing_sweep.specs.Crossed.{IsInner, IsUnitPair, IsCrossingAmong, IsSpan, AreCounted, HasFound, IsCaused, IsKey, IsUnderWay}
-use Rattle.crossing_sweep.specs.declared.member.Begin.{Begin}
+use Rattle.crossing_sweep.specs.Rows.{place_at, IsRow, AreSorted, BeginAt, Carries}
+use Rattle.crossing_sweep.specs.Crossed.{IsInner, IsUnitPair, IsCrossingAmong, name_at, IsSpan, AreCounted, HasFound, IsCaused, IsKey, IsUnderWay}
 use Rattle.crossing_sweep.specs.declared.member.Member.{Member}
 use Rattle.crossing_sweep.specs.declared.start.Start.{Start}
 use Rattle.crossing_sweep.specs.declared.row.Row.{Row}
@@ -67,7 +64,7 @@ proper_segments input valid = All-map IsProper (λ m. m.segment) input.marked va
 steep_enough : IsSteep (pos (2 ^ 200))
 steep_enough = omega (arith, ints)
 
-begins_way : (input : Input) (listed : Bool) (starts : List Start) (ahead : List (HPoint × PointName)) → IsInput input → AreStarts input starts → AreKnownPlaces input ahead → IsUnderWay input listed [] starts ahead [] [] 0
+begins_way : (input : Input) (listed : Bool) (starts : List Start) (ahead : List (HPoint × PointName)) → IsInput input → AreStarts input starts → AreKnownPlaces input ahead → IsUnderWay input listed [] starts ahead [] [] []
 begins_way input listed starts ahead valid are known = record {
   valid = valid;
   n = pos (2 ^ 200);
@@ -81,9 +78,8 @@ begins_way input listed starts ahead valid are known = record {
   ordered = are.ordered;
   to_enter = are.among;
   entered = All-nil (λ (m : Member). Contains are.units m.unit);
-  passed = [];
+  named = All-nil HasPlace;
   carries = rows_begin (pos (2 ^ 200)) input valid;
-  counted = refl;
   few = omega arith;
   pairs = All-nil (IsUnitPair input.marked);
   unlisted = λ e. refl;
@@ -92,13 +88,14 @@ begins_way input listed starts ahead valid are known = record {
 }
 
 -- with what is empty at first
-pub begins_there : (input : Input) (listed : Bool) (starts : List Start) (ahead : List (HPoint × PointName)) (status : List Member) (tests : List (Segment × Segment)) (rows : List Row) → IsInput input → AreStarts input starts → AreKnownPlaces input ahead
-    → status ≡ [] → tests ≡ [] → rows ≡ [] → IsUnderWay input listed status starts ahead tests rows 0
-begins_there input listed starts ahead status tests rows valid are known e f g =
-    let P : List Member → Type 0 = λ l. IsUnderWay input listed l starts ahead tests rows 0 in
-    let Q : List (Segment × Segment) → Type 0 = λ l. IsUnderWay input listed [] starts ahead l rows 0 in
-    let R : List Row → Type 0 = λ l. IsUnderWay input listed [] starts ahead [] l 0 in
-    subst P (sym e) (subst Q (sym f) (subst R (sym g) (begins_way input listed starts ahead valid are known)))
+pub begins_there : (input : Input) (listed : Bool) (starts : List Start) (ahead : List (HPoint × PointName)) (status : List Member) (tests : List (Segment × Segment)) (rows : List Row) (names : List PointName) → IsInput input → AreStarts input starts → AreKnownPlaces input ahead
+    → status ≡ [] → tests ≡ [] → rows ≡ [] → names ≡ [] → IsUnderWay input listed status starts ahead tests rows names
+begins_there input listed starts ahead status tests rows names valid are known e f g h =
+    let P : List Member → Type 0 = λ l. IsUnderWay input listed l starts ahead tests rows names in
+    let Q : List (Segment × Segment) → Type 0 = λ l. IsUnderWay input listed [] starts ahead l rows names in
+    let R : List Row → Type 0 = λ l. IsUnderWay input listed [] starts ahead [] l names in
+    let S : List PointName → Type 0 = λ l. IsUnderWay input listed [] starts ahead [] [] l in
+    subst P (sym e) (subst Q (sym f) (subst R (sym g) (subst S (sym h) (begins_way input listed starts ahead valid are known))))
 
 -- ---- and goes on
 -- what was tested is tested after more tests
@@ -110,9 +107,9 @@ still_caused : (input : Input) (listed : Bool) (tests more : List (Segment × Se
 still_caused input listed tests more p (inl h) = inl h
 still_caused input listed tests more p (inr h) = inr (λ e. more_among tests more p (h e))
 
-module _ (input : Input) (valid : IsInput input) (status after : List Member) (coming rest : List Start) (at : HPoint) (name : PointName) (begin : Begin) (old new : Search) (rows more_rows : List Row) (nodes : ℕ)
-    (way : IsUnderWay input old.listed status coming ((at, name) ∷ old.ahead) old.tests.items rows nodes) (least : All (λ e. point_cmp (place at) (place e.0) ≡ Less) old.ahead)
-    (named : begin.name ≡ name) (numbered : begin.number ≡ nodes) (stepped : IsStepped input at begin status after coming rest old new rows more_rows) where
+module _ (input : Input) (valid : IsInput input) (status after : List Member) (coming rest : List Start) (at : HPoint) (name : PointName) (begin : ℕ) (old new : Search) (rows more_rows : List Row) (names : List PointName)
+    (way : IsUnderWay input old.listed status coming ((at, name) ∷ old.ahead) old.tests.items rows names) (least : All (λ e. point_cmp (place at) (place e.0) ≡ Less) old.ahead)
+    (numbered : begin ≡ length names) (stepped : IsStepped input at begin status after coming rest old new rows more_rows) where
   abbrev u : List Member
   u = stepped.under
 
@@ -182,24 +179,25 @@ module _ (input : Input) (valid : IsInput input) (status after : List Member) (c
       subst (λ (l : List Member). All (λ m. Contains way.units m.unit) l) (sym stepped.is)
       (All-append IsOfUnit (u ++ s) o (All-append IsOfUnit u s (all_first IsOfUnit u b (all_first IsOfUnit (u ++ b) o entered_parts)) stay_units) (all_second IsOfUnit (u ++ b) o entered_parts))
 
-  begin_at : BeginAt input way.units (place at) way.passed u s begin
+  begin_at : BeginAt input way.units (place at) (map place_of names) u s begin
   begin_at = record {
-    named = let P : PointName → Type 0 = λ x. HasPlace x in subst P (sym named) key.named;
-    at = ap place_of named ∙ sym key.told;
-    number = numbered ∙ way.counted;
+    number = numbered ∙ sym (length-map names place_of);
     nodal = record { small = point_small at; few = at.w_high };
     among = stay_units;
     begun = stepped.begun;
   }
 
-  carries : Carries way.n input (place at) (way.passed ++ place at ∷ []) after more_rows
+  passed_there : map place_of names ++ place at ∷ [] ≡ map place_of (names ++ name ∷ [])
+  passed_there = ap (λ p. map place_of names ++ p ∷ []) key.told ∙ sym (map-append place_of names (name ∷ []))
+
+  carries : Carries way.n input (place at) (map place_of names ++ place at ∷ []) after more_rows
   carries =
-      let P : List Member → Type 0 = λ (l : List Member). Carries way.n input way.q way.passed l rows in
-      let Q : List Member → Type 0 = λ (l : List Member). Carries way.n input (place at) (way.passed ++ place at ∷ []) l more_rows in
-      let R : List Row → Type 0 = λ (l : List Row). Carries way.n input (place at) (way.passed ++ place at ∷ []) (u ++ s ++ o) l in
+      let P : List Member → Type 0 = λ (l : List Member). Carries way.n input way.q (map place_of names) l rows in
+      let Q : List Member → Type 0 = λ (l : List Member). Carries way.n input (place at) ((map place_of names) ++ place at ∷ []) l more_rows in
+      let R : List Row → Type 0 = λ (l : List Row). Carries way.n input (place at) ((map place_of names) ++ place at ∷ []) (u ++ s ++ o) l in
       subst Q (sym stepped.is)
       (subst R (sym stepped.closed)
-      (rows_go_on way.n input way.units way.q (place at) u b o s (segs_to_come e) (segs_to_come rest) (points_of old.ahead) (points_of new.ahead) way.passed rows begin way.steep valid way.are come step begin_at (subst P stepped.was way.carries)))
+      (rows_go_on way.n input way.units way.q (place at) u b o s (segs_to_come e) (segs_to_come rest) (points_of old.ahead) (points_of new.ahead) (map place_of names) rows begin way.steep valid way.are come step begin_at (subst P stepped.was way.carries)))
 
   -- ---- the units to come
   abbrev ComesLater : Start → Start → Type 0
@@ -228,11 +226,11 @@ module _ (input : Input) (valid : IsInput input) (status after : List Member) (c
     caused = inr (λ l. any_from (λ (t : Segment × Segment). IsCrossingOf t.0 t.1 (place x.0)) new.tests.items (is.lower, is.upper) (is.told (sym stepped.tested.listed ∙ l)) is.found.crossing);
   }
 
-  few : length new.tests.items ≤ 2 * (nodes + 1)
+  few : length new.tests.items ≤ 2 * length (names ++ name ∷ [])
   few =
       let long : length new.tests.items ≡ length old.tests.items + length stepped.tested.more = ap length stepped.tested.tests ∙ length-append old.tests.items stepped.tested.more in
       let some : length (seams_at within (length u) (length (u ++ s))) ≤ 2 = at_most_two within (length u) (length (u ++ s)) in
-      omega (arith, long, stepped.tested.few, some, way.few)
+      omega (arith, long, length-append names (name ∷ []), stepped.tested.few, some, way.few)
     where
       within : Bool
       within = is_in_column input.column (place at)
@@ -259,7 +257,7 @@ module _ (input : Input) (valid : IsInput input) (status after : List Member) (c
       let none : old.listed ≡ false = sym stepped.tested.listed ∙ l in
       stepped.tested.tests ∙ ap (λ (l : List (Segment × Segment)). l ++ stepped.tested.more) (way.unlisted none) ∙ stepped.tested.unlisted none
 
-  pub goes_way : IsUnderWay input new.listed after rest new.ahead new.tests.items more_rows (nodes + 1)
+  pub goes_way : IsUnderWay input new.listed after rest new.ahead new.tests.items more_rows (names ++ name ∷ [])
   goes_way = record {
     valid = valid;
     n = way.n;
@@ -273,14 +271,15 @@ module _ (input : Input) (valid : IsInput input) (status after : List Member) (c
     ordered = pairs_second ComesLater e rest (subst (λ (l : List Start). AllPairs ComesLater l) stepped.came way.ordered);
     to_enter = all_second (λ (s : Start). Contains way.units s.unit) e rest (subst (λ (l : List Start). All (λ s. Contains way.units s.unit) l) stepped.came way.to_enter);
     entered = after_units;
-    passed = way.passed ++ place at ∷ [];
-    carries = carries;
-    counted = ap (λ k. k + 1) way.counted ∙ sym (length-append way.passed (place at ∷ []));
+    named = All-push HasPlace names name way.named key.named;
+    carries = let P : List Point → Type 0 = λ l. Carries way.n input (place at) l after more_rows in subst P passed_there carries;
     few = few;
     pairs = pairs;
     unlisted = unlisted;
     keys = all_of (IsKey input new.listed new.tests.items) new.ahead (λ x c. new_key x (stepped.tested.only x c));
-    causes = All-push (IsCaused input new.listed new.tests.items) way.passed (place at) (λ i d l. still (get_or way.passed i d) (way.causes i d l)) (still (place at) key.caused);
+    causes =
+        let P : List Point → Type 0 = λ l. All (IsCaused input new.listed new.tests.items) l in
+        subst P passed_there (All-push (IsCaused input new.listed new.tests.items) (map place_of names) (place at) (λ i d l. still (get_or (map place_of names) i d) (way.causes i d l)) (still (place at) key.caused));
   }
 
 -- ---- what it has found
@@ -328,24 +327,51 @@ not_on_border segments k p z hp hz e low high on =
         by h l (inl g) = not_less (border k) (let P : ℕ → Type 0 = λ i. border k <ℤ border i in subst P g h)
         by h l (inr g) = not_less (border (k + 1)) (let P : ℕ → Type 0 = λ i. border i <ℤ border (k + 1) in subst P g l)
 
-module _ (input : Input) (valid : IsInput input) (listed : Bool) (status : List Member) (coming : List Start) (ahead : List (HPoint × PointName)) (tests : List (Segment × Segment)) (rows sorted : List Row) (nodes cap : ℕ)
-    (way : IsUnderWay input listed status coming ahead tests rows nodes) (ended : (ahead ≡ []) ⊎ (cap < length rows)) (are : AreSorted rows sorted) where
+module _ (input : Input) (valid : IsInput input) (listed : Bool) (status : List Member) (coming : List Start) (ahead : List (HPoint × PointName)) (tests : List (Segment × Segment)) (rows sorted : List Row) (names : List PointName) (cap : ℕ)
+    (way : IsUnderWay input listed status coming ahead tests rows names) (ended : (ahead ≡ []) ⊎ (cap < length rows)) (are : AreSorted rows sorted) where
   as_many : length sorted ≡ length rows
   as_many = length_permutation rows sorted are.moved
 
-  spans : All IsSpan sorted
-  spans =
-      All-weaker (IsRow input way.passed) IsSpan
-      (λ row is. record {
-        from_named = is.from.named;
-        to_named = is.to.named;
-        from_positive = is.boundary.piece.from_positive;
-        to_positive = is.boundary.piece.to_positive;
-        from_on = is.from_on;
-        to_on = is.to_on;
-        in_order = is.boundary.piece.in_order;
-      })
-      sorted (All-permutation (IsRow input way.passed) rows sorted are.moved way.carries.are_rows.sound)
+  -- a number of a node is that of its name
+  place_named : (i : ℕ) → i < length (map place_of names) → place_at (map place_of names) i ≡ place_of (name_at names i)
+  place_named i l = get_or-map place_of names i _ _ (omega (arith, l, length-map names place_of))
+
+  is_span : (row : Row) → IsRow input (map place_of names) row → IsSpan names row
+  is_span row is = record {
+    from_known = from_known;
+    to_known = to_known;
+    from_named = named_at row.first from_known;
+    to_named = named_at row.last to_known;
+    from_positive = subst Positive from is.boundary.piece.from_positive;
+    to_positive = subst Positive to is.boundary.piece.to_positive;
+    from_on = subst On from is.from_on;
+    to_on = subst On to is.to_on;
+    in_order = ap (λ z. point_cmp z (place_of (name_at names row.last))) (sym from) ∙ ap (λ z. point_cmp (place_at (map place_of names) row.first) z) (sym to) ∙ is.boundary.piece.in_order;
+  }
+    where
+      from_known : row.first < length names
+      from_known = omega (arith, is.from_known, length-map names place_of)
+
+      to_known : row.last < length names
+      to_known = omega (arith, is.to_known, length-map names place_of)
+
+      from : place_at (map place_of names) row.first ≡ place_of (name_at names row.first)
+      from = place_named row.first is.from_known
+
+      to : place_at (map place_of names) row.last ≡ place_of (name_at names row.last)
+      to = place_named row.last is.to_known
+
+      named_at : (i : ℕ) → i < length names → HasPlace (name_at names i)
+      named_at i l = way.named i _ l
+
+      Positive : Point → Type 0
+      Positive z = pos 0 <ℤ z.w
+
+      On : Point → Type 0
+      On z = IsTrue (is_on row.support z)
+
+  spans : All (IsSpan names) sorted
+  spans = All-weaker (IsRow input (map place_of names)) (IsSpan names) is_span sorted (All-permutation (IsRow input (map place_of names)) rows sorted are.moved way.carries.are_rows.sound)
 
   none_ahead : length sorted ≤ cap → ahead ≡ []
   none_ahead few = by ended
@@ -354,15 +380,15 @@ module _ (input : Input) (valid : IsInput input) (listed : Bool) (status : List 
       by (inl e) = e
       by (inr h) = absurd (omega (arith, h, few, as_many))
 
-  at_end : length sorted ≤ cap → AreAll input way.passed sorted
+  at_end : length sorted ≤ cap → AreAll input (map place_of names) sorted
   at_end few =
       let P : List (HPoint × PointName) → Type 0 = λ (l : List (HPoint × PointName)). HasCome way.n (segments_in input) (map (λ (u : Unit). u.seg) way.units) input.column way.q (segs_of status) (segs_to_come coming) (points_of l) in
-      rows_end way.n input way.units way.q status (segs_to_come coming) way.passed rows sorted way.steep valid (subst P (none_ahead few) way.come) way.carries are
+      rows_end way.n input way.units way.q status (segs_to_come coming) (map place_of names) rows sorted way.steep valid (subst P (none_ahead few) way.come) way.carries are
 
-  counted : AreCounted input (length sorted ≤ cap) nodes
+  counted : AreCounted input (length sorted ≤ cap) (length names)
   counted = record {
-    places = way.passed;
-    counted = way.counted;
+    places = (map place_of names);
+    counted = sym (length-map names place_of);
     ordered = way.carries.passes.ordered;
     nodes = λ i d l. record { positive = (way.carries.passes.small i d l).positive; node = way.carries.passes.nodes i d l; from = way.carries.passes.from i d l; up_to = way.carries.passes.within i d l };
     all = λ few p is. (at_end few).nodes p is.positive is.node is.from is.up_to;
@@ -374,14 +400,14 @@ module _ (input : Input) (valid : IsInput input) (listed : Bool) (status : List 
       most : (a b : ℤ) → a <ℤ b → a ≤ℤ b
       most a b h = omega (arith, ints, h)
 
-      by : IsQueued way.passed p → IsCrossingAmong tests p
-      by any = because (All-contains (IsCaused input listed tests) way.passed any.1 way.causes among)
+      by : IsQueued (map place_of names) p → IsCrossingAmong tests p
+      by any = because (All-contains (IsCaused input listed tests) (map place_of names) any.1 way.causes among)
         where
-          among : Contains way.passed any.1
-          among = any_contains (λ z. IsTrue (same_place p z)) way.passed any
+          among : Contains (map place_of names) any.1
+          among = any_contains (λ z. IsTrue (same_place p z)) (map place_of names) any
 
           hz : pos 0 <ℤ any.1.w
-          hz = (All-contains IsSmall way.passed any.1 way.carries.passes.small among).positive
+          hz = (All-contains IsSmall (map place_of names) any.1 way.carries.passes.small among).positive
 
           fixed : (is_end (segments_in input) any.1 ≡ true) ⊎ (is_on_border (segments_in input) any.1 ≡ true) → ⊥
           fixed (inl h) = both_ways (is_end (segments_in input) p) is.no_end (end_there (segments_in input) p any.1 is.positive hz any.4 h)
@@ -394,11 +420,11 @@ module _ (input : Input) (valid : IsInput input) (listed : Bool) (status : List 
           because (inl h) = absurd (fixed (or_cases (is_end (segments_in input) any.1) (is_on_border (segments_in input) any.1) h))
           because (inr h) = let c = h l in any_from (λ (t : Segment × Segment). IsCrossingOf t.0 t.1 p) tests c.1 (any_contains (λ (t : Segment × Segment). IsCrossingOf t.0 t.1 any.1) tests c) (moved c.1 c.4)
 
-  pub ends_way : HasFound input cap listed sorted tests nodes
+  pub ends_way : HasFound input cap listed sorted names tests
   ends_way = record {
     spans = spans;
     tile = λ few. (at_end few).tile;
-    too_many = λ more. rows_tell_oversize way.n input way.q way.passed status rows sorted cap valid way.carries are (omega (arith, more, as_many));
+    too_many = λ more. rows_tell_oversize way.n input way.q (map place_of names) status rows sorted cap valid way.carries are (omega (arith, more, as_many));
     are_counted = counted;
     few = way.few;
     pairs = way.pairs;
@@ -406,22 +432,12 @@ module _ (input : Input) (valid : IsInput input) (listed : Bool) (status : List 
     crossings = crossings;
   }
 
--- ---- numbers that fit
--- no more nodes are counted than there can be
-pub count_most : (input : Input) {listed : Bool} {status : List Member} {coming : List Start} {ahead : List (HPoint × PointName)} {tests : List (Segment × Segment)} {rows : List Row} (nodes : ℕ) → IsUnderWay input listed status coming ahead tests rows nodes
-    → nodes ≤ nodes_max input
-count_most input nodes way =
-    most nodes (length way.passed) (nodes_max input) way.counted (nodes_are_few input way.q way.passed way.valid way.carries.passes)
+-- ---- how many nodes
+-- no more nodes are passed than there can be
+pub count_most : (input : Input) {listed : Bool} {status : List Member} {coming : List Start} {ahead : List (HPoint × PointName)} {tests : List (Segment × Segment)} {rows : List Row} (names : List PointName) → IsUnderWay input listed status coming ahead tests rows names
+    → length names ≤ nodes_max input
+count_most input names way =
+    most (length names) (length (map place_of names)) (nodes_max input) (sym (length-map names place_of)) (nodes_are_few input way.q (map place_of names) way.valid way.carries.passes)
   where
     most : (k p m : ℕ) → k ≡ p → p ≤ m → k ≤ m
     most k p m e h = omega (arith, e, h)
-
--- so few nodes are counted that one more fits
-pub count_fits : (input : Input) {listed : Bool} {status : List Member} {coming : List Start} {ahead : List (HPoint × PointName)} {tests : List (Segment × Segment)} {rows : List Row} (nodes : ℕ) → IsUnderWay input listed status coming ahead tests rows nodes
-    → length input.marked ≤ segments_max → nodes + 1 < 2 ^ 64
-count_fits input nodes way few = fits nodes (length input.marked) few (count_most input nodes way)
-  where
-    fits : (k n : ℕ) → n ≤ 65536 → k ≤ n * (n * 3 + 17) → k + 1 < 2 ^ 64
-    fits k n few h =
-        let product : n * (n * 3 + 17) ≤ 65536 * (65536 * 3 + 17) = mul-le n (n * 3 + 17) 65536 (65536 * 3 + 17) few (omega (arith, few)) in
-        omega (arith, h, product)

@@ -1,5 +1,5 @@
 -- What one pass over a column finds: the tile or that it has too many pieces, the nodes, and the pairs of neighbours that it has tested.
-use Rattle.std.specs.Prelude.{◌≡◌, ℕ, ℤ, pos, ◌+◌, ◌*◌, ◌<◌, ◌≤◌, ◌<ℤ◌, ◌*ℤ◌, ◌≤ℤ◌, [], true, false, Bool, ◌⊎◌, ◌||◌, IsTrue, List, map, length, drop, All, AllPairs, Any, Contains}
+use Rattle.std.specs.Prelude.{◌≡◌, ℕ, ℤ, pos, ◌+◌, ◌*◌, ◌<◌, ◌≤◌, ◌<ℤ◌, ◌*ℤ◌, ◌≤ℤ◌, [], true, false, Bool, ◌⊎◌, ◌||◌, IsTrue, List, map, length, get_or, drop, All, AllPairs, Any, Contains}
 use Rattle.std.specs.declared.cmp.Ordering.TheVariants.{Less}
 use Rattle.overlay_terms.specs.Plane.{Point, Segment, point_cmp, is_on}
 use Rattle.overlay_terms.specs.Column.{border}
@@ -13,6 +13,7 @@ use Rattle.exact_point.specs.PlaceOf.{place_of}
 use Rattle.exact_point.specs.PointName.{HasPlace}
 use Rattle.exact_point.specs.declared.point.HPoint.{HPoint}
 use Rattle.exact_point.specs.declared.point_name.PointName.{PointName}
+use Rattle.exact_point.specs.declared.point_name.PointName.TheVariants.{Vertex}
 use Rattle.arrange.specs.Arrangement.{segments_in}
 use Rattle.arrange.specs.Units.{IsUnit, AreUnits}
 use Rattle.arrange.specs.declared.unit.Unit.{Unit}
@@ -52,15 +53,21 @@ IsCrossingAmong tests p = Any (λ t. IsCrossingOf t.0 t.1 p) tests
 abbrev pub IsUnitPair : List Marked → Segment × Segment → Type 0
 IsUnitPair marked t = IsUnit marked t.0 × IsUnit marked t.1
 
--- both names of a row have places on its support, the first before the second
-pub record IsSpan (row : Row) : Type 0 where
-  pub from_named : HasPlace row.from
-  pub to_named : HasPlace row.to
-  pub from_positive : pos 0 <ℤ (place_of row.from).w
-  pub to_positive : pos 0 <ℤ (place_of row.to).w
-  pub from_on : IsTrue (is_on row.support (place_of row.from))
-  pub to_on : IsTrue (is_on row.support (place_of row.to))
-  pub in_order : point_cmp (place_of row.from) (place_of row.to) ≡ Less
+-- the name with a number among those of some nodes
+abbrev pub name_at : List PointName → ℕ → PointName
+name_at names number = get_or names number (Vertex (record { x = pos 0; y = pos 0 }))
+
+-- the numbers of a row are of names that have places on its support, the first before the second
+pub record IsSpan (names : List PointName) (row : Row) : Type 0 where
+  pub from_known : row.first < length names
+  pub to_known : row.last < length names
+  pub from_named : HasPlace (name_at names row.first)
+  pub to_named : HasPlace (name_at names row.last)
+  pub from_positive : pos 0 <ℤ (place_of (name_at names row.first)).w
+  pub to_positive : pos 0 <ℤ (place_of (name_at names row.last)).w
+  pub from_on : IsTrue (is_on row.support (place_of (name_at names row.first)))
+  pub to_on : IsTrue (is_on row.support (place_of (name_at names row.last)))
+  pub in_order : point_cmp (place_of (name_at names row.first)) (place_of (name_at names row.last)) ≡ Less
 
 -- the nodes that a pass counts: nodes of the closed column, each once, and all of them where it goes to the end
 pub record AreCounted (input : Input) (to_the_end : Type 0) (count : ℕ) : Type 0 where
@@ -70,20 +77,20 @@ pub record AreCounted (input : Input) (to_the_end : Type 0) (count : ℕ) : Type
   pub nodes : All (IsNodeIn input) places
   pub all : to_the_end → (p : Point) → IsNodeIn input p → IsQueued places p
 
--- the rows, tests and count of nodes of a pass that stops after more rows than a cap, and lists its tests or not
-pub record HasFound (input : Input) (cap : ℕ) (listed : Bool) (rows : List Row) (tests : List (Segment × Segment)) (nodes : ℕ) : Type 0 where
-  pub spans : All IsSpan rows
-  pub tile : length rows ≤ cap → IsTileOf input.marked input.steps input.column (map row_ends rows)
+-- the rows, names of nodes and tests of a pass that stops after more rows than a cap, and lists its tests or not
+pub record HasFound (input : Input) (cap : ℕ) (listed : Bool) (rows : List Row) (names : List PointName) (tests : List (Segment × Segment)) : Type 0 where
+  pub spans : All (IsSpan names) rows
+  pub tile : length rows ≤ cap → IsTileOf input.marked input.steps input.column (map (row_ends (map place_of names)) rows)
   pub too_many : cap < length rows → IsTileAt cap input oversize
-  pub are_counted : AreCounted input (length rows ≤ cap) nodes
-  pub few : length tests ≤ 2 * nodes
+  pub are_counted : AreCounted input (length rows ≤ cap) (length names)
+  pub few : length tests ≤ 2 * length names
   pub pairs : All (IsUnitPair input.marked) tests
   pub unlisted : listed ≡ false → tests ≡ []
   pub crossings : listed ≡ true → length rows ≤ cap → (p : Point) → IsInner input p → IsCrossingAmong tests p
 
 -- so has the code's
 abbrev pub IsCrossed : Input → ℕ → Bool → Crossed → Type 0
-IsCrossed input cap listed found = HasFound input cap listed found.rows.items found.tests.items found.nodes
+IsCrossed input cap listed found = HasFound input cap listed found.rows.items found.names.items found.tests.items
 
 -- ---- on the way
 -- why a pass knows a place: it is an end or on a border, or two neighbours cross there, which are listed where tests are
@@ -96,8 +103,8 @@ pub record IsKey (input : Input) (listed : Bool) (tests : List (Segment × Segme
   pub told : place e.0 ≡ place_of e.1
   pub caused : IsCaused input listed tests (place e.0)
 
--- a pass is under way: it has come to a place q with some members, units to come, places found ahead, tests, rows and nodes passed
-pub record IsUnderWay (input : Input) (listed : Bool) (status : List Member) (coming : List Start) (ahead : List (HPoint × PointName)) (tests : List (Segment × Segment)) (rows : List Row) (nodes : ℕ) : Type 0 where
+-- a pass is under way: it has come to a place q with some members, units to come, places found ahead, tests, rows and names of the nodes passed
+pub record IsUnderWay (input : Input) (listed : Bool) (status : List Member) (coming : List Start) (ahead : List (HPoint × PointName)) (tests : List (Segment × Segment)) (rows : List Row) (names : List PointName) : Type 0 where
   pub valid : IsInput input
   pub n : ℤ
   pub steep : IsSteep n
@@ -110,16 +117,15 @@ pub record IsUnderWay (input : Input) (listed : Bool) (status : List Member) (co
   pub ordered : AllPairs (λ s t. ¬ (point_cmp (place t.at) (place s.at) ≡ Less)) coming
   pub to_enter : All (λ s. Contains units s.unit) coming
   pub entered : All (λ m. Contains units m.unit) status
-  pub passed : List Point
-  pub carries : Carries n input q passed status rows
-  pub counted : nodes ≡ length passed
-  pub few : length tests ≤ 2 * nodes
+  pub named : All HasPlace names
+  pub carries : Carries n input q (map place_of names) status rows
+  pub few : length tests ≤ 2 * length names
   pub pairs : All (IsUnitPair input.marked) tests
   pub unlisted : listed ≡ false → tests ≡ []
   pub keys : All (IsKey input listed tests) ahead
-  pub causes : All (IsCaused input listed tests) passed
+  pub causes : All (IsCaused input listed tests) (map place_of names)
 
 -- so is the code's, which counts the units that have entered
 pub record IsPassing (input : Input) (progress : Progress) : Type 0 where
-  pub way : IsUnderWay input progress.search.listed progress.status.items (drop progress.entered progress.starts.items) progress.search.ahead progress.search.tests.items progress.rows.items progress.nodes
+  pub way : IsUnderWay input progress.search.listed progress.status.items (drop progress.entered progress.starts.items) progress.search.ahead progress.search.tests.items progress.rows.items progress.names.items
   pub known : progress.entered ≤ length progress.starts.items

@@ -17,7 +17,6 @@ use Rattle.crossing_sweep.specs.Beginning.{foot}
 use Rattle.crossing_sweep.specs.Member.{segs_of}
 use Rattle.crossing_sweep.specs.Standing.{nodes_max}
 use Rattle.crossing_sweep.specs.Rows.{ArePassed, is_one_of, under_unit, up_to_unit, row_ends, AreSorted, rows_of, BeginAt, Carries}
-use Rattle.crossing_sweep.specs.declared.member.Begin.{Begin}
 use Rattle.crossing_sweep.specs.declared.member.Member.{Member}
 use Rattle.crossing_sweep.specs.declared.row.Row.{Row}
 
@@ -35,7 +34,7 @@ RowsBegin = (n : ℤ) (input : Input) → IsInput input → Carries n input (foo
 -- or enter begin there, and the others go on with what they carry
 abbrev pub RowsGoOn : Type 0
 RowsGoOn =
-    (n : ℤ) (input : Input) (units : List Unit) (q r : Point) (under bundle over stay : List Member) (entering rest : List Segment) (keys new passed : List Point) (rows : List Row) (end : Begin) →
+    (n : ℤ) (input : Input) (units : List Unit) (q r : Point) (under bundle over stay : List Member) (entering rest : List Segment) (keys new passed : List Point) (rows : List Row) (end : ℕ) →
     IsSteep n → IsInput input → AreUnits input.marked units →
     HasCome n (segments_in input) (map (λ (u : Unit). u.seg) units) input.column q (segs_of under ++ segs_of bundle ++ segs_of over) (entering ++ rest) (r ∷ keys) →
     IsStepTo (segments_in input) input.column r (segs_of under) (segs_of bundle) (segs_of over) entering (segs_of stay) rest keys new →
@@ -46,13 +45,13 @@ RowsGoOn =
 abbrev pub RowsInOrder : Type 0
 RowsInOrder =
     (n : ℤ) (input : Input) (q : Point) (passed : List Point) (entered : List Member) (rows sorted : List Row) → Carries n input q passed entered rows → AreSorted rows sorted →
-    AllPairs (λ a b. pair_cmp a b ≡ Less) (map row_ends sorted)
+    AllPairs (λ a b. pair_cmp a b ≡ Less) (map (row_ends passed) sorted)
 
 -- at each place the rows are some pieces of the tile
 abbrev pub RowsAreSome : Type 0
 RowsAreSome =
     (n : ℤ) (input : Input) (q : Point) (passed : List Point) (entered : List Member) (rows sorted : List Row) → Carries n input q passed entered rows → AreSorted rows sorted →
-    AreSome input (map row_ends sorted)
+    AreSome input (map (row_ends passed) sorted)
 
 -- so where they are more than a cap, the tile has too many
 abbrev pub RowsTellOversize : Type 0
@@ -62,7 +61,7 @@ RowsTellOversize =
 
 -- sorted rows are the tile, and the places passed are those of all nodes of the closed column
 pub record AreAll (input : Input) (passed : List Point) (sorted : List Row) : Type 0 where
-  pub tile : IsTileOf input.marked input.steps input.column (map row_ends sorted)
+  pub tile : IsTileOf input.marked input.steps input.column (map (row_ends passed) sorted)
   pub nodes : (p : Point) → pos 0 <ℤ p.w → IsTrue (is_node (segments_in input) p) → (border input.column *ℤ p.w) ≤ℤ p.x → IsUpTo input.column p → IsQueued passed p
 
 -- so it is where no place is found ahead

@@ -10,18 +10,14 @@ use Rattle.overlay_terms.specs.Column.{border, is_in_column}
 use Rattle.overlay_terms.specs.Layers.{layers_max}
 use Rattle.overlay_terms.specs.Trees.{Steps, steps_value, mask_bits}
 use Rattle.overlay_terms.specs.Tiles.{Input, is_node, IsBoundary}
-use Rattle.exact_point.specs.PointName.{HasPlace}
-use Rattle.exact_point.specs.PlaceOf.{place_of}
 use Rattle.arrange.specs.Arrangement.{segments_in}
 use Rattle.arrange.specs.declared.unit.Unit as units
-use Rattle.exact_point.specs.declared.point_name.PointName.{PointName}
 use Rattle.tile_laws.specs.JustRight.{under_bits, up_to_bits}
 use Rattle.crossing_sweep.specs.Leaning.{lean, lean_segment, IsSmall}
 use Rattle.crossing_sweep.specs.Sides.{lean_marked, IsNodal}
 use Rattle.crossing_sweep.specs.Queue.{IsUpTo, IsQueued}
 use Rattle.crossing_sweep.specs.Kept.{IsLastOn}
 use Rattle.crossing_sweep.specs.Member.{seg_of}
-use Rattle.crossing_sweep.specs.declared.member.Begin.{Begin}
 use Rattle.crossing_sweep.specs.declared.member.Member.{Member}
 use Rattle.crossing_sweep.specs.declared.row.Row.{Row}
 
@@ -36,11 +32,9 @@ pub record ArePassed (segments : List Segment) (column : ℕ) (q : Point) (passe
   pub up_to : All (λ z. point_cmp q z ≡ Less → ⊥) passed
   pub complete : (p : Point) → pos 0 <ℤ p.w → IsTrue (is_node segments p) → (border column *ℤ p.w) ≤ℤ p.x → IsUpTo column p → (point_cmp q p ≡ Less → ⊥) → IsQueued passed p
 
--- a name is that of the place with a number among those passed
-pub record IsNumbered (passed : List Point) (name : PointName) (number : ℕ) : Type 0 where
-  pub named : HasPlace name
-  pub known : number < length passed
-  pub at : (d : Point) → get_or passed number d ≡ place_of name
+-- the place with a number among those passed
+abbrev pub place_at : List Point → ℕ → Point
+place_at passed number = get_or passed number (record { x = pos 0; y = pos 0; w = pos 0 })
 
 -- ---- what a member carries
 -- whether one holds and the other does not
@@ -74,28 +68,28 @@ pub record IsCarriedFrom (n : ℤ) (input : Input) (p q : Point) (m : Member) : 
 
 -- so it is with a member that begins at one of the places passed
 pub record IsCarried (n : ℤ) (input : Input) (passed : List Point) (q : Point) (m : Member) : Type 0 where
-  pub begins : IsNumbered passed m.begin.name m.begin.number
-  pub carried : IsCarriedFrom n input (place_of m.begin.name) q m
+  pub known : m.begin < length passed
+  pub carried : IsCarriedFrom n input (place_at passed m.begin) q m
 
 -- ---- rows
 -- the places of the ends of a row
-abbrev pub row_ends : Row → Point × Point
-row_ends row = (place_of row.from, place_of row.to)
+abbrev pub row_ends : List Point → Row → Point × Point
+row_ends passed row = (place_at passed row.first, place_at passed row.last)
 
 -- a row is a piece of the boundary in the column between two of the places passed, both on its support
 pub record IsRow (input : Input) (passed : List Point) (row : Row) : Type 0 where
-  pub from : IsNumbered passed row.from row.first
-  pub to : IsNumbered passed row.to row.last
-  pub from_on : IsTrue (is_on row.support (place_of row.from))
-  pub to_on : IsTrue (is_on row.support (place_of row.to))
-  pub boundary : IsBoundary input.marked input.steps input.column (place_of row.from) (place_of row.to)
+  pub from_known : row.first < length passed
+  pub to_known : row.last < length passed
+  pub from_on : IsTrue (is_on row.support (place_at passed row.first))
+  pub to_on : IsTrue (is_on row.support (place_at passed row.last))
+  pub boundary : IsBoundary input.marked input.steps input.column (place_at passed row.first) (place_at passed row.last)
 
 -- the rows of a pass that has come to a place: the pieces of the boundary in the column that end there or before it, each once
 pub record AreRows (input : Input) (passed : List Point) (q : Point) (rows : List Row) : Type 0 where
   pub sound : All (IsRow input passed) rows
   pub once : AllPairs (λ a b. a.first ≡ b.first → a.last ≡ b.last → ⊥) rows
   pub complete : (p r : Point) → IsBoundary input.marked input.steps input.column p r → (point_cmp q r ≡ Less → ⊥)
-      → Any (λ row. IsTrue (same_place p (place_of row.from) && same_place r (place_of row.to))) rows
+      → Any (λ row. IsTrue (same_place p (place_at passed row.first) && same_place r (place_at passed row.last))) rows
 
 -- by the number of the left end, then of the right end
 abbrev pub number_cmp : ℕ × ℕ → ℕ × ℕ → Ordering
@@ -111,12 +105,12 @@ pub record AreSorted (rows sorted : List Row) : Type 0 where
   pub in_order : IsSortedByKey row_numbers number_cmp sorted
 
 -- ---- one step
--- the row that a member makes where its piece ends
-abbrev pub row_to : Begin → Member → Row
-row_to end m = record { support = m.unit.seg; from = m.begin.name; to = end.name; first = m.begin.number; last = end.number }
+-- the row that a member makes where its piece ends, at the node with a number
+abbrev pub row_to : ℕ → Member → Row
+row_to end m = record { support = m.unit.seg; first = m.begin; last = end }
 
 -- the rows of a bundle: of the members that differ
-abbrev pub rows_of : Begin → List Member → List Row
+abbrev pub rows_of : ℕ → List Member → List Row
 rows_of end bundle = map (row_to end) (filter (λ m. m.differs) bundle)
 
 -- what holds over the highest of some members, or else what lies under all of them
@@ -128,23 +122,21 @@ mask_over under (m ∷ ms) = mask_over m.over ms
 abbrev pub HasValue : Steps → ℕ → Bool → Type 0
 HasValue steps mask value = (bits : ℕ → Bool) → HasBits mask bits → value ≡ steps_value steps bits
 
--- a member begins at a place, within the column or not, over what a mask says: its own mask changes that, and it differs where the
+-- a member begins at the node with a number, within the column or not, over what a mask says: its own mask changes that, and it differs where the
 -- steps do
-pub record IsBegun (steps : Steps) (under : ℕ) (begin : Begin) (within : Bool) (m : Member) : Type 0 where
+pub record IsBegun (steps : Steps) (under : ℕ) (begin : ℕ) (within : Bool) (m : Member) : Type 0 where
   pub begins : m.begin ≡ begin
   pub over : m.over ≡ bit_xor under m.unit.mask
   pub differs : (low high : ℕ → Bool) → HasBits under low → HasBits m.over high → m.differs ≡ (within && is_one_of (steps_value steps low) (steps_value steps high))
 
 -- so do all members of a bundle, each over the one below it
-abbrev pub AreBegun : Steps → ℕ → Begin → Bool → List Member → Type 0
+abbrev pub AreBegun : Steps → ℕ → ℕ → Bool → List Member → Type 0
 AreBegun steps under begin within [] = Unit {0}
 AreBegun steps under begin within (m ∷ ms) = IsBegun steps under begin within m × AreBegun steps m.over begin within ms
 
 -- at a node r after the places passed, the pieces of some members begin, each with its mask over those of the members under the node
-pub record BeginAt (input : Input) (units : List units.Unit) (r : Point) (passed : List Point) (under stay : List Member) (end : Begin) : Type 0 where
-  pub named : HasPlace end.name
-  pub at : place_of end.name ≡ r
-  pub number : end.number ≡ length passed
+pub record BeginAt (input : Input) (units : List units.Unit) (r : Point) (passed : List Point) (under stay : List Member) (end : ℕ) : Type 0 where
+  pub number : end ≡ length passed
   pub nodal : IsNodal r
   pub among : All (λ m. Contains units m.unit) stay
   pub begun : AreBegun input.steps (mask_over 0 under) end (is_in_column input.column r) stay

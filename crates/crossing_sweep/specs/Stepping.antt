@@ -1,5 +1,5 @@
 -- One step of a pass, from the members and the units to come before the next node to those after it.
-use Rattle.std.specs.Prelude.{◌≡◌, ℤ, ◌++◌, ◌∷◌, List, map, length, All, AllPairs, Contains}
+use Rattle.std.specs.Prelude.{◌≡◌, ℕ, ℤ, ◌++◌, ◌∷◌, List, map, length, All, AllPairs, Contains}
 use Rattle.std.specs.declared.cmp.Ordering.TheVariants.{Less}
 use Rattle.overlay_terms.specs.Plane.{Point, Segment, point_cmp}
 use Rattle.overlay_terms.specs.Column.{is_in_column}
@@ -16,7 +16,6 @@ use Rattle.crossing_sweep.specs.Passing.{HasCome, IsEntry, IsStepTo}
 use Rattle.crossing_sweep.specs.Ahead.{points_of}
 use Rattle.crossing_sweep.specs.Member.{segs_of}
 use Rattle.crossing_sweep.specs.Rows.{AreBegun, mask_over, rows_of}
-use Rattle.crossing_sweep.specs.declared.member.Begin.{Begin}
 use Rattle.crossing_sweep.specs.declared.row.Row.{Row}
 use Rattle.crossing_sweep.specs.Testing.{AreSeamsTested, seams_at}
 use Rattle.crossing_sweep.specs.declared.member.Member.{Member}
@@ -41,7 +40,7 @@ pub record StandsBefore (n : ℤ) (input : Input) (units : List Unit) (q : Point
 
 -- a step to a place: the pieces of the members that hold it are closed, and these give way to those that stay, whose pieces begin there; some
 -- units to come enter, and within the column the neighbours at the two new seams are tested. So it is one step of the pass
-pub record IsStepped (input : Input) (at : HPoint) (begin : Begin) (status after : List Member) (coming rest : List Start) (old new : Search) (rows more_rows : List Row) : Type 0 where
+pub record IsStepped (input : Input) (at : HPoint) (begin : ℕ) (status after : List Member) (coming rest : List Start) (old new : Search) (rows more_rows : List Row) : Type 0 where
   pub under : List Member
   pub bundle : List Member
   pub over : List Member

@@ -5,23 +5,15 @@ ghost use Rattle.overlay_terms.specs.Plane.{whole_cmp};
 
 use arrange::unit::Unit;
 use exact_point::crossing::direction_cmp;
-use exact_point::point_name::PointName;
 use std::cmp::Ordering;
 
-/// Where a piece begins: the name of the place, and how many nodes were passed before it.
-#[derive(Clone, Copy, Debug)]
-pub(crate) struct Begin {
-    pub name: PointName,
-    pub number: u64,
-}
-
-/// A unit that goes on after the sweep's place, with the last node on it, a bit for each base layer
-/// that holds just over it, and whether the piece that begins there is one of the boundary. The
-/// order is by direction, the vertical one last.
+/// A unit that goes on after the sweep's place, with the number of the last node on it, a bit for
+/// each base layer that holds just over it, and whether the piece that begins there is one of the
+/// boundary. The order is by direction, the vertical one last.
 #[derive(Clone, Copy, Debug)]
 pub(crate) struct Member {
     pub unit: Unit,
-    pub begin: Begin,
+    pub begin: usize,
     pub over: u32,
     pub differs: bool,
     pub ghost ahead: { whole_cmp unit.seg.left unit.seg.right ≡ Less },

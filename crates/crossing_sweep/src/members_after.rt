@@ -6,7 +6,7 @@ ghost use Rattle.exact_point.specs.Crossing.{turn_of};
 ghost use Rattle.exact_point.specs.Place.{place, same_hpoint};
 ghost use Rattle.crossing_sweep.specs.Member.{units_of, segs_of, ends_after};
 
-use crate::member::{Begin, Member};
+use crate::member::Member;
 use crate::start::Start;
 use exact_point::point::HPoint;
 use plane_base::point::Seg;
@@ -26,7 +26,7 @@ pub(crate) fn turned(
     bundle: &[Member],
     entering: &[Start],
     at: &HPoint,
-    begin: &Begin,
+    begin: usize,
 ) -> Result<Vec<Member>, AllocError>
     ensures moved { IfOk result (λ stay. IsPermutation (filter (λ u. ends_after (place at.now) u.seg) (units_of bundle.now ++ map (λ s. s.unit) entering.now)) (units_of stay.items)) }
     ensures turned { IfOk result (λ stay. AllPairs (λ a b. pos 0 ≤ℤ turn_of a b) (segs_of stay.items)) }
@@ -62,7 +62,7 @@ fn enter(
     stay: &mut Vec<Member>,
     entering: &[Start],
     at: &HPoint,
-    begin: &Begin,
+    begin: usize,
 ) -> Result<(), AllocError>
     ensures { OnOk result (units_of stay.new.items ≡ units_of stay.old.items ++ filter (λ u. ends_after (place at.now) u.seg) (map (λ s. s.unit) entering.now)) }
 {
@@ -70,7 +70,7 @@ fn enter(
         if ends_after(&start.unit.seg, at) {
             stay.push(Member {
                 unit: start.unit,
-                begin: *begin,
+                begin,
                 over: 0,
                 differs: false,
             })?;

@@ -4,12 +4,12 @@ ghost use Rattle.crossing_sweep.specs.Crossed.{IsCrossed};
 ghost use Rattle.crossing_sweep.specs.Standing.{nodes_max};
 
 use crate::known_places::known_places;
-use crate::member::Begin;
 use crate::progress::Progress;
 use crate::row::{Row, sort};
 use crate::search::Search;
 use crate::starts::starts;
 use arrange::tile_input::TileInput;
+use exact_point::point_name::PointName;
 use plane_base::point::Seg;
 use std::alloc::{AllocError, Global};
 use std::marker::Model;
@@ -20,10 +20,10 @@ pub struct Crossed {
     /// The pieces of the boundary, by their left ends, then by their right ends; where they are more
     /// than the cap, some of them, more than the cap too.
     pub rows: Vec<Row>,
+    /// The names of the nodes that were passed, in their order.
+    pub names: Vec<PointName>,
     /// The pairs of neighbours that were tested, if they are listed.
     pub tests: Vec<(Seg, Seg)>,
-    /// How many nodes were passed.
-    pub nodes: u64,
 }
 
 /// A pass over the column of an input that has come to some place.
@@ -43,7 +43,7 @@ impl<'a> Model for Pass<'a> {
 
     ghost use Rattle.crossing_sweep.specs.Crossed.{IsPassing};
 
-    ghost view = { λ p. record { input = p.input.now; listed = p.progress.search.listed; ahead = length p.progress.search.ahead; rows = length p.progress.rows.items; nodes = p.progress.nodes } };
+    ghost view = { λ p. record { input = p.input.now; listed = p.progress.search.listed; ahead = length p.progress.search.ahead; rows = length p.progress.rows.items; nodes = length p.progress.names.items } };
 
     ghost invariant = { λ p. IsPassing p.input.now p.progress };
 }
@@ -82,7 +82,7 @@ impl<'a> Pass<'a> {
                 tests: Vec::new(alloc),
             },
             rows: Vec::new(alloc),
-            nodes: 0,
+            names: Vec::new(alloc),
         };
         Ok(Pass { input, progress })
     }
@@ -122,14 +122,9 @@ impl<'a> Pass<'a> {
         let Some((at, name)) = progress.search.ahead.take_first() else {
             return Ok(Pass { input, progress });
         };
-        // An input has few segments, and so a count of its nodes fits.
-        let _ = input.marked();
-        let begin = Begin {
-            name,
-            number: progress.nodes,
-        };
-        progress.step(alloc, input, &at, &begin)?;
-        progress.nodes += 1;
+        let number = progress.names.len();
+        progress.names.push(name)?;
+        progress.step(alloc, input, &at, number)?;
         Ok(Pass { input, progress })
     }
 
@@ -140,14 +135,14 @@ impl<'a> Pass<'a> {
         let Progress {
             search,
             mut rows,
-            nodes,
+            names,
             ..
         } = self.progress;
         sort(&mut rows);
         Crossed {
             rows,
+            names,
             tests: search.tests,
-            nodes,
         }
     }
 }

@@ -4,13 +4,14 @@ ghost use Rattle.std.specs.Prelude.{◌≡◌, ◌≤◌, ◌++◌, length, take
 ghost use Rattle.crossing_sweep.specs.Stepping.{IsStepped};
 
 use crate::bundle::bundle_at;
-use crate::member::{Begin, Member};
+use crate::member::Member;
 use crate::members_after::{count_entering, turned};
 use crate::row::{Row, close, label, mask_over};
 use crate::search::Search;
 use crate::start::Start;
 use arrange::tile_input::TileInput;
 use exact_point::point::HPoint;
+use exact_point::point_name::PointName;
 use exact_point::side::is_in;
 use std::alloc::{AllocError, Global};
 
@@ -22,7 +23,8 @@ pub(crate) struct Progress {
     pub status: Vec<Member>,
     pub search: Search,
     pub rows: Vec<Row>,
-    pub nodes: u64,
+    /// The names of the nodes that were passed, in their order.
+    pub names: Vec<PointName>,
 }
 
 impl Progress {
@@ -33,15 +35,15 @@ impl Progress {
         alloc: Global,
         input: &TileInput,
         at: &HPoint,
-        begin: &Begin,
+        begin: usize,
     ) -> Result<(), AllocError>
         requires { self.old.entered ≤ length self.old.starts.items }
         ensures few { OnOk result (self.new.entered ≤ length self.new.starts.items) }
         ensures stepped { OnOk result
-            (IsStepped input.now at.now begin.now self.old.status.items self.new.status.items
+            (IsStepped input.now at.now begin self.old.status.items self.new.status.items
             (drop self.old.entered self.old.starts.items) (drop self.new.entered self.new.starts.items)
             self.old.search self.new.search self.old.rows.items self.new.rows.items) }
-        ensures nodes { self.new.nodes ≡ self.old.nodes }
+        ensures names { self.new.names ≡ self.old.names }
     {
         let coming = &self.starts[self.entered..];
         let (low, high) = bundle_at(&self.status, at);

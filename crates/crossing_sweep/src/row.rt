@@ -2,25 +2,22 @@
 ghost use Rattle.std.specs.Prelude.{◌≡◌, ◌++◌, map, OnOk};
 ghost use Rattle.crossing_sweep.specs.Rows.{mask_over as highest_mask, row_to as row_of_member, rows_of, AreBegun, AreSorted, HasValue, IsBegun};
 
-use crate::member::{Begin, Member};
+use crate::member::Member;
 use arrange::tile_input::TileInput;
-use exact_point::point_name::PointName;
 use plane_base::point::Seg;
 use std::alloc::AllocError;
 
-/// A piece whose sides differ, with the numbers of its ends among the nodes of the closed column.
+/// A piece whose sides differ, by the numbers of its ends among the nodes of the closed column.
 #[derive(Clone, Copy, Debug)]
 pub struct Row {
     pub support: Seg,
-    pub from: PointName,
-    pub to: PointName,
-    pub first: u64,
-    pub last: u64,
+    pub first: usize,
+    pub last: usize,
 }
 
 /// Closes the pieces of a bundle: those of the boundary become rows.
-pub(crate) fn close(rows: &mut Vec<Row>, bundle: &[Member], end: &Begin) -> Result<(), AllocError>
-    ensures { OnOk result (rows.new.items ≡ rows.old.items ++ rows_of end.now bundle.now) }
+pub(crate) fn close(rows: &mut Vec<Row>, bundle: &[Member], end: usize) -> Result<(), AllocError>
+    ensures { OnOk result (rows.new.items ≡ rows.old.items ++ rows_of end bundle.now) }
 {
     for member in bundle {
         if member.differs {
@@ -30,16 +27,14 @@ pub(crate) fn close(rows: &mut Vec<Row>, bundle: &[Member], end: &Begin) -> Resu
     Ok(())
 }
 
-/// The row of a member whose piece ends at a place.
-fn row_to(member: &Member, end: &Begin) -> Row
-    ensures { result ≡ row_of_member end.now member.now }
+/// The row of a member whose piece ends at a node.
+fn row_to(member: &Member, end: usize) -> Row
+    ensures { result ≡ row_of_member end member.now }
 {
     Row {
         support: member.unit.seg,
-        from: member.begin.name,
-        to: end.name,
-        first: member.begin.number,
-        last: end.number,
+        first: member.begin,
+        last: end,
     }
 }
 
@@ -54,9 +49,9 @@ pub(crate) fn mask_over(members: &[Member]) -> u32
 }
 
 /// Begins the pieces of a bundle at a place: each stands on what holds over the one below it.
-pub(crate) fn label(input: &TileInput, stay: &mut [Member], under: u32, begin: &Begin, within: bool)
+pub(crate) fn label(input: &TileInput, stay: &mut [Member], under: u32, begin: usize, within: bool)
     ensures units { map (λ m. m.unit) stay.new ≡ map (λ m. m.unit) stay.old }
-    ensures begun { AreBegun input.now.steps under begin.now within stay.new }
+    ensures begun { AreBegun input.now.steps under begin within stay.new }
 {
     let mut mask = under;
     let mut value = input.steps().value(under);
@@ -73,17 +68,17 @@ fn begin_over(
     member: &mut Member,
     mask: u32,
     value: bool,
-    begin: &Begin,
+    begin: usize,
     within: bool,
 ) -> bool
     requires { HasValue input.now.steps mask value }
     ensures unit { member.new.unit ≡ member.old.unit }
-    ensures begun { IsBegun input.now.steps mask begin.now within member.new }
+    ensures begun { IsBegun input.now.steps mask begin within member.new }
     ensures value { HasValue input.now.steps member.new.over result }
 {
     let over = mask ^ member.unit.mask;
     let next = input.steps().value(over);
-    member.begin = *begin;
+    member.begin = begin;
     member.over = over;
     // Eager, so that one equation says all: both values are known by then.
     member.differs = within & (value ^ next);

@@ -3,6 +3,7 @@ ghost use Rattle.std.specs.Prelude.{◌≡◌, ◌↔◌, IsSome, IfSome};
 ghost use Rattle.overlay_terms.specs.TileLaws.{is_pair_below};
 ghost use Rattle.exact_point.specs.Place.{place};
 ghost use Rattle.exact_point.specs.NamedPiece.{ends_of};
+ghost use Rattle.crossing_sweep.specs.Crossed.{name_at, IsSpan};
 
 use arrange::Elementary;
 use crossing_sweep::Row;
@@ -110,15 +111,15 @@ impl Piece {
         }
     }
 
-    /// The row of a pass as a piece of the boundary.
-    pub(crate) fn of_row(row: &Row) -> Piece
-        requires { IsBetween row.now.support row.now.from row.now.to }
-        ensures { result ≡ record { support = row.now.support; from = row.now.from; to = row.now.to } }
+    /// The row of a pass over nodes with these names as a piece of the boundary.
+    pub(crate) fn of_row(names: &[PointName], row: &Row) -> Piece
+        requires { IsSpan names.now row.now }
+        ensures { result ≡ record { support = row.now.support; from = name_at names.now row.now.first; to = name_at names.now row.now.last } }
     {
         Piece {
             support: row.support,
-            from: row.from,
-            to: row.to,
+            from: names[row.first],
+            to: names[row.last],
         }
     }
 

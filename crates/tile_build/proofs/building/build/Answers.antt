@@ -3,8 +3,10 @@ use Rattle.std.specs.Prelude.{All}
 use Rattle.crossing_sweep.specs.Rows.{row_ends}
 use Rattle.crossing_sweep.specs.declared.row.Row.{Row}
 use Rattle.exact_point.specs.NamedPiece.{ends_of}
-use Rattle.tile_build.specs.Piece.{IsBetween}
-use Rattle.tile_build.proofs.CountedLemmas.{between, tile_for}
+use Rattle.exact_point.specs.PlaceOf.{place_of}
+use Rattle.exact_point.specs.declared.point_name.PointName.{PointName}
+use Rattle.crossing_sweep.specs.Crossed.{IsSpan}
+use Rattle.tile_build.proofs.CountedLemmas.{tile_for}
 use Rattle.tile_build.proofs.building.build.Goals as goal
 
 pub returns-then-len-cap : goal.returns-then-len-cap
@@ -15,12 +17,16 @@ returns-then-len-cap c =
 pub pieces_of-requires : goal.pieces_of-requires
 pieces_of-requires c =
     let rows : List Row = c.in_ok-found.found.rows.items in
-    subst (λ (rs : List Row). All (λ row. IsBetween row.support row.from row.to) rs) (sym c.deref.ensures.value) (between rows c.in_ok-found.ensures.spans)
+    let names : List PointName = c.in_ok-found.found.names.items in
+    subst (λ (ns : List PointName). All (IsSpan ns) c.deref-2.result.now) (sym c.deref.ensures.value)
+    (subst (λ (rs : List Row). All (IsSpan names) rs) (sym c.deref-2.ensures.value) c.in_ok-found.ensures.spans)
 
 pub returns : goal.returns
 returns c =
     let found = c.in_ok-found.ensures in
     let rows : List Row = c.in_ok-found.found.rows.items in
+    let names : List PointName = c.in_ok-found.found.names.items in
     let few : length rows ≤ c.args.cap = omega arith in
-    let ends : map ends_of c.in_ok-pieces.pieces.items ≡ map row_ends rows = c.in_ok-pieces.ensures ∙ ap (map row_ends) c.deref.ensures.value in
-    tile_for c.args.input.now c.args.cap false rows c.in_ok-found.found.tests.items c.in_ok-found.found.nodes found few (map ends_of c.in_ok-pieces.pieces.items) ends
+    let ends : map ends_of c.in_ok-pieces.pieces.items ≡ map (row_ends (map place_of names)) rows =
+    c.in_ok-pieces.ensures ∙ ap (λ (ns : List PointName). map (row_ends (map place_of ns)) c.deref-2.result.now) c.deref.ensures.value ∙ ap (map (row_ends (map place_of names))) c.deref-2.ensures.value in
+    tile_for c.args.input.now c.args.cap false rows names c.in_ok-found.found.tests.items found few (map ends_of c.in_ok-pieces.pieces.items) ends

@@ -41,8 +41,8 @@ returns-clause-stepped c =
     let rows : List Row = self.rows.items in
     let Splits : List Member → Type 0 = λ xs. SidesFallAlong r (segs_of xs) → IsSplitAt r (segs_of (take low xs)) (segs_of (slice_range xs low high)) (segs_of (drop high xs)) in
     let Moved : List Member → Type 0 = λ xs. IsPermutation (filter (unit_after r) (units_of (slice_range xs low high) ++ map (λ (s : Start). s.unit) (take entered coming))) (units_of turned) in
-    let Begun : ℕ → Bool → Type 0 = λ mask within. AreBegun c.args.input.now.steps mask c.args.begin.now within stay in
-    let Closed : List Member → Type 0 = λ xs. c.close.new.rows.items ≡ rows ++ rows_of c.args.begin.now (slice_range xs low high) in
+    let Begun : ℕ → Bool → Type 0 = λ mask within. AreBegun c.args.input.now.steps mask c.args.begin within stay in
+    let Closed : List Member → Type 0 = λ xs. c.close.new.rows.items ≡ rows ++ rows_of c.args.begin (slice_range xs low high) in
     let long : len ≡ length stay = search rules in
     let few = subst (λ (xs : List Member). high ≤ length xs) c.deref-2.ensures.value c.bundle_at-low.ensures.few in
     let labelled : units_of stay ≡ units_of turned = search rules in
@@ -56,8 +56,8 @@ returns-clause-stepped c =
     let size : c.in_ok-stay.stay.len ≡ length stay = search rules in
     let whole : take c.in_ok-stay.stay.len (stay ++ drop (length stay) turned) ≡ stay = ap (λ j. take j (stay ++ drop (length stay) turned)) size ∙ take-append_seam stay (drop (length stay) turned) in
     let put = c.in_ok-replace.ensures ∙ ap (λ (xs : List Member). take low ms ++ xs ++ drop high ms) whole in
-    let done = stepped c.args.input.now c.args.at.now c.args.begin.now ms after turned stay low high len entered coming self.search c.test_new.new.self rows c.close.new.rows.items c.bundle_at-low.ensures.in_order few
+    let done = stepped c.args.input.now c.args.at.now c.args.begin ms after turned stay low high len entered coming self.search c.test_new.new.self rows c.close.new.rows.items c.bundle_at-low.ensures.in_order few
     (subst Splits c.deref-2.ensures.value c.bundle_at-low.ensures.split) c.count_entering-entered.ensures (subst Moved c.deref-4.ensures.value c.in_ok-stay.ensures.moved) c.in_ok-stay.ensures.turned labelled begun
     (subst Closed c.deref-3.ensures.value c.in_ok-close.ensures) put long tested in
-    let Stepped : List Start → List Start → Type 0 = λ l m. IsStepped c.args.input.now c.args.at.now c.args.begin.now ms after l m self.search c.test_new.new.self rows c.close.new.rows.items in
+    let Stepped : List Start → List Start → Type 0 = λ l m. IsStepped c.args.input.now c.args.at.now c.args.begin ms after l m self.search c.test_new.new.self rows c.close.new.rows.items in
     subst (Stepped (drop self.entered self.starts.items)) onward (subst (λ (l : List Start). Stepped l (drop entered l)) behind done)
