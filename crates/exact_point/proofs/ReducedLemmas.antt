@@ -4,8 +4,8 @@ use Rattle.std.proofs.Common.{◌≡◌, ℕ, zero, suc, ℤ, pos, negsuc, neg_�
 use Rattle.std.proofs.lemmas.Int.{ints, by_lt_z, unsigned_abs-mul}
 use Rattle.std.proofs.lemmas.Bool.{and_from}
 use Rattle.std.proofs.lemmas.Bool.Decides.{Decides-int_eq}
-use Rattle.std.proofs.lemmas.Nat.Gcd.{dvd-zero, dvd_trans, le_of_dvd, mod-eq-zero_of_dvd}
-use Rattle.std.proofs.Math.Nat.{dvd-mul_left, eq-zero_of_zero-dvd}
+use Rattle.std.proofs.lemmas.Nat.Gcd.{dvd-zero, dvd_trans, le_of_dvd, mod-eq-zero_of_dvd, IsGcd-from_mod}
+use Rattle.std.proofs.Math.Nat.{dvd-mul_left, eq-zero_of_zero-dvd, eq-one_of_dvd-one}
 use Rattle.std.proofs.Math.IntN.{*ℤ_comm, zero-*ℤ, pos-*ℤ-pos}
 use Rattle.std.specs.Bool.{IsTrue}
 use Rattle.std.specs.Int.{IsGcd}
@@ -70,35 +70,33 @@ still_there p r g e =
     let ey : r.y *ℤ p.w ≡ p.y *ℤ r.w = ap (λ z. r.y *ℤ z) (sym e.w) ∙ turned r.y r.w (pos g) ∙ ap (λ z. z *ℤ r.w) e.y in
     and_from _ _ ((Decides-int_eq (r.x *ℤ p.w) (p.x *ℤ r.w)).1 ex) ((Decides-int_eq (r.y *ℤ p.w) (p.y *ℤ r.w)).1 ey)
 
--- ---- the greatest common divisor of three numbers, by two steps
-pub divisor_of : (p : Point) (x y w r g : ℕ) → x ≡ unsigned_abs p.x → y ≡ unsigned_abs p.y → w ≡ unsigned_abs p.w → IsGcd x y r → IsGcd r w g → IsDivisorOf p g
-divisor_of p x y w r g ex ey ew h k = record {
-  of_x = subst (λ m. g ∣ m) ex (dvd_trans g k.0 h.0);
-  of_y = subst (λ m. g ∣ m) ey (dvd_trans g k.0 h.1);
-  of_w = subst (λ m. g ∣ m) ew k.1;
-  greatest = λ d a b c. k.2 d (h.2 d (subst (λ m. d ∣ m) (sym ex) a) (subst (λ m. d ∣ m) (sym ey) b)) (subst (λ m. d ∣ m) (sym ew) c);
-}
+-- ---- the greatest common divisor of three numbers, by two steps: that of w and what is left of x,
+-- then that of it and what is left of y
+pub divisor_of : (p : Point) (w r g : ℕ) → w ≡ unsigned_abs p.w → IsGcd w (unsigned_abs p.x % w) r → IsGcd r (unsigned_abs p.y % r) g → IsDivisorOf p g
+divisor_of p w r g ew h k =
+    let of_x = IsGcd-from_mod (unsigned_abs p.x) w r h in
+    let of_y = IsGcd-from_mod (unsigned_abs p.y) r g k in
+    record {
+      of_x = dvd_trans g of_y.1 of_x.0;
+      of_y = of_y.0;
+      of_w = subst (λ m. g ∣ m) ew (dvd_trans g of_y.1 of_x.1);
+      greatest = λ d a b c. of_y.2 d b (of_x.2 d a (subst (λ m. d ∣ m) (sym ew) c));
+    }
 
-size_positive : (w : ℤ) → pos 1 ≤ℤ w → 0 < unsigned_abs w
+pub size_positive : (w : ℤ) → pos 1 ≤ℤ w → 0 < unsigned_abs w
 size_positive (pos n) h = omega (arith, ints)
 size_positive (negsuc n) h = absurd (omega (arith, ints))
 
-size_small : (w : ℤ) (n : ℕ) → pos 1 ≤ℤ w → w ≤ℤ pos n → unsigned_abs w ≤ n
-size_small (pos k) n h l = omega (arith, ints)
-size_small (negsuc k) n h l = omega (arith, ints)
-
-divisor_positive_by : (g n : ℕ) → 0 < n → g ∣ n → 0 < g
+pub divisor_positive_by : (g n : ℕ) → 0 < n → g ∣ n → 0 < g
 divisor_positive_by zero n h k = let none : n ≡ 0 = eq-zero_of_zero-dvd k in absurd (omega arith)
 divisor_positive_by (suc g) n h k = omega arith
 
 pub divisor_positive : (p : Point) (g : ℕ) → pos 1 ≤ℤ p.w → IsDivisorOf p g → 0 < g
 divisor_positive p g h k = divisor_positive_by g (unsigned_abs p.w) (size_positive p.w h) k.of_w
 
-pub divisor_small : (p : Point) (g n : ℕ) → pos 1 ≤ℤ p.w → p.w ≤ℤ pos n → IsDivisorOf p g → g ≤ n
-divisor_small p g n h l k =
-    let at_most = le_of_dvd (size_positive p.w h) k.of_w in
-    let small = size_small p.w n h l in
-    omega arith
+-- ---- a whole place
+pub whole_lowest : (p : Point) → unsigned_abs p.w ≡ 1 → IsLowest p
+whole_lowest p e d x y w = eq-one_of_dvd-one (subst (λ m. d ∣ m) e w)
 
 -- ---- one number divided
 negated : (x y : ℤ) → neg_ℤ x *ℤ y ≡ neg_ℤ (x *ℤ y)

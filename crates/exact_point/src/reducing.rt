@@ -1,8 +1,8 @@
 //! Points in lowest terms.
 ghost use Prim.Native.Nat.{◌∣◌};
-ghost use Rattle.std.specs.Prelude.{◌≡◌, ◌^◌, ◌<◌, ◌≤◌, ◌*ℤ◌, pos, unsigned_abs, IsTrue};
+ghost use Rattle.std.specs.Prelude.{◌≡◌, ◌^◌, ◌%◌, ◌<◌, ◌≤◌, ◌*ℤ◌, pos, unsigned_abs, IsTrue};
 ghost use Rattle.std.specs.Int.{IsGcd};
-ghost use Rattle.overlay_terms.specs.Plane.{denominator_max, same_place};
+ghost use Rattle.overlay_terms.specs.Plane.{same_place};
 ghost use Rattle.exact_point.specs.Place.{place};
 ghost use Rattle.exact_point.specs.Reduced.{IsDivisorOf, IsLowest, LowestTermsAreOne};
 
@@ -13,6 +13,9 @@ pub fn reduced(p: &HPoint) -> HPoint
     ensures same { IsTrue (same_place (place result) (place p.now)) }
     ensures lowest { IsLowest (place result) }
 {
+    if p.w == 1 {
+        return *p;
+    }
     let common = divisor(p);
     HPoint {
         x: divided(p.x, common),
@@ -26,18 +29,28 @@ pub fn lowest_terms_are_one()
     ensures { LowestTermsAreOne }
 {}
 
-/// The greatest common divisor of x, y and w.
-fn divisor(p: &HPoint) -> u128
+/// The greatest common divisor of x, y and w. That of w with what is left of x is small mostly, and
+/// a divisor of it is found at once.
+fn divisor(p: &HPoint) -> u64
     ensures value { IsDivisorOf (place p.now) result }
     ensures positive { 0 < result }
-    ensures small { result ≤ denominator_max }
 {
-    let of_place = gcd(p.x.unsigned_abs(), p.y.unsigned_abs());
-    gcd(of_place, p.w.unsigned_abs())
+    let w = p.w.unsigned_abs() as u64;
+    let of_x = gcd(w, rest_of(p.x, w));
+    gcd(of_x, rest_of(p.y, of_x))
+}
+
+/// What is left of the size of a number that is divided.
+fn rest_of(a: i128, divisor: u64) -> u64
+    requires positive { 0 < divisor }
+    requires small { unsigned_abs a ≤ 2 ^ 63 }
+    ensures { result ≡ unsigned_abs a % divisor }
+{
+    a.unsigned_abs() as u64 % divisor
 }
 
 /// The greatest common divisor, by Euclid.
-fn gcd(a: u128, b: u128) -> u128
+fn gcd(a: u64, b: u64) -> u64
     ensures { IsGcd a b result }
 {
     let mut x = a;
@@ -51,12 +64,12 @@ fn gcd(a: u128, b: u128) -> u128
 }
 
 /// A number divided by one of its divisors.
-fn divided(a: i128, divisor: u128) -> i128
+fn divided(a: i128, divisor: u64) -> i128
     requires positive { 0 < divisor }
     requires divides { divisor ∣ unsigned_abs a }
     requires small { unsigned_abs a ≤ 2 ^ 63 }
     ensures { result *ℤ pos divisor ≡ a }
 {
-    let size = (a.unsigned_abs() / divisor) as i128;
+    let size = (a.unsigned_abs() as u64 / divisor) as i128;
     if a < 0 { -size } else { size }
 }

@@ -1,5 +1,5 @@
 //! Names of layers.
-ghost use Rattle.std.specs.Prelude.{◌≡◌, List, ℕ, IfOk, IsTrue, IsOkUnless, true, false};
+ghost use Rattle.std.specs.Prelude.{◌≡◌, ◌≤◌, List, ℕ, length, take, IfOk, IsTrue, IsOkUnless, true, false};
 ghost use Rattle.std.specs.List.{list_all};
 ghost use Rattle.layer_expr.specs.Name.{is_name, is_name_byte, first_is_letter};
 
@@ -10,23 +10,25 @@ use std::marker::Model;
 /// The most bytes of a name.
 pub const NAME_MAX: usize = 32;
 
-/// A name of at least one byte: a letter, then letters, digits and underscores.
+/// A name of at least one byte: a letter, then letters, digits and underscores. It holds its bytes in
+/// place, so a copy takes no memory.
 #[derive(Debug, Drop)]
 pub struct Name {
-    bytes: Vec<u8>,
+    bytes: [u8; NAME_MAX],
+    len: usize,
 }
 
 impl Model for Name {
     ghost Value = { List ℕ };
 
-    ghost view = { λ n. n.bytes.items };
+    ghost view = { λ n. take n.len n.bytes };
 
-    ghost invariant = { λ n. IsTrue (is_name n.bytes.items) };
+    ghost invariant = { λ n. (n.len ≤ 32) × IsTrue (is_name (take n.len n.bytes)) };
 }
 
 impl Name {
     /// The name with these bytes.
-    pub fn new(alloc: Global, bytes: &[u8]) -> Result<Name, ExprFault>
+    pub fn new(_alloc: Global, bytes: &[u8]) -> Result<Name, ExprFault>
         ensures ok { IfOk result (λ name. name ≡ bytes.now) }
         ensures refused { is_name bytes.now ≡ false → result ≡ Err ExprFault.BadName }
         ensures accepted { is_name bytes.now ≡ true → IsOkUnless result ExprFault.OutOfMemory }
@@ -34,15 +36,17 @@ impl Name {
         if !is_well_formed(bytes) {
             return Err(ExprFault::BadName);
         }
-        let bytes = Vec::from_slice(alloc, bytes)?;
-        Ok(Name { bytes })
+        Ok(Name {
+            bytes: placed(bytes),
+            len: bytes.len(),
+        })
     }
 
     pub fn bytes(&self) -> &[u8]
         ensures value { result.now ≡ self.now }
         ensures valid { IsTrue (is_name result.now) }
     {
-        &self.bytes
+        &self.bytes[..self.len]
     }
 }
 
@@ -51,14 +55,26 @@ impl Clone for Name {
 
     fn clone(&self) -> Result<Name, AllocError> {
         Ok(Name {
-            bytes: self.bytes.clone()?,
+            bytes: self.bytes,
+            len: self.len,
         })
     }
 }
 
+/// The bytes in the first places of an array.
+fn placed(bytes: &[u8]) -> [u8; NAME_MAX]
+    requires { length bytes.now ≤ 32 }
+    ensures { take (length bytes.now) result ≡ bytes.now }
+{
+    let mut places = [0; NAME_MAX];
+    places[..bytes.len()].copy_from_slice(bytes);
+    places
+}
+
 /// Whether the bytes are those of a name.
 pub fn is_well_formed(bytes: &[u8]) -> bool
-    ensures { result ≡ is_name bytes.now }
+    ensures value { result ≡ is_name bytes.now }
+    ensures short { IsTrue result → length bytes.now ≤ 32 }
 {
     starts_with_letter(bytes) && bytes.len() <= NAME_MAX && all_name_bytes(bytes)
 }

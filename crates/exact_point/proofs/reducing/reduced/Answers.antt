@@ -1,10 +1,18 @@
-use Rattle.std.proofs.Common.{rules, arith, ◌≡◌, ℕ, ℤ, pos, ◌*ℤ◌, ◌<ℤ◌, to_z, of_z}
+use Rattle.std.proofs.Common.{rules, arith, lit<, ◌≡◌, ℕ, ℤ, pos, ◌*ℤ◌, ◌<ℤ◌, to_z, of_z, unsigned_abs, sym, ap, ◌∙◌}
 use Rattle.std.specs.Int.{w128}
 use Rattle.std.proofs.lemmas.Int.{ints, to_z-of_z}
+use Rattle.overlay_terms.proofs.Bounds.{read}
 use Rattle.exact_point.specs.declared.point.HPoint.{HPoint}
 use Rattle.exact_point.specs.Place.{place}
-use Rattle.exact_point.proofs.ReducedLemmas.{IsDividedBy, lowest, still_there, divided_low, divided_high, divided_w_low, divided_w_high}
+use Rattle.exact_point.proofs.ReducedLemmas.{IsDividedBy, lowest, whole_lowest, still_there, divided_low, divided_high, divided_w_low, divided_w_high}
+use Rattle.exact_point.proofs.PointBounds.{w_small}
 use Rattle.exact_point.proofs.reducing.reduced.Goals as goal
+
+pub returns-then-p-eq1-clause-lowest : goal.returns-then-p-eq1-clause-lowest
+returns-then-p-eq1-clause-lowest c =
+    let p = c.args.p.now in
+    let one : p.w ≡ pos 1 = sym (read _ _ (w_small p) (lit< tt)) ∙ ap (λ n. to_z w128 n) c.if-p-eq1.true in
+    whole_lowest (place p) (ap unsigned_abs one)
 
 pub divided-requires-clause-divides : goal.divided-requires-clause-divides
 divided-requires-clause-divides c = search (rules, to_z-of_z, c.divisor-common.ensures.value.of_x)
