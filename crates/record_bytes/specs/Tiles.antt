@@ -1,16 +1,11 @@
 -- Tiles of the code as those of the definitions, with the names of their ends.
-use Rattle.std.specs.Prelude.{ℕ, Option, Some, None, if◌then◌else◌}
+use Rattle.std.specs.Prelude.{ℕ}
 use Rattle.std.proofs.Common.{inl, inr}
 use Rattle.tile_build.specs.declared.tile.Tile.{Tile}
 use Rattle.tile_build.specs.declared.tile.Tile.TheVariants.{Pieces, Oversize}
 use Rattle.store_terms.specs.Fields.{Field, number, both, counted}
 use Rattle.store_terms.specs.Choices.{either}
-use Rattle.store_terms.specs.TileRecord.{is_piece, piece, NamedTile}
-use Rattle.exact_point.specs.NamedPiece.{NamedPiece}
-
--- what is said of a piece, if it is one
-abbrev pub if_piece : NamedPiece → Option NamedPiece
-if_piece p = if is_piece p then Some p else None
+use Rattle.store_terms.specs.TileRecord.{piece, NamedTile}
 
 -- a tile and its column, by the names of its ends
 abbrev pub named_by : ℕ → Tile → NamedTile

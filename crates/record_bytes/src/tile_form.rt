@@ -1,15 +1,12 @@
 //! Whether tiles have their form.
 ghost use Rattle.std.specs.Prelude.{◌≡◌, map};
 ghost use Rattle.std.specs.List.{list_all};
-ghost use Rattle.std.specs.Ordering.{is_lt};
 ghost use Rattle.overlay_terms.specs.Column.{is_in_column};
 ghost use Rattle.overlay_terms.specs.Histories as terms;
 ghost use Rattle.overlay_terms.specs.Histories.{is_formed as has_form, is_rising};
-ghost use Rattle.overlay_terms.specs.Tiles.{pair_cmp};
 ghost use Rattle.exact_point.specs.NamedPiece.{ends_of};
 ghost use Rattle.tile_build.specs.Tile.{tile_of};
 
-use exact_point::is_in;
 use plane_base::Column;
 use tile_build::{PIECES_MAX, Piece, Tile};
 
@@ -40,8 +37,7 @@ fn begin_in(pieces: &[Piece], column: Column) -> bool
     ensures { result ≡ list_all (λ p. is_in_column column (ends_of p).0) pieces.now }
 {
     for piece in pieces {
-        let (from, _) = piece.ends();
-        if !is_in(column, &from) {
+        if !piece.begins_in(column) {
             return false;
         }
     }
@@ -53,18 +49,9 @@ fn are_rising(pieces: &[Piece]) -> bool
     ensures { result ≡ is_rising (map ends_of pieces.now) }
 {
     for i in 1..pieces.len() {
-        if !is_before(&pieces[i - 1], &pieces[i]) {
+        if !pieces[i - 1].is_before(&pieces[i]) {
             return false;
         }
     }
     true
-}
-
-/// Whether a piece stands before another.
-fn is_before(piece: &Piece, next: &Piece) -> bool
-    ensures { result ≡ is_lt (pair_cmp (ends_of piece.now) (ends_of next.now)) }
-{
-    let (from, to) = piece.ends();
-    let (next_from, next_to) = next.ends();
-    from.cmp(&next_from).then(to.cmp(&next_to)).is_lt()
 }

@@ -4,7 +4,7 @@ use Rattle.std.specs.Prelude.{◌↔◌, IsSome, IfSome, int_lt}
 use Rattle.std.specs.Ordering.{is_lt}
 use Rattle.std.specs.declared.cmp.Ordering.{Ordering}
 use Rattle.std.specs.declared.cmp.Ordering.TheVariants.{Less, Equal, Greater}
-use Rattle.std.proofs.lemmas.Bool.{false≢true, and_parts, false_from_ne_true, cond-true, cond-false}
+use Rattle.std.proofs.lemmas.Bool.{false≢true, and_parts, and_from, false_from_ne_true, cond-true, cond-false}
 use Rattle.std.proofs.lemmas.Option.{same_Some}
 use Rattle.overlay_terms.specs.Plane.{Segment, WholePoint, whole_cmp, point_cmp, is_on}
 use Rattle.overlay_terms.proofs.InputNumbers.{lt_true}
@@ -60,11 +60,9 @@ module _ (s : Segment) (f t : PointName) where
   none_chosen never =
       sym (cond-false (is_piece (the_piece s f t)) (Some (the_piece s f t)) None (false_from_ne_true (is_piece (the_piece s f t)) never))
 
-  pub no_left_end : has_place f ≡ false → None ≡ chosen
-  no_left_end none = none_chosen (λ e. false≢true (sym none ∙ (tested e).0))
-
-  pub no_right_end : has_place t ≡ false → None ≡ chosen
-  no_right_end none = none_chosen (λ e. false≢true (sym none ∙ (tested e).1))
+  pub no_end : (has_place f && has_place t) ≡ false → None ≡ chosen
+  no_end none =
+      none_chosen (λ e. false≢true (sym none ∙ and_from (has_place f) (has_place t) (tested e).0 (tested e).1))
 
   pub made_piece : (r : Option NamedPiece) → has_place f ≡ true → has_place t ≡ true → IsSome r ↔ IsBetween s f t
       → IfSome r (λ q. q ≡ the_piece s f t) → r ≡ chosen

@@ -1,7 +1,7 @@
 //! The records of base layers: how many rings, and for each how many points, and its points.
 ghost use Rattle.std.specs.Prelude.{IfOk, IfErr};
 ghost use Rattle.record_bytes.specs.Answers.{Fails, Gives, Reads};
-ghost use Rattle.record_form.specs.Points.{IsAdded};
+ghost use Rattle.record_form.specs.Added.{IsAdded};
 ghost use Rattle.store_terms.specs.Fields.{read_many};
 ghost use Rattle.store_terms.specs.BaseRecord.{whole_point, ring as spelled, base_of_record};
 ghost use Rattle.store_terms.specs.Image.{or_fault};
@@ -79,7 +79,7 @@ fn points_at(alloc: Global, count: u16, bytes: &[u8]) -> Result<(Vec<Pt>, &[u8])
 
 /// Adds the point at the front of some bytes, and gives what follows it.
 fn push_point<'a>(points: &mut Vec<Pt>, bytes: &'a [u8]) -> Result<&'a [u8], ReadFault>
-    ensures ok { IfOk result (λ rest. IsAdded bytes.now rest.now points.old.items points.new.items) }
+    ensures ok { IfOk result (λ rest. IsAdded whole_point bytes.now rest.now points.old.items points.new.items) }
     ensures err { IfErr result (λ fault. Fails fault (whole_point.read bytes.now)) }
 {
     match point_at(bytes) {

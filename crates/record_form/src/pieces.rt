@@ -1,13 +1,12 @@
 //! Pieces at the front of some bytes.
-ghost use Rattle.std.specs.Prelude.{◌≡◌};
-ghost use Rattle.record_bytes.specs.Answers.{Gives};
-ghost use Rattle.record_bytes.specs.Tiles.{if_piece};
+ghost use Rattle.std.specs.Prelude.{◌≡◌, ◌&&◌, IfOk, IfErr};
+ghost use Rattle.record_bytes.specs.Answers.{Fails, Gives};
+ghost use Rattle.record_form.specs.Added.{IsAdded};
 ghost use Rattle.store_terms.specs.Fields.{read_many};
 ghost use Rattle.store_terms.specs.TileRecord.{has_place, piece as spelled};
 
 use crate::segments::{point_name_at, segment_at};
 use exact_point::PointName;
-use plane_base::Seg;
 use record_bytes::fault::ReadFault;
 use std::alloc::Global;
 use tile_build::Piece;
@@ -23,23 +22,32 @@ pub(crate) fn pieces_at(
     let mut pieces = Vec::new(alloc);
     let mut rest = bytes;
     for _ in 0..count {
-        let (piece, after) = piece_at(rest)?;
-        pieces.push(piece)?;
-        rest = after;
+        rest = push_piece(&mut pieces, rest)?;
     }
     Ok((pieces, rest))
 }
 
-fn piece_at(bytes: &[u8]) -> Result<(Piece, &[u8]), ReadFault>
-    ensures { Gives (λ x. (x.0, x.1.now)) result (spelled.read bytes.now) }
+/// Adds the piece at the front of some bytes, and gives what follows it. It goes from its names into the vector: what
+/// stands between them would be copied as a whole.
+fn push_piece<'a>(pieces: &mut Vec<Piece>, bytes: &'a [u8]) -> Result<&'a [u8], ReadFault>
+    ensures ok { IfOk result (λ rest. IsAdded spelled bytes.now rest.now pieces.old.items pieces.new.items) }
+    ensures err { IfErr result (λ fault. Fails fault (spelled.read bytes.now)) }
 {
     match segment_at(bytes) {
         Ok(support) => match point_name_at(support.1) {
             Ok(from) => match point_name_at(from.1) {
-                Ok(to) => match piece_of(support.0, from.0, to.0) {
-                    Some(piece) => Ok((piece, to.1)),
-                    None => Err(ReadFault::Form),
-                },
+                Ok(to) => {
+                    if !are_places(&from.0, &to.0) {
+                        return Err(ReadFault::Form);
+                    }
+                    match Piece::new(support.0, from.0, to.0) {
+                        Some(piece) => {
+                            pieces.push(piece)?;
+                            Ok(to.1)
+                        }
+                        None => Err(ReadFault::Form),
+                    }
+                }
                 Err(fault) => Err(fault),
             },
             Err(fault) => Err(fault),
@@ -48,21 +56,26 @@ fn piece_at(bytes: &[u8]) -> Result<(Piece, &[u8]), ReadFault>
     }
 }
 
-/// The piece of a segment between two names, if they stand for places on it, the left one first.
-fn piece_of(support: Seg, from: PointName, to: PointName) -> Option<Piece>
-    ensures { result ≡ if_piece (record { support = support; from = from; to = to }) }
+/// Whether two names stand for places.
+fn are_places(from: &PointName, to: &PointName) -> bool
+    ensures { result ≡ (has_place from.now && has_place to.now) }
 {
-    if !stands_for_a_place(&from) {
-        return None;
-    }
-    if !stands_for_a_place(&to) {
-        return None;
-    }
-    Piece::new(support, from, to)
+    // Eager, so that one equation says all: of a piece both are asked.
+    stands_for_a_place(from) & stands_for_a_place(to)
 }
 
-/// Whether a name stands for a place.
+/// Whether a name stands for a place. That of a whole point does.
 fn stands_for_a_place(name: &PointName) -> bool
+    ensures { result ≡ has_place name.now }
+{
+    match name {
+        PointName::Vertex(_) => true,
+        _ => has_exact_place(name),
+    }
+}
+
+/// The same by exact coordinates.
+fn has_exact_place(name: &PointName) -> bool
     ensures { result ≡ has_place name.now }
 {
     name.point().is_some()

@@ -3,4 +3,5 @@ pub mod SortLemmas
 pub mod BoundaryLemmas
 pub mod SameLemmas
 pub mod CountedLemmas
+pub mod EndLemmas
 pub mod StoredLemmas

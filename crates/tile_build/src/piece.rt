@@ -5,11 +5,12 @@ ghost use Rattle.exact_point.specs.Place.{place};
 ghost use Rattle.exact_point.specs.NamedPiece.{ends_of};
 ghost use Rattle.crossing_sweep.specs.Crossed.{name_at, IsSpan};
 
+use crate::ends::{are_ends, is_name_in, name_cmp};
 use arrange::Elementary;
 use crossing_sweep::Row;
 use exact_point::side::side;
-use exact_point::{HPoint, PointName, on, x_cmp};
-use plane_base::Seg;
+use exact_point::{HPoint, PointName, x_cmp};
+use plane_base::{Column, Seg};
 use std::marker::Model;
 
 /// A piece of the boundary: a stretch of its support between two places, the left one first.
@@ -37,6 +38,7 @@ impl Model for Piece {
 
 impl Piece {
     ghost use Rattle.std.specs.Ordering.{is_lt};
+    ghost use Rattle.overlay_terms.specs.Column.{is_in_column};
     ghost use Rattle.overlay_terms.specs.Tiles.{pair_cmp};
     ghost use Rattle.tile_build.specs.Boundary.{named_of};
     ghost use Rattle.tile_build.specs.Piece.{IsBetween};
@@ -48,15 +50,7 @@ impl Piece {
         ensures between { IsSome result ↔ IsBetween support from to }
         ensures value { IfSome result (λ piece. piece ≡ record { support = support; from = from; to = to }) }
     {
-        let left = from.point()?;
-        let right = to.point()?;
-        if !on(&support, &left) {
-            return None;
-        }
-        if !on(&support, &right) {
-            return None;
-        }
-        if !left.cmp(&right).is_lt() {
+        if !are_ends(&support, &from, &to) {
             return None;
         }
         Some(Piece { support, from, to })
@@ -123,13 +117,22 @@ impl Piece {
         }
     }
 
+    /// Whether the piece begins in a column.
+    pub fn begins_in(&self, column: Column) -> bool
+        ensures { result ≡ is_in_column column (ends_of self.now).0 }
+    {
+        is_name_in(column, &self.from)
+    }
+
     /// Whether the piece stands before another: by the left end, then by the right end.
-    pub(crate) fn is_before(&self, other: &Piece) -> bool
+    pub fn is_before(&self, other: &Piece) -> bool
         ensures { result ≡ is_lt (pair_cmp (ends_of self.now) (ends_of other.now)) }
     {
-        let from = self.from.known_point().cmp(&other.from.known_point());
-        let to = self.to.known_point().cmp(&other.to.known_point());
-        from.then(to).is_lt()
+        let from = name_cmp(&self.from, &other.from);
+        if from.is_ne() {
+            return from.is_lt();
+        }
+        name_cmp(&self.to, &other.to).is_lt()
     }
 
     /// Whether both ends are at the places of those of another piece, whatever their names.

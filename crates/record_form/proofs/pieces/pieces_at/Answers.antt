@@ -5,17 +5,18 @@ use Rattle.store_terms.proofs.Loops.{goes_on, is_done}
 use Rattle.record_bytes.proofs.Failing.{fails, starts}
 use Rattle.record_form.proofs.pieces.pieces_at.Goals as goal
 
-pub returns-in_err-piece : goal.returns-in_err-piece
-returns-in_err-piece c =
+pub returns-in_err-rest : goal.returns-in_err-rest
+returns-in_err-rest c =
     let p = err_from_is_err_and c.from_residual.result c.from_residual.ensures.1 in
     rw (p.1, p.2)
-    (fails piece.read c.in_err-piece.field-0.0 c.loop.pieces.items c.args.count c.loop.counter c.loop.rest.now
-    (read_many piece.read c.args.count c.args.bytes.now) c.loop-test.true c.in_err-piece.ensures c.loop.invariant)
+    (fails piece.read c.in_err-rest.field-0.0 c.loop.pieces.items c.args.count c.loop.counter c.loop.rest.now
+    (read_many piece.read c.args.count c.args.bytes.now) c.loop-test.true c.in_err-rest.ensures.err c.loop.invariant)
 
 pub loop-preserved : goal.loop-preserved
 loop-preserved c =
-    rw c.in_ok-push.ensures.items
-    (goes_on piece.read c.loop.pieces.items c.args.count c.loop.counter c.loop.rest.now c.in_ok-piece.piece c.in_ok-piece.after.now (read_many piece.read c.args.count c.args.bytes.now) c.loop-test.true c.in_ok-piece.ensures c.loop.invariant)
+    let read = c.in_ok-rest.ensures.ok in
+    rw read.2
+    (goes_on piece.read c.loop.pieces.items c.args.count c.loop.counter c.loop.rest.now read.0 c.in_ok-rest.rest.now (read_many piece.read c.args.count c.args.bytes.now) c.loop-test.true read.1 c.loop.invariant)
 
 pub loop-init : goal.loop-init
 loop-init c = starts piece.read c.new-pieces.result.items c.args.count c.args.bytes.now c.new-pieces.ensures.items

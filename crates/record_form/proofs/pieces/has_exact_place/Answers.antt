@@ -1,6 +1,6 @@
 use Rattle.std.proofs.Common.{◌∙◌}
 use Rattle.store_terms.proofs.NameTests.{tested}
-use Rattle.record_form.proofs.pieces.stands_for_a_place.Goals as goal
+use Rattle.record_form.proofs.pieces.has_exact_place.Goals as goal
 
 pub returns : goal.returns
 returns c = c.is_some.ensures
