@@ -17,7 +17,7 @@ use Rattle.wkt_form.proofs.OneMeaning as wkt_laws
 use Rattle.script_form.specs.declared.fault.CommandFault.{CommandFault}
 use Rattle.script_form.specs.BatchLines.{IsCommandOf, IsNoCommand, AreCommandsOf, IsFirstUnread}
 use Rattle.script_form.specs.Turns.{Turn, alone, together, cut_off}
-use Rattle.script_form.specs.Requests.{Request, nothing, too_long, malformed, put, define, remove, locate, grid, list_layers, edges, wait, verify, sync, batch}
+use Rattle.script_form.specs.Requests.{Request, nothing, too_long, malformed, put_text, define_text, remove_name, locate, grid, list_layers, edges, wait, verify, sync, batch}
 
 -- a command of a name that is one, and of a text that is read
 pub record IsPutOf (name text : List ℕ) (command : Command) : Type 0 where
@@ -34,12 +34,12 @@ pub record IsDefineOf (name text : List ℕ) (command : Command) : Type 0 where
 
 -- what a request asks for: a command, or none where it is no command, its name is none or its text is refused
 abbrev pub AsksFor : Request → Option Command → Type 0
-AsksFor (put name text) (Some command) = IsPutOf name text command
-AsksFor (put name text) None = (is_name name ≡ false) ⊎ ((fault : WktFault) × wkt.IsRefusedBy text fault)
-AsksFor (define name text) (Some command) = IsDefineOf name text command
-AsksFor (define name text) None = (is_name name ≡ false) ⊎ ((fault : ExprFault) × expr.IsRefusedBy text fault)
-AsksFor (remove name) (Some command) = IsTrue (is_name name) × (command ≡ terms.remove name)
-AsksFor (remove name) None = is_name name ≡ false
+AsksFor (put_text name text) (Some command) = IsPutOf name text command
+AsksFor (put_text name text) None = (is_name name ≡ false) ⊎ ((fault : WktFault) × wkt.IsRefusedBy text fault)
+AsksFor (define_text name text) (Some command) = IsDefineOf name text command
+AsksFor (define_text name text) None = (is_name name ≡ false) ⊎ ((fault : ExprFault) × expr.IsRefusedBy text fault)
+AsksFor (remove_name name) (Some command) = IsTrue (is_name name) × (command ≡ terms.remove name)
+AsksFor (remove_name name) None = is_name name ≡ false
 AsksFor nothing o = o ≡ None
 AsksFor too_long o = o ≡ None
 AsksFor malformed o = o ≡ None
@@ -72,18 +72,18 @@ define_or_not name text c a (inr (fault, wrong)) = expr_laws.never_both text a.t
 
 -- a request asks for one command, or for none
 pub asks_for_one : (request : Request) (o p : Option Command) → AsksFor request o → AsksFor request p → o ≡ p
-asks_for_one (put name text) (Some c) (Some d) a b = ap Some (puts_one name text c d a b)
-asks_for_one (put name text) (Some c) None a b = absurd (put_or_not name text c a b)
-asks_for_one (put name text) None (Some d) a b = absurd (put_or_not name text d b a)
-asks_for_one (put name text) None None a b = refl
-asks_for_one (define name text) (Some c) (Some d) a b = ap Some (defines_one name text c d a b)
-asks_for_one (define name text) (Some c) None a b = absurd (define_or_not name text c a b)
-asks_for_one (define name text) None (Some d) a b = absurd (define_or_not name text d b a)
-asks_for_one (define name text) None None a b = refl
-asks_for_one (remove name) (Some c) (Some d) a b = ap Some (a.1 ∙ sym b.1)
-asks_for_one (remove name) (Some c) None a b = absurd (clash name a.0 b)
-asks_for_one (remove name) None (Some d) a b = absurd (clash name b.0 a)
-asks_for_one (remove name) None None a b = refl
+asks_for_one (put_text name text) (Some c) (Some d) a b = ap Some (puts_one name text c d a b)
+asks_for_one (put_text name text) (Some c) None a b = absurd (put_or_not name text c a b)
+asks_for_one (put_text name text) None (Some d) a b = absurd (put_or_not name text d b a)
+asks_for_one (put_text name text) None None a b = refl
+asks_for_one (define_text name text) (Some c) (Some d) a b = ap Some (defines_one name text c d a b)
+asks_for_one (define_text name text) (Some c) None a b = absurd (define_or_not name text c a b)
+asks_for_one (define_text name text) None (Some d) a b = absurd (define_or_not name text d b a)
+asks_for_one (define_text name text) None None a b = refl
+asks_for_one (remove_name name) (Some c) (Some d) a b = ap Some (a.1 ∙ sym b.1)
+asks_for_one (remove_name name) (Some c) None a b = absurd (clash name a.0 b)
+asks_for_one (remove_name name) None (Some d) a b = absurd (clash name b.0 a)
+asks_for_one (remove_name name) None None a b = refl
 asks_for_one nothing o p a b = a ∙ sym b
 asks_for_one too_long o p a b = a ∙ sym b
 asks_for_one malformed o p a b = a ∙ sym b
@@ -100,9 +100,9 @@ asks_for_one (batch size) o p a b = a ∙ sym b
 
 -- a line of a batch is one command
 is_one : (request : Request) (c d : Command) → IsCommandOf request c → IsCommandOf request d → c ≡ d
-is_one (put name text) c d a b = a.command_is ∙ ap (terms.put name) (wkt_laws.spells_one_layer text a.rings b.rings a.read b.read) ∙ sym b.command_is
-is_one (define name text) c d a b = a.command_is ∙ ap (terms.define name) (expr_laws.one_tree text a.tree b.tree a.read b.read) ∙ sym b.command_is
-is_one (remove name) c d a b = a.command_is ∙ sym b.command_is
+is_one (put_text name text) c d a b = a.command_is ∙ ap (terms.put name) (wkt_laws.spells_one_layer text a.rings b.rings a.read b.read) ∙ sym b.command_is
+is_one (define_text name text) c d a b = a.command_is ∙ ap (terms.define name) (expr_laws.one_tree text a.tree b.tree a.read b.read) ∙ sym b.command_is
+is_one (remove_name name) c d a b = a.command_is ∙ sym b.command_is
 is_one nothing c d a b = absurd a
 is_one too_long c d a b = absurd a
 is_one malformed c d a b = absurd a
@@ -126,11 +126,11 @@ are_one (request ∷ requests) (c ∷ cs) (d ∷ ds) a b =
 
 -- it is never a command and none
 one_or_not : (request : Request) (c : Command) (fault : CommandFault) → IsCommandOf request c → IsNoCommand request fault → ⊥
-one_or_not (put name text) c fault a (inl none) = clash name a.named none.0
-one_or_not (put name text) c fault a (inr (named, wrong, by, is)) = wkt_laws.never_both text a.rings wrong a.read by
-one_or_not (define name text) c fault a (inl none) = clash name a.named none.0
-one_or_not (define name text) c fault a (inr (named, wrong, by, is)) = expr_laws.never_both text a.tree wrong a.read by
-one_or_not (remove name) c fault a none = clash name a.named none.0
+one_or_not (put_text name text) c fault a (inl none) = clash name a.named none.0
+one_or_not (put_text name text) c fault a (inr (named, wrong, by, is)) = wkt_laws.never_both text a.rings wrong a.read by
+one_or_not (define_text name text) c fault a (inl none) = clash name a.named none.0
+one_or_not (define_text name text) c fault a (inr (named, wrong, by, is)) = expr_laws.never_both text a.tree wrong a.read by
+one_or_not (remove_name name) c fault a none = clash name a.named none.0
 one_or_not nothing c fault a none = absurd a
 one_or_not too_long c fault a none = absurd a
 one_or_not malformed c fault a none = absurd a

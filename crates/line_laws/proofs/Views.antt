@@ -15,8 +15,8 @@ use Rattle.overlay_grid.specs.declared.fault.GridFault.{GridFault}
 use Rattle.script_form.specs.declared.fault.CommandFault.{CommandFault}
 use Rattle.script_form.specs.declared.fault.CommandFault.TheVariants.{OutOfMemory, Closing, Gone}
 use Rattle.script_form.specs.Replies.{error_line}
-use Rattle.script_form.specs.Requests.{Request, nothing, too_long, malformed, put, define, remove, locate, grid, list_layers, edges, wait, verify, sync, batch}
-use Rattle.script_form.specs.Transcript.{IsRefused, IsAcceptedBy, IsSubmitted, IsSubmittedAll, IsRefusedBatch, IsAnswered, AreAnswered, IsTaken, IsTurn, Asked, Drawn, IsEdgesTold, IsVerdictTold, IsBuiltTold, IsWaitClosed, asked_column}
+use Rattle.script_form.specs.Requests.{Request, nothing, too_long, malformed, put_text, define_text, remove_name, locate, grid, list_layers, edges, wait, verify, sync, batch}
+use Rattle.script_form.specs.Transcript.{IsRefused, IsAcceptedBy, IsSubmitted, IsSubmittedAll, IsRefusedBatch, IsAnswered, IsBatchAnswered, IsTurnAnswered, IsTurn, Asked, Drawn, IsEdgesTold, IsVerdictTold, IsBuiltTold, IsWaitClosed, asked_column}
 use Rattle.script_form.specs.Turns.{Turn, alone, together, cut_off}
 use Rattle.line_laws.specs.Deciding.{is_from_outside}
 use Rattle.line_laws.proofs.Asking.{AsksFor, TurnAsks}
@@ -110,7 +110,7 @@ submitted_all session before requests commands after made reply asks (inr (inr (
 submitted_all session before requests commands after made reply asks (inr (inr (inr by))) = inr (record { commands = commands; asks = asks; how = by })
 
 together_comes : (session : ℕ) (before : History) (requests : List Request) (after : History) (made : List Batch) (reply : List ℕ)
-    → AreAnswered session before requests after made reply → Comes session before (together requests) after made reply
+    → IsBatchAnswered session before requests after made reply → Comes session before (together requests) after made reply
 together_comes session before requests after made reply (inl (place, fault, first, refused)) =
     inl (idle (together requests) after made reply (record { place = place; fault = fault; first = first }) refused.nothing_made)
 together_comes session before requests after made reply (inr (commands, read, by)) =
@@ -129,21 +129,21 @@ drawn_none None text made reply told = told.nothing_made
 -- ==== Each request
 
 module _ (stored : Bool) (session : ℕ) (before after : History) (made : List Batch) (reply : List ℕ) where
-  put_comes : (name text : List ℕ) → IsAnswered stored session before (put name text) after made reply → Comes session before (alone (put name text)) after made reply
-  put_comes name text (inl (none, refused)) = inl (idle_line (put name text) after made reply (inl none) refused.nothing_made)
-  put_comes name text (inr (named, inl (fault, wrong, refused))) = inl (idle_line (put name text) after made reply (inr (fault, wrong)) refused.nothing_made)
+  put_comes : (name text : List ℕ) → IsAnswered stored session before (put_text name text) after made reply → Comes session before (alone (put_text name text)) after made reply
+  put_comes name text (inl (none, refused)) = inl (idle_line (put_text name text) after made reply (inl none) refused.nothing_made)
+  put_comes name text (inr (named, inl (fault, wrong, refused))) = inl (idle_line (put_text name text) after made reply (inr (fault, wrong)) refused.nothing_made)
   put_comes name text (inr (named, inr (rings, read, by))) =
-      submitted session before (put name text) (terms.put name rings) after made reply (record { named = named; rings = rings; read = read; is = refl }) by
+      submitted session before (put_text name text) (terms.put name rings) after made reply (record { named = named; rings = rings; read = read; is = refl }) by
 
-  define_comes : (name text : List ℕ) → IsAnswered stored session before (define name text) after made reply → Comes session before (alone (define name text)) after made reply
-  define_comes name text (inl (none, refused)) = inl (idle_line (define name text) after made reply (inl none) refused.nothing_made)
-  define_comes name text (inr (named, inl (fault, wrong, refused))) = inl (idle_line (define name text) after made reply (inr (fault, wrong)) refused.nothing_made)
+  define_comes : (name text : List ℕ) → IsAnswered stored session before (define_text name text) after made reply → Comes session before (alone (define_text name text)) after made reply
+  define_comes name text (inl (none, refused)) = inl (idle_line (define_text name text) after made reply (inl none) refused.nothing_made)
+  define_comes name text (inr (named, inl (fault, wrong, refused))) = inl (idle_line (define_text name text) after made reply (inr (fault, wrong)) refused.nothing_made)
   define_comes name text (inr (named, inr (tree, read, by))) =
-      submitted session before (define name text) (terms.define name tree) after made reply (record { named = named; tree = tree; read = read; is = refl }) by
+      submitted session before (define_text name text) (terms.define name tree) after made reply (record { named = named; tree = tree; read = read; is = refl }) by
 
-  remove_comes : (name : List ℕ) → IsAnswered stored session before (remove name) after made reply → Comes session before (alone (remove name)) after made reply
-  remove_comes name (inl (none, refused)) = inl (idle_line (remove name) after made reply none refused.nothing_made)
-  remove_comes name (inr (named, by)) = submitted session before (remove name) (terms.remove name) after made reply (named, refl) by
+  remove_comes : (name : List ℕ) → IsAnswered stored session before (remove_name name) after made reply → Comes session before (alone (remove_name name)) after made reply
+  remove_comes name (inl (none, refused)) = inl (idle_line (remove_name name) after made reply none refused.nothing_made)
+  remove_comes name (inr (named, by)) = submitted session before (remove_name name) (terms.remove name) after made reply (named, refl) by
 
   locate_none : (name : List ℕ) (x y w : ℤ) → IsAnswered stored session before (locate name x y w) after made reply → made ≡ []
   locate_none name x y w (inl (none, refused)) = refused.nothing_made
@@ -197,9 +197,9 @@ module _ (stored : Bool) (session : ℕ) (before after : History) (made : List B
   answered_comes nothing told = inl (idle_line nothing after made reply refl told.nothing_made)
   answered_comes too_long refused = inl (idle_line too_long after made reply refl refused.nothing_made)
   answered_comes malformed refused = inl (idle_line malformed after made reply refl refused.nothing_made)
-  answered_comes (put name text) answered = put_comes name text answered
-  answered_comes (define name text) answered = define_comes name text answered
-  answered_comes (remove name) answered = remove_comes name answered
+  answered_comes (put_text name text) answered = put_comes name text answered
+  answered_comes (define_text name text) answered = define_comes name text answered
+  answered_comes (remove_name name) answered = remove_comes name answered
   answered_comes (locate name x y w) answered = inl (idle_line (locate name x y w) after made reply refl (locate_none name x y w answered))
   answered_comes (grid name x y step nx ny) answered = inl (idle_line (grid name x y step nx ny) after made reply refl (grid_none name x y step nx ny answered))
   answered_comes list_layers answered = inl (idle_line list_layers after made reply refl (list_none answered))
@@ -209,7 +209,7 @@ module _ (stored : Bool) (session : ℕ) (before after : History) (made : List B
   answered_comes sync answered = inl (idle_line sync after made reply refl (sync_none answered))
   answered_comes (batch size) refused = inl (idle_line (batch size) after made reply refl refused.nothing_made)
 
-  taken_comes : (turn : Turn) → IsTaken stored session before turn after made reply → Comes session before turn after made reply
+  taken_comes : (turn : Turn) → IsTurnAnswered stored session before turn after made reply → Comes session before turn after made reply
   taken_comes (alone request) (inl memory) = inl (outside (alone request) after made reply memory.1.nothing_made (memory_outside made reply memory.1))
   taken_comes (alone request) (inr by) = answered_comes request by
   taken_comes (together requests) (inl memory) = inl (outside (together requests) after made reply memory.nothing_made (memory_outside made reply memory))

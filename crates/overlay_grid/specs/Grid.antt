@@ -35,8 +35,8 @@ pub record IsGridSize (step nx ny : ℤ) : Type 0 where
   pub ny_high : ny ≤ℤ pos side_max
 
 -- the grid with these numbers
-abbrev pub grid_of : ℤ → ℤ → ℤ → ℤ → ℤ → Grid
-grid_of x y step nx ny = record { x = x; y = y; step = step; nx = unsigned_abs nx; ny = unsigned_abs ny }
+abbrev pub grid_with : ℤ → ℤ → ℤ → ℤ → ℤ → Grid
+grid_with x y step nx ny = record { x = x; y = y; step = step; nx = unsigned_abs nx; ny = unsigned_abs ny }
 
 -- the point with so many to its left and so many below it
 abbrev pub grid_point : Grid → ℕ → ℕ → PlanePoint

@@ -1,6 +1,6 @@
 //! Grids of points.
 ghost use Rattle.std.specs.Prelude.{◌≡◌, ◌↔◌, ◌≤◌, pos, IsOk, IfOk, IfErr};
-ghost use Rattle.overlay_grid.specs.Grid.{Grid, IsGridSize, grid_of, side_max};
+ghost use Rattle.overlay_grid.specs.Grid.{Grid, IsGridSize, grid_with, side_max};
 
 use crate::fault::GridFault;
 use std::marker::Model;
@@ -35,7 +35,7 @@ impl GridSpec {
     /// The grid with these numbers, if it has some points and not too many, and its step is neither
     /// too short nor too long. Where the points lie is not asked.
     pub fn new(x: i64, y: i64, step: i64, nx: i64, ny: i64) -> Result<GridSpec, GridFault>
-        ensures ok { IfOk result (λ grid. grid ≡ grid_of x y step nx ny) }
+        ensures ok { IfOk result (λ grid. grid ≡ grid_with x y step nx ny) }
         ensures known { IsOk result ↔ IsGridSize step nx ny }
         ensures err { IfErr result (λ e. e ≡ GridFault.GridSize) }
     {

@@ -16,7 +16,7 @@ use Rattle.script_form.specs.Gathering.{AreUnread, AreRead, AreReadSoFar, IsGath
 use Rattle.script_form.specs.Reading.{IsMemory, IsPutRefused}
 use Rattle.script_form.specs.Turns.{Waiting, asked_size, of_size, is_nothing, is_whole, with_line}
 use Rattle.script_form.specs.BatchLines.{IsCommandOf, IsNoCommand, AreCommandsOf, IsFirstUnread}
-use Rattle.script_form.specs.Requests.{Request, put}
+use Rattle.script_form.specs.Requests.{Request, put_text}
 
 -- each line has one command
 pub as_many : (requests : List Request) (commands : Batch) → AreCommandsOf requests commands → length requests ≡ length commands
@@ -100,7 +100,7 @@ begun asked size o gathering is value sized none read =
 
 -- the fault of a PUT
 pub put_unread : {A : Type 0} (name text : List ℕ) (result : Result A CommandFault) → IfErr result (λ fault. IsMemory name fault ⊎ IsPutRefused name text fault)
-    → IfErr result (λ fault. (code_of fault ≡ 40) ⊎ IsNoCommand (put name text) fault)
+    → IfErr result (λ fault. (code_of fault ≡ 40) ⊎ IsNoCommand (put_text name text) fault)
 put_unread name text (Ok change) refused = tt
 put_unread name text (Err fault) (inl memory) = inl memory.2
 put_unread name text (Err fault) (inr by) = inr by

@@ -2,9 +2,8 @@
 use Rattle.std.proofs.Common.{◌≡◌, ℕ, ◌==◌, Bool, true, false, not, ◌&&◌, List, [], ◌∷◌, refl, sym, ap, ◌∙◌, inl, inr}
 use Rattle.std.specs.List.{list_all}
 use Rattle.std.proofs.lemmas.Bool.{and_from, and_parts, cases_Bool, cond-true, cond-false, eqb-true}
-use Rattle.script_form.specs.Lines.{onto_first, pieces_of}
-use Rattle.script_form.specs.Laws as laws
-use Rattle.script_form.specs.Laws.{joined}
+use Rattle.script_form.specs.Lines.{onto_first, pieces_of, joined}
+use Rattle.script_form.specs.Lines as laws
 use Rattle.script_form.proofs.Pieces.{HasFirst, pieces_of-has_first}
 
 joined-feed : (piece : List ℕ) (pieces : List (List ℕ)) → joined ([] ∷ piece ∷ pieces) ≡ 10 ∷ joined (piece ∷ pieces)

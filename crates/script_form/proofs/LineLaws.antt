@@ -4,9 +4,9 @@ use Rattle.std.specs.List.{list_all}
 use Rattle.std.proofs.lemmas.Bool.{and_parts, or_from, or_left, or_right, not-true, cond-true, cond-false, true≢false, lt-leb, ne_eqb}
 use Rattle.overlay_terms.specs.Blank.{is_blank}
 use Rattle.script_form.specs.Lines.{line_max, is_gap, is_too_long, begins_comment}
-use Rattle.script_form.specs.Requests.{Request, nothing, too_long, malformed, put, define, remove, locate, grid, list_layers, edges, wait, verify, sync, batch, is_word_byte, is_name_side, is_empty, begins, number_of, skip_while, words_of, behind_first_word, by_words, put_of, define_of, behind_sign, located, gridded, sized, edges_at, verify_at, numbered, request_of}
+use Rattle.script_form.specs.Requests.{Request, nothing, too_long, malformed, put_text, define_text, remove_name, locate, grid, list_layers, edges, wait, verify, sync, batch, is_word_byte, is_name_side, is_empty, begins, number_of, skip_while, words_of, behind_first_word, by_words, put_of, define_of, behind_sign, located, gridded, sized, edges_at, verify_at, numbered, request_of}
 use Rattle.script_form.specs.Shapes.{IsShort, AreGaps, ArePartingGaps, AreSome, IsWord, IsBlankOrComment, IsPutLine, IsDefineLine, IsDropLine, IsWholePointLine, IsPointLine, IsLocateLine, IsGridLine, IsLayersLine, IsWaitLine, IsSyncLine, IsBatchLine, IsColumnLine, IsShapeOf}
-use Rattle.script_form.specs.Laws as laws
+use Rattle.script_form.specs.Shapes as laws
 use Rattle.script_form.proofs.ShapeLemmas.{skip_front, take_front, begins_some, begins_gap, begins_word, some_bytes, words_of-gaps, words_of-word, begins_no_comment, asked, asked_line, line_words, skipped}
 use Rattle.script_form.proofs.ShapeFrom.{made_of, Asks, tells}
 
@@ -19,7 +19,7 @@ skipped_read : (line : List ℕ) → IsShort line → IsBlankOrComment line → 
 skipped_read line short (inl gaps) = skipped line short (or_right (begins_comment line) (list_all is_gap line) gaps)
 skipped_read line short (inr (text, is)) = skipped line short (or_left (begins_comment line) (list_all is_gap line) (ap begins_comment is))
 
-drop_read : (name line : List ℕ) → IsShort line → IsDropLine name line → request_of line ≡ remove name
+drop_read : (name line : List ℕ) → IsShort line → IsDropLine name line → request_of line ≡ remove_name name
 drop_read name line short is = asked_line line (codes "DROP") (name ∷ []) short is refl
 
 whole_read : (name : List ℕ) (x y : ℤ) (line : List ℕ) → IsShort line → IsWholePointLine name x y line → request_of line ≡ locate name x y (pos 1)
@@ -97,10 +97,10 @@ not_empty bytes some = ne_eqb (length bytes) 0 (λ none. omega arith)
 
 -- what PUT asks for by its name and text
 abbrev put_by : List ℕ → List ℕ → Request
-put_by name text = cond (is_empty name || is_empty text) malformed (put name text)
+put_by name text = cond (is_empty name || is_empty text) malformed (put_text name text)
 
 put_of_parts : (name more text : List ℕ) → IsWord name → ArePartingGaps more → 0 < length text → begins is_gap text ≡ false
-    → put_of (name ++ (more ++ text)) ≡ put name text
+    → put_of (name ++ (more ++ text)) ≡ put_text name text
 put_of_parts name more text some parting bytes ends =
     ap (λ n. put_by n (skip_while is_gap (skip_while is_word_byte (name ++ (more ++ text))))) (take_front is_word_byte name (more ++ text) some.alone (begins_gap more text parting))
     ∙ ap (λ t. put_by name (skip_while is_gap t)) (skip_front is_word_byte name (more ++ text) some.alone (begins_gap more text parting))
@@ -108,7 +108,7 @@ put_of_parts name more text some parting bytes ends =
     ∙ cond-false (is_empty name || is_empty text) _ _ (or_from (is_empty name) (is_empty text) (some_bytes is_word_byte name some) (not_empty text bytes))
 
 put_at : (before gaps name more text : List ℕ) → AreGaps before → ArePartingGaps gaps → IsWord name → ArePartingGaps more → 0 < length text → begins is_gap text ≡ false
-    → IsShort (before ++ (codes "PUT" ++ (gaps ++ (name ++ (more ++ text))))) → request_of (before ++ (codes "PUT" ++ (gaps ++ (name ++ (more ++ text))))) ≡ put name text
+    → IsShort (before ++ (codes "PUT" ++ (gaps ++ (name ++ (more ++ text))))) → request_of (before ++ (codes "PUT" ++ (gaps ++ (name ++ (more ++ text))))) ≡ put_text name text
 put_at before gaps name more text lead parting some next bytes ends short =
     asked_command (codes "PUT") (name ++ (more ++ text)) _ short
     (command_line before (codes "PUT") gaps (name ++ (more ++ text)) lead (record { some = lit< tt; alone = refl }) refl parting (begins_word name (more ++ text) some))
@@ -130,30 +130,30 @@ abbrev define_by : List ℕ → List ℕ → Request
 define_by name sign = cond (is_empty name) malformed (behind_sign name sign)
 
 define_of_parts : (name more blanks text : List ℕ) → AreSome is_name_side name → AreGaps more → list_all is_blank blanks ≡ true → begins is_blank text ≡ false
-    → define_of (name ++ (more ++ 61 ∷ (blanks ++ text))) ≡ define name text
+    → define_of (name ++ (more ++ 61 ∷ (blanks ++ text))) ≡ define_text name text
 define_of_parts name more blanks text some gaps white ends =
     let sign = more ++ 61 ∷ (blanks ++ text) in
     ap (λ n. define_by n (skip_while is_gap (skip_while is_name_side (name ++ sign)))) (take_front is_name_side name sign some.alone (sign_ends more (blanks ++ text) gaps))
     ∙ ap (λ t. define_by name (skip_while is_gap t)) (skip_front is_name_side name sign some.alone (sign_ends more (blanks ++ text) gaps))
     ∙ ap (define_by name) (skip_front is_gap more (61 ∷ (blanks ++ text)) gaps refl)
     ∙ cond-false (is_empty name) _ _ (some_bytes is_name_side name some)
-    ∙ ap (define name) (skip_front is_blank blanks text white ends)
+    ∙ ap (define_text name) (skip_front is_blank blanks text white ends)
 
 define_at : (before gaps name more blanks text : List ℕ) → AreGaps before → ArePartingGaps gaps → AreSome is_name_side name → AreGaps more
     → list_all is_blank blanks ≡ true → begins is_blank text ≡ false → IsShort (before ++ (codes "DEFINE" ++ (gaps ++ (name ++ (more ++ 61 ∷ (blanks ++ text))))))
-    → request_of (before ++ (codes "DEFINE" ++ (gaps ++ (name ++ (more ++ 61 ∷ (blanks ++ text)))))) ≡ define name text
+    → request_of (before ++ (codes "DEFINE" ++ (gaps ++ (name ++ (more ++ 61 ∷ (blanks ++ text)))))) ≡ define_text name text
 define_at before gaps name more blanks text lead parting some next white ends short =
     asked_command (codes "DEFINE") (name ++ (more ++ 61 ∷ (blanks ++ text))) _ short
     (command_line before (codes "DEFINE") gaps (name ++ (more ++ 61 ∷ (blanks ++ text))) lead (record { some = lit< tt; alone = refl }) refl parting
     (begins_some is_name_side is_gap name (more ++ 61 ∷ (blanks ++ text)) side_is_no_gap some))
     ∙ define_of_parts name more blanks text some next white ends
 
-put_read : (name text line : List ℕ) → IsShort line → IsPutLine name text line → request_of line ≡ put name text
+put_read : (name text line : List ℕ) → IsShort line → IsPutLine name text line → request_of line ≡ put_text name text
 put_read name text line short is =
     ap request_of is.bytes
     ∙ put_at is.before is.gaps name is.more text is.in_front is.parts_name is.named is.parts_text is.some is.begins_at_once (subst IsShort is.bytes short)
 
-define_read : (name text line : List ℕ) → IsShort line → IsDefineLine name text line → request_of line ≡ define name text
+define_read : (name text line : List ℕ) → IsShort line → IsDefineLine name text line → request_of line ≡ define_text name text
 define_read name text line short is =
     ap request_of is.bytes
     ∙ define_at is.before is.gaps name is.more is.blanks text is.in_front is.parts_name is.named is.parts_sign is.white is.begins_at_once (subst IsShort is.bytes short)
@@ -174,13 +174,13 @@ pub skipped_line : laws.SkippedLine
 skipped_line line = (λ h. skipped_read line h.0 h.1, back line nothing)
 
 pub put_line : laws.PutLine
-put_line name text line = (λ h. put_read name text line h.0 h.1, back line (put name text))
+put_line name text line = (λ h. put_read name text line h.0 h.1, back line (put_text name text))
 
 pub define_line : laws.DefineLine
-define_line name text line = (λ h. define_read name text line h.0 h.1, back line (define name text))
+define_line name text line = (λ h. define_read name text line h.0 h.1, back line (define_text name text))
 
 pub drop_line : laws.DropLine
-drop_line name line = (λ h. drop_read name line h.0 h.1, back line (remove name))
+drop_line name line = (λ h. drop_read name line h.0 h.1, back line (remove_name name))
 
 pub locate_line : laws.LocateLine
 locate_line name x y w line = (λ h. locate_read name x y w line h.0 h.1, back line (locate name x y w))
@@ -213,9 +213,9 @@ shaped : (line : List ℕ) (request : Request) → IsShort line → IsShapeOf re
 shaped line nothing short is = skipped_read line short is
 shaped line too_long short is = absurd is
 shaped line malformed short is = absurd is
-shaped line (put name text) short is = put_read name text line short is
-shaped line (define name text) short is = define_read name text line short is
-shaped line (remove name) short is = drop_read name line short is
+shaped line (put_text name text) short is = put_read name text line short is
+shaped line (define_text name text) short is = define_read name text line short is
+shaped line (remove_name name) short is = drop_read name line short is
 shaped line (locate name x y w) short is = locate_read name x y w line short is
 shaped line (grid name x y step nx ny) short is = grid_read name x y step nx ny line short is
 shaped line list_layers short is = layers_read line short is
@@ -229,9 +229,9 @@ is_malformed : Request → Bool
 is_malformed nothing = false
 is_malformed too_long = false
 is_malformed malformed = true
-is_malformed (put name text) = false
-is_malformed (define name text) = false
-is_malformed (remove name) = false
+is_malformed (put_text name text) = false
+is_malformed (define_text name text) = false
+is_malformed (remove_name name) = false
 is_malformed (locate name x y w) = false
 is_malformed (grid name x y step nx ny) = false
 is_malformed list_layers = false
@@ -246,9 +246,9 @@ unfolding is_malformed
 well_formed line nothing is = refl
 well_formed line too_long is = absurd is
 well_formed line malformed is = absurd is
-well_formed line (put name text) is = refl
-well_formed line (define name text) is = refl
-well_formed line (remove name) is = refl
+well_formed line (put_text name text) is = refl
+well_formed line (define_text name text) is = refl
+well_formed line (remove_name name) is = refl
 well_formed line (locate name x y w) is = refl
 well_formed line (grid name x y step nx ny) is = refl
 well_formed line list_layers is = refl
@@ -267,9 +267,9 @@ none_else : (line : List ℕ) (request : Request) → IsShort line → ((r : Req
 none_else line nothing short none asks = absurd (none nothing asks.1)
 none_else line too_long short none asks = absurd (omega (arith, short, asks))
 none_else line malformed short none asks = refl
-none_else line (put name text) short none asks = absurd (none (put name text) asks.1)
-none_else line (define name text) short none asks = absurd (none (define name text) asks.1)
-none_else line (remove name) short none asks = absurd (none (remove name) asks.1)
+none_else line (put_text name text) short none asks = absurd (none (put_text name text) asks.1)
+none_else line (define_text name text) short none asks = absurd (none (define_text name text) asks.1)
+none_else line (remove_name name) short none asks = absurd (none (remove_name name) asks.1)
 none_else line (locate name x y w) short none asks = absurd (none (locate name x y w) asks.1)
 none_else line (grid name x y step nx ny) short none asks = absurd (none (grid name x y step nx ny) asks.1)
 none_else line list_layers short none asks = absurd (none list_layers asks.1)

@@ -1,24 +1,24 @@
 -- What worked lines ask for, and the lines of worked scripts.
 use Rattle.std.proofs.Common.{◌≡◌, pos, negsuc, Some, None, [], ◌∷◌, refl, codes}
 use Rattle.script_form.specs.Lines.{ended_lines, whole_lines}
-use Rattle.script_form.specs.Requests.{nothing, malformed, put, define, remove, locate, grid, list_layers, edges, wait, verify, sync, batch, number_of, request_of}
+use Rattle.script_form.specs.Requests.{nothing, malformed, put_text, define_text, remove_name, locate, grid, list_layers, edges, wait, verify, sync, batch, number_of, request_of}
 
-a_text_runs_to_the_end_of_its_line : request_of (codes "PUT A POLYGON  EMPTY ") ≡ put (codes "A") (codes "POLYGON  EMPTY ")
+a_text_runs_to_the_end_of_its_line : request_of (codes "PUT A POLYGON  EMPTY ") ≡ put_text (codes "A") (codes "POLYGON  EMPTY ")
 a_text_runs_to_the_end_of_its_line = refl
 
-gaps_part_words : request_of (codes " \tPUT\tA \t POLYGON EMPTY") ≡ put (codes "A") (codes "POLYGON EMPTY")
+gaps_part_words : request_of (codes " \tPUT\tA \t POLYGON EMPTY") ≡ put_text (codes "A") (codes "POLYGON EMPTY")
 gaps_part_words = refl
 
 put_wants_a_text : request_of (codes "PUT A ") ≡ malformed
 put_wants_a_text = refl
 
-a_definition_stands_behind_its_sign : request_of (codes "DEFINE I = A & B") ≡ define (codes "I") (codes "A & B")
+a_definition_stands_behind_its_sign : request_of (codes "DEFINE I = A & B") ≡ define_text (codes "I") (codes "A & B")
 a_definition_stands_behind_its_sign = refl
 
-no_gap_is_wanted_round_the_sign : request_of (codes "DEFINE I=A") ≡ define (codes "I") (codes "A")
+no_gap_is_wanted_round_the_sign : request_of (codes "DEFINE I=A") ≡ define_text (codes "I") (codes "A")
 no_gap_is_wanted_round_the_sign = refl
 
-a_definition_may_be_empty : request_of (codes "DEFINE I = ") ≡ define (codes "I") []
+a_definition_may_be_empty : request_of (codes "DEFINE I = ") ≡ define_text (codes "I") []
 a_definition_may_be_empty = refl
 
 define_wants_a_name : request_of (codes "DEFINE = A") ≡ malformed
@@ -27,7 +27,7 @@ define_wants_a_name = refl
 define_wants_its_sign : request_of (codes "DEFINE I A") ≡ malformed
 define_wants_its_sign = refl
 
-drop_takes_a_name : request_of (codes "DROP I ") ≡ remove (codes "I")
+drop_takes_a_name : request_of (codes "DROP I ") ≡ remove_name (codes "I")
 drop_takes_a_name = refl
 
 drop_takes_one_name : request_of (codes "DROP A B") ≡ malformed

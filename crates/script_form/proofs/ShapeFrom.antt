@@ -7,7 +7,7 @@ use Rattle.std.proofs.lemmas.List.{take-append-drop}
 use Rattle.overlay_terms.specs.Blank.{is_blank}
 use Rattle.overlay_terms.proofs.NameLemmas.{same_name}
 use Rattle.script_form.specs.Lines.{line_max, is_gap, is_too_long, is_skipped, begins_comment}
-use Rattle.script_form.specs.Requests.{Request, nothing, too_long, malformed, put, define, remove, locate, grid, list_layers, edges, wait, verify, sync, batch, is_word_byte, is_name_side, is_empty, begins, number_of, skip_while, words_of, behind_first_word, by_words, put_of, define_of, behind_sign, located, locate_of, gridded, grid_of, remove_of, list_of, sized, batch_of, wait_of, sync_of, numbered, name_and_number, edges_at, verify_at, about_tiles, request_of}
+use Rattle.script_form.specs.Requests.{Request, nothing, too_long, malformed, put_text, define_text, remove_name, locate, grid, list_layers, edges, wait, verify, sync, batch, is_word_byte, is_name_side, is_empty, begins, number_of, skip_while, words_of, behind_first_word, by_words, put_of, define_of, behind_sign, located, locate_of, gridded, grid_of, remove_of, list_of, sized, batch_of, wait_of, sync_of, numbered, name_and_number, edges_at, verify_at, about_tiles, request_of}
 use Rattle.script_form.specs.Shapes.{IsShort, AreGaps, ArePartingGaps, IsWord, IsLineOf, IsBlankOrComment, IsPutLine, IsDefineLine, IsDropLine, IsLocateLine, IsGridLine, IsLayersLine, IsWaitLine, IsSyncLine, IsBatchLine, IsColumnLine}
 use Rattle.script_form.proofs.WordLemmas.{prefix_more, prefix_none, no_word, some_word}
 use Rattle.script_form.proofs.ShapeLemmas.{take_front}
@@ -160,9 +160,9 @@ abbrev pub Asks : Request → List ℕ → Type 0
 Asks nothing line = IsShort line × IsBlankOrComment line
 Asks too_long line = line_max < length line
 Asks malformed line = IsShort line
-Asks (put name text) line = IsShort line × IsPutLine name text line
-Asks (define name text) line = IsShort line × IsDefineLine name text line
-Asks (remove name) line = IsShort line × IsDropLine name line
+Asks (put_text name text) line = IsShort line × IsPutLine name text line
+Asks (define_text name text) line = IsShort line × IsDefineLine name text line
+Asks (remove_name name) line = IsShort line × IsDropLine name line
 Asks (locate name x y w) line = IsShort line × IsLocateLine name x y w line
 Asks (grid name x y step nx ny) line = IsShort line × IsGridLine name x y step nx ny line
 Asks list_layers line = IsShort line × IsLayersLine line
@@ -185,7 +185,7 @@ module _ (line : List ℕ) (short : IsShort line) where
       let after = skip_while is_word_byte rest in
       let more = take_while is_gap after in
       let text = skip_while is_gap after in
-      either (λ r. Asks r line) (is_empty name || is_empty text) malformed (put name text) (λ _. short)
+      either (λ r. Asks r line) (is_empty name || is_empty text) malformed (put_text name text) (λ _. short)
       (λ some.
       let both = or_parts (is_empty name) (is_empty text) some in (
         short,
@@ -228,7 +228,7 @@ module _ (line : List ℕ) (short : IsShort line) where
             let name = take_while is_name_side rest in
             let after = skip_while is_name_side rest in
             let more = take_while is_gap after in
-            either (λ r. Asks r line) (b == 61) (define name (skip_while is_blank bs)) malformed
+            either (λ r. Asks r line) (b == 61) (define_text name (skip_while is_blank bs)) malformed
             (λ sign.
             let behind : rest ≡ name ++ (more ++ b ∷ bs) =
             parts is_name_side rest ∙ ap (λ (r : List ℕ). name ++ r) (parts is_gap after ∙ ap (λ (r : List ℕ). more ++ r) is) in

@@ -5,21 +5,21 @@ use Rattle.overlay_terms.specs.Batches.{Batch}
 use Rattle.script_form.specs.declared.fault.CommandFault.{CommandFault}
 use Rattle.script_form.specs.declared.fault.CommandFault.TheVariants.{CommandSyntax, LineTooLong}
 use Rattle.script_form.specs.Reading.{IsNoName, IsPut, IsPutRefused, IsDefine, IsDefineRefused, IsRemove}
-use Rattle.script_form.specs.Requests.{Request, too_long, put, define, remove}
+use Rattle.script_form.specs.Requests.{Request, too_long, put_text, define_text, remove_name}
 
 -- what a line of a batch asks for is a command
 abbrev pub IsCommandOf : Request → Command → Type 0
-IsCommandOf (put name text) command = IsPut name text command
-IsCommandOf (define name text) command = IsDefine name text command
-IsCommandOf (remove name) command = IsRemove name command
+IsCommandOf (put_text name text) command = IsPut name text command
+IsCommandOf (define_text name text) command = IsDefine name text command
+IsCommandOf (remove_name name) command = IsRemove name command
 IsCommandOf other command = ⊥
 
 -- what a line of a batch asks for is no command, and why: whatever else a line may ask for is none
 abbrev pub IsNoCommand : Request → CommandFault → Type 0
 IsNoCommand too_long fault = fault ≡ LineTooLong
-IsNoCommand (put name text) fault = IsPutRefused name text fault
-IsNoCommand (define name text) fault = IsDefineRefused name text fault
-IsNoCommand (remove name) fault = IsNoName name fault
+IsNoCommand (put_text name text) fault = IsPutRefused name text fault
+IsNoCommand (define_text name text) fault = IsDefineRefused name text fault
+IsNoCommand (remove_name name) fault = IsNoName name fault
 IsNoCommand other fault = fault ≡ CommandSyntax
 
 -- a command for each line

@@ -5,8 +5,7 @@ use Rattle.layer_book.specs.Command.{command}
 use Rattle.layer_book.specs.declared.command.Command.{Command}
 use Rattle.script_form.specs.declared.fault.CommandFault.{CommandFault}
 use Rattle.script_form.specs.BatchLines.{AreCommandsOf, IsFirstUnread}
-use Rattle.script_form.specs.Request.{request}
-use Rattle.script_form.specs.Requests.{Request}
+use Rattle.script_form.specs.Requests.{Request, request}
 use Rattle.script_form.specs.Turns.{Turn, alone, together, Waiting, with_line, is_whole, waiting_after, ended_by}
 use Rattle.script_form.specs.declared.gathering.Gathering.{Gathering}
 use Rattle.script_form.specs.declared.joining.Joined.{Joined}

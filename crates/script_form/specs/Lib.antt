@@ -1,6 +1,5 @@
 pub mod Lines
 pub mod Requests
-pub mod Request
 pub mod Fault
 pub mod Replies
 pub mod Writing
@@ -11,4 +10,3 @@ pub mod Reading
 pub mod BatchLines
 pub mod Gathering
 pub mod Shapes
-pub mod Laws

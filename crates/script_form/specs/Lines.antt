@@ -1,5 +1,5 @@
 -- A script as lines.
-use Rattle.std.specs.Prelude.{ℕ, ◌+◌, ◌==◌, nat_le, Bool, false, not, ◌||◌, List, [], ◌∷◌, ◌++◌, map, length, if◌then◌else◌}
+use Rattle.std.specs.Prelude.{◌≡◌, ℕ, ◌+◌, ◌==◌, nat_le, Bool, false, IsTrue, not, ◌||◌, List, [], ◌∷◌, ◌++◌, map, length, if◌then◌else◌}
 use Rattle.std.specs.List.{list_all}
 
 -- the most bytes of a line, without its ending
@@ -23,6 +23,20 @@ onto_first b (piece ∷ pieces) = (b ∷ piece) ∷ pieces
 abbrev pub pieces_of : List ℕ → List (List ℕ)
 pieces_of [] = [] ∷ []
 pieces_of (b ∷ bs) = if b == 10 then [] ∷ pieces_of bs else onto_first b (pieces_of bs)
+
+-- pieces, with a line feed between each two
+abbrev pub joined : List (List ℕ) → List ℕ
+joined [] = []
+joined (piece ∷ []) = piece
+joined (piece ∷ next ∷ pieces) = piece ++ 10 ∷ joined (next ∷ pieces)
+
+-- the pieces of a script, joined by line feeds, are its bytes
+abbrev pub PiecesJoinToTheBytes : Type 0
+PiecesJoinToTheBytes = (bytes : List ℕ) → joined (pieces_of bytes) ≡ bytes
+
+-- no piece has a line feed
+abbrev pub NoPieceHasALineFeed : Type 0
+NoPieceHasALineFeed = (bytes : List ℕ) → IsTrue (list_all (list_all (λ b. not (b == 10))) (pieces_of bytes))
 
 -- all but the last of a list, and the last
 abbrev pub front_of : List (List ℕ) → List (List ℕ)

@@ -4,6 +4,8 @@ use Rattle.std.specs.List.{list_all, prefix_len}
 use Rattle.std.specs.Char.{is_ascii_digit}
 use Rattle.overlay_terms.specs.Blank.{is_blank}
 use Rattle.script_form.specs.Lines.{is_gap, is_skipped, is_too_long}
+use Rattle.script_form.specs.declared.request.Request as code
+use Rattle.script_form.specs.declared.request.Request.TheVariants.{Nothing, TooLong, Malformed, Put, Define, Remove, Locate, Grid, ListLayers, Edges, Wait, Verify, Sync, Batch}
 
 -- a request: a name and a text, a name, a point with its denominator, a grid, a name and a column's number, how many commands
 -- a batch has, or no more than its word
@@ -11,9 +13,9 @@ pub data Request : Type 0 where
   nothing : Request
   too_long : Request
   malformed : Request
-  put : List ℕ → List ℕ → Request
-  define : List ℕ → List ℕ → Request
-  remove : List ℕ → Request
+  put_text : List ℕ → List ℕ → Request
+  define_text : List ℕ → List ℕ → Request
+  remove_name : List ℕ → Request
   locate : List ℕ → ℤ → ℤ → ℤ → Request
   grid : List ℕ → ℤ → ℤ → ℤ → ℤ → ℤ → Request
   list_layers : Request
@@ -81,7 +83,7 @@ abbrev pub put_of : List ℕ → Request
 put_of rest =
     let name = take_while is_word_byte rest in
     let text = skip_while is_gap (skip_while is_word_byte rest) in
-    if is_empty name || is_empty text then malformed else put name text
+    if is_empty name || is_empty text then malformed else put_text name text
 
 abbrev pub is_name_side : ℕ → Bool
 is_name_side b = is_word_byte b && not (b == 61)
@@ -89,7 +91,7 @@ is_name_side b = is_word_byte b && not (b == 61)
 -- DEFINE: the name runs to the first gap or `=`, and the expression begins behind the `=` and the white space behind it
 abbrev pub behind_sign : List ℕ → List ℕ → Request
 behind_sign name [] = malformed
-behind_sign name (b ∷ bs) = if b == 61 then define name (skip_while is_blank bs) else malformed
+behind_sign name (b ∷ bs) = if b == 61 then define_text name (skip_while is_blank bs) else malformed
 
 abbrev pub define_of : List ℕ → Request
 define_of rest =
@@ -123,7 +125,7 @@ grid_of (name ∷ x ∷ y ∷ step ∷ nx ∷ ny ∷ []) = gridded name (number_
 grid_of other = malformed
 
 abbrev pub remove_of : List (List ℕ) → Request
-remove_of (name ∷ []) = remove name
+remove_of (name ∷ []) = remove_name name
 remove_of other = malformed
 
 abbrev pub list_of : List (List ℕ) → Request
@@ -188,3 +190,25 @@ abbrev pub request_of : List ℕ → Request
 request_of line =
     if is_too_long line then too_long
     else (if is_skipped line then nothing else by_words (words_of line) (behind_first_word line))
+
+-- what a request of the code asks for
+abbrev pub request : code.Request → Request
+request Nothing = nothing
+request TooLong = too_long
+request Malformed = malformed
+request (Put name text) = put_text name.now text.now
+request (Define name text) = define_text name.now text.now
+request (Remove name) = remove_name name.now
+request (Locate name x y w) = locate name.now x y w
+request (Grid name x y step nx ny) = grid name.now x y step nx ny
+request ListLayers = list_layers
+request (Edges name number) = edges name.now number
+request (Wait name) = wait name.now
+request (Verify name number) = verify name.now number
+request Sync = sync
+request (Batch size) = batch size
+
+-- what a line asks for by the request that the code found in it, if it found one
+abbrev pub request_found : Option code.Request → Request
+request_found None = malformed
+request_found (Some found) = request found

@@ -1,9 +1,9 @@
--- The shapes of lines.
-use Rattle.std.specs.Prelude.{◌≡◌, ℕ, ℤ, pos, ◌<◌, ◌≤◌, ◌⊎◌, Bool, false, IsTrue, List, [], ◌∷◌, ◌++◌, length, codes, Some}
+-- The shapes of lines, and the laws of lines: what a line of each shape asks for.
+use Rattle.std.specs.Prelude.{◌≡◌, ℕ, ℤ, pos, ◌<◌, ◌≤◌, ◌↔◌, ◌⊎◌, Bool, false, IsTrue, List, [], ◌∷◌, ◌++◌, length, codes, Some}
 use Rattle.std.specs.List.{list_all}
 use Rattle.overlay_terms.specs.Blank.{is_blank}
 use Rattle.script_form.specs.Lines.{line_max, is_gap}
-use Rattle.script_form.specs.Requests.{Request, nothing, too_long, malformed, put, define, remove, locate, grid, list_layers, edges, wait, verify, sync, batch, is_word_byte, is_name_side, number_of, begins}
+use Rattle.script_form.specs.Requests.{Request, nothing, too_long, malformed, put_text, define_text, remove_name, locate, grid, list_layers, edges, wait, verify, sync, batch, is_word_byte, is_name_side, number_of, begins, words_of, request_of}
 
 -- not too long
 abbrev pub IsShort : List ℕ → Type 0
@@ -141,9 +141,9 @@ abbrev pub IsShapeOf : Request → List ℕ → Type 0
 IsShapeOf nothing line = IsBlankOrComment line
 IsShapeOf too_long line = ⊥
 IsShapeOf malformed line = ⊥
-IsShapeOf (put name text) line = IsPutLine name text line
-IsShapeOf (define name text) line = IsDefineLine name text line
-IsShapeOf (remove name) line = IsDropLine name line
+IsShapeOf (put_text name text) line = IsPutLine name text line
+IsShapeOf (define_text name text) line = IsDefineLine name text line
+IsShapeOf (remove_name name) line = IsDropLine name line
 IsShapeOf (locate name x y w) line = IsLocateLine name x y w line
 IsShapeOf (grid name x y step nx ny) line = IsGridLine name x y step nx ny line
 IsShapeOf list_layers line = IsLayersLine line
@@ -152,3 +152,54 @@ IsShapeOf (wait name) line = IsWaitLine name line
 IsShapeOf (verify name column) line = IsColumnLine (codes "VERIFY") name column line
 IsShapeOf sync line = IsSyncLine line
 IsShapeOf (batch size) line = IsBatchLine size line
+
+-- the words of a line are these exactly where it is a line of them
+abbrev pub WordsAreRead : Type 0
+WordsAreRead = (words : List (List ℕ)) (line : List ℕ) → IsLineOf words line ↔ (words_of line ≡ words)
+
+-- exactly a line of more than the most bytes is too long, whatever it says
+abbrev pub LongLine : Type 0
+LongLine = (line : List ℕ) → (line_max < length line) ↔ (request_of line ≡ too_long)
+
+-- exactly lines of gaps alone and comments ask for nothing
+abbrev pub SkippedLine : Type 0
+SkippedLine = (line : List ℕ) → (IsShort line × IsBlankOrComment line) ↔ (request_of line ≡ nothing)
+
+-- what each command asks for, and that just such lines ask for it
+abbrev pub PutLine : Type 0
+PutLine = (name text line : List ℕ) → (IsShort line × IsPutLine name text line) ↔ (request_of line ≡ put_text name text)
+
+abbrev pub DefineLine : Type 0
+DefineLine = (name text line : List ℕ) → (IsShort line × IsDefineLine name text line) ↔ (request_of line ≡ define_text name text)
+
+abbrev pub DropLine : Type 0
+DropLine = (name line : List ℕ) → (IsShort line × IsDropLine name line) ↔ (request_of line ≡ remove_name name)
+
+abbrev pub LocateLine : Type 0
+LocateLine = (name : List ℕ) (x y w : ℤ) (line : List ℕ) → (IsShort line × IsLocateLine name x y w line) ↔ (request_of line ≡ locate name x y w)
+
+abbrev pub GridLine : Type 0
+GridLine =
+    (name : List ℕ) (x y step nx ny : ℤ) (line : List ℕ) → (IsShort line × IsGridLine name x y step nx ny line) ↔ (request_of line ≡ grid name x y step nx ny)
+
+abbrev pub LayersLine : Type 0
+LayersLine = (line : List ℕ) → (IsShort line × IsLayersLine line) ↔ (request_of line ≡ list_layers)
+
+abbrev pub WaitLine : Type 0
+WaitLine = (name line : List ℕ) → (IsShort line × IsWaitLine name line) ↔ (request_of line ≡ wait name)
+
+abbrev pub SyncLine : Type 0
+SyncLine = (line : List ℕ) → (IsShort line × IsSyncLine line) ↔ (request_of line ≡ sync)
+
+abbrev pub BatchLine : Type 0
+BatchLine = (size : ℤ) (line : List ℕ) → (IsShort line × IsBatchLine size line) ↔ (request_of line ≡ batch size)
+
+abbrev pub EdgesLine : Type 0
+EdgesLine = (name : List ℕ) (column : ℤ) (line : List ℕ) → (IsShort line × IsColumnLine (codes "EDGES") name column line) ↔ (request_of line ≡ edges name column)
+
+abbrev pub VerifyLine : Type 0
+VerifyLine = (name : List ℕ) (column : ℤ) (line : List ℕ) → (IsShort line × IsColumnLine (codes "VERIFY") name column line) ↔ (request_of line ≡ verify name column)
+
+-- exactly a line that is not too long and has the shape of no request is malformed
+abbrev pub MalformedLine : Type 0
+MalformedLine = (line : List ℕ) → (IsShort line × ((request : Request) → IsShapeOf request line → ⊥)) ↔ (request_of line ≡ malformed)

@@ -28,13 +28,13 @@ use Rattle.version_core.specs.declared.verifying.Verdict.{Verdict}
 use Rattle.version_core.specs.Edges.{edges_refusal, finished_refusal, AreEdges}
 use Rattle.version_core.specs.Verdict.{IsVerdict}
 use Rattle.version_core.specs.Building.{IsBuilt, wait_refusal}
-use Rattle.overlay_grid.specs.Grid.{Grid, IsGridSize, grid_of, grid_refusal, grid_text}
+use Rattle.overlay_grid.specs.Grid.{Grid, IsGridSize, grid_with, grid_refusal, grid_text}
 use Rattle.overlay_grid.specs.declared.fault.GridFault.{GridFault}
 use Rattle.script_form.specs.declared.fault.CommandFault.{CommandFault}
 use Rattle.script_form.specs.declared.fault.CommandFault.TheVariants.{Wkt, Expression, Query, Version, Device, Full, StoreFailed, SequenceLimit, OutOfMemory, CommandSyntax, LineTooLong, Closing, Gone, GridSize, NoStore}
 use Rattle.script_form.specs.BatchLines.{AreCommandsOf, IsFirstUnread}
 use Rattle.script_form.specs.Fault.{of_grid}
-use Rattle.script_form.specs.Requests.{Request, nothing, too_long, malformed, put, define, remove, locate, grid, list_layers, edges, wait, verify, sync, batch}
+use Rattle.script_form.specs.Requests.{Request, nothing, too_long, malformed, put_text, define_text, remove_name, locate, grid, list_layers, edges, wait, verify, sync, batch}
 use Rattle.script_form.specs.Turns.{Turn, alone, together, cut_off}
 use Rattle.script_form.specs.Replies.{ok_line, error_line, refused_line, location_line, built_line, durable_line, verdict_line}
 
@@ -176,15 +176,15 @@ abbrev pub IsAnswered : Bool → ℕ → History → Request → History → Lis
 IsAnswered stored session before nothing after made reply = IsTold [] made reply
 IsAnswered stored session before too_long after made reply = IsRefused LineTooLong made reply
 IsAnswered stored session before malformed after made reply = IsRefused CommandSyntax made reply
-IsAnswered stored session before (put name text) after made reply =
+IsAnswered stored session before (put_text name text) after made reply =
     WithName name made reply
     (((fault : WktFault) × wkt.IsRefusedBy text fault × IsRefused (Wkt fault) made reply)
     ⊎ ((rings : List (List WholePoint)) × wkt.ReadsAs text rings × IsSubmitted session before (terms.put name rings) after made reply))
-IsAnswered stored session before (define name text) after made reply =
+IsAnswered stored session before (define_text name text) after made reply =
     WithName name made reply
     (((fault : ExprFault) × expr.IsRefusedBy text fault × IsRefused (Expression fault) made reply)
     ⊎ ((tree : Tree (List ℕ)) × expr.ReadsAs text tree × IsSubmitted session before (terms.define name tree) after made reply))
-IsAnswered stored session before (remove name) after made reply =
+IsAnswered stored session before (remove_name name) after made reply =
     WithName name made reply (IsSubmitted session before (terms.remove name) after made reply)
 IsAnswered stored session before (locate name x y w) after made reply =
     WithName name made reply
@@ -197,7 +197,7 @@ IsAnswered stored session before (grid name x y step nx ny) after made reply =
     WithName name made reply
     ((¬ (IsGridSize step nx ny) × IsRefused GridSize made reply)
     ⊎ (IsGridSize step nx ny × IsGone made reply)
-    ⊎ (IsGridSize step nx ny × IsPictured (newest after).layers name (grid_of x y step nx ny) made reply))
+    ⊎ (IsGridSize step nx ny × IsPictured (newest after).layers name (grid_with x y step nx ny) made reply))
 IsAnswered stored session before list_layers after made reply = IsGone made reply ⊎ IsTold (layers_text (newest after).layers) made reply
 IsAnswered stored session before (edges name k) after made reply =
     WithName name made reply
@@ -216,8 +216,8 @@ IsAnswered stored session before sync after made reply = IsSynced stored (newest
 IsAnswered stored session before (batch size) after made reply = IsRefused (Version (Layer BatchSize)) made reply
 
 -- the lines of a batch: refused for the first that is no command, or submitted
-abbrev pub AreAnswered : ℕ → History → List Request → History → List Batch → List ℕ → Type 0
-AreAnswered session before requests after made reply =
+abbrev pub IsBatchAnswered : ℕ → History → List Request → History → List Batch → List ℕ → Type 0
+IsBatchAnswered session before requests after made reply =
     ((place : ℕ) × (fault : CommandFault) × IsFirstUnread requests place fault × IsRefusedAt place fault made reply)
     ⊎ ((commands : Batch) × AreCommandsOf requests commands × IsSubmittedAll session before commands after made reply)
 
@@ -226,9 +226,9 @@ abbrev pub takes_memory : Request → Bool
 takes_memory nothing = false
 takes_memory too_long = false
 takes_memory malformed = false
-takes_memory (put name text) = is_name name
-takes_memory (define name text) = is_name name
-takes_memory (remove name) = is_name name
+takes_memory (put_text name text) = is_name name
+takes_memory (define_text name text) = is_name name
+takes_memory (remove_name name) = is_name name
 takes_memory (locate name x y w) = is_name name
 takes_memory (grid name x y step nx ny) = is_name name
 takes_memory list_layers = true
@@ -244,17 +244,17 @@ IsOutOfMemory request made reply = IsTrue (takes_memory request) × IsRefused Ou
 
 -- what a turn makes of the history, what the session makes, and the reply, or memory ran out for it; a batch that is cut
 -- off is refused
-abbrev pub IsTaken : Bool → ℕ → History → Turn → History → List Batch → List ℕ → Type 0
-IsTaken stored session before (alone request) after made reply =
+abbrev pub IsTurnAnswered : Bool → ℕ → History → Turn → History → List Batch → List ℕ → Type 0
+IsTurnAnswered stored session before (alone request) after made reply =
     IsOutOfMemory request made reply ⊎ IsAnswered stored session before request after made reply
-IsTaken stored session before (together requests) after made reply =
-    IsRefused OutOfMemory made reply ⊎ AreAnswered session before requests after made reply
-IsTaken stored session before (cut_off requests) after made reply = IsRefused CommandSyntax made reply
+IsTurnAnswered stored session before (together requests) after made reply =
+    IsRefused OutOfMemory made reply ⊎ IsBatchAnswered session before requests after made reply
+IsTurnAnswered stored session before (cut_off requests) after made reply = IsRefused CommandSyntax made reply
 
 -- one turn: its history goes on from the one before, and it is answered there
 pub record IsTurn (stored : Bool) (session : ℕ) (before : History) (turn : Turn) (after : History) (made : List Batch) (reply : List ℕ) : Type 0 where
   pub goes_on : BeginsWith after before
-  pub answered : IsTaken stored session before turn after made reply
+  pub answered : IsTurnAnswered stored session before turn after made reply
 
 -- the turns one after another: the replies joined, and all that the session made, from what it had seen before to what it
 -- has seen then

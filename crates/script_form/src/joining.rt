@@ -5,8 +5,7 @@ ghost use Rattle.layer_book.specs.Command.{command};
 ghost use Rattle.script_form.specs.BatchLines.{IsCommandOf, IsNoCommand};
 ghost use Rattle.script_form.specs.Fault.{code_of};
 ghost use Rattle.script_form.specs.Gathering.{IsOpen, Joins, ReadsAll, ReadsBehind, ReadsNext, unread};
-ghost use Rattle.script_form.specs.Request.{request};
-ghost use Rattle.script_form.specs.Requests.{batch};
+ghost use Rattle.script_form.specs.Requests.{batch, request};
 ghost use Rattle.script_form.specs.Turns.{asked_size, begun_by, size_within};
 
 use crate::fault::CommandFault;

@@ -1,5 +1,6 @@
 //! Laws of lines, and of what they ask for.
-ghost use Rattle.script_form.specs.Laws.{PiecesJoinToTheBytes, NoPieceHasALineFeed, WordsAreRead, LongLine, SkippedLine, PutLine, DefineLine, DropLine, LocateLine, GridLine, LayersLine, WaitLine, SyncLine, BatchLine, EdgesLine, VerifyLine, MalformedLine};
+ghost use Rattle.script_form.specs.Lines.{PiecesJoinToTheBytes, NoPieceHasALineFeed};
+ghost use Rattle.script_form.specs.Shapes.{WordsAreRead, LongLine, SkippedLine, PutLine, DefineLine, DropLine, LocateLine, GridLine, LayersLine, WaitLine, SyncLine, BatchLine, EdgesLine, VerifyLine, MalformedLine};
 
 /// The pieces of a script, joined by line feeds, are its bytes, and none of them has a line feed.
 pub fn pieces_law()

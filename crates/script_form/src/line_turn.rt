@@ -1,8 +1,7 @@
 //! What lines make of the batch that waits for them, and the turns that they end.
 ghost use Rattle.std.specs.Prelude.{◌≡◌, Some, None};
 ghost use Rattle.script_form.specs.Gathering.{IsTaken, TakesLine};
-ghost use Rattle.script_form.specs.Request.{request};
-ghost use Rattle.script_form.specs.Requests.{request_of};
+ghost use Rattle.script_form.specs.Requests.{request, request_of};
 ghost use Rattle.script_form.specs.Turns.{is_nothing};
 
 use crate::gathering::{Gathering, LinesFault};

@@ -2,8 +2,7 @@
 ghost use Rattle.std.specs.Prelude.{◌≡◌, bytes_eq, option_map};
 ghost use Rattle.std.specs.List.{list_all};
 ghost use Rattle.script_form.specs.Lines.{is_skipped, begins_comment, is_gap};
-ghost use Rattle.script_form.specs.Requests.{request_of, by_words, words_of, behind_first_word, put_of, define_of, behind_sign, remove_of, locate_of, list_of, batch_of, located, grid_of, gridded, about_tiles, edges_at, verify_at, name_and_number, wait_of, sync_of};
-ghost use Rattle.script_form.specs.Request.{request};
+ghost use Rattle.script_form.specs.Requests.{request, request_found, request_of, by_words, words_of, behind_first_word, put_of, define_of, behind_sign, remove_of, locate_of, list_of, batch_of, located, grid_of, gridded, about_tiles, edges_at, verify_at, name_and_number, wait_of, sync_of};
 
 use crate::number::number_of;
 use crate::words::{behind_blanks, behind_gaps, first_word, is_gap, split_name, split_word};
@@ -48,7 +47,7 @@ pub fn request_of(line: &[u8]) -> Request<'_>
     if is_skipped(line) {
         return Request::Nothing;
     }
-    by_words(line)
+    by_words(line).unwrap_or(Request::Malformed)
 }
 
 /// Whether the line has no reply: it has gaps alone, or begins with `#`.
@@ -73,13 +72,11 @@ fn begins_comment(line: &[u8]) -> bool
     }
 }
 
-/// What a line asks for by its first word.
-fn by_words(line: &[u8]) -> Request<'_>
-    ensures { request result ≡ by_words (words_of line.now) (behind_first_word line.now) }
+/// What a line asks for by its first word. None where it is malformed, here and below.
+fn by_words(line: &[u8]) -> Option<Request<'_>>
+    ensures { request_found result ≡ by_words (words_of line.now) (behind_first_word line.now) }
 {
-    let Some((word, rest)) = first_word(line) else {
-        return Request::Malformed;
-    };
+    let (word, rest) = first_word(line)?;
     if is_word(word, b"PUT") {
         return put_of(behind_gaps(rest));
     }
@@ -105,8 +102,8 @@ fn by_words(line: &[u8]) -> Request<'_>
 }
 
 /// What a line asks for about tiles or about the store, by its first word.
-fn about_tiles<'a>(word: &[u8], rest: &'a [u8]) -> Request<'a>
-    ensures { request result ≡ about_tiles word.now (words_of rest.now) }
+fn about_tiles<'a>(word: &[u8], rest: &'a [u8]) -> Option<Request<'a>>
+    ensures { request_found result ≡ about_tiles word.now (words_of rest.now) }
 {
     if is_word(word, b"EDGES") {
         return edges_of(rest);
@@ -120,25 +117,128 @@ fn about_tiles<'a>(word: &[u8], rest: &'a [u8]) -> Request<'a>
     if is_word(word, b"SYNC") {
         return sync_of(rest);
     }
-    Request::Malformed
+    None
 }
 
-fn edges_of(rest: &[u8]) -> Request<'_>
-    ensures { request result ≡ edges_at (name_and_number (words_of rest.now)) }
+fn is_word(word: &[u8], command: &[u8]) -> bool
+    ensures { result ≡ bytes_eq word.now command.now }
 {
-    match name_and_number(rest) {
-        Some((name, number)) => Request::Edges(name, number),
-        None => Request::Malformed,
+    word == command
+}
+
+fn put_of(rest: &[u8]) -> Option<Request<'_>>
+    ensures { request_found result ≡ put_of rest.now }
+{
+    let (name, rest) = split_word(rest);
+    let text = behind_gaps(rest);
+    if name.is_empty() || text.is_empty() {
+        return None;
+    }
+    Some(Request::Put(name, text))
+}
+
+fn define_of(rest: &[u8]) -> Option<Request<'_>>
+    ensures { request_found result ≡ define_of rest.now }
+{
+    let (name, rest) = split_name(rest);
+    if name.is_empty() {
+        return None;
+    }
+    behind_sign(name, behind_gaps(rest))
+}
+
+/// The definition of a name, whose expression stands behind the `=` that comes first.
+fn behind_sign<'a>(name: &'a [u8], sign: &'a [u8]) -> Option<Request<'a>>
+    ensures { request_found result ≡ behind_sign name.now sign.now }
+{
+    match sign {
+        [b'=', text @ ..] => Some(Request::Define(name, behind_blanks(text))),
+        _ => None,
     }
 }
 
-fn verify_of(rest: &[u8]) -> Request<'_>
-    ensures { request result ≡ verify_at (name_and_number (words_of rest.now)) }
+fn remove_of(rest: &[u8]) -> Option<Request<'_>>
+    ensures { request_found result ≡ remove_of (words_of rest.now) }
 {
-    match name_and_number(rest) {
-        Some((name, number)) => Request::Verify(name, number),
-        None => Request::Malformed,
+    match first_word(rest)? {
+        (name, rest) if first_word(rest).is_none() => Some(Request::Remove(name)),
+        _ => None,
     }
+}
+
+fn locate_of(rest: &[u8]) -> Option<Request<'_>>
+    ensures { request_found result ≡ locate_of (words_of rest.now) }
+{
+    let (name, rest) = first_word(rest)?;
+    let (x, rest) = first_word(rest)?;
+    let (y, rest) = first_word(rest)?;
+    let (x, y) = (number_of(x), number_of(y));
+    let Some((w, rest)) = first_word(rest) else {
+        return Some(Request::Locate(name, x?, y?, 1));
+    };
+    if first_word(rest).is_some() {
+        return None;
+    }
+    Some(Request::Locate(name, x?, y?, number_of(w)?))
+}
+
+fn grid_of(rest: &[u8]) -> Option<Request<'_>>
+    ensures { request_found result ≡ grid_of (words_of rest.now) }
+{
+    let (name, rest) = first_word(rest)?;
+    let (x, rest) = first_word(rest)?;
+    let (y, rest) = first_word(rest)?;
+    let (step, rest) = first_word(rest)?;
+    let (nx, rest) = first_word(rest)?;
+    let (ny, rest) = first_word(rest)?;
+    if first_word(rest).is_some() {
+        return None;
+    }
+    let (x, y, step) = (number_of(x)?, number_of(y)?, number_of(step)?);
+    let (nx, ny) = (number_of(nx)?, number_of(ny)?);
+    Some(Request::Grid(name, x, y, step, nx, ny))
+}
+
+fn list_of(rest: &[u8]) -> Option<Request<'_>>
+    ensures { request_found result ≡ list_of (words_of rest.now) }
+{
+    if first_word(rest).is_some() {
+        return None;
+    }
+    Some(Request::ListLayers)
+}
+
+fn batch_of(rest: &[u8]) -> Option<Request<'_>>
+    ensures { request_found result ≡ batch_of (words_of rest.now) }
+{
+    let (size, rest) = first_word(rest)?;
+    if first_word(rest).is_some() {
+        return None;
+    }
+    Some(Request::Batch(number_of(size)?))
+}
+
+fn edges_of(rest: &[u8]) -> Option<Request<'_>>
+    ensures { request_found result ≡ edges_at (name_and_number (words_of rest.now)) }
+{
+    let (name, number) = name_and_number(rest)?;
+    Some(Request::Edges(name, number))
+}
+
+fn wait_of(rest: &[u8]) -> Option<Request<'_>>
+    ensures { request_found result ≡ wait_of (words_of rest.now) }
+{
+    match first_word(rest)? {
+        (name, rest) if first_word(rest).is_none() => Some(Request::Wait(name)),
+        _ => None,
+    }
+}
+
+fn verify_of(rest: &[u8]) -> Option<Request<'_>>
+    ensures { request_found result ≡ verify_at (name_and_number (words_of rest.now)) }
+{
+    let (name, number) = name_and_number(rest)?;
+    Some(Request::Verify(name, number))
 }
 
 /// The name and the number that are all that follows.
@@ -154,166 +254,11 @@ fn name_and_number(rest: &[u8]) -> Option<(&[u8], i64)>
     Some((name, number))
 }
 
-fn wait_of(rest: &[u8]) -> Request<'_>
-    ensures { request result ≡ wait_of (words_of rest.now) }
-{
-    match first_word(rest) {
-        Some((name, rest)) if first_word(rest).is_none() => Request::Wait(name),
-        _ => Request::Malformed,
-    }
-}
-
-fn sync_of(rest: &[u8]) -> Request<'_>
-    ensures { request result ≡ sync_of (words_of rest.now) }
+fn sync_of(rest: &[u8]) -> Option<Request<'_>>
+    ensures { request_found result ≡ sync_of (words_of rest.now) }
 {
     if first_word(rest).is_some() {
-        return Request::Malformed;
+        return None;
     }
-    Request::Sync
-}
-
-fn is_word(word: &[u8], command: &[u8]) -> bool
-    ensures { result ≡ bytes_eq word.now command.now }
-{
-    word == command
-}
-
-fn put_of(rest: &[u8]) -> Request<'_>
-    ensures { request result ≡ put_of rest.now }
-{
-    let (name, rest) = split_word(rest);
-    let text = behind_gaps(rest);
-    if name.is_empty() || text.is_empty() {
-        return Request::Malformed;
-    }
-    Request::Put(name, text)
-}
-
-fn define_of(rest: &[u8]) -> Request<'_>
-    ensures { request result ≡ define_of rest.now }
-{
-    let (name, rest) = split_name(rest);
-    if name.is_empty() {
-        return Request::Malformed;
-    }
-    behind_sign(name, behind_gaps(rest))
-}
-
-/// The definition of a name, whose expression stands behind the `=` that comes first.
-fn behind_sign<'a>(name: &'a [u8], sign: &'a [u8]) -> Request<'a>
-    ensures { request result ≡ behind_sign name.now sign.now }
-{
-    match sign {
-        [b'=', text @ ..] => Request::Define(name, behind_blanks(text)),
-        _ => Request::Malformed,
-    }
-}
-
-fn remove_of(rest: &[u8]) -> Request<'_>
-    ensures { request result ≡ remove_of (words_of rest.now) }
-{
-    match first_word(rest) {
-        Some((name, rest)) if first_word(rest).is_none() => Request::Remove(name),
-        _ => Request::Malformed,
-    }
-}
-
-fn list_of(rest: &[u8]) -> Request<'_>
-    ensures { request result ≡ list_of (words_of rest.now) }
-{
-    if first_word(rest).is_some() {
-        return Request::Malformed;
-    }
-    Request::ListLayers
-}
-
-fn batch_of(rest: &[u8]) -> Request<'_>
-    ensures { request result ≡ batch_of (words_of rest.now) }
-{
-    let Some((size, rest)) = first_word(rest) else {
-        return Request::Malformed;
-    };
-    if first_word(rest).is_some() {
-        return Request::Malformed;
-    }
-    match number_of(size) {
-        Some(size) => Request::Batch(size),
-        None => Request::Malformed,
-    }
-}
-
-fn locate_of(rest: &[u8]) -> Request<'_>
-    ensures { request result ≡ locate_of (words_of rest.now) }
-{
-    let Some((name, rest)) = first_word(rest) else {
-        return Request::Malformed;
-    };
-    let Some((x, rest)) = first_word(rest) else {
-        return Request::Malformed;
-    };
-    let Some((y, rest)) = first_word(rest) else {
-        return Request::Malformed;
-    };
-    let Some((w, rest)) = first_word(rest) else {
-        return located(name, number_of(x), number_of(y), Some(1));
-    };
-    if first_word(rest).is_some() {
-        return Request::Malformed;
-    }
-    located(name, number_of(x), number_of(y), number_of(w))
-}
-
-fn located(name: &[u8], x: Option<i64>, y: Option<i64>, w: Option<i64>) -> Request<'_>
-    ensures { request result ≡ located name.now x y w }
-{
-    match (x, y, w) {
-        (Some(x), Some(y), Some(w)) => Request::Locate(name, x, y, w),
-        _ => Request::Malformed,
-    }
-}
-
-fn grid_of(rest: &[u8]) -> Request<'_>
-    ensures { request result ≡ grid_of (words_of rest.now) }
-{
-    let Some((name, rest)) = first_word(rest) else {
-        return Request::Malformed;
-    };
-    let Some((x, rest)) = first_word(rest) else {
-        return Request::Malformed;
-    };
-    let Some((y, rest)) = first_word(rest) else {
-        return Request::Malformed;
-    };
-    let Some((step, rest)) = first_word(rest) else {
-        return Request::Malformed;
-    };
-    let Some((nx, rest)) = first_word(rest) else {
-        return Request::Malformed;
-    };
-    let Some((ny, rest)) = first_word(rest) else {
-        return Request::Malformed;
-    };
-    if first_word(rest).is_some() {
-        return Request::Malformed;
-    }
-    let (x, y, step) = (number_of(x), number_of(y), number_of(step));
-    gridded(name, x, y, step, number_of(nx), number_of(ny))
-}
-
-fn gridded(
-    name: &[u8],
-    x: Option<i64>,
-    y: Option<i64>,
-    step: Option<i64>,
-    nx: Option<i64>,
-    ny: Option<i64>,
-) -> Request<'_>
-    ensures { request result ≡ gridded name.now x y step nx ny }
-{
-    match (x, y, step, nx, ny) {
-        (Some(x), Some(y), Some(step), Some(nx), Some(ny)) => {
-            Request::Grid(name, x, y, step, nx, ny)
-        }
-        _ => Request::Malformed,
-    }
+    Some(Request::Sync)
 }

@@ -35,11 +35,12 @@ fn gap_count(bytes: &[u8]) -> usize
     bytes.iter().take_while(|b| is_gap(**b)).count()
 }
 
-fn blank_count(bytes: &[u8]) -> usize
-    ensures value { result ≡ prefix_len is_blank bytes.now }
-    ensures within { result ≤ length bytes.now }
+/// How much white space the text begins with.
+fn blank_count(text: &[u8]) -> usize
+    ensures value { result ≡ prefix_len is_blank text.now }
+    ensures within { result ≤ length text.now }
 {
-    bytes.iter().take_while(|b| is_blank(**b)).count()
+    text.iter().take_while(|b| is_blank(**b)).count()
 }
 
 /// How many bytes stand before the first gap.
@@ -66,10 +67,10 @@ pub fn behind_gaps(bytes: &[u8]) -> &[u8]
 }
 
 /// The bytes from the first on that is no white space.
-pub fn behind_blanks(bytes: &[u8]) -> &[u8]
-    ensures { result.now ≡ skip_while is_blank bytes.now }
+pub fn behind_blanks(text: &[u8]) -> &[u8]
+    ensures { result.now ≡ skip_while is_blank text.now }
 {
-    &bytes[blank_count(bytes)..]
+    &text[blank_count(text)..]
 }
 
 /// What stands before the first gap, and what stands from it on.

@@ -22,7 +22,7 @@ use Rattle.layer_book.specs.declared.fault.LayerFault.TheVariants as layer_fault
 use Rattle.version_core.specs.Fault as version_fault
 use Rattle.version_core.specs.declared.fault.VersionFault.{VersionFault}
 use Rattle.version_core.specs.declared.fault.VersionFault.TheVariants.{Layer}
-use Rattle.overlay_grid.specs.Grid.{Grid, IsGridSize, grid_of, grid_refusal, grid_text}
+use Rattle.overlay_grid.specs.Grid.{Grid, IsGridSize, grid_with, grid_refusal, grid_text}
 use Rattle.overlay_grid.specs.declared.fault.GridFault.{GridFault}
 use Rattle.overlay_grid.specs.declared.fault.GridFault.TheVariants as picture
 use Rattle.book_history.specs.Fault.{IfGone, IfBatchGone, IsBatchRefused, IsRefused as IsRefusedBy}
@@ -35,11 +35,10 @@ use Rattle.script_form.specs.declared.fault.CommandFault.TheVariants.{Expression
 use Rattle.script_form.specs.Fault.{of_grid}
 use Rattle.script_form.specs.Reading.{IsMemory, IsNoName, IsPut, IsPutRefused, IsDefine, IsDefineRefused, IsRemove}
 use Rattle.script_form.specs.Replies.{ok_line, error_line, refused_line, location_line}
-use Rattle.script_form.specs.Requests.{Request, put, define, remove, locate, grid, list_layers, request_of}
+use Rattle.script_form.specs.Requests.{Request, request, put_text, define_text, remove_name, locate, grid, list_layers, request_of}
 use Rattle.script_form.specs.Transcript.{IsRefused, IsRefusedBatch, IsSubmitted, IsSubmittedAll, IsAnswered, IsOutOfMemory, IsTold, Drawn, WithName}
 use Rattle.script_form.specs.Turns.{Turn, alone, together}
 use Rattle.script_form.specs.Gathering.{AreRead, TakesLine}
-use Rattle.script_form.specs.Request.{request}
 use Rattle.script_form.specs.declared.request.Request as code
 use Rattle.script_form.specs.declared.gathering.Gathering.{Gathering}
 use Rattle.script_form.specs.declared.gathering.LinesFault.{LinesFault}
@@ -232,7 +231,7 @@ answers_unread me fault reply is =
 -- ==== PUT, DEFINE, DROP
 
 pub answers_put : (stored : Bool) (was now : Known) (name text : List ℕ) (command : Command) (reply : List ℕ)
-    → IsPut name text command → Submits was command now reply → Answers stored was (put name text) now reply
+    → IsPut name text command → Submits was command now reply → Answers stored was (put_text name text) now reply
 answers_put stored was now name text command reply is s = record {
   stays = s.stays;
   answered = record {
@@ -247,7 +246,7 @@ answers_put stored was now name text command reply is s = record {
 }
 
 pub answers_define : (stored : Bool) (was now : Known) (name text : List ℕ) (command : Command) (reply : List ℕ)
-    → IsDefine name text command → Submits was command now reply → Answers stored was (define name text) now reply
+    → IsDefine name text command → Submits was command now reply → Answers stored was (define_text name text) now reply
 answers_define stored was now name text command reply is s = record {
   stays = s.stays;
   answered = record {
@@ -262,7 +261,7 @@ answers_define stored was now name text command reply is s = record {
 }
 
 pub answers_remove : (stored : Bool) (was now : Known) (name : List ℕ) (command : Command) (reply : List ℕ)
-    → IsRemove name command → Submits was command now reply → Answers stored was (remove name) now reply
+    → IsRemove name command → Submits was command now reply → Answers stored was (remove_name name) now reply
 answers_remove stored was now name command reply is s = record {
   stays = s.stays;
   answered = record {
@@ -276,9 +275,9 @@ answers_remove stored was now name command reply is s = record {
   };
 }
 
-pub put_refused : (stored : Bool) (me : Known) (name text : List ℕ) (fault : CommandFault) → IsMemory name fault ⊎ IsPutRefused name text fault → Answers stored me (put name text) me (error_line fault)
+pub put_refused : (stored : Bool) (me : Known) (name text : List ℕ) (fault : CommandFault) → IsMemory name fault ⊎ IsPutRefused name text fault → Answers stored me (put_text name text) me (error_line fault)
 put_refused stored me name text fault refused =
-    answers_there stored me (put name text) (error_line fault)
+    answers_there stored me (put_text name text) (error_line fault)
     (elim refused [
       | inl memory ↦ inl (memory.0, record { nothing_made = refl; told = memory.1 })
       | inr by ↦
@@ -288,9 +287,9 @@ put_refused stored me name text fault refused =
           ])
     ])
 
-pub define_refused : (stored : Bool) (me : Known) (name text : List ℕ) (fault : CommandFault) → IsMemory name fault ⊎ IsDefineRefused name text fault → Answers stored me (define name text) me (error_line fault)
+pub define_refused : (stored : Bool) (me : Known) (name text : List ℕ) (fault : CommandFault) → IsMemory name fault ⊎ IsDefineRefused name text fault → Answers stored me (define_text name text) me (error_line fault)
 define_refused stored me name text fault refused =
-    answers_there stored me (define name text) (error_line fault)
+    answers_there stored me (define_text name text) (error_line fault)
     (elim refused [
       | inl memory ↦ inl (memory.0, record { nothing_made = refl; told = memory.1 })
       | inr by ↦
@@ -300,8 +299,8 @@ define_refused stored me name text fault refused =
           ])
     ])
 
-pub remove_refused : (stored : Bool) (me : Known) (name : List ℕ) (fault : CommandFault) → IsMemory name fault ⊎ IsNoName name fault → Answers stored me (remove name) me (error_line fault)
-remove_refused stored me name fault refused = answers_there stored me (remove name) (error_line fault) (unnamed name fault _ refused)
+pub remove_refused : (stored : Bool) (me : Known) (name : List ℕ) (fault : CommandFault) → IsMemory name fault ⊎ IsNoName name fault → Answers stored me (remove_name name) me (error_line fault)
+remove_refused stored me name fault refused = answers_there stored me (remove_name name) (error_line fault) (unnamed name fault _ refused)
 
 -- ==== LOCATE
 
@@ -333,9 +332,9 @@ size_read step nx ny step' nx' ny' es ex ey size =
     subst (λ (v : ℤ). IsGridSize v nx ny) es (subst (λ (v : ℤ). IsGridSize step' v ny) ex (subst (λ (v : ℤ). IsGridSize step' nx' v) ey size))
 
 pub points_read : (x y step nx ny x' y' step' nx' ny' : ℤ) (g : Grid) → x' ≡ x → y' ≡ y → step' ≡ step → nx' ≡ nx → ny' ≡ ny
-    → g ≡ grid_of x' y' step' nx' ny' → g ≡ grid_of x y step nx ny
+    → g ≡ grid_with x' y' step' nx' ny' → g ≡ grid_with x y step nx ny
 points_read x y step nx ny x' y' step' nx' ny' g ex ey es ew eh is =
-    let P : ℤ → ℤ → ℤ → ℤ → ℤ → Type 0 = λ a b c d e. g ≡ grid_of a b c d e in
+    let P : ℤ → ℤ → ℤ → ℤ → ℤ → Type 0 = λ a b c d e. g ≡ grid_with a b c d e in
     subst (λ (v : ℤ). P v y step nx ny) ex
     (subst (λ (v : ℤ). P x' v step nx ny) ey
     (subst (λ (v : ℤ). P x' y' v nx ny) es
@@ -399,7 +398,7 @@ module _ (was now : Known) (stays : Stays was now) (made : now.made ≡ was.made
       answers_so was now stays made stored (grid name x y step nx ny) (error_line fault) (inr (inr (named, inr (inl (size, refused_as fault Gone gone)))))
 
   pub grid_refused : (stored : Bool) (name known : List ℕ) (x y step nx ny : ℤ) (g : Grid) (version : versions.Version) (wrong : GridFault) → version ≡ newest (seen now)
-      → known ≡ name → g ≡ grid_of x y step nx ny → IsTrue (is_name name) → IsGridSize step nx ny
+      → known ≡ name → g ≡ grid_with x y step nx ny → IsTrue (is_name name) → IsGridSize step nx ny
       → RefusedBy (picture.Layer layer_fault.OutOfMemory) (grid_refusal version.layers known g) wrong
       → Answers stored was (grid name x y step nx ny) now (error_line (of_grid wrong))
   grid_refused stored name known x y step nx ny g version wrong is same points named size refused =
@@ -412,17 +411,17 @@ module _ (was now : Known) (stays : Stays was now) (made : now.made ≡ was.made
               inr (inr (
                 size,
                 drawn_some _ wrong _
-                    (pictured (λ v m p. grid_refusal v.layers m p ≡ Some wrong) version (newest (seen now)) known name g (grid_of x y step nx ny) is same points by),
+                    (pictured (λ v m p. grid_refusal v.layers m p ≡ Some wrong) version (newest (seen now)) known name g (grid_with x y step nx ny) is same points by),
               )),
             ))
       ])
 
   pub grid_told : (stored : Bool) (name known : List ℕ) (x y step nx ny : ℤ) (g : Grid) (version : versions.Version) (text : List ℕ) → version ≡ newest (seen now)
-      → known ≡ name → g ≡ grid_of x y step nx ny → IsTrue (is_name name) → IsGridSize step nx ny → grid_refusal version.layers known g ≡ None
+      → known ≡ name → g ≡ grid_with x y step nx ny → IsTrue (is_name name) → IsGridSize step nx ny → grid_refusal version.layers known g ≡ None
       → text ≡ grid_text version.layers known g → Answers stored was (grid name x y step nx ny) now text
   grid_told stored name known x y step nx ny g version text is same points named size free told =
-      let there = pictured (λ v m p. grid_refusal v.layers m p ≡ None) version (newest (seen now)) known name g (grid_of x y step nx ny) is same points free in
-      let drawn = pictured (λ v m p. text ≡ grid_text v.layers m p) version (newest (seen now)) known name g (grid_of x y step nx ny) is same points told in
+      let there = pictured (λ v m p. grid_refusal v.layers m p ≡ None) version (newest (seen now)) known name g (grid_with x y step nx ny) is same points free in
+      let drawn = pictured (λ v m p. text ≡ grid_text v.layers m p) version (newest (seen now)) known name g (grid_with x y step nx ny) is same points told in
       answers_so was now stays made stored (grid name x y step nx ny) text
       (inr (inr (named, inr (inr (size, drawn_none _ _ text there (record { nothing_made = refl; told = drawn }))))))
 

@@ -11,7 +11,7 @@ use Rattle.script_form.specs.Gathering.{AreRead}
 use Rattle.script_form.specs.Replies.{error_line}
 use Rattle.script_form.specs.LineReply.{reply_text}
 use Rattle.script_form.specs.Requests.{Request}
-use Rattle.script_form.specs.Transcript.{IsRefused, IsSubmitted, IsSubmittedAll, IsAnswered, AreAnswered, IsOutOfMemory}
+use Rattle.script_form.specs.Transcript.{IsRefused, IsSubmitted, IsSubmittedAll, IsAnswered, IsBatchAnswered, IsOutOfMemory}
 use Rattle.server_session.specs.Turn.{Stays}
 
 -- the bytes that tell a reply or a fault
@@ -46,7 +46,7 @@ pub record SubmitsAll (was : Known) (batch : Batch) (now : Known) (reply : List 
 -- the lines of a batch are answered, or memory ran out for them
 pub record IsAnswerToAll (was : Known) (requests : List Request) (now : Known) (reply : List ℕ) : Type 0 where
   pub made : List Batch
-  pub answered : IsRefused OutOfMemory made reply ⊎ AreAnswered was.session (seen was) requests (seen now) made reply
+  pub answered : IsRefused OutOfMemory made reply ⊎ IsBatchAnswered was.session (seen was) requests (seen now) made reply
   pub only : now.made ≡ was.made ++ made
 
 -- by what they were read as

@@ -5,8 +5,7 @@ ghost use Rattle.overlay_terms.specs.Histories.{newest, IsHistory};
 ghost use Rattle.book_history.specs.Known.{seen};
 ghost use Rattle.layer_book.specs.Command.{command};
 ghost use Rattle.script_form.specs.LineReply.{reply_text};
-ghost use Rattle.script_form.specs.Request.{request};
-ghost use Rattle.script_form.specs.Requests.{put, locate, grid, list_layers, edges, wait, verify, sync};
+ghost use Rattle.script_form.specs.Requests.{request, put_text, locate, grid, list_layers, edges, wait, verify, sync};
 ghost use Rattle.script_form.specs.Transcript.{asked_column};
 ghost use Rattle.server_session.specs.Answering.{Answers, Submits, result_text};
 ghost use Rattle.server_session.specs.Turn.{Stays, TakesTurn};
@@ -115,7 +114,7 @@ fn answer_put<J: Naming, S: Wait + Drop, Q: Wait>(
     text: &[u8],
 ) -> Result<LineReply, CommandFault>
     requires { me.old.book ≡ J.book }
-    ensures { Answers (has_store shared.now) me.old (put name.now text.now) me.new (result_text result) }
+    ensures { Answers (has_store shared.now) me.old (put_text name.now text.now) me.new (result_text result) }
 {
     let change = read_put(alloc, name, text)?;
     submit(rt, alloc, shared, me, &change)
