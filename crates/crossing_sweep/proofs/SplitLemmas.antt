@@ -1,7 +1,7 @@
 -- A status falls into three parts at a place: the members under it, those that hold it, and those over it.
 use Rattle.std.proofs.Common.{◌≡◌, ℕ, ℤ, pos, ◌<◌, ◌≤◌, ◌<ℤ◌, ◌≤ℤ◌, ◌+◌, ◌-◌, ◌++◌, ◌∙◌, Bool, inl, inr, ◌⊎◌, true, false, List, length, get_or, take, drop, ap, sym, subst, arith}
 use Rattle.std.specs.Prelude.{All, IsTrue, ◌≢◌}
-use Rattle.std.specs.List.{AllPairs, slice_range}
+use Rattle.std.specs.List.{AllPairs, prefix_len, slice_range}
 use Rattle.std.specs.List.Sorted.{IsPartitionedBy, IsPartitionPoint}
 use Rattle.std.specs.Cmp.{int_cmp_is, int_ranks}
 use Rattle.std.specs.Ordering.{int_cmp, is_gt, is_ge, MatchOrdering}
@@ -11,7 +11,9 @@ use Rattle.std.proofs.lemmas.Int.{ints, by_lt_z}
 use Rattle.std.proofs.lemmas.Bool.{false≢true, cases_eq}
 use Rattle.std.proofs.lemmas.List.{get_or-take, get_or-drop, length-take-le, length-drop, take-append-drop, drop-drop, map-append}
 use Rattle.std.proofs.lemmas.List.Elements.{All-take, All-map}
+use Rattle.std.proofs.lemmas.List.Sums.{prefix_len_passes, prefix_len_stops}
 use Rattle.overlay_terms.specs.Plane.{Point, height_over, side_of, is_on}
+use Rattle.tile_laws.proofs.Ranks.{Told, yes, no, told}
 use Rattle.crossing_sweep.specs.Status.{SidesFallAlong}
 use Rattle.crossing_sweep.specs.Step.{IsSplitAt}
 use Rattle.crossing_sweep.specs.Member.{seg_of, segs_of}
@@ -113,6 +115,14 @@ module _ (r : Point) where
             (λ high. ge_from (height (get_or ms i d)) (int_cmp (height (get_or ms i d)) (pos 0)) (int_ranks (height (get_or ms i d)) (pos 0)) high)
 
 -- ---- the two parts at a partition point
+-- what passes a test up to some element comes first: as many as pass it from the first one on
+pub prefix_parts : {X : Type 0} (p : X → Bool) (xs : List X) → IsPartitionedBy p xs → IsPartitionPoint (λ x. p x ≡ true) (λ x. p x ≡ false) xs (prefix_len p xs)
+prefix_parts {X} p xs falls = (λ i d l m. prefix_len_passes p xs i d m, λ i d l m. fails i d l m (told (p (get_or xs i d))))
+  where
+    fails : (i : ℕ) (d : X) → prefix_len p xs ≤ i → i < length xs → Told (p (get_or xs i d)) → p (get_or xs i d) ≡ false
+    fails i d l m (yes e) = absurd (false≢true (sym (prefix_len_stops p xs d (omega (arith, l, m))) ∙ falls (prefix_len p xs) i d l m e))
+    fails i d l m (no e) = e
+
 module _ {X : Type 0} (P Q : X → Type 0) (xs : List X) (k : ℕ) (few : k ≤ length xs) (at : IsPartitionPoint P Q xs k) where
   pub first_part : All P (take k xs)
   first_part i d l = let inside : i < k = omega (arith, l, length-take-le k xs few) in subst P (sym (get_or-take k xs i d inside)) (at.0 i d (omega arith) inside)

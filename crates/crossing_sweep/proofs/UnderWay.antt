@@ -41,7 +41,7 @@ use Rattle.crossing_sweep.specs.Stepping.{segs_to_come, StandsBefore, IsStepped}
 use Rattle.crossing_sweep.specs.Standing.{nodes_max}
 use Rattle.crossing_sweep.specs.RowLaws.{AreAll}
 use Rattle.crossing_sweep.specs.Rows.{place_at, IsRow, AreSorted, BeginAt, Carries}
-use Rattle.crossing_sweep.specs.Crossed.{IsInner, IsUnitPair, IsCrossingAmong, name_at, IsSpan, AreCounted, HasFound, IsCaused, IsKey, IsUnderWay}
+use Rattle.crossing_sweep.specs.Crossed.{IsInner, IsUnitPair, IsCrossingAmong, name_at, IsSpan, AreNodes, HasFound, IsCaused, IsKey, IsUnderWay}
 use Rattle.crossing_sweep.specs.declared.member.Member.{Member}
 use Rattle.crossing_sweep.specs.declared.start.Start.{Start}
 use Rattle.crossing_sweep.specs.declared.row.Row.{Row}
@@ -385,10 +385,8 @@ module _ (input : Input) (valid : IsInput input) (listed : Bool) (status : List 
       let P : List (HPoint × PointName) → Type 0 = λ (l : List (HPoint × PointName)). HasCome way.n (segments_in input) (map (λ (u : Unit). u.seg) way.units) input.column way.q (segs_of status) (segs_to_come coming) (points_of l) in
       rows_end way.n input way.units way.q status (segs_to_come coming) (map place_of names) rows sorted way.steep valid (subst P (none_ahead few) way.come) way.carries are
 
-  counted : AreCounted input (length sorted ≤ cap) (length names)
-  counted = record {
-    places = (map place_of names);
-    counted = sym (length-map names place_of);
+  are_nodes : AreNodes input (length sorted ≤ cap) (map place_of names)
+  are_nodes = record {
     ordered = way.carries.passes.ordered;
     nodes = λ i d l. record { positive = (way.carries.passes.small i d l).positive; node = way.carries.passes.nodes i d l; from = way.carries.passes.from i d l; up_to = way.carries.passes.within i d l };
     all = λ few p is. (at_end few).nodes p is.positive is.node is.from is.up_to;
@@ -425,7 +423,8 @@ module _ (input : Input) (valid : IsInput input) (listed : Bool) (status : List 
     spans = spans;
     tile = λ few. (at_end few).tile;
     too_many = λ more. rows_tell_oversize way.n input way.q (map place_of names) status rows sorted cap valid way.carries are (omega (arith, more, as_many));
-    are_counted = counted;
+    named = way.named;
+    are_nodes = are_nodes;
     few = way.few;
     pairs = way.pairs;
     unlisted = way.unlisted;

@@ -69,20 +69,25 @@ pub record IsSpan (names : List PointName) (row : Row) : Type 0 where
   pub to_on : IsTrue (is_on row.support (place_of (name_at names row.last)))
   pub in_order : point_cmp (place_of (name_at names row.first)) (place_of (name_at names row.last)) ≡ Less
 
--- the nodes that a pass counts: nodes of the closed column, each once, and all of them where it goes to the end
-pub record AreCounted (input : Input) (to_the_end : Type 0) (count : ℕ) : Type 0 where
-  pub places : List Point
-  pub counted : count ≡ length places
+-- nodes of the closed column in their order, each once, and all of them where a pass goes to the end
+pub record AreNodes (input : Input) (to_the_end : Type 0) (places : List Point) : Type 0 where
   pub ordered : AllPairs (λ a b. point_cmp a b ≡ Less) places
   pub nodes : All (IsNodeIn input) places
   pub all : to_the_end → (p : Point) → IsNodeIn input p → IsQueued places p
+
+-- the count of such nodes
+pub record AreCounted (input : Input) (to_the_end : Type 0) (count : ℕ) : Type 0 where
+  pub places : List Point
+  pub counted : count ≡ length places
+  pub are_nodes : AreNodes input to_the_end places
 
 -- the rows, names of nodes and tests of a pass that stops after more rows than a cap, and lists its tests or not
 pub record HasFound (input : Input) (cap : ℕ) (listed : Bool) (rows : List Row) (names : List PointName) (tests : List (Segment × Segment)) : Type 0 where
   pub spans : All (IsSpan names) rows
   pub tile : length rows ≤ cap → IsTileOf input.marked input.steps input.column (map (row_ends (map place_of names)) rows)
   pub too_many : cap < length rows → IsTileAt cap input oversize
-  pub are_counted : AreCounted input (length rows ≤ cap) (length names)
+  pub named : All HasPlace names
+  pub are_nodes : AreNodes input (length rows ≤ cap) (map place_of names)
   pub few : length tests ≤ 2 * length names
   pub pairs : All (IsUnitPair input.marked) tests
   pub unlisted : listed ≡ false → tests ≡ []

@@ -1,7 +1,8 @@
 //! Where a status passes under a place, through it and over it.
 ghost use Rattle.std.specs.Prelude.{pos, ◌<ℤ◌, ◌≤ℤ◌, ◌≤◌, ◌≡◌, All, length, take, drop};
-ghost use Rattle.std.specs.List.{slice_range};
-ghost use Rattle.overlay_terms.specs.Plane.{height_over};
+ghost use Rattle.std.specs.List.{prefix_len, slice_range};
+ghost use Rattle.std.specs.Ordering.{is_ge};
+ghost use Rattle.overlay_terms.specs.Plane.{height_over, side_of};
 ghost use Rattle.exact_point.specs.Place.{place};
 ghost use Rattle.crossing_sweep.specs.Status.{SidesFallAlong};
 ghost use Rattle.crossing_sweep.specs.Step.{IsSplitAt};
@@ -19,7 +20,7 @@ pub(crate) fn bundle_at(status: &[Member], at: &HPoint) -> (usize, usize)
         IsSplitAt (place at.now) (segs_of (take result.0 status.now)) (segs_of (slice_range status.now result.0 result.1)) (segs_of (drop result.1 status.now)) }
 {
     let low = count_under(status, at);
-    let count = count_holding(&status[low..], at);
+    let count = count_not_over(&status[low..], at);
     (low, low + count)
 }
 
@@ -32,13 +33,13 @@ fn count_under(status: &[Member], at: &HPoint) -> usize
     status.partition_point(|member| side(&member.unit.seg, at).is_gt())
 }
 
-/// How many members of a status hold a place that none of them passes under.
-fn count_holding(status: &[Member], at: &HPoint) -> usize
-    ensures few { result ≤ length status.now }
-    ensures hold { SidesFallAlong (place at.now) (segs_of status.now) → All (λ m. height_over m.unit.seg (place at.now) ≤ℤ pos 0) status.now →
-        All (λ m. height_over m.unit.seg (place at.now) ≡ pos 0) (take result status.now) }
-    ensures over { SidesFallAlong (place at.now) (segs_of status.now) → All (λ m. height_over m.unit.seg (place at.now) ≤ℤ pos 0) status.now →
-        All (λ m. height_over m.unit.seg (place at.now) <ℤ pos 0) (drop result status.now) }
+/// How many members of a status, from the lowest one on, do not pass over a place. They are looked at
+/// one by one: few hold a place, and the pieces of each of them are closed there.
+fn count_not_over(status: &[Member], at: &HPoint) -> usize
+    ensures { result ≡ prefix_len (λ m. is_ge (side_of m.unit.seg (place at.now))) status.now }
 {
-    status.partition_point(|member| side(&member.unit.seg, at).is_ge())
+    status
+        .iter()
+        .take_while(|member| side(&member.unit.seg, at).is_ge())
+        .count()
 }

@@ -20,11 +20,9 @@ named_ends names row is = λ i. (named row.first is.from_known i, named row.last
 module _ (input : Input) (cap : ℕ) (listed : Bool) (rows : List Row) (names : List PointName) (tests : List (Segment × Segment)) (found : HasFound input cap listed rows names tests) where
   pub counted_for : (P : Type 0) → (P → length rows ≤ cap) → AreCounted input P (length names)
   counted_for P few = record {
-    places = found.are_counted.places;
-    counted = found.are_counted.counted;
-    ordered = found.are_counted.ordered;
-    nodes = found.are_counted.nodes;
-    all = λ h. found.are_counted.all (few h);
+    places = map place_of names;
+    counted = sym (length-map names place_of);
+    are_nodes = record { ordered = found.are_nodes.ordered; nodes = found.are_nodes.nodes; all = λ h. found.are_nodes.all (few h) };
   }
 
   pub crossings_for : listed ≡ true → (P : Type 0) → (P → length rows ≤ cap) → P → (p : Point) → IsInner input p → IsCrossingAmong tests p

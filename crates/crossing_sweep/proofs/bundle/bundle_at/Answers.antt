@@ -1,24 +1,43 @@
-use Rattle.std.proofs.Common.{◌≡◌, ℕ, pos, ◌-◌, ◌<ℤ◌, ◌≤ℤ◌, List, length, take, drop, subst, arith}
-use Rattle.std.specs.Prelude.{All}
+use Rattle.std.proofs.Common.{◌≡◌, ℕ, ◌+◌, ◌-◌, ◌≤◌, Bool, true, false, List, length, take, drop, ap, sym, subst, ◌∙◌, arith}
+use Rattle.std.specs.List.{prefix_len}
+use Rattle.std.specs.List.Sorted.{IsPartitionPoint}
 use Rattle.std.proofs.lemmas.List.{take_all, length-drop}
-use Rattle.overlay_terms.specs.Plane.{Point, height_over}
+use Rattle.std.proofs.lemmas.List.Sums.{prefix_len-le-length}
+use Rattle.overlay_terms.specs.Plane.{Point}
 use Rattle.exact_point.specs.Place.{place}
-use Rattle.crossing_sweep.specs.Status.{SidesFallAlong}
-use Rattle.crossing_sweep.specs.Member.{segs_of}
 use Rattle.crossing_sweep.specs.declared.member.Member.{Member}
-use Rattle.crossing_sweep.proofs.SplitLemmas.{rest_falls, split_parts}
+use Rattle.crossing_sweep.proofs.SplitLemmas.{is_up_to, up_to_falls, prefix_parts, all_hold, all_over, rest_falls, split_parts}
 use Rattle.crossing_sweep.proofs.bundle.bundle_at.Goals as goal
+
+-- as many of the members from some number on as pass a test go no further than all of them
+in_all : (p : Member → Bool) (ms : List Member) (low count : ℕ) → low ≤ length ms → count ≡ prefix_len p (take (length ms - low) (drop low ms)) → low + count ≤ length ms
+in_all p ms low count l e =
+    let rest : List Member = take (length ms - low) (drop low ms) in
+    let few : prefix_len p rest ≤ length rest = prefix_len-le-length p rest in
+    let from : length rest ≡ length (drop low ms) = ap length (take_all (length ms - low) (drop low ms) (omega (arith, length-drop low ms))) in
+    omega (arith, few, e, from, length-drop low ms, l)
+
+pub overflow_add-result : goal.overflow_add-result
+overflow_add-result c =
+    let few : c.count_under-low.result + c.count_not_over-count.result ≤ length c.args.status.now =
+    in_all (is_up_to (place c.args.at.now)) c.args.status.now c.count_under-low.result c.count_not_over-count.result c.count_under-low.ensures.few c.count_not_over-count.ensures in
+    omega (arith, few)
+
+pub returns-clause-few : goal.returns-clause-few
+returns-clause-few c =
+    in_all (is_up_to (place c.args.at.now)) c.args.status.now c.count_under-low.result c.count_not_over-count.result c.count_under-low.ensures.few c.count_not_over-count.ensures
 
 pub returns-clause-split : goal.returns-clause-split
 returns-clause-split c = λ falls.
     let r : Point = place c.args.at.now in
     let ms : List Member = c.args.status.now in
     let low : ℕ = c.count_under-low.result in
-    let count : ℕ = c.count_holding-count.result in
-    let rest = rest_falls r ms low count falls in
-    let most = c.count_under-low.ensures.not_under falls in
-    let from : take (length ms - low) (drop low ms) ≡ drop low ms = take_all (length ms - low) (drop low ms) (omega (arith, length-drop low ms)) in
-    let Most : List Member → Type 0 = λ xs. All (λ m. height_over m.unit.seg r ≤ℤ pos 0) xs in
-    let Hold : List Member → Type 0 = λ xs. SidesFallAlong r (segs_of xs) → Most xs → All (λ m. height_over m.unit.seg r ≡ pos 0) (take count xs) in
-    let Over : List Member → Type 0 = λ xs. SidesFallAlong r (segs_of xs) → Most xs → All (λ m. height_over m.unit.seg r <ℤ pos 0) (drop count xs) in
-    split_parts r ms low count falls (c.count_under-low.ensures.under falls) (subst Hold from c.count_holding-count.ensures.hold rest most) (subst Over from c.count_holding-count.ensures.over rest most)
+    let count : ℕ = c.count_not_over-count.result in
+    let rest : List Member = drop low ms in
+    let fall = rest_falls r ms low count falls in
+    let from : take (length ms - low) rest ≡ rest = take_all (length ms - low) rest (omega (arith, length-drop low ms)) in
+    let number : count ≡ prefix_len (is_up_to r) rest = c.count_not_over-count.ensures ∙ ap (prefix_len (is_up_to r)) from in
+    let few : count ≤ length rest = subst (λ k. k ≤ length rest) (sym number) (prefix_len-le-length (is_up_to r) rest) in
+    let at : IsPartitionPoint (λ m. is_up_to r m ≡ true) (λ m. is_up_to r m ≡ false) rest count =
+    subst (λ k. IsPartitionPoint (λ m. is_up_to r m ≡ true) (λ m. is_up_to r m ≡ false) rest k) (sym number) (prefix_parts (is_up_to r) rest (up_to_falls r rest fall)) in
+    split_parts r ms low count falls (c.count_under-low.ensures.under falls) (all_hold r rest count few fall at (c.count_under-low.ensures.not_under falls)) (all_over r rest count few fall at)
