@@ -1,0 +1,85 @@
+#!/usr/bin/env python3
+"""How long the reply of EDGES takes beside the building of the tile that WAIT waits for.
+
+python3 bench/edges.py [--built PROGRAM].. [--beside COMMIT]
+
+Maps of two layers of so many edges each in one column, the SymDifference of which is asked for: stars and slivers (ends
+at fractions), parcels and combs (whole ends) of bench/tiles.py. WAIT is the input, the tile and the version that keeps
+it; EDGES is the text of the tile. By the program of bench/edges, which is built over the libraries, unproved
+(bench/unproved.py; minutes); --beside builds another one over the libraries of a commit, --built names ones that were
+built before. Where several are given they run in turns, five times each, and the least times are taken; all have to
+write the same text.
+"""
+
+import argparse
+import pathlib
+import subprocess
+import tempfile
+
+import tiles
+import unproved
+
+HERE = pathlib.Path(__file__).resolve().parent
+CRATES = ["version_core", "wkt_form"]
+ROUNDS = 5
+# 512 edges; the tile of two combs of 512 has too many pieces.
+MAPS = [(tiles.stars, 512, 20), (tiles.slivers, 512, 10), (tiles.parcels, 512, 50), (tiles.combs, 256, 4)]
+
+
+def cases():
+    """The text that the program of bench/edges reads."""
+    for shape, edges, times in MAPS:
+        lines = [f"{shape.__name__}-{edges}", times, *map(tiles.text_of, shape(edges))]
+        yield "\n".join(map(str, lines)) + "\n"
+
+
+def built_of(commit, folder):
+    """The program over the libraries of a commit."""
+    tree, place = folder / "tree", folder / "beside"
+    place.mkdir()
+    subprocess.run(["git", "-C", unproved.TOP, "worktree", "add", "--detach", tree, commit], check=True)
+    here, unproved.TOP = unproved.TOP, tree
+    try:
+        return unproved.built(HERE / "edges", CRATES, place)
+    finally:
+        unproved.TOP = here
+        subprocess.run(["git", "-C", here, "worktree", "remove", "--force", tree], check=True)
+
+
+def main():
+    parser = argparse.ArgumentParser(description=__doc__, formatter_class=argparse.RawDescriptionHelpFormatter)
+    parser.add_argument("--built", type=pathlib.Path, action="append", default=[])
+    parser.add_argument("--beside", metavar="COMMIT")
+    words = parser.parse_args()
+    with tempfile.TemporaryDirectory() as place:
+        folder = pathlib.Path(place)
+        programs = [program.resolve() for program in words.built]
+        if not programs:
+            (folder / "built").mkdir()
+            programs = [unproved.built(HERE / "edges", CRATES, folder / "built")]
+        if words.beside:
+            programs.append(built_of(words.beside, folder))
+        file = folder / "cases"
+        file.write_text("".join(cases()))
+        least, seen = {}, {}
+        for _ in range(ROUNDS):
+            for at, program in enumerate(programs):
+                done = subprocess.run([program, file], stdout=subprocess.PIPE, check=True, text=True)
+                for line in done.stdout.splitlines():
+                    case, times, pieces, size, total, *taken = line.split()
+                    found = (pieces, size, total)
+                    if seen.setdefault(case, found) != found:
+                        raise SystemExit(f"{case}: {found} and {seen[case]}")
+                    for what, microseconds in zip(("WAIT", "EDGES"), taken):
+                        each = int(microseconds) / int(times)
+                        least[at, case, what] = min(each, least.get((at, case, what), each))
+        for case, (pieces, size, _) in seen.items():
+            rows = []
+            for at in range(len(programs)):
+                waited, written = least[at, case, "WAIT"], least[at, case, "EDGES"]
+                rows.append(f"WAIT {waited / 1000:.2f} ms, EDGES {written / 1000:.3f} ms, {100 * written / waited:.1f} %")
+            print(f"{case}, {pieces} pieces, {size} bytes: " + "; ".join(rows), flush=True)
+
+
+if __name__ == "__main__":
+    main()
