@@ -71,13 +71,15 @@ fn live_of(
     LiveRecords::new(alloc, catalog, listing, layers, tiles, max_blocks)
 }
 
-/// What a root holds, and the blocks that it takes.
+/// What a root of a file of this size holds, and the blocks that it takes.
 pub fn read_root<D: Disk>(
     alloc: Global,
     disk: &mut D,
+    size: usize,
     root: Root,
     max_blocks: u32,
 ) -> Result<Loaded, LoadFault>
+    requires { D.is_honest disk.old → size ≡ length (D.seen disk.old) }
     ensures honest { D.is_honest disk.new ↔ D.is_honest disk.old }
     ensures looks { D.is_honest disk.old → Looks D.Disk disk.old disk.new }
     ensures gives { D.is_honest disk.old → length (D.seen disk.old) < 2 ^ 64
@@ -93,8 +95,8 @@ pub fn read_root<D: Disk>(
     ensures stored { IfOk result (λ x. AreStored x.content.layers (map finished_of x.content.tiles.items)) }
     ensures cause { D.is_honest disk.old → Causes result (D.faults disk.old) (D.faults disk.new) }
 {
-    let listing = listing_at(alloc, disk, root)?;
-    let content = content_of(alloc, disk, &listing)?;
+    let listing = listing_at(alloc, disk, size, root)?;
+    let content = content_of(alloc, disk, size, &listing)?;
     let live = live_of(alloc, root.catalog, listing, &content, max_blocks)?;
     let next_room = no_room(alloc, max_blocks)?;
     Ok(Loaded {

@@ -1,6 +1,6 @@
 -- Runs of calls that only look.
 use Rattle.std.proofs.Common.{◌≡◌, ◌⊎◌, ⊎_elim, ℕ, List, Result, Err, refl, ◌∙◌, ap, subst, sym}
-use Rattle.std.specs.Prelude.{IsErrAnd, IfErr}
+use Rattle.std.specs.Prelude.{◌↔◌, length, IsErrAnd, IfErr}
 use Rattle.std.proofs.lemmas.Result.{err_from_is_err_and}
 use Rattle.disk_model.specs.declared.disk.Disk.{Ghosts}
 use Rattle.disk_model.specs.Disk.{Fewer, Elapses}
@@ -74,3 +74,10 @@ refuses_bound (Damaged damage) read more refuses = ap (λ r. r >>= more) refuses
 
 pub refuses_device : {A : Type 0} (fault : LoadFault) (read : Result A Damage) → fault ≡ Device → Refuses fault read
 refuses_device fault read is = subst (λ (f : LoadFault). Refuses f read) (sym is) tt
+
+-- what was the size before some calls that only look is the size behind them
+pub size_stays : {D : Type 0} (g : Ghosts D) (old new : D) (size : ℕ) → g.is_honest new ↔ g.is_honest old
+    → (g.is_honest old → Looks g old new) → (g.is_honest old → size ≡ length (g.seen old)) → g.is_honest new
+    → size ≡ length (g.seen new)
+size_stays g old new size same looks known honest =
+    let was = same.0 honest in known was ∙ ap (λ (f : List ℕ). length f) (sym (looks was).seen)

@@ -18,20 +18,21 @@ fn is_within(extent: RecordExtent, whole: u64) -> bool
     extent.block >= 2 && extent.block <= whole && blocks_of(extent.size) <= whole - extent.block
 }
 
-/// The bytes of a record; the damage where it is not placed in the file.
+/// The bytes of a record in a file of this size; the damage where it is not placed in it.
 pub(crate) fn fetch<D: Disk>(
     alloc: Global,
     disk: &mut D,
+    size: usize,
     extent: RecordExtent,
     damage: Damage,
 ) -> Result<Vec<u8>, LoadFault>
+    requires { D.is_honest disk.old → size ≡ length (D.seen disk.old) }
     ensures honest { D.is_honest disk.new ↔ D.is_honest disk.old }
     ensures looks { D.is_honest disk.old → Looks D.Disk disk.old disk.new }
     ensures gives { D.is_honest disk.old → Gives (λ v. v.items) result (placed_bytes damage (D.seen disk.old) extent) }
     ensures cause { D.is_honest disk.old → Causes result (D.faults disk.old) (D.faults disk.new) }
 {
-    let whole = (disk.length()? / BLOCK) as u64;
-    if !is_within(extent, whole) {
+    if !is_within(extent, (size / BLOCK) as u64) {
         return Err(LoadFault::Damaged(damage));
     }
     let mut bytes = vec![in alloc; 0; extent.size as usize]?;

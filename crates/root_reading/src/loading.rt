@@ -1,5 +1,5 @@
 //! The layers and finished tiles of a file.
-ghost use Rattle.std.specs.Prelude.{◌↔◌, [], List, map, IfOk, OnOk, IfErr};
+ghost use Rattle.std.specs.Prelude.{◌↔◌, [], List, map, IfOk, OnOk, IfErr, length, ◌≡◌};
 ghost use Rattle.std.proofs.Common.{inl, inr};
 ghost use Rattle.overlay_terms.specs.Histories.{Finished};
 ghost use Rattle.overlay_terms.specs.StoredTiles.{AreStored};
@@ -35,10 +35,12 @@ pub struct Content {
 fn with_base<D: Disk>(
     alloc: Global,
     disk: &mut D,
+    size: usize,
     layers: &Layers,
     name: &[u8],
     extent: RecordExtent,
 ) -> Result<Layers, LoadFault>
+    requires { D.is_honest disk.old → size ≡ length (D.seen disk.old) }
     ensures stored { (tiles : List Finished) → AreStored layers.now tiles → IfOk result (λ l. AreStored l tiles) }
     ensures honest { D.is_honest disk.new ↔ D.is_honest disk.old }
     ensures looks { D.is_honest disk.old → Looks D.Disk disk.old disk.new }
@@ -46,7 +48,7 @@ fn with_base<D: Disk>(
         → Gives (λ l. l) result (layers_with_base (D.seen disk.old) layers.now name.now extent) }
     ensures cause { D.is_honest disk.old → Causes result (D.faults disk.old) (D.faults disk.new) }
 {
-    let rings = base_at(alloc, disk, extent)?;
+    let rings = base_at(alloc, disk, size, extent)?;
     let name = name_in(alloc, name)?;
     let rings = Arc::new(alloc, rings)?;
     let layers = keep(alloc, layers, &Command::Put(name, rings))?;
@@ -57,10 +59,12 @@ fn with_base<D: Disk>(
 fn with_derived<D: Disk>(
     alloc: Global,
     disk: &mut D,
+    size: usize,
     layers: &Layers,
     name: &[u8],
     extent: RecordExtent,
 ) -> Result<Layers, LoadFault>
+    requires { D.is_honest disk.old → size ≡ length (D.seen disk.old) }
     ensures honest { D.is_honest disk.new ↔ D.is_honest disk.old }
     ensures looks { D.is_honest disk.old → Looks D.Disk disk.old disk.new }
     ensures gives { D.is_honest disk.old
@@ -69,7 +73,7 @@ fn with_derived<D: Disk>(
         → IfOk result (λ l. AreStoredTo l tiles name.now 0) }
     ensures cause { D.is_honest disk.old → Causes result (D.faults disk.old) (D.faults disk.new) }
 {
-    let expression = expression_at(alloc, disk, extent)?;
+    let expression = expression_at(alloc, disk, size, extent)?;
     let name = name_in(alloc, name)?;
     let expression = Arc::new(alloc, expression)?;
     let layers = keep(alloc, layers, &Command::Define(name, expression))?;
@@ -80,10 +84,12 @@ fn with_derived<D: Disk>(
 fn add_base<D: Disk>(
     alloc: Global,
     disk: &mut D,
+    size: usize,
     name: &[u8],
     extent: RecordExtent,
     content: &mut Content,
 ) -> Result<(), LoadFault>
+    requires { D.is_honest disk.old → size ≡ length (D.seen disk.old) }
     ensures honest { D.is_honest disk.new ↔ D.is_honest disk.old }
     ensures looks { D.is_honest disk.old → Looks D.Disk disk.old disk.new }
     ensures adds { D.is_honest disk.old
@@ -96,7 +102,7 @@ fn add_base<D: Disk>(
         → OnOk result (AreStored content.new.layers (map finished_of content.new.tiles.items)) }
     ensures cause { D.is_honest disk.old → Causes result (D.faults disk.old) (D.faults disk.new) }
 {
-    let layers = with_base(alloc, disk, &content.layers, name, extent)?;
+    let layers = with_base(alloc, disk, size, &content.layers, name, extent)?;
     content.layers = layers;
     Ok(())
 }
@@ -105,11 +111,13 @@ fn add_base<D: Disk>(
 fn add_derived<D: Disk>(
     alloc: Global,
     disk: &mut D,
+    size: usize,
     name: &[u8],
     extent: RecordExtent,
     entries: &[Option<RecordExtent>],
     content: &mut Content,
 ) -> Result<(), LoadFault>
+    requires { D.is_honest disk.old → size ≡ length (D.seen disk.old) }
     ensures honest { D.is_honest disk.new ↔ D.is_honest disk.old }
     ensures looks { D.is_honest disk.old → Looks D.Disk disk.old disk.new }
     ensures adds { D.is_honest disk.old
@@ -124,9 +132,9 @@ fn add_derived<D: Disk>(
         → OnOk result (AreStored content.new.layers (map finished_of content.new.tiles.items)) }
     ensures cause { D.is_honest disk.old → Causes result (D.faults disk.old) (D.faults disk.new) }
 {
-    let layers = with_derived(alloc, disk, &content.layers, name, extent)?;
+    let layers = with_derived(alloc, disk, size, &content.layers, name, extent)?;
     let own = name_in(alloc, name)?;
-    add_tiles(alloc, disk, &own, entries, &mut content.tiles)?;
+    add_tiles(alloc, disk, size, &own, entries, &mut content.tiles)?;
     content.layers = layers;
     Ok(())
 }
@@ -135,9 +143,11 @@ fn add_derived<D: Disk>(
 fn add_layer<D: Disk>(
     alloc: Global,
     disk: &mut D,
+    size: usize,
     entry: &Listed,
     content: &mut Content,
 ) -> Result<(), LoadFault>
+    requires { D.is_honest disk.old → size ≡ length (D.seen disk.old) }
     ensures honest { D.is_honest disk.new ↔ D.is_honest disk.old }
     ensures looks { D.is_honest disk.old → Looks D.Disk disk.old disk.new }
     ensures adds { D.is_honest disk.old
@@ -149,9 +159,9 @@ fn add_layer<D: Disk>(
     ensures cause { D.is_honest disk.old → Causes result (D.faults disk.old) (D.faults disk.new) }
 {
     match &entry.records {
-        Records::Base(extent) => add_base(alloc, disk, &entry.name, *extent, content),
+        Records::Base(extent) => add_base(alloc, disk, size, &entry.name, *extent, content),
         Records::Derived(extent, entries) => {
-            add_derived(alloc, disk, &entry.name, *extent, entries, content)
+            add_derived(alloc, disk, size, &entry.name, *extent, entries, content)
         }
     }
 }
@@ -160,8 +170,10 @@ fn add_layer<D: Disk>(
 pub fn content_of<D: Disk>(
     alloc: Global,
     disk: &mut D,
+    size: usize,
     listing: &[Listed],
 ) -> Result<Content, LoadFault>
+    requires { D.is_honest disk.old → size ≡ length (D.seen disk.old) }
     ensures honest { D.is_honest disk.new ↔ D.is_honest disk.old }
     ensures looks { D.is_honest disk.old → Looks D.Disk disk.old disk.new }
     ensures gives { D.is_honest disk.old
@@ -175,7 +187,7 @@ pub fn content_of<D: Disk>(
         tiles: Vec::new(alloc),
     };
     for entry in listing {
-        add_layer(alloc, disk, entry, &mut content)?;
+        add_layer(alloc, disk, size, entry, &mut content)?;
     }
     Ok(content)
 }

@@ -1,5 +1,5 @@
 //! The records that a root names, as the disk has them.
-ghost use Rattle.std.specs.Prelude.{◌↔◌};
+ghost use Rattle.std.specs.Prelude.{◌↔◌, length, ◌≡◌};
 ghost use Rattle.record_bytes.specs.Listing as listings;
 ghost use Rattle.store_terms.specs.Image.{listing_of};
 ghost use Rattle.root_reading.specs.Looking.{Gives, Looks, Causes};
@@ -22,15 +22,17 @@ use store_terms::root::{RecordExtent, Root};
 pub fn listing_at<D: Disk>(
     alloc: Global,
     disk: &mut D,
+    size: usize,
     root: Root,
 ) -> Result<Vec<Listed>, LoadFault>
+    requires { D.is_honest disk.old → size ≡ length (D.seen disk.old) }
     ensures honest { D.is_honest disk.new ↔ D.is_honest disk.old }
     ensures looks { D.is_honest disk.old → Looks D.Disk disk.old disk.new }
     ensures gives { D.is_honest disk.old
         → Gives (λ v. listings.listing_of v.items) result (listing_of (D.seen disk.old) root) }
     ensures cause { D.is_honest disk.old → Causes result (D.faults disk.old) (D.faults disk.new) }
 {
-    let bytes = fetch(alloc, disk, root.catalog, Damage::CatalogPlace)?;
+    let bytes = fetch(alloc, disk, size, root.catalog, Damage::CatalogPlace)?;
     let listing = read_catalog(alloc, &bytes)?;
     Ok(listing)
 }
@@ -39,14 +41,16 @@ pub fn listing_at<D: Disk>(
 pub(crate) fn base_at<D: Disk>(
     alloc: Global,
     disk: &mut D,
+    size: usize,
     extent: RecordExtent,
 ) -> Result<BaseLayer, LoadFault>
+    requires { D.is_honest disk.old → size ≡ length (D.seen disk.old) }
     ensures honest { D.is_honest disk.new ↔ D.is_honest disk.old }
     ensures looks { D.is_honest disk.old → Looks D.Disk disk.old disk.new }
     ensures gives { D.is_honest disk.old → Gives (λ layer. layer) result (rings_at (D.seen disk.old) extent) }
     ensures cause { D.is_honest disk.old → Causes result (D.faults disk.old) (D.faults disk.new) }
 {
-    let bytes = fetch(alloc, disk, extent, Damage::RecordPlace)?;
+    let bytes = fetch(alloc, disk, size, extent, Damage::RecordPlace)?;
     let rings = read_base(alloc, &bytes)?;
     Ok(rings)
 }
@@ -55,15 +59,17 @@ pub(crate) fn base_at<D: Disk>(
 pub(crate) fn expression_at<D: Disk>(
     alloc: Global,
     disk: &mut D,
+    size: usize,
     extent: RecordExtent,
 ) -> Result<Expr, LoadFault>
+    requires { D.is_honest disk.old → size ≡ length (D.seen disk.old) }
     ensures honest { D.is_honest disk.new ↔ D.is_honest disk.old }
     ensures looks { D.is_honest disk.old → Looks D.Disk disk.old disk.new }
     ensures gives { D.is_honest disk.old
         → Gives (λ expression. expression) result (expression_at (D.seen disk.old) extent) }
     ensures cause { D.is_honest disk.old → Causes result (D.faults disk.old) (D.faults disk.new) }
 {
-    let bytes = fetch(alloc, disk, extent, Damage::RecordPlace)?;
+    let bytes = fetch(alloc, disk, size, extent, Damage::RecordPlace)?;
     let expression = read_definition(alloc, &bytes)?;
     Ok(expression)
 }

@@ -1,5 +1,5 @@
 //! The finished tiles of a layer, as the disk has them.
-ghost use Rattle.std.specs.Prelude.{◌≡◌, ◌↔◌, ◌+◌, ◌<◌, ◌∷◌, List, Option, map, true, IfOk, OnOk, IfErr};
+ghost use Rattle.std.specs.Prelude.{◌≡◌, ◌↔◌, ◌+◌, ◌<◌, ◌∷◌, List, Option, map, true, IfOk, OnOk, IfErr, length};
 ghost use Rattle.overlay_terms.specs.Column.{column_count};
 ghost use Rattle.overlay_terms.specs.Histories.{is_formed};
 ghost use Rattle.overlay_terms.specs.Layers.{Layer};
@@ -30,9 +30,11 @@ use tile_build::tile::Tile;
 fn tile_at<D: Disk>(
     alloc: Global,
     disk: &mut D,
+    size: usize,
     column: usize,
     extent: RecordExtent,
 ) -> Result<(Column, Tile), LoadFault>
+    requires { D.is_honest disk.old → size ≡ length (D.seen disk.old) }
     ensures column { IfOk result (λ x. x.0 ≡ column) }
     ensures known { IfOk result (λ x. column < column_count) }
     ensures formed { IfOk result (λ x. is_formed (tile_of x.1) column ≡ true) }
@@ -42,7 +44,7 @@ fn tile_at<D: Disk>(
         → Gives (λ x. tile_of x.1) result (tile_at (D.seen disk.old) column extent) }
     ensures cause { D.is_honest disk.old → Causes result (D.faults disk.old) (D.faults disk.new) }
 {
-    let bytes = fetch(alloc, disk, extent, Damage::RecordPlace)?;
+    let bytes = fetch(alloc, disk, size, extent, Damage::RecordPlace)?;
     let Some(known) = Column::new(column as u64) else {
         return Err(LoadFault::Damaged(Damage::TileForm));
     };
@@ -55,11 +57,13 @@ fn tile_at<D: Disk>(
 fn add_tile<D: Disk>(
     alloc: Global,
     disk: &mut D,
+    size: usize,
     name: &Name,
     column: usize,
     entry: Option<RecordExtent>,
     tiles: &mut Vec<StoredTile>,
 ) -> Result<(), LoadFault>
+    requires { D.is_honest disk.old → size ≡ length (D.seen disk.old) }
     ensures honest { D.is_honest disk.new ↔ D.is_honest disk.old }
     ensures looks { D.is_honest disk.old → Looks D.Disk disk.old disk.new }
     ensures adds { D.is_honest disk.old
@@ -79,7 +83,7 @@ fn add_tile<D: Disk>(
     let Some(extent) = entry else {
         return Ok(());
     };
-    let (column, tile) = tile_at(alloc, disk, column, extent)?;
+    let (column, tile) = tile_at(alloc, disk, size, column, extent)?;
     tiles.push(StoredTile {
         name: name.clone()?,
         column,
@@ -92,10 +96,12 @@ fn add_tile<D: Disk>(
 pub(crate) fn add_tiles<D: Disk>(
     alloc: Global,
     disk: &mut D,
+    size: usize,
     name: &Name,
     entries: &[Option<RecordExtent>],
     tiles: &mut Vec<StoredTile>,
 ) -> Result<(), LoadFault>
+    requires { D.is_honest disk.old → size ≡ length (D.seen disk.old) }
     ensures honest { D.is_honest disk.new ↔ D.is_honest disk.old }
     ensures looks { D.is_honest disk.old → Looks D.Disk disk.old disk.new }
     ensures adds { D.is_honest disk.old
@@ -111,7 +117,7 @@ pub(crate) fn add_tiles<D: Disk>(
     ensures cause { D.is_honest disk.old → Causes result (D.faults disk.old) (D.faults disk.new) }
 {
     for (column, entry) in entries.iter().enumerate() {
-        add_tile(alloc, disk, name, column, *entry, tiles)?;
+        add_tile(alloc, disk, size, name, column, *entry, tiles)?;
     }
     Ok(())
 }

@@ -1,6 +1,6 @@
 -- Each device call of a commit, done or failed.
 use Rattle.std.proofs.Common.{◌≡◌, inl, inr, arith, ℕ, ◌+◌, ◌<◌, ◌≤◌, List, ◌∷◌, length, drop, get_or, Result, Ok, Err, sym, ◌∙◌, ap, subst}
-use Rattle.std.proofs.lemmas.List.{at_drop_more, at_drop_all}
+use Rattle.std.proofs.lemmas.List.{at_drop_more, at_drop_all, drop-set-lt}
 use Rattle.disk_model.specs.declared.disk.Disk.{Ghosts}
 use Rattle.disk_model.specs.Disk.{Holds, Torn, OneStepOn, Fewer, Only, Elapses}
 use Rattle.disk_model.specs.Moments.{Leaves, LeavesOnly}
@@ -8,7 +8,7 @@ use Rattle.disk_model.proofs.Runs.{started, goes_on}
 use Rattle.commit_plan.specs.declared.write.Write.{Write}
 use Rattle.store_terms.specs.Roots.{sequence_max}
 use Rattle.store_terms.specs.StandsFor.{gate, gate_at}
-use Rattle.std.specs.Prelude.{IsErr, OnOk}
+use Rattle.std.specs.Prelude.{slice_set, IsErr, OnOk}
 use Rattle.commit_plan.specs.declared.fault.StoreFault.{StoreFault}
 use Rattle.root_store.specs.declared.phase.Progress.{Progress}
 use Rattle.root_store.specs.declared.phase.Phase.TheVariants.{Failed}
@@ -23,6 +23,10 @@ use Rattle.commit_plan.proofs.Kept.{rest_kept, ready_kept}
 pub calm_rest : (x : Kept) (file : List ℕ) → x.root.sequence < sequence_max → Calm x file → Rest x file
 calm_rest x file below (inl rest) = rest
 calm_rest x file below (inr last) = absurd (omega (arith, below, last.1))
+
+-- behind a write that is changed the plan is as it was
+pub behind_set : (plan : List Write) (i : ℕ) (w : Write) → drop (i + 1) (slice_set plan i w) ≡ drop (i + 1) plan
+behind_set plan i w = drop-set-lt (i + 1) plan i w (omega arith)
 
 module _ {D : Type 0} (g : Ghosts D) where
   pub leaves_torn : (old new : D) (P : List ℕ → Type 0) (at n : ℕ) → Leaves g old P

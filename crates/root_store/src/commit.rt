@@ -1,5 +1,5 @@
 //! A store, and a commit of it, one device call a step.
-ghost use Rattle.std.specs.Prelude.{◌≡◌, ◌↔◌, ℕ, true, IfOk, OnErr, IsErrOf, IfErr};
+ghost use Rattle.std.specs.Prelude.{◌≡◌, ◌↔◌, ℕ, ◌+◌, ◌<◌, true, length, drop, slice_get, vec_capacity, IfSome, IfOk, OnErr, IsErrOf, IfErr};
 ghost use Rattle.disk_model.specs.Disk.{Failed, CountsCall};
 ghost use Rattle.commit_plan.specs.Kept.{Kept};
 ghost use Rattle.root_store.specs.Running.{Runs, KeepsTo, Stepped, FailsByDevice, Counts, Turns, KeepsRoots, calls_left, is_busy, fault_in};
@@ -28,10 +28,24 @@ pub struct Commit<D: Disk> {
     /// What the file stands for after the commit.
     pub(crate) next_root: Root,
     pub(crate) next_live: LiveRecords,
-    /// The writes of the commit: records, catalog, body. None is kept behind Done.
+    /// The writes of the commit: records, catalog, body. Those that are made have no bytes; none is kept behind Done.
     pub(crate) plan: Vec<Write>,
     /// How many of them are made.
     pub(crate) next: usize,
+}
+
+/// Lets go of the bytes of a write that is made.
+#[tactic(auto, using(crate::proofs::Steps::behind_set))]
+fn let_go(plan: &mut Vec<Write>, made: usize)
+    requires { made < length plan.old.items }
+    ensures gone { IfSome (slice_get plan.new.items made) (λ write. vec_capacity write.bytes ≡ 0) }
+    // The writes behind it are as they were.
+    ensures rest { drop (made + 1) plan.new.items ≡ drop (made + 1) plan.old.items }
+    ensures many { length plan.new.items ≡ length plan.old.items }
+{
+    let write = &mut plan[made];
+    write.bytes.clear();
+    write.bytes.shrink_to_fit();
 }
 
 impl<D: Disk> Commit<D> {
@@ -101,6 +115,7 @@ impl<D: Disk> Commit<D> {
                 if self.next < self.plan.len() {
                     let write = &self.plan[self.next];
                     self.disk.write_at(write.at, &write.bytes)?;
+                    let_go(&mut self.plan, self.next);
                     self.next += 1;
                     self.phase = Phase::Put;
                 } else {

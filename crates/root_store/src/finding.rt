@@ -20,6 +20,9 @@ pub const GATE_OPEN: u8 = 0xA7;
 /// The greatest number of a commit, and of a version.
 pub const NUMBER_MAX: u64 = VERSION_MAX;
 
+/// How many bytes the two slots have.
+const SLOTS: usize = 2 * BLOCK;
+
 /// What stands in a slot: its gate, and its body whatever the gate.
 #[derive(Clone, Copy)]
 pub(crate) struct RootSlot {
@@ -111,22 +114,24 @@ fn read_slot<D: Disk>(disk: &mut D, number: usize) -> Result<RootSlot, LoadFault
     })
 }
 
-/// The root of the file, and whether one of its gates is shut.
-pub fn find_root<D: Disk>(disk: &mut D) -> Result<(Root, bool), LoadFault>
+/// The root of the file, whether one of its gates is shut, and how many bytes the file has.
+pub fn find_root<D: Disk>(disk: &mut D) -> Result<(Root, bool, usize), LoadFault>
     ensures honest { D.is_honest disk.new ↔ D.is_honest disk.old }
     ensures looks { D.is_honest disk.old → Looks D.Disk disk.old disk.new }
     ensures gives { D.is_honest disk.old → Gives (λ x. x.0) result (root_of (D.seen disk.old)) }
     ensures numbered { IfOk result (λ x. x.0.version ≤ version_max) }
     ensures small { D.is_honest disk.old → IfOk result (λ x. length (D.seen disk.old) < 2 ^ 64) }
     ensures alone { D.is_honest disk.old → IfOk result (λ x. x.1 ≡ has_shut_gate (D.seen disk.old)) }
+    ensures size { D.is_honest disk.old → IfOk result (λ x. x.2 ≡ length (D.seen disk.old)) }
     ensures memory { IfErr result (λ e. e ≢ LoadFault.OutOfMemory) }
     ensures cause { D.is_honest disk.old → Causes result (D.faults disk.old) (D.faults disk.new) }
 {
-    if disk.length()? < 2 * BLOCK {
+    let size = disk.length()?;
+    if size < SLOTS {
         return Err(LoadFault::Damaged(Damage::NotAStore));
     }
     let first = read_slot(disk, 0)?;
     let second = read_slot(disk, 1)?;
     let root = root_in(&first, &second)?;
-    Ok((root, !(first.is_open() && second.is_open())))
+    Ok((root, !(first.is_open() && second.is_open()), size))
 }

@@ -65,8 +65,8 @@ fn read_store<D: Disk>(
     ensures cause { D.is_honest disk.old → Causes result (D.faults disk.old) (D.faults disk.new) }
 {
     settle(disk)?;
-    let (root, is_alone) = find_root(disk)?;
-    let loaded = read_root(alloc, disk, root, max_blocks)?;
+    let (root, is_alone, size) = find_root(disk)?;
+    let loaded = read_root(alloc, disk, size, root, max_blocks)?;
     Ok((loaded, is_alone))
 }
 

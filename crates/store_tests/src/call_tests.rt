@@ -108,6 +108,14 @@ fn readers(calls: &[Call], byte: usize) -> usize {
         .count()
 }
 
+/// How many calls ask the file's length.
+fn askers(calls: &[Call]) -> usize {
+    calls
+        .iter()
+        .filter(|call| matches!(call, Call::Length))
+        .count()
+}
+
 /// The ends of the catalog, of the three records and of the tile.
 const ENDS: &[usize] = &[
     24576, 24651, 12288, 12331, 16384, 16427, 20480, 20484, 28672, 28711,
@@ -119,6 +127,7 @@ fn opening_with_open_gates_reads_each_byte_once_and_writes_none(rt: HostRuntime)
     let (disk, found) = opened(&rt, rt.alloc(), &file);
     assert!(rt; found == Ok((3, 3, 1)));
     assert!(rt; only_reads(disk.calls()));
+    assert!(rt; askers(disk.calls()) == 1);
     for byte in 0..file.len() {
         assert!(rt; readers(disk.calls(), byte) <= 1, "byte {byte}");
     }

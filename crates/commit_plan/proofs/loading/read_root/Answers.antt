@@ -12,7 +12,7 @@ use Rattle.commit_plan.specs.Staying.{Standing}
 use Rattle.commit_plan.specs.Loading.{held_in}
 use Rattle.root_reading.specs.Taking.{IsMapOf}
 use Rattle.root_reading.specs.Taking.{AllNear}
-use Rattle.root_reading.proofs.Looked.{gives_err, causes_still, looks_on}
+use Rattle.root_reading.proofs.Looked.{gives_err, causes_still, looks_on, size_stays}
 use Rattle.root_reading.proofs.NearLemmas.{near_catalog, near_layers}
 use Rattle.commit_plan.proofs.HeldLemmas.{held_steps}
 use Rattle.commit_plan.proofs.loading.read_root.Goals as goal
@@ -123,3 +123,8 @@ returns-clause-stands g c =
       layers = (stands i).layers;
       tiles = (stands i).tiles;
     }
+
+pub content_of-requires : goal.content_of-requires
+content_of-requires g c =
+    size_stays g.D.Disk c.args.disk.now c.listing_at.new.disk c.args.size c.listing_at.ensures.honest c.listing_at.ensures.looks
+    c.requires

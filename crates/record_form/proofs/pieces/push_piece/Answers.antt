@@ -24,7 +24,7 @@ returns-in_ok-push-in-Some-clause-ok c =
     let made = made_piece s.0 f.0 t.0 c.new.result there.0 there.1 c.new.ensures.between c.new.ensures.value in (
       c.in-Some.piece,
       read_parts c.args.bytes.now s.1.now f.1.now t.1.now s.0 f.0 t.0 c.in-Ok.ensures c.in-Ok-point_name_at.ensures c.in-Ok-point_name_at-2.ensures
-      ∙ keeps (is_piece p) p c.in-Some.piece t.1.now (sym made ∙ c.in-Some.is),
+          ∙ keeps (is_piece p) p c.in-Some.piece t.1.now (sym made ∙ c.in-Some.is),
       c.in_ok-push-in-Some.ensures.items,
     )
 

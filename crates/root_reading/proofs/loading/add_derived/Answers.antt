@@ -2,7 +2,7 @@ use Rattle.std.proofs.Common.{map, subst, sym}
 use Rattle.overlay_terms.specs.Layers.{Name}
 use Rattle.tile_build.specs.StoredTile.{finished_of}
 use Rattle.root_reading.specs.Stored.{AreStoredTo}
-use Rattle.root_reading.proofs.Looked.{looks_on}
+use Rattle.root_reading.proofs.Looked.{looks_on, size_stays}
 use Rattle.root_reading.proofs.loading.add_derived.Goals as goal
 
 pub returns-clause-stored : goal.returns-clause-stored
@@ -21,3 +21,8 @@ pub returns-clause-looks : goal.returns-clause-looks
 returns-clause-looks g c honest =
     let looks1 = c.with_derived.ensures.looks honest in
     looks_on g.D.Disk c.args.disk.now c.with_derived.new.disk c.add_tiles.new.disk looks1 (c.add_tiles.ensures.looks looks1.honest)
+
+pub add_tiles-requires : goal.add_tiles-requires
+add_tiles-requires g c =
+    size_stays g.D.Disk c.args.disk.now c.with_derived.new.disk c.args.size c.with_derived.ensures.honest
+    c.with_derived.ensures.looks c.requires

@@ -4,7 +4,7 @@ use Rattle.tile_build.specs.StoredTile.{finished_of}
 use Rattle.record_bytes.specs.Listing.{listed_of, listing_of}
 use Rattle.store_terms.specs.Image.{layers_of}
 use Rattle.root_reading.proofs.StoredLemmas.{nothing_stored}
-use Rattle.root_reading.proofs.Looked.{looks_none, looks_on, gives_err}
+use Rattle.root_reading.proofs.Looked.{looks_none, looks_on, gives_err, size_stays}
 use Rattle.root_reading.proofs.LoadingLemmas.{layers_go_on, layers_end, no_front}
 use Rattle.root_reading.proofs.loading.content_of.Goals as goal
 
@@ -63,3 +63,8 @@ returns-in_err-add_layer-clause-gives g c honest =
 
 pub returns-clause-stored : goal.returns-clause-stored
 returns-clause-stored g c = c.loop-entry.invariant.stored
+
+pub add_layer-requires : goal.add_layer-requires
+add_layer-requires g c =
+    let was = c.loop-entry.invariant in
+    size_stays g.D.Disk c.args.disk.now c.loop-entry.disk c.args.size was.honest was.looks c.requires

@@ -5,7 +5,7 @@ use Rattle.store_terms.specs.Image.{tiles_of}
 use Rattle.root_reading.specs.declared.load_fault.LoadFault.{LoadFault}
 use Rattle.root_reading.specs.Looking.{Refuses}
 use Rattle.root_reading.specs.Loading.{then_tiles}
-use Rattle.root_reading.proofs.Looked.{looks_none, looks_on, if_err}
+use Rattle.root_reading.proofs.Looked.{looks_none, looks_on, if_err, size_stays}
 use Rattle.root_reading.proofs.LoadingLemmas.{tiles_go_on, tiles_end}
 use Rattle.root_reading.proofs.tiles.add_tiles.Goals as goal
 
@@ -57,3 +57,8 @@ returns-in_err-add_tile-clause-refuses g c honest =
 
 pub returns-clause-stored : goal.returns-clause-stored
 returns-clause-stored g c layers to = (c.loop-column.invariant.stored layers to).stored
+
+pub add_tile-requires : goal.add_tile-requires
+add_tile-requires g c =
+    let was = c.loop-column.invariant in
+    size_stays g.D.Disk c.args.disk.now c.loop-column.disk c.args.size was.honest was.looks c.requires

@@ -3,13 +3,13 @@ use Rattle.root_store.proofs.FindingLemmas.{short_root}
 use Rattle.root_reading.proofs.Looked.{looked, looks_on}
 use Rattle.root_store.proofs.finding.find_root.Goals as goal
 
-pub returns-then-branch-clause-gives : goal.returns-then-branch-clause-gives
-returns-then-branch-clause-gives g c honest =
-    let size = c.in_ok-length.ensures.length honest in
+pub returns-then-size-lt-SLOTS-clause-gives : goal.returns-then-size-lt-SLOTS-clause-gives
+returns-then-size-lt-SLOTS-clause-gives g c honest =
+    let size = c.in_ok-size.ensures.length honest in
     short_root (g.D.Disk.seen c.args.disk.now) (omega (arith, size))
 
-pub returns-then-branch-clause-looks : goal.returns-then-branch-clause-looks
-returns-then-branch-clause-looks g c honest =
+pub returns-then-size-lt-SLOTS-clause-looks : goal.returns-then-size-lt-SLOTS-clause-looks
+returns-then-size-lt-SLOTS-clause-looks g c honest =
     let k = g.D.Disk in
     let old = c.args.disk.now in
     let looks1 = looked k old c.length.new.self honest (λ f left. g.met.D.Disk.only_now old f honest left)

@@ -6,7 +6,7 @@ use Rattle.root_reading.specs.Looking.{Refuses}
 use Rattle.root_reading.specs.declared.load_fault.LoadFault.{LoadFault}
 use Rattle.root_reading.specs.declared.load_fault.LoadFault.TheVariants.{Device, OutOfMemory}
 use Rattle.root_store.specs.Opening.{HasRoot, Stops}
-use Rattle.root_reading.proofs.Looked.{gives_err, refuses_bound, refuses_device, looks_on, if_err}
+use Rattle.root_reading.proofs.Looked.{gives_err, refuses_bound, refuses_device, looks_on, if_err, size_stays}
 use Rattle.commit_plan.specs.Loading.{held_in, kept_in}
 use Rattle.root_store.proofs.OpeningLemmas.{reading_root, phases_read}
 use Rattle.root_store.proofs.opening.read_store.Goals as goal
@@ -199,3 +199,8 @@ returns-clause-phases g c honest =
     let looks2 = c.find_root.ensures.looks looks1.honest in
     phases_read k c.args.disk.now mid c.read_root.new.disk looks1 (c.in_ok-settle.ensures.only honest)
     (looks_on k mid c.find_root.new.disk c.read_root.new.disk looks2 (c.read_root.ensures.looks looks2.honest))
+
+pub read_root-requires : goal.read_root-requires
+read_root-requires g c =
+    size_stays g.D.Disk c.settle.new.disk c.find_root.new.disk c.in_ok-root.size c.find_root.ensures.honest
+    c.find_root.ensures.looks c.in_ok-root.ensures.size

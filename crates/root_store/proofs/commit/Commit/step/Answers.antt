@@ -9,7 +9,8 @@ use Rattle.commit_plan.specs.declared.live_records.LiveRecords.{LiveRecords}
 use Rattle.commit_plan.specs.declared.room.Room.{Room}
 use Rattle.commit_plan.specs.Live.{standing}
 use Rattle.extent_map.specs.Taken.{taken_of, limit_of}
-use Rattle.commit_plan.specs.Planning.{Leads}
+use Rattle.commit_plan.specs.Planning.{Leads, Spare}
+use Rattle.commit_plan.specs.declared.write.Write.{Write}
 use Rattle.store_terms.specs.declared.root.Root.{Root}
 use Rattle.commit_plan.proofs.Kept.{gate_written}
 use Rattle.commit_plan.proofs.Reading.{opened_rest}
@@ -216,6 +217,9 @@ returns-in_ok-write_at-in-Put-clause-moves g c x y runs =
     subst (Holds (k.seen new) v.at) same (c.in_ok-write_at-in-Put.ensures.written runs.honest) in
     let leads = next_leads k x y (Ready x y) s.plan.items s.next v (k.seen s.disk) (k.seen new) (search rules)
     (search rules) b.1 others held in
+    -- the plan behind the write is as it was
+    let led_on = subst (λ (ws : List Write). Leads (Ready x y) ws (k.seen new)) (sym c.let_go.ensures.rest) leads in
+    let spared_on = subst (λ (ws : List Write). Spare (Shut x) ws) (sym c.let_go.ensures.rest) spares.1 in
     let early = shut_either k x y s.disk b.0 in
     let late = shut_either k x y new shut in
     record {
@@ -227,7 +231,7 @@ returns-in_ok-write_at-in-Put-clause-moves g c x y runs =
             next_root = runs.next_root;
             next_holds = runs.next_holds;
             next_room = runs.next_room;
-            before = (shut, leads, spares.1);
+            before = (shut, led_on, spared_on);
           };
       err = tt;
     }
@@ -336,5 +340,5 @@ returns-in_ok-sync-in-Finish-clause-moves g c x y runs =
 pub returns-in_ok-sync-in-Finish-clause-blocks : goal.returns-in_ok-sync-in-Finish-clause-blocks
 returns-in_ok-sync-in-Finish-clause-blocks g c limit keeps = (
   ap (λ (r : LiveRecords). limit_of r.room.map) c.swap.ensures.x_after ∙ keeps.1,
-  ap (λ (r : Room). limit_of r.map) c.let_go.ensures.room ∙ ap (λ (r : LiveRecords). limit_of r.room.map) c.swap.ensures.y_after ∙ keeps.0,
+  ap (λ (r : Room). limit_of r.map) c.let_go-in-Finish.ensures.room ∙ ap (λ (r : LiveRecords). limit_of r.room.map) c.swap.ensures.y_after ∙ keeps.0,
 )
