@@ -10,6 +10,7 @@ use Rattle.root_reading.specs.Looking.{Refuses}
 use Rattle.commit_plan.specs.declared.fault.StoreFault.TheVariants.{Full, OutOfMemory}
 use Rattle.commit_plan.specs.Fault.{fault_told}
 use Rattle.extent_map.specs.declared.extent.Extent as runs
+use Rattle.extent_map.specs.FirstFit.{IsPlanned}
 use Rattle.extent_map.specs.Taken.{taken_of}
 use Rattle.store_terms.specs.declared.root.RecordExtent.{RecordExtent}
 use Rattle.store_terms.specs.declared.root.Root.{Root}
@@ -104,10 +105,10 @@ module _ (x : Kept) (given : List runs.Extent) (limit : ℕ) (layers : List File
   }
 
 -- the writes of a draft with its catalog, and the body behind them
-pub laid_out : (live : Standing) (given : List runs.Extent) (limit : ℕ) (layers : List FiledLayer) (held : Held) (listing : List Listed) (catalog : Filed) (b : Write) (body : ℕ) (d : Draft) (root : Root)
-    (plan : List Write) → IsDraft given limit (flat_map filed_of layers ++ catalog ∷ []) d → Spell live layers listing held → catalog_of_record catalog.bytes ≡ Some listing
-    → root.catalog ≡ catalog.extent → b.at ≡ body → b.bytes.items ≡ body_text root → plan ≡ d.writes.items ++ b ∷ [] → IsLaidOut live given limit held body root plan
-laid_out live given limit layers held listing catalog b body d root plan draft spell read named there spelled order = record {
+pub laid_out : (live : Standing) (given : List runs.Extent) (limit : ℕ) (layers : List FiledLayer) (held : Held) (sizes : List ℕ) (listing : List Listed) (catalog : Filed) (b : Write) (body : ℕ) (d : Draft) (root : Root)
+    (plan : List Write) → IsPlanned given limit sizes d.runs.items → IsDraft given limit (flat_map filed_of layers ++ catalog ∷ []) d → Spell live layers listing held → catalog_of_record catalog.bytes ≡ Some listing
+    → root.catalog ≡ catalog.extent → b.at ≡ body → b.bytes.items ≡ body_text root → plan ≡ d.writes.items ++ b ∷ [] → IsLaidOut live given limit held sizes body root plan
+laid_out live given limit layers held sizes listing catalog b body d root plan sized draft spell read named there spelled order = record {
   layers = layers;
   catalog = catalog;
   places = d.runs.items;
@@ -117,6 +118,7 @@ laid_out live given limit layers held listing catalog b body d root plan draft s
   lists = read ∙ ap Some (sym spell.listed);
   names = named;
   planned = draft.placed.planned;
+  sized = sized;
   runs = draft.runs;
   writes = draft.writes;
   order = order;

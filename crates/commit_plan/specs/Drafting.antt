@@ -50,9 +50,9 @@ pub record Spell (live : Standing) (layers : List FiledLayer) (listing : List Li
   pub small : x.number ≤ version_max
   pub listed : map listed_of layers ≡ listing
 
--- how the writes of a commit lie: first each new record, layer by layer, in the lowest run that is free, in whole blocks of which the rest is zero; behind them the catalog that lists them, likewise; and last the body of the root, where it is to be put
-pub record IsLaidOut (live : Standing) (given : List runs.Extent) (limit : ℕ) (held : Held) (body : ℕ) (root : Root)
-    (plan : List Write) : Type 0 where
+-- how the writes of a commit lie, whose records are to have these sizes: first each new record, layer by layer, in the lowest run that is free, in whole blocks of which the rest is zero; behind them the catalog that lists them, likewise; and last the body of the root, where it is to be put
+pub record IsLaidOut (live : Standing) (given : List runs.Extent) (limit : ℕ) (held : Held) (sizes : List ℕ) (body : ℕ)
+    (root : Root) (plan : List Write) : Type 0 where
   pub layers : List FiledLayer
   pub catalog : Filed
   pub places : List runs.Extent
@@ -62,6 +62,7 @@ pub record IsLaidOut (live : Standing) (given : List runs.Extent) (limit : ℕ) 
   pub lists : catalog_of_record catalog.bytes ≡ Some (map listed_of layers)
   pub names : root.catalog ≡ catalog.extent
   pub planned : IsPlanned given limit (lengths_of (flat_map filed_of layers ++ catalog ∷ [])) places
+  pub sized : IsPlanned given limit sizes places
   pub runs : AreRunsOf (extents_of_filed (flat_map filed_of layers ++ catalog ∷ [])) places
   pub writes : AreWritesOf (flat_map filed_of layers ++ catalog ∷ []) records
   pub order : plan ≡ records ++ last ∷ []

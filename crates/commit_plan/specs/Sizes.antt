@@ -1,5 +1,5 @@
 -- How many bytes the records of a commit have, in the order in which they are written.
-use Rattle.std.specs.Prelude.{◌≡◌, ℕ, ◌+◌, ◌*◌, List, [], ◌∷◌, ◌++◌, length, map, filter, flat_map, sum_by, bytes_eq, Option, Some, None, if◌then◌else◌}
+use Rattle.std.specs.Prelude.{ℕ, ◌+◌, ◌*◌, List, [], ◌∷◌, ◌++◌, length, filter, flat_map, sum_by, bytes_eq, Option, Some, None, if◌then◌else◌}
 use Rattle.overlay_terms.specs.Column.{column_count}
 use Rattle.overlay_terms.specs.Layers.{Content, base, derived, Layer}
 use Rattle.overlay_terms.specs.Commands.{is_derived}
@@ -10,6 +10,7 @@ use Rattle.store_terms.specs.TileRecord.{named_tile}
 use Rattle.store_terms.specs.declared.root.RecordExtent.{RecordExtent}
 use Rattle.store_terms.specs.Image.{Held}
 use Rattle.tile_build.specs.StoredTile.{finished_of}
+use Rattle.record_bytes.specs.declared.image.Image.{Image}
 use Rattle.record_bytes.specs.Tiles.{named_by}
 use Rattle.commit_plan.specs.Staying.{Standing, layer_stays, tile_stays}
 
@@ -52,11 +53,9 @@ abbrev pub record_sizes : Standing → List Layer → List StoredTile → List �
 record_sizes live layers tiles =
     flat_map (sizes_of_layer live tiles) layers ++ catalog_size layers (length tiles) ∷ []
 
--- the sizes of the new records of what is held; which names the ends of its tiles' pieces have is open
-pub record AreSizesOf (live : Standing) (x : Held) (sizes : List ℕ) : Type 0 where
-  pub tiles : List StoredTile
-  pub named : map finished_of tiles ≡ x.tiles
-  pub are : sizes ≡ record_sizes live x.layers tiles
+-- those of the new records of an image, by the names that its own tiles have
+abbrev pub sizes_of : Standing → Image → List ℕ
+sizes_of live image = record_sizes live image.layers image.tiles.items
 
 -- how many records of what is held are new, beside the catalog
 abbrev pub new_count : Option RecordExtent → ℕ

@@ -4,6 +4,7 @@ ghost use Rattle.overlay_terms.specs.Column.{column_count};
 ghost use Rattle.extent_map.specs.declared.extent.Extent as runs;
 ghost use Rattle.extent_map.specs.FirstFit.{IsFull};
 ghost use Rattle.extent_map.specs.Taken.{limit_of};
+ghost use Rattle.record_bytes.specs.ImageHeld.{image_held};
 ghost use Rattle.record_bytes.specs.Listing.{listing_of, IsListable};
 ghost use Rattle.store_terms.specs.Catalog.{catalog};
 ghost use Rattle.store_terms.specs.Places.{extents_listed};
@@ -43,10 +44,15 @@ pub(crate) fn completed(
     ensures ok { (x : Kept) (given : List runs.Extent) (limit : ℕ) (layers : List FiledLayer)
         → x.root ≡ root → body ≡ body_at (other root) → IsMapOf (extents_in x) given
         → AreHeldApart (extents_listed x.listing) given → IsDraft given limit (flat_map filed_of layers) draft
-        → Spell (standing_of x) layers (listing_of listing.items) image → IfOk result (λ next. IsNext x image next) }
-    ensures laid { (live : Standing) (given : List runs.Extent) (limit : ℕ) (layers : List FiledLayer)
-        → IsDraft given limit (flat_map filed_of layers) draft → Spell live layers (listing_of listing.items) image
-        → IfOk result (λ next. IsLaidOut live given limit image body next.root next.plan.items) }
+        → Spell (standing_of x) layers (listing_of listing.items) (image_held image)
+        → IfOk result (λ next. IsNext x (image_held image) next) }
+    ensures laid { (live : Standing) (given : List runs.Extent) (limit : ℕ) (layers : List FiledLayer) (sizes : List ℕ)
+        → IsDraft given limit (flat_map filed_of layers) draft
+        → Spell live layers (listing_of listing.items) (image_held image) → ArePlaced given limit sizes draft
+        → IfOk result
+        (λ next. IsLaidOut live given limit (image_held image)
+        (sizes ++ length ((catalog column_count).text (listing_of listing.items)) ∷ []) body next.root
+        next.plan.items) }
     ensures calls { IfOk result (λ next. length next.plan.items ≡ length draft.writes.items + 2) }
     ensures number { IfOk result (λ next. next.root.version ≡ image.number) }
     ensures placed { (given : List runs.Extent) (limit : ℕ) (sizes : List ℕ) → ArePlaced given limit sizes draft
@@ -60,7 +66,7 @@ pub(crate) fn completed(
         → IsFull given limit (sizes ++ length ((catalog column_count).text (listing_of listing.items)) ∷ []) }
     ensures err { (live : Standing) (given : List runs.Extent) (limit : ℕ) (layers : List FiledLayer)
         → AreHeldApart (extents_listed live.listing) given → IsDraft given limit (flat_map filed_of layers) draft
-        → Spell live layers (listing_of listing.items) image
+        → Spell live layers (listing_of listing.items) (image_held image)
         → IfErr result (λ fault. (fault ≡ StoreFault.Full) ⊎ (fault ≡ StoreFault.OutOfMemory)) }
 {
     let bytes = write_catalog(alloc, &listing)?;

@@ -3,6 +3,8 @@ use Rattle.std.specs.Prelude.{◌≡◌, ℕ, ◌+◌, Result, Ok, Err}
 use Rattle.overlay_terms.specs.Layers.{Name}
 use Rattle.overlay_terms.specs.Histories.{Version, tile_at}
 use Rattle.store_terms.specs.Image.{Held}
+use Rattle.record_bytes.specs.declared.image.Image.{Image}
+use Rattle.record_bytes.specs.ImageHeld.{image_held}
 use Rattle.commit_plan.specs.declared.fault.StoreFault.{StoreFault}
 use Rattle.root_store.specs.declared.commit.Commit.{Commit}
 use Rattle.commit_plan.specs.Live.{standing}
@@ -31,13 +33,19 @@ pub record IsCommitOf (version : Version) (y : Kept) : Type 0 where
   pub root : y.root.version ≡ version.number
   pub image : IsImageOf version y.held
 
+-- this is true of an image of what is held; which names the ends of its tiles' pieces have is open
+pub record IsOfSome (x : Held) (P : Image → Type 0) : Type 0 where
+  pub image : Image
+  pub holds : image_held image ≡ x
+  pub is : P image
+
 -- a store has room for the new records of a version among the blocks that are free
 abbrev pub HasRoomFor : {D : Type 0} → Commit D → Version → Type 0
-HasRoomFor commit version = HasRoom commit.live (version_held version)
+HasRoomFor commit version = IsOfSome (version_held version) (HasRoom commit.live)
 
 -- it has none for some record
 abbrev pub HasNoRoomFor : {D : Type 0} → Commit D → Version → Type 0
-HasNoRoomFor commit version = HasNoRoom commit.live (version_held version)
+HasNoRoomFor commit version = IsOfSome (version_held version) (HasNoRoom commit.live)
 
 -- the device calls of the commit of a version: one for each record that the store does not hold already, one for the
 -- catalog, and six more

@@ -3,6 +3,7 @@ ghost use Rattle.std.specs.Prelude.{◌≡◌, ◌++◌, map, IfOk, OnOk};
 ghost use Rattle.overlay_terms.specs.Column.{columns};
 ghost use Rattle.tile_build.specs.StoredTile.{finished_of};
 ghost use Rattle.overlay_terms.specs.Histories.{tile_at};
+ghost use Rattle.record_bytes.specs.ImageHeld.{image_held};
 ghost use Rattle.flush_core.specs.Imaging.{named_tile, tiles_in, tiles_in_order, version_held};
 ghost use Rattle.flush_core.specs.Stored.{IsImageOf};
 
@@ -15,9 +16,9 @@ use version_core::version::Version;
 
 /// What a commit of a version writes: its number, its layers and all its finished tiles. It shares all of them.
 pub fn image_of(alloc: Global, version: &Version) -> Result<Image, AllocError>
-    ensures value { IfOk result (λ image. image ≡ version_held version.now) }
+    ensures value { IfOk result (λ image. image_held image ≡ version_held version.now) }
     // It answers for each tile as the version does.
-    ensures tiles { IfOk result (λ image. IsImageOf version.now image) }
+    ensures tiles { IfOk result (λ image. IsImageOf version.now (image_held image)) }
 {
     let tiles = tiles_in_order(alloc, version)?;
     let layers = version.layers().try_copy(alloc)?;

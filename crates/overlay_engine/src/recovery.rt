@@ -4,6 +4,7 @@ ghost use Rattle.disk_model.specs.Moments.{Leaves};
 ghost use Rattle.overlay_terms.specs.Batches.{Batch};
 ghost use Rattle.store_terms.specs.Image.{Held};
 ghost use Rattle.store_terms.specs.StandsFor.{reading};
+ghost use Rattle.record_bytes.specs.ImageHeld.{image_held};
 ghost use Rattle.store_terms.specs.declared.damage.Damage.{Damage};
 ghost use Rattle.root_store.specs.Opening.{Tells, FailedBy, Untouched, Writes, HasRoot};
 ghost use Rattle.root_store.specs.Running.{KeepsTo};
@@ -86,7 +87,7 @@ impl<D: Disk> Engine<D> {
 
 /// The version of an image, all of it durable.
 fn restored(alloc: Global, image: Image) -> Result<Version, VersionFault>
-    ensures { IfOk result (λ version. version ≡ version_of image) }
+    ensures { IfOk result (λ version. version ≡ version_of (image_held image)) }
 {
     let (number, layers, tiles) = image.into_shared();
     Version::restore_shared(alloc, number, layers, tiles)

@@ -2,14 +2,13 @@
 ghost use Rattle.std.specs.Prelude.{◌≡◌, ◌≤◌, IfOk, map};
 ghost use Rattle.overlay_terms.specs.Commands.{version_max};
 ghost use Rattle.overlay_terms.specs.StoredTiles.{AreStored};
-ghost use Rattle.record_bytes.specs.Image.{held, shared_held, IsImage};
+ghost use Rattle.record_bytes.specs.Image.{held, shared_held};
 ghost use Rattle.tile_build.specs.StoredTile.{finished_of};
 ghost use Rattle.tile_build.specs.Tile.{finished_of as finished_named};
 
 use layer_book::layers::Layers;
 use layer_expr::name::Name;
 use std::alloc::{AllocError, Global};
-use std::marker::Model;
 use tile_build::stored_tile::{StoredTile, shared, unshared};
 use tile_build::tile::Tile;
 
@@ -20,22 +19,13 @@ pub struct Image {
     number: u64,
     layers: Layers,
     tiles: Vec<StoredTile>,
-}
-
-impl Model for Image {
-    ghost use Rattle.store_terms.specs.Image.{Held};
-    ghost use Rattle.record_bytes.specs.Image.{shared_held, held_code, IsImage};
-
-    ghost Value = { Held };
-
-    ghost coded = { held_code };
-
-    ghost view = { λ i. shared_held i.number i.layers i.tiles.items };
-
-    ghost invariant = { λ i. IsImage (shared_held i.number i.layers i.tiles.items) };
+    ghost small: { number ≤ version_max },
+    ghost stored: { AreStored layers (map finished_of tiles.items) },
 }
 
 impl Image {
+    ghost use Rattle.record_bytes.specs.ImageHeld.{image_held};
+
     /// The image of a number, at most 2^62, of layers and of finished tiles. The tiles may be wrong,
     /// but have their form and their order.
     pub fn new(
@@ -46,7 +36,7 @@ impl Image {
     ) -> Result<Image, AllocError>
         requires small { number ≤ version_max }
         requires stored { AreStored layers (map finished_named tiles.items) }
-        ensures { IfOk result (λ image. image ≡ held number layers tiles.items) }
+        ensures { IfOk result (λ image. image_held image ≡ held number layers tiles.items) }
     {
         let tiles = shared(alloc, tiles)?;
         Ok(Image::of_shared(number, layers, tiles))
@@ -56,7 +46,9 @@ impl Image {
     pub fn of_shared(number: u64, layers: Layers, tiles: Vec<StoredTile>) -> Image
         requires small { number ≤ version_max }
         requires stored { AreStored layers (map finished_of tiles.items) }
-        ensures { result ≡ shared_held number layers tiles.items }
+        ensures held { image_held result ≡ shared_held number layers tiles.items }
+        // It has the very tiles, with the names of their pieces' ends.
+        ensures tiles { result.tiles ≡ tiles }
     {
         Image {
             number,
@@ -67,8 +59,7 @@ impl Image {
 
     /// The number of the version.
     pub fn number(&self) -> u64
-        ensures value { result ≡ self.now.number }
-        ensures valid { IsImage self.now }
+        ensures { result ≡ self.now.number }
     {
         self.number
     }
@@ -81,7 +72,7 @@ impl Image {
 
     /// The finished tiles, by layer and column.
     pub fn tiles(&self) -> &[StoredTile]
-        ensures { map finished_of result.now ≡ self.now.tiles }
+        ensures { result.now ≡ self.now.tiles.items }
     {
         &self.tiles
     }
@@ -91,8 +82,7 @@ impl Image {
         self,
         alloc: Global,
     ) -> Result<(u64, Layers, Vec<(Name, u8, Tile)>), AllocError>
-        ensures value { IfOk result (λ parts. held parts.0 parts.1 parts.2.items ≡ self) }
-        ensures valid { IsImage self }
+        ensures { IfOk result (λ parts. held parts.0 parts.1 parts.2.items ≡ image_held self) }
     {
         let tiles = unshared(alloc, self.tiles)?;
         Ok((self.number, self.layers, tiles))
@@ -100,8 +90,7 @@ impl Image {
 
     /// The same with tiles that others may share. It takes no memory.
     pub fn into_shared(self) -> (u64, Layers, Vec<StoredTile>)
-        ensures value { shared_held result.0 result.1 result.2.items ≡ self }
-        ensures valid { IsImage self }
+        ensures { result ≡ (self.number, self.layers, self.tiles) }
     {
         (self.number, self.layers, self.tiles)
     }

@@ -1,9 +1,11 @@
 -- Why a commit is not begun.
 use Rattle.std.specs.Prelude.{◌≡◌, ◌≢◌, ◌≤◌}
 use Rattle.extent_map.specs.Taken.{taken_of}
-use Rattle.store_terms.specs.Image.{Held}
 use Rattle.store_terms.specs.StandsFor.{body_at}
+use Rattle.record_bytes.specs.declared.image.Image.{Image}
+use Rattle.record_bytes.specs.ImageHeld.{image_held}
 use Rattle.commit_plan.specs.Drafting.{IsLaidOut}
+use Rattle.commit_plan.specs.Sizes.{sizes_of}
 use Rattle.commit_plan.specs.Kept.{other}
 use Rattle.commit_plan.specs.Live.{standing}
 use Rattle.root_store.specs.declared.commit.Commit.{Commit}
@@ -30,8 +32,8 @@ IsReason phase root no_room Full = no_room
 IsReason phase root no_room OutOfMemory = Unit {0}
 IsReason phase root no_room fault = IsRefusal phase root fault
 
--- the writes of a commit of what is held: the new records, the catalog and the body of the other slot; each but the body in the lowest run that is free of what the live root takes and of the runs before it
-abbrev pub IsLaid : {D : Type 0} → Commit D → Held → Commit D → Type 0
-IsLaid old held new =
-    IsLaidOut (standing old.live) (taken_of old.live.room.map) old.live.room.max_blocks held (body_at (other old.root))
-    new.next_root new.plan.items
+-- the writes of a commit of an image: the new records, as long as its own tiles and layers make them, the catalog and the body of the other slot; each but the body in the lowest run that is free of what the live root takes and of the runs before it
+abbrev pub IsLaid : {D : Type 0} → Commit D → Image → Commit D → Type 0
+IsLaid old image new =
+    IsLaidOut (standing old.live) (taken_of old.live.room.map) old.live.room.max_blocks (image_held image)
+    (sizes_of (standing old.live) image) (body_at (other old.root)) new.next_root new.plan.items

@@ -3,6 +3,7 @@ ghost use Rattle.std.specs.Prelude.{◌≡◌, ◌≢◌, ◌+◌, ◌<◌, ◌�
 ghost use Rattle.extent_map.specs.Taken.{limit_of};
 ghost use Rattle.store_terms.specs.Image.{Held};
 ghost use Rattle.store_terms.specs.Roots.{sequence_max};
+ghost use Rattle.record_bytes.specs.ImageHeld.{image_held};
 ghost use Rattle.commit_plan.specs.Kept.{Kept};
 ghost use Rattle.root_store.specs.Running.{Stands, Runs, KeepsTo, calls_left, is_busy};
 ghost use Rattle.commit_plan.specs.Drafting.{IsNext};
@@ -69,7 +70,7 @@ impl<D: Disk> Commit<D> {
         requires { is_busy self.old.phase ≡ false }
         // From the content that the store stands for to that of the image.
         ensures begun { (x : Kept) → Stands D.Disk self.old x
-            → OnOk result ((y : Kept) × (y.held ≡ image) × Runs D.Disk self.new x y) }
+            → OnOk result ((y : Kept) × (y.held ≡ image_held image) × Runs D.Disk self.new x y) }
         // One begins only where none is under way, the device did not fail, and there is a number for it.
         ensures idle { OnOk result (self.old.phase ≡ Phase.Idle) }
         ensures below { OnOk result (self.old.root.sequence < sequence_max) }
@@ -83,7 +84,7 @@ impl<D: Disk> Commit<D> {
         // blocks, in whole blocks.
         ensures laid { OnOk result (IsLaid self.old image self.new) }
         // One for each new record and the catalog, and six more.
-        ensures calls { OnOk result (calls_left self.new ≡ new_records (standing self.old.live) image + 7) }
+        ensures calls { OnOk result (calls_left self.new ≡ new_records (standing self.old.live) (image_held image) + 7) }
         ensures disk { self.new.disk ≡ self.old.disk }
         // The blocks that the file may have stay as many.
         ensures blocks { (limit : ℕ) → KeepsTo limit self.old → KeepsTo limit self.new }
@@ -91,8 +92,8 @@ impl<D: Disk> Commit<D> {
         ensures failed { self.old.phase ≡ Phase.Failed → result ≡ Err StoreFault.Failed }
         ensures limit { self.old.phase ≡ Phase.Idle → sequence_max ≤ self.old.root.sequence
             → result ≡ Err StoreFault.SequenceLimit }
-        // Where there is room for all new records among the free blocks, by first fit; where there is none, that is the
-        // reason.
+        // Where there is room for all new records of just this image among the free blocks, by first fit; where there is
+        // none, that is the reason.
         ensures room { OnOk result (HasRoom self.old.live image) }
         ensures errors { IfErr result
             (λ fault. IsReason self.old.phase self.old.root (HasNoRoom self.old.live image) fault) }

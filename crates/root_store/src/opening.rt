@@ -7,6 +7,7 @@ ghost use Rattle.overlay_terms.specs.StoredTiles.{AreStored};
 ghost use Rattle.tile_build.specs.StoredTile.{finished_of};
 ghost use Rattle.extent_map.specs.Taken.{limit_of};
 ghost use Rattle.store_terms.specs.StandsFor.{reading};
+ghost use Rattle.record_bytes.specs.ImageHeld.{image_held};
 ghost use Rattle.commit_plan.specs.Kept.{Kept};
 ghost use Rattle.commit_plan.specs.Loading.{held_in, kept_in};
 ghost use Rattle.commit_plan.specs.Staying.{standing_of};
@@ -111,12 +112,12 @@ pub fn open<D: Disk>(
     max_blocks: u32,
 ) -> Result<(Commit<D>, Image), OpenFault<D>>
     ensures gives { D.is_honest disk
-        → MatchResult result (λ x. reading (D.seen disk) ≡ Ok x.1)
+        → MatchResult result (λ x. reading (D.seen disk) ≡ Ok (image_held x.1))
         (λ refused. Tells refused.fault (reading (D.seen disk))) }
     // A crash at any moment of the call leaves what it might have left before, or what stands for the same.
     ensures ok { D.is_honest disk
         → IfOk result
-        (λ x. (k : Kept) × (k.held ≡ x.1) × Stands D.Disk x.0 k
+        (λ x. (k : Kept) × (k.held ≡ image_held x.1) × Stands D.Disk x.0 k
         × LeavesOnly D.Disk disk x.0.disk (Opened D.Disk disk)) }
     ensures err { D.is_honest disk
         → IfErr result

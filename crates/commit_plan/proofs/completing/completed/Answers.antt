@@ -1,15 +1,16 @@
-use Rattle.std.proofs.Common.{◌≡◌, true, Some, ◌+◌, ◌^◌, ◌<◌, ◌++◌, ◌∷◌, [], ℕ, List, length, inr, refl, sym, ◌∙◌, ap, subst, arith}
+use Rattle.std.proofs.Common.{◌≡◌, true, Some, ◌+◌, ◌^◌, ◌<◌, ◌++◌, ◌∷◌, [], ℕ, List, length, map, inr, refl, sym, ◌∙◌, ap, subst, arith}
 use Rattle.std.specs.List.{flat_map}
 use Rattle.extent_map.specs.FirstFit.{IsPlanned, IsFull}
+use Rattle.record_bytes.specs.ImageHeld.{image_held}
 use Rattle.record_bytes.specs.Listing.{listing_of}
 use Rattle.store_terms.specs.declared.root.Root.{Root}
 use Rattle.overlay_terms.specs.Column.{column_count}
 use Rattle.store_terms.specs.Catalog.{Listed, catalog}
-use Rattle.store_terms.specs.Image.{Held}
 use Rattle.store_terms.specs.Places.{all_apart, extents_listed}
 use Rattle.store_terms.specs.Roots.{sequence_max}
 use Rattle.store_terms.specs.StandsFor.{body_at}
 use Rattle.root_reading.specs.Taking.{AllNear}
+use Rattle.tile_build.specs.StoredTile.{finished_of}
 use Rattle.commit_plan.specs.declared.fault.StoreFault.TheVariants.{Full}
 use Rattle.commit_plan.specs.declared.write.Write.{Write}
 use Rattle.commit_plan.specs.declared.next.Next.{Next}
@@ -23,8 +24,8 @@ use Rattle.commit_plan.proofs.completing.completed.Goals as goal
 
 pub returns-clause-ok : goal.returns-clause-ok
 returns-clause-ok c x given limit layers root there room apart draft spell =
-    let image = c.args.image in
-    let value = c.into_shared-number.ensures.value in
+    let image = image_held c.args.image in
+    let parts = c.into_shared-number.ensures in
     let cat : Filed = record { extent = c.in_ok-catalog.catalog; bytes = c.in_ok-bytes.bytes.items } in
     let d = c.file.new.self in
     let drafted = c.in_ok-catalog.ensures.ok given limit (flat_map filed_of layers) draft in
@@ -45,14 +46,14 @@ returns-clause-ok c x given limit layers root there room apart draft spell =
       read = c.in_ok-bytes.ensures.reads_back ∙ ap (λ l. Some (listing_of l)) c.deref.ensures.value;
       after = ap (λ (r : Root). r.sequence + 1) (sym root);
       below = subst (λ (r : Root). r.sequence < sequence_max) (sym root) c.requires.below;
-      version = ap (λ (h : Held). h.number) value;
+      version = λ i. (parts i).0;
       catalog_is = refl;
       low = omega (arith, c.in_ok-catalog.ensures.within.0);
       small = c.in_ok-catalog.ensures.within.1;
       there = there ∙ ap (λ (r : Root). body_at (other r)) (sym root);
       spelled = c.in_ok-from_slice.ensures.items ∙ c.write_body.ensures.spelled;
       stands = c.in-Ok.ensures.stands
-          ∙ (λ i. record { listing = listing; layers = (value i).layers; tiles = (value i).tiles });
+          ∙ (λ i. record { listing = listing; layers = (parts i).1; tiles = map finished_of (parts i).2.items });
       taken = c.in-Ok.ensures.taken;
       plan = c.in_ok-push.ensures.items;
     })
@@ -63,7 +64,7 @@ returns-in-Err-clause-err c live given limit layers held draft spell =
     let runs = c.file.new.self.runs.items in
     let drafted = c.in_ok-catalog.ensures.ok given limit (flat_map filed_of layers) draft in
     let low : limit < 2 ^ 32 = subst (λ (n : ℕ). n < 2 ^ 32) draft.placed.blocks c.args.draft.room.low in
-    let image = c.args.image in
+    let image = image_held c.args.image in
     let es = c.in_ok-catalog.catalog ∷ extents_listed (listing_of c.args.listing.items) in
     let apart : all_apart es ≡ true =
     subst (λ (ls : List Listed). all_apart (c.in_ok-catalog.catalog ∷ extents_listed ls) ≡ true) spell.listed
@@ -109,7 +110,7 @@ returns-clause-blocks c given limit sizes placed =
     c.in-Ok.ensures.limit ∙ (c.in_ok-catalog.ensures.placed given limit sizes placed).blocks
 
 pub returns-clause-laid : goal.returns-clause-laid
-returns-clause-laid c live given limit layers draft spell =
+returns-clause-laid c live given limit layers sizes draft spell placed =
     let cat : Filed = record { extent = c.in_ok-catalog.catalog; bytes = c.in_ok-bytes.bytes.items } in
     let d = c.file.new.self in
     let root : Root = record {
@@ -118,10 +119,14 @@ returns-clause-laid c live given limit layers draft spell =
       catalog = c.in_ok-catalog.catalog;
     } in
     let b : Write = record { at = c.args.body; bytes = c.in_ok-from_slice.field-0 } in
-    laid_out live given limit layers c.args.image (listing_of c.args.listing.items) cat b c.args.body d root c.push.new.self.items
+    let listing = listing_of c.args.listing.items in
+    laid_out live given limit layers (image_held c.args.image) (sizes ++ length ((catalog column_count).text listing) ∷ [])
+    listing cat b c.args.body d root c.push.new.self.items (subst (λ (l : List ℕ). IsPlanned given limit (sizes ++ length l ∷ []) d.runs.items)
+    (c.in_ok-bytes.ensures.spelled ∙ ap (λ l. (catalog column_count).text (listing_of l)) c.deref.ensures.value)
+    (c.in_ok-catalog.ensures.placed given limit sizes placed).planned)
     (c.in_ok-catalog.ensures.ok given limit (flat_map filed_of layers) draft) spell
     (c.in_ok-bytes.ensures.reads_back ∙ ap (λ l. Some (listing_of l)) c.deref.ensures.value) refl refl
     (c.in_ok-from_slice.ensures.items ∙ c.write_body.ensures.spelled) c.in_ok-push.ensures.items
 
 pub returns-clause-number : goal.returns-clause-number
-returns-clause-number c = ap (λ (h : Held). h.number) c.into_shared-number.ensures.value
+returns-clause-number c = λ i. (c.into_shared-number.ensures i).0

@@ -8,11 +8,12 @@ use Rattle.commit_plan.proofs.Drafted.{held_in_room}
 use Rattle.std.proofs.Common.{◌≡◌, ◌+◌, [], ◌∷◌, ◌++◌, ℕ, List, length, map, sym, ◌∙◌, subst, arith}
 use Rattle.std.specs.List.{flat_map}
 use Rattle.overlay_terms.specs.Layers.{Layer}
-use Rattle.overlay_terms.specs.Histories.{Finished}
 use Rattle.extent_map.specs.declared.extent.Extent as runs
 use Rattle.extent_map.specs.Taken.{taken_of, limit_of}
 use Rattle.layer_book.specs.Layer.{IsBook}
+use Rattle.tile_build.specs.declared.stored_tile.StoredTile.{StoredTile}
 use Rattle.tile_build.specs.StoredTile.{finished_of}
+use Rattle.record_bytes.specs.ImageHeld.{image_held}
 use Rattle.record_bytes.specs.Listing.{listing_of}
 use Rattle.commit_plan.specs.declared.next.Next.{Next}
 use Rattle.commit_plan.specs.Filing.{filed_of}
@@ -21,12 +22,12 @@ use Rattle.overlay_terms.specs.Column.{column_count}
 use Rattle.extent_map.specs.FirstFit.{IsFull}
 use Rattle.store_terms.specs.Catalog.{catalog}
 use Rattle.commit_plan.specs.declared.fault.StoreFault.TheVariants.{Full}
-use Rattle.commit_plan.specs.Sizes.{sizes_of_layer, catalog_size}
+use Rattle.commit_plan.specs.Sizes.{sizes_of_layer, catalog_size, sizes_of}
 use Rattle.commit_plan.specs.Fitting.{HasRoom}
 use Rattle.commit_plan.specs.Drafting.{ArePlanned, ArePlaced, IsLaidOut, Spell}
 use Rattle.commit_plan.proofs.Drafts.{passed_error}
 use Rattle.commit_plan.proofs.Sized.{full_more}
-use Rattle.commit_plan.proofs.Roomed.{has_room, has_no_room, catalog_sized}
+use Rattle.commit_plan.proofs.Roomed.{of_room, catalog_sized}
 use Rattle.commit_plan.specs.Walking.{AreLeft, AreLayersFiled}
 use Rattle.commit_plan.proofs.Walked.{writes_count}
 use Rattle.commit_plan.proofs.Imaged.{all_left, spell_of, if_ok}
@@ -35,10 +36,9 @@ use Rattle.commit_plan.proofs.drafting.drafted.Goals as goal
 pub file_layers-requires : goal.file_layers-requires
 file_layers-requires c =
     let image = c.args.image in
-    let live = standing c.args.live.now in
-    let all = all_left image.layers image.tiles c.number.ensures.valid.stored in
+    let all = all_left image.layers (map finished_of image.tiles.items) image.stored in
     subst (λ (l : List Layer). AreLeft l 0 0 (map finished_of c.tiles.result.now)) (sym c.layers-2.ensures)
-    (subst (λ (t : List Finished). AreLeft image.layers 0 0 t) (sym c.tiles.ensures) all)
+    (subst (λ (t : List StoredTile). AreLeft image.layers 0 0 (map finished_of t)) (sym c.tiles.ensures) all)
 
 pub returns-clause-ok : goal.returns-clause-ok
 returns-clause-ok c x root there stands room =
@@ -53,13 +53,13 @@ returns-clause-ok c x root there stands room =
     subst (λ (l : List Layer). AreLayersFiled live given copy.max_blocks l
     (map finished_of c.tiles.result.now) [] ls d) c.layers-2.ensures as_read in
     let filed = subst
-    (λ (t : List Finished). AreLayersFiled live given copy.max_blocks image.layers t [] ls d) c.tiles.ensures in_layers in
+    (λ (t : List StoredTile). AreLayersFiled live given copy.max_blocks image.layers (map finished_of t) [] ls d) c.tiles.ensures in_layers in
     let book : IsBook image.layers = subst IsBook c.layers.ensures c.len.ensures.valid in
-    let spell = spell_of live image given copy.max_blocks ls d c.number.ensures.valid book filed in
+    let spell = spell_of live (image_held image) given copy.max_blocks ls d (record { small = image.small; stored = image.stored }) book filed in
     let mapped : IsMapOf (extents_in x) given =
     subst (λ (l : List runs.Extent). IsMapOf (extents_in x) l) (sym c.in_ok-try_copy.ensures.taken) room in
-    let own : Spell (standing_of x) filed.filed ls image =
-    subst (λ (s : Standing). Spell s filed.filed ls image) stands spell in
+    let own : Spell (standing_of x) filed.filed ls (image_held image) =
+    subst (λ (s : Standing). Spell s filed.filed ls (image_held image)) stands spell in
     let apart = subst (λ (s : Standing). AreHeldApart (extents_listed s.listing) given) stands
     (held_in_room c.args.live.now given (sym c.in_ok-try_copy.ensures.taken)) in
     c.completed.ensures.ok x given copy.max_blocks filed.filed root there mapped apart filed.draft own
@@ -77,13 +77,13 @@ returns-clause-calls c =
     subst (λ (l : List Layer). AreLayersFiled live given copy.max_blocks l
     (map finished_of c.tiles.result.now) [] ls d) c.layers-2.ensures as_read in
     let filed = subst
-    (λ (t : List Finished). AreLayersFiled live given copy.max_blocks image.layers t [] ls d) c.tiles.ensures in_layers in
+    (λ (t : List StoredTile). AreLayersFiled live given copy.max_blocks image.layers (map finished_of t) [] ls d) c.tiles.ensures in_layers in
     let book : IsBook image.layers = subst IsBook c.layers.ensures c.len.ensures.valid in
-    let spell = spell_of live image given copy.max_blocks ls d c.number.ensures.valid book filed in
+    let spell = spell_of live (image_held image) given copy.max_blocks ls d (record { small = image.small; stored = image.stored }) book filed in
     let count = writes_count (flat_map filed_of filed.filed) d.writes.items filed.draft.writes
-    ∙ records_count live filed.filed image.layers image.tiles spell.spelled in
+    ∙ records_count live filed.filed image.layers (map finished_of image.tiles.items) spell.spelled in
     if_ok c.completed.result (λ (next : Next). length next.plan.items ≡ length d.writes.items + 2)
-    (λ (next : Next). length next.plan.items ≡ new_records live image + 2)
+    (λ (next : Next). length next.plan.items ≡ new_records live (image_held image) + 2)
     (λ next is. omega (arith, is, count)) c.completed.ensures.calls
 
 pub returns-clause-err : goal.returns-clause-err
@@ -99,9 +99,9 @@ returns-clause-err c =
     subst (λ (l : List Layer). AreLayersFiled live given copy.max_blocks l
     (map finished_of c.tiles.result.now) [] ls d) c.layers-2.ensures as_read in
     let filed = subst
-    (λ (t : List Finished). AreLayersFiled live given copy.max_blocks image.layers t [] ls d) c.tiles.ensures in_layers in
+    (λ (t : List StoredTile). AreLayersFiled live given copy.max_blocks image.layers (map finished_of t) [] ls d) c.tiles.ensures in_layers in
     let book : IsBook image.layers = subst IsBook c.layers.ensures c.len.ensures.valid in
-    let spell = spell_of live image given copy.max_blocks ls d c.number.ensures.valid book filed in
+    let spell = spell_of live (image_held image) given copy.max_blocks ls d (record { small = image.small; stored = image.stored }) book filed in
     c.completed.ensures.err live given copy.max_blocks filed.filed
     (held_in_room c.args.live.now given (sym c.in_ok-try_copy.ensures.taken)) filed.draft spell
 
@@ -110,23 +110,23 @@ returns-in_err-listing-clause-full c u =
     let image = c.args.image in
     let live = standing c.args.live.now in
     let copy = c.in_ok-try_copy.field-0 in
-    let tiles = c.tiles.result.now in
     let given = taken_of copy.map in
     let limit = copy.max_blocks in
     let full = c.in_err-listing.ensures.full given limit c.new-draft.ensures.placed
     (passed_error _ c.from_residual-in_err-listing.result c.in_err-listing.field-0.0 Full c.from_residual-in_err-listing.ensures.1 u) in
     let in_layers =
-    subst (λ (l : List Layer). IsFull given limit (flat_map (sizes_of_layer live tiles) l)) c.layers-2.ensures full in
-    has_no_room c.args.live.now copy image tiles c.tiles.ensures c.in_ok-try_copy.ensures.taken c.in_ok-try_copy.ensures.limit
-    (full_more given limit (flat_map (sizes_of_layer live tiles) image.layers)
-    (catalog_size image.layers (length tiles) ∷ []) in_layers)
+    subst (λ (l : List Layer). IsFull given limit (flat_map (sizes_of_layer live c.tiles.result.now) l)) c.layers-2.ensures full in
+    let of_image =
+    subst (λ (t : List StoredTile). IsFull given limit (flat_map (sizes_of_layer live t) image.layers)) c.tiles.ensures in_layers in
+    of_room c.args.live.now.room copy (λ l n. IsFull l n (sizes_of live image)) c.in_ok-try_copy.ensures.taken c.in_ok-try_copy.ensures.limit
+    (full_more given limit (flat_map (sizes_of_layer live image.tiles.items) image.layers)
+    (catalog_size image.layers (length image.tiles.items) ∷ []) of_image)
 
 pub returns-clause-room : goal.returns-clause-room
 returns-clause-room c =
     let image = c.args.image in
     let live = standing c.args.live.now in
     let copy = c.in_ok-try_copy.field-0 in
-    let tiles = c.tiles.result.now in
     let given = taken_of copy.map in
     let limit = copy.max_blocks in
     let d = c.file_layers.new.draft in
@@ -135,20 +135,19 @@ returns-clause-room c =
     let as_read = c.in_ok-listing.ensures.ok given limit c.new-draft.ensures in
     let in_layers =
     subst (λ (l : List Layer). AreLayersFiled live given limit l
-    (map finished_of tiles) [] ls d) c.layers-2.ensures as_read in
+    (map finished_of c.tiles.result.now) [] ls d) c.layers-2.ensures as_read in
     let filed = subst
-    (λ (t : List Finished). AreLayersFiled live given limit image.layers t [] ls d) c.tiles.ensures in_layers in
-    let sizes = flat_map (sizes_of_layer live tiles) image.layers in
-    let placed = subst
-    (λ (l : List Layer). ArePlaced given limit (flat_map (sizes_of_layer live tiles) l) d) c.layers-2.ensures
-    (c.in_ok-listing.ensures.taken given limit c.new-draft.ensures.placed) in
-    let listable = c.in_ok-listing.ensures.listable in
-    let whole = catalog_sized live image tiles given limit listing d c.tiles.ensures filed listable in
+    (λ (t : List StoredTile). AreLayersFiled live given limit image.layers (map finished_of t) [] ls d) c.tiles.ensures in_layers in
+    let sizes = flat_map (sizes_of_layer live image.tiles.items) image.layers in
+    let placed = subst (λ (t : List StoredTile). ArePlaced given limit (flat_map (sizes_of_layer live t) image.layers) d) c.tiles.ensures
+    (subst (λ (l : List Layer). ArePlaced given limit (flat_map (sizes_of_layer live c.tiles.result.now) l) d) c.layers-2.ensures
+    (c.in_ok-listing.ensures.taken given limit c.new-draft.ensures.placed)) in
+    let whole = catalog_sized live image given limit listing d filed c.in_ok-listing.ensures.listable in
     if_ok c.completed.result
     (λ _. ArePlanned given limit
-    (sizes ++ length ((catalog column_count).text (listing_of listing)) ∷ []))
+    (sizes ++ length ((catalog column_count).text ls) ∷ []))
     (λ _. HasRoom c.args.live.now image)
-    (λ next planned. has_room c.args.live.now copy image tiles c.tiles.ensures c.in_ok-try_copy.ensures.taken c.in_ok-try_copy.ensures.limit (subst (ArePlanned given limit) whole planned))
+    (λ next planned. of_room c.args.live.now.room copy (λ l n. ArePlanned l n (sizes_of live image)) c.in_ok-try_copy.ensures.taken c.in_ok-try_copy.ensures.limit (subst (ArePlanned given limit) whole planned))
     (c.completed.ensures.placed given limit sizes placed)
 
 pub returns-clause-full : goal.returns-clause-full
@@ -156,7 +155,6 @@ returns-clause-full c u =
     let image = c.args.image in
     let live = standing c.args.live.now in
     let copy = c.in_ok-try_copy.field-0 in
-    let tiles = c.tiles.result.now in
     let given = taken_of copy.map in
     let limit = copy.max_blocks in
     let d = c.file_layers.new.draft in
@@ -165,16 +163,15 @@ returns-clause-full c u =
     let as_read = c.in_ok-listing.ensures.ok given limit c.new-draft.ensures in
     let in_layers =
     subst (λ (l : List Layer). AreLayersFiled live given limit l
-    (map finished_of tiles) [] ls d) c.layers-2.ensures as_read in
+    (map finished_of c.tiles.result.now) [] ls d) c.layers-2.ensures as_read in
     let filed = subst
-    (λ (t : List Finished). AreLayersFiled live given limit image.layers t [] ls d) c.tiles.ensures in_layers in
-    let sizes = flat_map (sizes_of_layer live tiles) image.layers in
-    let placed = subst
-    (λ (l : List Layer). ArePlaced given limit (flat_map (sizes_of_layer live tiles) l) d) c.layers-2.ensures
-    (c.in_ok-listing.ensures.taken given limit c.new-draft.ensures.placed) in
-    let listable = c.in_ok-listing.ensures.listable in
-    let whole = catalog_sized live image tiles given limit listing d c.tiles.ensures filed listable in
-    has_no_room c.args.live.now copy image tiles c.tiles.ensures c.in_ok-try_copy.ensures.taken c.in_ok-try_copy.ensures.limit
+    (λ (t : List StoredTile). AreLayersFiled live given limit image.layers (map finished_of t) [] ls d) c.tiles.ensures in_layers in
+    let sizes = flat_map (sizes_of_layer live image.tiles.items) image.layers in
+    let placed = subst (λ (t : List StoredTile). ArePlaced given limit (flat_map (sizes_of_layer live t) image.layers) d) c.tiles.ensures
+    (subst (λ (l : List Layer). ArePlaced given limit (flat_map (sizes_of_layer live c.tiles.result.now) l) d) c.layers-2.ensures
+    (c.in_ok-listing.ensures.taken given limit c.new-draft.ensures.placed)) in
+    let whole = catalog_sized live image given limit listing d filed c.in_ok-listing.ensures.listable in
+    of_room c.args.live.now.room copy (λ l n. IsFull l n (sizes_of live image)) c.in_ok-try_copy.ensures.taken c.in_ok-try_copy.ensures.limit
     (subst (IsFull given limit) whole (c.completed.ensures.full given limit sizes placed u))
 
 pub returns-clause-blocks : goal.returns-clause-blocks
@@ -197,18 +194,26 @@ returns-clause-laid c =
     let copy = c.in_ok-try_copy.field-0 in
     let d = c.file_layers.new.draft in
     let given = taken_of copy.map in
-    let ls = listing_of c.in_ok-listing.listing.items in
-    let as_read = c.in_ok-listing.ensures.ok given copy.max_blocks c.new-draft.ensures in
+    let limit = copy.max_blocks in
+    let listing = c.in_ok-listing.listing.items in
+    let ls = listing_of listing in
+    let as_read = c.in_ok-listing.ensures.ok given limit c.new-draft.ensures in
     let in_layers =
-    subst (λ (l : List Layer). AreLayersFiled live given copy.max_blocks l
+    subst (λ (l : List Layer). AreLayersFiled live given limit l
     (map finished_of c.tiles.result.now) [] ls d) c.layers-2.ensures as_read in
     let filed = subst
-    (λ (t : List Finished). AreLayersFiled live given copy.max_blocks image.layers t [] ls d) c.tiles.ensures in_layers in
+    (λ (t : List StoredTile). AreLayersFiled live given limit image.layers (map finished_of t) [] ls d) c.tiles.ensures in_layers in
     let book : IsBook image.layers = subst IsBook c.layers.ensures c.len.ensures.valid in
-    let spell = spell_of live image given copy.max_blocks ls d c.number.ensures.valid book filed in
-    let laid = c.completed.ensures.laid live given copy.max_blocks filed.filed filed.draft spell in
+    let spell = spell_of live (image_held image) given limit ls d (record { small = image.small; stored = image.stored }) book filed in
+    let sizes = flat_map (sizes_of_layer live image.tiles.items) image.layers in
+    let placed = subst (λ (t : List StoredTile). ArePlaced given limit (flat_map (sizes_of_layer live t) image.layers) d) c.tiles.ensures
+    (subst (λ (l : List Layer). ArePlaced given limit (flat_map (sizes_of_layer live c.tiles.result.now) l) d) c.layers-2.ensures
+    (c.in_ok-listing.ensures.taken given limit c.new-draft.ensures.placed)) in
+    let whole = catalog_sized live image given limit listing d filed c.in_ok-listing.ensures.listable in
     if_ok c.completed.result
-    (λ (next : Next). IsLaidOut live given copy.max_blocks image c.args.body next.root next.plan.items)
-    (λ (next : Next). IsLaidOut live (taken_of room.map) room.max_blocks image c.args.body next.root next.plan.items)
-    (λ (next : Next) is. subst (λ (l : List runs.Extent). IsLaidOut live l room.max_blocks image c.args.body next.root next.plan.items) c.in_ok-try_copy.ensures.taken
-    (subst (λ (n : ℕ). IsLaidOut live given n image c.args.body next.root next.plan.items) c.in_ok-try_copy.ensures.limit is)) laid
+    (λ (next : Next). IsLaidOut live given limit (image_held image) (sizes ++ length ((catalog column_count).text ls) ∷ []) c.args.body next.root next.plan.items)
+    (λ (next : Next). IsLaidOut live (taken_of room.map) room.max_blocks (image_held image) (sizes_of live image) c.args.body next.root next.plan.items)
+    (λ (next : Next) is. of_room room copy (λ l n. IsLaidOut live l n (image_held image) (sizes_of live image) c.args.body next.root next.plan.items)
+    c.in_ok-try_copy.ensures.taken c.in_ok-try_copy.ensures.limit
+    (subst (λ (ns : List ℕ). IsLaidOut live given limit (image_held image) ns c.args.body next.root next.plan.items) whole is))
+    (c.completed.ensures.laid live given limit filed.filed sizes filed.draft spell placed)

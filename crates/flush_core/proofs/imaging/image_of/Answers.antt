@@ -21,12 +21,12 @@ returns-clause-value c =
     let layers = c.in_ok-layers.ensures ∙ c.layers.ensures.value in
     let same : shared_held c.number.result c.in_ok-layers.layers c.in_ok-tiles.tiles.items ≡ version_held version =
     (λ i. record { number = c.number.ensures.value i; layers = layers i; tiles = c.in_ok-tiles.ensures i }) in
-    c.of_shared.ensures ∙ same
+    c.of_shared.ensures.held ∙ same
 
 pub returns-clause-tiles : goal.returns-clause-tiles
 returns-clause-tiles c =
     let version = c.args.version.now in
-    subst (IsImageOf version) (sym c.of_shared.ensures) (record {
+    subst (IsImageOf version) (sym c.of_shared.ensures.held) (record {
       number = c.number.ensures.value;
       layers = c.in_ok-layers.ensures ∙ c.layers.ensures.value;
       tiles = λ name k. ap (λ (tiles : List Finished). tile_at tiles name k) c.in_ok-tiles.ensures ∙ same_tiles version c.layers.ensures.valid name k;

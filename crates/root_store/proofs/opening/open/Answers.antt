@@ -7,14 +7,14 @@ use Rattle.commit_plan.specs.Fault.{fault_told}
 use Rattle.root_store.proofs.opening.open.Goals as goal
 
 pub returns-in-Ok-clause-gives : goal.returns-in-Ok-clause-gives
-returns-in-Ok-clause-gives g c honest = (c.in-Ok.ensures.loads honest).gives ∙ ap Ok (sym c.of_shared-image.ensures)
+returns-in-Ok-clause-gives g c honest = (c.in-Ok.ensures.loads honest).gives ∙ ap Ok (sym c.of_shared-image.ensures.held)
 
 pub returns-in-Ok-clause-ok : goal.returns-in-Ok-clause-ok
 returns-in-Ok-clause-ok g c honest =
     let l = c.in-Ok.ensures.loads honest in
     let k = l.ok in (
       kept_in c.in-Ok.loaded,
-      sym c.of_shared-image.ensures,
+      sym c.of_shared-image.ensures.held,
       record {
         honest = l.honest;
         idle = refl;
@@ -54,7 +54,7 @@ pub returns-in-Err-clause-writes : goal.returns-in-Err-clause-writes
 returns-in-Err-clause-writes g c honest = c.load.ensures.writes honest
 
 pub returns-in-Ok-clause-number : goal.returns-in-Ok-clause-number
-returns-in-Ok-clause-number g c = ap (λ (h : Held). h.number) c.of_shared-image.ensures
+returns-in-Ok-clause-number g c = ap (λ (h : Held). h.number) c.of_shared-image.ensures.held
 
 pub returns-in-Ok-clause-phases : goal.returns-in-Ok-clause-phases
 returns-in-Ok-clause-phases g c honest = c.in-Ok.ensures.phases honest

@@ -1,12 +1,12 @@
-use Rattle.std.proofs.Common.{◌≡◌, ◌+◌, OnOk, IfErr, subst}
+use Rattle.std.proofs.Common.{◌≡◌, ◌+◌, OnOk, subst}
+use Rattle.std.proofs.lemmas.Result.{on_ok_weaker}
 use Rattle.store_terms.specs.Image.{Held}
 use Rattle.commit_plan.specs.Live.{standing}
 use Rattle.commit_plan.specs.Sizes.{new_records}
-use Rattle.commit_plan.specs.Fitting.{HasRoom, HasNoRoom}
-use Rattle.root_store.specs.Beginning.{IsReason}
+use Rattle.commit_plan.specs.Fitting.{HasNoRoom}
 use Rattle.root_store.specs.Running.{calls_left}
-use Rattle.root_store.proofs.Reasons.{refused_so}
-use Rattle.flush_core.specs.Stored.{HasNoRoomFor}
+use Rattle.root_store.proofs.Reasons.{refused_so, reason_of}
+use Rattle.flush_core.specs.Stored.{HasRoomFor, HasNoRoomFor}
 use Rattle.flush_core.proofs.flusher.Flusher.begin.Goals as goal
 
 pub returns-in-Some-clause-errors : goal.returns-in-Some-clause-errors
@@ -16,13 +16,15 @@ returns-in-Some-clause-errors g c =
 
 pub returns-clause-room : goal.returns-clause-room
 returns-clause-room g c =
-    let s = c.args.self.now.commit in
-    subst (λ (x : Held). OnOk c.begin.result (HasRoom s.live x)) c.in_ok-image.ensures.value c.begin.ensures.room
+    let image = c.in_ok-image in
+    on_ok_weaker {Q = HasRoomFor c.args.self.now.commit c.args.version.now} c.begin.result
+    (λ room. record { image = image.image; holds = image.ensures.value; is = room }) c.begin.ensures.room
 
 pub returns-clause-errors : goal.returns-clause-errors
 returns-clause-errors g c =
     let s = c.args.self.now.commit in
-    subst (λ (x : Held). IfErr c.begin.result (λ fault. IsReason s.phase s.root (HasNoRoom s.live x) fault)) c.in_ok-image.ensures.value c.begin.ensures.errors
+    reason_of c.begin.result s.phase s.root (HasNoRoom s.live c.in_ok-image.image) (HasNoRoomFor s c.args.version.now)
+    (λ none. record { image = c.in_ok-image.image; holds = c.in_ok-image.ensures.value; is = none }) c.begin.ensures.errors
 
 pub returns-clause-calls : goal.returns-clause-calls
 returns-clause-calls g c =

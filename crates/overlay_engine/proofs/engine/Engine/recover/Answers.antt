@@ -2,6 +2,7 @@ use Rattle.std.proofs.Common.{◌++◌, sym, ◌∙◌, ap, subst}
 use Rattle.commit_plan.specs.declared.fault.StoreFault.TheVariants.{OutOfMemory}
 use Rattle.overlay_terms.specs.Histories.{Version}
 use Rattle.flush_core.specs.declared.flusher.Flusher.{Flusher}
+use Rattle.record_bytes.specs.ImageHeld.{image_held}
 use Rattle.root_store.specs.Opening.{Writes}
 use Rattle.overlay_engine.specs.Recovery.{Refused}
 use Rattle.overlay_engine.specs.Runs.{accepted_in}
@@ -15,13 +16,13 @@ returns-in-Ok-restored-clause-ok g c honest start least batches all =
     let opened = c.in-Ok.ensures.ok honest in
     recovered_with g.D.Disk start disk least batches all (g.met.D.Disk.seen_may_stay disk honest)
     (record { version = c.in-Ok-restored.version; flusher = c.new.result; jobs = c.new-in-Ok-restored.result; next_job = 0 })
-    c.in-Ok.opened.0 opened.0 c.in-Ok.opened.1 c.new.ensures (sym c.in-Ok.ensures.number ∙ sym (ap (λ (v : Version). v.number) c.in-Ok-restored.ensures)) c.in-Ok-restored.ensures
+    c.in-Ok.opened.0 opened.0 (image_held c.in-Ok.opened.1) c.new.ensures (sym c.in-Ok.ensures.number ∙ sym (ap (λ (v : Version). v.number) c.in-Ok-restored.ensures)) c.in-Ok-restored.ensures
     (c.in-Ok.ensures.gives honest) opened.1 opened.2 opened.3 (c.in-Ok.ensures.phases honest)
 
 pub returns-in-Ok-restored-clause-rests : goal.returns-in-Ok-restored-clause-rests
 returns-in-Ok-restored-clause-rests g c honest =
     let opened = c.in-Ok.ensures.ok honest in
-    rests_as g.D.Disk c.in-Ok-restored.version c.new.result c.in-Ok.opened.0 opened.0 c.in-Ok.opened.1
+    rests_as g.D.Disk c.in-Ok-restored.version c.new.result c.in-Ok.opened.0 opened.0 (image_held c.in-Ok.opened.1)
     c.new.ensures (sym c.in-Ok.ensures.number ∙ sym (ap (λ (v : Version). v.number) c.in-Ok-restored.ensures)) c.in-Ok-restored.ensures opened.1 opened.2
 
 pub returns-in-Err-restored-clause-err : goal.returns-in-Err-restored-clause-err
@@ -29,7 +30,7 @@ returns-in-Err-restored-clause-err g c honest start least batches all =
     let disk = c.args.disk in
     let opened = c.in-Ok.ensures.ok honest in
     subst (λ (d : g.row.D.Denot). Refused g.D.Disk start disk (record { fault = OutOfMemory; disk = d }) least batches) (sym c.into_disk.ensures)
-    (given_up g.D.Disk start disk least batches all (g.met.D.Disk.seen_may_stay disk honest) c.in-Ok.opened.0 opened.0 c.in-Ok.opened.1
+    (given_up g.D.Disk start disk least batches all (g.met.D.Disk.seen_may_stay disk honest) c.in-Ok.opened.0 opened.0 (image_held c.in-Ok.opened.1)
     (c.in-Ok.ensures.gives honest) opened.1 opened.2 opened.3 (c.in-Ok.ensures.phases honest))
 
 pub returns-in-Ok-restored-clause-crashed : goal.returns-in-Ok-restored-clause-crashed
@@ -75,4 +76,4 @@ returns-in-Err-restored-clause-untouched g c honest damage is = absurd (cc is)
 
 pub returns-in-Err-restored-clause-memory : goal.returns-in-Err-restored-clause-memory
 returns-in-Err-restored-clause-memory g c honest memory =
-    root_read (g.D.Disk.seen c.args.disk) c.in-Ok.opened.1 (c.in-Ok.ensures.gives honest)
+    root_read (g.D.Disk.seen c.args.disk) (image_held c.in-Ok.opened.1) (c.in-Ok.ensures.gives honest)
