@@ -6,15 +6,17 @@ Builds the program of bench/crashes over the engine, unproved (bench/unproved.py
 built before. It draws 200 lists of 60 steps from fixed seeds, drives an engine over a disk in memory by each, and
 recovers from a crash behind each of its device calls: with the written bytes old, new, or all 0, 0x55 or 0xA7. From one
 of these crashes another engine goes on by another list of steps, and so two times more; it crashes within its opening,
-too. Layers lie in few columns or across all of them, any may be dropped, and one list in 20 begins with a tile that has
-too many pieces to keep. What recovers has to be one of two contents of a plain fold over the steps, by its number, its
-layers, its tiles (built anew) and its answers at points. The last lines are the counts, and the first recovery that is
-neither ends the program.
+too. Layers lie in few columns or across all of them, any may be dropped, commands come alone or in batches of two or
+three, and one list in 20 begins with a tile that has too many pieces to keep. What recovers has to be one of two
+contents of a plain fold over the steps, by its number, its layers, its tiles (built anew) and its answers at points.
+The last lines are the counts, and the first recovery that is neither ends the program. The status is 1 then, and where
+a version that was durable is lost.
 """
 
 import argparse
 import pathlib
 import subprocess
+import sys
 import tempfile
 
 import unproved
@@ -37,7 +39,7 @@ def main():
     with tempfile.TemporaryDirectory() as folder:
         program = given.program or unproved.built(HERE / "crashes", CRATES, folder)
         numbers = [str(one) for one in (given.first, given.lists, given.steps, given.lives)]
-        subprocess.run([program, *numbers], stdin=subprocess.DEVNULL, check=True)
+        return subprocess.run([program, *numbers], stdin=subprocess.DEVNULL).returncode
 
 
-main()
+sys.exit(main())

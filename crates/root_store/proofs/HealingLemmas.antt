@@ -9,7 +9,7 @@ use Rattle.store_terms.specs.Roots.{body_text, sequence_max}
 use Rattle.store_terms.specs.StandsFor.{body_at}
 use Rattle.root_reading.specs.declared.load_fault.LoadFault.{LoadFault}
 use Rattle.commit_plan.specs.Kept.{Kept, other, Rest, Shut}
-use Rattle.root_store.specs.Healing.{twin}
+use Rattle.root_store.specs.Healing.{twin, HoldsTwin}
 use Rattle.root_store.specs.Opening.{Heals}
 use Rattle.root_store.proofs.Healed.{twin_heals}
 use Rattle.commit_plan.proofs.Plan.{body_spares}
@@ -33,15 +33,19 @@ module _ {D : Type 0} (g : Ghosts D) (old mid : D) (x : Kept) (at : ℕ) (bytes 
       leaves_torn g old mid (Shut x) at (length bytes) all follows
       (λ c d shut torn. body_spares x c d shut (in_place c d torn))
 
+  -- put whole, it is the twin's
+  pub holds_twin : (d : List ℕ) → Holds d at bytes → HoldsTwin x.root d
+  holds_twin d holds =
+      subst (λ (a : ℕ). Holds d a (body_text (twin x.root))) there
+      (subst (λ (bs : List ℕ). Holds d at bs) text holds)
+
   -- put whole, that body does no harm
   pub at_rest : x.root.sequence < sequence_max → x.root.catalog.block < 2 ^ 64 → x.root.catalog.size < 2 ^ 32
       → (c d : List ℕ) → Shut x c → Torn at (length bytes) c d → Holds d at bytes → Rest x d
   at_rest below low small c d shut torn holds =
-      twin_heals x c d below low small shut (in_place c d torn)
-      (subst (λ (a : ℕ). Holds d a (body_text (twin x.root))) there
-      (subst (λ (bs : List ℕ). Holds d at bs) text holds))
+      twin_heals x c d below low small shut (in_place c d torn) (holds_twin d holds)
 
 pub healing_failed : {D : Type 0} (g : Ghosts D) (old new : D) (result : Result (Unit {0}) LoadFault) (x : Kept)
     → IsErr result → g.is_honest new → LeavesOnly g old new (Shut x) → Leaves g new (Shut x) → Heals g old new result x
 healing_failed g old new (Ok u) x is honest run all = absurd (cc is)
-healing_failed g old new (Err e) x is honest run all = record { honest = honest; run = run; ok = tt; err = all }
+healing_failed g old new (Err e) x is honest run all = record { honest = honest; run = run; ok = tt; twin = tt; err = all }

@@ -4,6 +4,7 @@ pub mod Blank
 mod FindingLemmas
 mod TakenLemmas
 mod HealingLemmas
+mod LaidLemmas
 pub mod Reasons
 mod OpeningLemmas
 mod CreatingLemmas

@@ -18,7 +18,8 @@ use Rattle.commit_plan.specs.Kept.{Kept, other, Live, Rest, Shut, Calm}
 use Rattle.commit_plan.specs.Loading.{held_in, kept_in}
 use Rattle.root_reading.specs.Looking.{Looks, Refuses, Causes}
 use Rattle.commit_plan.specs.Fault.{fault_told}
-use Rattle.root_store.specs.Opening.{Heals, IsRead, Opened, Loads, InPhases, Stops, Untouched, Writes, Tells, FailedBy}
+use Rattle.root_store.specs.Opening.{Heals, IsRead, Opened, Loads, InPhases, Stops, Untouched, Writes, IsCompleted, Tells, FailedBy}
+use Rattle.root_store.specs.Healing.{HoldsTwin}
 use Rattle.commit_plan.specs.declared.fault.StoreFault.{StoreFault}
 use Rattle.commit_plan.specs.declared.fault.StoreFault.TheVariants as stores
 use Rattle.root_reading.proofs.Looked.{if_err}
@@ -26,7 +27,7 @@ use Rattle.root_reading.specs.declared.load_fault.LoadFault.TheVariants.{Device,
 use Rattle.commit_plan.proofs.Reading.{shut_stands}
 use Rattle.root_store.proofs.Healed.{taken_is_live}
 use Rattle.root_store.proofs.Steps.{leaves_synced}
-use Rattle.root_store.proofs.TakenLemmas.{root_found, other_shut, other_harmless}
+use Rattle.root_store.proofs.TakenLemmas.{root_found, other_shut, other_open, other_harmless}
 
 -- what opening gives of a file with a root
 pub reading_root : (file : List ℕ) (r : Root) → root_of file ≡ Ok r → reading file ≡ held_of file r
@@ -167,14 +168,25 @@ body_writes file now new r is alone same below torn =
       torn = subst (λ (f : List ℕ). Torn (body_at (other r)) 48 f new) same torn;
     })
 
+-- the body that opening leaves in the other slot, in each of its ends
+module _ {D : Type 0} (g : Ghosts D) (new : D) (file : List ℕ) (r : Root) (is : root_of file ≡ Ok r) where
+  pub none_completed : has_shut_gate file ≡ false → Leaves g new (IsCompleted file)
+  none_completed alone c left = record { root = r; is = is; twin = inl (other_open file r alone) }
+
+  pub last_completed : sequence_max ≤ r.sequence → Leaves g new (IsCompleted file)
+  last_completed last c left = record { root = r; is = is; twin = inr (inl last) }
+
+  pub twin_completed : Leaves g new (HoldsTwin r) → Leaves g new (IsCompleted file)
+  twin_completed put c left = record { root = r; is = is; twin = inr (inr (put c left)) }
+
 -- a fault of a file that was only read
 pub untouched_err : {D : Type 0} (g : Ghosts D) (old new : D) (fault : LoadFault) (answer : Result Loaded LoadFault)
     → IsErrAnd answer (λ e. e ≡ fault) → g.seen new ≡ g.seen old
-    → ((c : List ℕ) → g.may_leave new c → g.may_leave old c)
+    → ((c : List ℕ) → g.may_leave new c → g.may_leave old c) → LeavesOnly g old new (g.may_leave old)
     → IfErr answer (λ e. e ≢ Device → Untouched g old new)
-untouched_err g old new fault answer is seen fewer =
+untouched_err g old new fault answer is seen fewer run =
     if_err answer fault (λ (e : LoadFault). e ≢ Device → Untouched g old new) is
-    (λ other. record { seen = seen; fewer = fewer })
+    (λ other. record { seen = seen; fewer = fewer; run = run })
 
 -- the device's own fault
 pub device_err : (P : Type 0) (fault : LoadFault) (answer : Result Loaded LoadFault) → IsErrAnd answer (λ e. e ≡ fault)

@@ -188,13 +188,14 @@ other_shut file r taken shut opened = ⊎_elim
     none_more : (n : ℕ) → n % 2 ≡ 1 → (n + 1) % 2 ≡ 0
     none_more n e = omega arith
 
--- where none is shut, a root stands there that does no harm
-pub other_harmless : (file : List ℕ) (r : Root) → Found file r → has_shut_gate file ≡ false → Harmless (other r) r file
-other_harmless file r found none = ⊎_elim (λ shut. absurd (shut opened)) (λ h. h) found.beside
+-- where none is shut, that one is open
+pub other_open : (file : List ℕ) (r : Root) → has_shut_gate file ≡ false → gate file (other r) ≡ open_gate
+other_open file r none = gate_of r.sequence (grind (arith, nat_tests)) (grind (arith, nat_tests))
   where
     gate_of : (n : ℕ) → gate file 0 ≡ open_gate → gate file 1 ≡ open_gate → gate file ((n + 1) % 2) ≡ open_gate
     gate_of n first second =
         ⊎_elim (λ zero. ap (gate file) zero ∙ first) (λ one. ap (gate file) one ∙ second) (bit (n + 1))
 
-    opened : gate file (other r) ≡ open_gate
-    opened = gate_of r.sequence (grind (arith, nat_tests)) (grind (arith, nat_tests))
+-- and a root stands there that does no harm
+pub other_harmless : (file : List ℕ) (r : Root) → Found file r → has_shut_gate file ≡ false → Harmless (other r) r file
+other_harmless file r found none = ⊎_elim (λ shut. absurd (shut (other_open file r none))) (λ h. h) found.beside

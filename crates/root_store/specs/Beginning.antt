@@ -1,6 +1,9 @@
--- Why a commit is not begun.
-use Rattle.std.specs.Prelude.{◌≡◌, ◌≢◌, ◌≤◌}
+-- Why a commit is not begun, and where its writes lie.
+use Rattle.std.specs.Prelude.{◌≡◌, ◌≢◌, ℕ, ◌+◌, ◌*◌, ◌≤◌, length}
+use Rattle.std.specs.List.{AllByRecursion}
+use Rattle.disk_model.specs.declared.disk.Disk.{Ghosts}
 use Rattle.extent_map.specs.Taken.{taken_of}
+use Rattle.store_terms.specs.Places.{block_size}
 use Rattle.store_terms.specs.StandsFor.{body_at}
 use Rattle.record_bytes.specs.declared.image.Image.{Image}
 use Rattle.record_bytes.specs.ImageHeld.{image_held}
@@ -8,6 +11,8 @@ use Rattle.commit_plan.specs.Drafting.{IsLaidOut}
 use Rattle.commit_plan.specs.Sizes.{sizes_of}
 use Rattle.commit_plan.specs.Kept.{other}
 use Rattle.commit_plan.specs.Live.{standing}
+use Rattle.commit_plan.specs.declared.write.Write.{Write}
+use Rattle.root_store.specs.Running.{KeepsTo}
 use Rattle.root_store.specs.declared.commit.Commit.{Commit}
 use Rattle.store_terms.specs.declared.root.Root.{Root}
 use Rattle.store_terms.specs.Roots.{sequence_max}
@@ -37,3 +42,13 @@ abbrev pub IsLaid : {D : Type 0} → Commit D → Image → Commit D → Type 0
 IsLaid old image new =
     IsLaidOut (standing old.live) (taken_of old.live.room.map) old.live.room.max_blocks (image_held image)
     (sizes_of (standing old.live) image) (body_at (other old.root)) new.next_root new.plan.items
+
+-- a write ends at or below a block limit
+abbrev pub EndsBelow : ℕ → Write → Type 0
+EndsBelow limit w = w.at + length w.bytes.items ≤ block_size * limit
+
+-- so does each write that a commit lays, for the blocks that its file may have
+abbrev pub LaidIsBelow : {D : Type 0} → Ghosts D → Type 0
+LaidIsBelow {D = D} g =
+    (limit : ℕ) (old new : Commit D) (image : Image) → KeepsTo limit old → IsLaid old image new
+    → AllByRecursion (EndsBelow limit) new.plan.items

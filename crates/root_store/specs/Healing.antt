@@ -31,10 +31,13 @@ TakenIsLive = (file : List ℕ) (x : Kept) → IsTakenRoot file x.root → listi
 abbrev pub twin : Root → Root
 twin r = record { sequence = r.sequence + 1; version = r.version; catalog = r.catalog }
 
+-- the slot that a root is not in has the body of its twin
+abbrev pub HoldsTwin : Root → List ℕ → Type 0
+HoldsTwin r file = Holds file (body_at (other r)) (body_text (twin r))
+
 -- the twin's body behind the shut gate, put whole, leaves the store at rest
 abbrev pub TwinHeals : Type 0
 TwinHeals =
     (x : Kept) (old new : List ℕ) → x.root.sequence < sequence_max → x.root.catalog.block < 2 ^ 64
     → x.root.catalog.size < 2 ^ 32 → Shut x old
-    → Torn (body_at (other x.root)) 48 old new → Holds new (body_at (other x.root)) (body_text (twin x.root))
-    → Rest x new
+    → Torn (body_at (other x.root)) 48 old new → HoldsTwin x.root new → Rest x new

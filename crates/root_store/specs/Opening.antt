@@ -18,14 +18,16 @@ use Rattle.commit_plan.specs.Loading.{held_in, kept_in}
 use Rattle.root_reading.specs.Taking.{IsMapOf}
 use Rattle.root_reading.specs.Looking.{Gives}
 use Rattle.root_store.specs.Finding.{has_shut_gate}
+use Rattle.root_store.specs.Healing.{HoldsTwin}
 
 -- the completing write and its sync: a crash at any moment leaves what stands for x behind its one open gate, and in
--- the end whatever the other gate holds
+-- the end whatever the other gate holds, behind which stands the body of the twin of x's root
 pub record Heals {D : Type 0} (g : Ghosts D) (old new : D) (result : Result (Unit {0}) LoadFault)
     (x : Kept) : Type 0 where
   pub honest : g.is_honest new
   pub run : LeavesOnly g old new (Shut x)
   pub ok : OnOk result (Leaves g new (Rest x))
+  pub twin : OnOk result (Leaves g new (HoldsTwin x.root))
   pub err : OnErr result (Leaves g new (Shut x))
 
 -- after the first sync, all is read: a crash leaves the bytes that were seen, and nothing else
@@ -62,10 +64,12 @@ pub record Loads {D : Type 0} (g : Ghosts D) (old new : D) (result : Result Load
       (λ x. IsMapOf (extents_in (kept_in x)) (taken_of x.live.room.map) × Leaves g new (Calm (kept_in x)))
   pub err : OnErr result (Leaves g new (Opened g old))
 
--- a file is not touched: it is seen as before, and a crash leaves nothing that it might not have left before
+-- a file is not touched: it is seen as before, and a crash leaves nothing that it might not have left before, in the
+-- end and at each moment until then
 pub record Untouched {D : Type 0} (g : Ghosts D) (old new : D) : Type 0 where
   pub seen : g.seen new ≡ g.seen old
   pub fewer : Fewer (g.may_leave old) (g.may_leave new)
+  pub run : LeavesOnly g old new (g.may_leave old)
 
 -- only the body of the slot that the root is not in is written, whole or in part, behind a gate that is shut
 pub record WritesBody (old new : List ℕ) : Type 0 where
@@ -78,6 +82,13 @@ pub record WritesBody (old new : List ℕ) : Type 0 where
 -- what opening writes of a file: nothing but that body, if anything
 abbrev pub Writes : List ℕ → List ℕ → Type 0
 Writes old new = (new ≡ old) ⊎ WritesBody old new
+
+-- where the gate of the slot that the root is not in was shut, and a number is left, that slot has the body of the
+-- root's twin
+pub record IsCompleted (old new : List ℕ) : Type 0 where
+  pub root : Root
+  pub is : root_of old ≡ Ok root
+  pub twin : (gate old (other root) ≡ open_gate) ⊎ (sequence_max ≤ root.sequence) ⊎ HoldsTwin root new
 
 -- a file whose slots name a root
 abbrev pub HasRoot : List ℕ → Type 0

@@ -1,6 +1,9 @@
 //! Laws over the definitions: each function does nothing, and its contract is the law.
 ghost use Rattle.root_store.specs.Healing.{TakenIsLive, TwinHeals};
 ghost use Rattle.root_store.specs.Creating.{BlankIsAtRest};
+ghost use Rattle.root_store.specs.Beginning.{LaidIsBelow};
+
+use disk_model::disk::Disk;
 
 /// A root that opening takes, and what it holds, is live.
 pub fn taken_is_live()
@@ -15,4 +18,9 @@ pub fn twin_heals()
 /// A new file with its first gate open is a store that holds nothing.
 pub fn blank_is_at_rest()
     ensures { BlankIsAtRest }
+{}
+
+/// What a commit lays ends at or below the blocks that its file may have: each record, the catalog and the body.
+pub fn laid_is_below<D: Disk>()
+    ensures { LaidIsBelow D.Disk }
 {}

@@ -14,7 +14,7 @@ ghost use Rattle.commit_plan.specs.Staying.{standing_of};
 ghost use Rattle.commit_plan.specs.Live.{standing};
 ghost use Rattle.root_store.specs.Running.{Stands, KeepsTo};
 ghost use Rattle.root_reading.specs.Looking.{Gives, Looks, Causes};
-ghost use Rattle.root_store.specs.Opening.{IsRead, Loads, Opened, Untouched, Writes, HasRoot, Tells, FailedBy, InPhases, Stops};
+ghost use Rattle.root_store.specs.Opening.{IsRead, Loads, Opened, Untouched, Writes, HasRoot, Tells, FailedBy, InPhases, Stops, IsCompleted};
 
 use crate::commit::Commit;
 use crate::finding::{NUMBER_MAX, find_root};
@@ -87,6 +87,8 @@ pub(crate) fn load<D: Disk>(
     ensures stands { IfOk result (λ x. standing x.live ≡ standing_of (kept_in x)) }
     ensures numbered { IfOk result (λ x. x.root.version ≤ version_max) }
     ensures writes { D.is_honest disk.old → Writes (D.seen disk.old) (D.seen disk.new) }
+    ensures completed { D.is_honest disk.old
+        → OnOk result (Leaves D.Disk disk.new (IsCompleted (D.seen disk.old))) }
     ensures untouched { D.is_honest disk.old
         → IfErr result (λ fault. fault ≢ LoadFault.Device → Untouched D.Disk disk.old disk.new) }
     ensures memory { D.is_honest disk.old
@@ -133,6 +135,9 @@ pub fn open<D: Disk>(
     ensures writes { D.is_honest disk
         → MatchResult result (λ x. Writes (D.seen disk) (D.seen x.0.disk))
         (λ refused. Writes (D.seen disk) (D.seen refused.disk)) }
+    // Where that gate was shut and a number is left, the body is the root's own under the next number, and synced.
+    ensures completed { D.is_honest disk
+        → IfOk result (λ x. Leaves D.Disk x.0.disk (IsCompleted (D.seen disk))) }
     ensures untouched { D.is_honest disk
         → IfErr result (λ refused. refused.fault ≢ StoreFault.Device → Untouched D.Disk disk refused.disk) }
     // Memory is asked for only where the slots name a root: what is wrong with them is told as such.

@@ -5,9 +5,9 @@ use Rattle.store_terms.specs.Roots.{body_text, sequence_max}
 use Rattle.store_terms.specs.StandsFor.{body_at}
 use Rattle.disk_model.specs.Disk.{Torn}
 use Rattle.commit_plan.specs.Kept.{other, Shut, Rest}
-use Rattle.root_store.specs.Healing.{twin}
+use Rattle.root_store.specs.Healing.{twin, HoldsTwin}
 use Rattle.root_store.proofs.Steps.{one_call, leaves_fewer, leaves_synced}
-use Rattle.root_store.proofs.HealingLemmas.{still_shut, at_rest, healing_failed, twin_torn}
+use Rattle.root_store.proofs.HealingLemmas.{still_shut, holds_twin, at_rest, healing_failed, twin_torn}
 use Rattle.root_store.proofs.healing.heal.Goals as goal
 
 pub returns-in_err-write_at-clause-heals : goal.returns-in_err-write_at-clause-heals
@@ -63,10 +63,13 @@ returns-clause-heals g c honest x is all =
     let small : x.root.catalog.size < 2 ^ 32 = subst (λ (r : Root). r.catalog.size < 2 ^ 32) (sym is) (omega arith) in
     let rest = at_rest k old mid x c.other_body.result c.write_body-body.result there text below low small (k.seen old)
     (k.seen mid) here (w.others honest) (c.in_ok-write_at.ensures.written honest) in
+    let put = holds_twin k old mid x c.other_body.result c.write_body-body.result there text (k.seen mid)
+    (c.in_ok-write_at.ensures.written honest) in
     record {
       honest = c.sync.ensures.honest.1 on;
       run = goes_on k old mid new (Shut x) written (c.sync.ensures.time on) still;
       ok = leaves_synced k new (k.seen mid) (Rest x) (c.in_ok-sync.ensures.durable on) rest;
+      twin = leaves_synced k new (k.seen mid) (HoldsTwin x.root) (c.in_ok-sync.ensures.durable on) put;
       err = tt;
     }
 

@@ -1,4 +1,4 @@
-use Rattle.std.proofs.Common.{◌≡◌, ◌<◌, true, inl, inr, refl, sym, ◌∙◌, rules, arith}
+use Rattle.std.proofs.Common.{◌≡◌, ◌<◌, true, false, inl, inr, refl, sym, ◌∙◌, rules, arith}
 use Rattle.store_terms.specs.StandsFor.{reading}
 use Rattle.store_terms.specs.Roots.{sequence_max}
 use Rattle.commit_plan.specs.Loading.{kept_in}
@@ -6,7 +6,7 @@ use Rattle.root_reading.specs.declared.load_fault.LoadFault.{LoadFault}
 use Rattle.root_reading.specs.declared.load_fault.LoadFault.TheVariants.{Device, OutOfMemory}
 use Rattle.root_store.specs.Opening.{HasRoot, Stops, Untouched}
 use Rattle.root_reading.proofs.Looked.{refuses_device, if_err}
-use Rattle.root_store.proofs.OpeningLemmas.{phases_healed, shuts, both_loads, last_loads, healed_loads, failed_loads, unread_loads, body_writes, untouched_err, device_err, device_or_memory}
+use Rattle.root_store.proofs.OpeningLemmas.{phases_healed, shuts, both_loads, last_loads, healed_loads, failed_loads, unread_loads, body_writes, none_completed, last_completed, twin_completed, untouched_err, device_err, device_or_memory}
 use Rattle.root_store.proofs.opening.load.Goals as goal
 
 pub returns-in_err-loaded-clause-loads : goal.returns-in_err-loaded-clause-loads
@@ -87,11 +87,35 @@ returns-clause-writes g c honest =
     (r.read honest).root (sym (r.read honest).alone ∙ alone) (r.seen honest) below
     (c.heal.ensures.torn (r.honest.1 honest))
 
+pub returns-then-not-is_alone-clause-completed : goal.returns-then-not-is_alone-clause-completed
+returns-then-not-is_alone-clause-completed g c honest =
+    let read = c.in_ok-loaded.ensures.read honest in
+    let both : c.in_ok-loaded.is_alone ≡ false = search rules in
+    none_completed g.D.Disk c.read_store.new.disk (g.D.Disk.seen c.args.disk.now) c.in_ok-loaded.loaded.root read.root
+    (sym read.alone ∙ both)
+
+pub returns-then-loaded-ge-NUMBER_MAX-clause-completed : goal.returns-then-loaded-ge-NUMBER_MAX-clause-completed
+returns-then-loaded-ge-NUMBER_MAX-clause-completed g c honest =
+    last_completed g.D.Disk c.read_store.new.disk (g.D.Disk.seen c.args.disk.now) c.in_ok-loaded.loaded.root
+    (c.in_ok-loaded.ensures.read honest).root (omega arith)
+
+pub returns-clause-completed : goal.returns-clause-completed
+returns-clause-completed g c honest =
+    let k = g.D.Disk in
+    let old = c.args.disk.now in
+    let mid = c.read_store.new.disk in
+    let r = c.in_ok-loaded.ensures in
+    let x = c.in_ok-loaded.loaded in
+    let alone : c.in_ok-loaded.is_alone ≡ true = search rules in
+    let settled = shuts k old mid x c.in_ok-loaded.is_alone (r.run honest) (r.read honest) (r.gives honest) alone in
+    twin_completed k c.heal.new.disk (k.seen old) x.root (r.read honest).root
+    (c.in_ok-heal.ensures.heals (r.honest.1 honest) (kept_in x) refl settled).twin
+
 pub returns-in_err-loaded-clause-untouched : goal.returns-in_err-loaded-clause-untouched
 returns-in_err-loaded-clause-untouched g c honest =
     let r = c.read_store.ensures in
     untouched_err g.D.Disk c.args.disk.now c.read_store.new.disk c.in_err-loaded.field-0.0 c.from_residual.result
-    c.from_residual.ensures.1 (r.seen honest) (r.fewer honest)
+    c.from_residual.ensures.1 (r.seen honest) (r.fewer honest) (r.run honest)
 
 pub returns-in_err-heal-clause-untouched : goal.returns-in_err-heal-clause-untouched
 returns-in_err-heal-clause-untouched g c honest =
