@@ -8,7 +8,7 @@ use Rattle.book_history.specs.declared.entry.Cause.TheVariants.{Accepted, Kept, 
 
 abbrev pub event_of : Cause → Event
 event_of (Accepted session changes) = accepted session (map command changes.now)
-event_of (Kept name column tile) = kept name.now column (tile_of tile.now)
+event_of (Kept name column tile) = kept name.now column.now (tile_of tile.now)
 event_of (Durable number) = durable_to number
 
 -- commands are those of a session that the book counts

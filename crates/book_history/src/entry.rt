@@ -7,6 +7,7 @@ ghost use Rattle.book_history.specs.Causes.{event_of, HasSeat};
 use layer_book::batch::Batch;
 use layer_book::command::Command;
 use layer_expr::name::Name;
+use plane_base::Column;
 use std::marker::Model;
 use tile_build::tile::Tile;
 use version_core::version::Version;
@@ -15,7 +16,7 @@ use version_core::version::Version;
 #[derive(Drop)]
 pub enum Event {
     Accepted(u64, Batch),
-    Kept(Name, u8, Tile),
+    Kept(Name, Column, Tile),
     Durable(u64),
 }
 
@@ -53,7 +54,7 @@ pub enum Cause<'a> {
     /// Commands of a session are accepted as one version.
     Accepted(u64, &'a [Command]),
     /// A tile of a layer and column is kept.
-    Kept(&'a Name, u8, &'a Tile),
+    Kept(&'a Name, &'a Column, &'a Tile),
     /// A number is durable.
     Durable(u64),
 }

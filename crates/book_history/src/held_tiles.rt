@@ -4,25 +4,26 @@ ghost use Rattle.book_history.specs.HeldTiles.{given_back, handed_out, has_mark,
 ghost use Rattle.book_history.specs.HeldTiles.{unmarked, unmarked_of};
 
 use layer_expr::name::Name;
+use plane_base::Column;
 use std::alloc::{AllocError, Global};
 
 /// A tile by its layer's name and its column.
 #[derive(Drop)]
 pub struct HeldTile {
     pub name: Name,
-    pub column: u8,
+    pub column: Column,
     /// Whether it was given back for want of memory. It is handed out otherwise.
     pub marked: bool,
 }
 
 impl HeldTile {
-    fn is_of(&self, name: &Name, column: u8) -> bool
+    fn is_of(&self, name: &Name, column: Column) -> bool
         ensures { result ≡ is_of name.now column self.now }
     {
         self.name.bytes() == name.bytes() && self.column == column
     }
 
-    fn mark(&mut self, name: &Name, column: u8)
+    fn mark(&mut self, name: &Name, column: Column)
         ensures { self.new ≡ marked_if name.now column self.old }
     {
         if self.is_of(name, column) {
@@ -47,7 +48,7 @@ impl HeldTiles {
     }
 
     /// Whether a tile is handed out or marked.
-    pub fn has(&self, name: &Name, column: u8) -> bool
+    pub fn has(&self, name: &Name, column: Column) -> bool
         ensures { result ≡ is_held name.now column self.now.list.items }
     {
         self.list.iter().any(|tile| tile.is_of(name, column))
@@ -63,7 +64,7 @@ impl HeldTiles {
     }
 
     /// Hands a tile out.
-    pub fn hand_out(&mut self, name: &Name, column: u8) -> Result<(), AllocError>
+    pub fn hand_out(&mut self, name: &Name, column: Column) -> Result<(), AllocError>
         ensures ok { OnOk result (self.new.list.items ≡ handed_out name.now column self.old.list.items) }
         ensures err { OnErr result (self.new.list.items ≡ self.old.list.items) }
     {
@@ -77,7 +78,7 @@ impl HeldTiles {
     }
 
     /// Takes a tile in that was handed out.
-    pub fn take_in(&mut self, name: &Name, column: u8)
+    pub fn take_in(&mut self, name: &Name, column: Column)
         ensures { self.new.list.items ≡ taken_in name.now column self.old.list.items }
     {
         self.list
@@ -85,7 +86,7 @@ impl HeldTiles {
     }
 
     /// Marks a tile that was handed out.
-    pub fn give_back(&mut self, name: &Name, column: u8)
+    pub fn give_back(&mut self, name: &Name, column: Column)
         ensures { self.new.list.items ≡ given_back name.now column self.old.list.items }
     {
         for tile in self.list.iter_mut() {

@@ -1,6 +1,7 @@
 //! Tiles that are pending, and neither handed out nor marked.
-ghost use Rattle.std.specs.Prelude.{◌≡◌, ◌<◌, None, false, IfOk, IfSome, IfNone};
+ghost use Rattle.std.specs.Prelude.{◌≡◌, ◌<◌, None, false, IsTrue, IfOk, IfSome, IfNone};
 ghost use Rattle.overlay_terms.specs.Column.{column_count};
+ghost use Rattle.overlay_terms.specs.Commands.{stands_as_derived};
 ghost use Rattle.overlay_terms.specs.Histories.{tile_at};
 ghost use Rattle.overlay_terms.specs.Tiles.{input_of};
 ghost use Rattle.book_history.specs.Free.{AllAreHeld, AreHeld, IsFree};
@@ -9,12 +10,12 @@ ghost use Rattle.book_history.specs.HeldTiles.{is_held};
 use crate::held_tiles::HeldTiles;
 use arrange::tile_input::TileInput;
 use layer_expr::name::Name;
-use plane_base::COLUMN_COUNT;
+use plane_base::{COLUMN_COUNT, Column};
 use std::alloc::{AllocError, Global};
 use version_core::version::Version;
 
 /// A pending tile of a version that is neither handed out nor marked.
-pub fn free<'a>(version: &'a Version, held: &HeldTiles) -> Option<(&'a Name, u8)>
+pub fn free<'a>(version: &'a Version, held: &HeldTiles) -> Option<(&'a Name, Column)>
     ensures some { IfSome result (λ r. IsFree version.now held.now.list.items r.0.now r.1) }
     ensures none { IfNone result (AllAreHeld version.now held.now.list.items) }
 {
@@ -32,32 +33,34 @@ pub fn free<'a>(version: &'a Version, held: &HeldTiles) -> Option<(&'a Name, u8)
 }
 
 // The same among the columns of a layer.
-fn free_column(version: &Version, held: &HeldTiles, name: &Name) -> Option<u8>
+fn free_column(version: &Version, held: &HeldTiles, name: &Name) -> Option<Column>
     ensures pending { IfSome result (λ column. tile_at version.now.tiles name.now column ≡ None) }
     ensures column { IfSome result (λ column. column < column_count) }
     ensures free { IfSome result (λ column. is_held name.now column held.now.list.items ≡ false) }
     ensures none { IfNone result (AreHeld version.now held.now.list.items name.now) }
 {
-    for column in 0..COLUMN_COUNT {
-        if version.tile(name, column).is_none() && !held.has(name, column) {
+    for number in 0..COLUMN_COUNT {
+        let Some(column) = Column::new(u64::from(number)) else {
+            unreachable!()
+        };
+        if version.shared_tile(name, column).is_none() && !held.has(name, column) {
             return Some(column);
         }
     }
     None
 }
 
-/// A copy of a tile's name, and the tile's input.
+/// A copy of the name of a derived layer, and the input of its tile.
 pub fn parts(
     version: &Version,
     alloc: Global,
     name: &Name,
-    column: u8,
+    column: Column,
 ) -> Result<(Name, TileInput), AllocError>
+    requires { IsTrue (stands_as_derived version.now.layers name.now) }
     ensures { IfOk result (λ r. (r.0 ≡ name.now) × (r.1 ≡ input_of version.now.layers name.now column)) }
 {
     let copy = name.clone()?;
-    match version.layers().input(alloc, name, column) {
-        Ok(input) => Ok((copy, input)),
-        Err(_) => Err(AllocError),
-    }
+    let input = version.layers().input_in_reach(alloc, name, column)?;
+    Ok((copy, input))
 }

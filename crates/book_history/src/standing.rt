@@ -7,6 +7,7 @@ ghost use Rattle.book_history.specs.Standing.{IsFresh, left_over, told};
 use crate::fault::ToldFault;
 use crate::held_tiles::HeldTiles;
 use layer_expr::name::Name;
+use plane_base::Column;
 use std::alloc::Global;
 
 /// What lies under the lock beside the log.
@@ -47,7 +48,7 @@ impl Standing {
     }
 
     /// The job of a tile was spent, and the tile was kept or not.
-    pub fn job_finished(&mut self, name: &Name, column: u8, kept: bool)
+    pub fn job_finished(&mut self, name: &Name, column: Column, kept: bool)
         ensures { IsAfterFinish self.old name.now column kept self.new }
     {
         self.held.take_in(name, column);
@@ -65,7 +66,7 @@ impl Standing {
     }
 
     /// A tile that was handed out was given back: it is marked.
-    pub fn give_back(&mut self, name: &Name, column: u8)
+    pub fn give_back(&mut self, name: &Name, column: Column)
         ensures { HasHeld self.old (given_back name.now column self.old.held.list.items) self.new }
     {
         self.held.give_back(name, column);

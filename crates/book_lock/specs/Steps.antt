@@ -1,7 +1,7 @@
 -- What the lock's methods leave a token with.
-use Rattle.std.specs.Prelude.{◌≡◌, ◌⊎◌, ◌++◌, ◌∷◌, ◌<◌, [], ℕ, zero, suc, Bool, true, false, List}
+use Rattle.std.specs.Prelude.{◌≡◌, ◌⊎◌, ◌++◌, ◌∷◌, ◌<◌, [], ℕ, zero, suc, Bool, true, false, List, None}
 use mathlib.Core.List.{IsPrefix}
-use Rattle.overlay_terms.specs.Histories.{Tile, Entry, accepted, commands_of, kept, durable_to, FollowsBatch, FollowsTile, FollowsReport, StaysAtReport}
+use Rattle.overlay_terms.specs.Histories.{Tile, Entry, accepted, commands_of, kept, durable_to, tile_at, FollowsBatch, FollowsTile, FollowsReport, StaysAtReport}
 use Rattle.overlay_terms.specs.Batches.{Batch}
 use Rattle.overlay_terms.specs.Layers.{Name}
 use Rattle.overlay_terms.specs.Tiles.{Input}
@@ -24,12 +24,13 @@ IsAcceptedIn log session batch after number =
     FollowsBatch (newest_in log) batch (newest_in after)
     × (after ≡ log ++ entry (accepted session batch) (newest_in after) ∷ []) × ((newest_in after).number ≡ number)
 
--- a built tile that is awaited is kept, by its entry; or it is not awaited, and nothing changes
+-- a built tile that is awaited is kept, by its entry; or it is not awaited, nor is it there, and nothing changes
 abbrev pub IsFinishedIn : List Entry → Name → Input → Tile → Bool → List Entry → Type 0
 IsFinishedIn log name input tile true after =
     IsAwaited (newest_in log) name input × FollowsTile (newest_in log) name input.column tile (newest_in after)
     × (after ≡ log ++ entry (kept name input.column tile) (newest_in after) ∷ [])
-IsFinishedIn log name input tile false after = ¬ (IsAwaited (newest_in log) name input) × (after ≡ log)
+IsFinishedIn log name input tile false after =
+    ¬ (IsAwaited (newest_in log) name input) × (tile_at (newest_in log).tiles name input.column ≡ None) × (after ≡ log)
 
 -- a report of a number adds its entry, or it changes nothing and so adds none
 abbrev pub IsReportedIn : List Entry → ℕ → List Entry → Type 0

@@ -13,6 +13,7 @@ use layer_expr::name::Name;
 use std::alloc::Global;
 use std::sync::Wait;
 use tile_build::built::Built;
+use version_core::version::Version;
 
 impl<J: Naming, R: Wait + Drop> LockedLog<J, R> {
     /// Keeps a built tile where it is awaited: the one entry that this adds, or nothing.
@@ -20,11 +21,16 @@ impl<J: Naming, R: Wait + Drop> LockedLog<J, R> {
         ensures kept { IfOk result (λ is_kept. IsFinishedIn self.old name.now built.now.0 built.now.1 is_kept self.new) }
         ensures err { IfErr result (λ fault. (self.new ≡ self.old) × ((fault ≡ no_memory) ⊎ (fault ≡ BookFault.Gone))) }
     {
-        let Some(version) = kept_version(alloc, &self.last().version, name, built)? else {
+        let now: &Version = &self.last().version;
+        let column = built.input().column();
+        // Who builds a tile has it alone, so it cannot be there.
+        if now.shared_tile(name, column).is_some() {
+            return Err(BookFault::Gone);
+        }
+        let Some(version) = kept_version(alloc, now, name, built)? else {
             return Ok(false);
         };
-        let column = built.input().column().number();
-        self.add(Cause::Kept(name, column, built.tile()), version)?;
+        self.add(Cause::Kept(name, &column, built.tile()), version)?;
         Ok(true)
     }
 

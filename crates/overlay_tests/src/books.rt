@@ -371,7 +371,7 @@ pub fn finish<J: Naming, R: Wait + Drop, W: Wait + Abort>(
     let input = job.input().try_copy(alloc).expect(rt, "memory");
     let built = Built::new(alloc, input).expect(rt, "memory");
     match shared.finish(rt, alloc, job, built) {
-        Ok(kept) => kept,
+        Ok((kept, _log)) => kept,
         Err((job, _built, _fault)) => {
             shared.give_back(rt, job);
             false

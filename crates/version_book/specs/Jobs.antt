@@ -27,7 +27,8 @@ pub record IsJob (job : Handed) : Type 0 where
   pub pending : IsPending (newest_in job.log) job.name job.input.column
   pub present : job.input ≡ input_of (newest_in job.log).layers job.name job.input.column
 
--- a job was spent with a tile: where it was awaited it stands last now, and where not, the log stayed as it was
+-- a job was spent with a tile: where it was awaited it stands last now; where not, it is not in the log's last version,
+-- and the log stayed as it was
 pub record IsFinishedBy (job : Handed) (tile : Tile) (is_kept : Bool) (after : List Entry) : Type 0 where
   pub log : List Entry
   pub finished : IsFinishedIn log job.name job.input tile is_kept after

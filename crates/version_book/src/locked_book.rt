@@ -133,7 +133,7 @@ impl<J: Naming, R: Wait + Drop> LockedBook<J, R> {
             Err(fault) => return Err((job, built, fault)),
         };
         self.standing
-            .job_finished(job.name(), job.input().column().number(), kept);
+            .job_finished(job.name(), job.input().column(), kept);
         job.end();
         Ok(kept)
     }

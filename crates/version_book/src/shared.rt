@@ -142,28 +142,9 @@ impl<J: Naming, R: Wait + Drop> Shared<J, R> {
         turn.book.take(alloc)
     }
 
-    /// Spends a job with the tile that was built of its input, and says whether it was kept. Where that cannot be
-    /// written down, for want of memory, both come back.
+    /// Spends a job with the tile that was built of its input. It says whether the tile was kept, with the log behind
+    /// it, where the tile stands last then. Where that cannot be written down, for want of memory, both come back.
     pub fn finish<W: Wait>(
-        &self,
-        rt: &W,
-        alloc: Global,
-        job: Job,
-        built: Built,
-    ) -> Result<bool, (Job, Built, BookFault)>
-        requires book { job.book ≡ J.book }
-        requires input { built.0 ≡ job.input }
-        ensures err { IfErr result (λ e. (e.0 ≡ job) × (e.1 ≡ built)) }
-        ensures refused { IfErr result (λ e. (e.2 ≡ no_memory) ⊎ (e.2 ≡ BookFault.Gone)) }
-    {
-        match self.finish_seen(rt, alloc, job, built) {
-            Ok((kept, _log)) => Ok(kept),
-            Err(back) => Err(back),
-        }
-    }
-
-    /// Spends a job as `finish` does, and gives the log behind it: the tile stands last there where it was kept.
-    pub fn finish_seen<W: Wait>(
         &self,
         rt: &W,
         alloc: Global,

@@ -1,5 +1,6 @@
 //! Handing out tiles, and taking them back without, under the lock.
 ghost use Rattle.std.specs.Prelude.{◌≡◌, IsTrue, None, Ok, IfOk, IfErr, IfSome, IfNone};
+ghost use Rattle.overlay_terms.specs.Commands.{stands_as_derived};
 ghost use Rattle.overlay_terms.specs.Tiles.{input_of};
 ghost use Rattle.book_history.specs.Fault.{no_memory};
 ghost use Rattle.book_history.specs.Free.{AllAreHeld, IsFree};
@@ -17,6 +18,7 @@ use book_history::making::NO_MEMORY;
 use book_history::pending::{free, parts};
 use book_history::seen_log::Naming;
 use layer_expr::name::Name;
+use plane_base::Column;
 use std::alloc::{AllocError, Global};
 use std::sync::Wait;
 
@@ -39,10 +41,11 @@ impl<J: Naming, R: Wait + Drop> LockedBook<J, R> {
         if self.standing.closing {
             return Ok(None);
         }
-        let Some((name, column)) = self.free() else {
+        let Some(tile) = self.free() else {
             return Ok(None);
         };
-        let Ok((name, input)) = self.parts(alloc, name, column) else {
+        let column = tile.1;
+        let Ok((name, input)) = self.parts(alloc, tile.0, column) else {
             return Err(NO_MEMORY);
         };
         let job = Job::new(name, input, self.log.last().trace.again());
@@ -59,13 +62,12 @@ impl<J: Naming, R: Wait + Drop> LockedBook<J, R> {
         ensures log { self.new.log ≡ self.old.log }
         ensures standing { HasHeld self.old.standing (given_back job.name job.input.column self.old.standing.held.list.items) self.new.standing }
     {
-        self.standing
-            .give_back(job.name(), job.input().column().number());
+        self.standing.give_back(job.name(), job.input().column());
         job.end();
     }
 
     /// A pending tile that is neither handed out nor marked.
-    pub fn free(&self) -> Option<(&Name, u8)>
+    pub fn free(&self) -> Option<(&Name, Column)>
         ensures some { IfSome result
             (λ r. IsFree (newest_in self.now.log) self.now.standing.held.list.items r.0.now r.1) }
         ensures none { IfNone result (AllAreHeld (newest_in self.now.log) self.now.standing.held.list.items) }
@@ -73,8 +75,14 @@ impl<J: Naming, R: Wait + Drop> LockedBook<J, R> {
         free(&self.log.last().version, &self.standing.held)
     }
 
-    // A copy of a tile's name, and the tile's input.
-    fn parts(&self, alloc: Global, name: &Name, column: u8) -> Result<(Name, TileInput), AllocError>
+    // A copy of the name of a derived layer, and the input of its tile.
+    fn parts(
+        &self,
+        alloc: Global,
+        name: &Name,
+        column: Column,
+    ) -> Result<(Name, TileInput), AllocError>
+        requires { IsTrue (stands_as_derived (newest_in self.now.log).layers name.now) }
         ensures { IfOk result (λ r. (r.0 ≡ name.now)
             × (r.1 ≡ input_of (newest_in self.now.log).layers name.now column)) }
     {

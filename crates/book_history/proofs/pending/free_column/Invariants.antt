@@ -4,6 +4,6 @@ use Rattle.book_history.specs.HeldTiles.{is_held}
 use Rattle.book_history.proofs.pending.free_column.Given as goal
 
 -- the tiles of the columns before this one are finished or held
-abbrev pub invariant-loop-column : goal.invariant-loop-column
-invariant-loop-column l =
-    (k : ℕ) → k < l.column → tile_at l.version.tiles l.name k ≡ None → is_held l.name k l.held.list.items ≡ true
+abbrev pub invariant-loop-number : goal.invariant-loop-number
+invariant-loop-number l =
+    (k : ℕ) → k < l.number → tile_at l.version.tiles l.name k ≡ None → is_held l.name k l.held.list.items ≡ true

@@ -54,7 +54,7 @@ returns g c =
     let present = ap (λ j. j.input) c.new-job.ensures ∙ c.in-Ok.ensures.1 in
     let old = c.args.self.now.standing.held.list.items in
     let held = on_ok c.hand_out.result _ _ c.is_err.ensures.value c.if-is_err.false c.hand_out.ensures.ok
-    ∙ ap (λ n. handed_out n c.in-Some.column old) c.name.ensures
+    ∙ ap (λ n. handed_out n c.in-Some.tile.1 old) c.name.ensures
     ∙ ap (λ k. handed_out c.new-job.result.name k old) (sym (ap (λ i. i.column) present)) in
     record {
       log = refl;
