@@ -15,18 +15,18 @@ impl<D: Disk> Engine<D> {
     pub(crate) fn take(&mut self, alloc: Global, name: &Name, column: u8) -> Reply
         ensures { Takes name.now column self.old result self.new }
     {
-        let found = match self
+        let column = match self
             .version
             .layers()
             .tile_column(name, Column::new(u64::from(column)))
         {
-            Ok(found) => found,
+            Ok(column) => column,
             Err(fault) => return Reply::Refused(fault.code()),
         };
-        if self.version.tile(name, column).is_some() || self.next_job == u32::MAX {
+        if self.version.shared_tile(name, column).is_some() || self.next_job == u32::MAX {
             return Reply::NoJob;
         }
-        match self.hold(alloc, name, found) {
+        match self.hold(alloc, name, column) {
             Ok(number) => Reply::Taken(number),
             Err(_) => Reply::Refused(OUT_OF_MEMORY),
         }

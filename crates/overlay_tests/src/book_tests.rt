@@ -59,11 +59,11 @@ fn a_batch_is_one_version_for_every_session_or_none(rt: HostRuntime) {
 
 const BESIDE: Row = Row::SubmitBeside(Change::Put("A", SQUARE), Change::Put("B", SHIFTED));
 
-/// Fifteen hundred commands of each session, and thirty reports.
-const MANY: &[&[Row]] = &[&[BESIDE; 30]];
+/// 1,500 commands of each session, and as many reports as there is news.
+const MANY: &[&[Row]] = &[&[BESIDE]];
 
 #[test]
-fn two_threads_share_one_row_of_numbers_however_long(rt: HostRuntime) {
+fn two_threads_share_one_row_of_numbers_beside_a_reporter(rt: HostRuntime) {
     play(&rt, rt.alloc(), false, MANY, 3000);
 }
 

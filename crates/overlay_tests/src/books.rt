@@ -66,7 +66,8 @@ pub enum Row {
     BuildsBeside(&'static str, Answer),
     /// The first session waits in a thread of its own, until a call ends that: what the wait answers.
     WaitsBeside(WaitFor, Call, Answer),
-    /// Two sessions submit a command each, fifty times in a thread of its own, and the last version is reported.
+    /// Two sessions submit a command each, 1,500 times in a thread of its own, and the reporter reports in a third what
+    /// it is given. The book closes then, with the last version reported.
     SubmitBeside(Change, Change),
 }
 
@@ -232,8 +233,9 @@ fn play_row<J: Naming + Send + Sync, R: Threads + Wait + Clock + Abort + Sync>(
         }
         Row::SubmitBeside(first, second) => {
             let (first, second) = (command(rt, alloc, first), command(rt, alloc, second));
-            let last = submit_beside(rt, alloc, shared, me, other, first, second);
-            let reported = report_news(rt, alloc, shared, reporter);
+            let (last, reported) = submit_beside(
+                rt, alloc, shared, reporter, me, other, first, second,
+            );
             check(rt, at, &reported, &Ok(Some(last)));
             None
         }
@@ -243,22 +245,6 @@ fn play_row<J: Naming + Send + Sync, R: Threads + Wait + Clock + Abort + Sync>(
 /// The last number of a list.
 fn last_of(done: Result<Vec<u64>, BookFault>) -> Answer {
     Ok(done?.last().copied())
-}
-
-/// Reports the version durable that the reporter is given.
-fn report_news<J: Naming, R: Wait + Abort>(
-    rt: &R,
-    alloc: Global,
-    shared: &Shared<J, &R>,
-    reporter: &mut Reporter,
-) -> Answer
-    requires { reporter.old.book ≡ J.book }
-    ensures { reporter.new.book ≡ reporter.old.book }
-{
-    match shared.next_version(rt, reporter)? {
-        Some(version) => told(shared.report(rt, alloc, reporter, version.number())),
-        None => Ok(None),
-    }
 }
 
 /// The number of a version, where a point is inside a layer of it.

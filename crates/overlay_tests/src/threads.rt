@@ -18,7 +18,7 @@ use version_book::shared::Shared;
 /// What a session does with a book.
 #[derive(Drop)]
 pub enum Work {
-    /// Submits the command fifty times, and looks at each version.
+    /// Submits the command 1,500 times, and looks at each version.
     Submits(Command),
     /// Asks for a tile and builds it, which is to be kept.
     Builds,
@@ -45,7 +45,7 @@ fn carry_out<J: Naming, R: Wait + Clock + Abort>(
     match work {
         Work::Submits(change) => {
             let mut last = 0;
-            'puts: for _ in 0..50 {
+            'puts: for _ in 0..1500 {
                 let number = shared.submit(rt, alloc, me, change)?;
                 assert!(rt; number > last);
                 let seen = me.snapshot()?.number();
@@ -131,36 +131,85 @@ fn late<J: Naming, R: Wait + Clock + Abort>(
     answer(rt, alloc, shared, reporter, other, asked)
 }
 
-/// Asserts that two lists of fifty numbers have the hundred behind one between them, and so each once.
+/// Reports the number of each version that the reporter is given, until the book closes, and tells the last one.
+fn report_all<J: Naming, R: Wait + Abort>(
+    rt: &R,
+    alloc: Global,
+    shared: &Shared<J, &R>,
+    reporter: &mut Reporter,
+) -> Answer
+    requires { reporter.old.book ≡ J.book }
+    ensures { reporter.new.book ≡ reporter.old.book }
+{
+    let mut last = None;
+    'news: for _ in rt.forever() {
+        let Some(version) = shared.next_version(rt, reporter)? else {
+            return Ok(last);
+        };
+        let number = version.number();
+        assert!(rt; last < Some(number));
+        last = Some(shared.report(rt, alloc, reporter, number)?);
+        assert!(rt; last == Some(number));
+    }
+    unreachable!()
+}
+
+/// Asserts that two lists of 1,500 numbers have the 3,000 behind one between them, and so each once.
 fn share_all<R: Abort>(rt: &R, from: u64, first: &[u64], second: &[u64]) {
-    assert!(rt; first.len() == 50);
-    assert!(rt; second.len() == 50);
-    for more in 1..101 {
+    assert!(rt; first.len() == 1500);
+    assert!(rt; second.len() == 1500);
+    for more in 1..3001 {
         let number = from.wrapping_add(more);
         assert!(rt; first.contains(&number) || second.contains(&number));
     }
 }
 
-/// Submits one command fifty times in each of two threads, and tells the number of the last version.
-pub fn submit_beside<J: Naming + Send + Sync, R: Threads + Wait + Clock + Abort + Sync>(
+/// Does what two sessions do in threads of their own, and then closes the book.
+fn beside_until_closing<J: Naming + Send + Sync, R: Threads + Wait + Clock + Abort + Sync>(
     rt: &R,
     alloc: Global,
     shared: &Shared<J, &R>,
     one: &mut Session,
     two: &mut Session,
-    first: Command,
-    second: Command,
-) -> u64
+    first: &Work,
+    second: &Work,
+) -> (Result<Vec<u64>, BookFault>, Result<Vec<u64>, BookFault>)
     requires { (one.old.book ≡ J.book) × (two.old.book ≡ J.book) }
     ensures { (one.new.book ≡ one.old.book) × (two.new.book ≡ two.old.book) }
 {
+    let done = beside(rt, alloc, shared, one, two, first, second);
+    shared.begin_close(rt);
+    done
+}
+
+/// Submits one command 1,500 times in each of two threads, while the reporter reports in a third, and closes the book.
+/// It tells the number of the last version, and the last one that was reported.
+// Where there is no memory for a thread, the reporter comes last.
+pub fn submit_beside<J: Naming + Send + Sync, R: Threads + Wait + Clock + Abort + Sync>(
+    rt: &R,
+    alloc: Global,
+    shared: &Shared<J, &R>,
+    reporter: &mut Reporter,
+    one: &mut Session,
+    two: &mut Session,
+    first: Command,
+    second: Command,
+) -> (u64, Answer)
+    requires { (reporter.old.book ≡ J.book) × (one.old.book ≡ J.book) × (two.old.book ≡ J.book) }
+    ensures { (reporter.new.book ≡ reporter.old.book) × (one.new.book ≡ one.old.book)
+        × (two.new.book ≡ two.old.book) }
+{
     let from = one.snapshot().expect(rt, "no version").number();
     let (first, second) = (Work::Submits(first), Work::Submits(second));
-    let (ours, theirs) = beside(rt, alloc, shared, one, two, &first, &second);
+    let (reported, (ours, theirs)) = join_mut(
+        rt,
+        &mut || report_all(rt, alloc, shared, reporter),
+        &mut || beside_until_closing(rt, alloc, shared, one, two, &first, &second),
+    );
     let ours = ours.expect(rt, "no numbers of the first");
     let theirs = theirs.expect(rt, "no numbers of the second");
     share_all(rt, from, &ours, &theirs);
     let last = one.snapshot().expect(rt, "no version").number();
-    assert!(rt; last == from.wrapping_add(100));
-    last
+    assert!(rt; last == from.wrapping_add(3000));
+    (last, reported)
 }
