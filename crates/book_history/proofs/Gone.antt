@@ -40,33 +40,6 @@ pub passed : {A E : Type 0} (P : E → Type 0) (r : Result A E) (x : E) → IsEr
 passed P (Ok v) x and p = absurd and
 passed P (Err y) x and p = subst P (sym and) p
 
--- a batch that could be accepted is refused for want of memory
-pub batch_for_want : (version : Version) (commands : Batch) (x : BatchFault) (f : BookFault) → x ≡ whole f → f ≡ no_memory
-    → batch_refusal_at version.number version.layers commands ≡ None → RefusedAllBy (batch_refusal_at version.number version.layers commands) x
-batch_for_want version commands x f told is none = inl (told ∙ ap whole is, no_reason batch.fault_of _ none)
-
--- no refusal of a command has the number of a book that is behind
-not_gone : (reason : Refusal) → code_for reason ≡ 44 → ⊥
-not_gone unknown_layer e = omega (arith, e)
-not_gone not_base e = omega (arith, e)
-not_gone not_derived e = omega (arith, e)
-not_gone later_layer e = omega (arith, e)
-not_gone in_use e = omega (arith, e)
-not_gone too_many_layers e = omega (arith, e)
-not_gone version_limit e = omega (arith, e)
-
--- the number of a fault, where there is one
-abbrev code_or : Option BatchFault → ℕ
-code_or None = 0
-code_or (Some f) = batch.code_of f
-
--- a version does not refuse a batch as a book that is behind does
-pub refused_not_gone : (reason : Option BatchRefusal) (f : BatchFault) → RefusedAllBy reason f → f ≡ whole fault.Gone → ⊥
-refused_not_gone reason f (inl memory) is = let e : 40 ≡ 44 = ap batch.code_of (sym memory.0 ∙ is) in omega (arith, e)
-refused_not_gone None f (inr e) is = absurd (cc)
-refused_not_gone (Some (at place reason)) f (inr e) is = absurd (cc)
-refused_not_gone (Some (as_whole reason)) f (inr e) is = not_gone reason (ap code_or (e ∙ ap (λ x. Some x) is))
-
 -- one of two facts, whatever the fault of a batch is
 pub batch_gone_or : (f : BatchFault) {A B C : Type 0} → (A → C) → (B → C) → IfBatchGone f A B → C
 batch_gone_or f g h (inl x) = g x.1

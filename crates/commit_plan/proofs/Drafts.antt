@@ -134,13 +134,6 @@ pub passed_error : {A E : Type 0} (B : Type 0) (r : Result A E) (x e : E) → Is
 passed_error B (Ok y) x e and is = absurd and
 passed_error {A} {E} B (Err y) x e and is = ap (error_in B) (sym and ∙ let same : y ≡ e = cc in same)
 
--- a fault of extents that do not overlap
-pub room_fault : (e : ExtentFault) → (e ≡ extents.Overlap → ⊥)
-    → (fault_of_extents e ≡ Full) ⊎ (fault_of_extents e ≡ OutOfMemory)
-room_fault extents.Full never = inl refl
-room_fault extents.Overlap never = absurd (never refl)
-room_fault extents.OutOfMemory never = inr refl
-
 -- nor one that is not told as full
 pub not_full : (e : ExtentFault) → (e ≡ extents.Overlap → ⊥) → (e ≡ extents.Full → ⊥) → fault_of_extents e ≡ Full → ⊥
 not_full extents.Full apart never is = never refl

@@ -209,7 +209,3 @@ pub last_first : (es : List RecordExtent) (c : RecordExtent) → AllBeside (es +
 last_first es c all = all_apart_is (c ∷ es) (beside_last es c all, beside_front es c all)
 
 -- ---- the extents of records, as the catalog lists them
-
-pub extents_both : (fs gs : List Filed) → extents_of_filed (fs ++ gs) ≡ extents_of_filed fs ++ extents_of_filed gs
-extents_both [] gs = refl
-extents_both (f ∷ fs) gs = ap (λ (l : List RecordExtent). f.extent ∷ l) (extents_both fs gs)

@@ -70,9 +70,6 @@ pub record AreSplit (layers : List Layer) (place : ℕ) (tiles rest : List Store
   pub split : tiles ≡ before ++ rest
   pub earlier : AllByRecursion (λ t. index_of layers t.name < place) before
 
-pub none_split : (layers : List Layer) (tiles : List StoredTile) → AreSplit layers 0 tiles tiles
-none_split layers tiles = record { before = []; split = refl; earlier = tt }
-
 both_own : (layers : List Layer) (place : ℕ) (own more : List StoredTile)
     → AllByRecursion (λ t. index_of layers t.name ≡ place) own → AllByRecursion (λ t. index_of layers t.name ≡ place) more
     → AllByRecursion (λ t. index_of layers t.name ≡ place) (own ++ more)

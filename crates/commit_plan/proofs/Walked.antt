@@ -159,36 +159,12 @@ writes_count (f ∷ fs) (w ∷ ws) writes = omega (arith, writes_count fs ws wri
 abbrev IsFirst : List StoredTile → StoredTile → Type 0
 IsFirst ts t = t ≡ slice_index_or ts 0 t
 
-pub here_some : (layers : List Layer) (place k : ℕ) (ts : List StoredTile)
-    → IsHere layers place k (map finished_of ts) → 0 < length ts
-here_some layers place k [] here = absurd here
-here_some layers place k (u ∷ us) here = omega arith
-
-pub here_at : (layers : List Layer) (place k : ℕ) (ts : List StoredTile) (t : StoredTile) → 0 < length ts
-    → t ≡ slice_index_or ts 0 t → index_of layers t.name ≡ place → t.column ≡ k → IsHere layers place k (map finished_of ts)
-here_at layers place k [] t some is index column = absurd (omega (arith, some))
-here_at layers place k (u ∷ us) t some is index column = (
-  ap (λ (v : StoredTile). index_of layers v.name) (sym is) ∙ index,
-  ap (λ (v : StoredTile). v.column) (sym is)
-      ∙ column,
-)
-
-pub here_known : (layers : List Layer) (place k : ℕ) (ts : List StoredTile)
-    → IsHere layers place k (map finished_of ts) → AreLeft layers place k (map finished_of ts) → k < column_count
-here_known layers place k [] here left = absurd here
-here_known layers place k (u ∷ us) here left = subst (λ (n : ℕ). n < column_count) here.1 left.columns.0
-
 pub here_formed : (layers : List Layer) (place k : ℕ) (ts : List StoredTile) (t : StoredTile)
     → t ≡ slice_index_or ts 0 t → IsHere layers place k (map finished_of ts)
     → AreLeft layers place k (map finished_of ts) → IsTrue (is_formed (tile_of t.tile.value) t.column)
 here_formed layers place k [] t is here left = absurd here
 here_formed layers place k (u ∷ us) t is here left =
     subst (λ (v : StoredTile). IsTrue (is_formed (tile_of v.tile.value) v.column)) (sym is) left.formed.0
-
-pub here_column : (layers : List Layer) (place k : ℕ) (ts : List StoredTile) (t : StoredTile)
-    → t ≡ slice_index_or ts 0 t → IsHere layers place k (map finished_of ts) → t.column ≡ k
-here_column layers place k [] t is here = absurd here
-here_column layers place k (u ∷ us) t is here = ap (λ (v : StoredTile). v.column) is ∙ here.1
 
 pub append_none : (fs : List Filed) → fs ++ [] ≡ fs
 append_none [] = refl

@@ -49,9 +49,6 @@ all_pairs_joined R (x ∷ xs) ys first second across =
 no_pairs : {X : Type 0} (R : X → X → Type 0) → AllPairs R []
 no_pairs R i j d less h = absurd (omega arith)
 
-one_alone : {X : Type 0} (R : X → X → Type 0) (x : X) → AllPairs R (x ∷ [])
-one_alone R x = AllPairs-cons R x [] (All-nil (R x)) (no_pairs R)
-
 module _ (version : Version) where
   -- ---- each tile that stands is found there
 

@@ -57,10 +57,6 @@ pub got : (es : List (List ℕ × Layer)) (name : List ℕ) (r : Option (Bor Lay
     → option_map (λ layer. content layer.now) r ≡ content_named (layers_of es) name
 got es name r e = contents_of r ∙ ap (option_map content) e ∙ lookup_is es name
 
-pub used_is : (es : List (List ℕ × Layer)) (name : List ℕ) → list_any (λ layer. uses name (content layer)) (values_of es) ≡ list_any (λ layer. uses name layer.content) (layers_of es)
-used_is [] name = refl
-used_is (e ∷ es) name = ap (λ b. uses name (content e.1) || b) (used_is es name)
-
 -- an entry with a new name goes last
 pub insert_new : (es : List (List ℕ × Layer)) (name : List ℕ) (layer : Layer) → stands (layers_of es) name ≡ false
     → layers_of (insert_entry bytes_eq es name layer) ≡ layers_of es ++ named_layer (name, layer) ∷ []

@@ -30,15 +30,6 @@ put_both f g x y old mid new first second = record {
   spelled = joined old (f.text x) (g.text y) mid new first.spelled second.spelled;
 }
 
-pub put_made : {A B : Type 0} (from : A → B) (back : B → A) (f : Field A) (y : B) (old new : List ℕ)
-    → IsPut f (back y) old new → IsPut (made from back f) y old new
-put_made from back f y old new put = record { fits = put.fits; spelled = put.spelled }
-
-pub put_sieved : {A : Type 0} (test : A → Bool) (f : Field A) (x : A) (old new : List ℕ) → test x ≡ true
-    → IsPut f x old new → IsPut (sieved test f) x old new
-put_sieved test f x old new passed put =
-    record { fits = and_from (f.fits x) (test x) put.fits passed; spelled = put.spelled }
-
 pub put_first : {A B : Type 0} (f : Field A) (g : Field B) (x : A) (old mid new : List ℕ) → mid ≡ old ++ 0 ∷ []
     → IsPut f x mid new → IsPut (either f g) (inl x) old new
 put_first f g x old mid new tag put =
@@ -48,9 +39,6 @@ pub put_second : {A B : Type 0} (f : Field A) (g : Field B) (y : B) (old mid new
     → IsPut g y mid new → IsPut (either f g) (inr y) old new
 put_second f g y old mid new tag put =
     record { fits = put.fits; spelled = joined old (1 ∷ []) (g.text y) mid new tag put.spelled }
-
-pub put_none : {A : Type 0} (f : Field A) (old new : List ℕ) → new ≡ old ++ 0 ∷ [] → IsPut (optional f) None old new
-put_none f old new tag = record { fits = refl; spelled = tag }
 
 pub put_some : {A : Type 0} (f : Field A) (x : A) (old mid new : List ℕ) → mid ≡ old ++ 1 ∷ [] → IsPut f x mid new
     → IsPut (optional f) (Some x) old new

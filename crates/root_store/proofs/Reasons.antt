@@ -37,16 +37,6 @@ pub reason_of : {T : Type 0} (r : Result T StoreFault) (phase : Phase) (root : R
 reason_of (Ok x) phase root A B more is = tt
 reason_of (Err fault) phase root A B more is = wider phase root A B more fault is
 
--- where no commit is under way and no call has failed, the store rests
-pub idle_of : (p : Phase) → is_busy p ≡ false → (p ≡ phases.Failed → ⊥) → p ≡ phases.Idle
-idle_of phases.Idle busy well = refl
-idle_of phases.Failed busy well = absurd (well refl)
-idle_of phases.Close busy well = absurd (false≢true (sym busy))
-idle_of phases.Settle busy well = absurd (false≢true (sym busy))
-idle_of phases.Put busy well = absurd (false≢true (sym busy))
-idle_of phases.Open busy well = absurd (false≢true (sym busy))
-idle_of phases.Finish busy well = absurd (false≢true (sym busy))
-
 -- the fault that `?` passes on has what the one that was met has
 pub passed_on : {T : Type 0} (P : StoreFault → Type 0) (r : Result T StoreFault) (x : StoreFault)
     → IsErrAnd r (λ y. y ≡ x) → P x → IfErr r P

@@ -95,29 +95,6 @@ pub away_refused : (was now : Known) (log : List Entry) (f : BookFault) (closing
 away_refused was now log f closing v c (inl h) is = subst (λ f. IsRefused closing v c f) (sym h.0) is
 away_refused was now log f closing v c (inr h) is = subst (λ f. IsRefused closing v c f) (sym h.0) tt
 
--- ---- of a batch
--- what refuses it in a book that is open refuses it in one that may close
-pub batch_open_refused : (f : BatchFault) (closing : Bool) (v : Version) (b : Batch) → IsBatchRefused false v b f → IsBatchRefused closing v b f
-batch_open_refused f closing v b (inl gone) = inl gone
-batch_open_refused f closing v b (inr (inl closes)) = absurd (true≢false (sym closes.0))
-batch_open_refused f closing v b (inr (inr refused)) = inr (inr refused)
-
--- a book that closes is not one that is behind
-closing_not_gone : whole fault.Closing ≡ whole fault.Gone → ⊥
-closing_not_gone same = let e : 43 ≡ 44 = ap code_of same in omega (arith, e)
-
-pub batch_away_looks : (was now : Known) (log : List Entry) (f : BookFault) (x : BatchFault) → x ≡ whole f → IsTurnedAway was now log f
-    → IfBatchGone x (now ≡ was) (HasLooked was log now)
-batch_away_looks was now log f x is (inl h) =
-    subst (λ y. IfBatchGone y (now ≡ was) (HasLooked was log now)) (sym (is ∙ ap whole h.0)) (inr (closing_not_gone, h.1))
-batch_away_looks was now log f x is (inr h) =
-    subst (λ y. IfBatchGone y (now ≡ was) (HasLooked was log now)) (sym (is ∙ ap whole h.0)) (inl (refl, h.1))
-
-pub batch_away_refused : (was now : Known) (log : List Entry) (f : BookFault) (x : BatchFault) (closing : Bool) (v : Version) (b : Batch)
-    → x ≡ whole f → IsTurnedAway was now log f → IsTrue closing → IsBatchRefused closing v b x
-batch_away_refused was now log f x closing v b is (inl h) closes = inr (inl (closes, is ∙ ap whole h.0))
-batch_away_refused was now log f x closing v b is (inr h) closes = inl (is ∙ ap whole h.0)
-
 -- ---- of what is passed up
 abbrev refused_by : BookFault → Result ℕ BookFault
 refused_by f = Err f
