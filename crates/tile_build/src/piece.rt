@@ -1,9 +1,11 @@
 //! Pieces of the boundary.
-ghost use Rattle.std.specs.Prelude.{◌≡◌, ◌↔◌, IsSome, IfSome};
+ghost use Rattle.std.specs.Prelude.{◌≡◌, ◌↔◌, IsSome, IfSome, map};
 ghost use Rattle.overlay_terms.specs.TileLaws.{is_pair_below};
 ghost use Rattle.exact_point.specs.Place.{place};
 ghost use Rattle.exact_point.specs.NamedPiece.{ends_of};
+ghost use Rattle.exact_point.specs.PlaceOf.{place_of};
 ghost use Rattle.crossing_sweep.specs.Crossed.{name_at, IsSpan};
+ghost use Rattle.crossing_sweep.specs.Rows.{row_ends};
 
 use crate::ends::{are_ends, is_name_in, name_cmp};
 use arrange::Elementary;
@@ -108,7 +110,8 @@ impl Piece {
     /// The row of a pass over nodes with these names as a piece of the boundary.
     pub(crate) fn of_row(names: &[PointName], row: &Row) -> Piece
         requires { IsSpan names.now row.now }
-        ensures { result ≡ record { support = row.now.support; from = name_at names.now row.now.first; to = name_at names.now row.now.last } }
+        ensures value { result ≡ record { support = row.now.support; from = name_at names.now row.now.first; to = name_at names.now row.now.last } }
+        ensures ends { ends_of result ≡ row_ends (map place_of names.now) row.now }
     {
         Piece {
             support: row.support,
