@@ -161,7 +161,7 @@ module _ {D : Type 0} (g : Ghosts D) where
       (omega (arith, level, one.0, more.0), more.1)
 
   -- a run in two parts
-  leads_between : (run : List (Made D)) (last : Made D) (old new : Engine D) → Leads g old (run ++ last ∷ []) new → Leads g old run last.old × Acts g last.step last.old last.reply last.new
+  pub leads_between : (run : List (Made D)) (last : Made D) (old new : Engine D) → Leads g old (run ++ last ∷ []) new → Leads g old run last.old × Acts g last.step last.old last.reply last.new
   leads_between [] last old new (joins, acts, ends) = (joins, acts)
   leads_between (made ∷ run) last old new (joins, acts, leads) =
       let rest = leads_between run last made.new new leads in
@@ -231,7 +231,7 @@ module _ {D : Type 0} (g : Ghosts D) where
       let more = made_on run made.new new leads all one.1 first.0 in
       (more.0, omega (arith, ap made_by joins, first.1, more.1))
 
-  leads_to : (run : List (Made D)) (last : Made D) (old new : Engine D) → Leads g old (run ++ last ∷ []) new → new ≡ last.new
+  pub leads_to : (run : List (Made D)) (last : Made D) (old new : Engine D) → Leads g old (run ++ last ∷ []) new → new ≡ last.new
   leads_to [] last old new (joins, acts, ends) = ends
   leads_to (made ∷ run) last old new (joins, acts, leads) = leads_to run last made.new new leads
 

@@ -64,7 +64,7 @@ module _ {D : Type 0} (g : Ghosts D) where
             (survive_on start batches run made so_far.0 last, subst (Covers g start new.flusher new.version) all last.covers);
       }
 
-  survives_at : (start : Start) (batches : List Batch) (before after : List (Made D)) (made : Made D) → EachSurvives g start batches (before ++ made ∷ after)
+  pub survives_at : (start : Start) (batches : List Batch) (before after : List (Made D)) (made : Made D) → EachSurvives g start batches (before ++ made ∷ after)
       → Survives g start (batches ++ accepted_in before) made.step made.old made.reply made.new
   survives_at start batches [] after made each =
       subst (λ (cs : List Batch). Survives g start cs made.step made.old made.reply made.new) (sym (append-nil batches)) each.0

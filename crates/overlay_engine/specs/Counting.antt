@@ -1,16 +1,20 @@
--- What the answers to device steps tell: how many calls a commit makes, and whether the device failed.
+-- What the answers to device steps tell: how many calls a commit makes, which version it leaves, and whether the device failed.
 use Rattle.std.specs.Prelude.{◌≡◌, ℕ, ◌+◌, false, List, [], ◌∷◌, ◌++◌}
 use Rattle.std.specs.List.{AllByRecursion}
 use Rattle.disk_model.specs.declared.disk.Disk.{Ghosts}
+use Rattle.disk_model.specs.Moments.{Leaves}
+use Rattle.overlay_terms.specs.Batches.{Batch}
 use Rattle.root_store.specs.Running.{is_busy}
 use Rattle.flush_core.specs.Stored.{calls_of}
 use Rattle.overlay_engine.specs.declared.engine.Engine.{Engine}
 use Rattle.overlay_engine.specs.declared.step.Step.{Step}
 use Rattle.overlay_engine.specs.declared.step.Step.TheVariants.{Submit, SubmitAll, Take, Finish, Device, Report}
 use Rattle.overlay_engine.specs.declared.step.Reply.TheVariants.{Refused, Going, Done}
+use Rattle.overlay_engine.specs.Start.{Start}
 use Rattle.overlay_engine.specs.Acts.{Acts}
+use Rattle.overlay_engine.specs.Committing.{IsFileOf}
 use Rattle.overlay_engine.specs.Devices.{DeviceFailed}
-use Rattle.overlay_engine.specs.Runs.{Made, Leads}
+use Rattle.overlay_engine.specs.Runs.{Made, Leads, EachSurvives}
 
 -- how many device calls are asked for by a step
 abbrev pub calls_asked : Step → ℕ
@@ -56,3 +60,8 @@ module _ {D : Type 0} (g : Ghosts D) where
   -- and it tells the number of that version, whatever the disk does
   abbrev pub CommitTells : Type 0
   CommitTells = (old : Engine D) (run : List (Made D)) (new : Engine D) (whole : IsWholeCommit old run new) → whole.number ≡ old.version.number
+
+  -- and, where each of its steps is survived, it leaves that version: every file that a crash may leave then stands for its number, its layers and its finished tiles
+  abbrev pub CommitLeaves : Type 0
+  CommitLeaves = (start : Start) (batches : List Batch) (old : Engine D) (run : List (Made D)) (new : Engine D) → EachSurvives g start batches run → IsWholeCommit old run new
+      → Leaves g new.flusher.commit.disk (IsFileOf old.version)

@@ -1,5 +1,5 @@
 //! Laws over the definitions: each function does nothing, and its contract is the law.
-ghost use Rattle.overlay_engine.specs.Counting.{CommitCalls, CommitCounts, CommitTells, DeviceRefusals};
+ghost use Rattle.overlay_engine.specs.Counting.{CommitCalls, CommitCounts, CommitLeaves, CommitTells, DeviceRefusals};
 ghost use Rattle.overlay_engine.specs.Laws.{BegunCovers, CoveredStays, EventsCover, OpenedRecovers, OpeningIsCovered};
 ghost use Rattle.overlay_engine.specs.Lives.{NothingIsLost};
 ghost use Rattle.overlay_engine.specs.Recovery.{RecoveredAnswers};
@@ -57,6 +57,12 @@ pub fn commit_calls<D: Disk>()
 /// The step that ends a commit tells the number of the version with which it began.
 pub fn commit_tells<D: Disk>()
     ensures { CommitTells D.Disk }
+{}
+
+/// Where each of its steps is survived, as `Engine::drive` tells of an engine whose store covers it, a commit leaves just
+/// the version with which it began.
+pub fn commit_leaves<D: Disk>()
+    ensures { CommitLeaves D.Disk }
 {}
 
 /// No job number is used twice.
