@@ -1,24 +1,20 @@
 -- The version that a batch leaves is a version, and the one that follows.
-use Rattle.std.specs.Prelude.{◌≡◌, ◌≢◌, ℕ, ◌+◌, ◌<◌, ◌≤◌, ◌==◌, Bool, true, false, not, ◌||◌, IsTrue, List, [], ◌∷◌, filter, Option, Some, None, if◌then◌else◌}
+use Rattle.std.specs.Prelude.{◌≡◌, ◌≢◌, ℕ, ◌+◌, ◌≤◌, ◌==◌, Bool, true, false, List, [], ◌∷◌, Option, Some, None, if◌then◌else◌}
 use Rattle.std.specs.Option.{option_map}
-use Rattle.std.proofs.Common.{refl, ap, sym, ◌∙◌, subst, arith}
+use Rattle.std.proofs.Common.{zero, suc, ◌<◌, length, get_or, map, drop, add-one, refl, ap, sym, ◌∙◌, subst, arith}
 use Rattle.std.proofs.lemmas.Bool.{eqb-false}
-use Rattle.std.proofs.lemmas.List.Kept.{AllPairs-filter}
-use Rattle.overlay_terms.specs.Column.{column_count}
 use Rattle.overlay_terms.specs.Layers.{Name, Layer}
-use Rattle.overlay_terms.specs.Commands.{Refusal, AllAccepted, applied, when, version_max, version_limit, stands_as_derived}
+use Rattle.overlay_terms.specs.Commands.{Refusal, Command, AllAccepted, applied, when, version_max, version_limit}
 use Rattle.overlay_terms.specs.Touched.{is_touched}
-use Rattle.overlay_terms.specs.Histories.{Tile, Finished, Version, tile_at, FollowsBatch}
-use Rattle.overlay_terms.specs.KeptLaws.{AreFitting}
-use Rattle.overlay_terms.specs.Batches.{Batch, BatchRefusal, whole, applied_all, refusal_from, batch_refusal_at, is_touched_from}
+use Rattle.overlay_terms.specs.Histories.{Tile, Version, tile_at, FollowsBatch}
+use Rattle.overlay_terms.specs.Batches.{Batch, BatchRefusal, whole, applied_all, refusal_from, batch_refusal_at, is_touched_from, is_touched_by_all}
 use Rattle.overlay_terms.proofs.AcceptedLemmas.{not_when}
 use Rattle.overlay_terms.proofs.Options.{both_absent}
 use Rattle.overlay_terms.proofs.BatchLemmas.{accepted_in_turn}
-use Rattle.layer_book.specs.Layer.{IsBook}
-use Rattle.version_core.specs.Tiles.{is_of, untouched, untouched_all, AreDistinct, AreFormed}
-use Rattle.version_core.specs.Version.{IsVersion}
-use Rattle.version_core.proofs.TileLists.{tile_at-kept}
-use Rattle.version_core.proofs.NextVersion.{fit_kept, formed_kept, raised}
+use Rattle.layer_book.specs.declared.command.Command as code
+use Rattle.layer_book.specs.Command.{command}
+use Rattle.version_core.specs.Table.{laid_of, left_at, left_by_all, numbered, Laid, IsLaid}
+use Rattle.version_core.proofs.NextVersion.{raised}
 
 -- what an accepted batch says: the layers accept each of its commands in turn, and the number is not the last
 pub record IsAccepted (number : ℕ) (layers : List Layer) (batch : Batch) : Type 0 where
@@ -39,68 +35,65 @@ accepted_parts number layers batch e =
       not_last = eqb-false number version_max (not_when (number == version_max) version_limit (not_whole limit reasons.second));
     }
 
--- a tile that was left out stays out; another is left out where it is touched now
-left_out : (seen touched : Bool) (t : Option Tile) → (if not touched then (if seen then None else t) else None) ≡ (if seen || touched then None else t)
-left_out true true t = refl
-left_out true false t = refl
-left_out false true t = refl
-left_out false false t = refl
+-- what was touched stays touched
+touched_before : (batch : Batch) (layers : List Layer) (name : Name) (k : ℕ) → is_touched_from true layers batch name k ≡ true
+touched_before [] layers name k = refl
+touched_before (command ∷ commands) layers name k = touched_before commands (applied layers command) name k
 
--- what is found among the tiles that commands leave
-pub found_after : (batch : Batch) (seen : Bool) (layers : List Layer) (tiles : List Finished) (name : Name) (k : ℕ) (t : Option Tile) → tile_at tiles name k ≡ (if seen then None else t)
-    → tile_at (untouched_all layers batch tiles) name k ≡ (if is_touched_from seen layers batch name k then None else t)
-found_after [] seen layers tiles name k t e = e
-found_after (command ∷ commands) seen layers tiles name k t e =
-    let touched = is_touched layers command name k in
-    found_after commands (seen || touched) (applied layers command) (untouched layers command tiles) name k t
-    (tile_at-kept (λ n j. not (is_touched layers command n j)) tiles name k
-    ∙ ap (λ (o : Option Tile). if not touched then o else None) e ∙ left_out seen touched t)
+-- what the first command leaves and then the others, all leave
+pub left_in_turn : (layers : List Layer) (command : Command) (commands : Batch) (name : Name) (k : ℕ) (t : Option Tile)
+    → (if is_touched_from false (applied layers command) commands name k then None else (if is_touched layers command name k then None else t)) ≡ (if is_touched_from false layers (command ∷ commands) name k then None else t)
+left_in_turn layers command commands name k t = split (is_touched layers command name k) where
+  rest : Bool
+  rest = is_touched_from false (applied layers command) commands name k
 
--- tiles of derived layers that stand stay such
-fit_after : (batch : Batch) (layers : List Layer) (tiles : List Finished) → AreFitting layers tiles → AreFitting (applied_all layers batch) (untouched_all layers batch tiles)
-fit_after [] layers tiles fit = fit
-fit_after (command ∷ commands) layers tiles fit =
-    fit_after commands (applied layers command) (untouched layers command tiles)
-    (λ name k tile e. fit_kept layers command tiles name k tile (is_touched layers command name k) refl (fit name k tile)
-    (sym (tile_at-kept (λ n j. not (is_touched layers command n j)) tiles name k) ∙ e))
+  twice : (b : Bool) → ◌≡◌ {A = Option Tile} (if b then None else None) None
+  twice true = refl
+  twice false = refl
 
--- tiles of their form stay such
-formed_after : (batch : Batch) (layers : List Layer) (tiles : List Finished) → AreFormed tiles → AreFormed (untouched_all layers batch tiles)
-formed_after [] layers tiles formed = formed
-formed_after (command ∷ commands) layers tiles formed =
-    formed_after commands (applied layers command) (untouched layers command tiles)
-    (λ name k tile e. formed_kept (is_touched layers command name k) (tile_at tiles name k) tile k (formed name k tile)
-    (sym (tile_at-kept (λ n j. not (is_touched layers command n j)) tiles name k) ∙ e))
+  split : (b : Bool) → (if rest then None else (if b then None else t)) ≡ (if is_touched_from b (applied layers command) commands name k then None else t)
+  split true = twice rest ∙ sym (ap (λ b. if b then None else t) (touched_before commands (applied layers command) name k))
+  split false = refl
 
--- of no layer and column there are two then
-distinct_after : (batch : Batch) (layers : List Layer) (tiles : List Finished) → AreDistinct tiles → AreDistinct (untouched_all layers batch tiles)
-distinct_after [] layers tiles distinct = distinct
-distinct_after (command ∷ commands) layers tiles distinct =
-    distinct_after commands (applied layers command) (untouched layers command tiles)
-    (AllPairs-filter (λ a b. is_of b.name b.column a ≡ false) (λ (f : Finished). not (is_touched layers command f.name f.column)) tiles distinct)
+pub next_small : (old : Version) (batch : Batch) (number : ℕ) → batch_refusal_at old.number old.layers batch ≡ None → number ≡ old.number → number ≤ version_max → number + 1 ≤ version_max
+next_small old batch number accepted same small =
+    raised number version_max small (λ last. (accepted_parts old.number old.layers batch accepted).not_last (sym same ∙ last))
 
-module _ (old : Version) (batch : Batch) (valid : IsVersion old) (accepted : batch_refusal_at old.number old.layers batch ≡ None) (layers : List Layer) (tiles : List Finished) (same_layers : layers ≡ applied_all old.layers batch) (same_tiles : tiles ≡ untouched_all old.layers batch old.tiles) where
-  -- the version after the batch
-  abbrev pub next_of : Version
-  next_of = record { number = old.number + 1; layers = layers; tiles = tiles; durable = old.durable }
+pub next_follows : (old : Version) (batch all : Batch) (number durable : ℕ) (table next : Laid) (new : Version) → batch_refusal_at old.number old.layers batch ≡ None → number ≡ old.number → durable ≡ old.durable
+    → table ≡ laid_of old → all ≡ batch → next.layers ≡ applied_all table.layers all → ((name : Name) (k : ℕ) → tile_at next.tiles name k ≡ left_by_all table all name k) → new ≡ numbered (number + 1) next durable → FollowsBatch old batch new
+next_follows old batch all number durable table next new accepted same_number same_durable is same layers tiles new_is =
+    subst (FollowsBatch old batch) (sym new_is) (record {
+      accepted_there = accepted;
+      number = ap (λ n. n + 1) same_number;
+      layers = layers ∙ (λ i. applied_all (is i).layers (same i));
+      tiles = λ name k. tiles name k ∙ (λ i. left_by_all (is i) (same i) name k);
+      durable = same_durable;
+    })
 
-  pub next_is_version : IsBook layers → IsVersion next_of
-  next_is_version book = record {
-    small = raised old.number version_max valid.small (accepted_parts old.number old.layers batch accepted).not_last;
-    reported = omega (arith, valid.reported);
-    book = book;
-    fit = subst (λ (ls : List Layer). AreFitting ls tiles) (sym same_layers)
-        (subst (AreFitting (applied_all old.layers batch)) (sym same_tiles) (fit_after batch old.layers old.tiles valid.fit));
-    formed = subst AreFormed (sym same_tiles) (formed_after batch old.layers old.tiles valid.formed);
-    distinct = subst AreDistinct (sym same_tiles) (distinct_after batch old.layers old.tiles valid.distinct);
-  }
+-- the commands that are left: the first, and others
+pub commands_left : (commands : List code.Command) (i : ℕ) (change : code.Command) → i < length commands → change ≡ get_or commands i change → map command (drop i commands) ≡ command change ∷ map command (drop (i + 1) commands)
+commands_left commands i change h e = from commands i h e ∙ ap (λ n. command change ∷ map command (drop n commands)) (sym (add-one i)) where
+  from : (cs : List code.Command) (j : ℕ) → j < length cs → change ≡ get_or cs j change → map command (drop j cs) ≡ command change ∷ map command (drop (suc j) cs)
+  from [] j h e = absurd (omega arith)
+  from (x ∷ xs) zero h e = ap (λ y. command y ∷ map command xs) (sym e)
+  from (x ∷ xs) (suc j) h e = from xs j (omega arith) e
 
-  pub next_follows : FollowsBatch old batch next_of
-  next_follows = record {
-    accepted_there = accepted;
-    number = refl;
-    layers = same_layers;
-    tiles = λ name k.
-        ap (λ ts. tile_at ts name k) same_tiles ∙ found_after batch false old.layers old.tiles name k (tile_at old.tiles name k) refl;
-    durable = refl;
-  }
+-- one command more of a batch: what is left of the commands leaves what all leave
+pub record IsStep (first : Laid) (all : Batch) (now : Laid) (rest : Batch) : Type 0 where
+  pub accepted : AllAccepted now.layers rest
+  pub layers : applied_all now.layers rest ≡ applied_all first.layers all
+  pub tiles : (name : Name) (k : ℕ) → left_by_all now rest name k ≡ left_by_all first all name k
+  pub valid : IsLaid now
+
+pub batch_step : (first now made next : Laid) (all rest left : Batch) (change : Command) → left ≡ change ∷ rest → AllAccepted now.layers left → applied_all now.layers left ≡ applied_all first.layers all
+    → ((name : Name) (k : ℕ) → left_by_all now left name k ≡ left_by_all first all name k) → made.layers ≡ applied now.layers change → ((name : Name) (k : ℕ) → tile_at made.tiles name k ≡ left_at now change name k) → IsLaid made → next ≡ made → IsStep first all next rest
+batch_step first now made next all rest left change e accepted layers tiles made_layers made_tiles valid same =
+    subst (λ l. IsStep first all l rest) (sym same) (record {
+      accepted = subst (λ ls. AllAccepted ls rest) (sym made_layers) (subst (AllAccepted now.layers) e accepted).1;
+      layers = ap (λ ls. applied_all ls rest) made_layers ∙ sym (ap (applied_all now.layers) e) ∙ layers;
+      tiles = λ name k.
+          (λ i. if is_touched_from false (made_layers i) rest name k then None else made_tiles name k i)
+          ∙ left_in_turn now.layers change rest name k (tile_at now.tiles name k)
+          ∙ sym (ap (λ b. left_by_all now b name k) e) ∙ tiles name k;
+      valid = valid;
+    })

@@ -8,6 +8,7 @@ use Rattle.overlay_terms.specs.Histories.{Tile, Version, tile_at}
 use Rattle.tile_build.specs.declared.tile.Tile as code
 use Rattle.tile_build.specs.Tile.{tile_of}
 use Rattle.std.specs.Borrow.{Bor}
+use Rattle.std.specs.declared.sync.Arc.{Arc}
 use Rattle.std.specs.Option.{option_map}
 use Rattle.layer_book.proofs.Answering.{take_there}
 use Rattle.version_core.specs.Pending.{is_missing, pending_in, pending_of_layer}
@@ -30,9 +31,9 @@ pending_in-push version name (j ∷ ks) k = split (is_missing (tile_at version.t
   split false e = e
 
 -- whether a tile is missing is whether none is found
-pub missing_is : (r : Option (Bor code.Tile)) (found : Option Tile) → option_map (λ tile. tile_of tile.now) r ≡ found → is_missing found ≡ not (is_some r)
-missing_is None found e = ap is_missing (sym e)
-missing_is (Some tile) found e = ap is_missing (sym e)
+pub missing_in : {Z : Type 0} (r : Option (Bor (Arc code.Tile Z))) (found : Option Tile) → option_map (λ tile. tile_of tile.now.value) r ≡ found → is_missing found ≡ not (is_some r)
+missing_in None found e = ap is_missing (sym e)
+missing_in (Some tile) found e = ap is_missing (sym e)
 
 -- a test denied twice
 pub twice : (b : Bool) → not (not b) ≡ b
@@ -50,7 +51,7 @@ layers_more version layers i layer e =
     ∙ flat_map-append (pending_of_layer version) (take i layers) (layer ∷ []) ∙ ap (λ ps. flat_map (pending_of_layer version) (take i layers) ++ ps) (append-nil (pending_of_layer version layer))
 
 -- one number more at the end
-range_more : (a n : ℕ) → range_with_len a (suc n) ≡ range_with_len a n ++ (a + n) ∷ []
+pub range_more : (a n : ℕ) → range_with_len a (suc n) ≡ range_with_len a n ++ (a + n) ∷ []
 range_more a zero = ap (λ k. k ∷ []) (sym (add-zero a))
 range_more a (suc n) =
     let last : (a + 1) + n ≡ a + suc n = omega arith in

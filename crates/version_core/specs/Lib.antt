@@ -1,7 +1,9 @@
 pub mod Fault
 pub mod Tiles
+pub mod Table
 pub mod VersionCode
 pub mod Version
+pub mod Content
 pub mod Finish
 pub mod Pending
 pub mod Building

@@ -6,19 +6,16 @@ use crate::fault::VersionFault;
 use crate::version::Version;
 use layer_book::fault::LayerFault;
 use layer_expr::name::Name;
-use plane_base::COLUMN_COUNT;
 
 impl Version {
     /// Whether each tile of a layer is finished. It takes no memory.
     pub fn is_built(&self, name: &Name) -> bool
         ensures { IsTrue result ↔ IsBuilt self.now name.now }
     {
-        for column in 0..COLUMN_COUNT {
-            if self.tile(name, column).is_none() {
-                return false;
-            }
+        match self.at(self.layers().index_of(name)) {
+            Some((_, _, row)) => row.is_full(),
+            None => false,
         }
-        true
     }
 
     /// Why the tiles of a layer cannot be asked for. It takes no memory.

@@ -1,20 +1,18 @@
 //! Keeping a built tile.
 ghost use Rattle.std.specs.Prelude.{◌≡◌, ◌↔◌, ◌<◌, IsTrue, IfOk, IfErr};
 ghost use Rattle.overlay_terms.specs.Column.{column_count};
-ghost use Rattle.overlay_terms.specs.Histories.{FollowsTile, IsTileAt, pieces_max};
+ghost use Rattle.overlay_terms.specs.Histories.{FollowsTile, IsTileAt, is_formed, pieces_max};
+ghost use Rattle.tile_build.specs.Tile.{tile_of};
 ghost use Rattle.version_core.specs.Finish.{IfKept, IsAwaited, IsKept, IsPending};
-ghost use Rattle.version_core.specs.Tiles.{finished};
 
 use crate::fault::VersionFault;
-use crate::tiles::{FinishedTile, copied};
 use crate::version::Version;
 use arrange::TileInput;
-use layer_book::MAX_LAYERS;
 use layer_book::fault::LayerFault;
 use layer_expr::name::Name;
 use std::alloc::{AllocError, Global};
 use std::sync::Arc;
-use tile_build::Built;
+use tile_build::{Built, Tile};
 
 /// What became of a built tile.
 #[derive(Debug, Drop)]
@@ -82,29 +80,25 @@ impl Version {
         requires { IsAwaited self.now name.now built.now.0 }
         ensures { IfOk result (λ next. FollowsTile self.now name.now built.now.0.column built.now.1 next) }
     {
-        let layers = self.layers.try_copy(alloc)?;
-        prove!(layers.len() <= MAX_LAYERS);
-        let mut tiles = copied(alloc, &self.tiles)?;
-        tiles.push(kept_tile(alloc, name, built)?)?;
-        Ok(Version {
-            number: self.number,
-            durable: self.durable,
-            layers,
-            tiles,
-        })
+        let table = self.table(alloc)?;
+        let tile = kept_tile(alloc, built)?;
+        let column = built.input().column();
+        let made = table.with_tile(alloc, name, column, tile)?;
+        let next = Arc::new(alloc, made)?;
+        let number = self.number();
+        let durable = self.durable();
+        Ok(Version::of(number, durable, next))
     }
 }
 
-/// A built tile under the name of its layer, as versions share it.
-fn kept_tile(alloc: Global, name: &Name, built: &Built) -> Result<FinishedTile, AllocError>
-    ensures value { IfOk result (λ held. finished held ≡ record { name = name.now; column = built.now.0.column; tile = built.now.1 }) }
+/// A built tile as versions share it.
+fn kept_tile(alloc: Global, built: &Built) -> Result<Arc<Tile>, AllocError>
+    ensures value { IfOk result (λ tile. tile_of tile.value ≡ built.now.1) }
+    ensures formed { IfOk result (λ _. IsTrue (is_formed built.now.1 built.now.0.column)) }
     ensures right { IsTileAt pieces_max built.now.0 built.now.1 }
     ensures known { built.now.0.column < column_count }
 {
-    let column = built.input().column();
-    Ok(FinishedTile {
-        name: name.clone()?,
-        column,
-        tile: Arc::new(alloc, built.tile().try_copy(alloc)?)?,
-    })
+    built.input().column();
+    let copy = built.tile().try_copy(alloc)?;
+    Ok(Arc::new(alloc, copy)?)
 }

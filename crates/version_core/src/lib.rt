@@ -11,6 +11,7 @@ pub mod reporting;
 pub mod restoring;
 pub mod submitting;
 pub mod submitting_all;
+pub mod table;
 pub mod tiles;
 pub mod verifying;
 pub mod version;

@@ -1,8 +1,11 @@
 //! The tiles that are not finished.
 ghost use Rattle.std.specs.Prelude.{◌≡◌, ◌++◌, IfOk, IfErr, OnOk};
+ghost use Rattle.overlay_terms.specs.Histories.{tile_at};
+ghost use Rattle.version_core.specs.Table.{row_by};
 ghost use Rattle.version_core.specs.Pending.{pending_of, pending_tiles};
 
 use crate::fault::VersionFault;
+use crate::tiles::TileRow;
 use crate::version::Version;
 use layer_book::fault::LayerFault;
 use layer_expr::name::Name;
@@ -16,12 +19,11 @@ impl Version {
         ensures err { IfErr result (λ fault. fault ≡ VersionFault.Layer LayerFault.OutOfMemory) }
     {
         let mut list = Vec::new(alloc);
-        let layers = self.layers();
-        for place in 0..layers.len() {
-            match layers.at(place) {
-                Some((name, layer)) => {
+        for place in 0..self.layers().len() {
+            match self.at(place) {
+                Some((name, layer, row)) => {
                     if layer.is_derived() {
-                        self.add_pending(&mut list, name)?;
+                        self.add_pending(&mut list, name, row)?;
                     }
                 }
                 None => {}
@@ -30,12 +32,18 @@ impl Version {
         Ok(list)
     }
 
-    /// Adds the tiles of a layer that are not finished, by column.
-    fn add_pending(&self, list: &mut Vec<(Name, u8)>, name: &Name) -> Result<(), AllocError>
+    /// Adds the tiles of a layer that are not finished, by column. The layer's row says which.
+    fn add_pending(
+        &self,
+        list: &mut Vec<(Name, u8)>,
+        name: &Name,
+        row: &TileRow,
+    ) -> Result<(), AllocError>
+        requires { row.now ≡ row_by (tile_at self.now.tiles name.now) }
         ensures { OnOk result (list.new.items ≡ list.old.items ++ pending_of self.now name.now) }
     {
         for column in 0..COLUMN_COUNT {
-            if self.tile(name, column).is_none() {
+            if row.tile_at(usize::from(column)).is_none() {
                 list.push((name.clone()?, column))?;
             }
         }

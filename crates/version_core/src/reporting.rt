@@ -3,15 +3,13 @@ ghost use Rattle.std.specs.Prelude.{◌≡◌, ◌≤◌, IfOk, IfErr};
 ghost use Rattle.overlay_terms.specs.Histories.{IsReported};
 
 use crate::fault::VersionFault;
-use crate::tiles::copied;
 use crate::version::Version;
-use layer_book::MAX_LAYERS;
 use layer_book::fault::LayerFault;
 use std::alloc::{AllocError, Global};
 
 impl Version {
     /// The version after a report that a number is durable. A number that is durable already, or is
-    /// beyond the version's own, changes nothing.
+    /// beyond the version's own, changes nothing. Layers and tiles are shared.
     pub fn durable_to(&self, alloc: Global, number: u64) -> Result<Version, VersionFault>
         ensures ok { IfOk result (λ next. IsReported self.now number next) }
         ensures err { IfErr result (λ fault. fault ≡ VersionFault.Layer LayerFault.OutOfMemory) }
@@ -27,14 +25,8 @@ impl Version {
         requires { durable ≤ self.now.number }
         ensures { IfOk result (λ next. next ≡ record { number = self.now.number; layers = self.now.layers; tiles = self.now.tiles; durable = durable }) }
     {
-        let layers = self.layers.try_copy(alloc)?;
-        prove!(layers.len() <= MAX_LAYERS);
-        let tiles = copied(alloc, &self.tiles)?;
-        Ok(Version {
-            number: self.number,
-            durable,
-            layers,
-            tiles,
-        })
+        let table = self.table(alloc)?;
+        let number = self.number();
+        Ok(Version::of(number, durable, table))
     }
 }

@@ -2,18 +2,18 @@
 ghost use Rattle.std.specs.Prelude.{◌≡◌, ◌≤◌, IfOk, IfErr, map};
 ghost use Rattle.overlay_terms.specs.Commands.{version_max};
 ghost use Rattle.overlay_terms.specs.StoredTiles.{AreStored};
-ghost use Rattle.version_core.specs.Tiles.{finished};
+ghost use Rattle.version_core.specs.Table.{IsLaid};
 ghost use Rattle.tile_build.specs.StoredTile.{finished_of};
 ghost use Rattle.tile_build.specs.Tile.{finished_of as finished_named};
 
 use crate::fault::VersionFault;
-use crate::tiles::FinishedTile;
+use crate::table::Table;
 use crate::version::Version;
-use layer_book::MAX_LAYERS;
 use layer_book::fault::LayerFault;
 use layer_book::layers::Layers;
 use layer_expr::name::Name;
 use std::alloc::{AllocError, Global};
+use std::sync::Arc;
 use tile_build::Tile;
 use tile_build::stored_tile::{StoredTile, shared};
 
@@ -47,31 +47,25 @@ impl Version {
         ensures ok { IfOk result (λ version. version ≡ record { number = number; layers = layers; tiles = map finished_of tiles.items; durable = number }) }
         ensures err { IfErr result (λ fault. fault ≡ VersionFault.Layer LayerFault.OutOfMemory) }
     {
-        prove!(layers.len() <= MAX_LAYERS);
-        let tiles = kept(alloc, tiles)?;
-        Ok(Version {
-            number,
-            durable: number,
-            layers,
-            tiles,
-        })
+        let table = filled(alloc, layers, &tiles)?;
+        Ok(Version::of(number, number, table))
     }
 }
 
-/// The tiles, as versions keep them.
-fn kept(alloc: Global, tiles: Vec<StoredTile>) -> Result<Vec<FinishedTile>, AllocError>
-    ensures { IfOk result (λ held. map finished held.items ≡ map finished_of tiles.items) }
+/// The table of layers and of tiles in order, which it shares.
+fn filled(alloc: Global, layers: Layers, tiles: &[StoredTile]) -> Result<Arc<Table>, AllocError>
+    requires { AreStored layers (map finished_of tiles.now) }
+    ensures layers { IfOk result (λ table. table.value.layers ≡ layers) }
+    ensures tiles { IfOk result (λ table. table.value.tiles ≡ map finished_of tiles.now) }
+    ensures valid { IfOk result (λ table. IsLaid table.value) }
 {
-    let mut held = Vec::new(alloc);
-    for tile in tiles {
-        held.push(kept_tile(tile))?;
+    let mut table = Table::of(alloc, layers)?;
+    for stored in tiles {
+        let tile = stored.tile.clone()?;
+        let made = table.with_tile(alloc, &stored.name, stored.column, tile)?;
+        table = made;
     }
-    Ok(held)
-}
-
-fn kept_tile(tile: StoredTile) -> FinishedTile
-    ensures { finished result ≡ finished_of tile }
-{
-    let StoredTile { name, column, tile } = tile;
-    FinishedTile { name, column, tile }
+    table.layers();
+    let shared = Arc::new(alloc, table)?;
+    Ok(shared)
 }

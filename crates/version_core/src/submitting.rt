@@ -1,21 +1,18 @@
 //! What a command makes of a version.
-ghost use Rattle.std.specs.Prelude.{◌≡◌, ◌⊎◌, None, IfOk, IfErr, map};
+ghost use Rattle.std.specs.Prelude.{◌≡◌, None, IfOk, IfErr};
 ghost use Rattle.std.specs.Option.{option_map};
-ghost use Rattle.overlay_terms.specs.Commands.{applied, refusal_at, refusal_of};
+ghost use Rattle.overlay_terms.specs.Commands.{refusal_at};
 ghost use Rattle.overlay_terms.specs.Histories.{FollowsCommand};
 ghost use Rattle.layer_book.specs.Command.{command};
 ghost use Rattle.layer_book.specs.Fault.{fault_of, RefusedBy};
 ghost use Rattle.version_core.specs.Fault as version_fault;
-ghost use Rattle.version_core.specs.Tiles.{finished, untouched};
 
 use crate::fault::VersionFault;
-use crate::tiles::FinishedTile;
 use crate::version::{VERSION_MAX, Version};
-use layer_book::MAX_LAYERS;
 use layer_book::command::Command;
 use layer_book::fault::LayerFault;
-use layer_book::layers::Layers;
 use std::alloc::{AllocError, Global};
+use std::sync::Arc;
 
 impl Version {
     /// The version after a command. A refusal for another reason than memory comes before any
@@ -28,15 +25,20 @@ impl Version {
             Some(fault) => return Err(VersionFault::Layer(fault)),
             None => {}
         }
-        let layers = self.layers.applied(alloc, change)?;
-        prove!(layers.len() <= MAX_LAYERS);
-        let tiles = untouched(alloc, &self.tiles, &self.layers, change, &layers)?;
-        Ok(Version {
-            number: self.number + 1,
-            durable: self.durable,
-            layers,
-            tiles,
-        })
+        Ok(self.after(alloc, change)?)
+    }
+
+    /// The version after a command that is accepted.
+    fn after(&self, alloc: Global, change: &Command) -> Result<Version, AllocError>
+        requires { refusal_at self.now.number self.now.layers (command change.now) ≡ None }
+        ensures { IfOk result (λ next. FollowsCommand self.now (command change.now) next) }
+    {
+        let table = self.table(alloc)?;
+        let made = table.after(alloc, change)?;
+        let next = Arc::new(alloc, made)?;
+        let number = self.number();
+        let durable = self.durable();
+        Ok(Version::of(number + 1, durable, next))
     }
 
     /// Why a command is refused.
@@ -51,26 +53,4 @@ impl Version {
         }
         None
     }
-}
-
-/// The finished tiles that a command does not touch, in order. They are shared.
-pub(crate) fn untouched(
-    alloc: Global,
-    tiles: &[FinishedTile],
-    layers: &Layers,
-    change: &Command,
-    after: &Layers,
-) -> Result<Vec<FinishedTile>, AllocError>
-    requires accepted { refusal_of layers.now (command change.now) ≡ None }
-    requires made { after.now ≡ applied layers.now (command change.now) }
-    ensures { IfOk result (λ kept. map finished kept.items ≡ untouched layers.now (command change.now) (map finished tiles.now)) }
-{
-    let touched = layers.touched_rows(alloc, change, after)?;
-    let mut kept = Vec::new(alloc);
-    for tile in tiles {
-        if !layers.is_touched(&touched, &tile.name, tile.column) {
-            kept.push(tile.clone()?)?;
-        }
-    }
-    Ok(kept)
 }

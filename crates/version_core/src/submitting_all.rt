@@ -2,22 +2,21 @@
 ghost use Rattle.std.specs.Prelude.{◌≡◌, None, IfOk, IfErr, map};
 ghost use Rattle.std.specs.Option.{option_map};
 ghost use Rattle.overlay_terms.specs.Commands.{AllAccepted};
-ghost use Rattle.overlay_terms.specs.Histories.{FollowsBatch};
+ghost use Rattle.overlay_terms.specs.Layers.{Name};
+ghost use Rattle.overlay_terms.specs.Histories.{tile_at, FollowsBatch};
 ghost use Rattle.overlay_terms.specs.Batches.{applied_all, batch_refusal_at};
 ghost use Rattle.layer_book.specs.Command.{command};
 ghost use Rattle.layer_book.specs.BatchFault.{RefusedAllBy, fault_of};
-ghost use Rattle.version_core.specs.Tiles.{finished, untouched_all};
+ghost use Rattle.version_core.specs.Table.{left_by_all, IsLaid};
 
-use crate::submitting::untouched;
-use crate::tiles::{FinishedTile, copied};
+use crate::table::Table;
 use crate::version::{VERSION_MAX, Version};
-use layer_book::MAX_LAYERS;
 use layer_book::batch::Batch;
 use layer_book::batch_fault::BatchFault;
 use layer_book::command::Command;
 use layer_book::fault::LayerFault;
-use layer_book::layers::Layers;
 use std::alloc::{AllocError, Global};
+use std::sync::Arc;
 
 impl Version {
     /// The version after a batch: its number is one higher, however many commands there are. A refusal for another
@@ -30,14 +29,11 @@ impl Version {
         if let Some(fault) = self.refusal_of_all(batch) {
             return Err(fault);
         }
-        let (layers, tiles) = made_in_turn(alloc, &self.layers, &self.tiles, batch.commands())?;
-        prove!(layers.len() <= MAX_LAYERS);
-        Ok(Version {
-            number: self.number + 1,
-            durable: self.durable,
-            layers,
-            tiles,
-        })
+        let table = self.table(alloc)?;
+        let next = after_all(alloc, table, batch.commands())?;
+        let number = self.number();
+        let durable = self.durable();
+        Ok(Version::of(number + 1, durable, next))
     }
 
     /// Why a batch is refused.
@@ -54,23 +50,23 @@ impl Version {
     }
 }
 
-/// The layers and the finished tiles that commands leave, which are accepted one after another.
-fn made_in_turn(
+/// The table that commands leave, which are accepted one after another.
+fn after_all(
     alloc: Global,
-    layers: &Layers,
-    tiles: &[FinishedTile],
+    table: Arc<Table>,
     commands: &[Command],
-) -> Result<(Layers, Vec<FinishedTile>), AllocError>
-    requires { AllAccepted layers.now (map command commands.now) }
-    ensures layers { IfOk result (λ made. made.0 ≡ applied_all layers.now (map command commands.now)) }
-    ensures tiles { IfOk result (λ made. map finished made.1.items ≡ untouched_all layers.now (map command commands.now) (map finished tiles.now)) }
+) -> Result<Arc<Table>, AllocError>
+    requires accepted { AllAccepted table.value.layers (map command commands.now) }
+    requires valid { IsLaid table.value }
+    ensures layers { IfOk result (λ next. next.value.layers ≡ applied_all table.value.layers (map command commands.now)) }
+    ensures tiles { IfOk result (λ next. (name : Name) (k : _) → tile_at next.value.tiles name k ≡ left_by_all table.value (map command commands.now) name k) }
+    ensures valid { IfOk result (λ next. IsLaid next.value) }
 {
-    let mut now = layers.try_copy(alloc)?;
-    let mut kept = copied(alloc, tiles)?;
+    let mut now = table;
     for change in commands {
-        let next = now.applied(alloc, change)?;
-        kept = untouched(alloc, &kept, &now, change, &next)?;
-        now = next;
+        let next = now.after(alloc, change)?;
+        let shared = Arc::new(alloc, next)?;
+        now = shared;
     }
-    Ok((now, kept))
+    Ok(now)
 }

@@ -1,68 +1,219 @@
-//! Finished tiles.
-ghost use Rattle.std.specs.Prelude.{◌≡◌, IfOk, map};
+//! Rows of finished tiles.
+ghost use Rattle.std.specs.Prelude.{◌≡◌, None, Some, false, get_or, is_some, length, map, replicate, set, take, IfOk, if◌then◌else◌};
+ghost use Rattle.std.specs.List.{list_all};
 ghost use Rattle.std.specs.Option.{option_map};
-ghost use Rattle.overlay_terms.specs.Histories.{tile_at};
+ghost use Rattle.overlay_terms.specs.Column.{column_count};
 ghost use Rattle.tile_build.specs.Tile.{tile_of};
-ghost use Rattle.version_core.specs.Tiles.{finished, is_of};
+ghost use Rattle.version_core.specs.Table.{row_by, tile_in_slot};
 
-use layer_expr::name::Name;
-use plane_base::Column;
+use plane_base::{COLUMN_COUNT, Column};
 use std::alloc::{AllocError, Global};
+use std::marker::Model;
 use std::sync::Arc;
 use tile_build::Tile;
 
-/// A finished tile under the name of its layer and its column. Versions share it.
+/// How many slots a row has: one for each column.
+pub(crate) const COLUMNS: usize = COLUMN_COUNT as usize;
+
+/// A place for a finished tile. Rows share the tile.
 #[derive(Debug, Drop)]
-pub struct FinishedTile {
-    pub(crate) name: Name,
-    pub(crate) column: Column,
-    pub(crate) tile: Arc<Tile>,
+pub struct Slot {
+    tile: Option<Arc<Tile>>,
 }
 
-impl Clone for FinishedTile {
-    ghost is_clone = { λ tile copy. finished copy ≡ finished tile };
+impl Clone for Slot {
+    ghost is_clone = { λ slot copy. tile_in_slot copy ≡ tile_in_slot slot };
 
-    fn clone(&self) -> Result<FinishedTile, AllocError> {
-        Ok(FinishedTile {
-            name: self.name.clone()?,
-            column: self.column,
-            tile: self.tile.clone()?,
-        })
-    }
-}
-
-impl FinishedTile {
-    /// Whether it is the tile of a layer and column.
-    pub(crate) fn is_of(&self, name: &Name, column: u8) -> bool
-        ensures { result ≡ is_of name.now column (finished self.now) }
-    {
-        self.column.number() == column && self.name.bytes() == name.bytes()
-    }
-}
-
-/// The first tile of a layer and column among some.
-pub(crate) fn tile_among<'a>(
-    tiles: &'a [FinishedTile],
-    name: &Name,
-    column: u8,
-) -> Option<&'a Arc<Tile>>
-    ensures { option_map (λ tile. tile_of tile.now.value) result ≡ tile_at (map finished tiles.now) name.now column }
-{
-    for finished in tiles {
-        if finished.is_of(name, column) {
-            return Some(&finished.tile);
+    fn clone(&self) -> Result<Slot, AllocError> {
+        match &self.tile {
+            Some(tile) => Ok(Slot {
+                tile: Some(tile.clone()?),
+            }),
+            None => Ok(Slot { tile: None }),
         }
     }
-    None
 }
 
-/// The same finished tiles, which are shared.
-pub(crate) fn copied(alloc: Global, tiles: &[FinishedTile]) -> Result<Vec<FinishedTile>, AllocError>
-    ensures { IfOk result (λ copies. map finished copies.items ≡ map finished tiles.now) }
+impl Slot {
+    fn is_filled(&self) -> bool
+        ensures { result ≡ is_some (tile_in_slot self.now) }
+    {
+        match &self.tile {
+            Some(_) => true,
+            None => false,
+        }
+    }
+
+    /// The slot, or an empty one where its tile is gone.
+    fn left(&self, is_gone: bool) -> Result<Slot, AllocError>
+        ensures { IfOk result (λ slot. tile_in_slot slot ≡ (if is_gone then None else tile_in_slot self.now)) }
+    {
+        if is_gone {
+            return Ok(Slot { tile: None });
+        }
+        self.clone()
+    }
+}
+
+/// The finished tiles of a layer, a slot for each column. Tables share it.
+#[derive(Debug, Drop)]
+pub struct TileRow {
+    slots: Arc<Vec<Slot>>,
+    is_full: bool,
+}
+
+impl Model for TileRow {
+    ghost use Rattle.std.specs.Prelude.{List, Option, map};
+    ghost use Rattle.overlay_terms.specs.Histories as terms;
+    ghost use Rattle.version_core.specs.Table.{row_code, tile_in_slot, IsRow};
+
+    ghost Value = { List (Option terms.Tile) };
+
+    ghost coded = { row_code };
+
+    ghost view = { λ r. map tile_in_slot r.slots.value.items };
+
+    ghost invariant = { λ r. IsRow (map tile_in_slot r.slots.value.items) r.is_full };
+}
+
+impl TileRow {
+    /// A row without a tile.
+    pub(crate) fn empty(alloc: Global) -> Result<TileRow, AllocError>
+        ensures { IfOk result (λ row. row ≡ replicate column_count None) }
+    {
+        TileRow::of(alloc, no_tiles(alloc)?)
+    }
+
+    /// The row of its slots.
+    fn of(alloc: Global, slots: Vec<Slot>) -> Result<TileRow, AllocError>
+        requires { length slots.items ≡ column_count }
+        ensures { IfOk result (λ row. row ≡ map tile_in_slot slots.items) }
+    {
+        let is_full = are_filled(&slots);
+        let slots = Arc::new(alloc, slots)?;
+        Ok(TileRow { slots, is_full })
+    }
+
+    /// The same row, shared by one more.
+    pub(crate) fn share(&self) -> Result<TileRow, AllocError>
+        ensures { IfOk result (λ row. row ≡ self.now) }
+    {
+        Ok(TileRow {
+            slots: self.slots.clone()?,
+            is_full: self.is_full,
+        })
+    }
+
+    /// The tile of a column.
+    pub fn tile(&self, column: Column) -> Option<&Arc<Tile>>
+        ensures { option_map (λ tile. tile_of tile.now.value) result ≡ get_or self.now column None }
+    {
+        self.tile_at(usize::from(column.number()))
+    }
+
+    /// The same of a number that may be none of a column.
+    pub(crate) fn tile_at(&self, number: usize) -> Option<&Arc<Tile>>
+        ensures { option_map (λ tile. tile_of tile.now.value) result ≡ get_or self.now number None }
+    {
+        match self.slots.get(number) {
+            Some(slot) => match &slot.tile {
+                Some(tile) => Some(tile),
+                None => None,
+            },
+            None => None,
+        }
+    }
+
+    /// Whether each column has its tile.
+    pub fn is_full(&self) -> bool
+        ensures { result ≡ list_all is_some self.now }
+    {
+        self.is_full
+    }
+
+    /// The row with a tile more, or in the place of the one that is there.
+    pub(crate) fn with(
+        &self,
+        alloc: Global,
+        column: Column,
+        tile: Arc<Tile>,
+    ) -> Result<TileRow, AllocError>
+        ensures { IfOk result (λ row. row ≡ set self.now column (Some (tile_of tile.value))) }
+    {
+        let mut slots = copied(alloc, &self.slots)?;
+        put(&mut slots, column, tile);
+        let row = TileRow::of(alloc, slots)?;
+        Ok(row)
+    }
+
+    /// The row without the tiles of the columns that are marked.
+    pub(crate) fn without(
+        &self,
+        alloc: Global,
+        marks: &[bool; COLUMNS],
+    ) -> Result<TileRow, AllocError>
+        ensures { IfOk result (λ row. row ≡ row_by (λ k. if get_or marks.now k false then None else get_or self.now k None)) }
+    {
+        let slots = left_in(alloc, &self.slots, marks)?;
+        TileRow::of(alloc, slots)
+    }
+}
+
+/// Puts a tile into the slot of a column.
+fn put(slots: &mut Vec<Slot>, column: Column, tile: Arc<Tile>)
+    requires { length slots.old.items ≡ column_count }
+    ensures { slots.new.items ≡ set slots.old.items column (record { tile = Some tile }) }
+{
+    slots[usize::from(column.number())] = Slot { tile: Some(tile) };
+}
+
+/// The slots, of which those that are marked are empty.
+fn left_in(
+    alloc: Global,
+    slots: &[Slot],
+    marks: &[bool; COLUMNS],
+) -> Result<Vec<Slot>, AllocError>
+    requires { length slots.now ≡ column_count }
+    ensures { IfOk result (λ left. map tile_in_slot left.items ≡ row_by (λ k. if get_or marks.now k false then None else get_or (map tile_in_slot slots.now) k None)) }
+{
+    let mut left = Vec::new(alloc);
+    for i in 0..COLUMNS {
+        let kept = slots[i].left(marks[i])?;
+        left.push(kept)?;
+    }
+    Ok(left)
+}
+
+/// A slot for each column, each empty.
+fn no_tiles(alloc: Global) -> Result<Vec<Slot>, AllocError>
+    ensures { IfOk result (λ slots. map tile_in_slot slots.items ≡ replicate column_count None) }
+{
+    let mut slots = Vec::new(alloc);
+    for _ in 0..COLUMNS {
+        slots.push(Slot { tile: None })?;
+    }
+    Ok(slots)
+}
+
+/// Whether each slot has a tile.
+fn are_filled(slots: &[Slot]) -> bool
+    ensures { result ≡ list_all is_some (map tile_in_slot slots.now) }
+{
+    for slot in slots {
+        if !slot.is_filled() {
+            return false;
+        }
+    }
+    true
+}
+
+/// The same slots, whose tiles are shared.
+fn copied(alloc: Global, slots: &[Slot]) -> Result<Vec<Slot>, AllocError>
+    ensures { IfOk result (λ copies. map tile_in_slot copies.items ≡ map tile_in_slot slots.now) }
 {
     let mut copies = Vec::new(alloc);
-    for tile in tiles {
-        copies.push(tile.clone()?)?;
+    for slot in slots {
+        copies.push(slot.clone()?)?;
     }
     Ok(copies)
 }

@@ -1,32 +1,43 @@
 //! A version: layers with a number, and their finished tiles.
-ghost use Rattle.std.specs.Prelude.{◌≡◌, ◌≤◌};
+ghost use Rattle.std.specs.Prelude.{◌≡◌, ◌≤◌, slice_get, IfOk, IfSome};
 ghost use Rattle.std.specs.Option.{option_map};
 ghost use Rattle.overlay_terms.specs.Commands.{version_max};
 ghost use Rattle.overlay_terms.specs.Histories.{empty_version, tile_at};
 ghost use Rattle.tile_build.specs.Tile.{tile_of};
+ghost use Rattle.layer_book.specs.Layer.{content};
+ghost use Rattle.version_core.specs.Table.{laid_of, numbered, row_by, IsLaid};
 ghost use Rattle.version_core.specs.Version.{IsVersion};
 
-use crate::tiles::{FinishedTile, tile_among};
+use crate::table::Table;
+use crate::tiles::TileRow;
+use layer_book::layer::Layer;
 use layer_book::layers::Layers;
 use layer_expr::name::Name;
 pub use overlay_terms::limits::VERSION_MAX;
 use plane_base::Column;
-use std::alloc::Global;
+use std::alloc::{AllocError, Global};
 use std::marker::Model;
 use std::sync::Arc;
 use tile_build::Tile;
 
+/// What stands in a version.
+#[derive(Debug, Drop)]
+pub enum Content {
+    /// No layer. It takes no memory.
+    Nothing(Layers),
+    /// Layers and tiles, which versions share.
+    Tiled(Arc<Table>),
+}
+
 /// Layers with a number and their finished tiles, and the number of the version that is reported durable.
 #[derive(Debug)]
 pub struct Version {
-    pub(crate) number: u64,
-    pub(crate) durable: u64,
-    pub(crate) layers: Layers,
-    pub(crate) tiles: Vec<FinishedTile>,
+    number: u64,
+    durable: u64,
+    content: Content,
 }
 
 impl Model for Version {
-    ghost use Rattle.std.specs.Prelude.{map};
     ghost use Rattle.overlay_terms.specs.Histories as terms;
     ghost use Rattle.version_core.specs.VersionCode.{version_code};
 
@@ -34,12 +45,12 @@ impl Model for Version {
 
     ghost coded = { version_code };
 
-    ghost use Rattle.version_core.specs.Tiles.{finished};
-    ghost use Rattle.version_core.specs.Version.{IsVersion};
+    ghost use Rattle.version_core.specs.Table.{numbered};
+    ghost use Rattle.version_core.specs.Content.{laid_by, IsHeld};
 
-    ghost view = { λ v. record { number = v.number; layers = v.layers; tiles = map finished v.tiles.items; durable = v.durable } };
+    ghost view = { λ v. numbered v.number (laid_by v.content) v.durable };
 
-    ghost invariant = { λ v. IsVersion (record { number = v.number; layers = v.layers; tiles = map finished v.tiles.items; durable = v.durable }) };
+    ghost invariant = { λ v. IsHeld v.number v.content v.durable };
 }
 
 // Written out: of a derived drop, each crate above proves again what becomes of every part.
@@ -48,11 +59,9 @@ impl Drop for Version {
         let Version {
             number: _,
             durable: _,
-            layers,
-            tiles,
+            content,
         } = self;
-        drop(layers);
-        drop(tiles);
+        drop(content);
     }
 }
 
@@ -64,8 +73,36 @@ impl Version {
         Version {
             number: 0,
             durable: 0,
-            layers: Layers::new(alloc),
-            tiles: Vec::new(alloc),
+            content: Content::Nothing(Layers::new(alloc)),
+        }
+    }
+
+    /// The version of a table.
+    pub(crate) fn of(number: u64, durable: u64, table: Arc<Table>) -> Version
+        requires { IsVersion (numbered number table.value durable) }
+        ensures { result ≡ numbered number table.value durable }
+    {
+        Version {
+            number,
+            durable,
+            content: Content::Tiled(table),
+        }
+    }
+
+    /// The layers and tiles as a table, which is shared by one more.
+    pub(crate) fn table(&self, alloc: Global) -> Result<Arc<Table>, AllocError>
+        ensures laid { IfOk result (λ table. table.value ≡ laid_of self.now) }
+        ensures valid { IfOk result (λ table. IsLaid table.value) }
+    {
+        match &self.content {
+            Content::Nothing(_) => {
+                let table = Table::of(alloc, Layers::new(alloc))?;
+                Ok(Arc::new(alloc, table)?)
+            }
+            Content::Tiled(table) => {
+                table.layers();
+                Ok(table.clone()?)
+            }
         }
     }
 
@@ -89,14 +126,28 @@ impl Version {
         ensures value { result.now ≡ self.now.layers }
         ensures valid { IsVersion self.now }
     {
-        &self.layers
+        match &self.content {
+            Content::Nothing(layers) => layers,
+            Content::Tiled(table) => table.layers(),
+        }
+    }
+
+    /// The layer at an index, counted from 0, with its name and its row of tiles.
+    pub fn at(&self, place: usize) -> Option<(&Name, &Layer, &TileRow)>
+        ensures layer { option_map (λ entry. record { name = entry.0.now; content = content entry.1.now }) result ≡ slice_get self.now.layers place }
+        ensures row { IfSome result (λ entry. entry.2.now ≡ row_by (tile_at self.now.tiles entry.0.now)) }
+    {
+        match &self.content {
+            Content::Nothing(_) => None,
+            Content::Tiled(table) => table.at(place),
+        }
     }
 
     /// The finished tile of a layer and column.
     pub fn tile(&self, name: &Name, column: u8) -> Option<&Tile>
         ensures { option_map (λ tile. tile_of tile.now) result ≡ tile_at self.now.tiles name.now column }
     {
-        match tile_among(&self.tiles, name, column) {
+        match self.held_tile(name, column) {
             Some(tile) => Some(tile),
             None => None,
         }
@@ -106,6 +157,15 @@ impl Version {
     pub fn shared_tile(&self, name: &Name, column: Column) -> Option<&Arc<Tile>>
         ensures { option_map (λ tile. tile_of tile.now.value) result ≡ tile_at self.now.tiles name.now column }
     {
-        tile_among(&self.tiles, name, column.number())
+        self.held_tile(name, column.number())
+    }
+
+    fn held_tile(&self, name: &Name, column: u8) -> Option<&Arc<Tile>>
+        ensures { option_map (λ tile. tile_of tile.now.value) result ≡ tile_at self.now.tiles name.now column }
+    {
+        match &self.content {
+            Content::Nothing(_) => None,
+            Content::Tiled(table) => table.tile(name, column),
+        }
     }
 }

@@ -1,7 +1,7 @@
 use Rattle.std.proofs.Common.{◌≡◌, map, take}
-use Rattle.version_core.specs.Tiles.{finished}
+use Rattle.version_core.specs.Table.{tile_in_slot}
 use Rattle.version_core.proofs.tiles.copied.Given as goal
 
--- the tiles so far are copied
-abbrev pub invariant-loop-tile : goal.invariant-loop-tile
-invariant-loop-tile l = map finished l.copies.items ≡ map finished (take l.tile-index l.tiles)
+-- the slots so far are copied
+abbrev pub invariant-loop-slot : goal.invariant-loop-slot
+invariant-loop-slot l = map tile_in_slot l.copies.items ≡ map tile_in_slot (take l.slot-index l.slots)

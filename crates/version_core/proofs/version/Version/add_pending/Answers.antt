@@ -1,6 +1,7 @@
-use Rattle.std.proofs.Common.{rules, ◌≡◌, ◌++◌, ◌∷◌, [], cond, not, ap, sym, ◌∙◌, append-nil}
+use Rattle.std.proofs.Common.{rules, ◌≡◌, ◌++◌, ◌∷◌, [], None, cond, get_or, not, ap, sym, ◌∙◌, append-nil, arith}
 use Rattle.overlay_terms.specs.Histories.{tile_at}
-use Rattle.version_core.proofs.PendingLemmas.{tile_in, columns_more, missing_is, twice}
+use Rattle.version_core.proofs.PendingLemmas.{tile_in, columns_more, missing_in, twice}
+use Rattle.version_core.proofs.Tables.{slot_by}
 use Rattle.version_core.proofs.version.Version.add_pending.Goals as goal
 use Rattle.version_core.proofs.version.Version.add_pending.Goals.{then-is_none+in_ok-clone+in_ok-push, else-is_none}
 
@@ -10,7 +11,8 @@ loop-column-preserved c =
     let name = c.args.name.now in
     let k = c.loop-column.column in
     let list = c.loop-column.list.items in
-    let missing = missing_is c.tile.result (tile_at version.tiles name k) c.tile.ensures ∙ ap not c.is_none.ensures ∙ twice c.is_none.result in
+    let found = c.tile_at.ensures ∙ ap (λ j. get_or c.args.row.now j None) c.from.ensures ∙ ap (λ r. get_or r k None) c.requires ∙ slot_by (tile_at version.tiles name) k (omega (arith, c.loop-column-test.true)) in
+    let missing = missing_in c.tile_at.result (tile_at version.tiles name k) found ∙ ap not c.is_none.ensures ∙ twice c.is_none.result in
     columns_more version name c.args.list.now.items list k c.if-is_none.list.items c.loop-column.invariant
     (elim c.if-is_none.branch [
       | then-is_none+in_ok-clone+in_ok-push w ↦

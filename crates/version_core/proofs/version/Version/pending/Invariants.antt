@@ -4,4 +4,4 @@ use Rattle.version_core.proofs.version.Version.pending.Given as goal
 
 -- the tiles of the layers so far
 abbrev pub invariant-loop-place : goal.invariant-loop-place
-invariant-loop-place l = l.list.items ≡ flat_map (pending_of_layer l.self) (take l.place l.layers)
+invariant-loop-place l = l.list.items ≡ flat_map (pending_of_layer l.self) (take l.place l.self.layers)

@@ -1,0 +1,90 @@
+-- Slots and rows one after another.
+use Rattle.std.specs.Prelude.{◌≡◌, ℕ, ◌+◌, ◌<◌, ◌≤◌, Bool, true, false, List, [], ◌∷◌, ◌++◌, map, set, take, replicate, slice_get, Option, Some, None, if◌then◌else◌}
+use Rattle.std.specs.List.{range_with_len}
+use Rattle.std.proofs.Common.{zero, suc, length, get_or, refl, ap, sym, subst, ◌∙◌, add-one, arith}
+use Rattle.std.proofs.lemmas.List.{map-append}
+use Rattle.overlay_terms.specs.Column.{column_count, columns}
+use Rattle.overlay_terms.specs.Layers.{Name, Layer}
+use Rattle.overlay_terms.specs.Histories.{Tile, Finished}
+use Rattle.layer_book.specs.Layer.{IsBook}
+use Rattle.layer_book.proofs.Answering.{take_there}
+use Rattle.version_core.specs.declared.tiles.Slot.{Slot}
+use Rattle.version_core.specs.Table.{tile_in_slot, row_by, rows_by, row_tiles, tiles_of, IsTable}
+use Rattle.version_core.proofs.PendingLemmas.{range_more}
+use Rattle.version_core.proofs.Tables.{is_table, IsFound}
+
+-- the tile of a slot in a row
+pub slot_there : (slots : List Slot) (i : ℕ) (slot : Slot) → i < length slots → slot ≡ get_or slots i slot → get_or (map tile_in_slot slots) i None ≡ tile_in_slot slot
+slot_there [] i slot h e = absurd (omega arith)
+slot_there (s ∷ slots) zero slot h e = ap tile_in_slot (sym e)
+slot_there (s ∷ slots) (suc i) slot h e = slot_there slots i slot (omega arith) e
+
+-- the tiles of slots, one of which is replaced
+pub map_set : (slots : List Slot) (i : ℕ) (slot : Slot) → map tile_in_slot (set slots i slot) ≡ set (map tile_in_slot slots) i (tile_in_slot slot)
+map_set [] zero slot = refl
+map_set [] (suc i) slot = refl
+map_set (s ∷ slots) zero slot = refl
+map_set (s ∷ slots) (suc i) slot = ap (λ xs. tile_in_slot s ∷ xs) (map_set slots i slot)
+
+pub length_set : (slots : List Slot) (i : ℕ) (slot : Slot) → length (set slots i slot) ≡ length slots
+length_set [] zero slot = refl
+length_set [] (suc i) slot = refl
+length_set (s ∷ slots) zero slot = refl
+length_set (s ∷ slots) (suc i) slot = ap suc (length_set slots i slot)
+
+-- one slot more of those that are left
+pub left_more : (slots : List Slot) (marks : List Bool) (made after : List Slot) (slot kept : Slot) (i : ℕ) → i < length slots → slot ≡ get_or slots i slot
+    → tile_in_slot kept ≡ (if get_or marks i false then None else tile_in_slot slot)
+    → map tile_in_slot made ≡ map (λ k. if get_or marks k false then None else get_or (map tile_in_slot slots) k None) (range_with_len 0 i)
+    → after ≡ made ++ kept ∷ [] → map tile_in_slot after ≡ map (λ k. if get_or marks k false then None else get_or (map tile_in_slot slots) k None) (range_with_len 0 (i + 1))
+left_more slots marks made after slot kept i h there left so_far pushed =
+    let at : ℕ → Option Tile = λ k. if get_or marks k false then None else get_or (map tile_in_slot slots) k None in
+    let start : 0 + i ≡ i = omega arith in
+    let here : tile_in_slot kept ≡ at i = left ∙ ap (λ o. if get_or marks i false then None else o) (sym (slot_there slots i slot h there)) in
+    ap (map tile_in_slot) pushed ∙ map-append tile_in_slot made (kept ∷ []) ∙ (λ x. so_far x ++ here x ∷ [])
+    ∙ sym (ap (λ n. map at (range_with_len 0 n)) (add-one i) ∙ ap (map at) (range_more 0 i ∙ ap (λ j. range_with_len 0 i ++ j ∷ []) start) ∙ map-append at (range_with_len 0 i) (i ∷ []))
+
+-- one row more, and all
+pub rows_more : (found : Name → ℕ → Option Tile) (layers : List Layer) (i : ℕ) (layer : Layer) (old new : List (List (Option Tile))) (row : List (Option Tile))
+    → slice_get layers i ≡ Some layer → old ≡ rows_by found (take i layers) → row ≡ row_by (found layer.name) → new ≡ old ++ row ∷ []
+    → new ≡ rows_by found (take (i + 1) layers)
+rows_more found layers i layer old new row e before is made =
+    made ∙ (λ x. before x ++ is x ∷ [])
+    ∙ sym (ap (rows_by found) (ap (λ k. take k layers) (add-one i) ∙ take_there layers i layer e) ∙ map-append (λ (l : Layer). row_by (found l.name)) (take i layers) (layer ∷ []))
+
+take_whole : (layers : List Layer) → take (length layers) layers ≡ layers
+take_whole [] = refl
+take_whole (l ∷ layers) = ap (λ ls. l ∷ ls) (take_whole layers)
+
+pub rows_whole : (found : Name → ℕ → Option Tile) (layers : List Layer) (i : ℕ) (rows : List (List (Option Tile))) → i ≡ length layers → rows ≡ rows_by found (take i layers) → rows ≡ rows_by found layers
+rows_whole found layers i rows e is = is ∙ ap (rows_by found) (ap (λ k. take k layers) e ∙ take_whole layers)
+
+-- nothing is found
+abbrev pub nowhere : Name → ℕ → Option Tile
+nowhere name k = None
+
+-- empty rows are those in which nothing is found, and have no tile
+pub rows_nowhere : (layers : List Layer) → replicate (length layers) (replicate column_count None) ≡ rows_by nowhere layers
+rows_nowhere [] = refl
+rows_nowhere (l ∷ ls) = let later = rows_nowhere ls in λ i. replicate column_count None ∷ later i
+
+row_nowhere : (own : Name) (n a : ℕ) → row_tiles own a (map (nowhere own) (range_with_len a n)) ≡ []
+row_nowhere own zero a = refl
+row_nowhere own (suc n) a = row_nowhere own n (a + 1)
+
+pub tiles_nowhere : (layers : List Layer) → tiles_of layers (rows_by nowhere layers) ≡ []
+tiles_nowhere [] = refl
+tiles_nowhere (l ∷ ls) = (λ i. row_nowhere l.name column_count 0 i ++ tiles_nowhere ls i)
+
+nowhere_found : (layers : List Layer) → IsFound layers nowhere
+nowhere_found layers = record { fit = λ name k tile e. absurd (cc); formed = λ name k tile e. absurd (cc) }
+
+module _ (layers shared : List Layer) (count : ℕ) (rows : List (List (Option Tile))) (all : count ≡ length layers) (same : shared ≡ layers) (made : rows ≡ replicate count (replicate column_count None)) where
+  made_empty : rows ≡ rows_by nowhere layers
+  made_empty = made ∙ ap (λ n. replicate n (replicate column_count None)) all ∙ rows_nowhere layers
+
+  pub empty_is_table : IsBook layers → IsTable shared rows
+  empty_is_table book = subst (λ ls. IsTable ls rows) (sym same) (is_table layers nowhere (nowhere_found layers) rows made_empty book)
+
+  pub empty_has_none : tiles_of shared rows ≡ []
+  empty_has_none = (λ i. tiles_of (same i) (made_empty i)) ∙ tiles_nowhere layers
