@@ -3,7 +3,8 @@ use Rattle.commit_plan.specs.declared.fault.StoreFault.TheVariants.{OutOfMemory}
 use Rattle.overlay_terms.specs.Histories.{Version}
 use Rattle.flush_core.specs.declared.flusher.Flusher.{Flusher}
 use Rattle.record_bytes.specs.ImageHeld.{image_held}
-use Rattle.root_store.specs.Opening.{Writes}
+use Rattle.disk_model.specs.Moments.{Leaves}
+use Rattle.root_store.specs.Opening.{Writes, IsCompleted}
 use Rattle.overlay_engine.specs.Recovery.{Refused}
 use Rattle.overlay_engine.specs.Runs.{accepted_in}
 use Rattle.overlay_engine.proofs.Running.{crash_covered}
@@ -63,6 +64,11 @@ returns-in-Ok-restored-clause-stored g c =
 pub returns-in-Ok-restored-clause-writes : goal.returns-in-Ok-restored-clause-writes
 returns-in-Ok-restored-clause-writes g c honest =
     writes_of g.D.Disk (g.D.Disk.seen c.args.disk) c.new.result c.in-Ok.opened.0 c.new.ensures (c.in-Ok.ensures.writes honest)
+
+pub returns-in-Ok-restored-clause-completed : goal.returns-in-Ok-restored-clause-completed
+returns-in-Ok-restored-clause-completed g c honest =
+    subst (λ (f : Flusher g.row.D.Denot). Leaves g.D.Disk f.commit.disk (IsCompleted (g.D.Disk.seen c.args.disk))) (sym c.new.ensures)
+    (c.in-Ok.ensures.completed honest)
 
 pub returns-in-Err-restored-clause-writes : goal.returns-in-Err-restored-clause-writes
 returns-in-Err-restored-clause-writes g c honest =
