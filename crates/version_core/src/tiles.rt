@@ -168,11 +168,7 @@ fn put(slots: &mut Vec<Slot>, column: Column, tile: Arc<Tile>)
 }
 
 /// The slots, of which those that are marked are empty.
-fn left_in(
-    alloc: Global,
-    slots: &[Slot],
-    marks: &[bool; COLUMNS],
-) -> Result<Vec<Slot>, AllocError>
+fn left_in(alloc: Global, slots: &[Slot], marks: &[bool; COLUMNS]) -> Result<Vec<Slot>, AllocError>
     requires { length slots.now ≡ column_count }
     ensures { IfOk result (λ left. map tile_in_slot left.items ≡ row_by (λ k. if get_or marks.now k false then None else get_or (map tile_in_slot slots.now) k None)) }
 {

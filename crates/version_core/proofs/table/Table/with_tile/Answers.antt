@@ -37,9 +37,9 @@ returns-clause-tiles c =
     let same : c.in_ok-shared.shared.value ≡ v.layers.value = c.in_ok-shared.ensures.cases in
     let made = c.in_ok-rows.ensures ∙ ap (λ rs. set rs c.index_of-place.result (set (get_or rs c.index_of-place.result []) c.args.column (Some (tile_of c.args.tile.value)))) c.deref-2.ensures.value in
     λ other k.
-        with_finds v.layers.value v.rows.items c.self.invariant c.args.name.now c.args.column (tile_of c.args.tile.value) derived known c.requires.formed c.index_of-place.result index
-        c.in_ok-shared.shared.value c.in_ok-rows.rows.items made same other k
-        ∙ ap (λ (l : Laid). if bytes_eq c.args.name.now other && (c.args.column == k) then Some (tile_of c.args.tile.value) else tile_at l.tiles other k) c.self.view_is
+    with_finds v.layers.value v.rows.items c.self.invariant c.args.name.now c.args.column (tile_of c.args.tile.value) derived known c.requires.formed c.index_of-place.result index
+    c.in_ok-shared.shared.value c.in_ok-rows.rows.items made same other k
+    ∙ ap (λ (l : Laid). if bytes_eq c.args.name.now other && (c.args.column == k) then Some (tile_of c.args.tile.value) else tile_at l.tiles other k) c.self.view_is
 
 pub returns-clause-valid : goal.returns-clause-valid
 returns-clause-valid c =
