@@ -1,5 +1,5 @@
 -- What may go from thread to thread.
-use denote.Param.Send.{IsSend, IsSync, recorded_send, recorded_sync, struct_send, struct_sync, sendable}
+use denote.Param.Send.{IsSend, IsSync, recorded_send, recorded_sync, struct_send, struct_sync, view_send, view_sync, sendable}
 use denote.Struct.Declared.{shape}
 use Rattle.std.proofs.Crossing.{crosses, frees, send, sync, Arc-send, Arc-sync}
 use Rattle.std.specs.contracts.alloc.Global as global
@@ -19,7 +19,11 @@ use Rattle.layer_book.specs.contracts.layers.Layers as layers
 use Rattle.layer_book.specs.contracts.layer.Layer as layer
 use Rattle.layer_expr.specs.contracts.expr.Expr as expr
 use Rattle.version_core.specs.contracts.version.Version as version
-use Rattle.version_core.proofs.tiles.FinishedTile.TheSendSync as finished
+use Rattle.version_core.specs.contracts.version.Version.TheInside as inside
+use Rattle.version_core.specs.contracts.version.Content as content
+use Rattle.version_core.specs.contracts.table.Table as tiles
+use Rattle.version_core.specs.contracts.tiles.TileRow as row
+use Rattle.version_core.proofs.tiles.Slot.TheSendSync as slot
 use Rattle.book_history.specs.contracts.published.PublishedAbsorb.TheImpl as absorb
 use Rattle.book_history.specs.contracts.published.Published as published
 use Rattle.book_history.specs.contracts.published.OnlyGrows as only_grows
@@ -51,11 +55,39 @@ layers_send = search (all, layer_send) depth 20
 pub layers_sync : IsSync layers.the_row
 layers_sync = search (all, layer_sync) depth 20
 
+pub row_send : IsSend row.the_row
+row_send = search (all, slot.the_send, slot.the_sync) depth 20
+
+pub row_sync : IsSync row.the_row
+row_sync = search (all, slot.the_send, slot.the_sync) depth 20
+
+pub tiles_send : IsSend tiles.the_row
+tiles_send = search (all, layers_send, layers_sync, row_send) depth 20
+
+pub tiles_sync : IsSync tiles.the_row
+tiles_sync = search (all, layers_send, layers_sync, row_sync) depth 20
+
+pub content_send : IsSend (content.the_field).row
+content_send = search (sendable, crosses, layers_send, tiles_send, tiles_sync) depth 20
+
+pub content_sync : IsSync (content.the_field).row
+content_sync = search (sendable, crosses, layers_sync, tiles_send, tiles_sync) depth 20
+
+inside_send : IsSend inside.the_row
+inside_send =
+    let O = inside.the_type in
+    recorded_send _ _ _ O.to_one (struct_send (shape O) (search sendable depth 20, (search sendable depth 20, (content_send, tt))))
+
+inside_sync : IsSync inside.the_row
+inside_sync =
+    let O = inside.the_type in
+    recorded_sync _ _ _ O.to_one (struct_sync (shape O) (search sendable depth 20, (search sendable depth 20, (content_sync, tt))))
+
 pub version_send : IsSend version.the_row
-version_send = search (all, layers_send, finished.the_send) depth 20
+version_send = view_send inside.the_row _ _ _ _ inside_send
 
 pub version_sync : IsSync version.the_row
-version_sync = search (all, layers_sync, finished.the_sync) depth 20
+version_sync = view_sync inside.the_row _ _ _ _ inside_sync
 
 pub published_sync : IsSync published.the_row
 published_sync =
