@@ -13,8 +13,8 @@ returns-in-Ok g c =
     let e = c.wait_built.ensures in
     wait_told _ c.args.me.now c.wait_built.new.me c.args.name.now _ c.in-Ok.number e.goes_on e.same named.0 named.1 c.in-Ok.ensures.ok
 
-pub returns : goal.returns
-returns g c =
+pub returns-in-Err : goal.returns-in-Err
+returns-in-Err g c =
     let named = c.in_ok-name.ensures.ok in
     let e = c.wait_built.ensures in
     wait_refused _ c.args.me.now c.wait_built.new.me c.args.name.now _ c.in-Err.fault e.goes_on e.same named.0 named.1 c.in-Err.ensures.refused _ c.command_fault.ensures
