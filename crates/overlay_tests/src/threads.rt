@@ -204,7 +204,9 @@ pub fn submit_beside<J: Naming + Send + Sync, R: Threads + Wait + Clock + Abort 
     let (reported, (ours, theirs)) = join_mut(
         rt,
         &mut || report_all(rt, alloc, shared, reporter),
-        &mut || beside_until_closing(rt, alloc, shared, one, two, &first, &second),
+        &mut ||
+            requires { (one.now.book ≡ J.book) × (two.now.book ≡ J.book) }
+        { beside_until_closing(rt, alloc, shared, one, two, &first, &second) },
     );
     let ours = ours.expect(rt, "no numbers of the first");
     let theirs = theirs.expect(rt, "no numbers of the second");
