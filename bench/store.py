@@ -18,7 +18,7 @@ import unproved
 
 HERE = pathlib.Path(__file__).resolve().parent
 CRATES = ["plane_base", "wkt_form", "layer_expr", "layer_book", "tile_build", "version_core", "disk_model", "extent_map"]
-CRATES += ["record_bytes", "record_form", "root_store", "flush_core"]
+CRATES += ["record_writing", "record_reading", "root_store", "flush_core"]
 BLOCK = 4096
 
 

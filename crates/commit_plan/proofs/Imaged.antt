@@ -8,7 +8,7 @@ use Rattle.overlay_terms.specs.Histories.{Finished}
 use Rattle.overlay_terms.specs.StoredTiles.{is_tile_before, AreStored}
 use Rattle.extent_map.specs.declared.extent.Extent as runs
 use Rattle.layer_book.specs.Layer.{IsBook}
-use Rattle.record_bytes.specs.Image.{IsImage}
+use Rattle.record_writing.specs.Image.{IsImage}
 use Rattle.store_terms.specs.Catalog.{Listed}
 use Rattle.store_terms.specs.Image.{Held}
 use Rattle.commit_plan.specs.declared.draft.Draft.{Draft}

@@ -7,9 +7,9 @@ use Rattle.extent_map.specs.declared.extent.Extent as runs
 use Rattle.extent_map.specs.Taken.{taken_of}
 use Rattle.store_terms.specs.Catalog.{catalog}
 use Rattle.tile_build.specs.StoredTile.{finished_of}
-use Rattle.record_bytes.specs.declared.image.Image.{Image}
-use Rattle.record_bytes.specs.Listing.{listing_of, IsListable}
-use Rattle.record_bytes.specs.declared.catalog.Listed as code
+use Rattle.record_writing.specs.declared.image.Image.{Image}
+use Rattle.record_writing.specs.Listing.{listing_of, IsListable}
+use Rattle.record_writing.specs.declared.catalog.Listed as code
 use Rattle.commit_plan.specs.declared.room.Room.{Room}
 use Rattle.commit_plan.specs.Staying.{Standing}
 use Rattle.commit_plan.specs.declared.draft.Draft.{Draft}

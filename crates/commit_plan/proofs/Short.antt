@@ -34,11 +34,11 @@ use Rattle.store_terms.specs.Choices.{optional}
 use Rattle.store_terms.specs.Fields.{number, counted}
 use Rattle.store_terms.specs.declared.root.RecordExtent.{RecordExtent}
 use Rattle.store_terms.proofs.BaseLemmas.{few_rings}
-use Rattle.record_bytes.specs.Listing.{spelled_records, records_of, HasColumns, listed_of, listing_of, IsListable}
-use Rattle.record_bytes.specs.declared.catalog.Listed as code
-use Rattle.record_bytes.specs.declared.catalog.Records.{Records}
-use Rattle.record_bytes.specs.declared.catalog.Records.TheVariants.{Base, Derived}
-use Rattle.record_bytes.specs.Tiles.{named_by}
+use Rattle.record_writing.specs.Listing.{spelled_records, records_of, HasColumns, listed_of, listing_of, IsListable}
+use Rattle.record_writing.specs.declared.catalog.Listed as code
+use Rattle.record_writing.specs.declared.catalog.Records.{Records}
+use Rattle.record_writing.specs.declared.catalog.Records.TheVariants.{Base, Derived}
+use Rattle.record_writing.specs.Tiles.{named_by}
 use Rattle.commit_plan.proofs.CatalogSize.{extent_long, name_long}
 
 -- ---- base layers: eight bytes a point, and there are few steps

@@ -13,7 +13,7 @@ use Rattle.extent_map.specs.FirstFit.{IsFull}
 use Rattle.layer_book.proofs.Wanted.{index_at}
 use Rattle.tile_build.specs.declared.stored_tile.StoredTile.{StoredTile}
 use Rattle.tile_build.specs.StoredTile.{finished_of}
-use Rattle.record_bytes.specs.Tiles.{named_by}
+use Rattle.record_writing.specs.Tiles.{named_by}
 use Rattle.store_terms.specs.TileRecord.{named_tile}
 use Rattle.store_terms.specs.declared.root.RecordExtent.{RecordExtent}
 use Rattle.commit_plan.specs.declared.draft.Draft.{Draft}

@@ -22,8 +22,8 @@ use Rattle.layer_book.proofs.Lookups.{as_derived}
 use Rattle.layer_book.proofs.Names.{stands_is}
 use Rattle.overlay_terms.specs.Orderly.{is_orderly_after}
 use Rattle.tile_build.specs.declared.stored_tile.StoredTile.{StoredTile}
-use Rattle.record_bytes.specs.declared.catalog.Listed as code
-use Rattle.record_bytes.specs.Listing.{listed_of as listed_code, listing_of}
+use Rattle.record_writing.specs.declared.catalog.Listed as code
+use Rattle.record_writing.specs.Listing.{listed_of as listed_code, listing_of}
 use Rattle.commit_plan.specs.declared.write.Write.{Write}
 use Rattle.commit_plan.specs.declared.draft.Draft.{Draft}
 use Rattle.commit_plan.specs.Drafting.{IsDraft}

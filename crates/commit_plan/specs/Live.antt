@@ -1,7 +1,7 @@
 -- What the code holds of the live root, as what the root holds.
 use Rattle.std.specs.Prelude.{map}
 use Rattle.tile_build.specs.StoredTile.{finished_of}
-use Rattle.record_bytes.specs.Listing.{listing_of}
+use Rattle.record_writing.specs.Listing.{listing_of}
 use Rattle.commit_plan.specs.declared.live_records.LiveRecords.{LiveRecords}
 use Rattle.commit_plan.specs.Staying.{Standing}
 

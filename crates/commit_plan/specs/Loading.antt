@@ -1,7 +1,7 @@
 -- What is read of a root, as what a file holds.
 use Rattle.std.specs.Prelude.{List, map}
 use Rattle.tile_build.specs.StoredTile.{finished_of}
-use Rattle.record_bytes.specs.Listing.{listing_of}
+use Rattle.record_writing.specs.Listing.{listing_of}
 use Rattle.store_terms.specs.Image.{Held}
 use Rattle.store_terms.specs.Catalog.{Listed}
 use Rattle.root_reading.specs.declared.loading.Content.{Content}

@@ -10,8 +10,8 @@ use Rattle.store_terms.specs.TileRecord.{named_tile}
 use Rattle.store_terms.specs.declared.root.RecordExtent.{RecordExtent}
 use Rattle.store_terms.specs.Image.{Held}
 use Rattle.tile_build.specs.StoredTile.{finished_of}
-use Rattle.record_bytes.specs.declared.image.Image.{Image}
-use Rattle.record_bytes.specs.Tiles.{named_by}
+use Rattle.record_writing.specs.declared.image.Image.{Image}
+use Rattle.record_writing.specs.Tiles.{named_by}
 use Rattle.commit_plan.specs.Staying.{Standing, layer_stays, tile_stays}
 
 -- a layer's own record: its rings, or its expression

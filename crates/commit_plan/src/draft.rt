@@ -10,7 +10,7 @@ use crate::fault::StoreFault;
 use crate::room::Room;
 use crate::write::Write;
 use extent_map::extent::Extent as Run;
-use root_reading::fetching::BLOCK;
+use extent_map::BLOCK;
 use std::alloc::{AllocError, Global};
 use store_terms::root::RecordExtent;
 

@@ -3,7 +3,7 @@ ghost use Rattle.std.specs.Prelude.{◌≡◌, ◌⊎◌, ◌+◌, ◌<◌, leng
 ghost use Rattle.extent_map.specs.Taken.{taken_of, limit_of};
 ghost use Rattle.store_terms.specs.Roots.{sequence_max};
 ghost use Rattle.store_terms.specs.StandsFor.{body_at};
-ghost use Rattle.record_bytes.specs.ImageHeld.{image_held};
+ghost use Rattle.record_writing.specs.ImageHeld.{image_held};
 ghost use Rattle.root_reading.specs.Taking.{IsMapOf};
 ghost use Rattle.commit_plan.specs.Kept.{Kept, extents_in, other};
 ghost use Rattle.commit_plan.specs.Drafting.{IsLaidOut, IsNext};
@@ -18,7 +18,7 @@ use crate::fault::StoreFault;
 use crate::filing::file_layers;
 use crate::live_records::LiveRecords;
 use crate::next::Next;
-use record_bytes::image::Image;
+use record_writing::image::Image;
 use std::alloc::Global;
 use store_terms::root::Root;
 

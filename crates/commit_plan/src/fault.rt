@@ -7,7 +7,7 @@ ghost use Rattle.commit_plan.specs.declared.fault.StoreFault.TheVariants.{Device
 use disk_model::fault::DiskFault;
 use extent_map::fault::ExtentFault;
 use fault_texts::{CommonFault, FaultText};
-use record_bytes::fault::RecordFault;
+use record_writing::fault::RecordFault;
 use root_reading::load_fault::LoadFault;
 use std::alloc::{AllocError, AllocFailed};
 use store_terms::damage::Damage;

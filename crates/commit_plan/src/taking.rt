@@ -1,7 +1,7 @@
 //! The room that the records of a root take.
 ghost use Rattle.std.specs.Prelude.{◌≡◌, ◌∷◌, ◌⊎◌, IfOk, IfErr};
 ghost use Rattle.extent_map.specs.Taken.{taken_of, limit_of};
-ghost use Rattle.record_bytes.specs.Listing.{listing_of};
+ghost use Rattle.record_writing.specs.Listing.{listing_of};
 ghost use Rattle.store_terms.specs.Image.{Held};
 ghost use Rattle.store_terms.specs.Places.{extents_listed};
 ghost use Rattle.store_terms.specs.declared.damage.Damage.TheVariants.{Overlap};
@@ -11,7 +11,7 @@ ghost use Rattle.commit_plan.specs.Staying.{AreHeldApart};
 
 use crate::room::Room;
 use extent_map::fault::ExtentFault;
-use record_bytes::catalog::Listed;
+use record_writing::catalog::Listed;
 use root_reading::load_fault::LoadFault;
 use root_reading::taking::runs_of;
 use std::alloc::Global;

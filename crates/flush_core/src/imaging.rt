@@ -3,13 +3,13 @@ ghost use Rattle.std.specs.Prelude.{◌≡◌, ◌++◌, map, IfOk, OnOk};
 ghost use Rattle.overlay_terms.specs.Column.{columns};
 ghost use Rattle.tile_build.specs.StoredTile.{finished_of};
 ghost use Rattle.overlay_terms.specs.Histories.{tile_at};
-ghost use Rattle.record_bytes.specs.ImageHeld.{image_held};
+ghost use Rattle.record_writing.specs.ImageHeld.{image_held};
 ghost use Rattle.flush_core.specs.Imaging.{named_tile, tiles_in, tiles_in_order, version_held};
 ghost use Rattle.flush_core.specs.Stored.{IsImageOf};
 
 use layer_expr::name::Name;
 use plane_base::{COLUMN_COUNT, Column};
-use record_bytes::image::Image;
+use record_writing::image::Image;
 use std::alloc::{AllocError, Global};
 use tile_build::StoredTile;
 use version_core::version::Version;

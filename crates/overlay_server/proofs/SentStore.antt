@@ -5,7 +5,7 @@ use denote.Param.Send.{IsSend, recorded_send, struct_send, plain_send, sendable}
 use Rattle.std.proofs.Crossing.{crosses}
 use Rattle.book_history.proofs.Sent.{layers_send}
 use Rattle.tile_build.proofs.stored_tile.StoredTile.TheSendSync as tiles
-use Rattle.record_bytes.proofs.catalog.Listed.TheSendSync as entries
+use Rattle.record_writing.proofs.catalog.Listed.TheSendSync as entries
 use Rattle.store_terms.proofs.root.Root.TheSendSync as roots
 use Rattle.commit_plan.proofs.room.Room.TheSendSync as rooms
 use Rattle.commit_plan.proofs.write.Write.TheSendSync as writes

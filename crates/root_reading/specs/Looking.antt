@@ -4,8 +4,8 @@ use Rattle.disk_model.specs.declared.disk.Disk.{Ghosts}
 use Rattle.disk_model.specs.Disk.{Fewer, Failed}
 use Rattle.disk_model.specs.Moments.{LeavesOnly}
 use Rattle.store_terms.specs.declared.damage.Damage.{Damage}
-use Rattle.record_bytes.specs.declared.fault.RecordFault.{RecordFault}
-use Rattle.record_bytes.specs.declared.fault.RecordFault.TheVariants as record_faults
+use Rattle.record_writing.specs.declared.fault.RecordFault.{RecordFault}
+use Rattle.record_writing.specs.declared.fault.RecordFault.TheVariants as record_faults
 use Rattle.root_reading.specs.declared.load_fault.LoadFault.{LoadFault}
 use Rattle.root_reading.specs.declared.load_fault.LoadFault.TheVariants.{Device, Damaged, OutOfMemory}
 

@@ -6,7 +6,7 @@ ghost use Rattle.root_reading.specs.Looking.{Gives, Looks, Causes};
 
 use crate::load_fault::LoadFault;
 use disk_model::disk::Disk;
-pub use extent_map::{BLOCK, blocks_of};
+use extent_map::{BLOCK, blocks_of};
 use std::alloc::Global;
 use store_terms::damage::Damage;
 use store_terms::root::RecordExtent;

@@ -5,14 +5,14 @@ ghost use Rattle.layer_expr.specs.Name.{is_name};
 ghost use Rattle.layer_book.specs.Command.{command};
 ghost use Rattle.layer_book.specs.Layer.{keeping};
 ghost use Rattle.store_terms.specs.Image.{with_layer};
-ghost use Rattle.record_bytes.specs.Answers.{Reads, Tells};
+ghost use Rattle.record_writing.specs.Answers.{Reads, Tells};
 
 use layer_book::command::Command;
 use layer_book::fault::LayerFault;
 use layer_book::layers::Layers;
 use layer_expr::fault::ExprFault;
 use layer_expr::name::Name;
-use record_bytes::fault::RecordFault;
+use record_writing::fault::RecordFault;
 use std::alloc::Global;
 use store_terms::damage::Damage;
 

@@ -1,6 +1,6 @@
 //! The records that a root names, as the disk has them.
 ghost use Rattle.std.specs.Prelude.{◌↔◌, length, ◌≡◌};
-ghost use Rattle.record_bytes.specs.Listing as listings;
+ghost use Rattle.record_writing.specs.Listing as listings;
 ghost use Rattle.store_terms.specs.Image.{listing_of};
 ghost use Rattle.root_reading.specs.Looking.{Gives, Looks, Causes};
 ghost use Rattle.root_reading.specs.Loading.{rings_at, expression_at};
@@ -10,9 +10,9 @@ use crate::load_fault::LoadFault;
 use disk_model::disk::Disk;
 use layer_expr::expr::Expr;
 use plane_base::base_layer::BaseLayer;
-use record_bytes::catalog::{Listed, read_catalog};
-use record_form::base_record::read_base;
-use record_form::definition_record::read_definition;
+use record_writing::catalog::{Listed, read_catalog};
+use record_reading::base_record::read_base;
+use record_reading::definition_record::read_definition;
 use std::alloc::Global;
 use store_terms::damage::Damage;
 use store_terms::root::{RecordExtent, Root};

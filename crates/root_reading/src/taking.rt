@@ -1,13 +1,13 @@
 //! The blocks that the records of a root take.
 ghost use Rattle.std.specs.Prelude.{◌≡◌, ◌++◌, ◌∷◌, [], List, IfOk, OnOk};
-ghost use Rattle.record_bytes.specs.Listing.{listing_of, records_of};
+ghost use Rattle.record_writing.specs.Listing.{listing_of, records_of};
 ghost use Rattle.store_terms.specs.Places.{blocks, some_extents, extents_of_records, extents_listed};
 ghost use Rattle.store_terms.specs.declared.root.RecordExtent as terms;
 ghost use Rattle.root_reading.specs.Taking.{IsNear, AreRunsFor};
 
-use crate::fetching::blocks_of;
+use extent_map::blocks_of;
 use extent_map::extent::Extent as Run;
-use record_bytes::catalog::{Listed, Records};
+use record_writing::catalog::{Listed, Records};
 use std::alloc::{AllocError, Global};
 use store_terms::root::RecordExtent;
 

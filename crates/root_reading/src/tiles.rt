@@ -17,7 +17,7 @@ use crate::load_fault::LoadFault;
 use disk_model::disk::Disk;
 use layer_expr::name::Name;
 use plane_base::Column;
-use record_form::tile_record::read_tile;
+use record_reading::tile_record::read_tile;
 use std::alloc::Global;
 use std::sync::Arc;
 use store_terms::damage::Damage;
@@ -26,7 +26,7 @@ use tile_build::stored_tile::StoredTile;
 use tile_build::tile::Tile;
 
 /// The column of a number, and its tile, whose record lies in an extent.
-#[tactic(auto, using(record_bytes::proofs::StoredLemmas::read_has_form))]
+#[tactic(auto, using(record_writing::proofs::StoredLemmas::read_has_form))]
 fn tile_at<D: Disk>(
     alloc: Global,
     disk: &mut D,

@@ -3,7 +3,7 @@ ghost use Rattle.std.specs.Prelude.{◌≡◌, ◌≢◌, ◌+◌, ◌<◌, ◌�
 ghost use Rattle.extent_map.specs.Taken.{limit_of};
 ghost use Rattle.store_terms.specs.Image.{Held};
 ghost use Rattle.store_terms.specs.Roots.{sequence_max};
-ghost use Rattle.record_bytes.specs.ImageHeld.{image_held};
+ghost use Rattle.record_writing.specs.ImageHeld.{image_held};
 ghost use Rattle.commit_plan.specs.Kept.{Kept};
 ghost use Rattle.root_store.specs.Running.{Stands, Runs, KeepsTo, calls_left, is_busy};
 ghost use Rattle.commit_plan.specs.Drafting.{IsNext};
@@ -20,7 +20,7 @@ use commit_plan::drafting::drafted;
 use commit_plan::fault::StoreFault;
 use commit_plan::next::Next;
 use disk_model::disk::Disk;
-use record_bytes::image::Image;
+use record_writing::image::Image;
 use std::alloc::Global;
 
 impl<D: Disk> Commit<D> {

@@ -18,7 +18,7 @@ use commit_plan::room::Room;
 use disk_model::disk::Disk;
 use disk_model::fault::DiskFault;
 use extent_map::extent::Extent as Run;
-use record_bytes::root_body::write_body;
+use record_writing::root_body::write_body;
 use std::alloc::{AllocError, Global};
 use store_terms::root::{RecordExtent, Root};
 

@@ -8,8 +8,8 @@ ghost use Rattle.root_store.specs.Finding.{IsSlot, has_shut_gate};
 
 use disk_model::disk::Disk;
 use overlay_terms::limits::VERSION_MAX;
-use record_bytes::root_body::{FORMAT, read_body};
-use root_reading::fetching::BLOCK;
+use record_writing::root_body::{FORMAT, read_body};
+use extent_map::BLOCK;
 use root_reading::load_fault::LoadFault;
 use store_terms::damage::Damage;
 use store_terms::root::{Body, Root};

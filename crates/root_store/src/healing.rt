@@ -9,7 +9,7 @@ ghost use Rattle.root_store.specs.Opening.{Heals};
 
 use crate::slots::other_body;
 use disk_model::disk::Disk;
-use record_bytes::root_body::write_body;
+use record_writing::root_body::write_body;
 use root_reading::load_fault::LoadFault;
 use store_terms::root::Root;
 

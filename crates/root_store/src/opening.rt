@@ -7,7 +7,7 @@ ghost use Rattle.overlay_terms.specs.StoredTiles.{AreStored};
 ghost use Rattle.tile_build.specs.StoredTile.{finished_of};
 ghost use Rattle.extent_map.specs.Taken.{limit_of};
 ghost use Rattle.store_terms.specs.StandsFor.{reading};
-ghost use Rattle.record_bytes.specs.ImageHeld.{image_held};
+ghost use Rattle.record_writing.specs.ImageHeld.{image_held};
 ghost use Rattle.commit_plan.specs.Kept.{Kept};
 ghost use Rattle.commit_plan.specs.Loading.{held_in, kept_in};
 ghost use Rattle.commit_plan.specs.Staying.{standing_of};
@@ -24,7 +24,7 @@ use crate::phase::Phase;
 use commit_plan::fault::{StoreFault, told};
 use commit_plan::loading::{Loaded, read_root};
 use disk_model::disk::Disk;
-use record_bytes::image::Image;
+use record_writing::image::Image;
 use root_reading::load_fault::LoadFault;
 use std::alloc::Global;
 

@@ -3,7 +3,7 @@ ghost use Rattle.std.specs.Prelude.{◌≡◌, ◌+◌, ◌*◌, ◌%◌};
 ghost use Rattle.store_terms.specs.StandsFor.{body_at};
 ghost use Rattle.commit_plan.specs.Kept.{other};
 
-use root_reading::fetching::BLOCK;
+use extent_map::BLOCK;
 use store_terms::root::Root;
 
 /// Where the gate of the other slot stands.

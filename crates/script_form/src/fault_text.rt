@@ -5,7 +5,7 @@ ghost use Rattle.script_form.specs.Fault.{text_of};
 
 use crate::fault::CommandFault;
 use fault_texts::CommonFault;
-pub use fault_texts::FaultText;
+use fault_texts::FaultText;
 use overlay_grid::GridFault;
 
 /// The text of a fault, as a reply says it behind the fault's code.

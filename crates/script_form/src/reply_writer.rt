@@ -8,9 +8,10 @@ ghost use Rattle.fault_texts.specs.FaultText.{shown, IsBrief};
 ghost use Rattle.script_form.specs.Writing.{Writes};
 
 use crate::fault::CommandFault;
-use crate::fault_text::{FaultText, fault_text};
+use crate::fault_text::fault_text;
 use crate::line_reply::LineReply;
 use arrayvec::ArrayString;
+use fault_texts::FaultText;
 use itoa::Buffer;
 use layer_book::direct_answer::Place;
 use std::io::Write;

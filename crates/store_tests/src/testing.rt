@@ -6,7 +6,7 @@ use layer_book::layers::Layers;
 use layer_expr::name::Name;
 use layer_expr::reading::read_expr;
 use plane_base::{BaseLayer, Pt, Ring};
-use record_form::image::Image;
+use record_writing::image::Image;
 use root_store::commit::Commit;
 use root_store::creating::create;
 use root_store::opening::open;

@@ -9,7 +9,7 @@ ghost use Rattle.version_book.specs.Heard.{HasHeard};
 use crate::locked_book::LockedBook;
 use crate::reporter::Reporter;
 use book_history::seen_log::Naming;
-pub use book_lock::closed::Closed;
+use book_lock::closed::Closed;
 use book_lock::locked_log::LockedLog;
 use book_lock::session::Session;
 use std::sync::Wait;

@@ -1,8 +1,8 @@
 use Rattle.std.proofs.Common.{◌≡◌, true, Some, ◌+◌, ◌^◌, ◌<◌, ◌++◌, ◌∷◌, [], ℕ, List, length, map, inr, refl, sym, ◌∙◌, ap, subst, arith}
 use Rattle.std.specs.List.{flat_map}
 use Rattle.extent_map.specs.FirstFit.{IsPlanned, IsFull}
-use Rattle.record_bytes.specs.ImageHeld.{image_held}
-use Rattle.record_bytes.specs.Listing.{listing_of}
+use Rattle.record_writing.specs.ImageHeld.{image_held}
+use Rattle.record_writing.specs.Listing.{listing_of}
 use Rattle.store_terms.specs.declared.root.Root.{Root}
 use Rattle.overlay_terms.specs.Column.{column_count}
 use Rattle.store_terms.specs.Catalog.{Listed, catalog}

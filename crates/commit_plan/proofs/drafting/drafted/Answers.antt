@@ -13,8 +13,8 @@ use Rattle.extent_map.specs.Taken.{taken_of, limit_of}
 use Rattle.layer_book.specs.Layer.{IsBook}
 use Rattle.tile_build.specs.declared.stored_tile.StoredTile.{StoredTile}
 use Rattle.tile_build.specs.StoredTile.{finished_of}
-use Rattle.record_bytes.specs.ImageHeld.{image_held}
-use Rattle.record_bytes.specs.Listing.{listing_of}
+use Rattle.record_writing.specs.ImageHeld.{image_held}
+use Rattle.record_writing.specs.Listing.{listing_of}
 use Rattle.commit_plan.specs.declared.next.Next.{Next}
 use Rattle.commit_plan.specs.Filing.{filed_of}
 use Rattle.root_reading.specs.Taking.{IsMapOf}

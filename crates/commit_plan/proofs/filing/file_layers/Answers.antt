@@ -5,8 +5,8 @@ use Rattle.std.proofs.lemmas.List.Elements.{All-push}
 use Rattle.overlay_terms.specs.Layers.{Layer}
 use Rattle.overlay_terms.specs.Histories.{Finished}
 use Rattle.tile_build.specs.StoredTile.{finished_of}
-use Rattle.record_bytes.specs.Listing.{listed_of, listing_of, IsListable}
-use Rattle.record_bytes.specs.declared.catalog.Listed as code
+use Rattle.record_writing.specs.Listing.{listed_of, listing_of, IsListable}
+use Rattle.record_writing.specs.declared.catalog.Listed as code
 use Rattle.commit_plan.specs.Filing.{filed_of}
 use Rattle.commit_plan.specs.Drafting.{ArePlaced}
 use Rattle.commit_plan.specs.Walking.{AreLeft, AreLayersFiled}

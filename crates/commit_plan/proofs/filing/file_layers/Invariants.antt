@@ -2,7 +2,7 @@ use Rattle.std.proofs.Common.{◌≡◌, ℕ, List, [], length, take, map}
 use Rattle.std.specs.List.{All, flat_map}
 use Rattle.extent_map.specs.declared.extent.Extent as runs
 use Rattle.tile_build.specs.StoredTile.{finished_of}
-use Rattle.record_bytes.specs.Listing.{listing_of, IsListable}
+use Rattle.record_writing.specs.Listing.{listing_of, IsListable}
 use Rattle.commit_plan.specs.Drafting.{ArePlaced, IsDraft}
 use Rattle.commit_plan.specs.Sizes.{sizes_of_layer}
 use Rattle.commit_plan.proofs.Sized.{AreSplit}

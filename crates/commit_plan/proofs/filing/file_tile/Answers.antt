@@ -5,7 +5,7 @@ use Rattle.tile_build.specs.Tile.{tile_of}
 use Rattle.tile_build.specs.declared.tile.Tile.{Tile}
 use Rattle.tile_build.specs.declared.stored_tile.StoredTile.{StoredTile}
 use Rattle.overlay_terms.specs.Histories.{is_formed}
-use Rattle.record_bytes.specs.Tiles.{named_by}
+use Rattle.record_writing.specs.Tiles.{named_by}
 use Rattle.store_terms.specs.TileRecord.{named_tile, tile_of_record}
 use Rattle.store_terms.specs.declared.root.RecordExtent.{RecordExtent}
 use Rattle.commit_plan.specs.declared.fault.StoreFault.TheVariants.{Full}

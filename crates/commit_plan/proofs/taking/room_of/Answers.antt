@@ -1,6 +1,6 @@
 use Rattle.std.proofs.Common.{◌∷◌, refl, sym, subst}
 use Rattle.extent_map.specs.Taken.{taken_of}
-use Rattle.record_bytes.specs.Listing.{listing_of}
+use Rattle.record_writing.specs.Listing.{listing_of}
 use Rattle.store_terms.specs.Places.{extents_listed}
 use Rattle.root_reading.specs.Taking.{AreRunsFor}
 use Rattle.root_reading.proofs.TakingLemmas.{room_taken, room_apart, room_overlap}

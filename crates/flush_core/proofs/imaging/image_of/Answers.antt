@@ -2,7 +2,7 @@ use Rattle.std.proofs.Common.{◌≡◌, List, map, ap, sym, subst, ◌∙◌}
 use Rattle.overlay_terms.specs.Layers.{Layer}
 use Rattle.overlay_terms.specs.Histories.{Finished, tile_at}
 use Rattle.overlay_terms.specs.StoredTiles.{AreStored}
-use Rattle.record_bytes.specs.Image.{shared_held}
+use Rattle.record_writing.specs.Image.{shared_held}
 use Rattle.tile_build.specs.StoredTile.{finished_of}
 use Rattle.flush_core.specs.Imaging.{version_held}
 use Rattle.flush_core.specs.Stored.{IsImageOf}

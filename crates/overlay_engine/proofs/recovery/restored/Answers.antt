@@ -5,7 +5,7 @@ use Rattle.overlay_terms.specs.StoredTiles.{AreStored}
 use Rattle.store_terms.specs.Image.{Held}
 use Rattle.tile_build.specs.declared.stored_tile.StoredTile.{StoredTile}
 use Rattle.tile_build.specs.StoredTile.{finished_of}
-use Rattle.record_bytes.specs.Image.{shared_held}
+use Rattle.record_writing.specs.Image.{shared_held}
 use Rattle.overlay_engine.specs.Covers.{version_of}
 use Rattle.overlay_engine.proofs.recovery.restored.Goals as goal
 

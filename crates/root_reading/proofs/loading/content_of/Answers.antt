@@ -1,7 +1,7 @@
 use Rattle.std.proofs.Common.{◌≡◌, ◌<◌, length, get_or, refl, [], map, sym, ◌∙◌, ap, arith}
 use Rattle.std.proofs.lemmas.List.{length-map, get_or-map}
 use Rattle.tile_build.specs.StoredTile.{finished_of}
-use Rattle.record_bytes.specs.Listing.{listed_of, listing_of}
+use Rattle.record_writing.specs.Listing.{listed_of, listing_of}
 use Rattle.store_terms.specs.Image.{layers_of}
 use Rattle.root_reading.proofs.StoredLemmas.{nothing_stored}
 use Rattle.root_reading.proofs.Looked.{looks_none, looks_on, gives_err, size_stays}

@@ -1,7 +1,7 @@
 use Rattle.std.proofs.Common.{◌≡◌, ◌↔◌, [], drop, map}
 use Rattle.overlay_terms.specs.StoredTiles.{AreStored}
 use Rattle.tile_build.specs.StoredTile.{finished_of}
-use Rattle.record_bytes.specs.Listing.{listing_of}
+use Rattle.record_writing.specs.Listing.{listing_of}
 use Rattle.store_terms.specs.Image.{layers_of}
 use Rattle.root_reading.specs.Looking.{Looks}
 use Rattle.root_reading.specs.Loading.{then_layers}

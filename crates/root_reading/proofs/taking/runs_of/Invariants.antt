@@ -1,5 +1,5 @@
 use Rattle.std.proofs.Common.{◌∷◌, take}
-use Rattle.record_bytes.specs.Listing.{listing_of}
+use Rattle.record_writing.specs.Listing.{listing_of}
 use Rattle.store_terms.specs.Places.{extents_listed}
 use Rattle.root_reading.specs.Taking.{AreRunsFor}
 use Rattle.root_reading.proofs.taking.runs_of.Given as goal

@@ -2,7 +2,7 @@ use Rattle.std.proofs.Common.{◌++◌, sym, ◌∙◌, ap, subst}
 use Rattle.commit_plan.specs.declared.fault.StoreFault.TheVariants.{OutOfMemory}
 use Rattle.overlay_terms.specs.Histories.{Version}
 use Rattle.flush_core.specs.declared.flusher.Flusher.{Flusher}
-use Rattle.record_bytes.specs.ImageHeld.{image_held}
+use Rattle.record_writing.specs.ImageHeld.{image_held}
 use Rattle.disk_model.specs.Moments.{Leaves}
 use Rattle.root_store.specs.Opening.{Writes, IsCompleted}
 use Rattle.overlay_engine.specs.Recovery.{Refused}

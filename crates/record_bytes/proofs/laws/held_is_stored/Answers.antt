@@ -1,5 +1,0 @@
-use Rattle.record_bytes.proofs.StoredLemmas as lemmas
-use Rattle.record_bytes.proofs.laws.held_is_stored.Goals as goal
-
-pub returns : goal.returns
-returns c = lemmas.held_is_stored

@@ -1,6 +1,0 @@
-use Rattle.std.proofs.Common.{rules}
-use Rattle.record_form.proofs.base_record.base_in.Goals as goal
-
--- found by search alone: it stands here so that a wrong body is refused without working out what to write
-pub returns-in-Ok : goal.returns-in-Ok
-returns-in-Ok c = search rules

@@ -1,0 +1,10 @@
+use Rattle.std.proofs.Common.{◌≡◌, ◌-◌}
+use Rattle.store_terms.specs.Fields.{read_many}
+use Rattle.store_terms.specs.BaseRecord.{whole_point}
+use Rattle.store_terms.proofs.Loops.{with_front}
+use Rattle.record_reading.proofs.base_record.points_at.Given as goal
+
+abbrev pub invariant-loop : goal.invariant-loop
+invariant-loop l =
+    with_front l.points.items (read_many whole_point.read (l.count - l.counter) l.rest)
+    ≡ read_many whole_point.read l.count l.bytes

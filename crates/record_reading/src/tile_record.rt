@@ -1,0 +1,66 @@
+//! The records of finished tiles: the column, and the pieces by the names of their ends, or that they are too many.
+ghost use Rattle.record_writing.specs.Answers.{Gives, Reads};
+ghost use Rattle.record_writing.specs.Tiles.{named_by, unsieved};
+ghost use Rattle.store_terms.specs.Image.{or_fault};
+ghost use Rattle.store_terms.specs.TileRecord.{tile_of_record};
+ghost use Rattle.store_terms.specs.declared.damage.Damage.TheVariants.{TileForm};
+ghost use Rattle.tile_build.specs.Tile.{tile_of};
+
+use crate::pieces::pieces_at;
+use plane_base::Column;
+use record_writing::bytes::{byte_at, four_bytes_at};
+use record_writing::fault::{ReadFault, RecordFault};
+use record_writing::tile_form::is_formed;
+use std::alloc::Global;
+use store_terms::damage::Damage;
+use tile_build::Tile;
+
+/// The tile that the record of a tile of this column spells.
+pub fn read_tile(alloc: Global, column: Column, bytes: &[u8]) -> Result<Tile, RecordFault>
+    ensures { Reads (λ tile. tile_of tile) result (or_fault TileForm (tile_of_record column bytes.now)) }
+{
+    match tile_in(alloc, column, bytes) {
+        Ok(tile) => Ok(tile),
+        Err(fault) => Err(fault.told(Damage::TileForm)),
+    }
+}
+
+/// The tile that all of the bytes spell.
+fn tile_in(alloc: Global, column: Column, bytes: &[u8]) -> Result<Tile, ReadFault>
+    ensures { Gives (λ tile. tile_of tile) result (tile_of_record column bytes.now) }
+{
+    let (found, tile, rest) = parts_at(alloc, bytes)?;
+    let Some(known) = Column::new(u64::from(found)) else {
+        return Err(ReadFault::Form);
+    };
+    if !is_formed(&tile, known) {
+        return Err(ReadFault::Form);
+    }
+    if !rest.is_empty() {
+        return Err(ReadFault::Form);
+    }
+    if found != column.number() {
+        return Err(ReadFault::Form);
+    }
+    Ok(tile)
+}
+
+/// A column and what may be a tile of it, and what follows them.
+fn parts_at(alloc: Global, bytes: &[u8]) -> Result<(u8, Tile, &[u8]), ReadFault>
+    ensures { Gives (λ x. (named_by x.0 x.1, x.2.now)) result (unsieved.read bytes.now) }
+{
+    let (form, rest) = byte_at(bytes)?;
+    match form {
+        0 => {
+            let (column, rest) = byte_at(rest)?;
+            let (count, rest) = four_bytes_at(rest)?;
+            let (pieces, rest) = pieces_at(alloc, count, rest)?;
+            Ok((column, Tile::Pieces(pieces), rest))
+        }
+        1 => {
+            let (column, rest) = byte_at(rest)?;
+            Ok((column, Tile::Oversize, rest))
+        }
+        _ => Err(ReadFault::Form),
+    }
+}

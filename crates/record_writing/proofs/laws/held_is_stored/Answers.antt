@@ -1,0 +1,5 @@
+use Rattle.record_writing.proofs.StoredLemmas as lemmas
+use Rattle.record_writing.proofs.laws.held_is_stored.Goals as goal
+
+pub returns : goal.returns
+returns c = lemmas.held_is_stored

@@ -1,0 +1,26 @@
+-- The faults of records: their numbers and texts.
+use Rattle.std.specs.Prelude.{ℕ, List, ◌++◌, codes, decimal, Option, Some, None}
+use Rattle.store_terms.specs.Damage as damages
+use Rattle.fault_texts.specs.CommonFault as common
+use Rattle.fault_texts.specs.declared.common_fault.CommonFault.TheVariants as faults
+use Rattle.record_writing.specs.declared.fault.RecordFault.{RecordFault}
+use Rattle.record_writing.specs.declared.fault.RecordFault.TheVariants.{Damaged, OutOfMemory}
+
+-- the number of a damage with this code, or of none: no store at all
+abbrev pub code_of_damage : Option ℕ → ℕ
+code_of_damage None = 32
+code_of_damage (Some code) = 33
+
+-- the number under which a fault is printed
+abbrev pub code_of : RecordFault → ℕ
+code_of (Damaged damage) = code_of_damage (damages.code_of damage)
+code_of OutOfMemory = common.code_of faults.OutOfMemory
+
+abbrev pub text_of_damage : Option ℕ → List ℕ
+text_of_damage None = codes "not a store"
+text_of_damage (Some code) = codes "damaged " ++ decimal code
+
+-- the text that is printed behind the number
+abbrev pub text_of : RecordFault → List ℕ
+text_of (Damaged damage) = text_of_damage (damages.code_of damage)
+text_of OutOfMemory = common.text_of faults.OutOfMemory

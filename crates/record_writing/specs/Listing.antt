@@ -1,0 +1,34 @@
+-- Entries of the catalog in code as those of the definitions.
+use Rattle.std.specs.Prelude.{◌≡◌, ◌<◌, List, length, map}
+use Rattle.std.proofs.Common.{inl, inr}
+use Rattle.overlay_terms.specs.Column.{column_count}
+use Rattle.store_terms.specs.Fields.{Field, both, repeated}
+use Rattle.store_terms.specs.Choices.{either, optional}
+use Rattle.store_terms.specs.Catalog as terms
+use Rattle.store_terms.specs.Catalog.{extent}
+use Rattle.record_writing.specs.declared.catalog.Listed.{Listed}
+use Rattle.record_writing.specs.declared.catalog.Records.{Records}
+use Rattle.record_writing.specs.declared.catalog.Records.TheVariants.{Base, Derived}
+
+-- how the records of a layer are spelled
+abbrev pub spelled_records : Field terms.Records
+spelled_records = either extent (both extent (repeated column_count (optional extent)))
+
+abbrev pub records_of : Records → terms.Records
+records_of (Base extent) = inl extent
+records_of (Derived extent tiles) = inr (extent, tiles.items)
+
+abbrev pub listed_of : Listed → terms.Listed
+listed_of l = record { name = l.name.items; records = records_of l.records }
+
+abbrev pub listing_of : List Listed → List terms.Listed
+listing_of ls = map listed_of ls
+
+abbrev pub HasColumns : Records → Type 0
+HasColumns (Base _) = Unit {0}
+HasColumns (Derived extent tiles) = length tiles.items ≡ column_count
+
+-- a layer that a catalog can list: its name has fewer than 256 bytes, and a definition has an entry for each column
+pub record IsListable (l : Listed) : Type 0 where
+  pub short : length l.name.items < 256
+  pub columns : HasColumns l.records

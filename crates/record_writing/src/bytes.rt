@@ -1,0 +1,102 @@
+//! Numbers at the front of some bytes, and behind them.
+ghost use Rattle.std.specs.Prelude.{◌≡◌, ◌++◌, ◌∷◌, true, IfOk, OnOk};
+ghost use Rattle.byteorder.specs.Endian.{big_bytes};
+ghost use Rattle.overlay_terms.specs.Plane.{InRange};
+ghost use Rattle.record_writing.specs.Answers.{Gives};
+ghost use Rattle.record_writing.specs.Putting.{IsPut};
+ghost use Rattle.store_terms.specs.Fields.{number};
+ghost use Rattle.store_terms.specs.BaseRecord.{coordinate, whole_point};
+
+use crate::fault::ReadFault;
+use byteorder::{BigEndian, ByteOrder};
+use plane_base::Pt;
+use std::alloc::AllocError;
+
+/// The first byte, and what follows it.
+pub fn byte_at(bytes: &[u8]) -> Result<(u8, &[u8]), ReadFault>
+    ensures front { IfOk result (λ x. bytes.now ≡ x.0 ∷ x.1.now) }
+    ensures gives { Gives (λ x. (x.0, x.1.now)) result ((number 1).read bytes.now) }
+{
+    if bytes.is_empty() {
+        return Err(ReadFault::Form);
+    }
+    Ok((bytes[0], &bytes[1..]))
+}
+
+/// The number that two bytes spell, and what follows them.
+pub fn two_bytes_at(bytes: &[u8]) -> Result<(u16, &[u8]), ReadFault>
+    ensures { Gives (λ x. (x.0, x.1.now)) result ((number 2).read bytes.now) }
+{
+    if bytes.len() < 2 {
+        return Err(ReadFault::Form);
+    }
+    Ok((BigEndian::read_u16(bytes), &bytes[2..]))
+}
+
+/// The number that four bytes spell, and what follows them.
+pub fn four_bytes_at(bytes: &[u8]) -> Result<(u32, &[u8]), ReadFault>
+    ensures { Gives (λ x. (x.0, x.1.now)) result ((number 4).read bytes.now) }
+{
+    if bytes.len() < 4 {
+        return Err(ReadFault::Form);
+    }
+    Ok((BigEndian::read_u32(bytes), &bytes[4..]))
+}
+
+/// The number that eight bytes spell, and what follows them.
+pub(crate) fn eight_bytes_at(bytes: &[u8]) -> Result<(u64, &[u8]), ReadFault>
+    ensures { Gives (λ x. (x.0, x.1.now)) result ((number 8).read bytes.now) }
+{
+    if bytes.len() < 8 {
+        return Err(ReadFault::Form);
+    }
+    Ok((BigEndian::read_u64(bytes), &bytes[8..]))
+}
+
+/// Writes a number of two bytes behind some bytes.
+pub(crate) fn put_two_bytes(out: &mut Vec<u8>, n: u16) -> Result<(), AllocError>
+    ensures { OnOk result (out.new.items ≡ out.old.items ++ big_bytes 2 n) }
+{
+    let mut bytes = [0; 2];
+    BigEndian::write_u16(&mut bytes, n);
+    out.extend_from_slice(&bytes)
+}
+
+/// Writes a number of four bytes behind some bytes.
+pub(crate) fn put_four_bytes(out: &mut Vec<u8>, n: u32) -> Result<(), AllocError>
+    ensures { OnOk result (IsPut (number 4) n out.old.items out.new.items) }
+{
+    let mut bytes = [0; 4];
+    BigEndian::write_u32(&mut bytes, n);
+    out.extend_from_slice(&bytes)?;
+    Ok(())
+}
+
+/// Writes a number of eight bytes behind some bytes.
+pub(crate) fn put_eight_bytes(out: &mut Vec<u8>, n: u64) -> Result<(), AllocError>
+    ensures { OnOk result (IsPut (number 8) n out.old.items out.new.items) }
+{
+    let mut bytes = [0; 8];
+    BigEndian::write_u64(&mut bytes, n);
+    out.extend_from_slice(&bytes)?;
+    Ok(())
+}
+
+fn put_coordinate(out: &mut Vec<u8>, z: i64) -> Result<(), AllocError>
+    requires { InRange z }
+    ensures spelled { OnOk result (out.new.items ≡ out.old.items ++ coordinate.text z) }
+    ensures fits { coordinate.fits z ≡ true }
+{
+    let mut bytes = [0; 4];
+    BigEndian::write_i32(&mut bytes, z as i32);
+    out.extend_from_slice(&bytes)
+}
+
+/// Writes a point behind some bytes: x, then y.
+pub(crate) fn put_point(out: &mut Vec<u8>, point: Pt) -> Result<(), AllocError>
+    ensures spelled { OnOk result (out.new.items ≡ out.old.items ++ whole_point.text point) }
+    ensures fits { OnOk result (whole_point.fits point ≡ true) }
+{
+    put_coordinate(out, point.x())?;
+    put_coordinate(out, point.y())
+}
