@@ -7,7 +7,7 @@ use prog.Atomic.{either}
 use Rattle.logbook.specs.Pages.{Cell, cell, keeps, no_nib, step, Moves, Goes}
 use Rattle.overlay_terms.specs.Histories.{Entry}
 use Rattle.book_history.specs.Logs.{IsLog}
-use Rattle.book_history.specs.Rules.{IsKept, Adds}
+use Rattle.book_history.specs.Rules.{IsLogKept, Adds}
 use Rattle.book_history.proofs.Fronts.{prefix_whole}
 
 abbrev pub shown : List Entry → List Entry
@@ -18,7 +18,7 @@ moved xs ys n = Unit {0}
 
 pub adds_goes : (more : ℕ) (log v : List Entry) (e : Entry) (old : ℕ) → suc more ≡ length log → suc old ≡ length v → IsLog (v ++ e ∷ []) → IsLog log → IsPrefix v log
     → (b : Bool) → (more == old) ≡ b
-    → Goes IsKept shown moved 0 (v, (no_nib, None)) (λ n. either (n == old) (old + 1) n) (Adds (step 0 old (old + 1) e) (v, (no_nib, None))) ((more, true) ∷ []) log
+    → Goes IsLogKept shown moved 0 (v, (no_nib, None)) (λ n. either (n == old) (old + 1) n) (Adds (step 0 old (old + 1) e) (v, (no_nib, None))) ((more, true) ∷ []) log
 adds_goes more log v e old long len may legal pre true is =
     let here : more ≡ old = grind (arith, nat_tests) in
     let same : v ≡ log = prefix_whole v log pre (omega arith) in
@@ -49,9 +49,9 @@ adds_goes more log v e old long len may legal pre false is =
 
 -- whatever the history is, the exchange adds the entry to all that was seen, or finds that it is longer
 pub adds_moves : (v : List Entry) (e : Entry) (old : ℕ) → suc old ≡ length v → IsLog (v ++ e ∷ [])
-    → Moves IsKept shown moved 0 (v, (no_nib, None)) (λ n. either (n == old) (old + 1) n) (Adds (step 0 old (old + 1) e) (v, (no_nib, None)))
+    → Moves IsLogKept shown moved 0 (v, (no_nib, None)) (λ n. either (n == old) (old + 1) n) (Adds (step 0 old (old + 1) e) (v, (no_nib, None)))
 adds_moves v e old len may cs log kept pre away =
-    let P : List Cell → Type 0 = λ c. (0 < length c) × ((cell c 0).1 ≡ true) × Goes IsKept shown moved 0 (v, (no_nib, None)) (λ n. either (n == old) (old + 1) n) (Adds (step 0 old (old + 1) e) (v, (no_nib, None))) c log in
+    let P : List Cell → Type 0 = λ c. (0 < length c) × ((cell c 0).1 ≡ true) × Goes IsLogKept shown moved 0 (v, (no_nib, None)) (λ n. either (n == old) (old + 1) n) (Adds (step 0 old (old + 1) e) (v, (no_nib, None))) c log in
     subst P (sym kept.words) (omega arith, refl, adds_goes kept.more log v e old kept.long len may kept.legal pre (kept.more == old) refl)
 
 -- where the exchange found the number that it was to find, the entry was added

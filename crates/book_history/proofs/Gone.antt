@@ -7,7 +7,7 @@ use Rattle.overlay_terms.specs.Histories.{Version}
 use Rattle.layer_book.specs.BatchFault as batch
 use Rattle.layer_book.specs.BatchFault.{RefusedAllBy, code_for}
 use Rattle.layer_book.specs.declared.batch_fault.BatchFault.{BatchFault}
-use Rattle.version_core.specs.Fault.{fault_of}
+use Rattle.version_core.specs.Fault.{version_fault_of}
 use Rattle.book_history.specs.Fault.{IfBatchGone, IfGone, IsRefused, no_memory, whole}
 use Rattle.book_history.specs.declared.fault.BookFault.{BookFault}
 use Rattle.book_history.specs.declared.fault.BookFault.TheVariants as fault
@@ -18,7 +18,7 @@ no_reason f o none = ap (option_map f) none
 
 -- a command that could be accepted is refused for want of memory
 pub for_want : (closing : Bool) (version : Version) (change : Command) → refusal_at version.number version.layers change ≡ None → IsRefused closing version change no_memory
-for_want closing version change none = inl (refl, no_reason fault_of _ none)
+for_want closing version change none = inl (refl, no_reason version_fault_of _ none)
 
 -- one of two facts, whatever the fault is
 pub gone_or : (f : BookFault) {A B C : Type 0} → (A → C) → (B → C) → IfGone f A B → C

@@ -20,7 +20,7 @@ use Rattle.layer_book.specs.contracts.layer.Layer as layer
 use Rattle.layer_expr.specs.contracts.expr.Expr as expr
 use Rattle.version_core.specs.contracts.version.Version as version
 use Rattle.version_core.specs.contracts.version.Version.TheInside as inside
-use Rattle.version_core.specs.contracts.version.Content as content
+use Rattle.version_core.specs.contracts.version.VersionContent as content
 use Rattle.version_core.specs.contracts.table.Table as tiles
 use Rattle.version_core.specs.contracts.tiles.TileRow as row
 use Rattle.version_core.proofs.tiles.Slot.TheSendSync as slot

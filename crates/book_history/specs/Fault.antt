@@ -66,7 +66,7 @@ no_memory = fault.Version (Layer NoMemory)
 -- or it closes, where it may; or it is behind, which each call says by itself
 abbrev pub IsRefused : Bool → Version → Command → BookFault → Type 0
 IsRefused closing version command (fault.Version refused) =
-    RefusedBy (Layer NoMemory) (option_map version_fault.fault_of (refusal_at version.number version.layers command)) refused
+    RefusedBy (Layer NoMemory) (option_map version_fault.version_fault_of (refusal_at version.number version.layers command)) refused
 IsRefused closing version command fault.Closing = IsTrue closing
 IsRefused closing version command fault.Gone = Unit {0}
 IsRefused closing version command fault.NoStore = ⊥

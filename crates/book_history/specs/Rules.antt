@@ -5,7 +5,7 @@ use Rattle.overlay_terms.specs.Histories.{Entry}
 use Rattle.book_history.specs.Logs.{IsLog}
 
 -- the word is the number of entries after the first
-pub record IsKept (cells : List Cell) (log : List Entry) : Type 0 where
+pub record IsLogKept (cells : List Cell) (log : List Entry) : Type 0 where
   pub more : ℕ
   pub words : cells ≡ (more, true) ∷ []
   pub long : suc more ≡ length log

@@ -17,9 +17,9 @@ pub struct Law;
 impl Rule<Entry, u64> for Law {
     ghost use Rattle.std.specs.Prelude.{[]};
     ghost use base.Fml.{ftrue};
-    ghost use Rattle.book_history.specs.Rules.{IsKept};
+    ghost use Rattle.book_history.specs.Rules.{IsLogKept};
 
-    ghost holds = { λ cells log. IsKept cells log };
+    ghost holds = { λ cells log. IsLogKept cells log };
 
     ghost first = { [] };
 

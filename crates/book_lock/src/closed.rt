@@ -6,7 +6,7 @@ use version_core::version::Version;
 
 /// What is left of a book: its newest version, and the log that this ends.
 #[derive(Drop)]
-pub struct Closed {
+pub struct ClosedBook {
     pub version: Arc<Version, Global>,
     pub trace: SeenLog,
 }

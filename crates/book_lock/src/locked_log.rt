@@ -11,7 +11,7 @@ ghost use Rattle.book_history.specs.Logs.{entry, no_event, newest_in, IsLog};
 ghost use Rattle.book_history.specs.Rules.{head_of};
 ghost use Rattle.book_lock.specs.Steps.{HasLooked, IsLevel, beginners};
 
-use crate::closed::Closed;
+use crate::closed::ClosedBook;
 use crate::session::Session;
 use book_history::entry::{Cause, counted};
 use book_history::fault::BookFault;
@@ -152,7 +152,7 @@ impl<J: Naming, R: Wait + Drop> LockedLog<J, R> {
     }
 
     /// The newest version and the log. It waits for the readers.
-    pub fn into_closed(self) -> Closed
+    pub fn into_closed(self) -> ClosedBook
         ensures version { arc_value result.version ≡ newest_in result.trace.log }
         ensures log { (result.trace ≡ record { book = J.book; log = self }) × IsLog result.trace.log }
         ensures durable { All (λ entry. entry.version.durable ≤ (newest_in result.trace.log).durable) result.trace.log }
@@ -168,7 +168,7 @@ impl<J: Naming, R: Wait + Drop> LockedLog<J, R> {
         let (version, trace) = last.into_parts();
         // What was seen is a log with a first entry: the clauses rest on that.
         let _ = trace.at();
-        Closed { version, trace }
+        ClosedBook { version, trace }
     }
 }
 

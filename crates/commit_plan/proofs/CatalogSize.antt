@@ -15,7 +15,7 @@ use Rattle.store_terms.specs.Fields.{number, counted}
 use Rattle.store_terms.specs.Choices.{optional}
 use Rattle.store_terms.specs.Catalog.{Listed, extent, listed, catalog}
 use Rattle.record_writing.specs.Listing as has_columns
-use Rattle.record_writing.specs.Listing.{listed_of as listed_code, listing_of, records_of, IsListable}
+use Rattle.record_writing.specs.Listing.{entry_of as listed_code, entries_of, records_of, IsListable}
 use Rattle.record_writing.specs.declared.catalog.Listed as code
 use Rattle.record_writing.specs.declared.catalog.Records.{Records}
 use Rattle.record_writing.specs.declared.catalog.Records.TheVariants.{Base, Derived}
@@ -140,11 +140,11 @@ code_columns l is (a_definition name f ts) same =
           sym (length-map ts (option_map extent_of)) ∙ ap length (ap entries_in same) ∙ has
 
 pub have_columns : (listing : List code.Listed) (ls : List FiledLayer) → All IsListable listing
-    → map listed_of ls ≡ listing_of listing → AllByRecursion HasColumns ls
+    → map listed_of ls ≡ entries_of listing → AllByRecursion HasColumns ls
 have_columns [] [] all same = tt
 have_columns [] (l ∷ ls) all same = absurd cc
 have_columns (c ∷ listing) [] all same = tt
 have_columns (c ∷ listing) (l ∷ ls) all same = (
   code_columns c (All-head IsListable c listing all) l (let e : listed_of l ≡ listed_code c = cc in e),
-  have_columns listing ls (All-tail IsListable c listing all) (let e : map listed_of ls ≡ listing_of listing = cc in e),
+  have_columns listing ls (All-tail IsListable c listing all) (let e : map listed_of ls ≡ entries_of listing = cc in e),
 )

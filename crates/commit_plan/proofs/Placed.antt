@@ -11,7 +11,7 @@ use Rattle.store_terms.specs.declared.root.RecordExtent.{RecordExtent}
 use Rattle.store_terms.specs.Places.{blocks, are_apart, is_apart_from, all_apart}
 use Rattle.commit_plan.specs.declared.write.Write.{Write}
 use Rattle.commit_plan.specs.Kept.{Kept, extents_in}
-use Rattle.commit_plan.specs.Planning.{IsOff, AreApart, AllApart}
+use Rattle.commit_plan.specs.Planning.{IsOff, AreWrittenApart, AllApart}
 use Rattle.commit_plan.specs.Filing.{Filed, IsWriteOf, AreWritesOf}
 use Rattle.root_reading.specs.Taking.{AreRunsOf, IsMapOf}
 use Rattle.commit_plan.specs.Drafting.{extents_of_filed}
@@ -101,7 +101,7 @@ all_off x given (f ∷ fs) (w ∷ ws) (r ∷ rs) room new are writes =
 
 writes_apart : (f g : Filed) (w v : Write) (r q : runs.Extent) → r.block ≡ f.extent.block
     → r.blocks ≡ blocks f.extent.size → q.block ≡ g.extent.block → q.blocks ≡ blocks g.extent.size
-    → IsWriteOf f w → IsWriteOf g v → IsApart r.block r.blocks q → AreApart w v
+    → IsWriteOf f w → IsWriteOf g v → IsApart r.block r.blocks q → AreWrittenApart w v
 writes_apart f g w v r q block size block2 size2 is is2 apart =
     let long : length w.bytes.items ≡ 4096 * r.blocks = is.blocks ∙ ap (λ (n : ℕ). 4096 * n) (sym size) in
     let long2 : length v.bytes.items ≡ 4096 * q.blocks = is2.blocks ∙ ap (λ (n : ℕ). 4096 * n) (sym size2) in
@@ -111,7 +111,7 @@ writes_apart f g w v r q block size block2 size2 is is2 apart =
 apart_from_all : (f : Filed) (w : Write) (r : runs.Extent) (fs : List Filed) (ws : List Write) (rs : List runs.Extent)
     → r.block ≡ f.extent.block → r.blocks ≡ blocks f.extent.size → IsWriteOf f w
     → IsUnused rs r.block r.blocks → AreRunsOf (extents_of_filed fs) rs → AreWritesOf fs ws
-    → AllByRecursion (AreApart w) ws
+    → AllByRecursion (AreWrittenApart w) ws
 apart_from_all f w r [] [] rs block size is free are writes = tt
 apart_from_all f w r [] (v ∷ ws) rs block size is free are writes = absurd writes
 apart_from_all f w r (g ∷ fs) [] rs block size is free are writes = absurd writes

@@ -9,7 +9,7 @@ use Rattle.commit_plan.specs.declared.write.Write.{Write}
 use Rattle.store_terms.specs.StandsFor.{body_at}
 use Rattle.commit_plan.specs.Kept.{Kept, extents_in, other, Shut, Ready}
 use Rattle.commit_plan.specs.Planning.{Leads, Spare, Plans}
-use Rattle.commit_plan.specs.Planning.{IsWritten, IsOff, AreApart, AllApart, IsPlan}
+use Rattle.commit_plan.specs.Planning.{IsWritten, IsOff, AreWrittenApart, AllApart, IsPlan}
 use Rattle.commit_plan.proofs.Kept.{gate_kept, live_kept, low_apart}
 use Rattle.commit_plan.proofs.Reading.{own_is}
 
@@ -64,7 +64,7 @@ abbrev Keeps : (List ℕ → Type 0) → Write → Type 0
 Keeps P w = (old new : List ℕ) → P old → Torn w.at (length w.bytes.items) old new → P new
 
 keeps_both : (P : List ℕ → Type 0) (w : Write) (ws : List Write) → AllByRecursion (Keeps P) ws
-    → AllByRecursion (AreApart w) ws → AllByRecursion (Keeps (λ f. P f × IsWritten f w)) ws
+    → AllByRecursion (AreWrittenApart w) ws → AllByRecursion (Keeps (λ f. P f × IsWritten f w)) ws
 keeps_both P w [] keeps apart = tt
 keeps_both P w (v ∷ ws) keeps apart = (
   (λ old new both torn. (

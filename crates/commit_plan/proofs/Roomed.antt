@@ -8,7 +8,7 @@ use Rattle.extent_map.specs.Taken.{taken_of}
 use Rattle.store_terms.specs.Catalog.{catalog}
 use Rattle.tile_build.specs.StoredTile.{finished_of}
 use Rattle.record_writing.specs.declared.image.Image.{Image}
-use Rattle.record_writing.specs.Listing.{listing_of, IsListable}
+use Rattle.record_writing.specs.Listing.{entries_of, IsListable}
 use Rattle.record_writing.specs.declared.catalog.Listed as code
 use Rattle.commit_plan.specs.declared.room.Room.{Room}
 use Rattle.commit_plan.specs.Staying.{Standing}
@@ -26,10 +26,10 @@ of_room room copy P taken limit is =
 
 -- the catalog that lists the records of an image has its size
 pub catalog_sized : (live : Standing) (image : Image) (given : List runs.Extent) (limit : ℕ) (listing : List code.Listed)
-    (d : Draft) → AreLayersFiled live given limit image.layers (map finished_of image.tiles.items) [] (listing_of listing) d
+    (d : Draft) → AreLayersFiled live given limit image.layers (map finished_of image.tiles.items) [] (entries_of listing) d
     → All IsListable listing
     → flat_map (sizes_of_layer live image.tiles.items) image.layers
-    ++ length ((catalog column_count).text (listing_of listing)) ∷ [] ≡ sizes_of live image
+    ++ length ((catalog column_count).text (entries_of listing)) ∷ [] ≡ sizes_of live image
 catalog_sized live image given limit listing d filed listable =
     let tiles = image.tiles.items in
     let columns = have_columns listing filed.filed listable filed.listed in

@@ -34,7 +34,7 @@ use Rattle.store_terms.specs.Choices.{optional}
 use Rattle.store_terms.specs.Fields.{number, counted}
 use Rattle.store_terms.specs.declared.root.RecordExtent.{RecordExtent}
 use Rattle.store_terms.proofs.BaseLemmas.{few_rings}
-use Rattle.record_writing.specs.Listing.{spelled_records, records_of, HasColumns, listed_of, listing_of, IsListable}
+use Rattle.record_writing.specs.Listing.{spelled_records, records_of, HasColumns, entry_of, entries_of, IsListable}
 use Rattle.record_writing.specs.declared.catalog.Listed as code
 use Rattle.record_writing.specs.declared.catalog.Records.{Records}
 use Rattle.record_writing.specs.declared.catalog.Records.TheVariants.{Base, Derived}
@@ -219,23 +219,23 @@ records_long name (Derived e entries) short has =
       length-append (name_text name) (1 ∷ (extent.text e ++ back)),
     )
 
-entry_long : (l : code.Listed) → IsListable l → length ((listed column_count).text (listed_of l)) ≤ 490
+entry_long : (l : code.Listed) → IsListable l → length ((listed column_count).text (entry_of l)) ≤ 490
 entry_long l is = records_long l.name.items l.records is.short is.columns
 
 entries_long : (ls : List code.Listed) → All IsListable ls
-    → length (flat_map (listed column_count).text (listing_of ls)) ≤ 490 * length ls
+    → length (flat_map (listed column_count).text (entries_of ls)) ≤ 490 * length ls
 entries_long [] all = omega arith
 entries_long (l ∷ ls) all =
-    let first = (listed column_count).text (listed_of l) in
-    let rest = flat_map (listed column_count).text (listing_of ls) in
+    let first = (listed column_count).text (entry_of l) in
+    let rest = flat_map (listed column_count).text (entries_of ls) in
     let both : length (first ++ rest) ≡ length first + length rest = length-append first rest in
     omega (arith, both, entry_long l (All-head IsListable l ls all), entries_long ls (All-tail IsListable l ls all))
 
 pub catalog_short : (ls : List code.Listed) → All IsListable ls → length ls < 2 ^ 16
-    → length ((catalog column_count).text (listing_of ls)) < 2 ^ 32
+    → length ((catalog column_count).text (entries_of ls)) < 2 ^ 32
 catalog_short ls all few =
-    let front = big_bytes 2 (length (listing_of ls)) in
-    let both : length ((catalog column_count).text (listing_of ls))
-    ≡ length front + length (flat_map (listed column_count).text (listing_of ls)) =
-    length-append front (flat_map (listed column_count).text (listing_of ls)) in
-    omega (arith, both, length-bytes_high_first 2 (length (listing_of ls)), entries_long ls all, few)
+    let front = big_bytes 2 (length (entries_of ls)) in
+    let both : length ((catalog column_count).text (entries_of ls))
+    ≡ length front + length (flat_map (listed column_count).text (entries_of ls)) =
+    length-append front (flat_map (listed column_count).text (entries_of ls)) in
+    omega (arith, both, length-bytes_high_first 2 (length (entries_of ls)), entries_long ls all, few)

@@ -23,7 +23,7 @@ use Rattle.layer_book.proofs.Names.{stands_is}
 use Rattle.overlay_terms.specs.Orderly.{is_orderly_after}
 use Rattle.tile_build.specs.declared.stored_tile.StoredTile.{StoredTile}
 use Rattle.record_writing.specs.declared.catalog.Listed as code
-use Rattle.record_writing.specs.Listing.{listed_of as listed_code, listing_of}
+use Rattle.record_writing.specs.Listing.{entry_of as listed_code, entries_of}
 use Rattle.commit_plan.specs.declared.write.Write.{Write}
 use Rattle.commit_plan.specs.declared.draft.Draft.{Draft}
 use Rattle.commit_plan.specs.Drafting.{IsDraft}
@@ -230,7 +230,7 @@ take_there layers i layer is =
     (take_there_by layers i layer is)
 
 pub listing_more : (ls : List code.Listed) (l : code.Listed)
-    → listing_of (ls ++ l ∷ []) ≡ listing_of ls ++ listed_code l ∷ []
+    → entries_of (ls ++ l ∷ []) ≡ entries_of ls ++ listed_code l ∷ []
 listing_more [] l = refl
 listing_more (m ∷ ls) l = ap (λ (x : List Listed). listed_code m ∷ x) (listing_more ls l)
 

@@ -38,13 +38,13 @@ pub record IsOff (x : Kept) (w : Write) : Type 0 where
   pub behind : block_size * 2 ≤ w.at
   pub apart : AllByRecursion (λ e. Apart w.at (length w.bytes.items) (block_size * e.block) e.size) (extents_in x)
 
-abbrev pub AreApart : Write → Write → Type 0
-AreApart w v = Apart v.at (length v.bytes.items) w.at (length w.bytes.items)
+abbrev pub AreWrittenApart : Write → Write → Type 0
+AreWrittenApart w v = Apart v.at (length v.bytes.items) w.at (length w.bytes.items)
 
 -- no two of the writes touch one byte
 abbrev pub AllApart : List Write → Type 0
 AllApart [] = Unit {0}
-AllApart (w ∷ ws) = AllByRecursion (AreApart w) ws × AllApart ws
+AllApart (w ∷ ws) = AllByRecursion (AreWrittenApart w) ws × AllApart ws
 
 -- the file holds what a root names
 pub record Makes (y : Kept) (file : List ℕ) : Type 0 where

@@ -5,7 +5,7 @@ ghost use Rattle.extent_map.specs.declared.extent.Extent as runs;
 ghost use Rattle.extent_map.specs.FirstFit.{IsFull};
 ghost use Rattle.extent_map.specs.Taken.{limit_of};
 ghost use Rattle.record_writing.specs.ImageHeld.{image_held};
-ghost use Rattle.record_writing.specs.Listing.{listing_of, IsListable};
+ghost use Rattle.record_writing.specs.Listing.{entries_of, IsListable};
 ghost use Rattle.store_terms.specs.Catalog.{catalog};
 ghost use Rattle.store_terms.specs.Places.{extents_listed};
 ghost use Rattle.store_terms.specs.Roots.{sequence_max};
@@ -44,29 +44,29 @@ pub(crate) fn completed(
     ensures ok { (x : Kept) (given : List runs.Extent) (limit : ℕ) (layers : List FiledLayer)
         → x.root ≡ root → body ≡ body_at (other root) → IsMapOf (extents_in x) given
         → AreHeldApart (extents_listed x.listing) given → IsDraft given limit (flat_map filed_of layers) draft
-        → Spell (standing_of x) layers (listing_of listing.items) (image_held image)
+        → Spell (standing_of x) layers (entries_of listing.items) (image_held image)
         → IfOk result (λ next. IsNext x (image_held image) next) }
     ensures laid { (live : Standing) (given : List runs.Extent) (limit : ℕ) (layers : List FiledLayer) (sizes : List ℕ)
         → IsDraft given limit (flat_map filed_of layers) draft
-        → Spell live layers (listing_of listing.items) (image_held image) → ArePlaced given limit sizes draft
+        → Spell live layers (entries_of listing.items) (image_held image) → ArePlaced given limit sizes draft
         → IfOk result
         (λ next. IsLaidOut live given limit (image_held image)
-        (sizes ++ length ((catalog column_count).text (listing_of listing.items)) ∷ []) body next.root
+        (sizes ++ length ((catalog column_count).text (entries_of listing.items)) ∷ []) body next.root
         next.plan.items) }
     ensures calls { IfOk result (λ next. length next.plan.items ≡ length draft.writes.items + 2) }
     ensures number { IfOk result (λ next. next.root.version ≡ image.number) }
     ensures placed { (given : List runs.Extent) (limit : ℕ) (sizes : List ℕ) → ArePlaced given limit sizes draft
         → IfOk result
         (λ _. ArePlanned given limit
-        (sizes ++ length ((catalog column_count).text (listing_of listing.items)) ∷ [])) }
+        (sizes ++ length ((catalog column_count).text (entries_of listing.items)) ∷ [])) }
     ensures blocks { (given : List runs.Extent) (limit : ℕ) (sizes : List ℕ) → ArePlaced given limit sizes draft
         → IfOk result (λ next. limit_of next.live.room.map ≡ limit) }
     ensures full { (given : List runs.Extent) (limit : ℕ) (sizes : List ℕ) → ArePlaced given limit sizes draft
         → IsErrOf result StoreFault.Full
-        → IsFull given limit (sizes ++ length ((catalog column_count).text (listing_of listing.items)) ∷ []) }
+        → IsFull given limit (sizes ++ length ((catalog column_count).text (entries_of listing.items)) ∷ []) }
     ensures err { (live : Standing) (given : List runs.Extent) (limit : ℕ) (layers : List FiledLayer)
         → AreHeldApart (extents_listed live.listing) given → IsDraft given limit (flat_map filed_of layers) draft
-        → Spell live layers (listing_of listing.items) (image_held image)
+        → Spell live layers (entries_of listing.items) (image_held image)
         → IfErr result (λ fault. (fault ≡ StoreFault.Full) ⊎ (fault ≡ StoreFault.OutOfMemory)) }
 {
     let bytes = write_catalog(alloc, &listing)?;

@@ -4,7 +4,7 @@ ghost use Rattle.overlay_terms.specs.Column.{column_count};
 ghost use Rattle.extent_map.specs.declared.extent.Extent as runs;
 ghost use Rattle.extent_map.specs.FirstFit.{IsFull};
 ghost use Rattle.tile_build.specs.StoredTile.{finished_of};
-ghost use Rattle.record_writing.specs.Listing.{listed_of, listing_of, IsListable};
+ghost use Rattle.record_writing.specs.Listing.{entry_of, entries_of, IsListable};
 ghost use Rattle.commit_plan.specs.Filing.{Filed, SpellsContent};
 ghost use Rattle.commit_plan.specs.Staying.{layer_named};
 ghost use Rattle.commit_plan.specs.Live.{standing};
@@ -176,7 +176,7 @@ fn file_layer<'a>(
     ensures ok { (given : List runs.Extent) (limit : ℕ) (fs : List Filed) → IsDraft given limit fs draft.old
         → IfOk result
         (λ r. IsLayerFiled (standing live.now) given limit fs layers.now place (map finished_of tiles.now) (map finished_of r.1.now)
-        (listed_of r.0) draft.new) }
+        (entry_of r.0) draft.new) }
     ensures left { IfOk result (λ r. AreLeft layers.now (place + 1) 0 (map finished_of r.1.now)) }
     ensures listable { IfOk result (λ r. IsListable r.0) }
     ensures taken { (given : List runs.Extent) (limit : ℕ) (sizes : List ℕ) → ArePlaced given limit sizes draft.old
@@ -211,7 +211,7 @@ pub(crate) fn file_layers(
     requires { AreLeft layers.now 0 0 (map finished_of tiles.now) }
     ensures ok { (given : List runs.Extent) (limit : ℕ) → IsDraft given limit [] draft.old
         → IfOk result
-        (λ v. AreLayersFiled (standing live.now) given limit layers.now (map finished_of tiles.now) [] (listing_of v.items) draft.new) }
+        (λ v. AreLayersFiled (standing live.now) given limit layers.now (map finished_of tiles.now) [] (entries_of v.items) draft.new) }
     ensures listable { IfOk result (λ v. All IsListable v.items) }
     ensures count { IfOk result (λ v. length v.items ≡ length layers.now) }
     ensures taken { (given : List runs.Extent) (limit : ℕ) → ArePlaced given limit [] draft.old

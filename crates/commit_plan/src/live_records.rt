@@ -6,7 +6,7 @@ ghost use Rattle.extent_map.specs.Extents.{IsUnused};
 ghost use Rattle.extent_map.specs.Taken.{taken_of, limit_of};
 ghost use Rattle.overlay_terms.specs.Histories.{tile_at};
 ghost use Rattle.layer_book.specs.Layer.{content};
-ghost use Rattle.record_writing.specs.Listing.{listing_of, records_of};
+ghost use Rattle.record_writing.specs.Listing.{entries_of, records_of};
 ghost use Rattle.store_terms.specs.Image.{Held};
 ghost use Rattle.store_terms.specs.Places.{blocks, is_apart_from, all_apart, extents_listed};
 ghost use Rattle.store_terms.specs.declared.root.RecordExtent as terms;
@@ -40,14 +40,14 @@ pub struct LiveRecords {
     pub(crate) room: Room,
     pub(crate) layers: Layers,
     pub(crate) tiles: Vec<StoredTile>,
-    ghost apart: { all_apart (near_ones (extents_listed (listing_of listing.items))) ≡ true },
+    ghost apart: { all_apart (near_ones (extents_listed (entries_of listing.items))) ≡ true },
     ghost free: { (e : terms.RecordExtent) → IsUnused (taken_of room.map) e.block (blocks e.size)
-        → is_apart_from e (near_ones (extents_listed (listing_of listing.items))) ≡ true },
+        → is_apart_from e (near_ones (extents_listed (entries_of listing.items))) ≡ true },
 }
 
 /// The records that are listed under a name.
 fn records_named<'a>(listing: &'a [Listed], name: &Name) -> Option<&'a Records>
-    ensures { option_map (λ records. records_of records.now) result ≡ records_named (listing_of listing.now) name.now }
+    ensures { option_map (λ records. records_of records.now) result ≡ records_named (entries_of listing.now) name.now }
 {
     for listed in listing {
         if listed.name.as_slice() == name.bytes() {
@@ -137,12 +137,12 @@ impl LiveRecords {
     ) -> Result<LiveRecords, LoadFault>
         ensures stands { IfOk result
             (λ live. standing live
-            ≡ record { listing = listing_of listing.items; layers = layers; tiles = map finished_of tiles.items }) }
-        ensures taken { AllNear (catalog ∷ extents_listed (listing_of listing.items))
+            ≡ record { listing = entries_of listing.items; layers = layers; tiles = map finished_of tiles.items }) }
+        ensures taken { AllNear (catalog ∷ extents_listed (entries_of listing.items))
             → IfOk result
-            (λ live. IsMapOf (catalog ∷ extents_listed (listing_of listing.items)) (taken_of live.room.map)) }
-        ensures reads { AllNear (catalog ∷ extents_listed (listing_of listing.items)) → (held : Held)
-            → Gives (λ live. held) result (if_apart (catalog ∷ extents_listed (listing_of listing.items)) held) }
+            (λ live. IsMapOf (catalog ∷ extents_listed (entries_of listing.items)) (taken_of live.room.map)) }
+        ensures reads { AllNear (catalog ∷ extents_listed (entries_of listing.items)) → (held : Held)
+            → Gives (λ live. held) result (if_apart (catalog ∷ extents_listed (entries_of listing.items)) held) }
         ensures errors { IfErr result (λ e. (e ≡ LoadFault.OutOfMemory) ⊎ (e ≡ LoadFault.Damaged Overlap)) }
         ensures limit { IfOk result (λ live. limit_of live.room.map ≡ max_blocks) }
     {

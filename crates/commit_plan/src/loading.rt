@@ -5,7 +5,7 @@ ghost use Rattle.extent_map.specs.Taken.{taken_of, limit_of};
 ghost use Rattle.tile_build.specs.StoredTile.{finished_of};
 ghost use Rattle.store_terms.specs.Image.{Held, held_of};
 ghost use Rattle.store_terms.specs.Image as terms;
-ghost use Rattle.record_writing.specs.Listing.{listing_of};
+ghost use Rattle.record_writing.specs.Listing.{entries_of};
 ghost use Rattle.root_reading.specs.Taking.{IsMapOf, AllNear, if_apart};
 ghost use Rattle.root_reading.specs.Looking.{Gives, Looks, Causes};
 ghost use Rattle.commit_plan.specs.Loading.{held_in, kept_in, standing_in};
@@ -20,7 +20,7 @@ use crate::room::Room;
 use disk_model::disk::Disk;
 use record_writing::catalog::Listed;
 use root_reading::load_fault::LoadFault;
-use root_reading::loading::{Content, content_of};
+use root_reading::loading::{RootContent, content_of};
 use root_reading::records::listing_at;
 use std::alloc::Global;
 use store_terms::root::{RecordExtent, Root};
@@ -31,7 +31,7 @@ use tile_build::stored_tile::shared_again;
 pub struct Loaded {
     pub root: Root,
     /// What it holds, for the version that is opened.
-    pub content: Content,
+    pub content: RootContent,
     /// The same, with its tiles shared, and where it lies, for the store.
     pub live: LiveRecords,
     /// Records of nothing, in whose place those of the commit to come are put.
@@ -54,15 +54,15 @@ fn live_of(
     alloc: Global,
     catalog: RecordExtent,
     listing: Vec<Listed>,
-    content: &Content,
+    content: &RootContent,
     max_blocks: u32,
 ) -> Result<LiveRecords, LoadFault>
-    ensures stands { IfOk result (λ live. standing live ≡ standing_in (listing_of listing.items) content.now) }
-    ensures taken { AllNear (catalog ∷ extents_listed (listing_of listing.items))
+    ensures stands { IfOk result (λ live. standing live ≡ standing_in (entries_of listing.items) content.now) }
+    ensures taken { AllNear (catalog ∷ extents_listed (entries_of listing.items))
         → IfOk result
-        (λ live. IsMapOf (catalog ∷ extents_listed (listing_of listing.items)) (taken_of live.room.map)) }
-    ensures reads { AllNear (catalog ∷ extents_listed (listing_of listing.items)) → (held : Held)
-        → Gives (λ live. held) result (if_apart (catalog ∷ extents_listed (listing_of listing.items)) held) }
+        (λ live. IsMapOf (catalog ∷ extents_listed (entries_of listing.items)) (taken_of live.room.map)) }
+    ensures reads { AllNear (catalog ∷ extents_listed (entries_of listing.items)) → (held : Held)
+        → Gives (λ live. held) result (if_apart (catalog ∷ extents_listed (entries_of listing.items)) held) }
     ensures errors { IfErr result (λ e. (e ≡ LoadFault.OutOfMemory) ⊎ (e ≡ LoadFault.Damaged Overlap)) }
     ensures limit { IfOk result (λ live. limit_of live.room.map ≡ max_blocks) }
 {

@@ -22,10 +22,10 @@ abbrev pub code_for : Refusal → ℕ
 code_for reason = layer.code_of (layer.fault_of reason)
 
 -- the fault that the refusal of a batch is reported by
-abbrev pub fault_of : BatchRefusal → BatchFault
-fault_of (at place reason) = At place (code_for reason)
-fault_of (whole reason) = Whole (code_for reason)
+abbrev pub batch_fault_of : BatchRefusal → BatchFault
+batch_fault_of (at place reason) = At place (code_for reason)
+batch_fault_of (whole reason) = Whole (code_for reason)
 
 -- a batch is refused by a fault: by the first reason that applies; where none applies, for want of memory
 abbrev pub RefusedAllBy : Option BatchRefusal → BatchFault → Type 0
-RefusedAllBy reason = layer.RefusedBy (Whole 40) (option_map fault_of reason)
+RefusedAllBy reason = layer.RefusedBy (Whole 40) (option_map batch_fault_of reason)

@@ -4,7 +4,7 @@ ghost use Rattle.std.specs.Option.{option_map};
 ghost use Rattle.overlay_terms.specs.Commands.{AllAccepted};
 ghost use Rattle.overlay_terms.specs.Batches.{applied_all, refusal_from};
 ghost use Rattle.layer_book.specs.Command.{command};
-ghost use Rattle.layer_book.specs.BatchFault.{RefusedAllBy, fault_of};
+ghost use Rattle.layer_book.specs.BatchFault.{RefusedAllBy, batch_fault_of};
 
 use crate::batch::Batch;
 use crate::batch_fault::BatchFault;
@@ -43,7 +43,7 @@ impl Layers {
 
     /// Why a batch is refused: the first of its commands that is, and for what. It takes no memory.
     pub fn refusal_of_all(&self, batch: &Batch) -> Option<BatchFault>
-        ensures { result ≡ option_map fault_of (refusal_from 0 self.now batch.now) }
+        ensures { result ≡ option_map batch_fault_of (refusal_from 0 self.now batch.now) }
     {
         let commands = batch.commands();
         let mut sketch = Sketch::of(self);

@@ -10,7 +10,7 @@ use Rattle.flush_core.specs.declared.flusher.Flusher.{Flusher}
 use Rattle.book_history.specs.Logs.{newest_in, IsLog}
 use Rattle.book_history.proofs.Chains.{begins_with}
 use Rattle.book_lock.specs.Steps.{HasAllOf}
-use Rattle.overlay_server.specs.Keeping.{IsKept}
+use Rattle.overlay_server.specs.Keeping.{IsStoreKept}
 use Rattle.overlay_server.specs.Running.{IsRunOf}
 use Rattle.overlay_server.specs.Seats.{ended_session, outcome_of}
 use Rattle.overlay_server.specs.Serving.{AreServed, IsServedFrom, first_log}
@@ -31,7 +31,7 @@ pub record Began {R D : Type 0} (book : Book) (start : Version) (readers : List 
 -- its threads have returned
 pub record Ran {R D : Type 0} (g : Ghosts D) (book : Book) (stored : Bool) (remaining : R → Option (List ℕ)) (store after : Store D) (scripts : List (Script R)) (ended : List (Ended R)) : Type 0 where
   pub sessions : AllZip (IsRunOf book stored remaining) scripts ended
-  pub kept : IsKept book g store after
+  pub kept : IsStoreKept book g store after
   pub stored_is : stored ≡ is_some store.flusher
 
 -- its book is closed

@@ -19,7 +19,7 @@ use Rattle.store_flushing.proofs.Storage.{OnlyNow, begun, store_leaves, then}
 use Rattle.book_closing.specs.Files.{IsFileExactlyIn}
 use Rattle.book_closing.specs.declared.closing.Closed.{Closed}
 use Rattle.overlay_server.specs.Moments.{HasOnlyNow}
-use Rattle.overlay_server.specs.Keeping.{AreFlushed, IsFlushed, IsKept}
+use Rattle.overlay_server.specs.Keeping.{AreFlushed, IsFlushed, IsStoreKept}
 use Rattle.overlay_server.specs.Serving.{AreLeft, AreStopped, IsLeftBy, IsStoppedBy, first_log}
 use Rattle.overlay_server.specs.declared.storing.Store.{Store}
 
@@ -48,7 +48,7 @@ module _ {D : Type 0} (g : Ghosts D) where
     rests = second.rests;
   }
 
-  pub kept_twice : (book : Book) (a b c : Store D) → IsKept book g a b → IsKept book g b c → IsKept book g a c
+  pub kept_twice : (book : Book) (a b c : Store D) → IsStoreKept book g a b → IsStoreKept book g b c → IsStoreKept book g a c
   kept_twice book a b c first second = record {
     of = second.of;
     valid = second.valid;

@@ -23,7 +23,7 @@ module _ {D : Type 0} (g : Ghosts D) where
   AreFlushed was (Some old) now (Some new) = IsFlushed was old now new
 
 -- the store's thread has returned: its reporter is of this book, and it committed versions of the book alone
-pub record IsKept {D : Type 0} (book : Book) (g : Ghosts D) (old new : Store D) : Type 0 where
+pub record IsStoreKept {D : Type 0} (book : Book) (g : Ghosts D) (old new : Store D) : Type 0 where
   pub of : new.reporter.book ≡ book
   pub valid : IsLog new.reporter.log
   pub begun : 0 < length new.reporter.log

@@ -1,6 +1,6 @@
 //! The store in a thread of its own.
 ghost use Rattle.std.specs.Prelude.{◌≡◌, MatchResult};
-ghost use Rattle.overlay_server.specs.Keeping.{IsKept};
+ghost use Rattle.overlay_server.specs.Keeping.{IsStoreKept};
 
 use disk_model::disk::Disk;
 use flush_core::flusher::Flusher;
@@ -29,9 +29,9 @@ pub struct KeepsStore<J: Naming, D: Disk> {
 }
 
 impl<J: Naming, D: Disk> Promise<Store<D>> for KeepsStore<J, D> {
-    ghost use Rattle.overlay_server.specs.Keeping.{IsKept};
+    ghost use Rattle.overlay_server.specs.Keeping.{IsStoreKept};
 
-    ghost kept_by = { λ p r. IsKept J.book D.Disk p.begun.value r };
+    ghost kept_by = { λ p r. IsStoreKept J.book D.Disk p.begun.value r };
 }
 
 /// Starts the thread of the store. Where it is refused the book closes, and the store comes back.
@@ -48,7 +48,7 @@ where
     Q: Threads + Wait + Sync,
     D: Disk + Send + Drop + 's,
     requires { store.reporter.book ≡ J.book }
-    ensures { MatchResult result (λ h. h.promise.begun.value ≡ store) (λ after. IsKept J.book D.Disk store after) }
+    ensures { MatchResult result (λ h. h.promise.begun.value ≡ store) (λ after. IsStoreKept J.book D.Disk store after) }
 {
     let promise = KeepsStore {
         begun: Snapshot::of(&store),
@@ -58,7 +58,7 @@ where
         promise,
         move || -> Store<D>
             requires { store.reporter.book ≡ J.book }
-            ensures { IsKept J.book D.Disk store result }
+            ensures { IsStoreKept J.book D.Disk store result }
         { keep_store(rt, alloc, shared, store) },
     );
     match started {
@@ -79,7 +79,7 @@ pub fn keep_store<J: Naming, S: Wait + Drop, Q: Wait, D: Disk>(
     store: Store<D>,
 ) -> Store<D>
     requires { store.reporter.book ≡ J.book }
-    ensures { IsKept J.book D.Disk store result }
+    ensures { IsStoreKept J.book D.Disk store result }
 {
     let Store {
         mut reporter,

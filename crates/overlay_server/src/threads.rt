@@ -3,7 +3,7 @@ ghost use Rattle.std.specs.Prelude.{◌≡◌, All, length, IfSome};
 ghost use Rattle.std.specs.List.{AllZip};
 ghost use Rattle.overlay_server.specs.Rooms.{HasRooms};
 ghost use Rattle.overlay_server.specs.Running.{IsRunOf};
-ghost use Rattle.overlay_server.specs.Keeping.{IsKept};
+ghost use Rattle.overlay_server.specs.Keeping.{IsStoreKept};
 ghost use Rattle.version_book.specs.Store.{has_store};
 
 use crate::running::{Ended, Rooms, Script, run_sessions};
@@ -48,7 +48,7 @@ where
     requires store { store.reporter.book ≡ J.book }
     requires scripts { All (λ script. script.session.book ≡ J.book) scripts.items }
     requires rooms { HasRooms rooms (length scripts.items) }
-    ensures store { IsKept J.book D.Disk store result.store }
+    ensures store { IsStoreKept J.book D.Disk store result.store }
     ensures ended { IfSome result.ended (λ list. AllZip (λ script ended. IsRunOf J.book (has_store shared.now) R.remaining script ended) scripts.items list.items) }
 {
     thread::scope(
@@ -57,7 +57,7 @@ where
         |scope| -> Returned<R, D>
             requires { (store.reporter.book ≡ J.book)
                 × All (λ script. script.session.book ≡ J.book) scripts.items × HasRooms rooms (length scripts.items) }
-            ensures { IsKept J.book D.Disk store result.store
+            ensures { IsStoreKept J.book D.Disk store result.store
                 × IfSome result.ended (λ list. AllZip (λ script ended. IsRunOf J.book (has_store shared.entry.now) R.remaining script ended) scripts.items list.items) }
         {
             run_in(
@@ -89,7 +89,7 @@ where
     requires store { store.reporter.book ≡ J.book }
     requires scripts { All (λ script. script.session.book ≡ J.book) scripts.items }
     requires rooms { HasRooms rooms (length scripts.items) }
-    ensures store { IsKept J.book D.Disk store result.store }
+    ensures store { IsStoreKept J.book D.Disk store result.store }
     ensures ended { IfSome result.ended (λ list. AllZip (λ script ended. IsRunOf J.book (has_store shared.now) R.remaining script ended) scripts.items list.items) }
 {
     let working = start_workers(scope, rt, alloc, gate, shared, workers);

@@ -8,7 +8,7 @@ use std::alloc::{AllocError, Global};
 use std::marker::Model;
 
 /// How many segments a block has; the last one may have fewer.
-pub const BLOCK: usize = 32;
+pub const SEGMENTS_PER_BLOCK: usize = 32;
 
 /// A list of segments. Beside it stand the same segments by the x of their left ends, in blocks of 32 with their
 /// ranges of x and y.
@@ -84,7 +84,7 @@ fn block_count(len: usize) -> usize
     ensures enough { len ≤ 32 * result }
     ensures none_empty { 32 * result < len + 32 }
 {
-    len.div_ceil(BLOCK)
+    len.div_ceil(SEGMENTS_PER_BLOCK)
 }
 
 /// The first block, and what is left.
@@ -92,8 +92,8 @@ pub fn next_block(rest: &[Seg]) -> (&[Seg], &[Seg])
     ensures block { result.0.now ≡ take 32 rest.now }
     ensures left { result.1.now ≡ drop 32 rest.now }
 {
-    if rest.len() < BLOCK {
+    if rest.len() < SEGMENTS_PER_BLOCK {
         return rest.split_at(rest.len());
     }
-    rest.split_at(BLOCK)
+    rest.split_at(SEGMENTS_PER_BLOCK)
 }

@@ -20,7 +20,7 @@ use Rattle.store_terms.specs.declared.root.Root.{Root}
 use Rattle.store_terms.specs.Fields.{whole}
 use Rattle.store_terms.specs.BaseRecord.{base_of_record}
 use Rattle.store_terms.specs.DefinitionRecord.{definition_of_record}
-use Rattle.store_terms.specs.TileRecord.{NamedTile, column_of_tile, tile_of, named_tile, tile_of_record}
+use Rattle.store_terms.specs.TileRecord.{NamedTile, column_of_tile, tile_by_places, named_tile, tile_of_record}
 use Rattle.store_terms.specs.Catalog.{Records, Listed}
 use Rattle.store_terms.specs.Places.{all_apart, extents_listed}
 use Rattle.store_terms.specs.Image as image
@@ -98,7 +98,7 @@ tested_ok false fault x y e = absurd cc
 
 -- ---- the tiles of a layer
 abbrev passes : NamedTile → Bool
-passes t = nat_lt (column_of_tile t) column_count && is_formed (tile_of t) (column_of_tile t)
+passes t = nat_lt (column_of_tile t) column_count && is_formed (tile_by_places t) (column_of_tile t)
 
 read_passes : (bytes : List ℕ) (t : NamedTile) → whole named_tile bytes ≡ Some t → passes t ≡ true
 read_passes bytes t e =
@@ -113,10 +113,10 @@ read_passes bytes t e =
 pub tile_has_form : (k : ℕ) (bytes : List ℕ) (tile : Tile) → tile_of_record k bytes ≡ Some tile
     → (k < column_count) × IsTrue (is_formed tile k)
 tile_has_form k bytes tile e =
-    let t = bound (whole named_tile bytes) (λ t. cond (eqb (column_of_tile t) k) (Some (tile_of t)) None) tile e in
-    let found = cond_some (eqb (column_of_tile t.0) k) (tile_of t.0) tile t.2 in
+    let t = bound (whole named_tile bytes) (λ t. cond (eqb (column_of_tile t) k) (Some (tile_by_places t)) None) tile e in
+    let found = cond_some (eqb (column_of_tile t.0) k) (tile_by_places t.0) tile t.2 in
     let column : column_of_tile t.0 ≡ k = eqb-true (column_of_tile t.0) k found.0 in
-    let both = and_parts (nat_lt (column_of_tile t.0) column_count) (is_formed (tile_of t.0) (column_of_tile t.0))
+    let both = and_parts (nat_lt (column_of_tile t.0) column_count) (is_formed (tile_by_places t.0) (column_of_tile t.0))
     (read_passes bytes t.0 t.1) in (
       ltb-true k column_count (ap (λ (n : ℕ). nat_lt n column_count) (sym column) ∙ both.0),
       (λ i. is_formed (sym found.1 i) (sym column i)) ∙ both.1,

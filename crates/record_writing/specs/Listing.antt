@@ -18,11 +18,11 @@ abbrev pub records_of : Records → terms.Records
 records_of (Base extent) = inl extent
 records_of (Derived extent tiles) = inr (extent, tiles.items)
 
-abbrev pub listed_of : Listed → terms.Listed
-listed_of l = record { name = l.name.items; records = records_of l.records }
+abbrev pub entry_of : Listed → terms.Listed
+entry_of l = record { name = l.name.items; records = records_of l.records }
 
-abbrev pub listing_of : List Listed → List terms.Listed
-listing_of ls = map listed_of ls
+abbrev pub entries_of : List Listed → List terms.Listed
+entries_of ls = map entry_of ls
 
 abbrev pub HasColumns : Records → Type 0
 HasColumns (Base _) = Unit {0}

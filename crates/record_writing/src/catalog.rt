@@ -1,7 +1,7 @@
 //! The catalog: the layers in order, each with its name and where its records lie.
 ghost use Rattle.overlay_terms.specs.Column.{column_count};
 ghost use Rattle.record_writing.specs.Answers.{Gives, Reads};
-ghost use Rattle.record_writing.specs.Listing.{listed_of, listing_of, records_of, spelled_records};
+ghost use Rattle.record_writing.specs.Listing.{entry_of, entries_of, records_of, spelled_records};
 ghost use Rattle.store_terms.specs.Fields.{number, read_many, counted};
 ghost use Rattle.store_terms.specs.Choices.{optional};
 ghost use Rattle.store_terms.specs.Catalog.{extent, listed, catalog_of_record};
@@ -32,7 +32,7 @@ pub struct Listed {
 
 /// The layers that a catalog lists. Their names may be no names.
 pub fn read_catalog(alloc: Global, bytes: &[u8]) -> Result<Vec<Listed>, RecordFault>
-    ensures { Reads (λ v. listing_of v.items) result (or_fault CatalogForm (catalog_of_record bytes.now)) }
+    ensures { Reads (λ v. entries_of v.items) result (or_fault CatalogForm (catalog_of_record bytes.now)) }
 {
     match catalog_in(alloc, bytes) {
         Ok(listing) => Ok(listing),
@@ -42,7 +42,7 @@ pub fn read_catalog(alloc: Global, bytes: &[u8]) -> Result<Vec<Listed>, RecordFa
 
 /// The layers that all of the bytes list.
 fn catalog_in(alloc: Global, bytes: &[u8]) -> Result<Vec<Listed>, ReadFault>
-    ensures { Gives (λ v. listing_of v.items) result (catalog_of_record bytes.now) }
+    ensures { Gives (λ v. entries_of v.items) result (catalog_of_record bytes.now) }
 {
     let (count, rest) = two_bytes_at(bytes)?;
     let (listing, rest) = listing_at(alloc, count, rest)?;
@@ -54,7 +54,7 @@ fn catalog_in(alloc: Global, bytes: &[u8]) -> Result<Vec<Listed>, ReadFault>
 
 /// So many layers, one behind another, and what follows them.
 fn listing_at(alloc: Global, count: u16, bytes: &[u8]) -> Result<(Vec<Listed>, &[u8]), ReadFault>
-    ensures { Gives (λ x. (listing_of x.0.items, x.1.now)) result
+    ensures { Gives (λ x. (entries_of x.0.items, x.1.now)) result
         (read_many (listed column_count).read count bytes.now) }
 {
     let mut listing = Vec::new(alloc);
@@ -68,7 +68,7 @@ fn listing_at(alloc: Global, count: u16, bytes: &[u8]) -> Result<(Vec<Listed>, &
 }
 
 fn layer_at(alloc: Global, bytes: &[u8]) -> Result<(Listed, &[u8]), ReadFault>
-    ensures { Gives (λ x. (listed_of x.0, x.1.now)) result ((listed column_count).read bytes.now) }
+    ensures { Gives (λ x. (entry_of x.0, x.1.now)) result ((listed column_count).read bytes.now) }
 {
     let (name, rest) = name_at(alloc, bytes)?;
     let (records, rest) = records_at(alloc, rest)?;

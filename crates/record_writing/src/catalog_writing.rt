@@ -1,7 +1,7 @@
 //! The catalog is written.
 ghost use Rattle.std.specs.Prelude.{◌≡◌, ◌<◌, ◌^◌, length, Some, IfOk, OnOk, All};
 ghost use Rattle.overlay_terms.specs.Column.{column_count};
-ghost use Rattle.record_writing.specs.Listing.{listed_of, listing_of, records_of, spelled_records, HasColumns, IsListable};
+ghost use Rattle.record_writing.specs.Listing.{entry_of, entries_of, records_of, spelled_records, HasColumns, IsListable};
 ghost use Rattle.record_writing.specs.Putting.{IsPut};
 ghost use Rattle.store_terms.specs.Fields.{number, repeated, counted};
 ghost use Rattle.store_terms.specs.Choices.{optional};
@@ -16,8 +16,8 @@ use store_terms::root::RecordExtent;
 pub fn write_catalog(alloc: Global, listing: &[Listed]) -> Result<Vec<u8>, AllocError>
     requires few { length listing.now < 2 ^ 16 }
     requires listable { All IsListable listing.now }
-    ensures spelled { IfOk result (λ v. v.items ≡ (catalog column_count).text (listing_of listing.now)) }
-    ensures reads_back { IfOk result (λ v. catalog_of_record v.items ≡ Some (listing_of listing.now)) }
+    ensures spelled { IfOk result (λ v. v.items ≡ (catalog column_count).text (entries_of listing.now)) }
+    ensures reads_back { IfOk result (λ v. catalog_of_record v.items ≡ Some (entries_of listing.now)) }
 {
     let mut out = Vec::new(alloc);
     put_two_bytes(&mut out, listing.len() as u16)?;
@@ -30,7 +30,7 @@ pub fn write_catalog(alloc: Global, listing: &[Listed]) -> Result<Vec<u8>, Alloc
 /// Writes a layer behind some bytes: its name, then where its records lie.
 fn put_layer(out: &mut Vec<u8>, layer: &Listed) -> Result<(), AllocError>
     requires { IsListable layer.now }
-    ensures { OnOk result (IsPut (listed column_count) (listed_of layer.now) out.old.items out.new.items) }
+    ensures { OnOk result (IsPut (listed column_count) (entry_of layer.now) out.old.items out.new.items) }
 {
     put_layer_name(out, &layer.name)?;
     put_records(out, &layer.records)?;

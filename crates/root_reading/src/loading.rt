@@ -4,7 +4,7 @@ ghost use Rattle.std.proofs.Common.{inl, inr};
 ghost use Rattle.overlay_terms.specs.Histories.{Finished};
 ghost use Rattle.overlay_terms.specs.StoredTiles.{AreStored};
 ghost use Rattle.tile_build.specs.StoredTile.{finished_of};
-ghost use Rattle.record_writing.specs.Listing.{listed_of, listing_of};
+ghost use Rattle.record_writing.specs.Listing.{entry_of, entries_of};
 ghost use Rattle.store_terms.specs.Image.{layers_of};
 ghost use Rattle.root_reading.specs.Looking.{Gives, Looks, Causes};
 ghost use Rattle.root_reading.specs.Loading.{layers_with_base, layers_with_derived};
@@ -26,7 +26,7 @@ use tile_build::stored_tile::StoredTile;
 
 /// What is read so far: layers, and the finished tiles of them.
 #[derive(Drop)]
-pub struct Content {
+pub struct RootContent {
     pub layers: Layers,
     pub tiles: Vec<StoredTile>,
 }
@@ -87,7 +87,7 @@ fn add_base<D: Disk>(
     size: usize,
     name: &[u8],
     extent: RecordExtent,
-    content: &mut Content,
+    content: &mut RootContent,
 ) -> Result<(), LoadFault>
     requires { D.is_honest disk.old → size ≡ length (D.seen disk.old) }
     ensures honest { D.is_honest disk.new ↔ D.is_honest disk.old }
@@ -115,7 +115,7 @@ fn add_derived<D: Disk>(
     name: &[u8],
     extent: RecordExtent,
     entries: &[Option<RecordExtent>],
-    content: &mut Content,
+    content: &mut RootContent,
 ) -> Result<(), LoadFault>
     requires { D.is_honest disk.old → size ≡ length (D.seen disk.old) }
     ensures honest { D.is_honest disk.new ↔ D.is_honest disk.old }
@@ -145,15 +145,15 @@ fn add_layer<D: Disk>(
     disk: &mut D,
     size: usize,
     entry: &Listed,
-    content: &mut Content,
+    content: &mut RootContent,
 ) -> Result<(), LoadFault>
     requires { D.is_honest disk.old → size ≡ length (D.seen disk.old) }
     ensures honest { D.is_honest disk.new ↔ D.is_honest disk.old }
     ensures looks { D.is_honest disk.old → Looks D.Disk disk.old disk.new }
     ensures adds { D.is_honest disk.old
-        → OnOk result (Adds (D.seen disk.old) content.old content.new (listed_of entry.now)) }
+        → OnOk result (Adds (D.seen disk.old) content.old content.new (entry_of entry.now)) }
     ensures refuses { D.is_honest disk.old
-        → IfErr result (λ e. RefusesLayer e (D.seen disk.old) content.old (listed_of entry.now)) }
+        → IfErr result (λ e. RefusesLayer e (D.seen disk.old) content.old (entry_of entry.now)) }
     ensures stored { AreStored content.old.layers (map finished_of content.old.tiles.items)
         → OnOk result (AreStored content.new.layers (map finished_of content.new.tiles.items)) }
     ensures cause { D.is_honest disk.old → Causes result (D.faults disk.old) (D.faults disk.new) }
@@ -172,17 +172,17 @@ pub fn content_of<D: Disk>(
     disk: &mut D,
     size: usize,
     listing: &[Listed],
-) -> Result<Content, LoadFault>
+) -> Result<RootContent, LoadFault>
     requires { D.is_honest disk.old → size ≡ length (D.seen disk.old) }
     ensures honest { D.is_honest disk.new ↔ D.is_honest disk.old }
     ensures looks { D.is_honest disk.old → Looks D.Disk disk.old disk.new }
     ensures gives { D.is_honest disk.old
         → Gives (λ x. (x.layers, map finished_of x.tiles.items)) result
-        (layers_of (D.seen disk.old) [] (listing_of listing.now)) }
+        (layers_of (D.seen disk.old) [] (entries_of listing.now)) }
     ensures stored { IfOk result (λ x. AreStored x.layers (map finished_of x.tiles.items)) }
     ensures cause { D.is_honest disk.old → Causes result (D.faults disk.old) (D.faults disk.new) }
 {
-    let mut content = Content {
+    let mut content = RootContent {
         layers: Layers::new(alloc),
         tiles: Vec::new(alloc),
     };

@@ -29,7 +29,7 @@ pub fn listing_at<D: Disk>(
     ensures honest { D.is_honest disk.new ↔ D.is_honest disk.old }
     ensures looks { D.is_honest disk.old → Looks D.Disk disk.old disk.new }
     ensures gives { D.is_honest disk.old
-        → Gives (λ v. listings.listing_of v.items) result (listing_of (D.seen disk.old) root) }
+        → Gives (λ v. listings.entries_of v.items) result (listing_of (D.seen disk.old) root) }
     ensures cause { D.is_honest disk.old → Causes result (D.faults disk.old) (D.faults disk.new) }
 {
     let bytes = fetch(alloc, disk, size, root.catalog, Damage::CatalogPlace)?;

@@ -1,6 +1,6 @@
 //! The blocks that the records of a root take.
 ghost use Rattle.std.specs.Prelude.{◌≡◌, ◌++◌, ◌∷◌, [], List, IfOk, OnOk};
-ghost use Rattle.record_writing.specs.Listing.{listing_of, records_of};
+ghost use Rattle.record_writing.specs.Listing.{entries_of, records_of};
 ghost use Rattle.store_terms.specs.Places.{blocks, some_extents, extents_of_records, extents_listed};
 ghost use Rattle.store_terms.specs.declared.root.RecordExtent as terms;
 ghost use Rattle.root_reading.specs.Taking.{IsNear, AreRunsFor};
@@ -75,7 +75,7 @@ pub fn runs_of(
     catalog: RecordExtent,
     listing: &[Listed],
 ) -> Result<Vec<Run>, AllocError>
-    ensures { IfOk result (λ runs. AreRunsFor (catalog ∷ extents_listed (listing_of listing.now)) runs.items) }
+    ensures { IfOk result (λ runs. AreRunsFor (catalog ∷ extents_listed (entries_of listing.now)) runs.items) }
 {
     let mut runs = Vec::new(alloc);
     add_run(&mut runs, catalog)?;

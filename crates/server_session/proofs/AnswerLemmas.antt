@@ -100,7 +100,7 @@ submits_accepted was now command number on same accepted made = record {
   only = made;
 }
 
-reported : (o : Option Refusal) (fault : VersionFault) → option_map version_fault.fault_of o ≡ Some fault → (refusal : Refusal) × (o ≡ Some refusal) × (fault ≡ Layer (fault_of refusal))
+reported : (o : Option Refusal) (fault : VersionFault) → option_map version_fault.version_fault_of o ≡ Some fault → (refusal : Refusal) × (o ≡ Some refusal) × (fault ≡ Layer (fault_of refusal))
 reported None fault e = absurd (cc)
 reported (Some refusal) fault e = (refusal, refl, cc)
 
@@ -153,8 +153,8 @@ submits_all_accepted was now commands number on same accepted made = record {
   only = made;
 }
 
-batch_reported : (o : Option BatchRefusal) (fault : BatchFault) → option_map batch_faults.fault_of o ≡ Some fault
-    → (refusal : BatchRefusal) × (o ≡ Some refusal) × (fault ≡ batch_faults.fault_of refusal)
+batch_reported : (o : Option BatchRefusal) (fault : BatchFault) → option_map batch_faults.batch_fault_of o ≡ Some fault
+    → (refusal : BatchRefusal) × (o ≡ Some refusal) × (fault ≡ batch_faults.batch_fault_of refusal)
 batch_reported None fault e = absurd (cc)
 batch_reported (Some refusal) fault e = (refusal, refl, cc)
 
@@ -168,7 +168,7 @@ numbered_reason terms.in_use = refl
 numbered_reason terms.too_many_layers = refl
 numbered_reason terms.version_limit = refl
 
-refusal_told : (refusal : BatchRefusal) → IsRefusedBatch refusal [] (batch_told (batch_faults.fault_of refusal))
+refusal_told : (refusal : BatchRefusal) → IsRefusedBatch refusal [] (batch_told (batch_faults.batch_fault_of refusal))
 refusal_told (at place reason) = record { nothing_made = refl; told = ap (refused_line place) (numbered_reason reason) }
 refusal_told (whole reason) = record { nothing_made = refl; told = ap error_line (numbered_reason reason) }
 

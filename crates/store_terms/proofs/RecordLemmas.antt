@@ -19,7 +19,7 @@ use Rattle.store_terms.specs.declared.damage.Damage.{Damage}
 use Rattle.store_terms.specs.declared.damage.Damage.TheVariants.{CatalogPlace, RecordPlace, LayerForm, TileForm}
 use Rattle.store_terms.specs.Fields.{◌>>=◌, whole}
 use Rattle.store_terms.specs.DefinitionRecord.{is_expression, written_of, spelled_tree, definition_of_record}
-use Rattle.store_terms.specs.TileRecord.{NamedTile, column_of_tile, tile_of, named_tile, tile_of_record, IsTileRecord}
+use Rattle.store_terms.specs.TileRecord.{NamedTile, column_of_tile, tile_by_places, named_tile, tile_of_record, IsTileRecord}
 use Rattle.store_terms.specs.declared.root.RecordExtent.{RecordExtent}
 use Rattle.store_terms.specs.Catalog.{Records, Listed}
 use Rattle.store_terms.specs.Places.{bytes_of, is_placed, some_extents, extents_of_records, extents_listed}
@@ -65,14 +65,14 @@ definition_is_its_text bytes tree =
 pub tile_again : (k : ℕ) (bytes : List ℕ) (tile : Tile) → IsTileRecord k tile bytes → tile_of_record k bytes ≡ Some tile
 tile_again k bytes tile r =
     let found : whole named_tile bytes ≡ Some r.named = ap (whole named_tile) r.spelled ∙ whole_again named_tile named_tile_is r.named r.fits in
-    ap (λ (o : Option NamedTile). o >>= λ t. cond (eqb (column_of_tile t) k) (Some (tile_of t)) None) found
-    ∙ cond-true (eqb (column_of_tile r.named) k) (Some (tile_of r.named)) None (eq-eqb (column_of_tile r.named) k r.column) ∙ ap Some r.is
+    ap (λ (o : Option NamedTile). o >>= λ t. cond (eqb (column_of_tile t) k) (Some (tile_by_places t)) None) found
+    ∙ cond-true (eqb (column_of_tile r.named) k) (Some (tile_by_places r.named)) None (eq-eqb (column_of_tile r.named) k r.column) ∙ ap Some r.is
 
 pub tile_is_named : TileIsNamed
 tile_is_named k bytes tile are = (
   λ e.
-      let t = bound (whole named_tile bytes) (λ t. cond (eqb (column_of_tile t) k) (Some (tile_of t)) None) tile e in
-      let passed = cond_some (eqb (column_of_tile t.0) k) (tile_of t.0) tile t.2 in
+      let t = bound (whole named_tile bytes) (λ t. cond (eqb (column_of_tile t) k) (Some (tile_by_places t)) None) tile e in
+      let passed = cond_some (eqb (column_of_tile t.0) k) (tile_by_places t.0) tile t.2 in
       let taken = whole_takes named_tile named_tile_is bytes t.0 are t.1 in
       record { named = t.0; fits = taken.1; column = eqb-true (column_of_tile t.0) k passed.0; is = passed.1; spelled = taken.0 },
   λ r. tile_again k bytes tile r,

@@ -48,22 +48,22 @@ column_of_tile (inl t) = t.0
 column_of_tile (inr k) = k
 
 -- the tile, by the places of its ends
-abbrev pub tile_of : NamedTile → Tile
-tile_of (inl t) = pieces (map ends_of t.1)
-tile_of (inr k) = oversize
+abbrev pub tile_by_places : NamedTile → Tile
+tile_by_places (inl t) = pieces (map ends_of t.1)
+tile_by_places (inr k) = oversize
 
 -- tiles of their form
 abbrev pub named_tile : Field NamedTile
-named_tile = sieved (λ t. nat_lt (column_of_tile t) column_count && is_formed (tile_of t) (column_of_tile t)) (either (both (number 1) (counted 4 piece)) (number 1))
+named_tile = sieved (λ t. nat_lt (column_of_tile t) column_count && is_formed (tile_by_places t) (column_of_tile t)) (either (both (number 1) (counted 4 piece)) (number 1))
 
 -- the tile that a tile record of this column spells
 abbrev pub tile_of_record : ℕ → List ℕ → Option Tile
-tile_of_record k bytes = whole named_tile bytes >>= λ t. if column_of_tile t == k then Some (tile_of t) else None
+tile_of_record k bytes = whole named_tile bytes >>= λ t. if column_of_tile t == k then Some (tile_by_places t) else None
 
 -- the bytes are a record of a tile and its column, whatever the names of its ends
 pub record IsTileRecord (k : ℕ) (tile : Tile) (bytes : List ℕ) : Type 0 where
   pub named : NamedTile
   pub fits : named_tile.fits named ≡ true
   pub column : column_of_tile named ≡ k
-  pub is : tile_of named ≡ tile
+  pub is : tile_by_places named ≡ tile
   pub spelled : bytes ≡ named_tile.text named

@@ -9,7 +9,7 @@ mod turns;
 
 /// What is left of a book that closes.
 pub mod closing {
-    pub use book_lock::closed::Closed;
+    pub use book_lock::closed::ClosedBook;
 }
 
 /// A tile that is handed out.

@@ -14,7 +14,7 @@ ghost use Rattle.version_book.specs.Jobs.{IsFinishedBy, IsJob};
 ghost use Rattle.version_book.specs.Store.{has_store};
 ghost use Rattle.version_book.specs.Waits.{IsBuiltAt, IsSyncRefused, IsWaitRefused};
 
-use crate::closing::Closed;
+use crate::closing::ClosedBook;
 use crate::job::Job;
 use crate::locked_book::LockedBook;
 use crate::locked_book::closing::{begin_close, has_all_of, into_closed};
@@ -291,7 +291,7 @@ impl<J: Naming, R: Wait + Drop> Shared<J, R> {
 
     /// Ends the book once the threads that share it have returned. Were one of these tokens not level with it, which
     /// cannot come, it would wait for ever.
-    pub fn into_closed<W: Wait>(self, rt: &W, reporter: &Reporter, sessions: &[Session]) -> Closed
+    pub fn into_closed<W: Wait>(self, rt: &W, reporter: &Reporter, sessions: &[Session]) -> ClosedBook
         requires reporter { reporter.now.book ≡ J.book }
         requires sessions { All (λ session. session.book ≡ J.book) sessions.now }
         ensures version { arc_value result.version ≡ newest_in result.trace.log }

@@ -18,5 +18,5 @@ text_of Pending = codes "pending"
 text_of Oversize = codes "oversize"
 
 -- the fault that a refusal is reported by
-abbrev pub fault_of : Refusal → VersionFault
-fault_of refusal = Layer (book.fault_of refusal)
+abbrev pub version_fault_of : Refusal → VersionFault
+version_fault_of refusal = Layer (book.fault_of refusal)

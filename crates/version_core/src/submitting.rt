@@ -19,7 +19,7 @@ impl Version {
     /// memory is taken.
     pub fn submit(&self, alloc: Global, change: &Command) -> Result<Version, VersionFault>
         ensures ok { IfOk result (λ next. FollowsCommand self.now (command change.now) next) }
-        ensures refused { IfErr result (RefusedBy (VersionFault.Layer LayerFault.OutOfMemory) (option_map version_fault.fault_of (refusal_at self.now.number self.now.layers (command change.now)))) }
+        ensures refused { IfErr result (RefusedBy (VersionFault.Layer LayerFault.OutOfMemory) (option_map version_fault.version_fault_of (refusal_at self.now.number self.now.layers (command change.now)))) }
     {
         match self.refusal(change) {
             Some(fault) => return Err(VersionFault::Layer(fault)),

@@ -6,7 +6,7 @@ ghost use Rattle.overlay_terms.specs.Layers.{Name};
 ghost use Rattle.overlay_terms.specs.Histories.{tile_at, FollowsBatch};
 ghost use Rattle.overlay_terms.specs.Batches.{applied_all, batch_refusal_at};
 ghost use Rattle.layer_book.specs.Command.{command};
-ghost use Rattle.layer_book.specs.BatchFault.{RefusedAllBy, fault_of};
+ghost use Rattle.layer_book.specs.BatchFault.{RefusedAllBy, batch_fault_of};
 ghost use Rattle.version_core.specs.Table.{left_by_all, IsLaid};
 
 use crate::table::Table;
@@ -38,7 +38,7 @@ impl Version {
 
     /// Why a batch is refused.
     fn refusal_of_all(&self, batch: &Batch) -> Option<BatchFault>
-        ensures { result ≡ option_map fault_of (batch_refusal_at self.now.number self.now.layers batch.now) }
+        ensures { result ≡ option_map batch_fault_of (batch_refusal_at self.now.number self.now.layers batch.now) }
     {
         if let Some(fault) = self.layers().refusal_of_all(batch) {
             return Some(fault);

@@ -22,7 +22,7 @@ use tile_build::Tile;
 
 /// What stands in a version.
 #[derive(Debug, Drop)]
-pub enum Content {
+pub enum VersionContent {
     /// No layer. It takes no memory.
     Nothing(Layers),
     /// Layers and tiles, which versions share.
@@ -34,7 +34,7 @@ pub enum Content {
 pub struct Version {
     number: u64,
     durable: u64,
-    content: Content,
+    content: VersionContent,
 }
 
 impl Model for Version {
@@ -73,7 +73,7 @@ impl Version {
         Version {
             number: 0,
             durable: 0,
-            content: Content::Nothing(Layers::new(alloc)),
+            content: VersionContent::Nothing(Layers::new(alloc)),
         }
     }
 
@@ -85,7 +85,7 @@ impl Version {
         Version {
             number,
             durable,
-            content: Content::Tiled(table),
+            content: VersionContent::Tiled(table),
         }
     }
 
@@ -95,11 +95,11 @@ impl Version {
         ensures valid { IfOk result (λ table. IsLaid table.value) }
     {
         match &self.content {
-            Content::Nothing(_) => {
+            VersionContent::Nothing(_) => {
                 let table = Table::of(alloc, Layers::new(alloc))?;
                 Ok(Arc::new(alloc, table)?)
             }
-            Content::Tiled(table) => {
+            VersionContent::Tiled(table) => {
                 table.layers();
                 Ok(table.clone()?)
             }
@@ -127,8 +127,8 @@ impl Version {
         ensures valid { IsVersion self.now }
     {
         match &self.content {
-            Content::Nothing(layers) => layers,
-            Content::Tiled(table) => table.layers(),
+            VersionContent::Nothing(layers) => layers,
+            VersionContent::Tiled(table) => table.layers(),
         }
     }
 
@@ -138,8 +138,8 @@ impl Version {
         ensures row { IfSome result (λ entry. entry.2.now ≡ row_by (tile_at self.now.tiles entry.0.now)) }
     {
         match &self.content {
-            Content::Nothing(_) => None,
-            Content::Tiled(table) => table.at(place),
+            VersionContent::Nothing(_) => None,
+            VersionContent::Tiled(table) => table.at(place),
         }
     }
 
@@ -164,8 +164,8 @@ impl Version {
         ensures { option_map (λ tile. tile_of tile.now.value) result ≡ tile_at self.now.tiles name.now column }
     {
         match &self.content {
-            Content::Nothing(_) => None,
-            Content::Tiled(table) => table.tile(name, column),
+            VersionContent::Nothing(_) => None,
+            VersionContent::Tiled(table) => table.tile(name, column),
         }
     }
 }

@@ -9,7 +9,7 @@ ghost use Rattle.version_book.specs.Heard.{HasHeard};
 use crate::locked_book::LockedBook;
 use crate::reporter::Reporter;
 use book_history::seen_log::Naming;
-use book_lock::closed::Closed;
+use book_lock::closed::ClosedBook;
 use book_lock::locked_log::LockedLog;
 use book_lock::session::Session;
 use std::sync::Wait;
@@ -41,7 +41,7 @@ pub(crate) fn has_all_of<J: Naming, R: Wait + Drop>(
 }
 
 /// The newest version and the log. It waits for the readers.
-pub(crate) fn into_closed<J: Naming, R: Wait + Drop>(locked: LockedBook<J, R>) -> Closed
+pub(crate) fn into_closed<J: Naming, R: Wait + Drop>(locked: LockedBook<J, R>) -> ClosedBook
     ensures version { arc_value result.version ≡ newest_in result.trace.log }
     ensures log { (result.trace ≡ record { book = J.book; log = locked.log }) × IsLog result.trace.log }
     ensures durable { All (λ entry. entry.version.durable ≤ (newest_in result.trace.log).durable) result.trace.log }

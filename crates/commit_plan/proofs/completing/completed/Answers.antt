@@ -2,7 +2,7 @@ use Rattle.std.proofs.Common.{◌≡◌, true, Some, ◌+◌, ◌^◌, ◌<◌, 
 use Rattle.std.specs.List.{flat_map}
 use Rattle.extent_map.specs.FirstFit.{IsPlanned, IsFull}
 use Rattle.record_writing.specs.ImageHeld.{image_held}
-use Rattle.record_writing.specs.Listing.{listing_of}
+use Rattle.record_writing.specs.Listing.{entries_of}
 use Rattle.store_terms.specs.declared.root.Root.{Root}
 use Rattle.overlay_terms.specs.Column.{column_count}
 use Rattle.store_terms.specs.Catalog.{Listed, catalog}
@@ -29,7 +29,7 @@ returns-clause-ok c x given limit layers root there room apart draft spell =
     let cat : Filed = record { extent = c.in_ok-catalog.catalog; bytes = c.in_ok-bytes.bytes.items } in
     let d = c.file.new.self in
     let drafted = c.in_ok-catalog.ensures.ok given limit (flat_map filed_of layers) draft in
-    let listing = listing_of c.args.listing.items in
+    let listing = entries_of c.args.listing.items in
     let next : Next =
     record {
       root = record {
@@ -43,7 +43,7 @@ returns-clause-ok c x given limit layers root there room apart draft spell =
     let b : Write = record { at = c.args.body; bytes = c.in_ok-from_slice.field-0 } in
     let low : limit < 2 ^ 32 = subst (λ (n : ℕ). n < 2 ^ 32) draft.placed.blocks c.args.draft.room.low in
     completes x given limit layers image listing cat b d next room apart low drafted spell (record {
-      read = c.in_ok-bytes.ensures.reads_back ∙ ap (λ l. Some (listing_of l)) c.deref.ensures.value;
+      read = c.in_ok-bytes.ensures.reads_back ∙ ap (λ l. Some (entries_of l)) c.deref.ensures.value;
       after = ap (λ (r : Root). r.sequence + 1) (sym root);
       below = subst (λ (r : Root). r.sequence < sequence_max) (sym root) c.requires.below;
       version = λ i. (parts i).0;
@@ -65,7 +65,7 @@ returns-in-Err-clause-err c live given limit layers held draft spell =
     let drafted = c.in_ok-catalog.ensures.ok given limit (flat_map filed_of layers) draft in
     let low : limit < 2 ^ 32 = subst (λ (n : ℕ). n < 2 ^ 32) draft.placed.blocks c.args.draft.room.low in
     let image = image_held c.args.image in
-    let es = c.in_ok-catalog.catalog ∷ extents_listed (listing_of c.args.listing.items) in
+    let es = c.in_ok-catalog.catalog ∷ extents_listed (entries_of c.args.listing.items) in
     let apart : all_apart es ≡ true =
     subst (λ (ls : List Listed). all_apart (c.in_ok-catalog.catalog ∷ extents_listed ls) ≡ true) spell.listed
     (records_apart live given limit _ layers cat image.layers image.tiles runs held spell.spelled spell.stored.orderly
@@ -80,14 +80,14 @@ pub file-requires : goal.file-requires
 file-requires c =
     let spelled = c.in_ok-bytes.ensures.spelled in
     subst (λ (l : List ℕ). length l < 2 ^ 32) (sym spelled)
-    (subst (λ l. length ((catalog column_count).text (listing_of l)) < 2 ^ 32) (sym c.deref.ensures.value)
+    (subst (λ l. length ((catalog column_count).text (entries_of l)) < 2 ^ 32) (sym c.deref.ensures.value)
     (catalog_short c.args.listing.items c.requires.listable c.requires.few))
 
 pub returns-clause-placed : goal.returns-clause-placed
 returns-clause-placed c given limit sizes placed =
     let one = c.in_ok-catalog.ensures.placed given limit sizes placed in
     let spelled = c.in_ok-bytes.ensures.spelled
-    ∙ ap (λ l. (catalog column_count).text (listing_of l)) c.deref.ensures.value in (
+    ∙ ap (λ l. (catalog column_count).text (entries_of l)) c.deref.ensures.value in (
       c.file.new.self.runs.items,
       subst (λ (l : List ℕ). IsPlanned given limit (sizes ++ length l ∷ []) c.file.new.self.runs.items) spelled
           one.planned,
@@ -98,7 +98,7 @@ returns-in_err-catalog-clause-full c given limit sizes placed u =
     let full = c.in_err-catalog.ensures.full given limit sizes placed
     (passed_error _ c.from_residual-in_err-catalog.result c.in_err-catalog.field-0.0 Full c.from_residual-in_err-catalog.ensures.1 u) in
     let spelled = c.in_ok-bytes.ensures.spelled
-    ∙ ap (λ l. (catalog column_count).text (listing_of l)) c.deref.ensures.value in
+    ∙ ap (λ l. (catalog column_count).text (entries_of l)) c.deref.ensures.value in
     subst (λ (l : List ℕ). IsFull given limit (sizes ++ length l ∷ [])) spelled full
 
 pub returns-in-Err-clause-full : goal.returns-in-Err-clause-full
@@ -119,13 +119,13 @@ returns-clause-laid c live given limit layers sizes draft spell placed =
       catalog = c.in_ok-catalog.catalog;
     } in
     let b : Write = record { at = c.args.body; bytes = c.in_ok-from_slice.field-0 } in
-    let listing = listing_of c.args.listing.items in
+    let listing = entries_of c.args.listing.items in
     laid_out live given limit layers (image_held c.args.image) (sizes ++ length ((catalog column_count).text listing) ∷ [])
     listing cat b c.args.body d root c.push.new.self.items (subst (λ (l : List ℕ). IsPlanned given limit (sizes ++ length l ∷ []) d.runs.items)
-    (c.in_ok-bytes.ensures.spelled ∙ ap (λ l. (catalog column_count).text (listing_of l)) c.deref.ensures.value)
+    (c.in_ok-bytes.ensures.spelled ∙ ap (λ l. (catalog column_count).text (entries_of l)) c.deref.ensures.value)
     (c.in_ok-catalog.ensures.placed given limit sizes placed).planned)
     (c.in_ok-catalog.ensures.ok given limit (flat_map filed_of layers) draft) spell
-    (c.in_ok-bytes.ensures.reads_back ∙ ap (λ l. Some (listing_of l)) c.deref.ensures.value) refl refl
+    (c.in_ok-bytes.ensures.reads_back ∙ ap (λ l. Some (entries_of l)) c.deref.ensures.value) refl refl
     (c.in_ok-from_slice.ensures.items ∙ c.write_body.ensures.spelled) c.in_ok-push.ensures.items
 
 pub returns-clause-number : goal.returns-clause-number

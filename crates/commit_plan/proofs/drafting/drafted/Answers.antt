@@ -14,7 +14,7 @@ use Rattle.layer_book.specs.Layer.{IsBook}
 use Rattle.tile_build.specs.declared.stored_tile.StoredTile.{StoredTile}
 use Rattle.tile_build.specs.StoredTile.{finished_of}
 use Rattle.record_writing.specs.ImageHeld.{image_held}
-use Rattle.record_writing.specs.Listing.{listing_of}
+use Rattle.record_writing.specs.Listing.{entries_of}
 use Rattle.commit_plan.specs.declared.next.Next.{Next}
 use Rattle.commit_plan.specs.Filing.{filed_of}
 use Rattle.root_reading.specs.Taking.{IsMapOf}
@@ -47,7 +47,7 @@ returns-clause-ok c x root there stands room =
     let copy = c.in_ok-try_copy.field-0 in
     let d = c.file_layers.new.draft in
     let given = taken_of copy.map in
-    let ls = listing_of c.in_ok-listing.listing.items in
+    let ls = entries_of c.in_ok-listing.listing.items in
     let as_read = c.in_ok-listing.ensures.ok given copy.max_blocks c.new-draft.ensures in
     let in_layers =
     subst (λ (l : List Layer). AreLayersFiled live given copy.max_blocks l
@@ -71,7 +71,7 @@ returns-clause-calls c =
     let copy = c.in_ok-try_copy.field-0 in
     let d = c.file_layers.new.draft in
     let given = taken_of copy.map in
-    let ls = listing_of c.in_ok-listing.listing.items in
+    let ls = entries_of c.in_ok-listing.listing.items in
     let as_read = c.in_ok-listing.ensures.ok given copy.max_blocks c.new-draft.ensures in
     let in_layers =
     subst (λ (l : List Layer). AreLayersFiled live given copy.max_blocks l
@@ -93,7 +93,7 @@ returns-clause-err c =
     let copy = c.in_ok-try_copy.field-0 in
     let d = c.file_layers.new.draft in
     let given = taken_of copy.map in
-    let ls = listing_of c.in_ok-listing.listing.items in
+    let ls = entries_of c.in_ok-listing.listing.items in
     let as_read = c.in_ok-listing.ensures.ok given copy.max_blocks c.new-draft.ensures in
     let in_layers =
     subst (λ (l : List Layer). AreLayersFiled live given copy.max_blocks l
@@ -131,7 +131,7 @@ returns-clause-room c =
     let limit = copy.max_blocks in
     let d = c.file_layers.new.draft in
     let listing = c.in_ok-listing.listing.items in
-    let ls = listing_of listing in
+    let ls = entries_of listing in
     let as_read = c.in_ok-listing.ensures.ok given limit c.new-draft.ensures in
     let in_layers =
     subst (λ (l : List Layer). AreLayersFiled live given limit l
@@ -159,7 +159,7 @@ returns-clause-full c u =
     let limit = copy.max_blocks in
     let d = c.file_layers.new.draft in
     let listing = c.in_ok-listing.listing.items in
-    let ls = listing_of listing in
+    let ls = entries_of listing in
     let as_read = c.in_ok-listing.ensures.ok given limit c.new-draft.ensures in
     let in_layers =
     subst (λ (l : List Layer). AreLayersFiled live given limit l
@@ -196,7 +196,7 @@ returns-clause-laid c =
     let given = taken_of copy.map in
     let limit = copy.max_blocks in
     let listing = c.in_ok-listing.listing.items in
-    let ls = listing_of listing in
+    let ls = entries_of listing in
     let as_read = c.in_ok-listing.ensures.ok given limit c.new-draft.ensures in
     let in_layers =
     subst (λ (l : List Layer). AreLayersFiled live given limit l

@@ -5,7 +5,7 @@ use Rattle.std.proofs.lemmas.List.Elements.{All-push}
 use Rattle.overlay_terms.specs.Layers.{Layer}
 use Rattle.overlay_terms.specs.Histories.{Finished}
 use Rattle.tile_build.specs.StoredTile.{finished_of}
-use Rattle.record_writing.specs.Listing.{listed_of, listing_of, IsListable}
+use Rattle.record_writing.specs.Listing.{entry_of, entries_of, IsListable}
 use Rattle.record_writing.specs.declared.catalog.Listed as code
 use Rattle.commit_plan.specs.Filing.{filed_of}
 use Rattle.commit_plan.specs.Drafting.{ArePlaced}
@@ -31,9 +31,9 @@ loop-place-preserved c =
           let before = so_far.ok given limit draft in
           let here = c.in_ok-listed.ensures.ok given limit (flat_map filed_of before.filed) before.draft in
           layers_more (standing c.args.live.now) given limit layers (take i layers) (take (i + 1) layers) i (map finished_of c.args.tiles.now)
-          (map finished_of c.loop-place.rest.now) (map finished_of c.in_ok-listed.after.now) (listing_of items)
-          (listing_of c.push.new.self.items) (listed_of one) c.loop-place.draft c.file_layer.new.draft before here
-          (ap listing_of pushed ∙ listing_more items one) (take_there layers i here.layer here.there);
+          (map finished_of c.loop-place.rest.now) (map finished_of c.in_ok-listed.after.now) (entries_of items)
+          (entries_of c.push.new.self.items) (entry_of one) c.loop-place.draft c.file_layer.new.draft before here
+          (ap entries_of pushed ∙ listing_more items one) (take_there layers i here.layer here.there);
       taken = λ given limit placed.
           let before = so_far.taken given limit placed in
           let sizes = flat_map (sizes_of_layer (standing c.args.live.now) c.args.tiles.now) (take i layers) in
@@ -53,7 +53,7 @@ returns-clause-ok c given limit draft =
     let final = c.loop-place.invariant.ok given limit draft in
     let layers = c.args.layers.now in
     let rest = map finished_of c.loop-place.rest.now in
-    let ls = listing_of c.loop-place.listing.items in
+    let ls = entries_of c.loop-place.listing.items in
     let end : c.loop-place.place ≡ length layers =
     omega (arith, c.loop-place-test.false, c.loop-place.auto.place-end, c.len-place-end.ensures.value) in
     let none : rest ≡ [] =

@@ -23,14 +23,14 @@ returns-in_err-live-clause-gives g c honest short =
     let file = k.seen c.args.disk.now in
     let root = c.args.root in
     let looks1 = c.listing_at.ensures.looks honest in
-    let ls = listings.listing_of c.in_ok-listing.listing.items in
+    let ls = listings.entries_of c.in_ok-listing.listing.items in
     let x : List Layer × List Finished =
     (c.in_ok-content.content.layers, map finished_of c.in_ok-content.content.tiles.items) in
     let listing : listing_of file root ≡ Ok ls =
     c.in_ok-listing.ensures.gives honest in
     let layers : layers_of file [] ls ≡ Ok x =
     subst (λ (f : List ℕ). layers_of f [] ls ≡ Ok x) looks1.seen
-    (subst (λ l. layers_of (k.seen c.listing_at.new.disk) [] (listings.listing_of l) ≡ Ok x) c.deref.ensures.value
+    (subst (λ l. layers_of (k.seen c.listing_at.new.disk) [] (listings.entries_of l) ≡ Ok x) c.deref.ensures.value
     (c.in_ok-content.ensures.gives looks1.honest)) in
     let near : AllNear (root.catalog ∷ extents_listed ls) =
     (near_catalog file short root ls listing, near_layers file short [] ls x layers) in
@@ -52,14 +52,14 @@ returns-clause-gives g c honest short =
     let file = k.seen c.args.disk.now in
     let root = c.args.root in
     let looks1 = c.listing_at.ensures.looks honest in
-    let ls = listings.listing_of c.in_ok-listing.listing.items in
+    let ls = listings.entries_of c.in_ok-listing.listing.items in
     let x : List Layer × List Finished =
     (c.in_ok-content.content.layers, map finished_of c.in_ok-content.content.tiles.items) in
     let listing : listing_of file root ≡ Ok ls =
     c.in_ok-listing.ensures.gives honest in
     let layers : layers_of file [] ls ≡ Ok x =
     subst (λ (f : List ℕ). layers_of f [] ls ≡ Ok x) looks1.seen
-    (subst (λ l. layers_of (k.seen c.listing_at.new.disk) [] (listings.listing_of l) ≡ Ok x) c.deref.ensures.value
+    (subst (λ l. layers_of (k.seen c.listing_at.new.disk) [] (listings.entries_of l) ≡ Ok x) c.deref.ensures.value
     (c.in_ok-content.ensures.gives looks1.honest)) in
     let near : AllNear (root.catalog ∷ extents_listed ls) =
     (near_catalog file short root ls listing, near_layers file short [] ls x layers) in
@@ -72,14 +72,14 @@ returns-clause-room g c honest short =
     let file = k.seen c.args.disk.now in
     let root = c.args.root in
     let looks1 = c.listing_at.ensures.looks honest in
-    let ls = listings.listing_of c.in_ok-listing.listing.items in
+    let ls = listings.entries_of c.in_ok-listing.listing.items in
     let x : List Layer × List Finished =
     (c.in_ok-content.content.layers, map finished_of c.in_ok-content.content.tiles.items) in
     let listing : listing_of file root ≡ Ok ls =
     c.in_ok-listing.ensures.gives honest in
     let layers : layers_of file [] ls ≡ Ok x =
     subst (λ (f : List ℕ). layers_of f [] ls ≡ Ok x) looks1.seen
-    (subst (λ l. layers_of (k.seen c.listing_at.new.disk) [] (listings.listing_of l) ≡ Ok x) c.deref.ensures.value
+    (subst (λ l. layers_of (k.seen c.listing_at.new.disk) [] (listings.entries_of l) ≡ Ok x) c.deref.ensures.value
     (c.in_ok-content.ensures.gives looks1.honest)) in
     let near : AllNear (root.catalog ∷ extents_listed ls) =
     (near_catalog file short root ls listing, near_layers file short [] ls x layers) in
@@ -119,7 +119,7 @@ pub returns-clause-stands : goal.returns-clause-stands
 returns-clause-stands g c =
     let stands = c.in_ok-live.ensures.stands in
     λ i. record {
-      listing = listings.listing_of c.in_ok-live.live.listing.items;
+      listing = listings.entries_of c.in_ok-live.live.listing.items;
       layers = (stands i).layers;
       tiles = (stands i).tiles;
     }

@@ -1,6 +1,6 @@
 use Rattle.std.proofs.Common.{◌∷◌, refl, sym, subst}
 use Rattle.extent_map.specs.Taken.{taken_of}
-use Rattle.record_writing.specs.Listing.{listing_of}
+use Rattle.record_writing.specs.Listing.{entries_of}
 use Rattle.store_terms.specs.Places.{extents_listed}
 use Rattle.root_reading.specs.Taking.{AreRunsFor}
 use Rattle.root_reading.proofs.TakingLemmas.{room_taken, room_apart, room_overlap}
@@ -9,26 +9,26 @@ use Rattle.commit_plan.proofs.taking.room_of.Goals as goal
 
 pub returns-in-Ok-clause-taken : goal.returns-in-Ok-clause-taken
 returns-in-Ok-clause-taken c near =
-    let es = c.args.catalog ∷ extents_listed (listing_of c.args.listing.now) in
+    let es = c.args.catalog ∷ extents_listed (entries_of c.args.listing.now) in
     room_taken es c.deref.result.now (taken_of c.in-Ok.room.map) near
     (subst (AreRunsFor es) (sym c.deref.ensures.value) c.in_ok-runs.ensures) c.in-Ok.ensures.taken
 
 pub returns-in-Ok-clause-reads : goal.returns-in-Ok-clause-reads
 returns-in-Ok-clause-reads c near held =
-    let es = c.args.catalog ∷ extents_listed (listing_of c.args.listing.now) in
+    let es = c.args.catalog ∷ extents_listed (entries_of c.args.listing.now) in
     room_apart es c.deref.result.now held near (subst (AreRunsFor es) (sym c.deref.ensures.value) c.in_ok-runs.ensures)
     (c.in-Ok.ensures.apart refl)
 
 pub returns-in-Err-Overlap-clause-reads : goal.returns-in-Err-Overlap-clause-reads
 returns-in-Err-Overlap-clause-reads c near held =
-    let es = c.args.catalog ∷ extents_listed (listing_of c.args.listing.now) in
+    let es = c.args.catalog ∷ extents_listed (entries_of c.args.listing.now) in
     let overlap = rw c.in-Err-Overlap.field-0-is at c.in-Err-Overlap.ensures.overlap in
     room_overlap es c.deref.result.now held near
     (subst (AreRunsFor es) (sym c.deref.ensures.value) c.in_ok-runs.ensures) (overlap refl)
 
 pub returns-in-Ok-clause-apart : goal.returns-in-Ok-clause-apart
 returns-in-Ok-clause-apart c =
-    let es = extents_listed (listing_of c.args.listing.now) in
+    let es = extents_listed (entries_of c.args.listing.now) in
     held_apart c.args.catalog es c.deref.result.now (taken_of c.in-Ok.room.map)
     (subst (AreRunsFor (c.args.catalog ∷ es)) (sym c.deref.ensures.value) c.in_ok-runs.ensures) (c.in-Ok.ensures.apart refl)
     c.in-Ok.ensures.taken

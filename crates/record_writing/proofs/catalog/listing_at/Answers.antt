@@ -5,7 +5,7 @@ use Rattle.overlay_terms.specs.Column.{column_count}
 use Rattle.store_terms.specs.Fields.{read_many}
 use Rattle.store_terms.specs.Catalog.{listed}
 use Rattle.store_terms.proofs.Loops.{goes_on, is_done}
-use Rattle.record_writing.specs.Listing.{listed_of, listing_of}
+use Rattle.record_writing.specs.Listing.{entry_of, entries_of}
 use Rattle.record_writing.proofs.Failing.{fails, starts}
 use Rattle.record_writing.proofs.catalog.listing_at.Goals as goal
 
@@ -14,22 +14,22 @@ returns-in_err-layer c =
     let p = err_from_is_err_and c.from_residual.result c.from_residual.ensures.1 in
     rw (p.1, p.2)
     (fails (listed column_count).read c.in_err-layer.field-0.0
-    (listing_of c.loop.listing.items) c.args.count c.loop.counter c.loop.rest.now
+    (entries_of c.loop.listing.items) c.args.count c.loop.counter c.loop.rest.now
     (read_many (listed column_count).read c.args.count c.args.bytes.now) c.loop-test.true c.in_err-layer.ensures c.loop.invariant)
 
 pub loop-preserved : goal.loop-preserved
 loop-preserved c =
-    let pushed = ap listing_of c.in_ok-push.ensures.items
-    ∙ map-append listed_of c.loop.listing.items (c.in_ok-layer.layer ∷ []) in
+    let pushed = ap entries_of c.in_ok-push.ensures.items
+    ∙ map-append entry_of c.loop.listing.items (c.in_ok-layer.layer ∷ []) in
     rw pushed
-    (goes_on (listed column_count).read (listing_of c.loop.listing.items) c.args.count c.loop.counter c.loop.rest.now
-    (listed_of c.in_ok-layer.layer) c.in_ok-layer.after.now
+    (goes_on (listed column_count).read (entries_of c.loop.listing.items) c.args.count c.loop.counter c.loop.rest.now
+    (entry_of c.in_ok-layer.layer) c.in_ok-layer.after.now
     (read_many (listed column_count).read c.args.count c.args.bytes.now) c.loop-test.true c.in_ok-layer.ensures c.loop.invariant)
 
 pub loop-init : goal.loop-init
-loop-init c = starts (listed column_count).read (listing_of c.new-listing.result.items) c.args.count c.args.bytes.now (ap listing_of c.new-listing.ensures.items)
+loop-init c = starts (listed column_count).read (entries_of c.new-listing.result.items) c.args.count c.args.bytes.now (ap entries_of c.new-listing.ensures.items)
 
 pub returns : goal.returns
 returns c =
-    is_done (listed column_count).read (listing_of c.loop.listing.items) c.args.count c.loop.counter c.loop.rest.now
+    is_done (listed column_count).read (entries_of c.loop.listing.items) c.args.count c.loop.counter c.loop.rest.now
     (read_many (listed column_count).read c.args.count c.args.bytes.now) c.loop-test.false c.loop.invariant

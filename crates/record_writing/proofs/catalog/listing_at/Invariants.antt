@@ -3,10 +3,10 @@ use Rattle.overlay_terms.specs.Column.{column_count}
 use Rattle.store_terms.specs.Fields.{read_many}
 use Rattle.store_terms.specs.Catalog.{listed}
 use Rattle.store_terms.proofs.Loops.{with_front}
-use Rattle.record_writing.specs.Listing.{listing_of}
+use Rattle.record_writing.specs.Listing.{entries_of}
 use Rattle.record_writing.proofs.catalog.listing_at.Given as goal
 
 abbrev pub invariant-loop : goal.invariant-loop
 invariant-loop l =
-    with_front (listing_of l.listing.items) (read_many (listed column_count).read (l.count - l.counter) l.rest)
+    with_front (entries_of l.listing.items) (read_many (listed column_count).read (l.count - l.counter) l.rest)
     ≡ read_many (listed column_count).read l.count l.bytes

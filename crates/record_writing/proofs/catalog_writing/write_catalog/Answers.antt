@@ -3,7 +3,7 @@ use Rattle.std.proofs.lemmas.List.{get_or-map, length-map}
 use Rattle.overlay_terms.specs.Column.{column_count}
 use Rattle.store_terms.specs.Catalog.{listed, catalog}
 use Rattle.store_terms.proofs.LayoutLemmas.{catalog_is}
-use Rattle.record_writing.specs.Listing.{listed_of, listing_of}
+use Rattle.record_writing.specs.Listing.{entry_of, entries_of}
 use Rattle.record_writing.proofs.PutLemmas.{put_number, put_more, put_all, put_counted, put_reads_back}
 use Rattle.record_writing.proofs.catalog_writing.write_catalog.Goals as goal
 
@@ -12,18 +12,18 @@ loop-layer-preserved c =
     let given = c.args.listing.now in
     let i = c.loop-layer.layer-index in
     let layer = c.layer-item.result in
-    let is : listed_of layer ≡ get_or (listing_of given) i (listed_of layer) =
-    ap listed_of c.layer-item.is
-    ∙ sym (get_or-map listed_of given i layer (listed_of layer) c.loop-layer-test.true) in
-    put_more (listed column_count) (listing_of given) i
-    (listed_of layer) c.put_two_bytes.new.out.items c.loop-layer.out.items c.put_layer.new.out.items
-    (omega (arith, length-map given listed_of, c.loop-layer-test.true)) is c.loop-layer.invariant c.in_ok-put_layer.ensures
+    let is : entry_of layer ≡ get_or (entries_of given) i (entry_of layer) =
+    ap entry_of c.layer-item.is
+    ∙ sym (get_or-map entry_of given i layer (entry_of layer) c.loop-layer-test.true) in
+    put_more (listed column_count) (entries_of given) i
+    (entry_of layer) c.put_two_bytes.new.out.items c.loop-layer.out.items c.put_layer.new.out.items
+    (omega (arith, length-map given entry_of, c.loop-layer-test.true)) is c.loop-layer.invariant c.in_ok-put_layer.ensures
 
 pub returns-clause-reads_back : goal.returns-clause-reads_back
 returns-clause-reads_back c =
     let given = c.args.listing.now in
-    let xs = listing_of given in
-    let len : length xs ≡ length given = length-map given listed_of in
+    let xs = entries_of given in
+    let len : length xs ≡ length given = length-map given entry_of in
     let all = put_all
     (listed column_count) xs c.loop-layer.layer-index c.put_two_bytes.new.out.items c.loop-layer.out.items
     (omega (arith, len, c.loop-layer-test.false)) c.loop-layer.invariant in

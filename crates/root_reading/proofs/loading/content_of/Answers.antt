@@ -1,7 +1,7 @@
 use Rattle.std.proofs.Common.{◌≡◌, ◌<◌, length, get_or, refl, [], map, sym, ◌∙◌, ap, arith}
 use Rattle.std.proofs.lemmas.List.{length-map, get_or-map}
 use Rattle.tile_build.specs.StoredTile.{finished_of}
-use Rattle.record_writing.specs.Listing.{listed_of, listing_of}
+use Rattle.record_writing.specs.Listing.{entry_of, entries_of}
 use Rattle.store_terms.specs.Image.{layers_of}
 use Rattle.root_reading.proofs.StoredLemmas.{nothing_stored}
 use Rattle.root_reading.proofs.Looked.{looks_none, looks_on, gives_err, size_stays}
@@ -16,7 +16,7 @@ loop-entry-init g c = record {
   faults = λ honest. refl;
   stored = rw (c.new.ensures, c.new-2.ensures.items) nothing_stored;
   rest = λ honest. rw (c.new.ensures, c.new-2.ensures.items)
-      (no_front (layers_of (g.D.Disk.seen c.args.disk.now) [] (listing_of c.args.listing.now)));
+      (no_front (layers_of (g.D.Disk.seen c.args.disk.now) [] (entries_of c.args.listing.now)));
 }
 
 pub loop-entry-preserved : goal.loop-entry-preserved
@@ -27,9 +27,9 @@ loop-entry-preserved g c =
     let listing = c.args.listing.now in
     let item = c.entry-item.result in
     let inside : i < length listing = c.loop-entry-test.true in
-    let lt : i < length (listing_of listing) = omega (arith, length-map listing listed_of) in
-    let is : listed_of item ≡ get_or (listing_of listing) i (listed_of item) =
-    ap listed_of c.entry-item.is ∙ sym (get_or-map listed_of listing i item (listed_of item) inside) in
+    let lt : i < length (entries_of listing) = omega (arith, length-map listing entry_of) in
+    let is : entry_of item ≡ get_or (entries_of listing) i (entry_of item) =
+    ap entry_of c.entry-item.is ∙ sym (get_or-map entry_of listing i item (entry_of item) inside) in
     record {
       honest = (λ h. was.honest.0 (c.add_layer.ensures.honest.0 h), λ h. c.add_layer.ensures.honest.1 (was.honest.1 h));
       looks = λ honest. looks_on k c.args.disk.now c.loop-entry.disk c.add_layer.new.disk (was.looks honest)
@@ -37,9 +37,9 @@ loop-entry-preserved g c =
       faults = λ honest. c.in_ok-add_layer.ensures.cause (was.honest.1 honest) ∙ was.faults honest;
       stored = c.in_ok-add_layer.ensures.stored was.stored;
       rest = λ honest.
-          layers_go_on (k.seen c.args.disk.now) (k.seen c.loop-entry.disk) (was.looks honest).seen i (listed_of item)
-          (listing_of listing) lt is c.loop-entry.content.layers (map finished_of c.loop-entry.content.tiles.items)
-          (layers_of (k.seen c.args.disk.now) [] (listing_of listing)) c.add_layer.new.content.layers
+          layers_go_on (k.seen c.args.disk.now) (k.seen c.loop-entry.disk) (was.looks honest).seen i (entry_of item)
+          (entries_of listing) lt is c.loop-entry.content.layers (map finished_of c.loop-entry.content.tiles.items)
+          (layers_of (k.seen c.args.disk.now) [] (entries_of listing)) c.add_layer.new.content.layers
           (map finished_of c.add_layer.new.content.tiles.items)
           (c.in_ok-add_layer.ensures.adds (was.honest.1 honest)) (was.rest honest);
     }
@@ -52,13 +52,13 @@ returns-in_err-add_layer-clause-gives g c honest =
     let listing = c.args.listing.now in
     let item = c.entry-item.result in
     let inside : i < length listing = c.loop-entry-test.true in
-    let lt : i < length (listing_of listing) = omega (arith, length-map listing listed_of) in
-    let is : listed_of item ≡ get_or (listing_of listing) i (listed_of item) =
-    ap listed_of c.entry-item.is ∙ sym (get_or-map listed_of listing i item (listed_of item) inside) in
-    let total = layers_of (k.seen c.args.disk.now) [] (listing_of listing) in
+    let lt : i < length (entries_of listing) = omega (arith, length-map listing entry_of) in
+    let is : entry_of item ≡ get_or (entries_of listing) i (entry_of item) =
+    ap entry_of c.entry-item.is ∙ sym (get_or-map entry_of listing i item (entry_of item) inside) in
+    let total = layers_of (k.seen c.args.disk.now) [] (entries_of listing) in
     gives_err _ c.from_residual.result c.in_err-add_layer.field-0.0 total c.from_residual.ensures.1
-    (layers_end (k.seen c.args.disk.now) (k.seen c.loop-entry.disk) (was.looks honest).seen i (listed_of item)
-    (listing_of listing) lt is c.loop-entry.content.layers (map finished_of c.loop-entry.content.tiles.items) total
+    (layers_end (k.seen c.args.disk.now) (k.seen c.loop-entry.disk) (was.looks honest).seen i (entry_of item)
+    (entries_of listing) lt is c.loop-entry.content.layers (map finished_of c.loop-entry.content.tiles.items) total
     c.in_err-add_layer.field-0.0 (c.in_err-add_layer.ensures.refuses (was.honest.1 honest)) (was.rest honest))
 
 pub returns-clause-stored : goal.returns-clause-stored

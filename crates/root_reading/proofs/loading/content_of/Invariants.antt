@@ -1,7 +1,7 @@
 use Rattle.std.proofs.Common.{◌≡◌, ◌↔◌, [], drop, map}
 use Rattle.overlay_terms.specs.StoredTiles.{AreStored}
 use Rattle.tile_build.specs.StoredTile.{finished_of}
-use Rattle.record_writing.specs.Listing.{listing_of}
+use Rattle.record_writing.specs.Listing.{entries_of}
 use Rattle.store_terms.specs.Image.{layers_of}
 use Rattle.root_reading.specs.Looking.{Looks}
 use Rattle.root_reading.specs.Loading.{then_layers}
@@ -15,6 +15,6 @@ invariant-loop-entry g l = record {
   stored : AreStored l.content.layers (map finished_of l.content.tiles.items);
   rest : g.D.Disk.is_honest l.fn.disk
       → then_layers (map finished_of l.content.tiles.items)
-      (layers_of (g.D.Disk.seen l.fn.disk) l.content.layers (drop l.entry-index (listing_of l.listing)))
-      ≡ layers_of (g.D.Disk.seen l.fn.disk) [] (listing_of l.listing);
+      (layers_of (g.D.Disk.seen l.fn.disk) l.content.layers (drop l.entry-index (entries_of l.listing)))
+      ≡ layers_of (g.D.Disk.seen l.fn.disk) [] (entries_of l.listing);
 }
