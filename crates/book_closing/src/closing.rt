@@ -26,7 +26,7 @@ pub struct Closed<D> {
     /// The newest version.
     pub version: Arc<Version, Global>,
     /// The log that it ends.
-    pub trace: SeenLog,
+    pub seen_log: SeenLog,
     /// The number of the version that is stored; 0 without a store.
     pub stored: u64,
     /// The store's disk.
@@ -46,22 +46,22 @@ pub fn close<J: Naming, R: Wait + Drop, D: Disk, W: Wait>(
     requires sessions { All (λ session. session.book ≡ J.book) sessions.items }
     // The version ends a log that has all that the tokens have seen, and of each session's commands just those that it
     // made.
-    ensures version { arc_value result.version ≡ newest_in result.trace.log }
-    ensures log { (result.trace.book ≡ J.book) × IsLog result.trace.log }
-    ensures reporter { IsPrefix reporter.log result.trace.log }
-    ensures sessions { All (λ session. HasAllOf result.trace.log session) sessions.items }
+    ensures version { arc_value result.version ≡ newest_in result.seen_log.log }
+    ensures log { (result.seen_log.book ≡ J.book) × IsLog result.seen_log.log }
+    ensures reporter { IsPrefix reporter.log result.seen_log.log }
+    ensures sessions { All (λ session. HasAllOf result.seen_log.log session) sessions.items }
     ensures none { IfNone flusher ((result.stored ≡ 0) × (result.disk ≡ None)) }
     ensures disk { IfSome flusher (λ f. (result.stored ≡ f.commit.root.version) × (result.disk ≡ Some f.commit.disk)) }
     // All that is reported is stored, where it was for the reporter.
     ensures reported { IfSome flusher (λ f. (newest_in reporter.log).durable ≤ f.commit.root.version
-        → All (λ entry. entry.version.durable ≤ result.stored) result.trace.log) }
+        → All (λ entry. entry.version.durable ≤ result.stored) result.seen_log.log) }
     // Every file that a crash may leave stands for a version of the log, where it stood for one of the reporter's.
     ensures files { IfSome flusher (λ f. Leaves D.Disk f.commit.disk (IsFileIn (history_of reporter.log) f.commit.root.version)
-        → IfSome result.disk (λ disk. Leaves D.Disk disk (IsFileIn (history_of result.trace.log) result.stored))) }
+        → IfSome result.disk (λ disk. Leaves D.Disk disk (IsFileIn (history_of result.seen_log.log) result.stored))) }
     // It is just the version that is stored, where no commit is under way and the device did not fail.
     ensures exactly { IfSome flusher (λ f. IsStoreOf D.Disk (history_of reporter.log) f → f.commit.phase ≡ phases.Idle
         → IfSome result.disk (λ disk. Leaves D.Disk disk
-        (IsFileExactlyIn (history_of result.trace.log) result.stored))) }
+        (IsFileExactlyIn (history_of result.seen_log.log) result.stored))) }
 {
     // What the reporter has seen is a log with a first entry: the clauses rest on that.
     let _ = reporter.given();
@@ -69,7 +69,7 @@ pub fn close<J: Naming, R: Wait + Drop, D: Disk, W: Wait>(
     let (stored, disk) = left_of(flusher);
     Closed {
         version: closed.version,
-        trace: closed.trace,
+        seen_log: closed.seen_log,
         stored,
         disk,
     }

@@ -7,4 +7,4 @@ pub mod Marking
 pub mod Owned
 pub mod Publishing
 pub mod Sent
-pub mod Trails
+pub mod BookLogLemmas

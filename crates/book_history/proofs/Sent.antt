@@ -28,8 +28,8 @@ use Rattle.book_history.specs.contracts.published.PublishedAbsorb.TheImpl as abs
 use Rattle.book_history.specs.contracts.published.Published as published
 use Rattle.book_history.specs.contracts.published.OnlyGrows as only_grows
 use Rattle.book_history.specs.contracts.published.OnlyGrowsProtocolPublishedSeenLog.TheImpl as rule
-use Rattle.book_history.specs.contracts.seen_log.SeenLog as trace
-use Rattle.book_history.proofs.seen_log.SeenLog.TheSendSync as traces
+use Rattle.book_history.specs.contracts.seen_log.SeenLog as seen_log
+use Rattle.book_history.proofs.seen_log.SeenLog.TheSendSync as seen_logs
 use Rattle.left_right.specs.contracts.reader.Reader as reader
 use Rattle.left_right.specs.contracts.writer.Writer as writer
 use Rattle.left_right.proofs.reader.Reader.TheSendSync as readers
@@ -92,15 +92,15 @@ version_sync = view_sync inside.the_row _ _ _ _ inside_sync
 pub published_sync : IsSync published.the_row
 published_sync =
     let O = published.the_type in
-    recorded_sync _ _ _ O.to_one (struct_sync (shape O) (Arc-sync version.the_row version_send version_sync, (traces.the_sync, tt)))
+    recorded_sync _ _ _ O.to_one (struct_sync (shape O) (Arc-sync version.the_row version_send version_sync, (seen_logs.the_sync, tt)))
 
 pub published_send : IsSend published.the_row
 published_send =
     let O = published.the_type in
-    recorded_send _ _ _ O.to_one (struct_send (shape O) (Arc-send version.the_row version_send version_sync, (traces.the_send, tt)))
+    recorded_send _ _ _ O.to_one (struct_send (shape O) (Arc-send version.the_row version_send version_sync, (seen_logs.the_send, tt)))
 
-pub place_send : IsSend (reader.the_row published.the_row trace.the_row only_grows.the_row global.the_row rule.ghosts heap.ghosts)
-place_send = readers.the_send published.the_row trace.the_row only_grows.the_row global.the_row rule.ghosts heap.ghosts send published_sync sync frees
+pub place_send : IsSend (reader.the_row published.the_row seen_log.the_row only_grows.the_row global.the_row rule.ghosts heap.ghosts)
+place_send = readers.the_send published.the_row seen_log.the_row only_grows.the_row global.the_row rule.ghosts heap.ghosts send published_sync sync frees
 
-pub publisher_send : IsSend (writer.the_row published.the_row published.the_row trace.the_row only_grows.the_row global.the_row trace.the_row absorb.ghosts rule.ghosts heap.ghosts)
-publisher_send = writers.the_send published.the_row published.the_row trace.the_row only_grows.the_row global.the_row trace.the_row absorb.ghosts rule.ghosts heap.ghosts published_send published_send send published_sync sync frees
+pub publisher_send : IsSend (writer.the_row published.the_row published.the_row seen_log.the_row only_grows.the_row global.the_row seen_log.the_row absorb.ghosts rule.ghosts heap.ghosts)
+publisher_send = writers.the_send published.the_row published.the_row seen_log.the_row only_grows.the_row global.the_row seen_log.the_row absorb.ghosts rule.ghosts heap.ghosts published_send published_send send published_sync sync frees

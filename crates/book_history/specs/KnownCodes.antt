@@ -1,4 +1,4 @@
--- Trails, and what a session knows, as data that a model's value may hold.
+-- BookLogs, and what a session knows, as data that a model's value may hold.
 use Rattle.std.specs.Prelude.{ℕ, List, refl}
 use Rattle.std.specs.Coded.{Coded, code_by, coded_list, coded×, coded_ℕ}
 use Rattle.overlay_terms.specs.CommandCode.{command_code}
@@ -6,11 +6,11 @@ use Rattle.overlay_terms.specs.Batches.{Batch}
 use Rattle.overlay_terms.specs.Histories.{Entry}
 use Rattle.logbook.specs.Pages.{Book, book_coded}
 use Rattle.book_history.specs.Codes.{entry_code}
-use Rattle.book_history.specs.Trails.{Trail}
+use Rattle.book_history.specs.BookLogs.{BookLog}
 use Rattle.book_history.specs.Known.{Known}
 
-abbrev pub trail_code : Coded Trail
-trail_code =
+abbrev pub book_log_code : Coded BookLog
+book_log_code =
     code_by (Book × List Entry) (coded× book_coded (coded_list entry_code)) (λ t. (t.book, t.log)) (λ p. record { book = p.0; log = p.1 }) (λ _. refl)
 
 abbrev pub known_code : Coded Known

@@ -6,7 +6,7 @@ pub mod Causes
 pub mod KnownCodes
 pub mod Known
 pub mod Rules
-pub mod Trails
+pub mod BookLogs
 pub mod HeldTiles
 pub mod Standing
 pub mod Free

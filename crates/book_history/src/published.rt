@@ -17,25 +17,25 @@ use version_core::version::Version;
 #[derive(Drop)]
 pub struct Published {
     pub version: Arc<Version, Global>,
-    pub trace: SeenLog,
-    pub ghost last: { arc_value version ≡ newest_in trace.log },
+    pub seen_log: SeenLog,
+    pub ghost last: { arc_value version ≡ newest_in seen_log.log },
 }
 
 impl Published {
     pub fn again(&self) -> Result<Published, AllocError>
-        ensures { IfOk result (λ p. (p.trace ≡ self.now.trace) × (arc_value p.version ≡ arc_value self.now.version)) }
+        ensures { IfOk result (λ p. (p.seen_log ≡ self.now.seen_log) × (arc_value p.version ≡ arc_value self.now.version)) }
     {
         Ok(Published {
             version: Arc::try_clone(&self.version)?,
-            trace: self.trace.again(),
+            seen_log: self.seen_log.again(),
         })
     }
 
     pub fn into_parts(self) -> (Arc<Version, Global>, SeenLog)
-        ensures { (arc_value result.0 ≡ newest_in result.1.log) × (result.1 ≡ self.trace) }
+        ensures { (arc_value result.0 ≡ newest_in result.1.log) × (result.1 ≡ self.seen_log) }
     {
-        let Published { version, trace } = self;
-        (version, trace)
+        let Published { version, seen_log } = self;
+        (version, seen_log)
     }
 }
 
@@ -43,9 +43,9 @@ impl Published {
 impl Absorb<Published> for Published {
     type State = SeenLog;
 
-    ghost state = { λ p. p.trace };
+    ghost state = { λ p. p.seen_log };
 
-    ghost applied = { λ t p. p.trace };
+    ghost applied = { λ t p. p.seen_log };
 
     fn absorb_first(
         &mut self,
@@ -66,9 +66,9 @@ impl Absorb<Published> for Published {
 pub struct OnlyGrows;
 
 impl Protocol<Published, SeenLog> for OnlyGrows {
-    ghost use Rattle.book_history.specs.Trails.{AllWithin, newcomer};
+    ghost use Rattle.book_history.specs.BookLogs.{AllWithin, newcomer};
 
-    ghost holds = { λ p views. AllWithin p.trace views };
+    ghost holds = { λ p views. AllWithin p.seen_log views };
 
     ghost first = { newcomer };
 }
@@ -78,9 +78,9 @@ pub struct Sees;
 
 impl Outcome<Published, SeenLog> for Sees {
     ghost use Rattle.std.specs.Prelude.{◌≡◌};
-    ghost use Rattle.book_history.specs.Trails.{Within};
+    ghost use Rattle.book_history.specs.BookLogs.{Within};
 
-    ghost then = { λ v x y w. Within v x.trace × (w ≡ y.trace) };
+    ghost then = { λ v x y w. Within v x.seen_log × (w ≡ y.seen_log) };
 }
 
 /// What the writer hands on: all that it knows.
@@ -93,7 +93,7 @@ impl Split<SeenLog> for Notes {
 }
 
 impl Join<SeenLog> for Notes {
-    ghost use Rattle.book_history.specs.Trails.{newcomer};
+    ghost use Rattle.book_history.specs.BookLogs.{newcomer};
 
     ghost both = { λ v w. w };
 

@@ -1,7 +1,7 @@
 //! Publishing what follows, however long that takes.
 ghost use Rattle.std.specs.Prelude.{◌≡◌, ◌^◌, ◌<◌, [], ◌∷◌, drop, length, IfSome};
 ghost use Rattle.left_right.specs.Sides.{view};
-ghost use Rattle.book_history.specs.Trails.{Begins};
+ghost use Rattle.book_history.specs.BookLogs.{Begins};
 
 use crate::published::{Notes, Published, Publisher, ReaderPlace, Sees};
 use core::mem::replace_with;
@@ -15,9 +15,9 @@ pub fn first_publisher<R: Wait>(
     first: Published,
     readers: usize,
 ) -> Option<Publisher>
-    requires begun { 0 < length first.trace.log }
+    requires begun { 0 < length first.seen_log.log }
     requires readers { (0 < readers) × (readers < 2 ^ 32) }
-    ensures { IfSome result (λ p. (p.desk.shown.value.trace ≡ first.trace) × (drop p.behind p.log.items ≡ []) × (view p.desk.place ≡ first.trace)) }
+    ensures { IfSome result (λ p. (p.desk.shown.value.seen_log ≡ first.seen_log) × (drop p.behind p.log.items ≡ []) × (view p.desk.place ≡ first.seen_log)) }
 {
     let (Ok(second), Ok(next)) = (first.again(), first.again()) else {
         return None;
@@ -59,9 +59,9 @@ fn write_down<R: Wait>(rt: &R, publisher: Publisher, next: Published) -> Publish
 // A publisher that has published what follows.
 fn shown_by<R: Wait>(rt: &R, publisher: Publisher, next: Published) -> Publisher
     requires pending { drop publisher.behind publisher.log.items ≡ [] }
-    requires longer { Begins publisher.desk.shown.value.trace next.trace }
-    ensures shown { result.desk.shown.value.trace ≡ next.trace }
-    ensures known { view result.desk.place ≡ next.trace }
+    requires longer { Begins publisher.desk.shown.value.seen_log next.seen_log }
+    ensures shown { result.desk.shown.value.seen_log ≡ next.seen_log }
+    ensures known { view result.desk.place ≡ next.seen_log }
     ensures pending { drop result.behind result.log.items ≡ [] }
 {
     let mut publisher = write_down(rt, publisher, next);
@@ -78,9 +78,9 @@ fn shown_by<R: Wait>(rt: &R, publisher: Publisher, next: Published) -> Publisher
 /// Publishes what follows.
 pub fn put_out<R: Wait>(rt: &R, publisher: &mut Publisher, next: Published)
     requires pending { drop publisher.old.behind publisher.old.log.items ≡ [] }
-    requires longer { Begins publisher.old.desk.shown.value.trace next.trace }
-    ensures shown { publisher.new.desk.shown.value.trace ≡ next.trace }
-    ensures known { view publisher.new.desk.place ≡ next.trace }
+    requires longer { Begins publisher.old.desk.shown.value.seen_log next.seen_log }
+    ensures shown { publisher.new.desk.shown.value.seen_log ≡ next.seen_log }
+    ensures known { view publisher.new.desk.place ≡ next.seen_log }
     ensures pending { drop publisher.new.behind publisher.new.log.items ≡ [] }
 {
     replace_with(

@@ -1,7 +1,7 @@
 //! A place that goes on with what is published.
 ghost use Rattle.std.specs.Prelude.{IfSome};
 ghost use Rattle.left_right.specs.Sides.{view as place_view};
-ghost use Rattle.book_history.specs.Trails.{Begins, IsOf};
+ghost use Rattle.book_history.specs.BookLogs.{Begins, IsOf};
 
 use crate::published::{ReaderPlace, Sees};
 use crate::seen_log::SeenLog;
@@ -12,7 +12,7 @@ pub fn moved(place: Option<ReaderPlace>, to: &SeenLog) -> Option<ReaderPlace>
     ensures { IfSome result (λ r. Begins to.now (place_view r.place)) }
 {
     let reading = place?.enter_as::<Sees>().ok()?;
-    let there = &reading.get().trace;
+    let there = &reading.get().seen_log;
     let level = there.at() >= to.at();
     to.compare(there);
     let place = reading.leave();

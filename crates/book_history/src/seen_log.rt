@@ -105,12 +105,12 @@ pub struct SeenLog {
 impl Model for SeenLog {
     ghost use Rattle.std.specs.Prelude.{◌≡◌, suc, length};
     ghost use Rattle.book_history.specs.Logs.{IsLog};
-    ghost use Rattle.book_history.specs.Trails.{Trail};
-    ghost use Rattle.book_history.specs.KnownCodes.{trail_code};
+    ghost use Rattle.book_history.specs.BookLogs.{BookLog};
+    ghost use Rattle.book_history.specs.KnownCodes.{book_log_code};
 
-    ghost Value = { Trail };
+    ghost Value = { BookLog };
 
-    ghost coded = { trail_code };
+    ghost coded = { book_log_code };
 
     ghost view = { λ f. record { book = f.seen.book; log = f.seen.log } };
 

@@ -16,7 +16,7 @@ use Rattle.book_lock.specs.contracts.locked_log.LockedLog as log
 use Rattle.book_lock.specs.contracts.locked_log.LockedLog.TheInside as inside
 use Rattle.book_history.specs.declared.seen_log.Naming as naming
 use Rattle.book_lock.specs.contracts.session.Session as session
-use Rattle.book_history.proofs.seen_log.SeenLog.TheSendSync as traces
+use Rattle.book_history.proofs.seen_log.SeenLog.TheSendSync as seen_logs
 use Rattle.std.proofs.Crossing.{crosses}
 use Rattle.std.specs.contracts.alloc.Global as global
 use Rattle.std.specs.contracts.impls.GlobalAllocator.TheImpl as heap
@@ -24,12 +24,12 @@ use Rattle.book_history.specs.contracts.published.PublishedAbsorb.TheImpl as abs
 use Rattle.book_history.specs.contracts.published.Published as published
 use Rattle.book_history.specs.contracts.published.OnlyGrows as only_grows
 use Rattle.book_history.specs.contracts.published.OnlyGrowsProtocolPublishedSeenLog.TheImpl as rule
-use Rattle.book_history.specs.contracts.seen_log.SeenLog as trace
+use Rattle.book_history.specs.contracts.seen_log.SeenLog as seen_log
 use Rattle.left_right.specs.contracts.writer.Writer as writer
 use Rattle.book_history.proofs.Sent.{place_send, publisher_send}
 
 pub session_send : IsSend session.the_row
-session_send = search (sendable, crosses, traces.the_send, place_send) depth 20
+session_send = search (sendable, crosses, seen_logs.the_send, place_send) depth 20
 
 at : (R : RattleType) → IsSend R → (x : R.Denot) → SendAt R x
 at R s x = (s.owned x, λ k. s.leaving k x)
@@ -38,7 +38,7 @@ module _ (J R : RattleType) (g : naming.Ghosts J.Denot) where
   inner_send : IsSend J → IsSend R → IsSend (inside.the_row J R g)
   inner_send j s =
       let O = inside.the_type J R g in
-      let W = writer.the_type published.the_row published.the_row trace.the_row only_grows.the_row global.the_row trace.the_row absorb.ghosts rule.ghosts heap.ghosts in
+      let W = writer.the_type published.the_row published.the_row seen_log.the_row only_grows.the_row global.the_row seen_log.the_row absorb.ghosts rule.ghosts heap.ghosts in
       recorded_send_of (Struct (shape O)) _ _ O.to_one (λ d. struct_send_at (shape O) (O.to d) (at _ (words.the_send written.the_row u64 law.the_row kept.ghosts) _, (recorded_send_at (Struct (shape W)) _ W.to W.to_one publisher_send d.publisher, (at (Array (UInt w64) 4) (search sendable) _, (at R s _, (at (phantom.the_field J).row (search sendable) _, tt))))))
 
   pub log_send : IsSend J → IsSend R → IsSend (log.the_row J R g)

@@ -8,7 +8,7 @@ use Rattle.overlay_terms.specs.Tiles.{Input}
 use Rattle.version_core.specs.Finish.{IsAwaited}
 use Rattle.book_history.specs.Known.{Known}
 use Rattle.book_history.specs.Logs.{entry, newest_in, IsLog}
-use Rattle.book_history.specs.Trails.{Trail}
+use Rattle.book_history.specs.BookLogs.{BookLog}
 
 -- a session has looked: it has seen this log, which goes on from what it saw, and its batches there are those that
 -- it made
@@ -40,10 +40,10 @@ IsReportedIn log number after =
     ⊎ (StaysAtReport (newest_in log) number (newest_in after) × (after ≡ log))
 
 -- the sessions that a book begins with: each has another number, has seen this log, and made nothing
-abbrev pub beginners : Trail → ℕ → List Known
-beginners trail zero = []
-beginners trail (suc n) =
-    beginners trail n ++ record { book = trail.book; session = n; log = trail.log; made = [] } ∷ []
+abbrev pub beginners : BookLog → ℕ → List Known
+beginners book_log zero = []
+beginners book_log (suc n) =
+    beginners book_log n ++ record { book = book_log.book; session = n; log = book_log.log; made = [] } ∷ []
 
 -- a log has all that a session has seen, and of its batches just those that it made
 pub record HasAllOf (log : List Entry) (session : Known) : Type 0 where

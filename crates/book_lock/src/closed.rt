@@ -8,5 +8,5 @@ use version_core::version::Version;
 #[derive(Drop)]
 pub struct ClosedBook {
     pub version: Arc<Version, Global>,
-    pub trace: SeenLog,
+    pub seen_log: SeenLog,
 }

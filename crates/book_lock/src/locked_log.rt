@@ -47,11 +47,11 @@ impl<J: Naming, R: Wait + Drop> Model for LockedLog<J, R> {
 
     ghost coded = { coded_list entry_code };
 
-    ghost view = { λ d. d.publisher.desk.shown.value.trace.log };
+    ghost view = { λ d. d.publisher.desk.shown.value.seen_log.log };
 
-    ghost invariant = { λ d. (d.head ≡ head_of J.book) × (d.publisher.desk.shown.value.trace.book ≡ J.book)
+    ghost invariant = { λ d. (d.head ≡ head_of J.book) × (d.publisher.desk.shown.value.seen_log.book ≡ J.book)
         × (drop d.publisher.behind d.publisher.log.items ≡ [])
-        × ((by : ℕ) → by < 4 → slice_index d.counts by ≡ length (commands_of by d.publisher.desk.shown.value.trace.log)) };
+        × ((by : ℕ) → by < 4 → slice_index d.counts by ≡ length (commands_of by d.publisher.desk.shown.value.seen_log.log)) };
 }
 
 impl<J: Naming, R: Wait + Drop> LockedLog<J, R> {
@@ -60,21 +60,21 @@ impl<J: Naming, R: Wait + Drop> LockedLog<J, R> {
         rt: R,
         alloc: Global,
         head: Head,
-        trace: SeenLog,
+        seen_log: SeenLog,
         version: Version,
         sessions: usize,
     ) -> Result<(LockedLog<J, R>, Vec<Session>), BookFault>
         requires head { head ≡ head_of J.book }
-        requires trace { (trace.book ≡ J.book) × (trace.log ≡ entry no_event version ∷ []) }
+        requires seen_log { (seen_log.book ≡ J.book) × (seen_log.log ≡ entry no_event version ∷ []) }
         requires sessions { (0 < sessions) × (sessions ≤ 4) }
-        ensures log { IfOk result (λ r. r.0 ≡ trace.log) }
-        ensures sessions { IfOk result (λ r. r.1.items ≡ beginners trace sessions) }
+        ensures log { IfOk result (λ r. r.0 ≡ seen_log.log) }
+        ensures sessions { IfOk result (λ r. r.1.items ≡ beginners seen_log sessions) }
         ensures err { IfErr result (λ fault. (fault ≡ no_memory) ⊎ (fault ≡ BookFault.Gone)) }
     {
-        let first = trace.again();
+        let first = seen_log.again();
         let number = version.number();
         let version = shared(alloc, version)?;
-        let begun = Published { version, trace };
+        let begun = Published { version, seen_log };
         let Some(publisher) = first_publisher(&rt, alloc, begun, sessions + 1) else {
             return Err(NO_MEMORY);
         };
@@ -92,13 +92,13 @@ impl<J: Naming, R: Wait + Drop> LockedLog<J, R> {
 
     /// What is published last.
     pub fn last(&self) -> &Published
-        ensures trace { result.now.trace ≡ record { book = J.book; log = self.now } }
+        ensures seen_log { result.now.seen_log ≡ record { book = J.book; log = self.now } }
         ensures version { arc_value result.now.version ≡ newest_in self.now }
         ensures log { IsLog self.now }
     {
         let last = self.publisher.published();
         // What was seen is a log with a first entry: the clauses rest on that.
-        let _ = last.trace.at();
+        let _ = last.seen_log.at();
         last
     }
 
@@ -111,7 +111,11 @@ impl<J: Naming, R: Wait + Drop> LockedLog<J, R> {
         ensures level { IsLevel self.now me.now → IsTrue result }
     {
         let by = me.number();
-        by < 4 && me.is_level(&self.publisher.published().trace, self.counts[by as usize])
+        by < 4
+            && me.is_level(
+                &self.publisher.published().seen_log,
+                self.counts[by as usize],
+            )
     }
 
     /// A session sees all of it. It does not where that would be less than it has seen, or its batches are others.
@@ -126,7 +130,7 @@ impl<J: Naming, R: Wait + Drop> LockedLog<J, R> {
         }
         let last = self.last();
         let number = last.version.number();
-        me.move_on(&last.trace, number);
+        me.move_on(&last.seen_log, number);
         Ok(number)
     }
 
@@ -142,20 +146,24 @@ impl<J: Naming, R: Wait + Drop> LockedLog<J, R> {
         ensures room { IfOk result (λ _. length self.old < 2 ^ 62) }
         ensures err { IfErr result (λ fault. (fault ≡ BookFault.Gone) × (self.new ≡ self.old)) }
     {
-        let mut trace = self.publisher.published().trace.again();
-        if trace.at() >= MOST || !trace.add(&self.head, cause, &version) {
+        let mut seen_log = self.publisher.published().seen_log.again();
+        if seen_log.at() >= MOST || !seen_log.add(&self.head, cause, &version) {
             return Err(BookFault::Gone);
         }
-        put_out(&self.rt, &mut self.publisher, Published { version, trace });
+        put_out(
+            &self.rt,
+            &mut self.publisher,
+            Published { version, seen_log },
+        );
         self.counts = counted(self.counts, cause);
         Ok(())
     }
 
     /// The newest version and the log. It waits for the readers.
     pub fn into_closed(self) -> ClosedBook
-        ensures version { arc_value result.version ≡ newest_in result.trace.log }
-        ensures log { (result.trace ≡ record { book = J.book; log = self }) × IsLog result.trace.log }
-        ensures durable { All (λ entry. entry.version.durable ≤ (newest_in result.trace.log).durable) result.trace.log }
+        ensures version { arc_value result.version ≡ newest_in result.seen_log.log }
+        ensures log { (result.seen_log ≡ record { book = J.book; log = self }) × IsLog result.seen_log.log }
+        ensures durable { All (λ entry. entry.version.durable ≤ (newest_in result.seen_log.log).durable) result.seen_log.log }
     {
         let LockedLog {
             head: _head,
@@ -165,10 +173,10 @@ impl<J: Naming, R: Wait + Drop> LockedLog<J, R> {
             of: _,
         } = self;
         let last = Box::into_inner(publisher.take(&rt));
-        let (version, trace) = last.into_parts();
+        let (version, seen_log) = last.into_parts();
         // What was seen is a log with a first entry: the clauses rest on that.
-        let _ = trace.at();
-        ClosedBook { version, trace }
+        let _ = seen_log.at();
+        ClosedBook { version, seen_log }
     }
 }
 

@@ -23,7 +23,7 @@ pub struct Session {
     number: u64,
     count: u64,
     newest: u64,
-    trace: SeenLog,
+    seen_log: SeenLog,
     place: Option<ReaderPlace>,
 }
 
@@ -33,32 +33,32 @@ impl Model for Session {
     ghost use Rattle.overlay_terms.specs.Histories.{commands_of};
     ghost use Rattle.book_history.specs.Known.{Known};
     ghost use Rattle.book_history.specs.Logs.{newest_in};
-    ghost use Rattle.book_history.specs.Trails.{Begins};
+    ghost use Rattle.book_history.specs.BookLogs.{Begins};
     ghost use Rattle.book_history.specs.KnownCodes.{known_code};
 
     ghost Value = { Known };
 
     ghost coded = { known_code };
 
-    ghost view = { λ s. record { book = s.trace.book; session = s.number; log = s.trace.log; made = take s.count (commands_of s.number s.trace.log) } };
+    ghost view = { λ s. record { book = s.seen_log.book; session = s.number; log = s.seen_log.log; made = take s.count (commands_of s.number s.seen_log.log) } };
 
-    ghost invariant = { λ s. (s.count ≤ length (commands_of s.number s.trace.log)) × (0 < length s.trace.log) × IfSome s.place (λ r. Begins s.trace (place_view r.place)) × ((newest_in s.trace.log).number ≡ s.newest) };
+    ghost invariant = { λ s. (s.count ≤ length (commands_of s.number s.seen_log.log)) × (0 < length s.seen_log.log) × IfSome s.place (λ r. Begins s.seen_log (place_view r.place)) × ((newest_in s.seen_log.log).number ≡ s.newest) };
 }
 
 impl Session {
     /// A session that has seen this, and made nothing.
-    pub(crate) fn new(number: u64, newest: u64, trace: SeenLog, place: ReaderPlace) -> Session
-        requires place { place_view place.place ≡ trace }
-        requires newest { (newest_in trace.log).number ≡ newest }
-        ensures { result ≡ record { book = trace.book; session = number; log = trace.log; made = [] } }
+    pub(crate) fn new(number: u64, newest: u64, seen_log: SeenLog, place: ReaderPlace) -> Session
+        requires place { place_view place.place ≡ seen_log }
+        requires newest { (newest_in seen_log.log).number ≡ newest }
+        ensures { result ≡ record { book = seen_log.book; session = number; log = seen_log.log; made = [] } }
     {
         // What was seen is a log with a first entry: the clauses rest on that.
-        let _ = trace.at();
+        let _ = seen_log.at();
         Session {
             number,
             count: 0,
             newest,
-            trace,
+            seen_log,
             place: Some(place),
         }
     }
@@ -79,10 +79,10 @@ impl Session {
     }
 
     /// What it has seen.
-    pub fn trace(&self) -> &SeenLog
+    pub fn seen_log(&self) -> &SeenLog
         ensures { (result.now.log ≡ self.now.log) × (result.now.book ≡ self.now.book) }
     {
-        &self.trace
+        &self.seen_log
     }
 
     /// Whether a log with so many batches of this session has all that it has seen, and just the batches that
@@ -96,8 +96,8 @@ impl Session {
         ensures level { IsPrefix self.now.log now.now.log → commands_of self.now.session now.now.log ≡ self.now.made
             → IsTrue result }
     {
-        now.compare(&self.trace);
-        self.trace.at() <= now.at() && self.count == count
+        now.compare(&self.seen_log);
+        self.seen_log.at() <= now.at() && self.count == count
     }
 
     /// Sees a longer log, and moves its place on to what is published.
@@ -109,7 +109,7 @@ impl Session {
     {
         let place = self.place.take();
         self.newest = newest;
-        self.trace = to.again();
+        self.seen_log = to.again();
         self.place = moved(place, to);
     }
 
@@ -125,7 +125,7 @@ impl Session {
         let place = self.place.take();
         self.count += 1;
         self.newest = newest;
-        self.trace = to.again();
+        self.seen_log = to.again();
         self.place = moved(place, to);
     }
 
@@ -147,10 +147,10 @@ impl Session {
                 match copy {
                     Ok(copy) => {
                         // What was seen is a log with a first entry: the clauses rest on that.
-                        let _ = copy.trace.at();
-                        let (version, trace) = copy.into_parts();
+                        let _ = copy.seen_log.at();
+                        let (version, seen_log) = copy.into_parts();
                         self.newest = version.number();
-                        self.trace = trace;
+                        self.seen_log = seen_log;
                         Ok(version)
                     }
                     Err(AllocError) => Err(BookFault::Gone),

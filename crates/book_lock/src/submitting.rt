@@ -109,7 +109,7 @@ impl<J: Naming, R: Wait + Drop> LockedLog<J, R> {
         self.add(Cause::Accepted(by, changes), version)?;
         let last = self.last();
         let accepted = last.version.number();
-        me.made_one(&last.trace, accepted);
+        me.made_one(&last.seen_log, accepted);
         Ok(accepted)
     }
 }

@@ -36,9 +36,9 @@ pub record Ran {R D : Type 0} (g : Ghosts D) (book : Book) (stored : Bool) (rema
 
 -- its book is closed
 pub record IsClosed {R D : Type 0} (g : Ghosts D) (after : Store D) (ended : List (Ended R)) (served : Served D) : Type 0 where
-  pub version : arc_value served.closed.version ≡ newest_in served.closed.trace.log
-  pub log : IsLog served.closed.trace.log
-  pub sessions : All (HasAllOf served.closed.trace.log) (map ended_session ended)
+  pub version : arc_value served.closed.version ≡ newest_in served.closed.seen_log.log
+  pub log : IsLog served.closed.seen_log.log
+  pub sessions : All (HasAllOf served.closed.seen_log.log) (map ended_session ended)
   pub outcomes : served.sessions.items ≡ map outcome_of ended
   pub store : Closes g after.reporter after.flusher served.closed
 
@@ -48,10 +48,10 @@ pub served_from : {R D : Type 0} (g : Ghosts D) (book : Book) (stored : Bool) (r
 served_from g book stored remaining start readers store after scripts ended served began ran closed = record {
   version = closed.version;
   log = closed.log;
-  begins = begins_first book stored remaining start readers scripts began.seated ended ran.sessions served.closed.trace.log closed.sessions began.some;
+  begins = begins_first book stored remaining start readers scripts began.seated ended ran.sessions served.closed.seen_log.log closed.sessions began.some;
   sessions =
-      subst (λ (b : Bool). AreServed b remaining start served.closed.trace.log readers served.sessions.items) ran.stored_is
-      (subst (λ (os : List Outcome). AreServed stored remaining start served.closed.trace.log readers os) (sym closed.outcomes)
-      (are_served book stored remaining start readers scripts began.seated ended ran.sessions served.closed.trace.log closed.sessions));
+      subst (λ (b : Bool). AreServed b remaining start served.closed.seen_log.log readers served.sessions.items) ran.stored_is
+      (subst (λ (os : List Outcome). AreServed stored remaining start served.closed.seen_log.log readers os) (sym closed.outcomes)
+      (are_served book stored remaining start readers scripts began.seated ended ran.sessions served.closed.seen_log.log closed.sessions));
   kept = left_by g start store.reporter after.reporter store.flusher after.flusher served.closed began.log ran.kept.flushed closed.store;
 }

@@ -71,14 +71,14 @@ module _ {D : Type 0} (g : Ghosts D) where
 
   -- what `close` tells of a store, where the log goes on from what its reporter has seen
   pub record Closes (now : Heard) (store : Option (Flusher D)) (closed : Closed D) : Type 0 where
-    pub on : BeginsWith (history_of closed.trace.log) (history_of now.log)
+    pub on : BeginsWith (history_of closed.seen_log.log) (history_of now.log)
     pub none : IfNone store ((closed.stored ≡ 0) × (closed.disk ≡ None))
     pub disk : IfSome store (λ (f : Flusher D). (closed.stored ≡ f.commit.root.version) × (closed.disk ≡ Some f.commit.disk))
-    pub reported : IfSome store (λ (f : Flusher D). (newest_in now.log).durable ≤ f.commit.root.version → All (λ (e : Entry). e.version.durable ≤ closed.stored) closed.trace.log)
+    pub reported : IfSome store (λ (f : Flusher D). (newest_in now.log).durable ≤ f.commit.root.version → All (λ (e : Entry). e.version.durable ≤ closed.stored) closed.seen_log.log)
     pub files : IfSome store (λ (f : Flusher D). Leaves g f.commit.disk (IsFileIn (history_of now.log) f.commit.root.version)
-        → IfSome closed.disk (λ (d : D). Leaves g d (IsFileIn (history_of closed.trace.log) closed.stored)))
+        → IfSome closed.disk (λ (d : D). Leaves g d (IsFileIn (history_of closed.seen_log.log) closed.stored)))
     pub exactly : IfSome store (λ (f : Flusher D). IsStoreOf g (history_of now.log) f → f.commit.phase ≡ Idle
-        → IfSome closed.disk (λ (d : D). Leaves g d (IsFileExactlyIn (history_of closed.trace.log) closed.stored)))
+        → IfSome closed.disk (λ (d : D). Leaves g d (IsFileExactlyIn (history_of closed.seen_log.log) closed.stored)))
 
   pub left_by : (start : Version) (was now : Heard) (old new : Option (Flusher D)) (closed : Closed D) → was.log ≡ first_log start
       → AreFlushed g was old now new → Closes now new closed → AreLeft g start old closed
@@ -92,7 +92,7 @@ module _ {D : Type 0} (g : Ghosts D) where
     rests = flushed.rests;
     left = λ is.
         let run = flushed.flushes (subst (λ (log : List Entry). IsStoreOf g (history_of log) f) (sym first) is) in
-        let log = closed.trace.log in
+        let log = closed.seen_log.log in
         record {
           no_less = run.no_less;
           moments = moments_on (history_of now.log) (history_of log) f.commit.root.version f.commit.disk l.commit.disk closes.on run.moments;

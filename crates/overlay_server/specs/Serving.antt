@@ -84,7 +84,7 @@ module _ {D : Type 0} (g : Ghosts D) where
     pub disk : closed.disk ≡ Some last.commit.disk
     pub stored : closed.stored ≡ last.commit.root.version
     pub rests : is_busy last.commit.phase ≡ false
-    pub left : IsStoreOf g (history_of (first_log start)) old → IsLeftBy closed.trace.log old last
+    pub left : IsStoreOf g (history_of (first_log start)) old → IsLeftBy closed.seen_log.log old last
 
   -- the same where there was one
   abbrev pub AreLeft : Version → Option (Flusher D) → Closed D → Type 0
@@ -114,10 +114,10 @@ module _ {D : Type 0} (g : Ghosts D) where
 
 -- a server ran: from a version and its store to the end of its book
 pub record IsServedFrom {R D : Type 0} (remaining : R → Option (List ℕ)) (g : Ghosts D) (start : Version) (store : Option (Flusher D)) (readers : List R) (served : Served D) : Type 0 where
-  pub version : arc_value served.closed.version ≡ newest_in served.closed.trace.log
-  pub log : IsLog served.closed.trace.log
-  pub begins : (history_of served.closed.trace.log).start ≡ start
-  pub sessions : AreServed (is_some store) remaining start served.closed.trace.log readers served.sessions.items
+  pub version : arc_value served.closed.version ≡ newest_in served.closed.seen_log.log
+  pub log : IsLog served.closed.seen_log.log
+  pub begins : (history_of served.closed.seen_log.log).start ≡ start
+  pub sessions : AreServed (is_some store) remaining start served.closed.seen_log.log readers served.sessions.items
   pub kept : AreLeft g start store served.closed
 
 -- a server could not run: for want of memory or of a thread, or of places in the book; the disk comes back

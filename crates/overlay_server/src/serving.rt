@@ -30,11 +30,11 @@ use version_core::version::Version;
 /// A book that is to be opened: the history of one version, and the store that it was read from.
 struct Opened<D: Disk> {
     head: Head,
-    trace: SeenLog,
+    seen_log: SeenLog,
     version: Version,
     flusher: Option<Flusher<D>>,
-    ghost head_is: { head ≡ head_of trace.book },
-    ghost begun: { trace.log ≡ entry no_event version ∷ [] },
+    ghost head_is: { head ≡ head_of seen_log.book },
+    ghost begun: { seen_log.log ≡ entry no_event version ∷ [] },
 }
 
 /// Runs workers, the store and one session a reader, each in a thread of its own, until all scripts have ended. Session
@@ -80,10 +80,10 @@ fn history_of_engine<D: Disk>(alloc: Global, engine: Option<Engine<D>>) -> Opene
         }
         None => (Version::empty(alloc), None),
     };
-    let (head, trace) = open(&version);
+    let (head, seen_log) = open(&version);
     Opened {
         head,
-        trace,
+        seen_log,
         version,
         flusher,
     }
@@ -104,21 +104,21 @@ where
     R: Read + Send + Drop,
     G: Gate + Sync,
     Q: Threads + Wait + Sync,
-    requires book { opened.trace.book ≡ J.book }
+    requires book { opened.seen_log.book ≡ J.book }
     requires readers { (0 < length readers.items) × (length readers.items ≤ 4) }
     ensures served { IfOk result (IsServedFrom R.remaining D.Disk opened.version opened.flusher readers.items) }
     ensures refused { IfErr result (IsRefusedFrom D.Disk opened.version opened.flusher) }
 {
     let Opened {
         head,
-        trace,
+        seen_log,
         version,
         flusher,
     } = opened;
     let start = Snapshot::of(&version);
     let stored = flusher.is_some();
     let sessions = readers.len();
-    match Shared::<J, &Q>::start(rt, alloc, head, trace, version, stored, sessions) {
+    match Shared::<J, &Q>::start(rt, alloc, head, seen_log, version, stored, sessions) {
         Ok((shared, reporter, sessions)) => {
             let store = Store { reporter, flusher };
             run_book(

@@ -74,19 +74,19 @@ pub enum Row {
 /// A history of the empty version alone, which is no book's yet.
 struct Opened {
     head: Head,
-    trace: SeenLog,
+    seen_log: SeenLog,
     version: Version,
-    ghost head_is: { head ≡ head_of trace.book },
-    ghost begun: { trace.log ≡ entry no_event version ∷ [] },
+    ghost head_is: { head ≡ head_of seen_log.book },
+    ghost begun: { seen_log.log ≡ entry no_event version ∷ [] },
 }
 
 /// Opens a history.
 fn open_history(alloc: Global) -> Opened {
     let version = Version::empty(alloc);
-    let (head, trace) = open(&version);
+    let (head, seen_log) = open(&version);
     Opened {
         head,
-        trace,
+        seen_log,
         version,
     }
 }
@@ -111,14 +111,14 @@ fn play_in<J: Naming + Send + Sync, R: Threads + Wait + Clock + Abort + Sync>(
     lists: &[&[Row]],
     last: u64,
 )
-    requires { opened.trace.book ≡ J.book }
+    requires { opened.seen_log.book ≡ J.book }
 {
     let Opened {
         head,
-        trace,
+        seen_log,
         version,
     } = opened;
-    let started = Shared::<J, &R>::start(rt, alloc, head, trace, version, store, 2);
+    let started = Shared::<J, &R>::start(rt, alloc, head, seen_log, version, store, 2);
     let (shared, mut reporter, mut sessions) = started.expect(rt, "no book");
     let mut other = sessions.pop().expect(rt, "no session");
     let mut me = sessions.pop().expect(rt, "no second session");

@@ -21,18 +21,18 @@ use version_core::version::Version;
 /// A history of one version, which is no book's yet.
 struct History {
     head: Head,
-    trace: SeenLog,
+    seen_log: SeenLog,
     version: Version,
-    ghost head_is: { head ≡ head_of trace.book },
-    ghost begun: { trace.log ≡ entry no_event version ∷ [] },
+    ghost head_is: { head ≡ head_of seen_log.book },
+    ghost begun: { seen_log.log ≡ entry no_event version ∷ [] },
 }
 
 fn empty_history(alloc: Global) -> History {
     let version = Version::empty(alloc);
-    let (head, trace) = open(&version);
+    let (head, seen_log) = open(&version);
     History {
         head,
-        trace,
+        seen_log,
         version,
     }
 }
@@ -60,14 +60,14 @@ where
     Q: Threads + Wait + Sync + Abort,
     R: Read,
     W: Write,
-    requires { history.trace.book ≡ J.book }
+    requires { history.seen_log.book ≡ J.book }
 {
     let History {
         head,
-        trace,
+        seen_log,
         version,
     } = history;
-    let started = Shared::<J, &Q>::start(rt, alloc, head, trace, version, false, 1);
+    let started = Shared::<J, &Q>::start(rt, alloc, head, seen_log, version, false, 1);
     let (shared, reporter, mut sessions) = started.expect(rt, "no book");
     let mut me = sessions.pop().expect(rt, "no session");
     let end = session_run(rt, alloc, &shared, &mut me, reader, writer);

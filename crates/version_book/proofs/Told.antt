@@ -14,7 +14,7 @@ use Rattle.book_history.specs.Fault.{IfBatchGone, IfGone, IsBatchRefused, IsRefu
 use Rattle.book_history.specs.Free.{IsFree}
 use Rattle.book_history.specs.Known.{Known}
 use Rattle.book_history.specs.Logs.{newest_in, IsLog}
-use Rattle.book_history.specs.Trails.{Trail}
+use Rattle.book_history.specs.BookLogs.{BookLog}
 use Rattle.book_history.specs.declared.held_tiles.HeldTile.{HeldTile}
 use Rattle.book_history.specs.declared.standing.Standing.{Standing}
 use Rattle.book_history.specs.declared.fault.BookFault.{BookFault}
@@ -113,18 +113,18 @@ loses_marks o P Q is q = subst (λ o. IfSome o (λ _. P) × IfNone o Q) (sym is)
 
 -- ---- of a reporter, and of a result that was looked at
 -- a reporter has moved on to a log of its book
-pub moved : (was now : Heard) (to : Trail) (given n : ℕ) (book : Book) (log : List Entry)
+pub moved : (was now : Heard) (to : BookLog) (given n : ℕ) (book : Book) (log : List Entry)
     → now ≡ record { book = was.book; log = to.log; given = given } → to ≡ record { book = book; log = log }
     → given ≡ n → now ≡ record { book = was.book; log = log; given = n }
 moved was now to given n book log is at news =
-    is ∙ ap (λ (t : Trail). record { book = was.book; log = t.log; given = given }) at
+    is ∙ ap (λ (t : BookLog). record { book = was.book; log = t.log; given = given }) at
     ∙ ap (λ k. record { book = was.book; log = log; given = k }) news
 
 -- the durable number that stands in the version of a log's end
-pub durable_there : (at : Trail) (book : Book) (log : List Entry) (end version : Version) {durable : ℕ} → at ≡ record { book = book; log = log }
+pub durable_there : (at : BookLog) (book : Book) (log : List Entry) (end version : Version) {durable : ℕ} → at ≡ record { book = book; log = log }
     → end ≡ newest_in log → version ≡ end → durable ≡ version.durable → (newest_in at.log).durable ≡ durable
 durable_there at book log end version is newest same told =
-    ap (λ (t : Trail). (newest_in t.log).durable) is ∙ ap (λ (v : Version). v.durable) (sym newest ∙ sym same) ∙ sym told
+    ap (λ (t : BookLog). (newest_in t.log).durable) is ∙ ap (λ (v : Version). v.durable) (sym newest ∙ sym same) ∙ sym told
 
 pub on_ok : {T E : Type 0} (r : Result T E) (b : Bool) (P : Type 0) → b ≡ is_err r → b ≡ false → OnOk r P → P
 on_ok (Ok n) b P is so p = p

@@ -7,4 +7,4 @@ pub use Rattle.book_history.specs.Fault
 pub use Rattle.book_history.specs.Known
 pub use Rattle.book_history.specs.Logs
 pub use Rattle.book_history.specs.Rules
-pub use Rattle.book_history.specs.Trails
+pub use Rattle.book_history.specs.BookLogs

@@ -106,7 +106,7 @@ impl<J: Naming, R: Wait + Drop> LockedBook<J, R> {
         ensures log { result.log ≡ self.now.log }
         ensures valid { (result.book ≡ J.book) × IsLog result.log }
     {
-        self.log.last().trace.again()
+        self.log.last().seen_log.again()
     }
 
     /// Spends a job: keeps the tile that was built of its input where it is awaited, and says whether it was, by one

@@ -11,7 +11,7 @@ use std::marker::Model;
 /// last.
 #[derive(Drop)]
 pub struct Reporter {
-    trace: SeenLog,
+    seen_log: SeenLog,
     durable: u64,
     given: u64,
 }
@@ -25,19 +25,19 @@ impl Model for Reporter {
 
     ghost coded = { heard_code };
 
-    ghost view = { λ r. record { book = r.trace.book; log = r.trace.log; given = r.given } };
+    ghost view = { λ r. record { book = r.seen_log.book; log = r.seen_log.log; given = r.given } };
 
-    ghost invariant = { λ r. (newest_in r.trace.log).durable ≡ r.durable };
+    ghost invariant = { λ r. (newest_in r.seen_log.log).durable ≡ r.durable };
 }
 
 impl Reporter {
     /// A reporter that has seen this, where so much is durable, and gave nothing.
-    pub(crate) fn new(trace: SeenLog, durable: u64) -> Reporter
-        requires { (newest_in trace.log).durable ≡ durable }
-        ensures { result ≡ record { book = trace.book; log = trace.log; given = 0 } }
+    pub(crate) fn new(seen_log: SeenLog, durable: u64) -> Reporter
+        requires { (newest_in seen_log.log).durable ≡ durable }
+        ensures { result ≡ record { book = seen_log.book; log = seen_log.log; given = 0 } }
     {
         Reporter {
-            trace,
+            seen_log,
             durable,
             given: 0,
         }
@@ -50,7 +50,7 @@ impl Reporter {
         ensures begun { 0 < length self.now.log }
     {
         // What was seen is a log with a first entry: the clauses rest on that.
-        let _ = self.trace.at();
+        let _ = self.seen_log.at();
         self.given
     }
 
@@ -60,8 +60,8 @@ impl Reporter {
         requires durable { (newest_in now.now.log).durable ≡ durable }
         ensures { IsTrue result ↔ HasHeard now.now.log self.now }
     {
-        now.compare(&self.trace);
-        self.trace.at() <= now.at() && self.durable == durable
+        now.compare(&self.seen_log);
+        self.seen_log.at() <= now.at() && self.durable == durable
     }
 
     /// Sees a longer log, where so much is durable, with the count of news that it gives with it.
@@ -71,7 +71,7 @@ impl Reporter {
         requires longer { IsPrefix self.old.log to.now.log }
         ensures { self.new ≡ record { book = self.old.book; log = to.now.log; given = given } }
     {
-        self.trace = to.again();
+        self.seen_log = to.again();
         self.durable = durable;
         self.given = given;
     }

@@ -49,24 +49,24 @@ impl<J: Naming, R: Wait + Drop> Shared<J, R> {
         rt: R,
         alloc: Global,
         head: Head,
-        trace: SeenLog,
+        seen_log: SeenLog,
         version: Version,
         store: bool,
         sessions: usize,
     ) -> Result<(Shared<J, R>, Reporter, Vec<Session>), BookFault>
         requires head { head ≡ head_of J.book }
-        requires trace { (trace.book ≡ J.book) × (trace.log ≡ entry no_event version ∷ []) }
+        requires seen_log { (seen_log.book ≡ J.book) × (seen_log.log ≡ entry no_event version ∷ []) }
         requires sessions { (0 < sessions) × (sessions ≤ 4) }
-        ensures reporter { IfOk result (λ r. r.1 ≡ record { book = trace.book; log = trace.log; given = 0 }) }
-        ensures sessions { IfOk result (λ r. r.2.items ≡ beginners trace sessions) }
+        ensures reporter { IfOk result (λ r. r.1 ≡ record { book = seen_log.book; log = seen_log.log; given = 0 }) }
+        ensures sessions { IfOk result (λ r. r.2.items ≡ beginners seen_log sessions) }
         ensures of_book { IfOk result (λ r. All (λ session. session.book ≡ J.book) r.2.items) }
         ensures reporter_of_book { IfOk result (λ r. r.1.book ≡ J.book) }
         ensures count { IfOk result (λ r. length r.2.items ≡ sessions) }
         ensures store { IfOk result (λ r. has_store r.0 ≡ store) }
         ensures err { IfErr result (λ fault. (fault ≡ no_memory) ⊎ (fault ≡ BookFault.Gone)) }
     {
-        let reporter = Reporter::new(trace.again(), version.durable());
-        let (log, list) = LockedLog::open(rt, alloc, head, trace, version, sessions)?;
+        let reporter = Reporter::new(seen_log.again(), version.durable());
+        let (log, list) = LockedLog::open(rt, alloc, head, seen_log, version, sessions)?;
         let shared = Shared {
             turns: Turns::new(LockedBook::new(log, Standing::new(alloc))),
             store,
@@ -291,14 +291,19 @@ impl<J: Naming, R: Wait + Drop> Shared<J, R> {
 
     /// Ends the book once the threads that share it have returned. Were one of these tokens not level with it, which
     /// cannot come, it would wait for ever.
-    pub fn into_closed<W: Wait>(self, rt: &W, reporter: &Reporter, sessions: &[Session]) -> ClosedBook
+    pub fn into_closed<W: Wait>(
+        self,
+        rt: &W,
+        reporter: &Reporter,
+        sessions: &[Session],
+    ) -> ClosedBook
         requires reporter { reporter.now.book ≡ J.book }
         requires sessions { All (λ session. session.book ≡ J.book) sessions.now }
-        ensures version { arc_value result.version ≡ newest_in result.trace.log }
-        ensures log { (result.trace.book ≡ J.book) × IsLog result.trace.log }
-        ensures reporter { HasHeard result.trace.log reporter.now }
-        ensures sessions { All (λ session. HasAllOf result.trace.log session) sessions.now }
-        ensures durable { All (λ entry. entry.version.durable ≤ (newest_in result.trace.log).durable) result.trace.log }
+        ensures version { arc_value result.version ≡ newest_in result.seen_log.log }
+        ensures log { (result.seen_log.book ≡ J.book) × IsLog result.seen_log.log }
+        ensures reporter { HasHeard result.seen_log.log reporter.now }
+        ensures sessions { All (λ session. HasAllOf result.seen_log.log session) sessions.now }
+        ensures durable { All (λ entry. entry.version.durable ≤ (newest_in result.seen_log.log).durable) result.seen_log.log }
     {
         let Shared {
             turns,

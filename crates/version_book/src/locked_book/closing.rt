@@ -37,14 +37,15 @@ pub(crate) fn has_all_of<J: Naming, R: Wait + Drop>(
         → All (λ session. IsLevel locked.now.log session) sessions.now → IsTrue result }
 {
     let last = locked.log.last();
-    reporter.is_level(&last.trace, last.version.durable()) && has_all_of_each(&locked.log, sessions)
+    reporter.is_level(&last.seen_log, last.version.durable())
+        && has_all_of_each(&locked.log, sessions)
 }
 
 /// The newest version and the log. It waits for the readers.
 pub(crate) fn into_closed<J: Naming, R: Wait + Drop>(locked: LockedBook<J, R>) -> ClosedBook
-    ensures version { arc_value result.version ≡ newest_in result.trace.log }
-    ensures log { (result.trace ≡ record { book = J.book; log = locked.log }) × IsLog result.trace.log }
-    ensures durable { All (λ entry. entry.version.durable ≤ (newest_in result.trace.log).durable) result.trace.log }
+    ensures version { arc_value result.version ≡ newest_in result.seen_log.log }
+    ensures log { (result.seen_log ≡ record { book = J.book; log = locked.log }) × IsLog result.seen_log.log }
+    ensures durable { All (λ entry. entry.version.durable ≤ (newest_in result.seen_log.log).durable) result.seen_log.log }
 {
     let LockedBook {
         log,

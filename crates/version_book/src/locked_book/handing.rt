@@ -48,7 +48,7 @@ impl<J: Naming, R: Wait + Drop> LockedBook<J, R> {
         let Ok((name, input)) = self.parts(alloc, tile.0, column) else {
             return Err(NO_MEMORY);
         };
-        let job = Job::new(name, input, self.log.last().trace.again());
+        let job = Job::new(name, input, self.log.last().seen_log.again());
         if self.standing.held.hand_out(job.name(), column).is_err() {
             job.end();
             return Err(NO_MEMORY);

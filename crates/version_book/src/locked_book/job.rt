@@ -12,7 +12,7 @@ use std::marker::Model;
 pub struct Job {
     name: Name,
     input: TileInput,
-    trace: SeenLog,
+    seen_log: SeenLog,
 }
 
 impl Model for Job {
@@ -22,18 +22,22 @@ impl Model for Job {
 
     ghost coded = { handed_code };
 
-    ghost view = { λ j. record { book = j.trace.book; log = j.trace.log; name = j.name; input = j.input } };
+    ghost view = { λ j. record { book = j.seen_log.book; log = j.seen_log.log; name = j.name; input = j.input } };
 
-    ghost invariant = { λ j. IsJob (record { book = j.trace.book; log = j.trace.log; name = j.name; input = j.input }) };
+    ghost invariant = { λ j. IsJob (record { book = j.seen_log.book; log = j.seen_log.log; name = j.name; input = j.input }) };
 }
 
 impl Job {
     // A job for a tile that is pending in the newest version of a log.
-    pub(super) fn new(name: Name, input: TileInput, trace: SeenLog) -> Job
-        requires { IsJob (record { book = trace.book; log = trace.log; name = name; input = input }) }
-        ensures { result ≡ record { book = trace.book; log = trace.log; name = name; input = input } }
+    pub(super) fn new(name: Name, input: TileInput, seen_log: SeenLog) -> Job
+        requires { IsJob (record { book = seen_log.book; log = seen_log.log; name = name; input = input }) }
+        ensures { result ≡ record { book = seen_log.book; log = seen_log.log; name = name; input = input } }
     {
-        Job { name, input, trace }
+        Job {
+            name,
+            input,
+            seen_log,
+        }
     }
 
     /// The name of the tile's layer.
@@ -52,10 +56,10 @@ impl Job {
     }
 
     /// The log at whose newest version the tile was pending.
-    pub fn trace(&self) -> &SeenLog
+    pub fn seen_log(&self) -> &SeenLog
         ensures { (result.now.book ≡ self.now.book) × (result.now.log ≡ self.now.log) }
     {
-        &self.trace
+        &self.seen_log
     }
 
     // Ends a job, whose tile is not handed out any more.
@@ -63,7 +67,7 @@ impl Job {
         let Job {
             name: _name,
             input: _input,
-            trace: _trace,
+            seen_log: _seen_log,
         } = self;
     }
 }

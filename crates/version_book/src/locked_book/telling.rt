@@ -170,7 +170,7 @@ pub(crate) fn tell_news<J: Naming, R: Wait + Drop>(
 {
     let last = locked.log.last();
     let durable = last.version.durable();
-    if !me.is_level(&last.trace, durable) {
+    if !me.is_level(&last.seen_log, durable) {
         return Err(BookFault::Gone);
     }
     if me.given() == locked.standing.news {
@@ -179,7 +179,7 @@ pub(crate) fn tell_news<J: Naming, R: Wait + Drop>(
     let Ok(version) = Arc::try_clone(&last.version) else {
         return Err(NO_MEMORY);
     };
-    me.move_on(&last.trace, durable, locked.standing.news);
+    me.move_on(&last.seen_log, durable, locked.standing.news);
     Ok(Some(version))
 }
 
@@ -204,11 +204,11 @@ pub(crate) fn report<J: Naming, R: Wait + Drop>(
 {
     let given = me.given();
     let last = locked.log.last();
-    if !me.is_level(&last.trace, last.version.durable()) {
+    if !me.is_level(&last.seen_log, last.version.durable()) {
         return Err(BookFault::Gone);
     }
     let durable = locked.log.report(alloc, number)?;
-    me.move_on(&locked.log.last().trace, durable, given);
+    me.move_on(&locked.log.last().seen_log, durable, given);
     Ok(durable)
 }
 

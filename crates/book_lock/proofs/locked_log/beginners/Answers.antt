@@ -1,6 +1,6 @@
 use Rattle.std.proofs.Common.{◌≡◌, ◌∙◌, ◌+◌, suc, ◌++◌, ◌∷◌, [], Bool, if◌then◌else◌, ap, sym, refl, inl, inr, arith}
 use Rattle.book_history.specs.Logs.{newest_in}
-use Rattle.book_history.specs.Trails.{Trail}
+use Rattle.book_history.specs.BookLogs.{BookLog}
 use Rattle.book_lock.specs.Steps.{beginners}
 use Rattle.book_lock.proofs.locked_log.beginners.Goals as goal
 
@@ -16,7 +16,7 @@ returns-in_default c =
 pub new-session-requires : goal.new-session-requires
 new-session-requires c = record {
   place = c.in-Some.ensures.given ∙ c.loop-number.invariant.3 ∙ c.requires.known ∙ sym c.again.ensures;
-  newest = ap (λ (t : Trail). (newest_in t.log).number) c.again.ensures ∙ c.requires.newest;
+  newest = ap (λ (t : BookLog). (newest_in t.log).number) c.again.ensures ∙ c.requires.newest;
 }
 
 pub returns-then-is_err : goal.returns-then-is_err

@@ -95,10 +95,10 @@ returns-clause-served g c =
     (record {
       version = closed.version;
       log = closed.log.1;
-      sessions = subst (All (HasAllOf c.close-closed.result.trace.log)) c.parted-sessions.ensures.sessions closed.sessions;
+      sessions = subst (All (HasAllOf c.close-closed.result.seen_log.log)) c.parted-sessions.ensures.sessions closed.sessions;
       outcomes = c.parted-sessions.ensures.outcomes;
       store = record {
-        on = begins_with last.reporter.log c.close-closed.result.trace.log c.keep_store-reporter.ensures.begun closed.reporter;
+        on = begins_with last.reporter.log c.close-closed.result.seen_log.log c.keep_store-reporter.ensures.begun closed.reporter;
         none = closed.none;
         disk = closed.disk;
         reported = closed.reported;

@@ -2,4 +2,4 @@
 use Rattle.overlay_server.proofs.serving.serve.Given as goal
 
 abbrev pub ghosts-serve_in : goal.ghosts-serve_in
-ghosts-serve_in g a = record { book = a.opened.trace.book }
+ghosts-serve_in g a = record { book = a.opened.seen_log.book }

@@ -2,4 +2,4 @@
 use Rattle.server_tests.proofs.books.run_script.Given as goal
 
 abbrev pub ghosts-run_in : goal.ghosts-run_in
-ghosts-run_in g a = record { book = a.history.trace.book }
+ghosts-run_in g a = record { book = a.history.seen_log.book }

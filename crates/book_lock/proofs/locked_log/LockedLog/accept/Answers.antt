@@ -5,7 +5,7 @@ use Rattle.std.specs.Arc.{arc_value}
 use Rattle.overlay_terms.specs.Histories.{accepted, commands_of, FollowsBatch}
 use Rattle.layer_book.specs.Command.{command}
 use Rattle.book_history.specs.Logs.{newest_in}
-use Rattle.book_history.specs.Trails.{Trail}
+use Rattle.book_history.specs.BookLogs.{BookLog}
 use Rattle.book_history.proofs.Fronts.{prefix_trans}
 use Rattle.book_history.proofs.Gone.{passed}
 use Rattle.book_history.proofs.Owned.{own_le, own_then}
@@ -33,16 +33,16 @@ made_one-requires g c =
     let me = c.args.me.now in
     let last = c.last-last in
     let batch = map command c.args.changes.now in
-    let now = ap (λ t. t.log) last.ensures.trace ∙ c.in_ok-add.ensures.ok in
+    let now = ap (λ t. t.log) last.ensures.seen_log ∙ c.in_ok-add.ensures.ok in
     let number = c.number-accepted.ensures.value ∙ ap (λ v. v.number) (c.deref.ensures ∙ last.ensures.version) in
     let level = c.requires.level.has_all in
     record {
-      newest = ap (λ (t : Trail). (newest_in t.log).number) last.ensures.trace ∙ sym number;
-      book = ap (λ t. t.book) last.ensures.trace ∙ sym c.requires.book;
+      newest = ap (λ (t : BookLog). (newest_in t.log).number) last.ensures.seen_log ∙ sym number;
+      book = ap (λ t. t.book) last.ensures.seen_log ∙ sym c.requires.book;
       longer = subst (λ l. IsPrefix me.log l) (sym now) (prefix_trans me.log c.args.self.now _ level.longer (_, refl));
       own = (
         batch,
-        own_then me.session _ c.args.self.now last.result.now.trace.log me.made batch _ c.number-by.ensures.value now level.own,
+        own_then me.session _ c.args.self.now last.result.now.seen_log.log me.made batch _ c.number-by.ensures.value now level.own,
       );
       room = omega (arith, own_le me.session c.args.self.now, ap length level.own, c.in_ok-add.ensures.room);
     }
@@ -53,7 +53,7 @@ returns g c =
     let by = c.args.me.now.session in
     let is = c.in_ok-add.ensures.ok in
     let new = newest_of c.args.self.now c.add.new.self _ is in
-    let log = ap (λ t. t.log) c.last-last.ensures.trace in
+    let log = ap (λ t. t.log) c.last-last.ensures.seen_log in
     let made = ap (λ k. k.made) c.made_one.ensures in
     let own = c.requires.level.has_all.own in
     let number = c.number-by.ensures.value in
@@ -65,7 +65,7 @@ returns g c =
       );
       seen = ap (λ k. k.log) c.made_one.ensures ∙ log;
       made = (
-        made ∙ own_then by _ c.args.self.now c.last-last.result.now.trace.log c.args.me.now.made batch _ number (log ∙ is) own,
+        made ∙ own_then by _ c.args.self.now c.last-last.result.now.seen_log.log c.args.me.now.made batch _ number (log ∙ is) own,
         ap (commands_of by) (sym log) ∙ sym made,
         c.last-last.ensures.log,
       );

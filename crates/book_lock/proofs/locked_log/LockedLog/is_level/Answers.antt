@@ -9,15 +9,15 @@ is_level-requires g c =
     let by = c.number-by.ensures.value in
     let shown = c.published.ensures in
     record {
-      book = ap (λ p. p.trace.book) shown ∙ c.self.invariant.1 ∙ sym c.requires;
-      count = c.self.invariant.3 c.number-by.result c.if-by-lt4.true ∙ (λ i. length (commands_of (by i) (sym shown i).trace.log));
+      book = ap (λ p. p.seen_log.book) shown ∙ c.self.invariant.1 ∙ sym c.requires;
+      count = c.self.invariant.3 c.number-by.result c.if-by-lt4.true ∙ (λ i. length (commands_of (by i) (sym shown i).seen_log.log));
     }
 
 pub returns-then-by-lt4 : goal.returns-then-by-lt4
 returns-then-by-lt4 g c =
     let me = c.args.me.now in
     let level = c.is_level.ensures in
-    let log = ap (λ p. p.trace.log) c.published.ensures ∙ c.self.view_is in
+    let log = ap (λ p. p.seen_log.log) c.published.ensures ∙ c.self.view_is in
     record {
       longer = λ yes. subst (λ l. IsPrefix me.log l) log (level.longer yes);
       own = λ yes. ap (commands_of me.session) (sym log) ∙ level.own yes;

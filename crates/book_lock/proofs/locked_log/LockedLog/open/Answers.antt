@@ -2,7 +2,7 @@ use Rattle.std.proofs.Common.{◌∙◌, length, drop, ap, sym, refl, inl, arith
 use Rattle.std.proofs.lemmas.Result.{IfOk-from_err}
 use Rattle.overlay_terms.specs.Histories.{commands_of}
 use Rattle.book_history.specs.Logs.{newest_in}
-use Rattle.book_history.specs.Trails.{Trail}
+use Rattle.book_history.specs.BookLogs.{BookLog}
 use Rattle.book_lock.specs.Steps.{beginners}
 use Rattle.book_lock.proofs.Beginning.{none_yet}
 use Rattle.book_history.proofs.Gone.{passed}
@@ -17,11 +17,11 @@ returns-in_err-version g c =
     }
 
 pub invariant_of-begun : goal.invariant_of-begun
-invariant_of-begun g c = record { last = c.in_ok-version.ensures.ok ∙ sym (ap newest_in c.requires.trace.1) }
+invariant_of-begun g c = record { last = c.in_ok-version.ensures.ok ∙ sym (ap newest_in c.requires.seen_log.1) }
 
 pub first_publisher-requires : goal.first_publisher-requires
 first_publisher-requires g c =
-    record { begun = omega (arith, ap length c.requires.trace.1); readers = (omega arith, omega (arith, c.requires.sessions.1)) }
+    record { begun = omega (arith, ap length c.requires.seen_log.1); readers = (omega arith, omega (arith, c.requires.sessions.1)) }
 
 pub returns-in_default : goal.returns-in_default
 returns-in_default g c = record { log = tt; sessions = tt; err = inl refl }
@@ -29,17 +29,17 @@ returns-in_default g c = record { log = tt; sessions = tt; err = inl refl }
 pub beginners-list-requires : goal.beginners-list-requires
 beginners-list-requires g c = record {
   known = c.in-Some.ensures.2 ∙ sym c.again-first.ensures;
-  newest = ap (λ (t : Trail). (newest_in t.log).number) c.again-first.ensures
-      ∙ ap (λ l. (newest_in l).number) c.requires.trace.1 ∙ sym c.number-number.ensures.value;
+  newest = ap (λ (t : BookLog). (newest_in t.log).number) c.again-first.ensures
+      ∙ ap (λ l. (newest_in l).number) c.requires.seen_log.1 ∙ sym c.number-number.ensures.value;
 }
 
 pub invariant_of-log : goal.invariant_of-log
 invariant_of-log g c =
     let kept = c.beginners-list.ensures.kept in
-    let shown = ap (λ s. s.value.trace) kept.0 ∙ c.in-Some.ensures.0 in
-    let log = ap (λ (t : Trail). t.log) shown ∙ c.requires.trace.1 in (
+    let shown = ap (λ s. s.value.seen_log) kept.0 ∙ c.in-Some.ensures.0 in
+    let log = ap (λ (t : BookLog). t.log) shown ∙ c.requires.seen_log.1 in (
       c.requires.head,
-      ap (λ (t : Trail). t.book) shown ∙ c.requires.trace.0,
+      ap (λ (t : BookLog). t.book) shown ∙ c.requires.seen_log.0,
       (λ i. drop (kept.2 i) (kept.1 i).items) ∙ c.in-Some.ensures.1,
       (λ by low. none_yet by ∙ sym (ap (λ l. length (commands_of by l)) log)),
     )
@@ -54,8 +54,8 @@ returns-in_err-list g c =
 
 pub returns : goal.returns
 returns g c =
-    let shown = ap (λ s. s.value.trace) c.beginners-list.ensures.kept.0 ∙ c.in-Some.ensures.0 in record {
-      log = ap (λ (t : Trail). t.log) shown;
+    let shown = ap (λ s. s.value.seen_log) c.beginners-list.ensures.kept.0 ∙ c.in-Some.ensures.0 in record {
+      log = ap (λ (t : BookLog). t.log) shown;
       sessions = c.in_ok-list.ensures.given ∙ ap (λ t. beginners t c.args.sessions) c.again-first.ensures;
       err = tt;
     }

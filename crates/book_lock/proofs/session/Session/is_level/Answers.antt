@@ -12,13 +12,13 @@ returns-then-at c =
     let by = ap (λ k. k.session) c.self.view_is in
     let made = ap (λ k. k.made) c.self.view_is in
     let log = c.args.now.now.log in
-    let p : IsPrefix c.self.inside.trace.log log = c.compare.ensures.back (omega (arith, c.at.ensures.length, c.at-2.ensures.length, c.if-at.true)) in
+    let p : IsPrefix c.self.inside.seen_log.log log = c.compare.ensures.back (omega (arith, c.at.ensures.length, c.at-2.ensures.length, c.if-at.true)) in
     let commands = ap (λ b. commands_of b log) (sym by) in
     let count : c.args.count ≡ length (commands_of c.self.inside.number log) = c.requires.count ∙ ap length commands in
     let long = ap length (sym made) ∙ length-take-le c.self.inside.count _ c.self.invariant.0 in
     record {
       longer = λ _. subst (λ l. IsPrefix l log) (ap (λ k. k.log) c.self.view_is) p;
-      own = λ yes. commands ∙ own_level c.self.inside.number c.self.inside.count c.self.inside.trace.log log p c.self.invariant.0 (eqb-true c.self.inside.count c.args.count yes ∙ count) ∙ made;
+      own = λ yes. commands ∙ own_level c.self.inside.number c.self.inside.count c.self.inside.seen_log.log log p c.self.invariant.0 (eqb-true c.self.inside.count c.args.count yes ∙ count) ∙ made;
       count = λ yes. sym (long ∙ eqb-true c.self.inside.count c.args.count yes);
       level = λ _ own. eq-eqb c.self.inside.count c.args.count (sym (c.requires.count ∙ ap length own ∙ long));
     }

@@ -18,7 +18,7 @@ returns-in_default g c = record {
 
 pub new-job-requires : goal.new-job-requires
 new-job-requires g c =
-    let log = ap (λ t. t.log) (c.again.ensures ∙ c.last.ensures.trace) in
+    let log = ap (λ t. t.log) (c.again.ensures ∙ c.last.ensures.seen_log) in
     job_of _ _ _ _ _ _ _ _ log c.last.ensures.log c.in-Ok.ensures.0 c.in-Ok.ensures.1 c.in-Some.ensures.some
 
 pub returns-in_default-parts : goal.returns-in_default-parts
@@ -48,7 +48,7 @@ returns-then-is_err g c =
 pub returns : goal.returns
 returns g c =
     let is_open : c.args.self.now.standing.closing ≡ false = search rules in
-    let log = ap (λ t. t.log) (c.again.ensures ∙ c.last.ensures.trace) in
+    let log = ap (λ t. t.log) (c.again.ensures ∙ c.last.ensures.seen_log) in
     let job = job_of _ _ _ _ _ _ _ _ log c.last.ensures.log c.in-Ok.ensures.0 c.in-Ok.ensures.1 c.in-Some.ensures.some in
     let named = ap (λ j. j.name) c.new-job.ensures ∙ c.in-Ok.ensures.0 in
     let present = ap (λ j. j.input) c.new-job.ensures ∙ c.in-Ok.ensures.1 in
@@ -60,7 +60,7 @@ returns g c =
       log = refl;
       job = handed_of _ _ _ _ _ _ named present c.in-Some.ensures.some;
       at = (
-        ap (λ j. j.book) c.new-job.ensures ∙ ap (λ t. t.book) (c.again.ensures ∙ c.last.ensures.trace),
+        ap (λ j. j.book) c.new-job.ensures ∙ ap (λ t. t.book) (c.again.ensures ∙ c.last.ensures.seen_log),
         ap (λ j. j.log) c.new-job.ensures ∙ log,
         subst IsJob (sym c.new-job.ensures) job,
       );

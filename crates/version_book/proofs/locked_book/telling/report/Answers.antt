@@ -3,7 +3,7 @@ use Rattle.std.proofs.lemmas.Result.{IfOk-from_err}
 use Rattle.version_book.specs.Heard.{HasHeard}
 use Rattle.book_history.specs.Logs.{newest_in}
 use mathlib.Core.List.{IsPrefix}
-use Rattle.book_history.specs.Trails.{Trail}
+use Rattle.book_history.specs.BookLogs.{BookLog}
 use Rattle.book_history.proofs.Fronts.{prefix_trans}
 use Rattle.book_history.proofs.Gone.{passed}
 use Rattle.book_lock.proofs.Growing.{report_longer}
@@ -14,20 +14,20 @@ pub is_level-requires : goal.is_level-requires
 is_level-requires g c =
     let last = c.last-last.ensures in
     record {
-      book = ap (λ t. t.book) last.trace ∙ sym c.requires.book;
-      durable = durable_there _ _ _ _ _ last.trace last.version c.deref.ensures c.durable.ensures.value;
+      book = ap (λ t. t.book) last.seen_log ∙ sym c.requires.book;
+      durable = durable_there _ _ _ _ _ last.seen_log last.version c.deref.ensures c.durable.ensures.value;
     }
 
 pub move_on-requires : goal.move_on-requires
 move_on-requires g c =
-    let last = c.last.ensures.trace in
-    let was = ap (λ t. t.log) c.last-last.ensures.trace in
+    let last = c.last.ensures.seen_log in
+    let was = ap (λ t. t.log) c.last-last.ensures.seen_log in
     let heard = subst (λ l. HasHeard l c.args.me.now) was (c.if-not-is_level.ensures.0 refl) in
     let more = report_longer _ _ _ c.in_ok-durable.ensures.ok.0 in
     record {
       durable = ap (λ t. (newest_in t.log).durable) last ∙ c.in_ok-durable.ensures.ok.1;
       book = ap (λ t. t.book) last ∙ sym c.requires.book;
-      longer = subst (λ (t : Trail). IsPrefix c.args.me.now.log t.log) (sym last) (prefix_trans _ _ _ heard.longer more);
+      longer = subst (λ (t : BookLog). IsPrefix c.args.me.now.log t.log) (sym last) (prefix_trans _ _ _ heard.longer more);
     }
 
 pub returns-then-not-is_level : goal.returns-then-not-is_level
@@ -37,7 +37,7 @@ returns-then-not-is_level g c =
 pub returns-in_err-durable : goal.returns-in_err-durable
 returns-in_err-durable g c =
     let failed = c.from_residual.ensures in
-    let log = ap (λ t. t.log) c.last-last.ensures.trace in
+    let log = ap (λ t. t.log) c.last-last.ensures.seen_log in
     let e = c.in_err-durable.ensures.err in
     record {
       ok = IfOk-from_err _ _ failed.0;
@@ -50,13 +50,13 @@ returns-in_err-durable g c =
 
 pub returns : goal.returns
 returns g c =
-    let log = ap (λ t. t.log) c.last-last.ensures.trace in
+    let log = ap (λ t. t.log) c.last-last.ensures.seen_log in
     let last = c.last.ensures in
     record {
       ok = c.in_ok-durable.ensures.ok;
       seen = (
         subst (λ l. HasHeard l c.args.me.now) log (c.if-not-is_level.ensures.0 refl),
-        moved c.args.me.now _ _ _ _ _ _ c.move_on.ensures last.trace c.given-given.ensures.value,
+        moved c.args.me.now _ _ _ _ _ _ c.move_on.ensures last.seen_log c.given-given.ensures.value,
         last.log,
       );
       begun = c.given-given.ensures.begun;

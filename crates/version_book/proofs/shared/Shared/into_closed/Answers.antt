@@ -1,7 +1,7 @@
 use Rattle.std.proofs.Common.{ap, refl, sym, subst}
 use Rattle.std.specs.List.{All}
 use Rattle.version_book.specs.Heard.{HasHeard}
-use Rattle.book_history.specs.Trails.{Trail}
+use Rattle.book_history.specs.BookLogs.{BookLog}
 use Rattle.book_lock.specs.Steps.{HasAllOf}
 use Rattle.version_book.proofs.shared.Shared.into_closed.Goals as goal
 
@@ -12,7 +12,7 @@ returns g c =
     record {
       version = e.version;
       log = (ap (λ t. t.book) e.log.0, e.log.1);
-      reporter = subst (λ (t : Trail). HasHeard t.log c.args.reporter.now) (sym e.log.0) (all.reporter refl);
-      sessions = subst (λ (t : Trail). All (HasAllOf t.log) c.args.sessions.now) (sym e.log.0) (all.sessions refl);
+      reporter = subst (λ (t : BookLog). HasHeard t.log c.args.reporter.now) (sym e.log.0) (all.reporter refl);
+      sessions = subst (λ (t : BookLog). All (HasAllOf t.log) c.args.sessions.now) (sym e.log.0) (all.sessions refl);
       durable = e.durable;
     }

@@ -2,7 +2,7 @@ use Rattle.std.proofs.Common.{◌≡◌, length, refl, ap, sym, ◌∙◌, subst
 use Rattle.std.specs.List.{All}
 use Rattle.book_history.specs.Known.{Known}
 use Rattle.book_history.specs.Logs.{newest_in}
-use Rattle.book_history.specs.Trails.{Trail}
+use Rattle.book_history.specs.BookLogs.{BookLog}
 use Rattle.book_lock.proofs.Beginning.{all_begin, count_of}
 use Rattle.book_history.proofs.Gone.{passed}
 use Rattle.version_book.proofs.Told.{gone_ok}
@@ -10,7 +10,7 @@ use Rattle.version_book.proofs.shared.Shared.start.Goals as goal
 
 pub new-reporter-requires : goal.new-reporter-requires
 new-reporter-requires g c =
-    ap (λ (t : Trail). (newest_in t.log).durable) c.again.ensures ∙ ap (λ l. (newest_in l).durable) c.requires.trace.1
+    ap (λ (t : BookLog). (newest_in t.log).durable) c.again.ensures ∙ ap (λ l. (newest_in l).durable) c.requires.seen_log.1
     ∙ sym c.durable.ensures.value
 
 pub returns-in_err-log : goal.returns-in_err-log
@@ -35,9 +35,9 @@ returns g c =
       reporter = begun;
       sessions = all;
       of_book = subst (All (λ (session : Known). session.book ≡ g.J.Naming.book)) (sym all)
-          (all_begin c.args.trace g.J.Naming.book c.args.sessions c.requires.trace.0);
-      reporter_of_book = ap (λ h. h.book) begun ∙ c.requires.trace.0;
-      count = ap length all ∙ count_of c.args.trace c.args.sessions;
+          (all_begin c.args.seen_log g.J.Naming.book c.args.sessions c.requires.seen_log.0);
+      reporter_of_book = ap (λ h. h.book) begun ∙ c.requires.seen_log.0;
+      count = ap length all ∙ count_of c.args.seen_log c.args.sessions;
       store = refl;
       err = tt;
     }

@@ -7,28 +7,28 @@ use Rattle.logbook.specs.Pages.{Book}
 use Rattle.overlay_terms.specs.Histories.{Entry}
 
 -- which history, and its first entries
-pub record Trail : Type 0 where
+pub record BookLog : Type 0 where
   pub book : Book
   pub log : List Entry
 
 abbrev pub no_book : Book
 no_book = record { number = 0; log_name = 0; cells_name = 0 }
 
-abbrev pub newcomer : Trail
+abbrev pub newcomer : BookLog
 newcomer = record { book = no_book; log = [] }
 
 -- t begins with v
-abbrev pub Within : Trail → Trail → Type 0
+abbrev pub Within : BookLog → BookLog → Type 0
 Within v t = (0 < length v.log → v.book ≡ t.book) × IsPrefix v.log t.log
 
--- the trail that is published begins with what each place has seen
-abbrev pub AllWithin : Trail → List Trail → Type 0
-AllWithin t views = (seat : ℕ) (v : Trail) → get_elem? views seat ≡ some v → Within v t
+-- the book_log that is published begins with what each place has seen
+abbrev pub AllWithin : BookLog → List BookLog → Type 0
+AllWithin t views = (seat : ℕ) (v : BookLog) → get_elem? views seat ≡ some v → Within v t
 
 -- t begins with v, which is a log of some length
-abbrev pub Begins : Trail → Trail → Type 0
+abbrev pub Begins : BookLog → BookLog → Type 0
 Begins v t = (0 < length v.log) × (v.book ≡ t.book) × IsPrefix v.log t.log
 
--- a trail of some length, of this history
-abbrev pub IsOf : Book → Trail → Type 0
+-- a book_log of some length, of this history
+abbrev pub IsOf : Book → BookLog → Type 0
 IsOf book t = (0 < length t.log) × (t.book ≡ book)
