@@ -3,7 +3,6 @@ pub mod Chains
 pub mod Fronts
 pub mod Gone
 pub mod Holding
-pub mod Marking
 pub mod Owned
 pub mod Publishing
 pub mod Sent

@@ -19,11 +19,11 @@ pub at_taken : {T E : Type 0} (P : T → Type 0) (Q : E → Type 0) (r : Result 
 at_taken P Q (Ok y) o x is some h = subst P (cc (is, some)) h
 at_taken P Q (Err e) o x is some h = absurd (cc (is, some))
 
--- a book_log that begins with what a place of a book has seen is of that book
+-- a log that begins with what a place of a book has seen is of that book
 pub same_book : (book : Book) (v t : BookLog) → IsOf book v → Within v t → t.book ≡ book
 same_book book v t of within = sym (within.0 of.0) ∙ of.1
 
--- of two book_logs of one book the one that is no longer begins the other
+-- of two logs of one book the one that is no longer begins the other
 pub begins_level : (v t u : BookLog) (m n : ℕ) → n + 1 ≡ length v.log → m + 1 ≡ length t.log → n ≤ m → t.book ≡ v.book
     → (length v.log ≤ length t.log → IsPrefix v.log t.log) → u ≡ t → Begins v u
 begins_level v t u m n v_long t_long le same pre is =

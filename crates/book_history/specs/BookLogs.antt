@@ -21,7 +21,7 @@ newcomer = record { book = no_book; log = [] }
 abbrev pub Within : BookLog → BookLog → Type 0
 Within v t = (0 < length v.log → v.book ≡ t.book) × IsPrefix v.log t.log
 
--- the book_log that is published begins with what each place has seen
+-- the log that is published begins with what each place has seen
 abbrev pub AllWithin : BookLog → List BookLog → Type 0
 AllWithin t views = (seat : ℕ) (v : BookLog) → get_elem? views seat ≡ some v → Within v t
 
@@ -29,6 +29,6 @@ AllWithin t views = (seat : ℕ) (v : BookLog) → get_elem? views seat ≡ some
 abbrev pub Begins : BookLog → BookLog → Type 0
 Begins v t = (0 < length v.log) × (v.book ≡ t.book) × IsPrefix v.log t.log
 
--- a book_log of some length, of this history
+-- a log of some length, of this history
 abbrev pub IsOf : Book → BookLog → Type 0
 IsOf book t = (0 < length t.log) × (t.book ≡ book)

@@ -7,6 +7,3 @@ pub mod KnownCodes
 pub mod Known
 pub mod Rules
 pub mod BookLogs
-pub mod HeldTiles
-pub mod Standing
-pub mod Free

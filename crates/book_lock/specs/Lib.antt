@@ -5,4 +5,3 @@ pub use Rattle.book_history.specs.Logs
 pub use Rattle.book_history.specs.Rules
 pub use Rattle.book_history.specs.BookLogs
 pub use Rattle.book_history.specs.Causes
-pub use Rattle.book_history.specs.Standing

@@ -2,3 +2,4 @@ pub mod Results
 pub mod Sent
 pub mod SentBook
 pub mod Told
+pub mod Marking

@@ -13,7 +13,7 @@ use Rattle.book_history.specs.Known.{Known, seen, IsOwn}
 use Rattle.book_lock.specs.Steps.{HasLooked, IsReportedIn}
 use Rattle.version_book.specs.Heard.{Heard, HasHeard, IsReportedBy}
 use Rattle.version_book.specs.Waits.{IsSyncRefused, IsSyncRefusedAt, IsWaitRefused, Looks}
-use Rattle.book_history.specs.declared.standing.Standing.{Standing}
+use Rattle.version_book.specs.declared.standing.Standing.{Standing}
 use Rattle.book_history.specs.declared.fault.BookFault.{BookFault}
 use Rattle.book_history.specs.declared.fault.BookFault.TheVariants as fault
 use Rattle.book_history.proofs.Chains.{begins_with, commands_in_log, is_history}

@@ -5,7 +5,7 @@ use denote.Struct.Declared.{shape}
 use denote.Struct.Struct.{Struct}
 use Rattle.std.proofs.Crossing.{crosses}
 use Rattle.book_history.specs.declared.seen_log.Naming as naming
-use Rattle.book_history.proofs.standing.Standing.TheSendSync as standing
+use Rattle.version_book.proofs.standing.Standing.TheSendSync as standing
 use Rattle.book_lock.proofs.SentLog.{log_send}
 use Rattle.version_book.specs.contracts.shared.Shared as shared
 use Rattle.version_book.specs.contracts.locked_book.LockedBook as locked

@@ -11,12 +11,12 @@ use Rattle.overlay_terms.specs.Tiles.{Input, input_of}
 use Rattle.layer_book.specs.BatchFault.{code_of}
 use Rattle.layer_book.specs.declared.batch_fault.BatchFault.{BatchFault}
 use Rattle.book_history.specs.Fault.{IfBatchGone, IfGone, IsBatchRefused, IsRefused, whole}
-use Rattle.book_history.specs.Free.{IsFree}
+use Rattle.version_book.specs.Free.{IsFree}
 use Rattle.book_history.specs.Known.{Known}
 use Rattle.book_history.specs.Logs.{newest_in, IsLog}
 use Rattle.book_history.specs.BookLogs.{BookLog}
-use Rattle.book_history.specs.declared.held_tiles.HeldTile.{HeldTile}
-use Rattle.book_history.specs.declared.standing.Standing.{Standing}
+use Rattle.version_book.specs.declared.held_tiles.HeldTile.{HeldTile}
+use Rattle.version_book.specs.declared.standing.Standing.{Standing}
 use Rattle.book_history.specs.declared.fault.BookFault.{BookFault}
 use Rattle.book_history.specs.declared.fault.BookFault.TheVariants as fault
 use Rattle.book_lock.specs.Steps.{HasLooked}

@@ -11,8 +11,8 @@ use Rattle.overlay_terms.specs.CommandCode.{name_code}
 use Rattle.book_history.specs.Codes.{entry_code}
 use Rattle.book_history.specs.Logs.{newest_in, IsLog}
 use Rattle.book_lock.specs.Steps.{IsFinishedIn}
-use Rattle.book_history.specs.HeldTiles.{is_held}
-use Rattle.book_history.specs.declared.held_tiles.HeldTile.{HeldTile}
+use Rattle.version_book.specs.HeldTiles.{is_held}
+use Rattle.version_book.specs.declared.held_tiles.HeldTile.{HeldTile}
 
 -- which book a job is of, the log at which it was handed out, the name of its layer, and what its tile is built from
 pub record Handed : Type 0 where

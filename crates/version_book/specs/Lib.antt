@@ -8,3 +8,6 @@ pub use Rattle.book_history.specs.Known
 pub use Rattle.book_history.specs.Logs
 pub use Rattle.book_history.specs.Rules
 pub use Rattle.book_history.specs.BookLogs
+pub mod HeldTiles
+pub mod Standing
+pub mod Free

@@ -8,11 +8,11 @@ use Rattle.version_core.specs.declared.fault.VersionFault.TheVariants.{Layer}
 use Rattle.book_history.specs.declared.fault.BookFault.{BookFault}
 use Rattle.book_history.specs.declared.fault.BookFault.TheVariants as fault
 use Rattle.book_history.specs.Fault.{IfGone}
-use Rattle.book_history.specs.Free.{AllAreHeld}
+use Rattle.version_book.specs.Free.{AllAreHeld}
 use Rattle.book_history.specs.Known.{Known}
-use Rattle.book_history.specs.HeldTiles.{has_mark, unmarked_of}
-use Rattle.book_history.specs.Standing.{HasHeld}
-use Rattle.book_history.specs.declared.standing.Standing.{Standing}
+use Rattle.version_book.specs.HeldTiles.{has_mark, unmarked_of}
+use Rattle.version_book.specs.Standing.{HasHeld}
+use Rattle.version_book.specs.declared.standing.Standing.{Standing}
 use Rattle.book_lock.specs.Steps.{HasLooked}
 use Rattle.version_book.specs.declared.locked_book.telling.Awaited.{Awaited}
 use Rattle.version_book.specs.declared.locked_book.telling.Awaited.TheVariants.{Tile, Built, Durable, News}

@@ -2,9 +2,12 @@
 #![tactic(auto)]
 
 pub mod crossing;
+mod held_tiles;
 mod locked_book;
+mod pending;
 pub mod reporter;
 pub mod shared;
+mod standing;
 mod turns;
 
 /// What is left of a book that closes.

@@ -5,13 +5,13 @@ ghost use Rattle.overlay_terms.specs.Histories.{commands_of};
 ghost use Rattle.layer_book.specs.Command.{command};
 ghost use Rattle.book_history.specs.Fault.{IfBatchGone, IfGone, IsBatchRefused, IsRefused, no_memory, whole};
 ghost use Rattle.book_history.specs.Logs.{newest_in, IsLog};
-ghost use Rattle.book_history.specs.Standing.{IsAfterCommand, IsAfterFinish};
+ghost use Rattle.version_book.specs.Standing.{IsAfterCommand, IsAfterFinish};
 ghost use Rattle.book_lock.specs.Steps.{HasLooked, IsAcceptedIn, IsFinishedIn};
 
 use crate::locked_book::job::Job;
+use crate::standing::Standing;
 use book_history::fault::BookFault;
 use book_history::seen_log::{Naming, SeenLog};
-use book_history::standing::Standing;
 use book_lock::locked_log::LockedLog;
 use book_lock::session::Session;
 use layer_book::batch::Batch;

@@ -22,10 +22,10 @@ use crate::locked_book::telling::{
     Awaited, report, store_failed, tell_built, tell_durable, tell_news, tell_no_store,
 };
 use crate::reporter::Reporter;
+use crate::standing::Standing;
 use crate::turns::Turns;
 use book_history::fault::{BookFault, ToldFault};
 use book_history::seen_log::{Head, Naming, SeenLog};
-use book_history::standing::Standing;
 use book_lock::locked_log::LockedLog;
 use book_lock::session::Session;
 use layer_book::batch::Batch;

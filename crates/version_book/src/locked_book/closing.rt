@@ -2,7 +2,7 @@
 ghost use Rattle.std.specs.Prelude.{◌≡◌, ◌≤◌, All, IsTrue};
 ghost use Rattle.std.specs.Arc.{arc_value};
 ghost use Rattle.book_history.specs.Logs.{newest_in, IsLog};
-ghost use Rattle.book_history.specs.Standing.{IsAfterClosing};
+ghost use Rattle.version_book.specs.Standing.{IsAfterClosing};
 ghost use Rattle.book_lock.specs.Steps.{HasAllOf, IsLevel};
 ghost use Rattle.version_book.specs.Heard.{HasHeard};
 

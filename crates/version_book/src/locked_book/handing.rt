@@ -3,19 +3,19 @@ ghost use Rattle.std.specs.Prelude.{◌≡◌, IsTrue, None, Ok, IfOk, IfErr, If
 ghost use Rattle.overlay_terms.specs.Commands.{stands_as_derived};
 ghost use Rattle.overlay_terms.specs.Tiles.{input_of};
 ghost use Rattle.book_history.specs.Fault.{no_memory};
-ghost use Rattle.book_history.specs.Free.{AllAreHeld, IsFree};
+ghost use Rattle.version_book.specs.Free.{AllAreHeld, IsFree};
 ghost use Rattle.book_history.specs.Logs.{newest_in};
-ghost use Rattle.book_history.specs.HeldTiles.{given_back, handed_out};
-ghost use Rattle.book_history.specs.Standing.{HasHeld};
+ghost use Rattle.version_book.specs.HeldTiles.{given_back, handed_out};
+ghost use Rattle.version_book.specs.Standing.{HasHeld};
 ghost use Rattle.version_book.specs.Jobs.{IsHandedOut, IsJob};
 ghost use Rattle.version_book.specs.Waits.{IsIdle};
 
 use crate::locked_book::LockedBook;
 use crate::locked_book::job::Job;
+use crate::pending::{free, parts};
 use arrange::tile_input::TileInput;
 use book_history::fault::BookFault;
 use book_history::making::NO_MEMORY;
-use book_history::pending::{free, parts};
 use book_history::seen_log::Naming;
 use layer_expr::name::Name;
 use plane_base::Column;

@@ -3,7 +3,7 @@ ghost use Rattle.std.specs.Prelude.{◌≡◌, ◌⊎◌, ◌<◌, ◌≤◌, �
 ghost use Rattle.std.specs.Arc.{arc_value};
 ghost use Rattle.book_history.specs.Fault.{IfGone, no_memory};
 ghost use Rattle.book_history.specs.Logs.{newest_in, IsLog};
-ghost use Rattle.book_history.specs.Standing.{IsAfterFailure};
+ghost use Rattle.version_book.specs.Standing.{IsAfterFailure};
 ghost use Rattle.book_lock.specs.Steps.{IsLevel, IsReportedIn};
 ghost use Rattle.version_book.specs.Heard.{HasHeard};
 ghost use Rattle.version_book.specs.Waits.{IsAfterTold, IsBuilding, IsBuiltAt, IsIdle, IsQuiet, IsSyncRefusedAt};

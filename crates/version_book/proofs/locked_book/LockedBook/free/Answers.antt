@@ -1,5 +1,5 @@
 use Rattle.std.proofs.Common.{IfNone, IfSome, subst, ◌∙◌}
-use Rattle.book_history.specs.Free.{AllAreHeld, IsFree}
+use Rattle.version_book.specs.Free.{AllAreHeld, IsFree}
 use Rattle.version_book.proofs.locked_book.LockedBook.free.Goals as goal
 
 pub returns : goal.returns

@@ -3,8 +3,8 @@ use Rattle.std.specs.Prelude.{IsTrue}
 use Rattle.std.specs.List.{All}
 use Rattle.overlay_terms.specs.Layers.{Layer}
 use Rattle.overlay_terms.specs.Commands.{stands_as_derived}
-use Rattle.book_history.specs.Free.{AreHeld}
-use Rattle.book_history.proofs.pending.free.Given as goal
+use Rattle.version_book.specs.Free.{AreHeld}
+use Rattle.version_book.proofs.pending.free.Given as goal
 
 -- the tiles of the layers before this one are finished or held
 abbrev pub invariant-loop-place : goal.invariant-loop-place

@@ -1,7 +1,7 @@
 use Rattle.std.proofs.Common.{ap, sym, ◌∙◌, ◌≤◌, length, subst}
-use Rattle.book_history.specs.HeldTiles.{marked_if}
-use Rattle.book_history.proofs.Marking.{change_at, changed_all}
-use Rattle.book_history.proofs.held_tiles.HeldTiles.give_back.Goals as goal
+use Rattle.version_book.specs.HeldTiles.{marked_if}
+use Rattle.version_book.proofs.Marking.{change_at, changed_all}
+use Rattle.version_book.proofs.held_tiles.HeldTiles.give_back.Goals as goal
 
 pub loop-tile-preserved : goal.loop-tile-preserved
 loop-tile-preserved c =

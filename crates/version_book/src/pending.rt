@@ -4,8 +4,8 @@ ghost use Rattle.overlay_terms.specs.Column.{column_count};
 ghost use Rattle.overlay_terms.specs.Commands.{stands_as_derived};
 ghost use Rattle.overlay_terms.specs.Histories.{tile_at};
 ghost use Rattle.overlay_terms.specs.Tiles.{input_of};
-ghost use Rattle.book_history.specs.Free.{AllAreHeld, AreHeld, IsFree};
-ghost use Rattle.book_history.specs.HeldTiles.{is_held};
+ghost use Rattle.version_book.specs.Free.{AllAreHeld, AreHeld, IsFree};
+ghost use Rattle.version_book.specs.HeldTiles.{is_held};
 
 use crate::held_tiles::HeldTiles;
 use arrange::tile_input::TileInput;

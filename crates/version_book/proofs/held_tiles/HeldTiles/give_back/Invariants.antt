@@ -1,6 +1,6 @@
 use Rattle.std.proofs.Common.{◌≡◌, ◌++◌, take, drop}
-use Rattle.book_history.specs.HeldTiles.{given_back}
-use Rattle.book_history.proofs.held_tiles.HeldTiles.give_back.Given as goal
+use Rattle.version_book.specs.HeldTiles.{given_back}
+use Rattle.version_book.proofs.held_tiles.HeldTiles.give_back.Given as goal
 
 abbrev pub invariant-loop-tile : goal.invariant-loop-tile
 invariant-loop-tile l = l.tile-items ≡ given_back l.name l.column (take l.tile-index l.fn.self.list.items) ++ drop l.tile-index l.fn.self.list.items

@@ -6,10 +6,10 @@ use Rattle.std.proofs.lemmas.List.{take_all}
 use Rattle.overlay_terms.specs.Layers.{Name, Layer}
 use Rattle.overlay_terms.specs.Commands.{stands_as_derived}
 use Rattle.layer_book.proofs.Lines.{none_there}
-use Rattle.book_history.specs.Free.{AreHeld}
+use Rattle.version_book.specs.Free.{AreHeld}
 use Rattle.book_history.proofs.Holding.{one_more, of_named}
-use Rattle.book_history.proofs.pending.free.Goals as goal
-use Rattle.book_history.proofs.pending.free.Goals.{in-Some+then-stands_as_derived+in_default-free_column, in-Some+else-stands_as_derived, in_default}
+use Rattle.version_book.proofs.pending.free.Goals as goal
+use Rattle.version_book.proofs.pending.free.Goals.{in-Some+then-stands_as_derived+in_default-free_column, in-Some+else-stands_as_derived, in_default}
 
 pub loop-place-preserved : goal.loop-place-preserved
 loop-place-preserved c =

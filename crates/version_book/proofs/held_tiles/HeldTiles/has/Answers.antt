@@ -1,8 +1,8 @@
 use Rattle.std.proofs.Common.{◌∙◌, rules, tests}
 use Rattle.std.proofs.lemmas.Iterator.{YieldsList-from_slice}
 use Rattle.std.proofs.lemmas.Iterator.Search.{any_from_yields_List}
-use Rattle.book_history.specs.HeldTiles.{is_of}
-use Rattle.book_history.proofs.held_tiles.HeldTiles.has.Goals as goal
+use Rattle.version_book.specs.HeldTiles.{is_of}
+use Rattle.version_book.proofs.held_tiles.HeldTiles.has.Goals as goal
 
 pub returns : goal.returns
 returns c =

@@ -2,7 +2,7 @@
 use Rattle.std.specs.Prelude.{ℕ, ◌==◌, Bool, true, false, ◌&&◌, ◌||◌, not, List, [], ◌∷◌, ◌++◌, filter, map, bytes_eq, if◌then◌else◌}
 use Rattle.std.specs.List.{list_any}
 use Rattle.overlay_terms.specs.Layers.{Name}
-use Rattle.book_history.specs.declared.held_tiles.HeldTile.{HeldTile}
+use Rattle.version_book.specs.declared.held_tiles.HeldTile.{HeldTile}
 
 -- whether it is this tile
 abbrev pub is_of : Name → ℕ → HeldTile → Bool

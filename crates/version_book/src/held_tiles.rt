@@ -1,7 +1,7 @@
 //! Tiles that are handed out, and tiles that wait for memory.
 ghost use Rattle.std.specs.Prelude.{◌≡◌, [], OnErr, OnOk};
-ghost use Rattle.book_history.specs.HeldTiles.{given_back, handed_out, has_mark, is_held, is_of, marked_if, taken_in};
-ghost use Rattle.book_history.specs.HeldTiles.{unmarked, unmarked_of};
+ghost use Rattle.version_book.specs.HeldTiles.{given_back, handed_out, has_mark, is_held, is_of, marked_if, taken_in};
+ghost use Rattle.version_book.specs.HeldTiles.{unmarked, unmarked_of};
 
 use layer_expr::name::Name;
 use plane_base::Column;

@@ -5,8 +5,8 @@ use Rattle.overlay_terms.specs.Layers.{Name}
 use Rattle.overlay_terms.specs.Commands.{stands_as_derived}
 use Rattle.overlay_terms.specs.Histories.{Version, tile_at}
 use Rattle.version_core.specs.Finish.{IsPending}
-use Rattle.book_history.specs.HeldTiles.{is_held}
-use Rattle.book_history.specs.declared.held_tiles.HeldTile.{HeldTile}
+use Rattle.version_book.specs.HeldTiles.{is_held}
+use Rattle.version_book.specs.declared.held_tiles.HeldTile.{HeldTile}
 
 -- a tile of a layer and column can be handed out: it is pending, and it is neither handed out nor marked
 pub record IsFree (version : Version) (held : List HeldTile) (name : Name) (column : ℕ) : Type 0 where

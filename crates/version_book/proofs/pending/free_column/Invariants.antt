@@ -1,7 +1,7 @@
 use Rattle.std.specs.Prelude.{◌≡◌, ℕ, ◌<◌, true, None}
 use Rattle.overlay_terms.specs.Histories.{tile_at}
-use Rattle.book_history.specs.HeldTiles.{is_held}
-use Rattle.book_history.proofs.pending.free_column.Given as goal
+use Rattle.version_book.specs.HeldTiles.{is_held}
+use Rattle.version_book.proofs.pending.free_column.Given as goal
 
 -- the tiles of the columns before this one are finished or held
 abbrev pub invariant-loop-number : goal.invariant-loop-number

@@ -1,11 +1,11 @@
 //! Where the book stands beside its log.
 ghost use Rattle.std.specs.Prelude.{◌≡◌};
-ghost use Rattle.book_history.specs.HeldTiles.{given_back, unmarked_of};
-ghost use Rattle.book_history.specs.Standing.{HasHeld, IsAfterClosing, IsAfterCommand, IsAfterFailure, IsAfterFinish};
-ghost use Rattle.book_history.specs.Standing.{IsFresh, left_over, told};
+ghost use Rattle.version_book.specs.HeldTiles.{given_back, unmarked_of};
+ghost use Rattle.version_book.specs.Standing.{HasHeld, IsAfterClosing, IsAfterCommand, IsAfterFailure, IsAfterFinish};
+ghost use Rattle.version_book.specs.Standing.{IsFresh, left_over, told};
 
-use crate::fault::ToldFault;
 use crate::held_tiles::HeldTiles;
+use book_history::fault::ToldFault;
 use layer_expr::name::Name;
 use plane_base::Column;
 use std::alloc::Global;

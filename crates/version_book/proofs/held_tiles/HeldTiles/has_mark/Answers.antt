@@ -2,7 +2,7 @@ use Rattle.std.proofs.Common.{◌∙◌, rules, tests}
 use Rattle.std.proofs.lemmas.Iterator.{YieldsList-from_slice}
 use Rattle.std.proofs.lemmas.Iterator.Search.{any_from_yields_List}
 use Rattle.std.specs.Prelude.{◌&&◌, bytes_eq}
-use Rattle.book_history.proofs.held_tiles.HeldTiles.has_mark.Goals as goal
+use Rattle.version_book.proofs.held_tiles.HeldTiles.has_mark.Goals as goal
 
 pub returns : goal.returns
 returns c =

@@ -2,10 +2,10 @@
 use Rattle.std.specs.Prelude.{◌≡◌, ℕ, ◌+◌, ◌%◌, ◌^◌, Bool, true, false, List, [], Option, Some, None, if◌then◌else◌}
 use Rattle.overlay_terms.specs.Layers.{Name}
 use Rattle.book_history.specs.Fault.{passes}
-use Rattle.book_history.specs.HeldTiles.{taken_in, unmarked}
-use Rattle.book_history.specs.declared.held_tiles.HeldTile.{HeldTile}
+use Rattle.version_book.specs.HeldTiles.{taken_in, unmarked}
+use Rattle.version_book.specs.declared.held_tiles.HeldTile.{HeldTile}
 use Rattle.book_history.specs.declared.fault.ToldFault.{ToldFault}
-use Rattle.book_history.specs.declared.standing.Standing.{Standing}
+use Rattle.version_book.specs.declared.standing.Standing.{Standing}
 
 -- what is left of a store's fault once a command is accepted
 abbrev pub left_over : Option ToldFault → Option ToldFault

@@ -1,6 +1,6 @@
 use Rattle.std.proofs.Common.{refl}
 use Rattle.std.proofs.lemmas.Result.{IfOk-from_err, MatchResult-from_err}
-use Rattle.book_history.proofs.held_tiles.HeldTiles.hand_out.Goals as goal
+use Rattle.version_book.proofs.held_tiles.HeldTiles.hand_out.Goals as goal
 
 pub returns-in_err-clone : goal.returns-in_err-clone
 returns-in_err-clone c =

@@ -2,10 +2,10 @@ use Rattle.std.proofs.Common.{◌≡◌, ℕ, ◌<◌, true, None, sym, ◌∙�
 use borrow.Author.Count.{below_none, below_more}
 use Rattle.overlay_terms.specs.Column.{column_count}
 use Rattle.overlay_terms.specs.Histories.{tile_at}
-use Rattle.book_history.specs.HeldTiles.{is_held}
+use Rattle.version_book.specs.HeldTiles.{is_held}
 use Rattle.book_history.proofs.Holding.{none_kept, some_kept}
-use Rattle.book_history.proofs.pending.free_column.Goals as goal
-use Rattle.book_history.proofs.pending.free_column.Goals.{else-is_none-via-then-is_none+else-not-has, else-is_none-via-else-is_none}
+use Rattle.version_book.proofs.pending.free_column.Goals as goal
+use Rattle.version_book.proofs.pending.free_column.Goals.{else-is_none-via-then-is_none+else-not-has, else-is_none-via-else-is_none}
 
 pub loop-number-init : goal.loop-number-init
 loop-number-init c = below_none _
