@@ -17,11 +17,11 @@ import subprocess
 import tempfile
 
 import tiles
+import turns
 import unproved
 
 HERE = pathlib.Path(__file__).resolve().parent
 CRATES = ["version_core", "wkt_form"]
-ROUNDS = 5
 # 512 edges; the tile of two combs of 512 has too many pieces.
 MAPS = [(tiles.stars, 512, 20), (tiles.slivers, 512, 10), (tiles.parcels, 512, 50), (tiles.combs, 256, 4)]
 
@@ -31,6 +31,12 @@ def cases():
     for shape, edges, times in MAPS:
         lines = [f"{shape.__name__}-{edges}", times, *map(tiles.text_of, shape(edges))]
         yield "\n".join(map(str, lines)) + "\n"
+
+
+def told(words):
+    """A line's case, the pieces and the text of its tile, and its times."""
+    case, times, pieces, size, total, *taken = words
+    return case, (pieces, size, total), [(what, int(each) / int(times)) for what, each in zip(("WAIT", "EDGES"), taken)]
 
 
 def built_of(commit, folder):
@@ -61,18 +67,7 @@ def main():
             programs.append(built_of(words.beside, folder))
         file = folder / "cases"
         file.write_text("".join(cases()))
-        least, seen = {}, {}
-        for _ in range(ROUNDS):
-            for at, program in enumerate(programs):
-                done = subprocess.run([program, file], stdout=subprocess.PIPE, check=True, text=True)
-                for line in done.stdout.splitlines():
-                    case, times, pieces, size, total, *taken = line.split()
-                    found = (pieces, size, total)
-                    if seen.setdefault(case, found) != found:
-                        raise SystemExit(f"{case}: {found} and {seen[case]}")
-                    for what, microseconds in zip(("WAIT", "EDGES"), taken):
-                        each = int(microseconds) / int(times)
-                        least[at, case, what] = min(each, least.get((at, case, what), each))
+        least, seen = turns.least_times(programs, file, told)
         for case, (pieces, size, _) in seen.items():
             rows = []
             for at in range(len(programs)):

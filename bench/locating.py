@@ -14,18 +14,17 @@ Where several programs are given they run in turns, five times each, and the lea
 
 import argparse
 import pathlib
-import subprocess
 import tempfile
 
 import serving
 import tiles
+import turns
 import unproved
 
 HERE = pathlib.Path(__file__).resolve().parent
 CRATES = ["version_core", "wkt_form"]
 POINTS = 20000
 LINES = 200000
-ROUNDS = 5
 
 
 def cases():
@@ -38,21 +37,17 @@ def cases():
             yield "\n".join(map(str, lines)) + "\n"
 
 
+def told(words):
+    """A line's case, what was found of it, and the time of a point by the state of the tile."""
+    case, state, points, pieces, insides, edges, taken = words
+    return case, (pieces, insides, edges), [(state, int(taken) / int(points))]
+
+
 def calls(programs, folder):
     """Times of the call: by program, case and state of the tile."""
     file = folder / "cases"
     file.write_text("".join(cases()))
-    least, seen = {}, {}
-    for _ in range(ROUNDS):
-        for at, program in enumerate(programs):
-            done = subprocess.run([program, file], stdout=subprocess.PIPE, check=True, text=True)
-            for line in done.stdout.splitlines():
-                case, state, points, pieces, insides, edges, taken = line.split()
-                found = (pieces, insides, edges)
-                if seen.setdefault(case, found) != found:
-                    raise SystemExit(f"{case}: {found} and {seen[case]}")
-                each = int(taken) / int(points)
-                least[at, case, state] = min(each, least.get((at, case, state), each))
+    least, seen = turns.least_times(programs, file, told)
     for case, (pieces, insides, edges) in seen.items():
         rows = []
         for at in range(len(programs)):
@@ -71,7 +66,7 @@ def lines(programs, folder):
     """Processor times of a line, by program and layer."""
     for steps in (4, 2000):
         least = {}
-        for _ in range(ROUNDS):
+        for _ in range(turns.ROUNDS):
             for at, program in enumerate(programs):
                 whole, none = (serving.Runs(program, folder).best([script(steps, n)], 1, False)[1] for n in (LINES, 0))
                 each = 1e6 * (whole - none) / LINES

@@ -13,14 +13,13 @@ given they run in turns, five times each, and the least time is taken.
 import argparse
 import math
 import pathlib
-import subprocess
 import tempfile
 
+import turns
 import unproved
 
 HERE = pathlib.Path(__file__).resolve().parent
 CRATES = ["version_core", "wkt_form"]
-ROUNDS = 5
 REACH = 1 << 20
 
 
@@ -50,6 +49,12 @@ def cases():
         yield "\n".join([name, str(times), *texts]) + "\n"
 
 
+def told(words):
+    """A line's case and what was timed of it, how many tiles were pending, and the time."""
+    case, what, times, pending, taken = words
+    return f"{case} {what}", pending, [("each", int(taken) / int(times))]
+
+
 def main():
     parser = argparse.ArgumentParser(description=__doc__, formatter_class=argparse.RawDescriptionHelpFormatter)
     parser.add_argument("--built", action="append", default=[])
@@ -60,19 +65,10 @@ def main():
             programs = [unproved.built(HERE / "versions", CRATES, folder)]
         file = pathlib.Path(folder) / "cases"
         file.write_text("".join(cases()))
-        least, seen = {}, {}
-        for _ in range(ROUNDS):
-            for at, program in enumerate(programs):
-                done = subprocess.run([program, file], stdout=subprocess.PIPE, check=True, text=True)
-                for line in done.stdout.splitlines():
-                    case, what, times, pending, taken = line.split()
-                    if seen.setdefault((case, what), pending) != pending:
-                        raise SystemExit(f"{case} {what}: {pending} and {seen[case, what]} tiles pending")
-                    each = int(taken) / int(times)
-                    least[at, case, what] = min(each, least.get((at, case, what), each))
-        for (case, what), pending in seen.items():
-            rows = [f"{least[at, case, what]:.2f} us" for at in range(len(programs))]
-            print(f"{case} {what}: {', '.join(rows)} ({pending} pending)")
+        least, seen = turns.least_times(programs, file, told)
+        for case, pending in seen.items():
+            rows = [f"{least[at, case, 'each']:.2f} us" for at in range(len(programs))]
+            print(f"{case}: {', '.join(rows)} ({pending} pending)")
 
 
 main()
