@@ -43,4 +43,5 @@ pub mod RightBorder
 pub mod TakenLemmas
 pub mod SeamLemmas
 pub mod NodeCount
+pub mod Settled
 pub mod UnderWay
