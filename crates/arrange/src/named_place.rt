@@ -9,9 +9,9 @@ pub(crate) type Places = SmallVec<NamedPlace, 8>;
 
 /// A place and a name for it. The order is that of the places alone.
 #[derive(Clone, Copy, Debug)]
-pub(crate) struct NamedPlace {
-    pub(crate) name: PointName,
-    pub(crate) at: HPoint,
+pub struct NamedPlace {
+    pub name: PointName,
+    pub at: HPoint,
 }
 
 impl PartialEq for NamedPlace {

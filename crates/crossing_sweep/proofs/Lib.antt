@@ -26,7 +26,10 @@ pub mod LastNodeLemmas
 pub mod PassLemmas
 pub mod BeginLemmas
 pub mod AheadLemmas
+pub mod PutLemmas
+pub mod TakeLemmas
 pub mod KnownLemmas
+pub mod PlacesInOrder
 pub mod StartLemmas
 pub mod UnitBits
 pub mod Labels
@@ -43,4 +46,5 @@ pub mod RightBorder
 pub mod TakenLemmas
 pub mod SeamLemmas
 pub mod NodeCount
+pub mod Settled
 pub mod UnderWay

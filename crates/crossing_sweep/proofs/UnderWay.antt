@@ -40,7 +40,7 @@ use Rattle.crossing_sweep.specs.Testing.{IsFoundIn, seams_at}
 use Rattle.crossing_sweep.specs.Stepping.{segs_to_come, StandsBefore, IsStepped}
 use Rattle.crossing_sweep.specs.Standing.{nodes_max}
 use Rattle.crossing_sweep.specs.RowLaws.{AreAll}
-use Rattle.crossing_sweep.specs.Rows.{place_at, IsRow, AreSorted, BeginAt, Carries}
+use Rattle.crossing_sweep.specs.Rows.{place_at, IsRow, count_settled, AreSorted, BeginAt, Carries}
 use Rattle.crossing_sweep.specs.Crossed.{IsInner, IsUnitPair, IsCrossingAmong, name_at, IsSpan, AreNodes, HasFound, IsCaused, IsKey, IsUnderWay}
 use Rattle.crossing_sweep.specs.declared.member.Member.{Member}
 use Rattle.crossing_sweep.specs.declared.start.Start.{Start}
@@ -56,6 +56,7 @@ use Rattle.crossing_sweep.proofs.TakenLemmas.{segs_parts}
 use Rattle.crossing_sweep.proofs.RowLemmas.{rows_go_on}
 use Rattle.crossing_sweep.proofs.NodeCount.{nodes_are_few}
 use Rattle.crossing_sweep.proofs.RowOrder.{rows_begin, rows_tell_oversize, rows_end}
+use Rattle.crossing_sweep.proofs.Settled.{settled_sorted}
 
 proper_segments : (input : Input) → IsInput input → All IsProper (segments_in input)
 proper_segments input valid = All-map IsProper (λ m. m.segment) input.marked valid.proper
@@ -328,7 +329,7 @@ not_on_border segments k p z hp hz e low high on =
         by h l (inr g) = not_less (border (k + 1)) (let P : ℕ → Type 0 = λ i. border i <ℤ border (k + 1) in subst P g l)
 
 module _ (input : Input) (valid : IsInput input) (listed : Bool) (status : List Member) (coming : List Start) (ahead : List (HPoint × PointName)) (tests : List (Segment × Segment)) (rows sorted : List Row) (names : List PointName) (cap : ℕ)
-    (way : IsUnderWay input listed status coming ahead tests rows names) (ended : (ahead ≡ []) ⊎ (cap < length rows)) (are : AreSorted rows sorted) where
+    (way : IsUnderWay input listed status coming ahead tests rows names) (ended : (ahead ≡ []) ⊎ (cap < length rows)) (settled : count_settled (length names) rows ≤ cap) (are : AreSorted rows sorted) where
   as_many : length sorted ≡ length rows
   as_many = length_permutation rows sorted are.moved
 
@@ -423,6 +424,7 @@ module _ (input : Input) (valid : IsInput input) (listed : Bool) (status : List 
     spans = spans;
     tile = λ few. (at_end few).tile;
     too_many = λ more. rows_tell_oversize way.n input way.q (map place_of names) status rows sorted cap valid way.carries are (omega (arith, more, as_many));
+    stops = omega (arith, settled, settled_sorted (length names) rows sorted are);
     named = way.named;
     are_nodes = are_nodes;
     few = way.few;

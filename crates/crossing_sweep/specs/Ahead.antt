@@ -1,11 +1,15 @@
 -- The places that a sweep has found ahead.
-use Rattle.std.specs.Prelude.{◌≡◌, ℕ, pos, ◌<ℤ◌, ◌⊎◌, ◌||◌, IsTrue, List, map, All, Any, Contains}
+use Rattle.std.specs.Prelude.{◌≡◌, ℕ, pos, ◌≤◌, ◌<ℤ◌, ◌⊎◌, ◌||◌, Bool, false, IsTrue, List, [], ◌∷◌, map, length, drop, All, AllPairs, Any, Contains}
+use Rattle.std.specs.Ordering.{is_lt, match_ordering}
+use Rattle.std.specs.declared.cmp.Ordering.TheVariants.{Less, Equal}
 use Rattle.overlay_terms.specs.Plane.{Point, same_place}
 use Rattle.overlay_terms.specs.Tiles.{Input, is_end, is_on_border}
-use Rattle.exact_point.specs.Place.{place}
+use Rattle.exact_point.specs.Place.{place, hpoint_cmp}
 use Rattle.exact_point.specs.PlaceOf.{place_of}
 use Rattle.exact_point.specs.PointName.{HasPlace, IsPlaceOf}
 use Rattle.arrange.specs.Arrangement.{segments_in, is_in_closed_column}
+use Rattle.arrange.specs.NamedPlaces.{named_cmp}
+use Rattle.arrange.specs.declared.named_place.NamedPlace.{NamedPlace}
 use Rattle.crossing_sweep.specs.Beginning.{AreKnown}
 use Rattle.exact_point.specs.declared.point.HPoint.{HPoint}
 use Rattle.exact_point.specs.declared.point_name.PointName.{PointName}
@@ -13,6 +17,31 @@ use Rattle.exact_point.specs.declared.point_name.PointName.{PointName}
 -- the places alone
 abbrev pub points_of : List (HPoint × PointName) → List Point
 points_of found = map (λ e. place e.0) found
+
+-- a known place under its name
+abbrev pub entry_of : NamedPlace → HPoint × PointName
+entry_of z = (z.at, z.name)
+
+-- a place put before the first that does not come before it
+abbrev pub put_place : HPoint × PointName → List (HPoint × PointName) → List (HPoint × PointName)
+put_place e [] = e ∷ []
+put_place e (x ∷ xs) = match_ordering (hpoint_cmp e.0 x.0) (e ∷ x ∷ xs) (e ∷ x ∷ xs) (x ∷ put_place e xs)
+
+-- places found since put among known ones
+abbrev pub put_all : List (HPoint × PointName) → List (HPoint × PointName) → List (HPoint × PointName)
+put_all [] known = known
+put_all (e ∷ es) known = put_place e (put_all es known)
+
+-- known places in order, of which so many are taken out, and apart from the others places found since
+pub record AreAhead (known : List NamedPlace) (taken : ℕ) (found : List (HPoint × PointName)) : Type 0 where
+  pub ordered : AllPairs (λ a b. named_cmp a b ≡ Less) known
+  pub few : taken ≤ length known
+  pub apart : All (λ e. All (λ z. named_cmp z (record { name = e.1; at = e.0 }) ≡ Equal → ⊥) (drop taken known)) found
+
+-- the first of some places comes before another
+abbrev pub is_first_before : List (HPoint × PointName) → HPoint → Bool
+is_first_before [] at = false
+is_first_before (e ∷ es) at = is_lt (hpoint_cmp e.0 at)
 
 -- a place has been added: it is there, and so is what was there; and nothing else has come
 pub record HasAdded (old : List (HPoint × PointName)) (at : HPoint) (name : PointName) (new : List (HPoint × PointName)) : Type 0 where

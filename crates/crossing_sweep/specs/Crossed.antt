@@ -23,7 +23,7 @@ use Rattle.crossing_sweep.specs.Passing.{HasCome, IsEntry}
 use Rattle.crossing_sweep.specs.Ahead.{points_of}
 use Rattle.crossing_sweep.specs.Member.{segs_of}
 use Rattle.crossing_sweep.specs.Stepping.{segs_to_come}
-use Rattle.crossing_sweep.specs.Rows.{row_ends, Carries}
+use Rattle.crossing_sweep.specs.Rows.{row_ends, count_settled, Carries}
 use Rattle.crossing_sweep.specs.declared.member.Member.{Member}
 use Rattle.crossing_sweep.specs.declared.start.Start.{Start}
 use Rattle.crossing_sweep.specs.declared.row.Row.{Row}
@@ -81,11 +81,12 @@ pub record AreCounted (input : Input) (to_the_end : Type 0) (count : ℕ) : Type
   pub counted : count ≡ length places
   pub are_nodes : AreNodes input to_the_end places
 
--- the rows, names of nodes and tests of a pass that stops after more rows than a cap, and lists its tests or not
+-- the rows, names of nodes and tests of a pass that stops after more rows than a cap, so that no more of them than the cap end before the last node; it lists its tests or not
 pub record HasFound (input : Input) (cap : ℕ) (listed : Bool) (rows : List Row) (names : List PointName) (tests : List (Segment × Segment)) : Type 0 where
   pub spans : All (IsSpan names) rows
   pub tile : length rows ≤ cap → IsTileOf input.marked input.steps input.column (map (row_ends (map place_of names)) rows)
   pub too_many : cap < length rows → IsTileAt cap input oversize
+  pub stops : count_settled (length names) rows ≤ cap
   pub named : All HasPlace names
   pub are_nodes : AreNodes input (length rows ≤ cap) (map place_of names)
   pub few : length tests ≤ 2 * length names

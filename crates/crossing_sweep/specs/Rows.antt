@@ -1,5 +1,5 @@
 -- What a pass carries along from node to node, and the rows that it makes: the pieces of the boundary that it has come to the end of.
-use Rattle.std.specs.Prelude.{◌≡◌, ℕ, ℤ, pos, ◌<◌, [], ◌∷◌, ◌≤ℤ◌, ◌<ℤ◌, ◌*ℤ◌, Bool, not, ◌&&◌, if◌then◌else◌, IsTrue, List, map, filter, length, get_or, All, AllPairs, Any, Contains}
+use Rattle.std.specs.Prelude.{◌≡◌, ℕ, ℤ, pos, ◌+◌, ◌<◌, [], ◌∷◌, ◌≤ℤ◌, ◌<ℤ◌, ◌*ℤ◌, nat_lt, Bool, not, ◌&&◌, if◌then◌else◌, IsTrue, List, map, filter, count_by, length, get_or, All, AllPairs, Any, Contains}
 use Rattle.std.specs.Int.RustNames.{bit_xor}
 use Rattle.std.specs.List.Sorted.{IsPermutation, IsSortedByKey}
 use Rattle.std.specs.Ordering.{nat_cmp, ordering_then}
@@ -90,6 +90,10 @@ pub record AreRows (input : Input) (passed : List Point) (q : Point) (rows : Lis
   pub once : AllPairs (λ a b. a.first ≡ b.first → a.last ≡ b.last → ⊥) rows
   pub complete : (p r : Point) → IsBoundary input.marked input.steps input.column p r → (point_cmp q r ≡ Less → ⊥)
       → Any (λ row. IsTrue (same_place p (place_at passed row.first) && same_place r (place_at passed row.last))) rows
+
+-- how many of some rows end before the last of so many nodes
+abbrev pub count_settled : ℕ → List Row → ℕ
+count_settled nodes rows = count_by (λ row. nat_lt (row.last + 1) nodes) rows
 
 -- by the number of the left end, then of the right end
 abbrev pub number_cmp : ℕ × ℕ → ℕ × ℕ → Ordering

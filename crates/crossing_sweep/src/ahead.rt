@@ -1,39 +1,52 @@
 //! The places that a sweep has found ahead, each with a name.
-ghost use Rattle.std.specs.Prelude.{◌≡◌, [], ◌∷◌, All, IfSome, IsNone, IsTrue, ◌↔◌, OnOk};
-ghost use Rattle.std.specs.declared.cmp.Ordering.TheVariants.{Less};
+ghost use Rattle.std.specs.Prelude.{◌≡◌, ◌⊎◌, true, false, [], ◌∷◌, All, AllPairs, Any, Contains, map, IfSome, IsNone, IsTrue, ◌↔◌, OnOk};
+ghost use Rattle.std.specs.declared.cmp.Ordering.TheVariants.{Less, Equal};
 ghost use Rattle.overlay_terms.specs.Plane.{point_cmp};
-ghost use Rattle.exact_point.specs.Place.{place};
-ghost use Rattle.crossing_sweep.specs.Ahead.{HasAdded};
+ghost use Rattle.exact_point.specs.Place.{place, hpoint_cmp};
+ghost use Rattle.exact_point.specs.declared.point.HPoint.{HPoint};
+ghost use Rattle.exact_point.specs.declared.point_name.PointName.{PointName};
+ghost use Rattle.arrange.specs.NamedPlaces.{named_cmp};
+ghost use Rattle.crossing_sweep.specs.Ahead.{HasAdded, entry_of, is_first_before};
 
+use arrange::named_place::NamedPlace;
 use exact_point::point::HPoint;
 use exact_point::point_name::PointName;
 use std::alloc::{AllocError, Global};
 use std::collections::BTreeMap;
 use std::marker::Model;
 
-/// Places in their order, each once, under the name by which it was found first.
+/// Places in their order, each once, under one of its names: those that were known at first in one
+/// list, of which so many are taken out, and apart from the others those found since.
 #[derive(Drop)]
 pub(crate) struct Ahead {
-    places: BTreeMap<HPoint, PointName>,
+    known: Vec<NamedPlace>,
+    taken: usize,
+    found: BTreeMap<HPoint, PointName>,
 }
 
 impl Model for Ahead {
-    ghost use Rattle.std.specs.Prelude.{List};
+    ghost use Rattle.std.specs.Prelude.{List, map, drop};
     ghost use Rattle.exact_point.specs.declared.point.HPoint.{HPoint};
     ghost use Rattle.exact_point.specs.declared.point_name.PointName.{PointName};
+    ghost use Rattle.crossing_sweep.specs.Ahead.{entry_of, put_all, AreAhead};
 
     ghost Value = { List (HPoint × PointName) };
 
-    ghost view = { λ a. a.places.entries };
+    ghost view = { λ a. put_all a.found.entries (map entry_of (drop a.taken a.known.items)) };
+
+    ghost invariant = { λ a. AreAhead a.known.items a.taken a.found.entries };
 }
 
 impl Ahead {
-    /// No place.
-    pub(crate) fn new(alloc: Global) -> Ahead
-        ensures { result ≡ [] }
+    /// Known places in their order, each once.
+    pub(crate) fn of(alloc: Global, known: Vec<NamedPlace>) -> Ahead
+        requires { AllPairs (λ a b. named_cmp a b ≡ Less) known.items }
+        ensures { result ≡ map entry_of known.items }
     {
         Ahead {
-            places: BTreeMap::new(alloc),
+            known,
+            taken: 0,
+            found: BTreeMap::new(alloc),
         }
     }
 
@@ -41,17 +54,20 @@ impl Ahead {
     pub(crate) fn add(&mut self, at: HPoint, name: PointName) -> Result<(), AllocError>
         ensures { OnOk result (HasAdded self.old at name self.new) }
     {
-        if !self.places.contains_key(&at) {
-            self.places.insert(at, name)?;
+        if is_among(&self.known[self.taken..], &at, &name) {
+            return Ok(());
         }
-        Ok(())
+        add_found(&mut self.found, at, name)
     }
 
     /// Whether there is no place.
     pub(crate) fn is_empty(&self) -> bool
         ensures { IsTrue result ↔ (self.now ≡ []) }
     {
-        self.places.is_empty()
+        if self.taken < self.known.len() {
+            return false;
+        }
+        self.found.is_empty()
     }
 
     /// Takes out the first place, if there is one.
@@ -61,6 +77,53 @@ impl Ahead {
         ensures none { IsNone result → self.old ≡ [] }
         ensures left { IsNone result → self.new ≡ [] }
     {
-        self.places.pop_first()
+        if self.known.len() <= self.taken {
+            return self.found.pop_first();
+        }
+        let next = self.known[self.taken];
+        if is_first_before(&self.found, &next.at) {
+            return self.found.pop_first();
+        }
+        self.taken += 1;
+        Some((next.at, next.name))
+    }
+}
+
+/// Adds a place to those found, unless it is there already.
+fn add_found(
+    found: &mut BTreeMap<HPoint, PointName>,
+    at: HPoint,
+    name: PointName,
+) -> Result<(), AllocError>
+    ensures added { OnOk result (HasAdded found.old.entries at name found.new.entries) }
+    ensures only { (e : HPoint × PointName) → Contains found.new.entries e → Contains found.old.entries e ⊎ ((at, name) ≡ e) }
+{
+    if !found.contains_key(&at) {
+        found.insert(at, name)?;
+    }
+    Ok(())
+}
+
+/// Whether a place, under any name, is one of some places in order.
+fn is_among(known: &[NamedPlace], at: &HPoint, name: &PointName) -> bool
+    requires { AllPairs (λ a b. named_cmp a b ≡ Less) known.now }
+    ensures among { result ≡ true → Any (λ z. named_cmp z (record { name = name.now; at = at.now }) ≡ Equal) known.now }
+    ensures apart { result ≡ false → All (λ z. named_cmp z (record { name = name.now; at = at.now }) ≡ Equal → ⊥) known.now }
+{
+    let place = NamedPlace {
+        name: *name,
+        at: *at,
+    };
+    known.binary_search(&place).is_ok()
+}
+
+/// Whether the first of some places, if there is one, comes before another.
+fn is_first_before(found: &BTreeMap<HPoint, PointName>, at: &HPoint) -> bool
+    ensures first { result ≡ is_first_before found.now.entries at.now }
+    ensures none { result ≡ false → All (λ e. hpoint_cmp e.0 at.now ≡ Less → ⊥) found.now.entries }
+{
+    match found.first_key_value() {
+        Some((first, _)) => *first < *at,
+        None => false,
     }
 }

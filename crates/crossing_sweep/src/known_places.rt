@@ -1,11 +1,13 @@
 //! The places of a column that are known before a pass over it: ends of segments and border places.
-ghost use Rattle.std.specs.Prelude.{◌++◌, [], ◌∷◌, List, IfOk, OnOk};
+ghost use Rattle.std.specs.Prelude.{◌≡◌, ◌++◌, [], ◌∷◌, List, map, AllPairs, IfOk, OnOk};
+ghost use Rattle.std.specs.declared.cmp.Ordering.TheVariants.{Less};
 ghost use Rattle.exact_point.specs.declared.point_name.PointName.{PointName};
-ghost use Rattle.arrange.specs.NamedPlaces.{own_names};
-ghost use Rattle.crossing_sweep.specs.Ahead.{AreKnownPlaces, AreOffered};
+ghost use Rattle.arrange.specs.NamedPlaces.{own_names, named_cmp};
+ghost use Rattle.crossing_sweep.specs.Ahead.{AreKnownPlaces, AreOffered, entry_of};
 
 use crate::ahead::Ahead;
 use arrange::closed_column::is_within;
+use arrange::named_place::NamedPlace;
 use arrange::tile_input::TileInput;
 use exact_point::point_name::PointName;
 use plane_base::column::Column;
@@ -17,31 +19,42 @@ use std::alloc::{AllocError, Global};
 pub(crate) fn known_places(alloc: Global, input: &TileInput) -> Result<Ahead, AllocError>
     ensures { IfOk result (λ ahead. AreKnownPlaces input.now ahead) }
 {
-    let mut ahead = Ahead::new(alloc);
+    let places = places_in_order(alloc, input)?;
+    Ok(Ahead::of(alloc, places))
+}
+
+/// These places in their order, each once: a place of several segments under one of its names.
+fn places_in_order(alloc: Global, input: &TileInput) -> Result<Vec<NamedPlace>, AllocError>
+    ensures known { IfOk result (λ places. AreKnownPlaces input.now (map entry_of places.items)) }
+    ensures in_order { IfOk result (λ places. AllPairs (λ a b. named_cmp a b ≡ Less) places.items) }
+{
+    let mut places = Vec::new(alloc);
     for m in input.marked() {
-        offer_own(&mut ahead, &m.seg, input.column())?;
+        offer_own(&mut places, &m.seg, input.column())?;
     }
-    Ok(ahead)
+    places.sort_unstable();
+    places.dedup();
+    Ok(places)
 }
 
 /// Offers the ends of a segment and where the column's borders cut it.
-fn offer_own(ahead: &mut Ahead, seg: &Seg, column: Column) -> Result<(), AllocError>
-    ensures { OnOk result ((names : List PointName) → AreOffered column names ahead.old → AreOffered column (names ++ own_names seg.now column) ahead.new) }
+fn offer_own(places: &mut Vec<NamedPlace>, seg: &Seg, column: Column) -> Result<(), AllocError>
+    ensures { OnOk result ((names : List PointName) → AreOffered column names (map entry_of places.old.items) → AreOffered column (names ++ own_names seg.now column) (map entry_of places.new.items)) }
 {
-    offer(ahead, PointName::Vertex(seg.left()), column)?;
-    offer(ahead, PointName::Vertex(seg.right()), column)?;
-    offer(ahead, PointName::Border(*seg, column.number()), column)?;
-    offer(ahead, PointName::Border(*seg, column.number() + 1), column)?;
+    offer(places, PointName::Vertex(seg.left()), column)?;
+    offer(places, PointName::Vertex(seg.right()), column)?;
+    offer(places, PointName::Border(*seg, column.number()), column)?;
+    offer(places, PointName::Border(*seg, column.number() + 1), column)?;
     Ok(())
 }
 
 /// Adds the place that a name stands for, if it lies in the closed column.
-fn offer(ahead: &mut Ahead, name: PointName, column: Column) -> Result<(), AllocError>
-    ensures { OnOk result ((names : List PointName) → AreOffered column names ahead.old → AreOffered column (names ++ name ∷ []) ahead.new) }
+fn offer(places: &mut Vec<NamedPlace>, name: PointName, column: Column) -> Result<(), AllocError>
+    ensures { OnOk result ((names : List PointName) → AreOffered column names (map entry_of places.old.items) → AreOffered column (names ++ name ∷ []) (map entry_of places.new.items)) }
 {
     if let Some(at) = name.point() {
         if is_within(column, &at) {
-            ahead.add(at, name)?;
+            places.push(NamedPlace { name, at })?;
         }
     }
     Ok(())

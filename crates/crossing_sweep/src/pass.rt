@@ -36,6 +36,7 @@ pub(crate) struct Pass<'a> {
 impl<'a> Model for Pass<'a> {
     ghost use Rattle.std.specs.Prelude.{length};
     ghost use Rattle.crossing_sweep.specs.Standing.{Standing, standing_code};
+    ghost use Rattle.crossing_sweep.specs.Rows.{count_settled};
 
     ghost Value = { Standing };
 
@@ -43,7 +44,7 @@ impl<'a> Model for Pass<'a> {
 
     ghost use Rattle.crossing_sweep.specs.Crossed.{IsPassing};
 
-    ghost view = { λ p. record { input = p.input.now; listed = p.progress.search.listed; ahead = length p.progress.search.ahead; rows = length p.progress.rows.items; nodes = length p.progress.names.items } };
+    ghost view = { λ p. record { input = p.input.now; listed = p.progress.search.listed; ahead = length p.progress.search.ahead; rows = length p.progress.rows.items; nodes = length p.progress.names.items; settled = count_settled (length p.progress.names.items) p.progress.rows.items } };
 
     ghost invariant = { λ p. IsPassing p.input.now p.progress };
 }
@@ -67,6 +68,7 @@ impl<'a> Pass<'a> {
     fn new(alloc: Global, input: &'a TileInput, listed: bool) -> Result<Pass<'a>, AllocError>
         ensures input { IfOk result (λ pass. pass.input ≡ input.now) }
         ensures listed { IfOk result (λ pass. pass.listed ≡ listed) }
+        ensures settled { IfOk result (λ pass. pass.settled ≡ 0) }
     {
         // An input has closed rings: the pass rests on that.
         let _ = input.column();
@@ -92,6 +94,7 @@ impl<'a> Pass<'a> {
         ensures input { IfOk result (λ pass. pass.input ≡ self.entry.input) }
         ensures listed { IfOk result (λ pass. pass.listed ≡ self.entry.listed) }
         ensures ended { IfOk result (λ pass. (pass.ahead ≡ 0) ⊎ (cap < pass.rows)) }
+        ensures settled { IfOk result (λ pass. self.entry.settled ≤ cap → pass.settled ≤ cap) }
     {
         let mut pass = self;
         while pass.is_under_way(cap) {
@@ -102,7 +105,7 @@ impl<'a> Pass<'a> {
 
     /// Whether a place is ahead, and there are no more rows than a cap.
     fn is_under_way(&self, cap: usize) -> bool
-        ensures way { result ≡ true → ¬ (self.now.ahead ≡ 0) }
+        ensures way { result ≡ true → (¬ (self.now.ahead ≡ 0)) × (self.now.rows ≤ cap) }
         ensures ended { result ≡ false → (self.now.ahead ≡ 0) ⊎ (cap < self.now.rows) }
     {
         !self.progress.search.ahead.is_empty() && self.progress.rows.len() <= cap
@@ -113,6 +116,7 @@ impl<'a> Pass<'a> {
         ensures input { IfOk result (λ pass. pass.input ≡ self.entry.input) }
         ensures listed { IfOk result (λ pass. pass.listed ≡ self.entry.listed) }
         ensures more { IfOk result (λ pass. ¬ (self.entry.ahead ≡ 0) → pass.nodes ≡ self.entry.nodes + 1) }
+        ensures settled { IfOk result (λ pass. ¬ (self.entry.ahead ≡ 0) → pass.settled ≡ self.entry.rows) }
         ensures few { IfOk result (λ pass. pass.nodes ≤ nodes_max pass.input) }
     {
         let Pass {
@@ -130,7 +134,7 @@ impl<'a> Pass<'a> {
 
     /// What it has found, where it has come to the end, or has more rows than a cap.
     fn into_crossed(self) -> Crossed
-        ensures { (cap : ℕ) → (self.entry.ahead ≡ 0) ⊎ (cap < self.entry.rows) → IsCrossed self.entry.input cap self.entry.listed result }
+        ensures { (cap : ℕ) → (self.entry.ahead ≡ 0) ⊎ (cap < self.entry.rows) → self.entry.settled ≤ cap → IsCrossed self.entry.input cap self.entry.listed result }
     {
         let Progress {
             search,

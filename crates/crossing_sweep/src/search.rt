@@ -64,8 +64,8 @@ impl Search {
         Ok(())
     }
 
-    /// Tests the neighbours at the two seams of a node in the column. On its right border there are no
-    /// neighbours to test: all nodes there are known.
+    /// Tests the neighbours at the two seams of a node in the column, which may be one. On its right
+    /// border there are no neighbours to test: all nodes there are known.
     pub(crate) fn test_new(
         &mut self,
         within: bool,
@@ -81,21 +81,6 @@ impl Search {
         if !within {
             return Ok(());
         }
-        self.test_both(column, at, status, low, high)
-    }
-
-    /// Tests the neighbours at two seams, which may be one.
-    fn test_both(
-        &mut self,
-        column: Column,
-        at: &HPoint,
-        status: &[Member],
-        low: usize,
-        high: usize,
-    ) -> Result<(), AllocError>
-        requires in_order { low ≤ high }
-        ensures { OnOk result (AreSeamsTested column (place at.now) (segs_of status.now) (low ∷ high ∷ []) self.old self.new) }
-    {
         self.test_at(column, at, status, low)?;
         if low < high {
             self.test_at(column, at, status, high)?;

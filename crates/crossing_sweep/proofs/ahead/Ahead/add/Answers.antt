@@ -1,21 +1,38 @@
-use Rattle.std.proofs.Common.{List, subst, sym, ◌∙◌}
-use Rattle.exact_point.specs.declared.point.HPoint.{HPoint}
-use Rattle.exact_point.specs.declared.point_name.PointName.{PointName}
-use Rattle.crossing_sweep.specs.Ahead.{HasAdded}
-use Rattle.crossing_sweep.proofs.AheadLemmas.{known_added, new_added}
+use Rattle.std.proofs.Common.{◌≡◌, ◌-◌, List, take, drop, length, subst, sym, ap, ◌∙◌}
+use Rattle.std.specs.Prelude.{All, AllPairs, Any, Result, Ok, Err, OnOk}
+use Rattle.std.specs.declared.cmp.Ordering.TheVariants.{Less, Equal}
+use Rattle.std.proofs.lemmas.List.{take_rest}
+use Rattle.arrange.specs.NamedPlaces.{named_cmp}
+use Rattle.arrange.specs.declared.named_place.NamedPlace.{NamedPlace}
+use Rattle.crossing_sweep.proofs.TakeLemmas.{rest_ordered, add_known, add_new, add_apart}
 use Rattle.crossing_sweep.proofs.ahead.Ahead.add.Goals as goal
 
-pub returns-in_ok-insert : goal.returns-in_ok-insert
-returns-in_ok-insert c =
-    let at = c.args.at in
-    let name = c.args.name in
-    let held = c.self.inside.places.entries in
-    let added = new_added at name held (sym c.contains_key.ensures ∙ c.if-not-contains_key.true) in
-    subst (λ (es : List (HPoint × PointName)). HasAdded es at name c.insert.new.self.entries) c.self.view_is
-    (subst (λ (es : List (HPoint × PointName)). HasAdded held at name es) (sym c.in_ok-insert.ensures.entries) added)
+pub is_among-requires : goal.is_among-requires
+is_among-requires c =
+    let ds : List NamedPlace = c.deref.result.now in
+    let whole : take (length ds - c.self.inside.taken) (drop c.self.inside.taken ds) ≡ drop c.self.inside.taken c.self.inside.known.items = take_rest ds c.self.inside.taken ∙ ap (λ (l : List NamedPlace). drop c.self.inside.taken l) c.deref.ensures.value in
+    subst (λ (l : List NamedPlace). AllPairs (λ a b. named_cmp a b ≡ Less) l) (sym whole) (rest_ordered c.self.inside.known.items c.self.inside.taken c.self.invariant.ordered)
 
-pub returns-else-not-contains_key : goal.returns-else-not-contains_key
-returns-else-not-contains_key c =
-    let at = c.args.at in
-    let name = c.args.name in
-    subst (λ (es : List (HPoint × PointName)). HasAdded es at name es) c.self.view_is (known_added at name c.self.inside.places.entries (sym c.contains_key.ensures ∙ c.if-not-contains_key.false))
+pub returns-then-is_among : goal.returns-then-is_among
+returns-then-is_among c =
+    let ds : List NamedPlace = c.deref.result.now in
+    let whole : take (length ds - c.self.inside.taken) (drop c.self.inside.taken ds) ≡ drop c.self.inside.taken c.self.inside.known.items = take_rest ds c.self.inside.taken ∙ ap (λ (l : List NamedPlace). drop c.self.inside.taken l) c.deref.ensures.value in
+    add_known c.self.inside.known.items c.self.inside.taken c.self.inside.found.entries c.args.at c.args.name c.args.self.now c.self.view_is
+    (subst (λ (l : List NamedPlace). Any (λ z. named_cmp z (record { name = c.args.name; at = c.args.at }) ≡ Equal) l) whole (c.is_among.ensures.among c.if-is_among.true))
+
+pub invariant_of-self : goal.invariant_of-self
+invariant_of-self c =
+    let ds : List NamedPlace = c.deref.result.now in
+    let whole : take (length ds - c.self.inside.taken) (drop c.self.inside.taken ds) ≡ drop c.self.inside.taken c.self.inside.known.items = take_rest ds c.self.inside.taken ∙ ap (λ (l : List NamedPlace). drop c.self.inside.taken l) c.deref.ensures.value in
+    add_apart c.self.inside.known.items c.self.inside.taken c.self.inside.found.entries c.args.at c.args.name c.add_found.new.found.entries c.self.invariant
+    (subst (λ (l : List NamedPlace). All (λ z. named_cmp z (record { name = c.args.name; at = c.args.at }) ≡ Equal → ⊥) l) whole (c.is_among.ensures.apart c.if-is_among.false)) c.add_found.ensures.only
+
+pub returns : goal.returns
+returns c =
+    on_ok c.add_found.result
+    (add_new c.self.inside.known.items c.self.inside.taken c.self.inside.found.entries c.args.at c.args.name c.args.self.now c.add_found.new.found.entries c.self.view_is)
+    c.add_found.ensures.added
+  where
+    on_ok : {X E P Q : Type 0} (r : Result X E) → (P → Q) → OnOk r P → OnOk r Q
+    on_ok (Ok x) f h = f h
+    on_ok (Err e) f h = h

@@ -1,5 +1,103 @@
-use Rattle.crossing_sweep.proofs.AheadLemmas.{least_of}
+use Rattle.std.proofs.Common.{◌≡◌, ℕ, ◌+◌, ◌<◌, true, List, [], ◌∷◌, map, length, drop, ap, subst, sym, ◌∙◌, arith}
+use Rattle.std.specs.Prelude.{All, AllPairs, IfSome}
+use Rattle.std.specs.declared.cmp.Ordering.TheVariants.{Less, Equal}
+use Rattle.exact_point.specs.Place.{hpoint_cmp}
+use Rattle.exact_point.specs.declared.point.HPoint.{HPoint}
+use Rattle.exact_point.specs.declared.point_name.PointName.{PointName}
+use Rattle.arrange.specs.NamedPlaces.{named_cmp}
+use Rattle.arrange.specs.declared.named_place.NamedPlace.{NamedPlace}
+use Rattle.crossing_sweep.specs.Ahead.{entry_of, put_all, is_first_before}
+use Rattle.crossing_sweep.proofs.PutLemmas.{known_first}
+use Rattle.crossing_sweep.proofs.TakeLemmas.{all_taken, below_none, popped, popped_least, popped_keeps, rest_ordered, next_of, next_taken, next_first, next_least, first_before}
 use Rattle.crossing_sweep.proofs.ahead.Ahead.take_first.Goals as goal
 
+pub returns-then-len-self-clause-first : goal.returns-then-len-self-clause-first
+returns-then-len-self-clause-first c =
+    let known : List (HPoint × PointName) = map entry_of (drop c.self.inside.taken c.self.inside.known.items) in
+    let rest : List (HPoint × PointName) = c.pop_first.new.self.entries in
+    let none : known ≡ [] = all_taken c.self.inside.known.items c.self.inside.taken (omega (arith, c.if-len-self.true, c.len.ensures)) in
+    subst (λ (v : List (HPoint × PointName)). IfSome c.pop_first.result (λ e. v ≡ e ∷ put_all rest known)) c.self.view_is
+    (popped c.pop_first.result c.self.inside.found.entries rest known c.pop_first.ensures.removal c.pop_first.ensures.all_above (below_none c.pop_first.result known none))
+
+pub returns-then-len-self-clause-least : goal.returns-then-len-self-clause-least
+returns-then-len-self-clause-least c =
+    let known : List (HPoint × PointName) = map entry_of (drop c.self.inside.taken c.self.inside.known.items) in
+    let none : known ≡ [] = all_taken c.self.inside.known.items c.self.inside.taken (omega (arith, c.if-len-self.true, c.len.ensures)) in
+    popped_least c.pop_first.result c.pop_first.new.self.entries known c.pop_first.ensures.all_above (below_none c.pop_first.result known none)
+
+pub invariant_of-self-then-is_first_before : goal.invariant_of-self-then-is_first_before
+invariant_of-self-then-is_first_before c =
+    let pop = c.pop_first-then-is_first_before in
+    let known : List NamedPlace = drop c.self.inside.taken c.self.inside.known.items in
+    record {
+      ordered = c.self.invariant.ordered;
+      few = c.self.invariant.few;
+      apart =
+          popped_keeps (λ (e : HPoint × PointName). All (λ z. named_cmp z (record { name = e.1; at = e.0 }) ≡ Equal → ⊥) known) pop.result c.self.inside.found.entries pop.new.self.entries
+          pop.ensures.removal pop.ensures.unchanged c.self.invariant.apart;
+    }
+
+pub returns-then-is_first_before-clause-first : goal.returns-then-is_first_before-clause-first
+returns-then-is_first_before-clause-first c =
+    let pop = c.pop_first-then-is_first_before in
+    let items : List NamedPlace = c.self.inside.known.items in
+    let taken : ℕ = c.self.inside.taken in
+    let k : NamedPlace = c.index.result.now in
+    let es : List (HPoint × PointName) = c.self.inside.found.entries in
+    let rest : List (HPoint × PointName) = pop.new.self.entries in
+    let there : taken < length items = omega (arith, c.if-len-self.false, c.len.ensures) in
+    let next : drop taken items ≡ k ∷ drop (taken + 1) items = next_of items taken k there c.index.ensures in
+    let ordered : AllPairs (λ a b. named_cmp a b ≡ Less) (k ∷ drop (taken + 1) items) = subst (λ (l : List NamedPlace). AllPairs (λ a b. named_cmp a b ≡ Less) l) next (rest_ordered items taken c.self.invariant.ordered) in
+    let before : is_first_before es k.at ≡ true = sym c.is_first_before.ensures.first ∙ c.if-is_first_before.true in
+    let below = subst (λ (l : List NamedPlace). IfSome pop.result (λ p. All (λ y. hpoint_cmp p.0 y.0 ≡ Less) (map entry_of l))) (sym next) (first_before pop.result es rest k (drop (taken + 1) items) pop.ensures.removal before ordered) in
+    subst (λ (v : List (HPoint × PointName)). IfSome pop.result (λ e. v ≡ e ∷ put_all rest (map entry_of (drop taken items)))) c.self.view_is
+    (popped pop.result es rest (map entry_of (drop taken items)) pop.ensures.removal pop.ensures.all_above below)
+
+pub returns-then-is_first_before-clause-least : goal.returns-then-is_first_before-clause-least
+returns-then-is_first_before-clause-least c =
+    let pop = c.pop_first-then-is_first_before in
+    let items : List NamedPlace = c.self.inside.known.items in
+    let taken : ℕ = c.self.inside.taken in
+    let k : NamedPlace = c.index.result.now in
+    let es : List (HPoint × PointName) = c.self.inside.found.entries in
+    let rest : List (HPoint × PointName) = pop.new.self.entries in
+    let there : taken < length items = omega (arith, c.if-len-self.false, c.len.ensures) in
+    let next : drop taken items ≡ k ∷ drop (taken + 1) items = next_of items taken k there c.index.ensures in
+    let ordered : AllPairs (λ a b. named_cmp a b ≡ Less) (k ∷ drop (taken + 1) items) = subst (λ (l : List NamedPlace). AllPairs (λ a b. named_cmp a b ≡ Less) l) next (rest_ordered items taken c.self.invariant.ordered) in
+    let before : is_first_before es k.at ≡ true = sym c.is_first_before.ensures.first ∙ c.if-is_first_before.true in
+    let below = subst (λ (l : List NamedPlace). IfSome pop.result (λ p. All (λ y. hpoint_cmp p.0 y.0 ≡ Less) (map entry_of l))) (sym next) (first_before pop.result es rest k (drop (taken + 1) items) pop.ensures.removal before ordered) in
+    popped_least pop.result rest (map entry_of (drop taken items)) pop.ensures.all_above below
+
+pub invariant_of-self-2 : goal.invariant_of-self-2
+invariant_of-self-2 c =
+    let items : List NamedPlace = c.self.inside.known.items in
+    let taken : ℕ = c.self.inside.taken in
+    let k : NamedPlace = c.index.result.now in
+    let there : taken < length items = omega (arith, c.if-len-self.false, c.len.ensures) in
+    next_taken items taken c.self.inside.found.entries k there (next_of items taken k there c.index.ensures) c.self.invariant
+
+pub returns-clause-first : goal.returns-clause-first
+returns-clause-first c =
+    let items : List NamedPlace = c.self.inside.known.items in
+    let taken : ℕ = c.self.inside.taken in
+    let k : NamedPlace = c.index.result.now in
+    let ks : List NamedPlace = drop (taken + 1) items in
+    let es : List (HPoint × PointName) = c.self.inside.found.entries in
+    let there : taken < length items = omega (arith, c.if-len-self.false, c.len.ensures) in
+    let next : drop taken items ≡ k ∷ ks = next_of items taken k there c.index.ensures in
+    let apart = subst (λ (l : List NamedPlace). All (λ (e : HPoint × PointName). All (λ z. named_cmp z (record { name = e.1; at = e.0 }) ≡ Equal → ⊥) l) es) next c.self.invariant.apart in
+    sym c.self.view_is ∙ ap (λ (l : List NamedPlace). put_all es (map entry_of l)) next
+    ∙ known_first es (map entry_of ks) (entry_of k) (next_first es k ks (c.is_first_before.ensures.none c.if-is_first_before.false) apart)
+
 pub returns-clause-least : goal.returns-clause-least
-returns-clause-least c = least_of c.pop_first.result c.pop_first.new.self.entries c.pop_first.ensures.all_above
+returns-clause-least c =
+    let items : List NamedPlace = c.self.inside.known.items in
+    let taken : ℕ = c.self.inside.taken in
+    let k : NamedPlace = c.index.result.now in
+    let ks : List NamedPlace = drop (taken + 1) items in
+    let es : List (HPoint × PointName) = c.self.inside.found.entries in
+    let there : taken < length items = omega (arith, c.if-len-self.false, c.len.ensures) in
+    let next : drop taken items ≡ k ∷ ks = next_of items taken k there c.index.ensures in
+    let ordered : AllPairs (λ a b. named_cmp a b ≡ Less) (k ∷ ks) = subst (λ (l : List NamedPlace). AllPairs (λ a b. named_cmp a b ≡ Less) l) next (rest_ordered items taken c.self.invariant.ordered) in
+    let apart = subst (λ (l : List NamedPlace). All (λ (e : HPoint × PointName). All (λ z. named_cmp z (record { name = e.1; at = e.0 }) ≡ Equal → ⊥) l) es) next c.self.invariant.apart in
+    next_least es k ks (next_first es k ks (c.is_first_before.ensures.none c.if-is_first_before.false) apart) ordered

@@ -1,11 +1,15 @@
-use Rattle.std.proofs.Common.{◌≡◌, List, [], ◌∷◌, ◌++◌, drop, length, refl, sym, subst, ap, ◌∙◌, rules}
+use Rattle.std.proofs.Common.{◌≡◌, ◌+◌, List, [], ◌∷◌, ◌++◌, drop, length, refl, sym, subst, ap, ◌∙◌, rules}
+use Rattle.std.proofs.Math.ListN.{length-append}
 use Rattle.overlay_terms.specs.Tiles.{Input}
 use Rattle.exact_point.specs.declared.point.HPoint.{HPoint}
 use Rattle.exact_point.specs.declared.point_name.PointName.{PointName}
 use Rattle.crossing_sweep.specs.Crossed.{IsUnderWay}
+use Rattle.crossing_sweep.specs.Rows.{count_settled}
+use Rattle.crossing_sweep.specs.Standing.{Standing}
 use Rattle.crossing_sweep.specs.declared.progress.Progress.{Progress}
 use Rattle.crossing_sweep.specs.declared.start.Start.{Start}
 use Rattle.crossing_sweep.specs.declared.search.Search.{Search}
+use Rattle.crossing_sweep.proofs.Settled.{settled_after}
 use Rattle.crossing_sweep.proofs.UnderWay.{goes_way, count_most}
 use Rattle.crossing_sweep.proofs.pass.Pass.go_on.Goals as goal
 
@@ -46,3 +50,17 @@ invariant_of-result-2 c =
 
 pub returns-clause-few : goal.returns-clause-few
 returns-clause-few c = count_most c.self.inside.input.now c.step.new.self.names.items (invariant_of-result-2 c).way
+
+pub returns-clause-settled : goal.returns-clause-settled
+returns-clause-settled c some =
+    let progress : Progress = c.self.inside.progress in
+    let names : List PointName = progress.names.items in
+    let after : Progress = c.step.new.self in
+    let named : names ++ c.in-Some.name ∷ [] ≡ after.names.items = sym (ap (λ v. v.items) c.in_ok-step.ensures.names ∙ c.in_ok-push.ensures.items) in
+    let numbered : c.len-number.result ≡ length names = search rules in
+    let stepped = c.in_ok-step.ensures.stepped in
+    let way = c.self.invariant.way in
+    let settled : count_settled (length names + 1) after.rows.items ≡ length progress.rows.items =
+    settled_after c.self.inside.input.now way.q names progress.rows.items after.rows.items stepped.bundle c.len-number.result way.carries.are_rows numbered stepped.closed in
+    let longer : length after.names.items ≡ length names + 1 = ap length (sym named) ∙ length-append names (c.in-Some.name ∷ []) in
+    ap (λ n. count_settled n after.rows.items) longer ∙ settled ∙ ap (λ (s : Standing). s.rows) c.self.view_is
