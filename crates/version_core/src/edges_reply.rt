@@ -2,12 +2,13 @@
 ghost use Rattle.std.specs.Prelude.{◌≡◌, ◌++◌, ◌∷◌, ◌⊎◌, [], None, Some, codes, decimal, map, IfOk, IfErr, OnOk};
 ghost use Rattle.overlay_terms.specs.Column.{column_numbered};
 ghost use Rattle.overlay_terms.specs.Histories.{tile_at};
+ghost use Rattle.overlay_terms.specs.Plane.{whole};
 ghost use Rattle.exact_point.specs.NamedPiece.{ends_of};
 ghost use Rattle.exact_point.specs.Place.{place};
 ghost use Rattle.exact_point.specs.PlaceOf.{place_of};
 ghost use Rattle.layer_book.specs.Fault.{RefusedBy};
 ghost use Rattle.tile_build.specs.Tile.{tile_of};
-ghost use Rattle.version_core.specs.Edges.{AreEdges, HasEndMore, HasLineMore, IsTextOf, edges_refusal, tile_absence};
+ghost use Rattle.version_core.specs.Edges.{AreEdges, HasEndMore, HasLineMore, IsTextOf, edges_refusal, point_text, tile_absence};
 
 use crate::end_texts::{EndText, EndTexts};
 use crate::fault::VersionFault;
@@ -16,7 +17,7 @@ use exact_point::{HPoint, PointName};
 use itoa::Buffer;
 use layer_book::fault::LayerFault;
 use layer_expr::name::Name;
-use plane_base::Column;
+use plane_base::{Column, Pt};
 use std::alloc::{AllocError, Global};
 use tile_build::{Piece, Tile};
 
@@ -105,16 +106,29 @@ fn push_end(
     requires { (name.now ≡ piece.now.from) ⊎ (name.now ≡ piece.now.to) }
     ensures { OnOk result (HasEndMore text.old.items text.new.items (place_of name.now)) }
 {
+    if let PointName::Vertex(point) = name {
+        push_whole(text, *point)?;
+        return Ok(());
+    }
     if let Some(kept) = texts.find(name) {
         text.extend_from_slice(kept.text.as_str().as_bytes())?;
         return Ok(());
     }
     let made = EndText::new(name, &place_at(piece, name));
     text.extend_from_slice(made.text.as_str().as_bytes())?;
-    match name {
-        PointName::Vertex(_) => {}
-        _ => texts.keep(made)?,
-    }
+    texts.keep(made)?;
+    Ok(())
+}
+
+/// Adds a whole point, which is in lowest terms as it stands.
+fn push_whole(text: &mut Vec<u8>, point: Pt) -> Result<(), AllocError>
+    ensures { OnOk result (text.new.items ≡ text.old.items ++ point_text (whole point)) }
+{
+    let mut digits = Buffer::new();
+    text.extend_from_slice(digits.format(point.x()).as_bytes())?;
+    text.push(b' ')?;
+    text.extend_from_slice(digits.format(point.y()).as_bytes())?;
+    text.extend_from_slice(b" 1")?;
     Ok(())
 }
 
