@@ -1,13 +1,19 @@
 -- The text of a tile's edges grows line by line.
 use Rattle.std.specs.Prelude.{◌≡◌, ℕ, ◌+◌, List, [], ◌∷◌, ◌++◌, length, take, flat_map, codes, decimal, IsTrue}
-use Rattle.std.proofs.Common.{zero, suc, ◌<◌, get_or, add-one, refl, ap, sym, ◌∙◌, subst, arith, append_assoc, append-nil}
+use Rattle.std.proofs.Common.{zero, suc, ◌<◌, get_or, add-one, refl, ap, sym, ◌∙◌, subst, arith, lit<, append_assoc, append-nil}
 use Rattle.std.proofs.lemmas.Grind.{flat_map-append}
-use Rattle.overlay_terms.specs.Plane.{Point, same_place}
+use Rattle.overlay_terms.specs.Plane.{Point, WholePoint, whole, same_place}
+use Rattle.std.proofs.lemmas.Fmt.{decimal_digit}
 use Rattle.std.proofs.lemmas.Int.{ints}
 use Rattle.exact_point.specs.declared.point.HPoint.{HPoint}
+use Rattle.exact_point.specs.declared.point_name.PointName.{PointName}
 use Rattle.exact_point.specs.Place.{place}
+use Rattle.exact_point.specs.PlaceOf.{place_of}
 use Rattle.exact_point.specs.Reduced.{IsLowest}
-use Rattle.version_core.specs.Edges.{edge_line, IsLowestOf, AreLowest, IsTextOf}
+use Rattle.exact_point.proofs.PlaceOrder.{same_self}
+use Rattle.exact_point.proofs.ReducedLemmas.{whole_lowest}
+use Rattle.std.specs.Fmt.{signed_decimal}
+use Rattle.version_core.specs.Edges.{edge_line, point_text, HasEndMore, HasLineMore, IsLowestOf, AreLowest, IsTextOf}
 
 -- the count of pieces and the lines of those so far
 pub record IsBegun (count : ℕ) (ends : List (Point × Point)) (text : List ℕ) : Type 0 where
@@ -36,12 +42,12 @@ pub begun : (count : ℕ) (text : List ℕ) → text ≡ codes "edges " ++ (deci
 begun count text e = record { lows = []; lowest = tt; is = e }
 
 -- one line more
-pub begun_more : (count : ℕ) (ends : List (Point × Point)) (a low : Point × Point) (text made : List ℕ) → IsBegun count ends text → IsLowestOf a.0 low.0 → IsLowestOf a.1 low.1 → made ≡ text ++ edge_line low → IsBegun count (ends ++ a ∷ []) made
-begun_more count ends a low text made h from to e = record {
+pub begun_more : (count : ℕ) (ends : List (Point × Point)) (a : Point × Point) (text made : List ℕ) → IsBegun count ends text → HasLineMore text made a → IsBegun count (ends ++ a ∷ []) made
+begun_more count ends a text made h line = let low = line.low in record {
   lows = h.lows ++ low ∷ [];
-  lowest = lowest-push ends h.lows a low h.lowest from to;
+  lowest = lowest-push ends h.lows a low h.lowest line.from line.to;
   is =
-      e ∙ ap (λ t. t ++ edge_line low) h.is ∙ append_assoc (codes "edges ") (decimal count ++ (10 ∷ flat_map edge_line h.lows)) (edge_line low)
+      line.is ∙ ap (λ t. t ++ edge_line low) h.is ∙ append_assoc (codes "edges ") (decimal count ++ (10 ∷ flat_map edge_line h.lows)) (edge_line low)
       ∙ ap (λ t. codes "edges " ++ t) (append_assoc (decimal count) (10 ∷ flat_map edge_line h.lows) (edge_line low))
       ∙ ap (λ t. codes "edges " ++ (decimal count ++ (10 ∷ t))) (ap (λ t. flat_map edge_line h.lows ++ t) (sym (append-nil (edge_line low))) ∙ sym (flat_map-append edge_line h.lows (low ∷ [])));
 }
@@ -60,14 +66,54 @@ take_next (y ∷ xs) zero x h e = ap (λ z. z ∷ []) (sym e)
 take_next (y ∷ xs) (suc i) x h e = ap (λ ys. y ∷ ys) (take_next xs i x (omega arith) e)
 
 -- the line of the piece at a place
-pub begun_step : (count : ℕ) (pieces : List (Point × Point)) (i : ℕ) (a low : Point × Point) (text made : List ℕ) → i < length pieces → a ≡ get_or pieces i a → IsBegun count (take i pieces) text → IsLowestOf a.0 low.0 → IsLowestOf a.1 low.1 → made ≡ text ++ edge_line low → IsBegun count (take (i + 1) pieces) made
-begun_step count pieces i a low text made h here begun from to e =
-    subst (λ ends. IsBegun count ends made) (sym (ap (λ k. take k pieces) (add-one i) ∙ take_next pieces i a h here)) (begun_more count (take i pieces) a low text made begun from to e)
+pub begun_step : (count : ℕ) (pieces : List (Point × Point)) (i : ℕ) (a : Point × Point) (text made : List ℕ) → i < length pieces → a ≡ get_or pieces i a → IsBegun count (take i pieces) text → HasLineMore text made a → IsBegun count (take (i + 1) pieces) made
+begun_step count pieces i a text made h here begun line =
+    subst (λ ends. IsBegun count ends made) (sym (ap (λ k. take k pieces) (add-one i) ∙ take_next pieces i a h here)) (begun_more count (take i pieces) a text made begun line)
 
--- a point in lowest terms, as `reduced` gives it
-pub lowest_of : (p q : Point) (low : HPoint) → p ≡ q → IsTrue (same_place (place low) p) → IsLowest (place low) → IsLowestOf q (place low)
-lowest_of p q low e same lowest = record {
-  same = subst (λ r. IsTrue (same_place (place low) r)) e same;
-  positive = omega (arith, ints, low.w_low);
-  lowest_terms = lowest;
+-- a line from its two ends
+pub line_of_ends : (a : Point × Point) (text with_from spaced with_to made : List ℕ) → HasEndMore text with_from a.0 → spaced ≡ with_from ++ 32 ∷ [] → HasEndMore spaced with_to a.1 → made ≡ with_to ++ 10 ∷ [] → HasLineMore text made a
+line_of_ends a text with_from spaced with_to made from space to end = record {
+  low = (from.low, to.low);
+  from = from.lowest;
+  to = to.lowest;
+  is =
+      end ∙ ap (λ t. t ++ 10 ∷ []) (to.is ∙ ap (λ t. t ++ point_text to.low) (space ∙ ap (λ t. t ++ 32 ∷ []) from.is))
+      ∙ append_assoc ((text ++ point_text from.low) ++ 32 ∷ []) (point_text to.low) (10 ∷ [])
+      ∙ append_assoc (text ++ point_text from.low) (32 ∷ []) (point_text to.low ++ 10 ∷ [])
+      ∙ append_assoc text (point_text from.low) (32 ∷ (point_text to.low ++ 10 ∷ []));
 }
+
+-- one end more, by the text of its name
+pub end_more : (name wanted : PointName) (low : HPoint) (before after text : List ℕ) → name ≡ wanted → IsTrue (same_place (place low) (place_of name)) → IsLowest (place low) → text ≡ point_text (place low) → after ≡ before ++ text → HasEndMore before after (place_of wanted)
+end_more name wanted low before after text named same lowest is e = record {
+  low = place low;
+  lowest = record { same = subst (λ n. IsTrue (same_place (place low) (place_of n))) named same; positive = omega (arith, ints, low.w_low); lowest_terms = lowest };
+  is = e ∙ ap (λ t. before ++ t) is;
+}
+
+-- three numbers with spaces between them, put down one after another
+pub three_numbers : (x y w none one spaced two again three : List ℕ) → none ≡ [] → one ≡ none ++ x → spaced ≡ one ++ codes " " → two ≡ spaced ++ y → again ≡ two ++ codes " " → three ≡ again ++ w → three ≡ x ++ (codes " " ++ (y ++ (codes " " ++ w)))
+three_numbers x y w none one spaced two again three e0 e1 e2 e3 e4 e5 =
+    let first : one ≡ x = e1 ∙ ap (λ t. t ++ x) e0 in
+    let second : two ≡ x ++ (codes " " ++ y) = e3 ∙ ap (λ t. t ++ y) (e2 ∙ ap (λ t. t ++ codes " ") first) ∙ append_assoc x (codes " ") y in
+    e5 ∙ ap (λ t. t ++ w) (e4 ∙ ap (λ t. t ++ codes " ") second)
+    ∙ append_assoc (x ++ (codes " " ++ y)) (codes " ") w ∙ append_assoc x (codes " " ++ y) (codes " " ++ w) ∙ ap (λ t. x ++ t) (append_assoc (codes " ") y (codes " " ++ w))
+
+-- one end more, a whole point
+pub whole_more : (point : WholePoint) (before after : List ℕ) → after ≡ before ++ point_text (whole point) → HasEndMore before after (whole point)
+whole_more point before after e = record {
+  low = whole point;
+  lowest = record { same = same_self (whole point); positive = omega (arith, ints); lowest_terms = whole_lowest (whole point) refl };
+  is = e;
+}
+
+-- two numbers and the denominator of a whole point, put down one after another
+pub whole_written : (point : WholePoint) (text one spaced two three : List ℕ) → one ≡ text ++ signed_decimal point.x → spaced ≡ one ++ codes " " → two ≡ spaced ++ signed_decimal point.y → three ≡ two ++ codes " 1" → three ≡ text ++ point_text (whole point)
+whole_written point text one spaced two three e1 e2 e3 e4 =
+    let x = signed_decimal point.x in
+    let y = signed_decimal point.y in
+    let first : spaced ≡ text ++ (x ++ codes " ") = e2 ∙ ap (λ t. t ++ codes " ") e1 ∙ append_assoc text x (codes " ") in
+    let second : two ≡ text ++ (x ++ (codes " " ++ y)) = e3 ∙ ap (λ t. t ++ y) first ∙ append_assoc text (x ++ codes " ") y ∙ ap (λ t. text ++ t) (append_assoc x (codes " ") y) in
+    e4 ∙ ap (λ t. t ++ codes " 1") second ∙ append_assoc text (x ++ (codes " " ++ y)) (codes " 1")
+    ∙ ap (λ t. text ++ t) (append_assoc x (codes " " ++ y) (codes " 1") ∙ ap (λ t. x ++ t) (append_assoc (codes " ") y (codes " 1")))
+    ∙ ap (λ d. text ++ (x ++ (codes " " ++ (y ++ (codes " " ++ d))))) (sym (decimal_digit 1 (lit< tt)))

@@ -1,7 +1,8 @@
 -- Slots and rows one after another.
-use Rattle.std.specs.Prelude.{◌≡◌, ℕ, ◌+◌, ◌<◌, ◌≤◌, Bool, true, false, List, [], ◌∷◌, ◌++◌, map, set, take, replicate, slice_get, Option, Some, None, if◌then◌else◌}
+use Rattle.std.specs.Prelude.{◌≡◌, ℕ, ◌+◌, ◌<◌, ◌≤◌, ◌&&◌, is_some, Bool, true, false, List, [], ◌∷◌, ◌++◌, map, set, take, replicate, slice_get, Option, Some, None, if◌then◌else◌}
 use Rattle.std.specs.List.{range_with_len}
-use Rattle.std.proofs.Common.{zero, suc, length, get_or, refl, ap, sym, subst, ◌∙◌, add-one, arith}
+use Rattle.std.proofs.Common.{zero, suc, nat_lt, length, get_or, refl, ap, sym, subst, ◌∙◌, add-one, arith}
+use Rattle.std.proofs.lemmas.Bool.Decides.{nat_tests}
 use Rattle.std.proofs.lemmas.List.{map-append}
 use Rattle.overlay_terms.specs.Column.{column_count, columns}
 use Rattle.overlay_terms.specs.Layers.{Name, Layer}
@@ -43,6 +44,39 @@ left_more slots marks made after slot kept i h there left so_far pushed =
     let here : tile_in_slot kept ≡ at i = left ∙ ap (λ o. if get_or marks i false then None else o) (sym (slot_there slots i slot h there)) in
     ap (map tile_in_slot) pushed ∙ map-append tile_in_slot made (kept ∷ []) ∙ (λ x. so_far x ++ here x ∷ [])
     ∙ sym (ap (λ n. map at (range_with_len 0 n)) (add-one i) ∙ ap (map at) (range_more 0 i ∙ ap (λ j. range_with_len 0 i ++ j ∷ []) start) ∙ map-append at (range_with_len 0 i) (i ∷ []))
+
+-- the tiles of a row that no mark takes away
+module _ (marks : List Bool) (row : List (Option Tile)) where
+  abbrev left_at_column : ℕ → Option Tile
+  left_at_column k = if get_or marks k false then None else get_or row k None
+
+  unmarked : (is_marked : Bool) (slot : Option Tile) → (is_marked && is_some slot) ≡ false → (if is_marked then None else slot) ≡ slot
+  unmarked true None e = refl
+  unmarked true (Some tile) e = absurd (cc)
+  unmarked false slot e = refl
+
+  pub whole_more : (n : ℕ) → ((k : ℕ) → k < n → left_at_column k ≡ get_or row k None) → (get_or marks n false && is_some (get_or row n None)) ≡ false → (k : ℕ) → k < n + 1 → left_at_column k ≡ get_or row k None
+  whole_more n before here k h = split (nat_lt k n) refl where
+    split : (b : Bool) → nat_lt k n ≡ b → left_at_column k ≡ get_or row k None
+    split true e = let near : k < n = grind (arith, nat_tests) in before k near
+    split false e =
+        let past : n ≤ k = grind (arith, nat_tests) in
+        let last : n ≡ k = omega arith in
+        subst (λ m. left_at_column m ≡ get_or row m None) last (unmarked (get_or marks n false) (get_or row n None) here)
+
+  by_column : (f : ℕ → Option Tile) (slots : List (Option Tile)) (a : ℕ) → ((k : ℕ) → k < length slots → f (a + k) ≡ get_or slots k None) → map f (range_with_len a (length slots)) ≡ slots
+  by_column f [] a h = refl
+  by_column f (slot ∷ slots) a h =
+      let start : a ≡ a + 0 = omega arith in
+      let first : f a ≡ slot = ap f start ∙ h 0 (omega arith) in
+      let rest : map f (range_with_len (a + 1) (length slots)) ≡ slots =
+      by_column f slots (a + 1) (λ k less. let next : (a + 1) + k ≡ a + suc k = omega arith in ap f next ∙ h (suc k) (omega (arith, less))) in
+      λ i. first i ∷ rest i
+
+  pub whole_row : length row ≡ column_count → ((k : ℕ) → k < column_count → left_at_column k ≡ get_or row k None) → row ≡ row_by left_at_column
+  whole_row size each =
+      sym (ap (λ m. map left_at_column (range_with_len 0 m)) (sym size)
+      ∙ by_column left_at_column row 0 (λ k less. let start : 0 + k ≡ k = omega arith in ap left_at_column start ∙ each k (omega (arith, size, less))))
 
 -- one row more, and all
 pub rows_more : (found : Name → ℕ → Option Tile) (layers : List Layer) (i : ℕ) (layer : Layer) (old new : List (List (Option Tile))) (row : List (Option Tile))

@@ -53,6 +53,19 @@ pub record IsLowestOf (p lowest : Point) : Type 0 where
   pub positive : pos 0 <ℤ lowest.w
   pub lowest_terms : IsLowest lowest
 
+-- a text with one place more, in lowest terms
+pub record HasEndMore (before after : List ℕ) (p : Point) : Type 0 where
+  pub low : Point
+  pub lowest : IsLowestOf p low
+  pub is : after ≡ before ++ point_text low
+
+-- a text with the line of one piece more, each end in lowest terms
+pub record HasLineMore (before after : List ℕ) (ends : Point × Point) : Type 0 where
+  pub low : Point × Point
+  pub from : IsLowestOf ends.0 low.0
+  pub to : IsLowestOf ends.1 low.1
+  pub is : after ≡ before ++ edge_line low
+
 -- the same ends in lowest terms, in order
 abbrev pub AreLowest : List (Point × Point) → List (Point × Point) → Type 0
 AreLowest [] [] = Unit {0}

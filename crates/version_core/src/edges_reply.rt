@@ -1,19 +1,23 @@
 //! The edges of a tile as text.
-ghost use Rattle.std.specs.Prelude.{◌≡◌, ◌++◌, None, Some, map, IfOk, IfErr, OnOk, string_bytes};
+ghost use Rattle.std.specs.Prelude.{◌≡◌, ◌++◌, ◌∷◌, ◌⊎◌, [], None, Some, codes, decimal, map, IfOk, IfErr, OnOk};
 ghost use Rattle.overlay_terms.specs.Column.{column_numbered};
 ghost use Rattle.overlay_terms.specs.Histories.{tile_at};
+ghost use Rattle.overlay_terms.specs.Plane.{whole};
 ghost use Rattle.exact_point.specs.NamedPiece.{ends_of};
 ghost use Rattle.exact_point.specs.Place.{place};
+ghost use Rattle.exact_point.specs.PlaceOf.{place_of};
 ghost use Rattle.layer_book.specs.Fault.{RefusedBy};
 ghost use Rattle.tile_build.specs.Tile.{tile_of};
-ghost use Rattle.version_core.specs.Edges.{AreEdges, IsTextOf, edge_line, edges_refusal, point_text, tile_absence};
+ghost use Rattle.version_core.specs.Edges.{AreEdges, HasEndMore, HasLineMore, IsTextOf, edges_refusal, point_text, tile_absence};
 
+use crate::end_texts::{EndText, EndTexts};
 use crate::fault::VersionFault;
 use crate::version::Version;
-use exact_point::{HPoint, reduced};
+use exact_point::{HPoint, PointName};
+use itoa::Buffer;
 use layer_book::fault::LayerFault;
 use layer_expr::name::Name;
-use plane_base::Column;
+use plane_base::{Column, Pt};
 use std::alloc::{AllocError, Global};
 use tile_build::{Piece, Tile};
 
@@ -61,30 +65,84 @@ impl Version {
 fn written(alloc: Global, pieces: &[Piece]) -> Result<Vec<u8>, AllocError>
     ensures { IfOk result (λ text. IsTextOf (map ends_of pieces.now) text.items) }
 {
-    let count = pieces.len();
-    let mut text = format!(in alloc; "edges {count}\n")?;
+    let mut text = head_line(alloc, pieces.len())?;
+    let mut texts = EndTexts::new(alloc);
     for piece in pieces {
-        let (from, to) = piece.ends();
-        push_line(&mut text, &reduced(&from), &reduced(&to))?;
+        push_line(&mut text, &mut texts, piece)?;
     }
-    Ok(text.into_bytes())
+    Ok(text)
+}
+
+/// The line that says how many pieces there are.
+fn head_line(alloc: Global, count: usize) -> Result<Vec<u8>, AllocError>
+    ensures { IfOk result (λ text. text.items ≡ codes "edges " ++ (decimal count ++ (10 ∷ []))) }
+{
+    let mut digits = Buffer::new();
+    let mut text = Vec::from_slice(alloc, b"edges ")?;
+    text.extend_from_slice(digits.format(count).as_bytes())?;
+    text.push(b'\n')?;
+    Ok(text)
 }
 
 /// Adds the line of a piece.
-fn push_line(text: &mut String, from: &HPoint, to: &HPoint) -> Result<(), AllocError>
-    ensures { OnOk result (string_bytes text.new ≡ string_bytes text.old ++ edge_line (place from.now, place to.now)) }
+fn push_line(text: &mut Vec<u8>, texts: &mut EndTexts, piece: &Piece) -> Result<(), AllocError>
+    ensures { OnOk result (HasLineMore text.old.items text.new.items (ends_of piece.now)) }
 {
-    push_point(text, from)?;
-    text.push_str(" ")?;
-    push_point(text, to)?;
-    text.push_str("\n")
+    let (from, to) = piece.names();
+    push_end(text, texts, piece, from)?;
+    text.push(b' ')?;
+    push_end(text, texts, piece, to)?;
+    text.push(b'\n')?;
+    Ok(())
 }
 
-fn push_point(text: &mut String, point: &HPoint) -> Result<(), AllocError>
-    ensures { OnOk result (string_bytes text.new ≡ string_bytes text.old ++ point_text (place point.now)) }
+/// Adds the end of a piece that has a name. The text of a whole point is not kept: it is made as fast.
+fn push_end(
+    text: &mut Vec<u8>,
+    texts: &mut EndTexts,
+    piece: &Piece,
+    name: &PointName,
+) -> Result<(), AllocError>
+    requires { (name.now ≡ piece.now.from) ⊎ (name.now ≡ piece.now.to) }
+    ensures { OnOk result (HasEndMore text.old.items text.new.items (place_of name.now)) }
 {
-    let x = point.x;
-    let y = point.y;
-    let w = point.w;
-    write!(text, "{x} {y} {w}")
+    if let PointName::Vertex(point) = name {
+        push_whole(text, *point)?;
+        return Ok(());
+    }
+    if let Some(kept) = texts.find(name) {
+        text.extend_from_slice(kept.text.as_str().as_bytes())?;
+        return Ok(());
+    }
+    let made = EndText::new(name, &place_at(piece, name));
+    text.extend_from_slice(made.text.as_str().as_bytes())?;
+    texts.keep(made)?;
+    Ok(())
+}
+
+/// Adds a whole point, which is in lowest terms as it stands.
+fn push_whole(text: &mut Vec<u8>, point: Pt) -> Result<(), AllocError>
+    ensures { OnOk result (text.new.items ≡ text.old.items ++ point_text (whole point)) }
+{
+    let mut digits = Buffer::new();
+    text.extend_from_slice(digits.format(point.x()).as_bytes())?;
+    text.push(b' ')?;
+    text.extend_from_slice(digits.format(point.y()).as_bytes())?;
+    text.extend_from_slice(b" 1")?;
+    Ok(())
+}
+
+/// The place of the end of a piece that has a name.
+fn place_at(piece: &Piece, name: &PointName) -> HPoint
+    requires { (name.now ≡ piece.now.from) ⊎ (name.now ≡ piece.now.to) }
+    ensures { place result ≡ place_of name.now }
+{
+    match name.point() {
+        Some(place) => place,
+        None => {
+            // The names of a piece have places, as its ends say.
+            piece.ends();
+            unreachable!()
+        }
+    }
 }

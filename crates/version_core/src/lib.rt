@@ -3,6 +3,7 @@
 
 pub mod awaiting;
 pub mod edges_reply;
+mod end_texts;
 pub mod fault;
 pub mod finishing;
 pub mod locating;

@@ -131,7 +131,7 @@ impl Table {
     {
         let touched = self.layers().touched_rows(alloc, change, after)?;
         let marks = touched.as_slice();
-        let mut rows = Vec::new(alloc);
+        let mut rows = Vec::with_capacity(alloc, after.len())?;
         for place in 0..after.len() {
             if let Some((name, _)) = after.at(place) {
                 let row = self.row_left(alloc, marks, name)?;
@@ -221,7 +221,7 @@ fn put_row(rows: &mut Vec<TileRow>, place: usize, row: TileRow)
 fn empty_rows(alloc: Global, count: usize) -> Result<Vec<TileRow>, AllocError>
     ensures { IfOk result (λ rows. rows.items ≡ replicate count (replicate column_count None)) }
 {
-    let mut rows = Vec::new(alloc);
+    let mut rows = Vec::with_capacity(alloc, count)?;
     for _ in 0..count {
         let row = TileRow::empty(alloc)?;
         rows.push(row)?;
@@ -233,7 +233,7 @@ fn empty_rows(alloc: Global, count: usize) -> Result<Vec<TileRow>, AllocError>
 fn shared_rows(alloc: Global, rows: &[TileRow]) -> Result<Vec<TileRow>, AllocError>
     ensures { IfOk result (λ copies. copies.items ≡ rows.now) }
 {
-    let mut copies = Vec::new(alloc);
+    let mut copies = Vec::with_capacity(alloc, rows.len())?;
     for row in rows {
         let copy = row.share()?;
         copies.push(copy)?;

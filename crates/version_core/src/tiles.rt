@@ -1,5 +1,5 @@
 //! Rows of finished tiles.
-ghost use Rattle.std.specs.Prelude.{◌≡◌, None, Some, false, get_or, is_some, length, map, replicate, set, take, IfOk, if◌then◌else◌};
+ghost use Rattle.std.specs.Prelude.{◌≡◌, ◌<◌, ◌&&◌, None, Some, false, get_or, is_some, length, map, replicate, set, take, IfOk, IsTrue, if◌then◌else◌};
 ghost use Rattle.std.specs.List.{list_all};
 ghost use Rattle.std.specs.Option.{option_map};
 ghost use Rattle.overlay_terms.specs.Column.{column_count};
@@ -96,7 +96,8 @@ impl TileRow {
 
     /// The same row, shared by one more.
     pub(crate) fn share(&self) -> Result<TileRow, AllocError>
-        ensures { IfOk result (λ row. row ≡ self.now) }
+        ensures value { IfOk result (λ row. row ≡ self.now) }
+        ensures whole { length self.now ≡ column_count }
     {
         Ok(TileRow {
             slots: self.slots.clone()?,
@@ -146,7 +147,7 @@ impl TileRow {
         Ok(row)
     }
 
-    /// The row without the tiles of the columns that are marked.
+    /// The row without the tiles of the columns that are marked. Where it has none of them it is shared.
     pub(crate) fn without(
         &self,
         alloc: Global,
@@ -154,8 +155,34 @@ impl TileRow {
     ) -> Result<TileRow, AllocError>
         ensures { IfOk result (λ row. row ≡ row_by (λ k. if get_or marks.now k false then None else get_or self.now k None)) }
     {
+        if self.is_left_whole(marks) {
+            return self.share();
+        }
         let slots = left_in(alloc, &self.slots, marks)?;
         TileRow::of(alloc, slots)
+    }
+
+    /// Whether the row has no tile of the columns that are marked.
+    fn is_left_whole(&self, marks: &[bool; COLUMNS]) -> bool
+        ensures { IsTrue result → (k : _) → k < column_count → (if get_or marks.now k false then None else get_or self.now k None) ≡ get_or self.now k None }
+    {
+        for number in 0..COLUMNS {
+            if self.has_marked(marks, number) {
+                return false;
+            }
+        }
+        true
+    }
+
+    /// Whether the column with a number is marked and has a tile.
+    fn has_marked(&self, marks: &[bool; COLUMNS], number: usize) -> bool
+        requires { number < column_count }
+        ensures { result ≡ (get_or marks.now number false && is_some (get_or self.now number None)) }
+    {
+        match self.tile_at(number) {
+            Some(_) => marks[number],
+            None => false,
+        }
     }
 }
 
@@ -172,7 +199,7 @@ fn left_in(alloc: Global, slots: &[Slot], marks: &[bool; COLUMNS]) -> Result<Vec
     requires { length slots.now ≡ column_count }
     ensures { IfOk result (λ left. map tile_in_slot left.items ≡ row_by (λ k. if get_or marks.now k false then None else get_or (map tile_in_slot slots.now) k None)) }
 {
-    let mut left = Vec::new(alloc);
+    let mut left = Vec::with_capacity(alloc, COLUMNS)?;
     for i in 0..COLUMNS {
         let kept = slots[i].left(marks[i])?;
         left.push(kept)?;
@@ -184,7 +211,7 @@ fn left_in(alloc: Global, slots: &[Slot], marks: &[bool; COLUMNS]) -> Result<Vec
 fn no_tiles(alloc: Global) -> Result<Vec<Slot>, AllocError>
     ensures { IfOk result (λ slots. map tile_in_slot slots.items ≡ replicate column_count None) }
 {
-    let mut slots = Vec::new(alloc);
+    let mut slots = Vec::with_capacity(alloc, COLUMNS)?;
     for _ in 0..COLUMNS {
         slots.push(Slot { tile: None })?;
     }
@@ -207,7 +234,7 @@ fn are_filled(slots: &[Slot]) -> bool
 fn copied(alloc: Global, slots: &[Slot]) -> Result<Vec<Slot>, AllocError>
     ensures { IfOk result (λ copies. map tile_in_slot copies.items ≡ map tile_in_slot slots.now) }
 {
-    let mut copies = Vec::new(alloc);
+    let mut copies = Vec::with_capacity(alloc, slots.len())?;
     for slot in slots {
         copies.push(slot.clone()?)?;
     }

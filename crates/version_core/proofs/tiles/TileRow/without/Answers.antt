@@ -1,0 +1,12 @@
+use Rattle.std.proofs.Common.{◌≡◌, get_or, false, None, if◌then◌else◌, ◌∙◌}
+use Rattle.version_core.specs.Table.{row_by}
+use Rattle.version_core.proofs.LookLemmas.{ok_then}
+use Rattle.version_core.proofs.RowLemmas.{whole_row}
+use Rattle.version_core.proofs.tiles.TileRow.without.Goals as goal
+
+pub returns-then-is_left_whole : goal.returns-then-is_left_whole
+returns-then-is_left_whole c =
+    let row = c.args.self.now in
+    let marks = c.args.marks.now in
+    ok_then c.share.result (λ shared. shared ≡ row) (λ left. left ≡ row_by (λ k. if get_or marks k false then None else get_or row k None)) c.share.ensures.value
+    (λ shared is. is ∙ whole_row marks row c.share.ensures.whole (c.is_left_whole.ensures c.if-is_left_whole.true))
