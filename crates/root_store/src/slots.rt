@@ -20,5 +20,9 @@ pub(crate) fn other_gate(root: Root) -> usize
 pub(crate) fn other_body(root: Root) -> usize
     ensures { result ≡ body_at (other root) }
 {
-    if root.sequence % 2 == 0 { BLOCK + BODY } else { BODY }
+    if root.sequence % 2 == 0 {
+        BLOCK + BODY
+    } else {
+        BODY
+    }
 }
