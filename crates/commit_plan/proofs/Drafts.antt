@@ -1,9 +1,9 @@
 -- One record more in a draft.
-use Rattle.std.proofs.Common.{◌≡◌, ◌⊎◌, inl, inr, ℕ, ◌+◌, ◌-◌, ◌*◌, ◌≤◌, List, [], ◌∷◌, ◌++◌, length, take, replicate, refl, sym, ◌∙◌, ap, subst, arith, Result, Ok, Err, IsErrAnd}
+use Rattle.std.proofs.Common.{◌≡◌, ℕ, ◌+◌, ◌-◌, ◌*◌, ◌≤◌, List, [], ◌∷◌, ◌++◌, length, take, replicate, refl, sym, ◌∙◌, ap, subst, arith, Result, Ok, Err, IsErrAnd}
 use Rattle.std.proofs.lemmas.List.{length-append, length-replicate}
 use Rattle.extent_map.specs.declared.extent.Extent as runs
 use Rattle.extent_map.specs.Extents.{AreAlike}
-use Rattle.extent_map.specs.FirstFit.{blocks_for, IsFirstFit, NoFit, IsPlanned, IsFull, taken_with}
+use Rattle.extent_map.specs.FirstFit.{IsFirstFit, NoFit, IsPlanned, IsFull, taken_with}
 use Rattle.extent_map.specs.Taken.{taken_of}
 use Rattle.extent_map.proofs.Plans.{fit_alike, none_alike, planned_more, taken_more}
 use Rattle.extent_map.specs.declared.fault.ExtentFault.{ExtentFault}
@@ -40,12 +40,12 @@ front_of : (bytes more : List ℕ) → take (length bytes) (bytes ++ more) ≡ b
 front_of [] more = refl
 front_of (b ∷ bytes) more = ap (λ (l : List ℕ). b ∷ l) (front_of bytes more)
 
-pub bytes_fit : (n : ℕ) → n ≤ 4096 * blocks_for n
+pub bytes_fit : (n : ℕ) → n ≤ 4096 * blocks n
 bytes_fit n = omega arith
 
 -- what a record becomes is its write
 pub written_so : (f : Filed) (w : Write) (r : runs.Extent) → 2 ≤ r.block → f.extent.block ≡ r.block
-    → f.extent.size ≡ length f.bytes → r.blocks ≡ blocks_for (length f.bytes) → w.at ≡ r.block * 4096
+    → f.extent.size ≡ length f.bytes → r.blocks ≡ blocks (length f.bytes) → w.at ≡ r.block * 4096
     → w.bytes.items ≡ f.bytes ++ replicate (4096 * r.blocks - length f.bytes) 0 → IsWriteOf f w
 written_so f w r behind block size long at is =
     let all : length w.bytes.items ≡ length f.bytes + (4096 * r.blocks - length f.bytes) =
@@ -68,14 +68,14 @@ written_so f w r behind block size long at is =
 -- one record more has its run
 pub placed_more : (given : List runs.Extent) (limit : ℕ) (sizes : List ℕ) (old new : Draft) (n : ℕ) (r : runs.Extent)
     → ArePlaced given limit sizes old
-    → new.room.max_blocks ≡ old.room.max_blocks → new.runs.items ≡ old.runs.items ++ r ∷ [] → r.blocks ≡ blocks_for n
-    → IsFirstFit (taken_of old.room.map) old.room.max_blocks (blocks_for n) r.block
+    → new.room.max_blocks ≡ old.room.max_blocks → new.runs.items ≡ old.runs.items ++ r ∷ [] → r.blocks ≡ blocks n
+    → IsFirstFit (taken_of old.room.map) old.room.max_blocks (blocks n) r.block
     → ((l : List runs.Extent) → AreAlike l (taken_of old.room.map) → AreAlike (r ∷ l) (taken_of new.room.map))
     → ArePlaced given limit (sizes ++ n ∷ []) new
 placed_more given limit sizes old new n r placed same runs_are long fit taken =
-    let here = subst (λ (m : ℕ). IsFirstFit (taken_of old.room.map) m (blocks_for n) r.block) placed.blocks fit in
+    let here = subst (λ (m : ℕ). IsFirstFit (taken_of old.room.map) m (blocks n) r.block) placed.blocks fit in
     let fits = fit_alike (taken_with given old.runs.items) (taken_of old.room.map) limit
-    (blocks_for n) r.block placed.alike here in
+    (blocks n) r.block placed.alike here in
     let planned = planned_more given limit sizes old.runs.items n r placed.planned long fits in
     let alike = subst (λ (l : List runs.Extent). AreAlike l (taken_of new.room.map))
     (sym (taken_more given old.runs.items r)) (taken (taken_with given old.runs.items) placed.alike) in
@@ -91,7 +91,7 @@ pub drafted : (given : List runs.Extent) (limit : ℕ) (fs : List Filed) (old ne
     (r : runs.Extent) → IsDraft given limit fs old
     → ArePlaced given limit (lengths_of fs ++ length f.bytes ∷ []) new → new.runs.items ≡ old.runs.items ++ r ∷ []
     → new.writes.items ≡ old.writes.items ++ w ∷ []
-    → f.extent.block ≡ r.block → f.extent.size ≡ length f.bytes → r.blocks ≡ blocks_for (length f.bytes) → IsWriteOf f w
+    → f.extent.block ≡ r.block → f.extent.size ≡ length f.bytes → r.blocks ≡ blocks (length f.bytes) → IsWriteOf f w
     → IsDraft given limit (fs ++ f ∷ []) new
 drafted given limit fs old new f w r draft placed runs_are writes_are block size long is = record {
   placed = subst (λ (l : List ℕ). ArePlaced given limit l new) (sym (lengths_more fs f)) placed;
@@ -103,7 +103,7 @@ drafted given limit fs old new f w r draft placed runs_are writes_are block size
 
 -- a record for which there is no run
 pub no_run : (given : List runs.Extent) (limit : ℕ) (sizes : List ℕ) (d : Draft) (n : ℕ) → ArePlaced given limit sizes d
-    → NoFit (taken_of d.room.map) d.room.max_blocks (blocks_for n)
+    → NoFit (taken_of d.room.map) d.room.max_blocks (blocks n)
     → IsFull given limit (sizes ++ n ∷ [])
 no_run given limit sizes d n placed none = record {
   before = sizes;
@@ -112,8 +112,8 @@ no_run given limit sizes d n placed none = record {
   runs = d.runs.items;
   are = refl;
   planned = placed.planned;
-  none = none_alike (taken_with given d.runs.items) (taken_of d.room.map) limit (blocks_for n) placed.alike
-      (subst (λ (m : ℕ). NoFit (taken_of d.room.map) m (blocks_for n)) placed.blocks none);
+  none = none_alike (taken_with given d.runs.items) (taken_of d.room.map) limit (blocks n) placed.alike
+      (subst (λ (m : ℕ). NoFit (taken_of d.room.map) m (blocks n)) placed.blocks none);
 }
 
 -- an error is one whatever the type of the values is

@@ -2,6 +2,7 @@ pub mod Fault
 pub mod Kept
 pub mod Same
 pub mod Staying
+pub mod Taking
 pub mod Live
 pub mod Planning
 pub mod Filing

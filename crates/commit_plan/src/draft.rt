@@ -1,6 +1,7 @@
 //! The records of a commit, each put in its place.
 ghost use Rattle.std.specs.Prelude.{◌≡◌, ◌⊎◌, ◌+◌, ◌-◌, ◌*◌, ◌^◌, ◌≤◌, ◌<◌, ◌++◌, ◌∷◌, [], ℕ, List, length, replicate, IfOk, IfErr, IsErrOf};
 ghost use Rattle.extent_map.specs.declared.extent.Extent as runs;
+ghost use Rattle.extent_map.specs.Blocks.{block_size};
 ghost use Rattle.extent_map.specs.FirstFit.{IsFull};
 ghost use Rattle.extent_map.specs.Taken.{taken_of};
 ghost use Rattle.commit_plan.specs.Filing.{Filed};
@@ -9,8 +10,8 @@ ghost use Rattle.commit_plan.specs.Drafting.{ArePlaced, IsDraft};
 use crate::fault::StoreFault;
 use crate::room::Room;
 use crate::write::Write;
-use extent_map::extent::Extent as Run;
 use extent_map::BLOCK;
+use extent_map::extent::Extent as Run;
 use std::alloc::{AllocError, Global};
 use store_terms::root::RecordExtent;
 
@@ -25,8 +26,8 @@ pub(crate) struct Draft {
 /// Bytes filled up to whole blocks by zeros.
 fn padded(mut bytes: Vec<u8>, blocks: u64) -> Result<Vec<u8>, AllocError>
     requires few { blocks < 2 ^ 40 }
-    requires enough { length bytes.items ≤ 4096 * blocks }
-    ensures { IfOk result (λ v. v.items ≡ bytes.items ++ replicate (4096 * blocks - length bytes.items) 0) }
+    requires enough { length bytes.items ≤ block_size * blocks }
+    ensures { IfOk result (λ v. v.items ≡ bytes.items ++ replicate (block_size * blocks - length bytes.items) 0) }
 {
     bytes.resize(blocks as usize * BLOCK, 0)?;
     Ok(bytes)

@@ -20,7 +20,7 @@ use crate::live_records::LiveRecords;
 use layer_book::layer::Layer;
 use layer_book::layers::Layers;
 use layer_expr::name::Name;
-use plane_base::COLUMN_COUNT;
+use plane_base::{COLUMN_COUNT, Column};
 use record_writing::base_writing::write_base;
 use record_writing::catalog::{Listed, Records};
 use record_writing::definition_writing::write_definition;
@@ -30,7 +30,7 @@ use store_terms::root::RecordExtent;
 use tile_build::StoredTile;
 
 /// Whether the first of some tiles is that of a layer and column.
-fn is_here(layers: &Layers, place: usize, column: u8, tiles: &[StoredTile]) -> bool
+fn is_here(layers: &Layers, place: usize, column: Column, tiles: &[StoredTile]) -> bool
     requires { place < length layers.now }
     ensures here { IsTrue result → IsHere layers.now place column (map finished_of tiles.now) }
     ensures elsewhere { IsFalse result → IsElsewhere layers.now place column (map finished_of tiles.now) }
@@ -39,7 +39,7 @@ fn is_here(layers: &Layers, place: usize, column: u8, tiles: &[StoredTile]) -> b
         return false;
     }
     let tile = &tiles[0];
-    if tile.column.number() != column {
+    if tile.column != column {
         return false;
     }
     match layers.find(&tile.name) {
@@ -101,7 +101,7 @@ fn file_tile<'a>(
     live: &LiveRecords,
     layers: &Layers,
     place: usize,
-    column: u8,
+    column: Column,
     tiles: &'a [StoredTile],
 ) -> Result<(Option<RecordExtent>, &'a [StoredTile]), StoreFault>
     requires place { place < length layers.now }
@@ -154,7 +154,10 @@ fn file_tiles<'a>(
 {
     let mut entries = Vec::new(alloc);
     let mut rest = tiles;
-    for column in 0..COLUMN_COUNT {
+    for number in 0..COLUMN_COUNT {
+        let Some(column) = Column::new(u64::from(number)) else {
+            unreachable!()
+        };
         let (entry, after) = file_tile(alloc, draft, live, layers, place, column, rest)?;
         entries.push(entry)?;
         rest = after;

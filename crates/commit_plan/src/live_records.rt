@@ -1,31 +1,28 @@
 //! The records of the live root: what it holds, and where.
-ghost use Rattle.std.specs.Prelude.{◌≡◌, ◌⊎◌, ◌∷◌, [], map, true, Some, IfOk, IfErr};
-ghost use Rattle.store_terms.specs.declared.damage.Damage.TheVariants.{Overlap};
+ghost use Rattle.std.specs.Prelude.{◌≡◌, [], map, true, Some, IfOk};
 ghost use Rattle.std.specs.Option.{option_map};
 ghost use Rattle.extent_map.specs.Extents.{IsUnused};
-ghost use Rattle.extent_map.specs.Taken.{taken_of, limit_of};
+ghost use Rattle.extent_map.specs.Taken.{taken_of};
 ghost use Rattle.overlay_terms.specs.Histories.{tile_at};
 ghost use Rattle.layer_book.specs.Layer.{content};
 ghost use Rattle.record_writing.specs.Listing.{entries_of, records_of};
-ghost use Rattle.store_terms.specs.Image.{Held};
 ghost use Rattle.store_terms.specs.Places.{blocks, is_apart_from, all_apart, extents_listed};
 ghost use Rattle.store_terms.specs.declared.root.RecordExtent as terms;
 ghost use Rattle.tile_build.specs.StoredTile.{finished_of};
 ghost use Rattle.tile_build.specs.Tile.{tile_of};
-ghost use Rattle.root_reading.specs.Looking.{Gives};
-ghost use Rattle.root_reading.specs.Taking.{IsMapOf, AllNear, if_apart};
+ghost use Rattle.commit_plan.specs.Taking.{TakesRoom};
 ghost use Rattle.commit_plan.specs.Staying.{own_extent, tile_extent, records_named, if_near, layer_named, layer_stays, tile_stays, near_ones, is_of};
 
 use crate::comparing::{same_layer, same_tile};
 use crate::room::Room;
 use crate::taking::room_of;
+use extent_map::blocks_of;
 use extent_map::extent::Extent as Run;
 use layer_book::layer::Layer;
 use layer_book::layers::Layers;
 use layer_expr::name::Name;
 use plane_base::Column;
 use record_writing::catalog::{Listed, Records};
-use extent_map::blocks_of;
 use root_reading::load_fault::LoadFault;
 use std::alloc::Global;
 use store_terms::root::RecordExtent;
@@ -138,13 +135,7 @@ impl LiveRecords {
         ensures stands { IfOk result
             (λ live. standing live
             ≡ record { listing = entries_of listing.items; layers = layers; tiles = map finished_of tiles.items }) }
-        ensures taken { AllNear (catalog ∷ extents_listed (entries_of listing.items))
-            → IfOk result
-            (λ live. IsMapOf (catalog ∷ extents_listed (entries_of listing.items)) (taken_of live.room.map)) }
-        ensures reads { AllNear (catalog ∷ extents_listed (entries_of listing.items)) → (held : Held)
-            → Gives (λ live. held) result (if_apart (catalog ∷ extents_listed (entries_of listing.items)) held) }
-        ensures errors { IfErr result (λ e. (e ≡ LoadFault.OutOfMemory) ⊎ (e ≡ LoadFault.Damaged Overlap)) }
-        ensures limit { IfOk result (λ live. limit_of live.room.map ≡ max_blocks) }
+        ensures room { TakesRoom (λ live. live.room) catalog (entries_of listing.items) max_blocks result }
     {
         let room = room_of(alloc, catalog, &listing, max_blocks)?;
         Ok(LiveRecords {

@@ -1,18 +1,17 @@
 //! What a root of a file holds, and the blocks that it takes.
-ghost use Rattle.std.specs.Prelude.{◌≡◌, ◌⊎◌, ◌∷◌, ◌↔◌, ◌^◌, ◌<◌, length, map, Ok, IfOk, IfErr};
+ghost use Rattle.std.specs.Prelude.{◌≡◌, ◌↔◌, ◌^◌, ◌<◌, length, map, Ok, IfOk, IfErr};
 ghost use Rattle.overlay_terms.specs.StoredTiles.{AreStored};
 ghost use Rattle.extent_map.specs.Taken.{taken_of, limit_of};
 ghost use Rattle.tile_build.specs.StoredTile.{finished_of};
-ghost use Rattle.store_terms.specs.Image.{Held, held_of};
+ghost use Rattle.store_terms.specs.Image.{held_of};
 ghost use Rattle.store_terms.specs.Image as terms;
 ghost use Rattle.record_writing.specs.Listing.{entries_of};
-ghost use Rattle.root_reading.specs.Taking.{IsMapOf, AllNear, if_apart};
+ghost use Rattle.root_reading.specs.Taking.{IsMapOf};
 ghost use Rattle.root_reading.specs.Looking.{Gives, Looks, Causes};
 ghost use Rattle.commit_plan.specs.Loading.{held_in, kept_in, standing_in};
 ghost use Rattle.commit_plan.specs.Staying.{standing_of};
 ghost use Rattle.commit_plan.specs.Live.{standing};
-ghost use Rattle.store_terms.specs.Places.{extents_listed};
-ghost use Rattle.store_terms.specs.declared.damage.Damage.TheVariants.{Overlap};
+ghost use Rattle.commit_plan.specs.Taking.{TakesRoom};
 ghost use Rattle.commit_plan.specs.Kept.{extents_in};
 
 use crate::live_records::LiveRecords;
@@ -58,13 +57,7 @@ fn live_of(
     max_blocks: u32,
 ) -> Result<LiveRecords, LoadFault>
     ensures stands { IfOk result (λ live. standing live ≡ standing_in (entries_of listing.items) content.now) }
-    ensures taken { AllNear (catalog ∷ extents_listed (entries_of listing.items))
-        → IfOk result
-        (λ live. IsMapOf (catalog ∷ extents_listed (entries_of listing.items)) (taken_of live.room.map)) }
-    ensures reads { AllNear (catalog ∷ extents_listed (entries_of listing.items)) → (held : Held)
-        → Gives (λ live. held) result (if_apart (catalog ∷ extents_listed (entries_of listing.items)) held) }
-    ensures errors { IfErr result (λ e. (e ≡ LoadFault.OutOfMemory) ⊎ (e ≡ LoadFault.Damaged Overlap)) }
-    ensures limit { IfOk result (λ live. limit_of live.room.map ≡ max_blocks) }
+    ensures room { TakesRoom (λ live. live.room) catalog (entries_of listing.items) max_blocks result }
 {
     let layers = content.layers.try_copy(alloc)?;
     let tiles = shared_again(alloc, &content.tiles)?;

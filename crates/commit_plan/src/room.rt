@@ -2,7 +2,8 @@
 ghost use Rattle.std.specs.Prelude.{◌≡◌, ◌⊎◌, ◌^◌, ◌<◌, ◌∷◌, List, IsOk, IfOk, IfErr, IsErrOf};
 ghost use Rattle.extent_map.specs.declared.extent.Extent as runs;
 ghost use Rattle.extent_map.specs.Extents.{AreApart, AreAlike};
-ghost use Rattle.extent_map.specs.FirstFit.{IsFirstFit, NoFit, blocks_for};
+ghost use Rattle.extent_map.specs.Blocks.{blocks};
+ghost use Rattle.extent_map.specs.FirstFit.{IsFirstFit, NoFit};
 ghost use Rattle.extent_map.specs.Taken.{taken_of, limit_of};
 
 use crate::fault::StoreFault;
@@ -47,15 +48,15 @@ impl Room {
 
     /// The lowest run that is free for so many bytes. It is taken from then on.
     pub(crate) fn place(&mut self, size: u32) -> Result<Extent, StoreFault>
-        ensures size { IfOk result (λ run. run.blocks ≡ blocks_for size) }
+        ensures size { IfOk result (λ run. run.blocks ≡ blocks size) }
         ensures fit { IfOk result
-            (λ run. IsFirstFit (taken_of self.old.map) self.old.max_blocks (blocks_for size) run.block) }
+            (λ run. IsFirstFit (taken_of self.old.map) self.old.max_blocks (blocks size) run.block) }
         ensures low { IfOk result (λ run. run.block < 2 ^ 32) }
         ensures taken { (given : List runs.Extent) → AreAlike given (taken_of self.old.map)
             → IfOk result (λ run. AreAlike (run ∷ given) (taken_of self.new.map)) }
         ensures limit { self.new.max_blocks ≡ self.old.max_blocks }
         ensures full { IsErrOf result StoreFault.Full
-            → NoFit (taken_of self.old.map) self.old.max_blocks (blocks_for size) }
+            → NoFit (taken_of self.old.map) self.old.max_blocks (blocks size) }
         ensures err { IfErr result (λ fault. (fault ≡ StoreFault.Full) ⊎ (fault ≡ StoreFault.OutOfMemory)) }
     {
         match self.map.place(size) {

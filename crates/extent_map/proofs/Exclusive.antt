@@ -3,7 +3,8 @@ use Rattle.std.proofs.Common.{◌≡◌, inl, inr, ⊎_elim, ℕ, List, [], ◌�
 use Rattle.std.proofs.lemmas.Bool.{cases_lt}
 use Rattle.extent_map.specs.declared.extent.Extent.{Extent}
 use Rattle.extent_map.specs.Extents.{IsApart, AreAlike}
-use Rattle.extent_map.specs.FirstFit.{blocks_for, IsFirstFit, NoFit, IsPlanned, taken_with, PlannedIsNotFull}
+use Rattle.extent_map.specs.Blocks.{blocks}
+use Rattle.extent_map.specs.FirstFit.{IsFirstFit, NoFit, IsPlanned, taken_with, PlannedIsNotFull}
 use Rattle.extent_map.proofs.Gaps.{alike_self}
 
 -- of what is alike there is one lowest run
@@ -27,14 +28,14 @@ alike_more taken other d e block blocks alike = record {
 }
 
 not_full : (taken other : List Extent) (limit : ℕ) (before : List ℕ) (wanted : ℕ) (behind : List ℕ) (runs all : List Extent) → AreAlike taken other → IsPlanned taken limit before runs
-    → IsPlanned other limit (before ++ wanted ∷ behind) all → NoFit (taken_with taken runs) limit (blocks_for wanted) → ⊥
+    → IsPlanned other limit (before ++ wanted ∷ behind) all → NoFit (taken_with taken runs) limit (blocks wanted) → ⊥
 not_full taken other limit [] wanted behind [] [] alike planned whole none = whole
-not_full taken other limit [] wanted behind [] (r ∷ all) alike planned whole none = none r.block whole.1.behind whole.1.below (alike.back r.block (blocks_for wanted) whole.1.free)
+not_full taken other limit [] wanted behind [] (r ∷ all) alike planned whole none = none r.block whole.1.behind whole.1.below (alike.back r.block (blocks wanted) whole.1.free)
 not_full taken other limit [] wanted behind (d ∷ runs) all alike planned whole none = planned
 not_full taken other limit (n ∷ before) wanted behind [] all alike planned whole none = planned
 not_full taken other limit (n ∷ before) wanted behind (d ∷ runs) [] alike planned whole none = whole
 not_full taken other limit (n ∷ before) wanted behind (d ∷ runs) (e ∷ all) alike planned whole none =
-    let block = one_fit taken other limit (blocks_for n) d.block e.block alike planned.1 whole.1 in
+    let block = one_fit taken other limit (blocks n) d.block e.block alike planned.1 whole.1 in
     let blocks = planned.0 ∙ sym whole.0 in
     not_full (d ∷ taken) (e ∷ other) limit before wanted behind runs all (alike_more taken other d e block blocks alike) planned.2 whole.2 none
 

@@ -2,7 +2,8 @@
 use Rattle.std.proofs.Common.{◌≡◌, ℕ, List, [], ◌∷◌, ◌++◌, refl}
 use Rattle.extent_map.specs.declared.extent.Extent.{Extent}
 use Rattle.extent_map.specs.Extents.{AreAlike}
-use Rattle.extent_map.specs.FirstFit.{blocks_for, IsFirstFit, NoFit, IsPlanned, taken_with}
+use Rattle.extent_map.specs.Blocks.{blocks}
+use Rattle.extent_map.specs.FirstFit.{IsFirstFit, NoFit, IsPlanned, taken_with}
 
 pub fit_alike : (given taken : List Extent) (limit need start : ℕ) → AreAlike given taken → IsFirstFit taken limit need start → IsFirstFit given limit need start
 fit_alike given taken limit need start alike fit = record {
@@ -17,7 +18,7 @@ none_alike given taken limit need alike none s two below free = none s two below
 
 -- one length more finds its run
 pub planned_more : (taken : List Extent) (limit : ℕ) (lengths : List ℕ) (runs : List Extent) (n : ℕ) (run : Extent) → IsPlanned taken limit lengths runs
-    → run.blocks ≡ blocks_for n → IsFirstFit (taken_with taken runs) limit (blocks_for n) run.block → IsPlanned taken limit (lengths ++ n ∷ []) (runs ++ run ∷ [])
+    → run.blocks ≡ blocks n → IsFirstFit (taken_with taken runs) limit (blocks n) run.block → IsPlanned taken limit (lengths ++ n ∷ []) (runs ++ run ∷ [])
 planned_more taken limit [] [] n run planned size fit = (size, fit, tt)
 planned_more taken limit [] (r ∷ runs) n run planned size fit = absurd planned
 planned_more taken limit (m ∷ lengths) [] n run planned size fit = absurd planned

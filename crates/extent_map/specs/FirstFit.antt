@@ -1,11 +1,8 @@
 -- The lowest run that fits, for one length and for several.
-use Rattle.std.specs.Prelude.{◌≡◌, ℕ, ◌+◌, ◌/◌, ◌<◌, ◌≤◌, max, List, [], ◌∷◌, ◌++◌}
+use Rattle.std.specs.Prelude.{◌≡◌, ℕ, ◌+◌, ◌<◌, ◌≤◌, List, [], ◌∷◌, ◌++◌}
 use Rattle.extent_map.specs.declared.extent.Extent.{Extent}
+use Rattle.extent_map.specs.Blocks.{blocks}
 use Rattle.extent_map.specs.Extents.{IsUnused}
-
--- the blocks that so many bytes take: no record takes none
-abbrev pub blocks_for : ℕ → ℕ
-blocks_for length = max 1 ((length + 4095) / 4096)
 
 -- the lowest start, from block 2 on, of so many free blocks below the limit
 pub record IsFirstFit (taken : List Extent) (limit need start : ℕ) : Type 0 where
@@ -24,7 +21,7 @@ IsPlanned taken limit [] [] = Unit {0}
 IsPlanned taken limit [] (run ∷ runs) = ⊥
 IsPlanned taken limit (n ∷ lengths) [] = ⊥
 IsPlanned taken limit (n ∷ lengths) (run ∷ runs) =
-    (run.blocks ≡ blocks_for n) × IsFirstFit taken limit (blocks_for n) run.block × IsPlanned (run ∷ taken) limit lengths runs
+    (run.blocks ≡ blocks n) × IsFirstFit taken limit (blocks n) run.block × IsPlanned (run ∷ taken) limit lengths runs
 
 -- what is taken once these runs are taken too, in order
 abbrev pub taken_with : List Extent → List Extent → List Extent
@@ -39,7 +36,7 @@ pub record IsFull (taken : List Extent) (limit : ℕ) (lengths : List ℕ) : Typ
   pub runs : List Extent
   pub are : lengths ≡ before ++ wanted ∷ behind
   pub planned : IsPlanned taken limit before runs
-  pub none : NoFit (taken_with taken runs) limit (blocks_for wanted)
+  pub none : NoFit (taken_with taken runs) limit (blocks wanted)
 
 -- where each length has found its run, none has found none
 abbrev pub PlannedIsNotFull : Type 0

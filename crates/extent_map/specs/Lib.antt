@@ -1,3 +1,4 @@
+pub mod Blocks
 pub mod Extents
 pub mod Fault
 pub mod FirstFit

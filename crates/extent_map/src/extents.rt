@@ -2,7 +2,8 @@
 ghost use Rattle.std.specs.Prelude.{◌≡◌, ◌≤◌, ◌+◌, ◌∷◌, List, length, take, drop, IsOk, IfOk, IfSome, IfNone, IfErr, IsErrOf, OnErr};
 ghost use Rattle.std.specs.List.{AllByRecursion};
 ghost use Rattle.extent_map.specs.Extents.{IsUnused, AreApart, AreAlike, Ascend, Ascend-prop, IsGap};
-ghost use Rattle.extent_map.specs.FirstFit.{IsPlanned, IsFull, IsFirstFit, NoFit, blocks_for};
+ghost use Rattle.extent_map.specs.Blocks.{blocks};
+ghost use Rattle.extent_map.specs.FirstFit.{IsPlanned, IsFull, IsFirstFit, NoFit};
 
 use crate::extent::Extent;
 use crate::fault::ExtentFault;
@@ -124,11 +125,11 @@ impl Extents {
 
     /// The lowest run that is free for so many bytes. It is taken from then on; a refusal changes nothing.
     pub fn place(&mut self, length: u32) -> Result<Extent, ExtentFault>
-        ensures size { IfOk result (λ run. run.blocks ≡ blocks_for length) }
-        ensures fit { IfOk result (λ run. IsFirstFit (taken_of self.old) (limit_of self.old) (blocks_for length) run.block) }
+        ensures size { IfOk result (λ run. run.blocks ≡ blocks length) }
+        ensures fit { IfOk result (λ run. IsFirstFit (taken_of self.old) (limit_of self.old) (blocks length) run.block) }
         ensures taken { (given : List Extent) → AreAlike given (taken_of self.old) → IfOk result (λ run. AreAlike (run ∷ given) (taken_of self.new)) }
         ensures limit { limit_of self.new ≡ limit_of self.old }
-        ensures full { IsErrOf result ExtentFault.Full → NoFit (taken_of self.old) (limit_of self.old) (blocks_for length) }
+        ensures full { IsErrOf result ExtentFault.Full → NoFit (taken_of self.old) (limit_of self.old) (blocks length) }
         ensures never { IsErrOf result ExtentFault.Overlap → ⊥ }
         ensures err { OnErr result (taken_of self.new ≡ taken_of self.old) }
     {

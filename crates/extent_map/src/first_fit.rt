@@ -1,7 +1,8 @@
 //! The lowest run of free blocks.
 ghost use Rattle.std.specs.Prelude.{◌≡◌, ◌↔◌, ℕ, ◌≤◌, ◌<◌, ◌+◌, IfSome, IfNone, IsTrue};
 ghost use Rattle.extent_map.specs.Extents.{IsUnused, Ascend, IsGap};
-ghost use Rattle.extent_map.specs.FirstFit.{IsFirstFit, NoFit, blocks_for};
+ghost use Rattle.extent_map.specs.Blocks.{blocks};
+ghost use Rattle.extent_map.specs.FirstFit.{IsFirstFit, NoFit};
 
 use crate::extent::Extent;
 
@@ -13,7 +14,7 @@ pub const FIRST_BLOCK: u64 = 2;
 
 /// The blocks that so many bytes take.
 pub fn blocks_of(length: u32) -> u64
-    ensures { result ≡ blocks_for length }
+    ensures { result ≡ blocks length }
 {
     let block = BLOCK as u64;
     let blocks = (u64::from(length) + (block - 1)) / block;

@@ -1,5 +1,6 @@
 -- What is read of the layers of a file, from one to the next.
 use Rattle.std.specs.Prelude.{◌≡◌, ℕ, List, ◌∷◌, map}
+use Rattle.overlay_terms.specs.StoredTiles.{AreStored}
 use Rattle.tile_build.specs.StoredTile.{finished_of}
 use Rattle.store_terms.specs.Catalog.{Listed}
 use Rattle.store_terms.specs.Image.{layers_of}
@@ -20,3 +21,7 @@ abbrev pub RefusesLayer : LoadFault → List ℕ → RootContent → Listed → 
 RefusesLayer fault file old l =
     (rest : List Listed)
     → Refuses fault (then_layers (map finished_of old.tiles.items) (layers_of file old.layers (l ∷ rest)))
+
+-- the layers and tiles are as a file holds them
+abbrev pub IsStored : RootContent → Type 0
+IsStored content = AreStored content.layers (map finished_of content.tiles.items)

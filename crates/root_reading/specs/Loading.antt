@@ -2,7 +2,7 @@
 use Rattle.std.specs.Prelude.{ℕ, List, ◌++◌, Result, Ok}
 use Rattle.overlay_terms.specs.Plane.{WholePoint}
 use Rattle.overlay_terms.specs.Trees.{Tree}
-use Rattle.overlay_terms.specs.Layers.{Name, base, derived, Layer}
+use Rattle.overlay_terms.specs.Layers.{Name, derived, Layer}
 use Rattle.overlay_terms.specs.Histories.{Tile, Finished}
 use Rattle.store_terms.specs.declared.damage.Damage.{Damage}
 use Rattle.store_terms.specs.declared.damage.Damage.TheVariants.{RecordPlace, LayerForm, TileForm}
@@ -20,10 +20,7 @@ rings_at file e = placed_bytes RecordPlace file e >>= λ bytes. or_fault LayerFo
 abbrev pub expression_at : List ℕ → RecordExtent → Result (Tree Name) Damage
 expression_at file e = placed_bytes RecordPlace file e >>= λ bytes. or_fault LayerForm (definition_of_record bytes)
 
--- the layers with one more behind them: rings, or an expression, from an extent
-abbrev pub layers_with_base : List ℕ → List Layer → Name → RecordExtent → Result (List Layer) Damage
-layers_with_base file known name e = rings_at file e >>= λ rings. with_layer known name (base rings)
-
+-- the layers with one more behind them: an expression, from an extent
 abbrev pub layers_with_derived : List ℕ → List Layer → Name → RecordExtent → Result (List Layer) Damage
 layers_with_derived file known name e =
     expression_at file e >>= λ expression. with_layer known name (derived expression)

@@ -1,5 +1,5 @@
 -- What calls that only look at a disk answer, and what they leave of it.
-use Rattle.std.specs.Prelude.{◌≡◌, ℕ, ◌≤◌, Result, Ok, Err}
+use Rattle.std.specs.Prelude.{◌≡◌, ◌↔◌, ℕ, ◌≤◌, Result, Ok, Err}
 use Rattle.disk_model.specs.declared.disk.Disk.{Ghosts}
 use Rattle.disk_model.specs.Disk.{Fewer, Failed}
 use Rattle.disk_model.specs.Moments.{LeavesOnly}
@@ -38,3 +38,9 @@ Causes (Ok x) old new = new ≡ old
 Causes (Err Device) old new = Failed old new × (old ≤ new)
 Causes (Err OutOfMemory) old new = new ≡ old
 Causes (Err (Damaged damage)) old new = new ≡ old
+
+-- a call that only looks at a disk, if that is honest, and tells the device's failures apart
+pub record OnlyLooks {D X : Type 0} (g : Ghosts D) (result : Result X LoadFault) (old new : D) : Type 0 where
+  pub honest : g.is_honest new ↔ g.is_honest old
+  pub looks : g.is_honest old → Looks g old new
+  pub cause : g.is_honest old → Causes result (g.faults old) (g.faults new)

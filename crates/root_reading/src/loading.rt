@@ -2,14 +2,16 @@
 ghost use Rattle.std.specs.Prelude.{◌↔◌, [], List, map, IfOk, OnOk, IfErr, length, ◌≡◌};
 ghost use Rattle.std.proofs.Common.{inl, inr};
 ghost use Rattle.overlay_terms.specs.Histories.{Finished};
+ghost use Rattle.overlay_terms.specs.Layers.{base};
 ghost use Rattle.overlay_terms.specs.StoredTiles.{AreStored};
 ghost use Rattle.tile_build.specs.StoredTile.{finished_of};
+ghost use Rattle.record_writing.specs.Answers.{Reads};
 ghost use Rattle.record_writing.specs.Listing.{entry_of, entries_of};
-ghost use Rattle.store_terms.specs.Image.{layers_of};
-ghost use Rattle.root_reading.specs.Looking.{Gives, Looks, Causes};
-ghost use Rattle.root_reading.specs.Loading.{layers_with_base, layers_with_derived};
+ghost use Rattle.store_terms.specs.Image.{layers_of, with_layer};
+ghost use Rattle.root_reading.specs.Looking.{Gives, Looks, Causes, OnlyLooks};
+ghost use Rattle.root_reading.specs.Loading.{layers_with_derived};
 ghost use Rattle.root_reading.specs.Stored.{AreStoredTo};
-ghost use Rattle.root_reading.specs.Contents.{Adds, RefusesLayer};
+ghost use Rattle.root_reading.specs.Contents.{Adds, RefusesLayer, IsStored};
 
 use crate::keeping::{keep, name_in};
 use crate::load_fault::LoadFault;
@@ -18,7 +20,9 @@ use crate::tiles::add_tiles;
 use disk_model::disk::Disk;
 use layer_book::command::Command;
 use layer_book::layers::Layers;
+use plane_base::base_layer::BaseLayer;
 use record_writing::catalog::{Listed, Records};
+use record_writing::fault::RecordFault;
 use std::alloc::Global;
 use std::sync::Arc;
 use store_terms::root::RecordExtent;
@@ -31,26 +35,21 @@ pub struct RootContent {
     pub tiles: Vec<StoredTile>,
 }
 
-/// The layers with a base layer more, whose record lies in an extent.
-fn with_base<D: Disk>(
+/// The layers with a base layer more, of these rings.
+fn with_base(
     alloc: Global,
-    disk: &mut D,
-    size: usize,
     layers: &Layers,
     name: &[u8],
-    extent: RecordExtent,
-) -> Result<Layers, LoadFault>
-    requires { D.is_honest disk.old → size ≡ length (D.seen disk.old) }
+    rings: BaseLayer,
+) -> Result<Layers, RecordFault>
+    ensures reads { Reads (λ l. l) result (with_layer layers.now name.now (base rings)) }
     ensures stored { (tiles : List Finished) → AreStored layers.now tiles → IfOk result (λ l. AreStored l tiles) }
-    ensures honest { D.is_honest disk.new ↔ D.is_honest disk.old }
-    ensures looks { D.is_honest disk.old → Looks D.Disk disk.old disk.new }
-    ensures gives { D.is_honest disk.old
-        → Gives (λ l. l) result (layers_with_base (D.seen disk.old) layers.now name.now extent) }
-    ensures cause { D.is_honest disk.old → Causes result (D.faults disk.old) (D.faults disk.new) }
 {
-    let rings = base_at(alloc, disk, size, extent)?;
     let name = name_in(alloc, name)?;
-    let rings = Arc::new(alloc, rings)?;
+    let rings = match Arc::new(alloc, rings) {
+        Ok(rings) => rings,
+        Err(_) => return Err(RecordFault::OutOfMemory),
+    };
     let layers = keep(alloc, layers, &Command::Put(name, rings))?;
     Ok(layers)
 }
@@ -65,13 +64,11 @@ fn with_derived<D: Disk>(
     extent: RecordExtent,
 ) -> Result<Layers, LoadFault>
     requires { D.is_honest disk.old → size ≡ length (D.seen disk.old) }
-    ensures honest { D.is_honest disk.new ↔ D.is_honest disk.old }
-    ensures looks { D.is_honest disk.old → Looks D.Disk disk.old disk.new }
+    ensures looks { OnlyLooks D.Disk result disk.old disk.new }
     ensures gives { D.is_honest disk.old
         → Gives (λ l. l) result (layers_with_derived (D.seen disk.old) layers.now name.now extent) }
     ensures stored { (tiles : List Finished) → AreStored layers.now tiles
         → IfOk result (λ l. AreStoredTo l tiles name.now 0) }
-    ensures cause { D.is_honest disk.old → Causes result (D.faults disk.old) (D.faults disk.new) }
 {
     let expression = expression_at(alloc, disk, size, extent)?;
     let name = name_in(alloc, name)?;
@@ -90,19 +87,17 @@ fn add_base<D: Disk>(
     content: &mut RootContent,
 ) -> Result<(), LoadFault>
     requires { D.is_honest disk.old → size ≡ length (D.seen disk.old) }
-    ensures honest { D.is_honest disk.new ↔ D.is_honest disk.old }
-    ensures looks { D.is_honest disk.old → Looks D.Disk disk.old disk.new }
+    ensures looks { OnlyLooks D.Disk result disk.old disk.new }
     ensures adds { D.is_honest disk.old
         → OnOk result
         (Adds (D.seen disk.old) content.old content.new (record { name = name.now; records = inl extent })) }
     ensures refuses { D.is_honest disk.old
         → IfErr result
         (λ e. RefusesLayer e (D.seen disk.old) content.old (record { name = name.now; records = inl extent })) }
-    ensures stored { AreStored content.old.layers (map finished_of content.old.tiles.items)
-        → OnOk result (AreStored content.new.layers (map finished_of content.new.tiles.items)) }
-    ensures cause { D.is_honest disk.old → Causes result (D.faults disk.old) (D.faults disk.new) }
+    ensures stored { IsStored content.old → OnOk result (IsStored content.new) }
 {
-    let layers = with_base(alloc, disk, size, &content.layers, name, extent)?;
+    let rings = base_at(alloc, disk, size, extent)?;
+    let layers = with_base(alloc, &content.layers, name, rings)?;
     content.layers = layers;
     Ok(())
 }
@@ -118,8 +113,7 @@ fn add_derived<D: Disk>(
     content: &mut RootContent,
 ) -> Result<(), LoadFault>
     requires { D.is_honest disk.old → size ≡ length (D.seen disk.old) }
-    ensures honest { D.is_honest disk.new ↔ D.is_honest disk.old }
-    ensures looks { D.is_honest disk.old → Looks D.Disk disk.old disk.new }
+    ensures looks { OnlyLooks D.Disk result disk.old disk.new }
     ensures adds { D.is_honest disk.old
         → OnOk result
         (Adds (D.seen disk.old) content.old content.new
@@ -128,9 +122,7 @@ fn add_derived<D: Disk>(
         → IfErr result
         (λ e. RefusesLayer e (D.seen disk.old) content.old
         (record { name = name.now; records = inr (extent, entries.now) })) }
-    ensures stored { AreStored content.old.layers (map finished_of content.old.tiles.items)
-        → OnOk result (AreStored content.new.layers (map finished_of content.new.tiles.items)) }
-    ensures cause { D.is_honest disk.old → Causes result (D.faults disk.old) (D.faults disk.new) }
+    ensures stored { IsStored content.old → OnOk result (IsStored content.new) }
 {
     let layers = with_derived(alloc, disk, size, &content.layers, name, extent)?;
     let own = name_in(alloc, name)?;
@@ -148,15 +140,12 @@ fn add_layer<D: Disk>(
     content: &mut RootContent,
 ) -> Result<(), LoadFault>
     requires { D.is_honest disk.old → size ≡ length (D.seen disk.old) }
-    ensures honest { D.is_honest disk.new ↔ D.is_honest disk.old }
-    ensures looks { D.is_honest disk.old → Looks D.Disk disk.old disk.new }
+    ensures looks { OnlyLooks D.Disk result disk.old disk.new }
     ensures adds { D.is_honest disk.old
         → OnOk result (Adds (D.seen disk.old) content.old content.new (entry_of entry.now)) }
     ensures refuses { D.is_honest disk.old
         → IfErr result (λ e. RefusesLayer e (D.seen disk.old) content.old (entry_of entry.now)) }
-    ensures stored { AreStored content.old.layers (map finished_of content.old.tiles.items)
-        → OnOk result (AreStored content.new.layers (map finished_of content.new.tiles.items)) }
-    ensures cause { D.is_honest disk.old → Causes result (D.faults disk.old) (D.faults disk.new) }
+    ensures stored { IsStored content.old → OnOk result (IsStored content.new) }
 {
     match &entry.records {
         Records::Base(extent) => add_base(alloc, disk, size, &entry.name, *extent, content),

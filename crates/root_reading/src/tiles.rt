@@ -1,5 +1,5 @@
 //! The finished tiles of a layer, as the disk has them.
-ghost use Rattle.std.specs.Prelude.{◌≡◌, ◌↔◌, ◌+◌, ◌<◌, ◌∷◌, List, Option, map, true, IfOk, OnOk, IfErr, length};
+ghost use Rattle.std.specs.Prelude.{◌≡◌, ◌+◌, ◌<◌, ◌∷◌, List, Option, map, true, IfOk, OnOk, IfErr, length};
 ghost use Rattle.overlay_terms.specs.Column.{column_count};
 ghost use Rattle.overlay_terms.specs.Histories.{is_formed};
 ghost use Rattle.overlay_terms.specs.Layers.{Layer};
@@ -8,7 +8,7 @@ ghost use Rattle.tile_build.specs.StoredTile.{finished_of};
 ghost use Rattle.tile_build.specs.Tile.{tile_of};
 ghost use Rattle.store_terms.specs.Image.{tiles_of};
 ghost use Rattle.store_terms.specs.declared.root.RecordExtent as terms;
-ghost use Rattle.root_reading.specs.Looking.{Gives, Refuses, Looks, Causes};
+ghost use Rattle.root_reading.specs.Looking.{Gives, Refuses, OnlyLooks};
 ghost use Rattle.root_reading.specs.Loading.{tile_at, then_tiles};
 ghost use Rattle.root_reading.specs.Stored.{AreStoredTo};
 
@@ -38,11 +38,9 @@ fn tile_at<D: Disk>(
     ensures column { IfOk result (λ x. x.0 ≡ column) }
     ensures known { IfOk result (λ x. column < column_count) }
     ensures formed { IfOk result (λ x. is_formed (tile_of x.1) column ≡ true) }
-    ensures honest { D.is_honest disk.new ↔ D.is_honest disk.old }
-    ensures looks { D.is_honest disk.old → Looks D.Disk disk.old disk.new }
+    ensures looks { OnlyLooks D.Disk result disk.old disk.new }
     ensures gives { D.is_honest disk.old
         → Gives (λ x. tile_of x.1) result (tile_at (D.seen disk.old) column extent) }
-    ensures cause { D.is_honest disk.old → Causes result (D.faults disk.old) (D.faults disk.new) }
 {
     let bytes = fetch(alloc, disk, size, extent, Damage::RecordPlace)?;
     let Some(known) = Column::new(column as u64) else {
@@ -64,8 +62,7 @@ fn add_tile<D: Disk>(
     tiles: &mut Vec<StoredTile>,
 ) -> Result<(), LoadFault>
     requires { D.is_honest disk.old → size ≡ length (D.seen disk.old) }
-    ensures honest { D.is_honest disk.new ↔ D.is_honest disk.old }
-    ensures looks { D.is_honest disk.old → Looks D.Disk disk.old disk.new }
+    ensures looks { OnlyLooks D.Disk result disk.old disk.new }
     ensures adds { D.is_honest disk.old
         → OnOk result
         ((rest : List (Option terms.RecordExtent))
@@ -78,7 +75,6 @@ fn add_tile<D: Disk>(
         (tiles_of (D.seen disk.old) name.now column (entry ∷ rest)))) }
     ensures stored { (layers : List Layer) → AreStoredTo layers (map finished_of tiles.old.items) name.now column
         → OnOk result (AreStoredTo layers (map finished_of tiles.new.items) name.now (column + 1)) }
-    ensures cause { D.is_honest disk.old → Causes result (D.faults disk.old) (D.faults disk.new) }
 {
     let Some(extent) = entry else {
         return Ok(());
@@ -102,8 +98,7 @@ pub(crate) fn add_tiles<D: Disk>(
     tiles: &mut Vec<StoredTile>,
 ) -> Result<(), LoadFault>
     requires { D.is_honest disk.old → size ≡ length (D.seen disk.old) }
-    ensures honest { D.is_honest disk.new ↔ D.is_honest disk.old }
-    ensures looks { D.is_honest disk.old → Looks D.Disk disk.old disk.new }
+    ensures looks { OnlyLooks D.Disk result disk.old disk.new }
     ensures adds { D.is_honest disk.old
         → OnOk result
         (then_tiles (map finished_of tiles.old.items) (tiles_of (D.seen disk.old) name.now 0 entries.now)
@@ -114,7 +109,6 @@ pub(crate) fn add_tiles<D: Disk>(
         (then_tiles (map finished_of tiles.old.items) (tiles_of (D.seen disk.old) name.now 0 entries.now))) }
     ensures stored { (layers : List Layer) → AreStoredTo layers (map finished_of tiles.old.items) name.now 0
         → OnOk result (AreStored layers (map finished_of tiles.new.items)) }
-    ensures cause { D.is_honest disk.old → Causes result (D.faults disk.old) (D.faults disk.new) }
 {
     for (column, entry) in entries.iter().enumerate() {
         add_tile(alloc, disk, size, name, column, *entry, tiles)?;

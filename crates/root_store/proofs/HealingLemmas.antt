@@ -1,5 +1,5 @@
 -- The completing write, call by call.
-use Rattle.std.proofs.Common.{◌≡◌, ℕ, ◌^◌, ◌<◌, List, length, Result, Ok, Err, ap, subst}
+use Rattle.std.proofs.Common.{◌≡◌, ℕ, ◌^◌, ◌<◌, List, length, Result, Ok, Err, subst}
 use Rattle.std.specs.Prelude.{IsErr}
 use Rattle.disk_model.specs.declared.disk.Disk.{Ghosts}
 use Rattle.disk_model.specs.Disk.{Holds, Torn, OneStepOn}
@@ -15,35 +15,34 @@ use Rattle.root_store.proofs.Healed.{twin_heals}
 use Rattle.commit_plan.proofs.Plan.{body_spares}
 use Rattle.root_store.proofs.Steps.{leaves_torn}
 
--- a write of that body, whole or in part
-pub twin_torn : (r : Root) (at : ℕ) (bytes : List ℕ) → at ≡ body_at (other r) → bytes ≡ body_text (twin r)
+-- a write of a body in the other slot, whole or in part, whatever its bytes
+pub body_torn : (r : Root) (at : ℕ) (bytes : List ℕ) → at ≡ body_at (other r) → length bytes ≡ 48
     → (c d : List ℕ) → Torn at (length bytes) c d → Torn (body_at (other r)) 48 c d
-twin_torn r at bytes there text c d torn =
-    subst (λ (a : ℕ). Torn a 48 c d) there (subst (λ (n : ℕ). Torn at n c d) (ap length text) torn)
+body_torn r at bytes there long c d torn =
+    subst (λ (a : ℕ). Torn a 48 c d) there (subst (λ (n : ℕ). Torn at n c d) long torn)
 
 module _ {D : Type 0} (g : Ghosts D) (old mid : D) (x : Kept) (at : ℕ) (bytes : List ℕ)
-    (there : at ≡ body_at (other x.root)) (text : bytes ≡ body_text (twin x.root)) where
-  in_place : (c d : List ℕ) → Torn at (length bytes) c d → Torn (body_at (other x.root)) 48 c d
-  in_place c d torn = subst (λ (a : ℕ). Torn a 48 c d) there (subst (λ (n : ℕ). Torn at n c d) (ap length text) torn)
-
+    (there : at ≡ body_at (other x.root)) (long : length bytes ≡ 48) where
   -- written or not, the file is as it was but for the other slot's body
   pub still_shut : Leaves g old (Shut x) → OneStepOn (Torn at (length bytes)) (g.may_leave old) (g.may_leave mid)
       → Leaves g mid (Shut x)
   still_shut all follows =
       leaves_torn g old mid (Shut x) at (length bytes) all follows
-      (λ c d shut torn. body_spares x c d shut (in_place c d torn))
+      (λ c d shut torn. body_spares x c d shut (body_torn x.root at bytes there long c d torn))
 
-  -- put whole, it is the twin's
-  pub holds_twin : (d : List ℕ) → Holds d at bytes → HoldsTwin x.root d
-  holds_twin d holds =
-      subst (λ (a : ℕ). Holds d a (body_text (twin x.root))) there
-      (subst (λ (bs : List ℕ). Holds d at bs) text holds)
+-- put whole, the twin's body is there
+pub holds_twin : (x : Kept) (at : ℕ) (bytes : List ℕ) → at ≡ body_at (other x.root) → bytes ≡ body_text (twin x.root)
+    → (d : List ℕ) → Holds d at bytes → HoldsTwin x.root d
+holds_twin x at bytes there text d holds =
+    subst (λ (a : ℕ). Holds d a (body_text (twin x.root))) there
+    (subst (λ (bs : List ℕ). Holds d at bs) text holds)
 
-  -- put whole, that body does no harm
-  pub at_rest : x.root.sequence < sequence_max → x.root.catalog.block < 2 ^ 64 → x.root.catalog.size < 2 ^ 32
-      → (c d : List ℕ) → Shut x c → Torn at (length bytes) c d → Holds d at bytes → Rest x d
-  at_rest below low small c d shut torn holds =
-      twin_heals x c d below low small shut (in_place c d torn) (holds_twin d holds)
+-- put whole, that body does no harm
+pub at_rest : (x : Kept) (at : ℕ) (bytes : List ℕ) → at ≡ body_at (other x.root) → bytes ≡ body_text (twin x.root)
+    → x.root.sequence < sequence_max → x.root.catalog.block < 2 ^ 64 → x.root.catalog.size < 2 ^ 32
+    → (c d : List ℕ) → Shut x c → Torn (body_at (other x.root)) 48 c d → Holds d at bytes → Rest x d
+at_rest x at bytes there text below low small c d shut torn holds =
+    twin_heals x c d below low small shut torn (holds_twin x at bytes there text d holds)
 
 pub healing_failed : {D : Type 0} (g : Ghosts D) (old new : D) (result : Result (Unit {0}) LoadFault) (x : Kept)
     → IsErr result → g.is_honest new → LeavesOnly g old new (Shut x) → Leaves g new (Shut x) → Heals g old new result x

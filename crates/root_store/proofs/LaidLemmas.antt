@@ -3,7 +3,7 @@ use Rattle.std.proofs.Common.{◌≡◌, ℕ, ◌+◌, ◌*◌, ◌≤◌, List,
 use Rattle.std.specs.List.{AllByRecursion}
 use Rattle.disk_model.specs.declared.disk.Disk.{Ghosts}
 use Rattle.extent_map.specs.declared.extent.Extent as runs
-use Rattle.extent_map.specs.FirstFit.{IsPlanned, blocks_for}
+use Rattle.extent_map.specs.FirstFit.{IsPlanned}
 use Rattle.store_terms.specs.Places.{blocks}
 use Rattle.commit_plan.specs.declared.write.Write.{Write}
 use Rattle.commit_plan.specs.Drafting.{lengths_of, extents_of_filed}
@@ -26,7 +26,7 @@ records_below [] (w ∷ ws) places given limit planned runs writes = absurd writ
 records_below (f ∷ fs) [] places given limit planned runs writes = tt
 records_below (f ∷ fs) (w ∷ ws) [] given limit planned runs writes = absurd planned
 records_below (f ∷ fs) (w ∷ ws) (r ∷ rs) given limit (long, fit, planned) (there, size, runs) (write, writes) = (
-  ends w.at (length w.bytes.items) r.block r.blocks (blocks_for (length f.bytes)) limit
+  ends w.at (length w.bytes.items) r.block r.blocks (blocks (length f.bytes)) limit
       (write.there ∙ ap (λ (n : ℕ). 4096 * n) (sym there)) (write.blocks ∙ ap (λ (n : ℕ). 4096 * n) (sym size)) long
       fit.below,
   records_below fs ws rs (r ∷ given) limit planned runs writes,

@@ -12,11 +12,13 @@ use crate::commit::Commit;
 use crate::finding::GATE_OPEN;
 use crate::open_fault::OpenFault;
 use crate::phase::Phase;
+use crate::slots::BODY;
 use commit_plan::fault::StoreFault;
 use commit_plan::live_records::LiveRecords;
 use commit_plan::room::Room;
 use disk_model::disk::Disk;
 use disk_model::fault::DiskFault;
+use extent_map::BLOCK;
 use extent_map::extent::Extent as Run;
 use record_writing::root_body::write_body;
 use std::alloc::{AllocError, Global};
@@ -58,10 +60,10 @@ fn zeros(alloc: Global, size: usize) -> Result<Vec<u8>, AllocError>
 fn blank(alloc: Global) -> Result<Vec<u8>, AllocError>
     ensures { IfOk result (λ v. IsFirstWrite v.items) }
 {
-    let mut file = zeros(alloc, 12288)?;
-    put(&mut file, 16, &write_body(FIRST));
-    put(&mut file, 4112, &write_body(TWIN));
-    put(&mut file, 8192, &[0, 0]);
+    let mut file = zeros(alloc, 3 * BLOCK)?;
+    put(&mut file, BODY, &write_body(FIRST));
+    put(&mut file, BLOCK + BODY, &write_body(TWIN));
+    put(&mut file, 2 * BLOCK, &[0, 0]);
     Ok(file)
 }
 

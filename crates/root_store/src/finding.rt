@@ -7,9 +7,9 @@ ghost use Rattle.root_reading.specs.Looking.{Gives, Looks, Causes};
 ghost use Rattle.root_store.specs.Finding.{IsSlot, has_shut_gate};
 
 use disk_model::disk::Disk;
+use extent_map::BLOCK;
 use overlay_terms::limits::VERSION_MAX;
 use record_writing::root_body::{FORMAT, read_body};
-use extent_map::BLOCK;
 use root_reading::load_fault::LoadFault;
 use store_terms::damage::Damage;
 use store_terms::root::{Body, Root};

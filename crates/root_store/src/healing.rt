@@ -1,7 +1,8 @@
 //! The completing write of opening a store.
-ghost use Rattle.std.specs.Prelude.{◌≡◌, ◌↔◌, ◌<◌, ◌^◌, IfErr};
+ghost use Rattle.std.specs.Prelude.{◌≡◌, ◌↔◌, ◌<◌, IfErr};
 ghost use Rattle.disk_model.specs.Disk.{Torn};
 ghost use Rattle.disk_model.specs.Moments.{Leaves};
+ghost use Rattle.store_terms.specs.Roots.{sequence_max};
 ghost use Rattle.store_terms.specs.StandsFor.{body_at};
 ghost use Rattle.commit_plan.specs.Kept.{Kept, other, Shut};
 ghost use Rattle.root_reading.specs.Looking.{Causes};
@@ -16,7 +17,7 @@ use store_terms::root::Root;
 /// Puts behind the shut gate of the other slot a body that does no harm should it come open: the
 /// next sequence, and the same version and catalog.
 pub(crate) fn heal<D: Disk>(disk: &mut D, root: Root) -> Result<(), LoadFault>
-    requires { root.sequence < 2 ^ 62 }
+    requires { root.sequence < sequence_max }
     ensures honest { D.is_honest disk.new ↔ D.is_honest disk.old }
     ensures err { IfErr result (λ e. e ≡ LoadFault.Device) }
     ensures cause { D.is_honest disk.old → Causes result (D.faults disk.old) (D.faults disk.new) }

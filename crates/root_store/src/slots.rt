@@ -1,14 +1,17 @@
 //! Where the gate and the body stand of the slot that a root is not in.
-ghost use Rattle.std.specs.Prelude.{◌≡◌, ◌+◌, ◌*◌, ◌%◌};
-ghost use Rattle.store_terms.specs.StandsFor.{body_at};
+ghost use Rattle.std.specs.Prelude.{◌≡◌};
+ghost use Rattle.store_terms.specs.StandsFor.{gate_at, body_at};
 ghost use Rattle.commit_plan.specs.Kept.{other};
 
 use extent_map::BLOCK;
 use store_terms::root::Root;
 
+/// How far behind the gate of its slot a body stands.
+pub(crate) const BODY: usize = 16;
+
 /// Where the gate of the other slot stands.
 pub(crate) fn other_gate(root: Root) -> usize
-    ensures { result ≡ 4096 * ((root.sequence + 1) % 2) }
+    ensures { result ≡ gate_at (other root) }
 {
     if root.sequence % 2 == 0 { BLOCK } else { 0 }
 }
@@ -17,5 +20,9 @@ pub(crate) fn other_gate(root: Root) -> usize
 pub(crate) fn other_body(root: Root) -> usize
     ensures { result ≡ body_at (other root) }
 {
-    if root.sequence % 2 == 0 { 4112 } else { 16 }
+    if root.sequence % 2 == 0 {
+        BLOCK + BODY
+    } else {
+        BODY
+    }
 }

@@ -2,17 +2,16 @@
 use Rattle.std.proofs.Common.{◌≡◌, inl, inr, ℕ, ◌+◌, Bool, true, false, cond, List, [], ◌∷◌, ◌++◌, Option, Some, None, Result, Ok, Err, refl, sym, ap, subst, ◌∙◌, append_assoc}
 use Rattle.std.proofs.lemmas.List.{append-nil}
 use Rattle.overlay_terms.specs.Layers.{Name, Content, base, derived, Layer}
-use Rattle.overlay_terms.specs.Histories.{Tile, Finished}
+use Rattle.overlay_terms.specs.Histories.{Finished}
 use Rattle.store_terms.specs.declared.damage.Damage.{Damage}
 use Rattle.store_terms.specs.declared.damage.Damage.TheVariants.{RecordPlace, LayerForm, LayerRefused, TileForm, Overlap}
 use Rattle.store_terms.specs.declared.root.RecordExtent.{RecordExtent}
-use Rattle.store_terms.specs.declared.root.Root.{Root}
 use Rattle.store_terms.specs.BaseRecord.{base_of_record}
 use Rattle.store_terms.specs.DefinitionRecord.{definition_of_record}
 use Rattle.store_terms.specs.TileRecord.{tile_of_record}
 use Rattle.store_terms.specs.Catalog.{Records, Listed}
 use Rattle.store_terms.specs.Places.{bytes_of, is_placed, all_apart, extents_listed}
-use Rattle.store_terms.specs.Image.{◌>>=◌, or_fault, placed_bytes, may_stand, with_layer, tiles_of, layer_of, layers_of, Held, listing_of, held_by, held_of}
+use Rattle.store_terms.specs.Image.{◌>>=◌, or_fault, placed_bytes, may_stand, with_layer, tiles_of, layer_of, layers_of, Held, listing_of, held_by}
 use Rattle.store_terms.specs.Spelled.{Spells, TilesAre, LayerIs, LayersAre, HeldIsSpelled}
 
 ok_bound : {A B : Type 0} (o : Result A Damage) (f : A → Result B Damage) (y : B) → (o >>= f) ≡ Ok y

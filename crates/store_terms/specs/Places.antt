@@ -1,17 +1,10 @@
 -- Where the records of a store lie in its file. The file is read through `bytes_of` and `is_placed` alone.
-use Rattle.std.specs.Prelude.{ℕ, ◌+◌, ◌*◌, ◌/◌, nat_le, max, Bool, true, ◌&&◌, ◌||◌, List, [], ◌∷◌, length, flat_map, Option, Some, None}
+use Rattle.std.specs.Prelude.{ℕ, ◌+◌, ◌*◌, ◌/◌, nat_le, Bool, true, ◌&&◌, ◌||◌, List, [], ◌∷◌, length, flat_map, Option, Some, None}
 use Rattle.std.proofs.Common.{inl, inr}
 use Rattle.disk_model.specs.Disk.{part}
+pub use Rattle.extent_map.specs.Blocks.{block_size, blocks}
 use Rattle.store_terms.specs.declared.root.RecordExtent.{RecordExtent}
 use Rattle.store_terms.specs.Catalog.{Records, Listed}
-
--- how many bytes a block has
-abbrev pub block_size : ℕ
-block_size = 4096
-
--- how many blocks a record of so many bytes takes
-abbrev pub blocks : ℕ → ℕ
-blocks size = max 1 ((size + 4095) / block_size)
 
 -- the bytes of a record
 abbrev pub bytes_of : List ℕ → RecordExtent → List ℕ

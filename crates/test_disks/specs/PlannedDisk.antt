@@ -1,7 +1,8 @@
 -- What a disk is made of that passes calls on by a plan.
-use Rattle.std.specs.Prelude.{ℕ, ◌+◌}
+use Rattle.std.specs.Prelude.{◌≡◌, ℕ, ◌+◌, true, false, Result, IsErr}
 use Rattle.disk_model.specs.declared.disk.Disk.{Ghosts}
-use Rattle.disk_model.specs.Disk.{Fewer, Elapses}
+use Rattle.disk_model.specs.Disk.{Fewer, Elapses, CountsFailure, CountsCall}
+use Rattle.test_disks.specs.declared.plan.Plan as plans
 use Rattle.test_disks.specs.declared.planned_disk.PlannedDisk.{PlannedDisk}
 
 -- the disk below
@@ -24,10 +25,21 @@ faults_of g d = g.faults d.disk + d.refused
 abbrev pub calls_of : {D P : Type 0} → Ghosts D → PlannedDisk D P → ℕ
 calls_of g d = g.calls d.disk + d.refused
 
--- a crash leaves nothing that it might not have left before
-abbrev pub LeavesNoMore : {D : Type 0} → Ghosts D → D → D → Type 0
-LeavesNoMore g old new = Fewer (g.may_leave old) (g.may_leave new)
+-- a call is refused, and the disk below stays as it was, or it is passed on, and fails where the disk below does
+pub record GoesByPlan {D P T E : Type 0} (g : Ghosts D) (p : plans.Ghosts P) (result : Result T E) (old new : PlannedDisk D P) : Type 0 where
+  pub failed : p.passes (plan_of old) ≡ false → IsErr result
+  pub untouched : p.passes (plan_of old) ≡ false → below_of new ≡ below_of old
+  pub passed : g.is_honest (below_of old) → p.passes (plan_of old) ≡ true
+      → CountsFailure result (g.faults (below_of old)) (g.faults (below_of new))
+  pub plan : plan_of new ≡ p.next (plan_of old)
 
--- what a crash might have left since an earlier moment goes on from what it might have left since then
-abbrev pub TimeGoesOn : {D : Type 0} → Ghosts D → D → D → Type 0
-TimeGoesOn g old new = Elapses (g.moment old) (g.moment new) (g.left_since old) (g.left_since new) (g.may_leave new)
+-- a call of an honest disk: time goes on, and the call is counted, as a failure too where it is one
+pub record IsCounted {D P T E : Type 0} (g : Ghosts D) (result : Result T E) (old new : PlannedDisk D P) : Type 0 where
+  pub time : Elapses (g.moment (below_of old)) (g.moment (below_of new)) (g.left_since (below_of old)) (g.left_since (below_of new)) (g.may_leave (below_of new))
+  pub cause : CountsFailure result (faults_of g old) (faults_of g new)
+  pub calls : CountsCall result (calls_of g old) (calls_of g new)
+
+-- a read gives the same bytes, and a crash leaves nothing that it might not have left before
+pub record IsKept {D : Type 0} (g : Ghosts D) (old new : D) : Type 0 where
+  pub seen : g.seen new ≡ g.seen old
+  pub crash : Fewer (g.may_leave old) (g.may_leave new)

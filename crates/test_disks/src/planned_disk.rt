@@ -1,6 +1,6 @@
 //! A disk that passes calls on to another by a plan.
-ghost use Rattle.std.specs.Prelude.{◌≡◌, ◌↔◌, ◌+◌, ◌≤◌, true, false, length, IfOk, OnOk, OnErr, IsErr};
-ghost use Rattle.disk_model.specs.Disk.{part, Holds, Torn, OneStepOn, Only, CountsFailure, CountsCall};
+ghost use Rattle.std.specs.Prelude.{◌≡◌, ◌↔◌, ◌+◌, ◌≤◌, true, false, length, IfOk, OnOk, OnErr};
+ghost use Rattle.disk_model.specs.Disk.{part, Holds, Torn, OneStepOn, Only, CountsFailure};
 
 use crate::plan::Plan;
 use disk_model::disk::Disk;
@@ -55,7 +55,7 @@ impl<D: Disk, P: Plan> PlannedDisk<D, P> {
 }
 
 impl<D: Disk, P: Plan> Disk for PlannedDisk<D, P> {
-    ghost use Rattle.test_disks.specs.PlannedDisk.{below_of, calls_of, faults_of, plan_of, LeavesNoMore, TimeGoesOn};
+    ghost use Rattle.test_disks.specs.PlannedDisk.{below_of, GoesByPlan, IsCounted, IsKept};
 
     ghost is_honest = { λ d. D.Disk.is_honest d.disk };
 
@@ -78,20 +78,11 @@ impl<D: Disk, P: Plan> Disk for PlannedDisk<D, P> {
     ghost seen_may_stay = { λ d. D.Disk.seen_may_stay d.disk };
 
     fn length(&mut self) -> Result<usize, DiskFault>
-        ensures failed { P.passes (plan_of self.old) ≡ false → IsErr result }
-        ensures untouched { P.passes (plan_of self.old) ≡ false → below_of self.new ≡ below_of self.old }
-        ensures passed { D.is_honest (below_of self.old) → P.passes (plan_of self.old) ≡ true
-            → CountsFailure result (D.faults (below_of self.old)) (D.faults (below_of self.new)) }
-        ensures plan { plan_of self.new ≡ P.next (plan_of self.old) }
+        ensures plan { GoesByPlan D.Disk P.Plan result self.old self.new }
         ensures honest { D.is_honest (below_of self.new) ↔ D.is_honest (below_of self.old) }
         ensures length { D.is_honest (below_of self.old) → IfOk result (λ n. n ≡ length (D.seen (below_of self.old))) }
-        ensures seen { D.is_honest (below_of self.old) → D.seen (below_of self.new) ≡ D.seen (below_of self.old) }
-        ensures crash { D.is_honest (below_of self.old) → LeavesNoMore D.Disk (below_of self.old) (below_of self.new) }
-        ensures time { D.is_honest (below_of self.old) → TimeGoesOn D.Disk (below_of self.old) (below_of self.new) }
-        ensures cause { D.is_honest (below_of self.old)
-            → CountsFailure result (faults_of D.Disk self.old) (faults_of D.Disk self.new) }
-        ensures calls { D.is_honest (below_of self.old)
-            → CountsCall result (calls_of D.Disk self.old) (calls_of D.Disk self.new) }
+        ensures kept { D.is_honest (below_of self.old) → IsKept D.Disk (below_of self.old) (below_of self.new) }
+        ensures counted { D.is_honest (below_of self.old) → IsCounted D.Disk result self.old self.new }
     {
         self.pass()?;
         self.disk.length()
@@ -99,32 +90,19 @@ impl<D: Disk, P: Plan> Disk for PlannedDisk<D, P> {
 
     fn read(&mut self, at: usize, buf: &mut [u8]) -> Result<(), DiskFault>
         requires { D.is_honest (below_of self.old) → at + length buf.old ≤ length (D.seen (below_of self.old)) }
-        ensures failed { P.passes (plan_of self.old) ≡ false → IsErr result }
-        ensures untouched { P.passes (plan_of self.old) ≡ false → below_of self.new ≡ below_of self.old }
-        ensures passed { D.is_honest (below_of self.old) → P.passes (plan_of self.old) ≡ true
-            → CountsFailure result (D.faults (below_of self.old)) (D.faults (below_of self.new)) }
-        ensures plan { plan_of self.new ≡ P.next (plan_of self.old) }
+        ensures plan { GoesByPlan D.Disk P.Plan result self.old self.new }
         ensures honest { D.is_honest (below_of self.new) ↔ D.is_honest (below_of self.old) }
         ensures read { D.is_honest (below_of self.old)
             → OnOk result (buf.new ≡ part (D.seen (below_of self.old)) at (length buf.old)) }
-        ensures seen { D.is_honest (below_of self.old) → D.seen (below_of self.new) ≡ D.seen (below_of self.old) }
-        ensures crash { D.is_honest (below_of self.old) → LeavesNoMore D.Disk (below_of self.old) (below_of self.new) }
-        ensures time { D.is_honest (below_of self.old) → TimeGoesOn D.Disk (below_of self.old) (below_of self.new) }
-        ensures cause { D.is_honest (below_of self.old)
-            → CountsFailure result (faults_of D.Disk self.old) (faults_of D.Disk self.new) }
-        ensures calls { D.is_honest (below_of self.old)
-            → CountsCall result (calls_of D.Disk self.old) (calls_of D.Disk self.new) }
+        ensures kept { D.is_honest (below_of self.old) → IsKept D.Disk (below_of self.old) (below_of self.new) }
+        ensures counted { D.is_honest (below_of self.old) → IsCounted D.Disk result self.old self.new }
     {
         self.pass()?;
         self.disk.read(at, buf)
     }
 
     fn write_at(&mut self, at: usize, bytes: &[u8]) -> Result<(), DiskFault>
-        ensures failed { P.passes (plan_of self.old) ≡ false → IsErr result }
-        ensures untouched { P.passes (plan_of self.old) ≡ false → below_of self.new ≡ below_of self.old }
-        ensures passed { D.is_honest (below_of self.old) → P.passes (plan_of self.old) ≡ true
-            → CountsFailure result (D.faults (below_of self.old)) (D.faults (below_of self.new)) }
-        ensures plan { plan_of self.new ≡ P.next (plan_of self.old) }
+        ensures plan { GoesByPlan D.Disk P.Plan result self.old self.new }
         ensures honest { D.is_honest (below_of self.new) ↔ D.is_honest (below_of self.old) }
         ensures written { D.is_honest (below_of self.old)
             → OnOk result (Holds (D.seen (below_of self.new)) at bytes.now) }
@@ -132,32 +110,19 @@ impl<D: Disk, P: Plan> Disk for PlannedDisk<D, P> {
             → Torn at (length bytes.now) (D.seen (below_of self.old)) (D.seen (below_of self.new)) }
         ensures crash { D.is_honest (below_of self.old)
             → OneStepOn (Torn at (length bytes.now)) (D.may_leave (below_of self.old)) (D.may_leave (below_of self.new)) }
-        ensures time { D.is_honest (below_of self.old) → TimeGoesOn D.Disk (below_of self.old) (below_of self.new) }
-        ensures cause { D.is_honest (below_of self.old)
-            → CountsFailure result (faults_of D.Disk self.old) (faults_of D.Disk self.new) }
-        ensures calls { D.is_honest (below_of self.old)
-            → CountsCall result (calls_of D.Disk self.old) (calls_of D.Disk self.new) }
+        ensures counted { D.is_honest (below_of self.old) → IsCounted D.Disk result self.old self.new }
     {
         self.pass()?;
         self.disk.write_at(at, bytes)
     }
 
     fn sync(&mut self) -> Result<(), DiskFault>
-        ensures failed { P.passes (plan_of self.old) ≡ false → IsErr result }
-        ensures untouched { P.passes (plan_of self.old) ≡ false → below_of self.new ≡ below_of self.old }
-        ensures passed { D.is_honest (below_of self.old) → P.passes (plan_of self.old) ≡ true
-            → CountsFailure result (D.faults (below_of self.old)) (D.faults (below_of self.new)) }
-        ensures plan { plan_of self.new ≡ P.next (plan_of self.old) }
+        ensures plan { GoesByPlan D.Disk P.Plan result self.old self.new }
         ensures honest { D.is_honest (below_of self.new) ↔ D.is_honest (below_of self.old) }
         ensures durable { D.is_honest (below_of self.old)
             → OnOk result (Only (D.seen (below_of self.old)) (D.may_leave (below_of self.new))) }
-        ensures seen { D.is_honest (below_of self.old) → D.seen (below_of self.new) ≡ D.seen (below_of self.old) }
-        ensures crash { D.is_honest (below_of self.old) → LeavesNoMore D.Disk (below_of self.old) (below_of self.new) }
-        ensures time { D.is_honest (below_of self.old) → TimeGoesOn D.Disk (below_of self.old) (below_of self.new) }
-        ensures cause { D.is_honest (below_of self.old)
-            → CountsFailure result (faults_of D.Disk self.old) (faults_of D.Disk self.new) }
-        ensures calls { D.is_honest (below_of self.old)
-            → CountsCall result (calls_of D.Disk self.old) (calls_of D.Disk self.new) }
+        ensures kept { D.is_honest (below_of self.old) → IsKept D.Disk (below_of self.old) (below_of self.new) }
+        ensures counted { D.is_honest (below_of self.old) → IsCounted D.Disk result self.old self.new }
     {
         self.pass()?;
         self.disk.sync()

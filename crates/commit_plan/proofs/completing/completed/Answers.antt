@@ -54,7 +54,7 @@ returns-clause-ok c x given limit layers root there room apart draft spell =
       spelled = c.in_ok-from_slice.ensures.items ∙ c.write_body.ensures.spelled;
       stands = c.in-Ok.ensures.stands
           ∙ (λ i. record { listing = listing; layers = (parts i).1; tiles = map finished_of (parts i).2.items });
-      taken = c.in-Ok.ensures.taken;
+      taken = c.in-Ok.ensures.room.taken;
       plan = c.in_ok-push.ensures.items;
     })
 
@@ -74,7 +74,7 @@ returns-in-Err-clause-err c live given limit layers held draft spell =
     subst (λ (ls : List Listed). AllNear (c.in_ok-catalog.catalog ∷ extents_listed ls)) spell.listed
     (records_near live given limit _ layers cat image.layers image.tiles runs held spell.spelled low
     drafted.placed.planned drafted.runs) in
-    inr (c.told.ensures ∙ only_memory c.in-Err.fault es image apart c.in-Err.ensures.errors (c.in-Err.ensures.reads near image))
+    inr (c.told.ensures ∙ only_memory c.in-Err.fault es image apart c.in-Err.ensures.room.errors (c.in-Err.ensures.room.reads near image))
 
 pub file-requires : goal.file-requires
 file-requires c =
@@ -107,7 +107,7 @@ returns-in-Err-clause-full c given limit sizes placed u =
 
 pub returns-clause-blocks : goal.returns-clause-blocks
 returns-clause-blocks c given limit sizes placed =
-    c.in-Ok.ensures.limit ∙ (c.in_ok-catalog.ensures.placed given limit sizes placed).blocks
+    c.in-Ok.ensures.room.limit ∙ (c.in_ok-catalog.ensures.placed given limit sizes placed).blocks
 
 pub returns-clause-laid : goal.returns-clause-laid
 returns-clause-laid c live given limit layers sizes draft spell placed =

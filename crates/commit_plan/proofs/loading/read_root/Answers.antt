@@ -38,12 +38,12 @@ returns-in_err-live-clause-gives g c honest short =
     gives_err held_in c.from_residual-in_err-live.result c.in_err-live.field-0.0
     (held_of file root) c.from_residual-in_err-live.ensures.1
     (subst (Refuses c.in_err-live.field-0.0) (sym (held_steps file root ls x listing layers))
-    (c.in_err-live.ensures.reads near held))
+    (c.in_err-live.ensures.room.reads near held))
 
 pub returns-in_err-live-clause-cause : goal.returns-in_err-live-clause-cause
 returns-in_err-live-clause-cause g c honest =
     let looks1 = c.listing_at.ensures.looks honest in
-    causes_still c.from_residual-in_err-live.result c.in_err-live.field-0.0 _ _ c.from_residual-in_err-live.ensures.1 c.in_err-live.ensures.errors
+    causes_still c.from_residual-in_err-live.result c.in_err-live.field-0.0 _ _ c.from_residual-in_err-live.ensures.1 c.in_err-live.ensures.room.errors
     (c.in_ok-content.ensures.cause looks1.honest ∙ c.in_ok-listing.ensures.cause honest)
 
 pub returns-clause-gives : goal.returns-clause-gives
@@ -64,7 +64,7 @@ returns-clause-gives g c honest short =
     let near : AllNear (root.catalog ∷ extents_listed ls) =
     (near_catalog file short root ls listing, near_layers file short [] ls x layers) in
     let held : Held = record { number = root.version; layers = x.0; tiles = x.1 } in
-    held_steps file root ls x listing layers ∙ c.in_ok-live.ensures.reads near held
+    held_steps file root ls x listing layers ∙ c.in_ok-live.ensures.room.reads near held
 
 pub returns-clause-room : goal.returns-clause-room
 returns-clause-room g c honest short =
@@ -84,7 +84,7 @@ returns-clause-room g c honest short =
     let near : AllNear (root.catalog ∷ extents_listed ls) =
     (near_catalog file short root ls listing, near_layers file short [] ls x layers) in
     subst (λ (l : List Listed). IsMapOf (root.catalog ∷ extents_listed l) (taken_of c.in_ok-live.live.room.map))
-    (sym (ap (λ (s : Standing). s.listing) c.in_ok-live.ensures.stands)) (c.in_ok-live.ensures.taken near)
+    (sym (ap (λ (s : Standing). s.listing) c.in_ok-live.ensures.stands)) (c.in_ok-live.ensures.room.taken near)
 
 pub returns-in_err-content-clause-looks : goal.returns-in_err-content-clause-looks
 returns-in_err-content-clause-looks g c honest =

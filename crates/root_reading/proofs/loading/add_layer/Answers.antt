@@ -1,9 +1,6 @@
 use Rattle.std.proofs.Common.{rules}
 use Rattle.root_reading.proofs.loading.add_layer.Goals as goal
 
-pub returns-in-Base-clause-honest : goal.returns-in-Base-clause-honest
-returns-in-Base-clause-honest g c = search rules
-
 pub returns-in-Base-clause-looks : goal.returns-in-Base-clause-looks
 returns-in-Base-clause-looks g c = search rules
 
@@ -16,12 +13,6 @@ returns-in-Base-clause-refuses g c = search rules
 pub returns-in-Base-clause-stored : goal.returns-in-Base-clause-stored
 returns-in-Base-clause-stored g c = search rules
 
-pub returns-in-Base-clause-cause : goal.returns-in-Base-clause-cause
-returns-in-Base-clause-cause g c = search rules
-
-pub returns-in-Derived-clause-honest : goal.returns-in-Derived-clause-honest
-returns-in-Derived-clause-honest g c = search rules
-
 pub returns-in-Derived-clause-looks : goal.returns-in-Derived-clause-looks
 returns-in-Derived-clause-looks g c = search rules
 
@@ -33,6 +24,3 @@ returns-in-Derived-clause-refuses g c = search rules
 
 pub returns-in-Derived-clause-stored : goal.returns-in-Derived-clause-stored
 returns-in-Derived-clause-stored g c = search rules
-
-pub returns-in-Derived-clause-cause : goal.returns-in-Derived-clause-cause
-returns-in-Derived-clause-cause g c = search rules

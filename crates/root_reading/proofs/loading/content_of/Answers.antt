@@ -31,10 +31,10 @@ loop-entry-preserved g c =
     let is : entry_of item ≡ get_or (entries_of listing) i (entry_of item) =
     ap entry_of c.entry-item.is ∙ sym (get_or-map entry_of listing i item (entry_of item) inside) in
     record {
-      honest = (λ h. was.honest.0 (c.add_layer.ensures.honest.0 h), λ h. c.add_layer.ensures.honest.1 (was.honest.1 h));
+      honest = (λ h. was.honest.0 (c.add_layer.ensures.looks.honest.0 h), λ h. c.add_layer.ensures.looks.honest.1 (was.honest.1 h));
       looks = λ honest. looks_on k c.args.disk.now c.loop-entry.disk c.add_layer.new.disk (was.looks honest)
-          (c.add_layer.ensures.looks (was.honest.1 honest));
-      faults = λ honest. c.in_ok-add_layer.ensures.cause (was.honest.1 honest) ∙ was.faults honest;
+          (c.add_layer.ensures.looks.looks (was.honest.1 honest));
+      faults = λ honest. c.in_ok-add_layer.ensures.looks.cause (was.honest.1 honest) ∙ was.faults honest;
       stored = c.in_ok-add_layer.ensures.stored was.stored;
       rest = λ honest.
           layers_go_on (k.seen c.args.disk.now) (k.seen c.loop-entry.disk) (was.looks honest).seen i (entry_of item)

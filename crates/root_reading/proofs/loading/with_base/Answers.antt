@@ -5,8 +5,8 @@ use Rattle.root_reading.proofs.StoredLemmas.{stored_grows}
 use Rattle.root_reading.proofs.loading.with_base.Goals as goal
 
 pub returns-clause-stored : goal.returns-clause-stored
-returns-clause-stored g c tiles stored =
-    let rings = c.in_ok-rings-2.rings.value in
+returns-clause-stored c tiles stored =
+    let rings = c.in-Ok.rings.value in
     let is = c.in_ok-layers.ensures c.args.name.now (base rings) c.in_ok-name.ensures.valid
     (ap (λ (n : Name). put n rings) c.in_ok-name.ensures.ok) in
     stored_grows c.args.layers.now c.args.name.now (base rings) c.in_ok-layers.layers tiles is stored

@@ -25,10 +25,10 @@ loop-column-preserved g c =
     let was = c.loop-column.invariant in
     let lt : c.loop-column.column < length c.args.entries.now = c.loop-column-test.true in
     record {
-      honest = (λ h. was.honest.0 (c.add_tile.ensures.honest.0 h), λ h. c.add_tile.ensures.honest.1 (was.honest.1 h));
+      honest = (λ h. was.honest.0 (c.add_tile.ensures.looks.honest.0 h), λ h. c.add_tile.ensures.looks.honest.1 (was.honest.1 h));
       looks = λ honest. looks_on k c.args.disk.now c.loop-column.disk c.add_tile.new.disk (was.looks honest)
-          (c.add_tile.ensures.looks (was.honest.1 honest));
-      faults = λ honest. c.in_ok-add_tile.ensures.cause (was.honest.1 honest) ∙ was.faults honest;
+          (c.add_tile.ensures.looks.looks (was.honest.1 honest));
+      faults = λ honest. c.in_ok-add_tile.ensures.looks.cause (was.honest.1 honest) ∙ was.faults honest;
       stored = λ layers to. c.in_ok-add_tile.ensures.stored layers (was.stored layers to);
       rest = λ honest.
           tiles_go_on (k.seen c.args.disk.now)

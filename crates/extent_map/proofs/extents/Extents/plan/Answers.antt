@@ -2,7 +2,8 @@ use Rattle.std.proofs.Common.{◌≡◌, ℕ, ◌<◌, ◌+◌, ◌∷◌, [], �
 use Rattle.std.proofs.lemmas.List.{take_more, take-append-drop, at_drop_more}
 use Rattle.extent_map.specs.declared.extent.Extent.{Extent}
 use Rattle.extent_map.specs.Extents.{AreAlike}
-use Rattle.extent_map.specs.FirstFit.{blocks_for, IsFirstFit, NoFit, IsPlanned, taken_with}
+use Rattle.extent_map.specs.Blocks.{blocks}
+use Rattle.extent_map.specs.FirstFit.{IsFirstFit, NoFit, IsPlanned, taken_with}
 use Rattle.extent_map.proofs.Plans.{fit_alike, none_alike, planned_more, taken_more}
 use Rattle.extent_map.proofs.extents.Extents.plan.Goals as goal
 
@@ -23,7 +24,7 @@ returns-in_default-clause-full c u =
       runs = c.loop-length.runs.items;
       are = sym (take-append-drop i lengths) ∙ ap (λ (l : List ℕ). take i lengths ++ l) (at_drop_more (λ (l : List ℕ). l) lengths i 0 inside);
       planned = c.loop-length.invariant.planned;
-      none = none_alike (taken_with given c.loop-length.runs.items) taken c.args.self.now.limit (blocks_for n) c.loop-length.invariant.alike none;
+      none = none_alike (taken_with given c.loop-length.runs.items) taken c.args.self.now.limit (blocks n) c.loop-length.invariant.alike none;
     }
 
 pub loop-length-preserved : goal.loop-length-preserved
@@ -42,7 +43,7 @@ loop-length-preserved c =
     let size = c.in-Some.ensures.size ∙ c.blocks_of-need.ensures in
     let here = subst (λ (l : List Extent). IsFirstFit l limit c.blocks_of-need.result run.block) c.deref-in-loop-length.ensures.value c.in-Some.ensures.fit in
     let fit = subst (λ (m : ℕ). IsFirstFit taken limit m run.block) c.blocks_of-need.ensures here in
-    let planned = planned_more given limit (take i lengths) runs n run so_far.planned size (fit_alike (taken_with given runs) taken limit (blocks_for n) run.block so_far.alike fit) in
+    let planned = planned_more given limit (take i lengths) runs n run so_far.planned size (fit_alike (taken_with given runs) taken limit (blocks n) run.block so_far.alike fit) in
     let more = subst (λ (l : List ℕ). IsPlanned given limit l (runs ++ run ∷ [])) (sym (take_more lengths i 0 inside)) planned in
     let alike = subst (λ (l : List Extent). AreAlike l c.put.new.taken.items) (sym (taken_more given runs run)) (c.in_ok-put.ensures.alike (taken_with given runs) so_far.alike refl) in
     record {
