@@ -8,6 +8,7 @@ ghost use Rattle.book_history.specs.Rules.{head_of};
 
 use crate::entry::{Ask, Cause, Entry};
 use logbook::{Gain, Offer, Opening, Plain, Play, Rule, Seen, Start, Word};
+use std::fmt;
 use std::marker::{Brand, Model};
 use version_core::version::Version;
 
@@ -115,6 +116,14 @@ impl Model for SeenLog {
     ghost view = { λ f. record { book = f.seen.book; log = f.seen.log } };
 
     ghost invariant = { λ f. (suc f.at ≡ length f.seen.log) × IsLog f.seen.log };
+}
+
+impl fmt::Debug for SeenLog {
+    fn fmt<W: fmt::Write>(&self, f: &mut fmt::Formatter<W>) -> fmt::Result {
+        f.debug_struct("SeenLog")
+            .field("at", &self.at)
+            .finish_non_exhaustive()
+    }
 }
 
 impl SeenLog {

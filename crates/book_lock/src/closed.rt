@@ -5,7 +5,7 @@ use std::sync::Arc;
 use version_core::version::Version;
 
 /// What is left of a book: its newest version, and the log that this ends.
-#[derive(Drop)]
+#[derive(Debug, Drop)]
 pub struct ClosedBook {
     pub version: Arc<Version, Global>,
     pub seen_log: SeenLog,

@@ -13,6 +13,7 @@ use book_history::published::{ReaderPlace, Sees};
 use book_history::reader_place::moved;
 use book_history::seen_log::SeenLog;
 use std::alloc::{AllocError, Global};
+use std::fmt;
 use std::marker::Model;
 use std::sync::Arc;
 use version_core::version::Version;
@@ -43,6 +44,17 @@ impl Model for Session {
     ghost view = { λ s. record { book = s.seen_log.book; session = s.number; log = s.seen_log.log; made = take s.count (commands_of s.number s.seen_log.log) } };
 
     ghost invariant = { λ s. (s.count ≤ length (commands_of s.number s.seen_log.log)) × (0 < length s.seen_log.log) × IfSome s.place (λ r. Begins s.seen_log (place_view r.place)) × ((newest_in s.seen_log.log).number ≡ s.newest) };
+}
+
+impl fmt::Debug for Session {
+    fn fmt<W: fmt::Write>(&self, f: &mut fmt::Formatter<W>) -> fmt::Result {
+        f.debug_struct("Session")
+            .field("number", &self.number)
+            .field("count", &self.count)
+            .field("newest", &self.newest)
+            .field("seen_log", &self.seen_log)
+            .finish_non_exhaustive()
+    }
 }
 
 impl Session {

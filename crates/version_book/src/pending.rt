@@ -39,6 +39,9 @@ fn free_column(version: &Version, held: &HeldTiles, name: &Name) -> Option<Colum
     ensures free { IfSome result (λ column. is_held name.now column held.now.list.items ≡ false) }
     ensures none { IfNone result (AreHeld version.now held.now.list.items name.now) }
 {
+    if version.is_built(name) {
+        return None;
+    }
     for number in 0..COLUMN_COUNT {
         let Some(column) = Column::new(u64::from(number)) else {
             unreachable!()

@@ -9,7 +9,7 @@ use std::marker::Model;
 
 /// The one token that may report durable numbers: what it has seen, the durable number there, and which news it gave
 /// last.
-#[derive(Drop)]
+#[derive(Debug, Drop)]
 pub struct Reporter {
     seen_log: SeenLog,
     durable: u64,

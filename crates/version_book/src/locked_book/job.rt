@@ -9,6 +9,7 @@ use std::marker::Model;
 
 /// A tile that is handed out, with what it is to be built from. It is no value that may be dropped: the book hands it
 /// out, and takes it back with the built tile or without.
+#[derive(Debug)]
 pub struct Job {
     name: Name,
     input: TileInput,

@@ -1,4 +1,6 @@
 use Rattle.std.proofs.Common.{◌≡◌, ℕ, ◌<◌, true, None, sym, ◌∙◌, subst, lt_of_lt_of_le}
+use Rattle.std.specs.Prelude.{IsTrue, is_some}
+use Rattle.std.proofs.lemmas.Bool.{false≢true}
 use borrow.Author.Count.{below_none, below_more}
 use Rattle.overlay_terms.specs.Column.{column_count}
 use Rattle.overlay_terms.specs.Histories.{tile_at}
@@ -6,6 +8,14 @@ use Rattle.version_book.specs.HeldTiles.{is_held}
 use Rattle.book_history.proofs.Holding.{none_kept, some_kept}
 use Rattle.version_book.proofs.pending.free_column.Goals as goal
 use Rattle.version_book.proofs.pending.free_column.Goals.{else-is_none-via-then-is_none+else-not-has, else-is_none-via-else-is_none}
+
+pub returns-then-is_built : goal.returns-then-is_built
+returns-then-is_built c = record {
+  pending = tt;
+  column = tt;
+  free = tt;
+  none = λ k low none. absurd (false≢true (subst (λ o. IsTrue (is_some o)) none (c.is_built.ensures.0 c.if-is_built.true k low)));
+}
 
 pub loop-number-init : goal.loop-number-init
 loop-number-init c = below_none _
