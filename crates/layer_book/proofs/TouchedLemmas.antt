@@ -1,23 +1,20 @@
 -- The table of touched tiles: its rows, and what is read in it.
-use Rattle.std.proofs.Common.{◌≡◌, ℕ, zero, suc, ◌+◌, ◌<◌, ◌≤◌, ◌==◌, Bool, true, false, not, cond, ◌&&◌, ◌||◌, List, [], ◌∷◌, ◌++◌, length, map, take, set, get_or, replicate, slice_get, Some, None, refl, ap, sym, ◌∙◌, arith, add-one, add-zero, bytes_eq, if◌then◌else◌}
+use Rattle.std.proofs.Common.{◌≡◌, ℕ, zero, suc, ◌+◌, ◌<◌, ◌==◌, Bool, true, false, not, ◌&&◌, List, [], ◌∷◌, ◌++◌, length, map, take, set, replicate, slice_get, Some, None, refl, ap, sym, ◌∙◌, arith, add-one, add-zero, bytes_eq}
 use Rattle.std.specs.List.{list_any, range_with_len}
 use Rattle.std.specs.Cmp.Lexicographic.{pointwise}
 use Rattle.std.proofs.lemmas.Bool.{both_ways, false_from_ne_true}
 use Rattle.std.proofs.lemmas.Bool.Decides.{Decides-eqb}
 use Rattle.std.proofs.lemmas.List.{map-append, take_more_set}
-use Rattle.std.proofs.lemmas.List.FromFn.{get_or-map-range_with_len}
 use Rattle.overlay_terms.specs.Plane.{WholePoint}
 use Rattle.overlay_terms.specs.Column.{columns, column_count}
 use Rattle.overlay_terms.specs.Layers.{Name, Layer, layers_in_reach, steps_in_reach}
 use Rattle.overlay_terms.specs.Tiles.{input_of}
 use Rattle.overlay_terms.specs.SameInput.{same_marked, same_steps, same_input}
-use Rattle.overlay_terms.specs.Commands.{Command, refusal_of, applied, index_of, stands, stands_as_derived}
-use Rattle.overlay_terms.specs.Touched.{tile_stays, is_touched, derived_over, name_of}
+use Rattle.overlay_terms.specs.Commands.{Command, refusal_of, applied, stands_as_derived}
+use Rattle.overlay_terms.specs.Touched.{is_touched, derived_over, name_of}
 use Rattle.overlay_terms.specs.Orderly.{IsOrderly}
-use Rattle.overlay_terms.proofs.NameLemmas.{same_name}
-use Rattle.overlay_terms.proofs.KeptDerived.{derived_stands}
 use Rattle.overlay_terms.proofs.KeptCommands.{only_reach_is_touched}
-use Rattle.layer_book.specs.Touching.{touched_columns, touched_rows, marked_in}
+use Rattle.layer_book.specs.Touching.{touched_columns, marked_in}
 use Rattle.layer_book.proofs.Answering.{take_there}
 use Rattle.layer_book.proofs.MarkedLayers.{rings_of}
 
@@ -80,70 +77,6 @@ changed_touched layers command name before after =
     (λ k. both_derived (stands_as_derived layers name) (stands_as_derived (applied layers command) name)
     (same_input (input_of (applied layers command) name k) (input_of layers name k)) before after) columns
 
--- the row of a layer with a name
-row_of : (g : Name → List Bool) (layers : List Layer) (name : Name)
-    → slice_get (map (λ (layer : Layer). g layer.name) layers) (index_of layers name) ≡ (if stands layers name then Some (g name) else None)
-row_of g [] name = refl
-row_of g (l ∷ layers) name = split (bytes_eq l.name name) refl (row_of g layers name) where
-  split : (b : Bool) → bytes_eq l.name name ≡ b → slice_get (map (λ (layer : Layer). g layer.name) layers) (index_of layers name) ≡ (if stands layers name then Some (g name) else None) →
-      slice_get (map (λ (layer : Layer). g layer.name) (l ∷ layers)) (cond b 0 (index_of layers name + 1)) ≡ (if (b || stands layers name) then Some (g name) else None)
-  split true at next = ap (λ n. Some (g n)) (same_name l.name name at)
-  split false at next = ap (slice_get (map (λ (layer : Layer). g layer.name) (l ∷ layers))) (add-one (index_of layers name)) ∙ next
-
--- the mark of a column in a row
-mark_of : (p : ℕ → Bool) (n a k : ℕ) → k < n → get_or (map p (range_with_len a n)) k false ≡ p (a + k)
-mark_of p n a k h = get_or-map-range_with_len p a n k (a + k) false h refl
-
-first_number : (k : ℕ) → 0 + k ≡ k
-first_number k = omega arith
-
-some_is : {A : Type 0} {a b : A} → Some a ≡ Some b → a ≡ b
-some_is e = cc
-
-some_none : {A : Type 0} {a : A} → Some a ≡ None → ⊥
-some_none e = cc
-
--- what is read at an index of a list, and behind its end
-get_there : {A : Type 0} (xs : List A) (i : ℕ) (x : A) → i < length xs → x ≡ get_or xs i x → slice_get xs i ≡ Some x
-get_there [] i x h e = absurd (omega arith)
-get_there (y ∷ xs) zero x h e = ap (λ z. Some z) (sym e)
-get_there (y ∷ xs) (suc i) x h e = get_there xs i x (omega arith) e
-
-get_behind : {A : Type 0} (xs : List A) (i : ℕ) → length xs ≤ i → slice_get xs i ≡ None
-get_behind [] zero h = refl
-get_behind [] (suc i) h = refl
-get_behind (y ∷ xs) zero h = absurd (omega arith)
-get_behind (y ∷ xs) (suc i) h = get_behind xs i (omega arith)
-
--- where there is a row for a name, its marks are the touched tiles'
-pub row_tells : (layers : List Layer) (command : Command) (name : Name) (k : ℕ) (rows : List (List Bool)) (i j : ℕ) (row : List Bool)
-    → rows ≡ touched_rows layers command → i ≡ index_of layers name → j ≡ k → k < column_count → i < length rows → row ≡ get_or rows i row
-    → get_or row j false ≡ is_touched layers command name k
-row_tells layers command name k rows i j row all index column h near there = split (stands layers name) (row_of (touched_columns layers command) layers name) where
-  found : slice_get (touched_rows layers command) (index_of layers name) ≡ Some row
-  found = sym (λ x. slice_get (all x) (index x)) ∙ get_there rows i row near there
-
-  split : (b : Bool) → slice_get (touched_rows layers command) (index_of layers name) ≡
-      (if b then Some (touched_columns layers command name) else None) → get_or row j false ≡ is_touched layers command name k
-  split true e =
-      let same : row ≡ touched_columns layers command name = some_is (sym found ∙ e) in
-      (λ x. get_or (same x) (column x) false) ∙ mark_of (is_touched layers command name) column_count 0 k h ∙ ap (is_touched layers command name) (first_number k)
-  split false e = absurd (some_none (sym found ∙ e))
-
--- where there is none, no tile is touched
-pub no_row_tells : (layers : List Layer) (command : Command) (name : Name) (k : ℕ) (rows : List (List Bool)) (i : ℕ)
-    → rows ≡ touched_rows layers command → i ≡ index_of layers name → length rows ≤ i → false ≡ is_touched layers command name k
-no_row_tells layers command name k rows i all index none = split (stands layers name) refl (row_of (touched_columns layers command) layers name) where
-  found : slice_get (touched_rows layers command) (index_of layers name) ≡ None
-  found = sym (λ x. slice_get (all x) (index x)) ∙ get_behind rows i none
-
-  split : (b : Bool) → stands layers name ≡ b → slice_get (touched_rows layers command) (index_of layers name) ≡
-      (if b then Some (touched_columns layers command name) else None) → false ≡ is_touched layers command name k
-  split true at e = absurd (some_none (sym e ∙ found))
-  split false at e =
-      let out : stands_as_derived layers name ≡ false = false_from_ne_true (stands_as_derived layers name) (λ d. both_ways (stands layers name) at (derived_stands layers name d)) in
-      sym (ap (λ b. b && not (tile_stays layers (applied layers command) name k)) out)
-
 -- the rows of one layer more, and of all
 pub rows_more : (g : Name → List Bool) (layers : List Layer) (i : ℕ) (layer : Layer) (old new : List (List Bool)) (row : List Bool)
     → slice_get layers i ≡ Some layer → old ≡ map (λ (l : Layer). g l.name) (take i layers) → row ≡ g layer.name → new ≡ old ++ row ∷ []
@@ -180,6 +113,9 @@ marks_tell layers after name news olds e f same =
         let marks = pointwise same_marked (input_of after name k).marked (input_of layers name k).marked in
         (λ x. pointwise same_marked (marked_in k (e x)) (marked_in k (f x)))
         ∙ sym ((λ x. ((Decides-eqb k k).1 refl x && marks) && same x) ∙ and_true marks)
+
+first_number : (k : ℕ) → 0 + k ≡ k
+first_number k = omega arith
 
 -- a mark of one column more
 pub marks_more : (p : ℕ → Bool) (marks : List Bool) (n at : ℕ) (same : Bool) → n < column_count → n < length marks → at ≡ n → not same ≡ p n

@@ -4,9 +4,8 @@ ghost use Rattle.std.specs.List.{list_any};
 ghost use Rattle.overlay_terms.specs.Column.{columns};
 ghost use Rattle.overlay_terms.specs.Tiles.{input_of};
 ghost use Rattle.overlay_terms.specs.SameInput.{same_input};
-ghost use Rattle.overlay_terms.specs.Commands as terms;
 ghost use Rattle.overlay_terms.specs.Commands.{applied, refusal_of, stands_as_derived};
-ghost use Rattle.overlay_terms.specs.Touched.{derived_over, is_touched};
+ghost use Rattle.overlay_terms.specs.Touched.{derived_over};
 ghost use Rattle.layer_book.specs.Command.{command};
 ghost use Rattle.layer_book.specs.Layer.{IsBook};
 ghost use Rattle.layer_book.specs.Touching.{AreOfAllOver, touched_columns, touched_rows};
@@ -16,11 +15,11 @@ use crate::comparing::{changed_columns, differing_columns};
 use crate::layer::Layer;
 use crate::layers::Layers;
 use layer_expr::name::Name;
-use plane_base::{COLUMN_COUNT, Column};
+use plane_base::COLUMN_COUNT;
 use std::alloc::{AllocError, Global};
 
 /// How many columns a row has: all of them.
-pub(crate) const COLUMNS: usize = COLUMN_COUNT as usize;
+pub const COLUMNS: usize = COLUMN_COUNT as usize;
 
 impl Layers {
     /// Which tiles a command touches: for each layer, by index, whether it touches the tile of each
@@ -44,16 +43,6 @@ impl Layers {
             }
         }
         Ok(rows)
-    }
-
-    /// Whether a command touches the tile of a layer and column, by the rows of all layers.
-    pub fn is_touched(&self, rows: &[[bool; COLUMNS]], name: &Name, column: Column) -> bool
-        ensures { (change : terms.Command) → rows.now ≡ touched_rows self.now change → result ≡ is_touched self.now change name.now column }
-    {
-        match rows.get(self.index_of(name)) {
-            Some(row) => row[usize::from(column.number())],
-            None => false,
-        }
     }
 
     /// In which columns a command touches the tiles of all layers over its name, where it puts rings in the place of

@@ -13,11 +13,12 @@ ghost use Rattle.layer_book.specs.Layer.{content};
 ghost use Rattle.layer_book.specs.Touching.{touched_rows};
 ghost use Rattle.version_core.specs.Table.{left_at, row_by, rows_by, IsLaid};
 
-use crate::tiles::{COLUMNS, TileRow};
+use crate::tiles::TileRow;
 use layer_book::MAX_LAYERS;
 use layer_book::command::Command;
 use layer_book::layer::Layer;
 use layer_book::layers::Layers;
+use layer_book::touching::COLUMNS;
 use layer_expr::name::Name;
 use plane_base::Column;
 use std::alloc::{AllocError, Global};

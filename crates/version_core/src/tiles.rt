@@ -6,14 +6,12 @@ ghost use Rattle.overlay_terms.specs.Column.{column_count};
 ghost use Rattle.tile_build.specs.Tile.{tile_of};
 ghost use Rattle.version_core.specs.Table.{row_by, tile_in_slot};
 
-use plane_base::{COLUMN_COUNT, Column};
+use layer_book::touching::COLUMNS;
+use plane_base::Column;
 use std::alloc::{AllocError, Global};
 use std::marker::Model;
 use std::sync::Arc;
 use tile_build::Tile;
-
-/// How many slots a row has: one for each column.
-pub(crate) const COLUMNS: usize = COLUMN_COUNT as usize;
 
 /// A place for a finished tile. Rows share the tile.
 #[derive(Debug, Drop)]
@@ -105,14 +103,7 @@ impl TileRow {
         })
     }
 
-    /// The tile of a column.
-    pub fn tile(&self, column: Column) -> Option<&Arc<Tile>>
-        ensures { option_map (λ tile. tile_of tile.now.value) result ≡ get_or self.now column None }
-    {
-        self.tile_at(usize::from(column.number()))
-    }
-
-    /// The same of a number that may be none of a column.
+    /// The tile of the column that has a number, if one has.
     pub(crate) fn tile_at(&self, number: usize) -> Option<&Arc<Tile>>
         ensures { option_map (λ tile. tile_of tile.now.value) result ≡ get_or self.now number None }
     {
