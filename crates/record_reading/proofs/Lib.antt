@@ -1,2 +1,3 @@
 mod DefinitionLemmas
 mod NamedPieceLemmas
+mod PointLemmas

@@ -7,4 +7,3 @@ mod pieces;
 mod points;
 mod segments;
 pub mod tile_record;
-

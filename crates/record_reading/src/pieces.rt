@@ -1,12 +1,13 @@
 //! Pieces at the front of some bytes.
-ghost use Rattle.std.specs.Prelude.{◌≡◌, ◌&&◌, IfOk, IfErr};
+ghost use Rattle.std.specs.Prelude.{◌≡◌, ◌&&◌, ℕ, List, Some, IfOk, IfErr};
 ghost use Rattle.record_writing.specs.Answers.{Fails, Gives};
 ghost use Rattle.record_reading.specs.Added.{IsAdded};
 ghost use Rattle.store_terms.specs.Fields.{read_many};
-ghost use Rattle.store_terms.specs.TileRecord.{has_place, piece as spelled};
+ghost use Rattle.store_terms.specs.TileRecord.{has_place, piece as spelled, segment};
 
-use crate::segments::{point_name_at, segment_at};
+use crate::segments::{point_name_at, segment_at, vertex_at};
 use exact_point::PointName;
+use plane_base::Seg;
 use record_writing::fault::ReadFault;
 use std::alloc::Global;
 use tile_build::Piece;
@@ -28,19 +29,20 @@ pub(crate) fn pieces_at(
 }
 
 /// Adds the piece at the front of some bytes, and gives what follows it. It goes from its names into the vector: what
-/// stands between them would be copied as a whole.
+/// stands between them would be copied as a whole. One between whole points, as most are, is read without the names.
 fn push_piece<'a>(pieces: &mut Vec<Piece>, bytes: &'a [u8]) -> Result<&'a [u8], ReadFault>
     ensures ok { IfOk result (λ rest. IsAdded spelled bytes.now rest.now pieces.old.items pieces.new.items) }
     ensures err { IfErr result (λ fault. Fails fault (spelled.read bytes.now)) }
 {
     match segment_at(bytes) {
-        Ok(support) => match point_name_at(support.1) {
-            Ok(from) => match point_name_at(from.1) {
-                Ok(to) => {
-                    if !are_places(&from.0, &to.0) {
-                        return Err(ReadFault::Form);
-                    }
-                    match Piece::new(support.0, from.0, to.0) {
+        Ok(support) => match vertex_at(support.1) {
+            Some(from) => match vertex_at(from.1) {
+                Some(to) => {
+                    match Piece::new(
+                        support.0,
+                        PointName::Vertex(from.0),
+                        PointName::Vertex(to.0),
+                    ) {
                         Some(piece) => {
                             pieces.push(piece)?;
                             Ok(to.1)
@@ -48,8 +50,39 @@ fn push_piece<'a>(pieces: &mut Vec<Piece>, bytes: &'a [u8]) -> Result<&'a [u8], 
                         None => Err(ReadFault::Form),
                     }
                 }
-                Err(fault) => Err(fault),
+                None => push_named(pieces, support.0, support.1),
             },
+            None => push_named(pieces, support.0, support.1),
+        },
+        Err(fault) => Err(fault),
+    }
+}
+
+/// The same behind its segment, whatever names its ends have.
+fn push_named<'a>(
+    pieces: &mut Vec<Piece>,
+    support: Seg,
+    bytes: &'a [u8],
+) -> Result<&'a [u8], ReadFault>
+    ensures ok { (all : List ℕ) → segment.read all ≡ Some (support, bytes.now)
+        → IfOk result (λ rest. IsAdded spelled all rest.now pieces.old.items pieces.new.items) }
+    ensures err { (all : List ℕ) → segment.read all ≡ Some (support, bytes.now)
+        → IfErr result (λ fault. Fails fault (spelled.read all)) }
+{
+    match point_name_at(bytes) {
+        Ok(from) => match point_name_at(from.1) {
+            Ok(to) => {
+                if !are_places(&from.0, &to.0) {
+                    return Err(ReadFault::Form);
+                }
+                match Piece::new(support, from.0, to.0) {
+                    Some(piece) => {
+                        pieces.push(piece)?;
+                        Ok(to.1)
+                    }
+                    None => Err(ReadFault::Form),
+                }
+            }
             Err(fault) => Err(fault),
         },
         Err(fault) => Err(fault),

@@ -1,5 +1,5 @@
 //! Segments, and the names of places, at the front of some bytes.
-ghost use Rattle.std.specs.Prelude.{◌≡◌, Some, None, if◌then◌else◌};
+ghost use Rattle.std.specs.Prelude.{◌≡◌, Some, None, IfSome, if◌then◌else◌};
 ghost use Rattle.std.specs.Ordering.{is_lt};
 ghost use Rattle.overlay_terms.specs.Plane.{whole_cmp};
 ghost use Rattle.record_writing.specs.Answers.{Gives};
@@ -37,6 +37,24 @@ fn segment_of(left: Pt, right: Pt) -> Option<Seg>
         return None;
     }
     Seg::of(left, right)
+}
+
+/// The whole point that a name is of, and what follows it; none where it is of another kind, or not spelled.
+pub(crate) fn vertex_at(bytes: &[u8]) -> Option<(Pt, &[u8])>
+    ensures { IfSome result (λ x. point_name.read bytes.now ≡ Some (PointName.Vertex x.0, x.1.now)) }
+{
+    match byte_at(bytes) {
+        Ok(kind) => {
+            if kind.0 != 0 {
+                return None;
+            }
+            match point_at(kind.1) {
+                Ok(vertex) => Some(vertex),
+                Err(_) => None,
+            }
+        }
+        Err(_) => None,
+    }
 }
 
 /// The name of a place, and what follows it. The name may stand for no place.
