@@ -2,14 +2,4 @@
 #![tactic(auto)]
 
 #[cfg(test)]
-mod books;
-#[cfg(test)]
-mod gate_tests;
-#[cfg(test)]
-mod row_tests;
-#[cfg(test)]
-mod session_tests;
-#[cfg(test)]
-mod store_tests;
-#[cfg(test)]
-mod testing;
+mod tests;

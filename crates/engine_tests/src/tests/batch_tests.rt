@@ -1,5 +1,7 @@
 //! Batches: their answers, and crashes at each device call of the commit of one.
-use crate::testing::{CHOICES, CREATED, SHIFTED, SQUARE, Words, created, drive, joined, recovered};
+use crate::tests::testing::{
+    CHOICES, CREATED, SHIFTED, SQUARE, Words, created, drive, joined, recovered,
+};
 use disk_model::mem_disk::MemDisk;
 use overlay_engine::step::Reply;
 use std::alloc::Global;

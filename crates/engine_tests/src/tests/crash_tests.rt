@@ -1,5 +1,7 @@
 //! Crashes at each device call of two commits, and of the recoveries after them.
-use crate::testing::{CHOICES, CREATED, SHIFTED, SQUARE, Words, created, drive, joined, recovered};
+use crate::tests::testing::{
+    CHOICES, CREATED, SHIFTED, SQUARE, Words, created, drive, joined, recovered,
+};
 use disk_model::image::Choice;
 use disk_model::mem_disk::MemDisk;
 use overlay_engine::step::Reply;

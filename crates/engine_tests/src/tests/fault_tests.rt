@@ -1,5 +1,5 @@
 //! What an engine answers where a device call fails.
-use crate::testing::{CREATED, SQUARE, Words, drive, recovered};
+use crate::tests::testing::{CREATED, SQUARE, Words, drive, recovered};
 use disk_model::mem_disk::MemDisk;
 use overlay_engine::engine::Engine;
 use overlay_engine::step::Reply;

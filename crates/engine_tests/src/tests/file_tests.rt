@@ -1,5 +1,5 @@
 //! Files that are no store, or that a part is cut off.
-use crate::testing::{SQUARE, Words, created, drive, joined};
+use crate::tests::testing::{SQUARE, Words, created, drive, joined};
 use commit_plan::fault::StoreFault;
 use disk_model::mem_disk::{Call, MemDisk};
 use overlay_engine::engine::Engine;

@@ -1,5 +1,5 @@
 //! Which records a commit writes: those that the store does not hold already.
-use crate::testing::{CREATED, SHIFTED, SMALLER, SQUARE, Words, created, drive, recovered};
+use crate::tests::testing::{CREATED, SHIFTED, SMALLER, SQUARE, Words, created, drive, recovered};
 use disk_model::image::Choice;
 use disk_model::mem_disk::{Call, MemDisk};
 use layer_expr::name::Name;

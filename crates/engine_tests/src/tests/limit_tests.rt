@@ -1,5 +1,5 @@
 //! Limits of blocks and of numbers.
-use crate::testing::{CREATED, SQUARE, Words, created, drive, joined, recovered};
+use crate::tests::testing::{CREATED, SQUARE, Words, created, drive, joined, recovered};
 use disk_model::disk::Disk;
 use disk_model::mem_disk::{Call, MemDisk};
 use overlay_engine::engine::Engine;

@@ -1,5 +1,5 @@
 //! Answers to lists of steps.
-use crate::testing::{SHIFTED, SMALLER, SQUARE, Words, created, drive};
+use crate::tests::testing::{SHIFTED, SMALLER, SQUARE, Words, created, drive};
 use overlay_engine::step::Reply;
 use std::test::Fail;
 

@@ -1,6 +1,6 @@
 //! Inputs of tiles, units, nodes, pieces and labels, worked by hand. Bit 0 of a mask is layer A, bit 1 is B.
-use crate::rows::{Place, check, lowest};
-use crate::testing::{
+use crate::tests::rows::{Place, check, lowest};
+use crate::tests::testing::{
     ACROSS, BOW_TIE, CORNER, Corners, LEFT_HALF, NOTHING, SHIFTED, SQUARE, STRIP, TRIANGLE, TWICE,
     input_of,
 };

@@ -1,6 +1,8 @@
 //! Batches by their calls: what one makes, why one is refused, and which tiles it touches.
-use crate::rows::check;
-use crate::testing::{Change, SHIFTED, SQUARE, batch, command, input_in, layers_of, name_of};
+use crate::tests::rows::check;
+use crate::tests::testing::{
+    Change, SHIFTED, SQUARE, batch, command, input_in, layers_of, name_of,
+};
 use layer_book::batch::Batch;
 use layer_book::batch_fault::BatchFault;
 use layer_book::layers::Layers;

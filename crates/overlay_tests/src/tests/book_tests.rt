@@ -1,7 +1,7 @@
 //! What a book answers: a snapshot, commands of two threads, tiles that are taken, finished and given back, durable
 //! numbers, and how it closes.
-use crate::books::{Call, Row, WaitFor, play};
-use crate::testing::{Change, Corners, SHIFTED, SQUARE};
+use crate::tests::books::{Call, Row, WaitFor, play};
+use crate::tests::testing::{Change, Corners, SHIFTED, SQUARE};
 use layer_book::batch_fault::BatchFault;
 use layer_book::fault::LayerFault;
 use version_book::fault::{BookFault, ToldFault};

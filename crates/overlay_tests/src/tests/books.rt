@@ -3,9 +3,9 @@ ghost use Rattle.std.specs.Prelude.{◌≡◌, ◌∷◌, [], IfSome};
 ghost use Rattle.version_book.specs.Logs.{entry, no_event};
 ghost use Rattle.version_book.specs.Rules.{head_of};
 
-use crate::rows::check;
-use crate::testing::{Change, batch, command, name_of};
-use crate::threads::{Work, beside, submit_beside, wait_beside};
+use crate::tests::rows::check;
+use crate::tests::testing::{Change, batch, command, name_of};
+use crate::tests::threads::{Work, beside, submit_beside, wait_beside};
 use exact_point::QueryPoint;
 use layer_book::batch_fault::BatchFault;
 use layer_book::direct_answer::Place;

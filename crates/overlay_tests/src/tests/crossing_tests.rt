@@ -1,8 +1,8 @@
 //! Tiles by the pass from node to node beside tiles by all pairs, at several caps, and what the pass
 //! counts: on the worked inputs, on two combs, and on scattered rings round the border of two columns.
-use crate::rings::{combs, next, scattered};
-use crate::rows::check;
-use crate::testing::{
+use crate::tests::rings::{combs, next, scattered};
+use crate::tests::rows::check;
+use crate::tests::testing::{
     ACROSS, BOW_TIE, CORNER, Corners, DIAMOND, LEFT_HALF, NEXT_TO_IT, NOTHING, SHIFTED, SQUARE,
     STRIP, TRIANGLE, TWICE, input_of,
 };

@@ -1,6 +1,8 @@
 //! Layers by their calls: order, copies and the inputs of tiles.
-use crate::rows::check;
-use crate::testing::{SHIFTED, SQUARE, input_in, input_of, layers_of, with_base, with_definition};
+use crate::tests::rows::check;
+use crate::tests::testing::{
+    SHIFTED, SQUARE, input_in, input_of, layers_of, with_base, with_definition,
+};
 use layer_book::layers::Layers;
 use layer_expr::step_list::StepList;
 use std::alloc::Global;

@@ -1,5 +1,5 @@
 //! Exact places, worked by hand and with fractions of Python.
-use crate::rows::{Place, check, lowest};
+use crate::tests::rows::{Place, check, lowest};
 use exact_point::side::side;
 use exact_point::{HPoint, PointFault, PointName, QueryPoint, below, below_middle, cross_of, on};
 use plane_base::{Pt, Seg};

@@ -1,5 +1,5 @@
 //! Whole points, segments, columns and base layers, worked by hand.
-use crate::rows::check;
+use crate::tests::rows::check;
 use plane_base::{BaseLayer, Column, PlaneFault, Pt, Ring, Seg, column_of};
 use std::process::Abort;
 

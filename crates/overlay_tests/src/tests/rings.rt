@@ -1,5 +1,5 @@
 //! Layers of rings for the tests: scattered rings from seeds, and combs that cross everywhere.
-use crate::testing::{input_in, with_definition, with_rings};
+use crate::tests::testing::{input_in, with_definition, with_rings};
 use arrange::TileInput;
 use layer_book::layers::Layers;
 use plane_base::{Pt, Ring};

@@ -1,8 +1,8 @@
 //! Labels by the sweep beside labels by counting: on the worked inputs, on two combs that cross everywhere, and on
 //! rings through points of a small square, of which many touch, stand upright or overlap.
-use crate::rings::{combs, next, scattered};
-use crate::rows::check;
-use crate::testing::{
+use crate::tests::rings::{combs, next, scattered};
+use crate::tests::rows::check;
+use crate::tests::testing::{
     ACROSS, BOW_TIE, CORNER, Corners, DIAMOND, LEFT_HALF, NEXT_TO_IT, NOTHING, SHIFTED, SQUARE,
     STRIP, TRIANGLE, TWICE, input_of,
 };

@@ -1,7 +1,7 @@
 //! What two sessions do in threads of their own, for the tests.
 ghost use Rattle.std.specs.Prelude.{◌≡◌};
 
-use crate::books::{Answer, Call, answer, finish, take};
+use crate::tests::books::{Answer, Call, answer, finish, take};
 use layer_book::command::Command;
 use layer_expr::name::Name;
 use std::alloc::Global;
@@ -171,13 +171,12 @@ fn beside_until_closing<J: Naming + Send + Sync, R: Threads + Wait + Clock + Abo
     shared: &Shared<J, &R>,
     one: &mut Session,
     two: &mut Session,
-    first: &Work,
-    second: &Work,
+    works: &(Work, Work),
 ) -> (Result<Vec<u64>, BookFault>, Result<Vec<u64>, BookFault>)
     requires { (one.old.book ≡ J.book) × (two.old.book ≡ J.book) }
     ensures { (one.new.book ≡ one.old.book) × (two.new.book ≡ two.old.book) }
 {
-    let done = beside(rt, alloc, shared, one, two, first, second);
+    let done = beside(rt, alloc, shared, one, two, &works.0, &works.1);
     shared.begin_close(rt);
     done
 }
@@ -200,13 +199,13 @@ pub fn submit_beside<J: Naming + Send + Sync, R: Threads + Wait + Clock + Abort 
         × (two.new.book ≡ two.old.book) }
 {
     let from = one.snapshot().expect(rt, "no version").number();
-    let (first, second) = (Work::Submits(first), Work::Submits(second));
+    let works = (Work::Submits(first), Work::Submits(second));
     let (reported, (ours, theirs)) = join_mut(
         rt,
         &mut || report_all(rt, alloc, shared, reporter),
         &mut ||
             requires { (one.now.book ≡ J.book) × (two.now.book ≡ J.book) }
-        { beside_until_closing(rt, alloc, shared, one, two, &first, &second) },
+        { beside_until_closing(rt, alloc, shared, one, two, &works) },
     );
     let ours = ours.expect(rt, "no numbers of the first");
     let theirs = theirs.expect(rt, "no numbers of the second");

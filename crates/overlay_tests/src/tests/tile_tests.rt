@@ -1,6 +1,6 @@
 //! Tiles by their calls: the cap, answers, copies, and which tiles are alike.
-use crate::rows::check;
-use crate::testing::{BOW_TIE, Corners, NOTHING, SHIFTED, SQUARE, TWICE, input_of};
+use crate::tests::rows::check;
+use crate::tests::testing::{BOW_TIE, Corners, NOTHING, SHIFTED, SQUARE, TWICE, input_of};
 use exact_point::QueryPoint;
 use std::alloc::Global;
 use std::process::Abort;

@@ -1,6 +1,8 @@
 //! Versions by their calls: pending tiles and late results.
-use crate::rows::check;
-use crate::testing::{Change, Corners, SHIFTED, SQUARE, command, input_in, layers_of, name_of};
+use crate::tests::rows::check;
+use crate::tests::testing::{
+    Change, Corners, SHIFTED, SQUARE, command, input_in, layers_of, name_of,
+};
 use layer_expr::name::Name;
 use std::alloc::Global;
 use std::process::Abort;

@@ -1,5 +1,7 @@
 //! That workers build side by side, while the sessions are answered.
-use crate::testing::{Lines, Watch, created, empty_disk, expect, name_of, recovered, served};
+use crate::tests::testing::{
+    Lines, Watch, created, empty_disk, expect, name_of, recovered, served,
+};
 use disk_model::mem_disk::MemDisk;
 use layer_expr::name::Name;
 use overlay_engine::engine::Engine;

@@ -1,5 +1,5 @@
 //! Scripts and their replies, by a server without a store.
-use crate::testing::{expect, served, written};
+use crate::tests::testing::{expect, served, written};
 use disk_model::mem_disk::MemDisk;
 use overlay_engine::engine::Engine;
 use std::test::Fail;

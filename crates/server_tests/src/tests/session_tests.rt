@@ -1,5 +1,5 @@
 //! What no script shows: reads and writes that fail, and the limits of lines and of scripts.
-use crate::books::run_script;
+use crate::tests::books::run_script;
 use script_form::SessionEnd;
 use std::alloc::{AllocError, Global};
 use std::cell::Cell;

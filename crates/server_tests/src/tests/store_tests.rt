@@ -1,7 +1,7 @@
 //! That what sessions have put is in the store when that is opened again, and what they are told where it fails.
 ghost use Rattle.std.specs.Prelude.{◌≤◌};
 
-use crate::testing::{created, empty_disk, expect, recovered, served};
+use crate::tests::testing::{created, empty_disk, expect, recovered, served};
 use disk_model::disk::Disk;
 use disk_model::mem_disk::MemDisk;
 use file_disk::file_disk::FileDisk;

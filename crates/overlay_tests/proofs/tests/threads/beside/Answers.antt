@@ -9,7 +9,7 @@ use Rattle.std.proofs.Crossing.{crosses, sync}
 use Rattle.std.specs.contracts.alloc.Global as global
 use Rattle.plane_base.proofs.base_layer.BaseLayer.TheSendSync as bases
 use Rattle.layer_expr.proofs.name.Name.TheSendSync as names
-use Rattle.overlay_tests.specs.contracts.threads.Work as work
+use Rattle.overlay_tests.specs.contracts.tests.threads.Work as work
 use Rattle.version_book.proofs.Sent.{expr_send, expr_sync, session_send}
 use Rattle.version_book.proofs.SentBook.{shared_sync}
 use Rattle.version_book.specs.contracts.session.Session as session
@@ -18,7 +18,7 @@ use Rattle.version_book.specs.declared.seen_log.Naming as naming
 use denote.Exit.{no}
 use denote.Param.{param}
 use denote.Param.Send.{IsSend, IsSync, arg_send, mut_send, param_send, recorded_send, shr_send, struct_send, sendable}
-use Rattle.overlay_tests.proofs.threads.beside.Goals as goal
+use Rattle.overlay_tests.proofs.tests.threads.beside.Goals as goal
 
 work_sync : IsSync work.the_row
 work_sync = search (sendable, crosses, bases.the_send, bases.the_sync, names.the_sync, expr_send, expr_sync) depth 20

@@ -15,7 +15,7 @@ use Rattle.version_book.specs.declared.seen_log.Naming as naming
 use denote.Exit.{no}
 use denote.Param.{param}
 use denote.Param.Send.{IsSend, IsSync, arg_send, mut_send, param_send, recorded_send, shr_send, struct_send}
-use Rattle.overlay_tests.proofs.threads.submit_beside.Goals as goal
+use Rattle.overlay_tests.proofs.tests.threads.submit_beside.Goals as goal
 
 module _ (J R : RattleType) (g : naming.Ghosts J.Denot) (j : IsSend J) (s : IsSync R) where
   -- what the closure captures in which the reporter reports: the runtime, the allocator, the book and the reporter

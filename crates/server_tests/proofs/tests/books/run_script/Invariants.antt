@@ -1,5 +1,5 @@
 -- The book is named by the history that was just opened.
-use Rattle.server_tests.proofs.books.run_script.Given as goal
+use Rattle.server_tests.proofs.tests.books.run_script.Given as goal
 
 abbrev pub ghosts-run_in : goal.ghosts-run_in
 ghosts-run_in g a = record { book = a.history.seen_log.book }
