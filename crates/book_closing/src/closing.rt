@@ -21,7 +21,7 @@ use version_book::shared::Shared;
 use version_core::version::Version;
 
 /// What is left of a book and its store.
-#[derive(Drop)]
+#[derive(Debug, Drop)]
 pub struct Closed<D> {
     /// The newest version.
     pub version: Arc<Version, Global>,

@@ -5,13 +5,14 @@ use arrange::tile_input::TileInput;
 use disk_model::disk::Disk;
 use flush_core::flusher::Flusher;
 use layer_expr::name::Name;
+use std::fmt;
 use version_core::version::Version;
 
 /// The number under which a refusal for want of memory is answered.
 pub(crate) const OUT_OF_MEMORY: u8 = 40;
 
 /// The input of a tile that was handed out, under a number of its own.
-#[derive(Drop)]
+#[derive(Debug, Drop)]
 pub struct HeldJob {
     pub(crate) number: u32,
     pub(crate) name: Name,
@@ -26,6 +27,16 @@ pub struct Engine<D: Disk> {
     pub(crate) jobs: Vec<HeldJob>,
     /// The number of the next job.
     pub(crate) next_job: u32,
+}
+
+impl<D: Disk> fmt::Debug for Engine<D> {
+    fn fmt<W: fmt::Write>(&self, f: &mut fmt::Formatter<W>) -> fmt::Result {
+        f.debug_struct("Engine")
+            .field("version", &self.version)
+            .field("jobs", &self.jobs)
+            .field("next_job", &self.next_job)
+            .finish_non_exhaustive()
+    }
 }
 
 impl<D: Disk> Engine<D> {

@@ -22,7 +22,7 @@ pub struct Outcome {
 
 /// What a server leaves: what each session wrote, in the order of the readers, and what is left of the book and its
 /// store.
-#[derive(Drop)]
+#[derive(Debug, Drop)]
 pub struct Served<D> {
     pub sessions: Vec<Outcome>,
     pub closed: Closed<D>,
@@ -30,7 +30,7 @@ pub struct Served<D> {
 
 /// Why a server could not run: 40 where memory or a thread was refused, 44 where the book gives no places. Memory is
 /// refused before the first thread starts.
-#[derive(Drop)]
+#[derive(Debug, Drop)]
 pub struct ServerFault<D> {
     pub code: u8,
     /// The disk, as the server left it. None without an engine.

@@ -8,6 +8,7 @@ pub trait Gate {
 }
 
 /// A gate that holds nobody.
+#[derive(Clone, Copy, Debug)]
 pub struct OpenGate;
 
 impl Gate for OpenGate {
