@@ -4,8 +4,7 @@ ghost use Rattle.fault_texts.specs.FaultText.{shown, IsBrief};
 ghost use Rattle.script_form.specs.Fault.{text_of};
 
 use crate::fault::CommandFault;
-use fault_texts::CommonFault;
-use fault_texts::FaultText;
+use fault_texts::{CommonFault, FaultText};
 use overlay_grid::GridFault;
 
 /// The text of a fault, as a reply says it behind the fault's code.
