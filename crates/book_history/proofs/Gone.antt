@@ -1,14 +1,11 @@
 -- What a fault says, told from its cases.
-use Rattle.std.proofs.Common.{◌≡◌, ◌∙◌, ℕ, Bool, refl, ap, sym, inl, inr, subst, arith, Option, Some, None, Result, Ok, Err, IsErrAnd, IfErr}
+use Rattle.std.proofs.Common.{◌≡◌, Bool, refl, ap, sym, inl, inr, subst, Option, None, Result, Ok, Err, IsErrAnd, IfErr}
 use Rattle.std.specs.Option.{option_map}
-use Rattle.overlay_terms.specs.Commands.{Command, Refusal, unknown_layer, not_base, not_derived, later_layer, in_use, too_many_layers, version_limit, refusal_at}
-use Rattle.overlay_terms.specs.Batches.{Batch, BatchRefusal, at, whole as as_whole, batch_refusal_at}
+use Rattle.overlay_terms.specs.Commands.{Command, refusal_at}
 use Rattle.overlay_terms.specs.Histories.{Version}
-use Rattle.layer_book.specs.BatchFault as batch
-use Rattle.layer_book.specs.BatchFault.{RefusedAllBy, code_for}
 use Rattle.layer_book.specs.declared.batch_fault.BatchFault.{BatchFault}
 use Rattle.version_core.specs.Fault.{version_fault_of}
-use Rattle.book_history.specs.Fault.{IfBatchGone, IfGone, IsRefused, no_memory, whole}
+use Rattle.book_history.specs.Fault.{IfBatchGone, IfGone, IsRefused, no_memory}
 use Rattle.book_history.specs.declared.fault.BookFault.{BookFault}
 use Rattle.book_history.specs.declared.fault.BookFault.TheVariants as fault
 

@@ -11,7 +11,7 @@ use Rattle.extent_map.specs.declared.fault.ExtentFault.TheVariants as extents
 use Rattle.store_terms.specs.Places.{blocks}
 use Rattle.commit_plan.specs.declared.draft.Draft.{Draft}
 use Rattle.commit_plan.specs.declared.write.Write.{Write}
-use Rattle.commit_plan.specs.declared.fault.StoreFault.TheVariants.{Full, OutOfMemory}
+use Rattle.commit_plan.specs.declared.fault.StoreFault.TheVariants.{Full}
 use Rattle.commit_plan.specs.Fault.{fault_of_extents}
 use Rattle.commit_plan.specs.Filing.{Filed, IsWriteOf, AreWritesOf}
 use Rattle.root_reading.specs.Taking.{AreRunsOf}

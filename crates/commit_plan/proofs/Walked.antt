@@ -12,7 +12,6 @@ use Rattle.extent_map.specs.declared.extent.Extent as runs
 use Rattle.std.specs.Option.{option_map}
 use Rattle.overlay_terms.specs.Plane.{WholePoint}
 use Rattle.overlay_terms.specs.Trees.{Tree}
-use Rattle.overlay_terms.specs.Column.{column_count}
 use Rattle.tile_build.specs.StoredTile.{finished_of}
 use Rattle.tile_build.specs.Tile.{tile_of}
 use Rattle.store_terms.specs.declared.root.RecordExtent.{RecordExtent}

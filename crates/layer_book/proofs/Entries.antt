@@ -1,14 +1,14 @@
 -- What the calls of the map make of its layers.
 use Rattle.std.proofs.Common.{◌≡◌, ℕ, suc, ◌+◌, ◌<◌, Bool, true, false, not, cond, ◌||◌, nat_lt, List, [], ◌∷◌, ◌++◌, length, map, Option, Some, None, is_some, IfSome, refl, ap, sym, ◌∙◌, subst, arith, position, bytes_eq, Bor}
-use Rattle.std.specs.List.{position_or_len, list_any}
-use Rattle.std.specs.Map.{keys_of, values_of, lookup, remove_entry}
+use Rattle.std.specs.List.{position_or_len}
+use Rattle.std.specs.Map.{keys_of, lookup, remove_entry}
 use Rattle.std.specs.Option.{option_map, option_copied}
 use Rattle.std.proofs.lemmas.Bool.{or_parts}
 use Rattle.std.proofs.lemmas.Bool.Decides.{nat_tests}
 use Rattle.indexmap.specs.IndexMap.{insert_entry}
 use Rattle.overlay_terms.specs.Layers.{Name, Content}
 use Rattle.overlay_terms.specs.Layers as terms
-use Rattle.overlay_terms.specs.Commands.{index_of, stands, uses, with_content}
+use Rattle.overlay_terms.specs.Commands.{index_of, stands, with_content}
 use Rattle.overlay_terms.specs.Orderly.{is_orderly_after}
 use Rattle.layer_book.specs.declared.layer.Layer.{Layer}
 use Rattle.layer_book.specs.Layer.{content, named_layer, layers_of, content_named, others}

@@ -1,12 +1,12 @@
 -- Marked segments, compared with those of one base layer after another.
-use Rattle.std.proofs.Common.{◌≡◌, ℕ, zero, suc, ◌+◌, ◌<◌, ◌≤◌, ◌==◌, Bool, true, false, cond, ◌&&◌, List, [], ◌∷◌, ◌++◌, length, map, filter, drop, get_or, nat_le, slice_get, Option, Some, None, refl, ap, sym, ◌∙◌, subst, arith, add-one, leb-false, if◌then◌else◌, IsTrue}
+use Rattle.std.proofs.Common.{◌≡◌, ℕ, zero, suc, ◌+◌, ◌<◌, ◌≤◌, Bool, true, false, cond, ◌&&◌, List, [], ◌∷◌, ◌++◌, length, map, drop, get_or, nat_le, slice_get, Option, Some, None, refl, ap, sym, ◌∙◌, arith, add-one, leb-false, if◌then◌else◌, IsTrue}
 use borrow.Author.Tests.{leb-true}
 use Rattle.std.specs.Prelude.{◌↔◌}
 use Rattle.std.specs.Cmp.Lexicographic.{pointwise}
 use Rattle.std.proofs.lemmas.Bool.Decides.{Decides-eqb}
 use Rattle.overlay_terms.specs.Plane.{WholePoint, Segment, segments_of}
 use Rattle.overlay_terms.specs.Column.{touches}
-use Rattle.overlay_terms.specs.Layers.{Name, Content, base, derived, Layer, Marked, layers_in_reach, steps_in_reach}
+use Rattle.overlay_terms.specs.Layers.{Name, base, derived, Layer, Marked, layers_in_reach, steps_in_reach}
 use Rattle.overlay_terms.specs.Tiles.{Input, input_of}
 use Rattle.overlay_terms.specs.SameInput.{same_marked, same_steps, same_input, same_input-Decides}
 use Rattle.arrange.specs.declared.marked_seg.MarkedSeg.{MarkedSeg}

@@ -1,8 +1,8 @@
 -- Rings put in the place of others: what changes of the inputs of the layers over them.
-use Rattle.std.proofs.Common.{◌≡◌, ℕ, ◌+◌, ◌==◌, Bool, true, false, not, cond, ◌&&◌, ◌||◌, List, [], ◌∷◌, ◌++◌, length, map, filter, fold, Option, Some, None, refl, ap, sym, ◌∙◌, subst, bytes_eq, if◌then◌else◌}
+use Rattle.std.proofs.Common.{◌≡◌, ℕ, ◌+◌, Bool, true, false, not, cond, ◌&&◌, ◌||◌, List, [], ◌∷◌, ◌++◌, length, map, filter, fold, Some, refl, ap, sym, ◌∙◌, subst, bytes_eq, if◌then◌else◌}
 use Rattle.std.specs.List.{list_any, filter_map, AllByRecursion}
 use Rattle.std.specs.Cmp.Lexicographic.{pointwise, pointwise_decides}
-use Rattle.std.proofs.lemmas.Bool.{both_ways, or_parts, false_from_ne_true}
+use Rattle.std.proofs.lemmas.Bool.{both_ways, or_parts}
 use Rattle.std.proofs.lemmas.Bool.Decides.{Decides-eqb}
 use Rattle.std.proofs.lemmas.List.{length-map}
 use Rattle.overlay_terms.specs.Plane.{WholePoint, Segment, segments_of}
@@ -12,12 +12,12 @@ use Rattle.overlay_terms.specs.Layers.{Name, Content, base, derived, Layer, base
 use Rattle.overlay_terms.specs.Tiles.{input_of}
 use Rattle.overlay_terms.specs.SameInput.{same_segment, same_segment-Decides, same_marked, same_steps, same_steps-Decides, same_input}
 use Rattle.overlay_terms.specs.Orderly.{IsOrderly, is_orderly_after}
-use Rattle.overlay_terms.specs.Commands.{Command, put, applied, is_derived, stands, stands_as_derived}
+use Rattle.overlay_terms.specs.Commands.{put, applied, is_derived, stands, stands_as_derived}
 use Rattle.overlay_terms.specs.Touched.{derived_over, is_touched}
 use Rattle.overlay_terms.proofs.OrderlyLemmas.{replaced_by}
 use Rattle.overlay_terms.proofs.KeptDerived.{still_replaced}
 use Rattle.layer_book.specs.Layer.{content_named}
-use Rattle.layer_book.specs.Touching.{AreOfAllOver, touched_columns}
+use Rattle.layer_book.specs.Touching.{AreOfAllOver}
 use Rattle.layer_book.proofs.Names.{same_name}
 use Rattle.layer_book.proofs.Order.{head_of, apart}
 use Rattle.layer_book.proofs.MarkedLayers.{rings_of}

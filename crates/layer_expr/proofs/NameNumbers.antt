@@ -4,7 +4,7 @@ use Rattle.std.specs.List.{position_or_len, take_while}
 use Rattle.std.proofs.lemmas.Bool.{or_parts, ltb-true, ltb-false}
 use Rattle.std.proofs.lemmas.List.Folds.{length-prefix_len}
 use Rattle.overlay_terms.specs.Trees.{Tree, Source, base_bit, definition}
-use Rattle.overlay_terms.specs.Layers.{Name, source_of}
+use Rattle.overlay_terms.specs.Layers.{Name}
 use Rattle.overlay_terms.specs.Orderly.{is_among}
 use Rattle.layer_expr.specs.StepList.{Reached, reached, base_names, definitions_of, source_among}
 

@@ -7,7 +7,7 @@ use Rattle.overlay_terms.specs.Layers.{Name}
 use Rattle.overlay_terms.specs.SameInput.{same_definition}
 use Rattle.layer_expr.specs.declared.steps.StepNode.{StepNode}
 use Rattle.layer_expr.specs.Steps.{step_tree}
-use Rattle.layer_expr.specs.StepList.{reached, definitions_of, source_among, numbered_steps}
+use Rattle.layer_expr.specs.StepList.{reached, definitions_of}
 use Rattle.layer_expr.proofs.NameNumbers.{Lent}
 
 -- the expressions among layers behind references, with numbers for names

@@ -1,12 +1,12 @@
 -- What is written of fields is written of the fields put together of them.
-use Rattle.std.proofs.Common.{◌≡◌, inl, inr, ℕ, suc, ◌+◌, ◌^◌, ◌<◌, ◌≤◌, Bool, true, ◌&&◌, List, [], ◌∷◌, ◌++◌, length, take, get_or, Some, None, refl, sym, ap, subst, ◌∙◌, append_assoc, arith}
+use Rattle.std.proofs.Common.{◌≡◌, inl, inr, ℕ, suc, ◌+◌, ◌^◌, ◌<◌, ◌≤◌, true, ◌&&◌, List, [], ◌∷◌, ◌++◌, length, take, get_or, Some, refl, sym, ap, subst, ◌∙◌, append_assoc, arith}
 use Rattle.std.specs.Prelude.{nat_lt, ◌==◌}
 use Rattle.std.specs.List.{flat_map, list_all}
 use Rattle.std.proofs.lemmas.Bool.{and_from, lt-ltb, eq-eqb}
 use Rattle.std.proofs.lemmas.List.{take_all, take_more, append-nil}
 use Rattle.std.proofs.lemmas.List.Folds.{list_all-append}
 use Rattle.byteorder.specs.Endian.{big_bytes}
-use Rattle.store_terms.specs.Fields.{Field, AreBytes, IsField, number, both, made, sieved, repeated, counted, whole}
+use Rattle.store_terms.specs.Fields.{Field, AreBytes, IsField, number, both, repeated, counted, whole}
 use Rattle.store_terms.specs.Choices.{either, optional, one_of_three}
 use Rattle.store_terms.proofs.FieldLemmas.{whole_again}
 use Rattle.record_writing.specs.Putting.{IsPut, ArePut}

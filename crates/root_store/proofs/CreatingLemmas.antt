@@ -1,10 +1,10 @@
 -- How a store is made: the write of its three blocks, the sync, and the gate that opens.
-use Rattle.std.proofs.Common.{arith, ◌≡◌, ℕ, ◌≤◌, List, length, Result, Ok, Err, refl, subst}
+use Rattle.std.proofs.Common.{arith, ◌≡◌, ℕ, List, length, Result, Ok, Err, refl, subst}
 use Rattle.std.specs.Prelude.{OnOk}
 use Rattle.disk_model.specs.declared.disk.Disk.{Ghosts}
 use Rattle.disk_model.specs.Disk.{Torn, OneStepOn, Fewer, Elapses}
 use Rattle.disk_model.specs.Moments.{Leaves, LeavesOnly}
-use Rattle.disk_model.proofs.Runs.{started, goes_on, joined}
+use Rattle.disk_model.proofs.Runs.{goes_on, joined}
 use Rattle.root_store.specs.Creating.{Begun, IsBlank, IsFirstWrite, MadeInPhases}
 use Rattle.root_store.proofs.Blank.{blank_kept}
 use Rattle.root_store.proofs.Steps.{one_call, leaves_torn}

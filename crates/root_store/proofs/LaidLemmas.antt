@@ -9,7 +9,6 @@ use Rattle.commit_plan.specs.declared.write.Write.{Write}
 use Rattle.commit_plan.specs.Drafting.{lengths_of, extents_of_filed}
 use Rattle.commit_plan.specs.Filing.{Filed, filed_of, AreWritesOf}
 use Rattle.root_reading.specs.Taking.{AreRunsOf}
-use Rattle.root_store.specs.declared.commit.Commit.{Commit}
 use Rattle.root_store.specs.Beginning.{EndsBelow, LaidIsBelow}
 
 -- a record in whole blocks

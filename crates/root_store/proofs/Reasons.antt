@@ -1,12 +1,9 @@
 -- Why a commit is not begun.
-use Rattle.std.proofs.Common.{◌≡◌, ◌⊎◌, false, inl, inr, refl, Result, Ok, Err, IfErr, IsErrAnd, sym, ap, subst}
+use Rattle.std.proofs.Common.{◌≡◌, ◌⊎◌, inl, inr, Result, Ok, Err, IfErr, IsErrAnd, sym, ap, subst}
 use Rattle.store_terms.specs.declared.root.Root.{Root}
 use Rattle.commit_plan.specs.declared.fault.StoreFault.{StoreFault}
 use Rattle.commit_plan.specs.declared.fault.StoreFault.TheVariants.{Device, Full, Damaged, NotEmpty, Failed, SequenceLimit, OutOfMemory}
 use Rattle.root_store.specs.declared.phase.Phase.{Phase}
-use Rattle.root_store.specs.declared.phase.Phase.TheVariants as phases
-use Rattle.root_store.specs.Running.{is_busy}
-use Rattle.std.proofs.lemmas.Bool.{false≢true}
 use Rattle.root_store.specs.Beginning.{IsRefusal, IsReason}
 use Rattle.commit_plan.proofs.Drafts.{error_in}
 

@@ -1,5 +1,5 @@
 -- What the calls of the flusher's loop make of a store of a history.
-use Rattle.std.proofs.Common.{◌≡◌, ◌⊎◌, inl, inr, ℕ, ◌≤◌, true, false, List, [], Result, Ok, Err, OnOk, OnErr, IfOk, ⊎_elim, refl, sym, ap, ◌∙◌, subst, arith}
+use Rattle.std.proofs.Common.{◌≡◌, ◌⊎◌, inl, inr, ℕ, ◌≤◌, false, List, [], Result, Ok, Err, IfOk, ⊎_elim, refl, sym, ap, ◌∙◌, subst, arith}
 use Rattle.std.proofs.lemmas.Bool.{false≢true}
 use Rattle.disk_model.specs.declared.disk.Disk.{Ghosts}
 use Rattle.disk_model.specs.Disk as device
@@ -19,8 +19,8 @@ use Rattle.root_store.specs.Running.{Before, Outcome, Stands, Runs, Stepped, Fai
 use Rattle.root_store.proofs.Steps.{rest_either, shut_either, both_either}
 use Rattle.flush_core.specs.declared.flusher.Flusher.{Flusher}
 use Rattle.flush_core.specs.Stored.{stored_after, IsCommitOf, IsImageOf}
-use Rattle.store_flushing.specs.Among.{IsHeldIn, IsFileIn}
-use Rattle.store_flushing.specs.Storing.{Rests, Goes, IsStoreAt, IsStoreOf, Flushes}
+use Rattle.store_flushing.specs.Among.{IsFileIn}
+use Rattle.store_flushing.specs.Storing.{Goes, IsStoreAt, IsStoreOf, Flushes}
 use Rattle.store_flushing.proofs.Histories.{begins_self, begins_trans, numbers_rise, among_more, file_more, newest_among}
 
 abbrev IsDone : Result Progress StoreFault → Type 0

@@ -1,6 +1,6 @@
 -- A store of the versions of a history: what is known of it between its calls, and what a run of its flusher makes of
 -- both.
-use Rattle.std.specs.Prelude.{◌≡◌, ℕ, ◌≤◌}
+use Rattle.std.specs.Prelude.{◌≡◌, ◌≤◌}
 use Rattle.disk_model.specs.declared.disk.Disk.{Ghosts}
 use Rattle.disk_model.specs.Moments.{Leaves, LeavesOnly}
 use Rattle.overlay_terms.specs.Histories.{History, BeginsWith, newest}

@@ -1,5 +1,5 @@
 -- The pieces over an x, as the status of the sweep keeps them.
-use Rattle.std.specs.Prelude.{◌≡◌, ℕ, ℤ, pos, ◌<◌, ◌≤◌, ◌<ℤ◌, ◌*ℤ◌, int_lt, Bool, not, ◌&&◌, ◌||◌, List, length, get_or, count_by}
+use Rattle.std.specs.Prelude.{◌≡◌, ℕ, pos, ◌<◌, ◌≤◌, ◌<ℤ◌, ◌*ℤ◌, int_lt, Bool, not, ◌&&◌, ◌||◌, List, length, get_or, count_by}
 use Rattle.std.specs.List.{remove}
 use Rattle.std.specs.Ordering.{int_eq}
 use Rattle.overlay_terms.specs.Plane.{Point, Segment, height_over}

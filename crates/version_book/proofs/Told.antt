@@ -1,16 +1,13 @@
 -- How the calls that wait end, and what a tile that is handed out is, told from what each finds under the lock.
-use Rattle.std.proofs.Common.{◌≡◌, ◌⊎◌, inl, inr, ◌↔◌, ℕ, Bool, true, false, IsTrue, List, Option, Some, None, IfSome, IfNone, Result, Ok, Err, IfOk, IfErr, refl, ap, sym, ◌∙◌, subst, arith}
+use Rattle.std.proofs.Common.{◌≡◌, ◌⊎◌, inl, inr, ◌↔◌, ℕ, Bool, true, false, IsTrue, List, Option, Some, None, IfSome, IfNone, Result, Ok, Err, IfOk, IfErr, refl, ap, sym, ◌∙◌, subst}
 use Rattle.std.specs.Prelude.{IsErrAnd, OnErr, OnOk, is_err}
 use mathlib.Core.Bool.{true≢false}
 use Rattle.logbook.specs.Pages.{Book}
 use Rattle.overlay_terms.specs.Commands.{Command}
-use Rattle.overlay_terms.specs.Batches.{Batch}
 use Rattle.overlay_terms.specs.Histories.{Version, Entry}
 use Rattle.overlay_terms.specs.Layers.{Name}
 use Rattle.overlay_terms.specs.Tiles.{Input, input_of}
-use Rattle.layer_book.specs.BatchFault.{code_of}
-use Rattle.layer_book.specs.declared.batch_fault.BatchFault.{BatchFault}
-use Rattle.book_history.specs.Fault.{IfBatchGone, IfGone, IsBatchRefused, IsRefused, whole}
+use Rattle.book_history.specs.Fault.{IfGone, IsRefused}
 use Rattle.version_book.specs.Free.{IsFree}
 use Rattle.book_history.specs.Known.{Known}
 use Rattle.book_history.specs.Logs.{newest_in, IsLog}

@@ -7,7 +7,7 @@ use Rattle.overlay_terms.specs.Layers.{Name, Layer}
 use Rattle.overlay_terms.specs.Commands.{Refusal, Command, AllAccepted, applied, when, version_max, version_limit}
 use Rattle.overlay_terms.specs.Touched.{is_touched}
 use Rattle.overlay_terms.specs.Histories.{Tile, Version, tile_at, FollowsBatch}
-use Rattle.overlay_terms.specs.Batches.{Batch, BatchRefusal, whole, applied_all, refusal_from, batch_refusal_at, is_touched_from, is_touched_by_all}
+use Rattle.overlay_terms.specs.Batches.{Batch, whole, applied_all, refusal_from, batch_refusal_at, is_touched_from}
 use Rattle.overlay_terms.proofs.AcceptedLemmas.{not_when}
 use Rattle.overlay_terms.proofs.Options.{both_absent}
 use Rattle.overlay_terms.proofs.BatchLemmas.{accepted_in_turn}

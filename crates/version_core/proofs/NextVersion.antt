@@ -1,5 +1,5 @@
 -- The versions that commands and kept tiles leave are versions.
-use Rattle.std.specs.Prelude.{◌≡◌, ◌≢◌, ◌↔◌, ℕ, ◌+◌, ◌<◌, ◌≤◌, ◌==◌, Bool, true, false, not, IsTrue, List, [], ◌∷◌, ◌++◌, ◌&&◌, bytes_eq, Option, Some, None, if◌then◌else◌}
+use Rattle.std.specs.Prelude.{◌≡◌, ◌≢◌, ◌↔◌, ℕ, ◌+◌, ◌<◌, ◌≤◌, ◌==◌, Bool, true, false, IsTrue, List, ◌&&◌, bytes_eq, Option, Some, None, if◌then◌else◌}
 use Rattle.std.proofs.Common.{refl, ap, sym, ◌∙◌, subst, arith}
 use Rattle.std.proofs.lemmas.Bool.{and_parts, eqb-true, eqb-false}
 use Rattle.overlay_terms.specs.Column.{column_count}
@@ -8,7 +8,7 @@ use Rattle.std.specs.Option.{option_map}
 use Rattle.overlay_terms.specs.Tiles.{Input, input_of}
 use Rattle.overlay_terms.specs.Commands.{Refusal, Command, refusal_of, refusal_at, applied, when, version_max, version_limit, stands_as_derived}
 use Rattle.overlay_terms.specs.Touched.{is_touched}
-use Rattle.overlay_terms.specs.Histories.{Tile, Finished, Version, tile_at, IsTileAt, pieces_max, is_formed, FollowsCommand, FollowsTile}
+use Rattle.overlay_terms.specs.Histories.{Tile, Version, tile_at, IsTileAt, pieces_max, is_formed, FollowsCommand, FollowsTile}
 use Rattle.overlay_terms.proofs.NameLemmas.{same_name}
 use Rattle.overlay_terms.proofs.AcceptedLemmas.{not_when}
 use Rattle.overlay_terms.proofs.Options.{both_absent}

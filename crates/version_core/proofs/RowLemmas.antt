@@ -4,9 +4,9 @@ use Rattle.std.specs.List.{range_with_len}
 use Rattle.std.proofs.Common.{zero, suc, nat_lt, length, get_or, refl, ap, sym, subst, ◌∙◌, add-one, arith}
 use Rattle.std.proofs.lemmas.Bool.Decides.{nat_tests}
 use Rattle.std.proofs.lemmas.List.{map-append}
-use Rattle.overlay_terms.specs.Column.{column_count, columns}
+use Rattle.overlay_terms.specs.Column.{column_count}
 use Rattle.overlay_terms.specs.Layers.{Name, Layer}
-use Rattle.overlay_terms.specs.Histories.{Tile, Finished}
+use Rattle.overlay_terms.specs.Histories.{Tile}
 use Rattle.layer_book.specs.Layer.{IsBook}
 use Rattle.layer_book.proofs.Answering.{take_there}
 use Rattle.version_core.specs.declared.tiles.Slot.{Slot}

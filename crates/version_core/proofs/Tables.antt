@@ -1,13 +1,13 @@
 -- What is found among the tiles of a table, in which order they stand, and what its rows are.
-use Rattle.std.specs.Prelude.{◌≡◌, ℕ, ◌+◌, ◌<◌, ◌≤◌, ◌==◌, nat_lt, Bool, true, false, ◌&&◌, ◌||◌, IsTrue, List, [], ◌∷◌, ◌++◌, map, set, take, slice_get, Option, Some, None, is_some, bytes_eq, All, if◌then◌else◌}
+use Rattle.std.specs.Prelude.{◌≡◌, ℕ, ◌+◌, ◌<◌, ◌≤◌, ◌==◌, nat_lt, Bool, true, false, ◌&&◌, ◌||◌, IsTrue, List, [], ◌∷◌, ◌++◌, map, set, slice_get, Option, Some, None, is_some, bytes_eq, All, if◌then◌else◌}
 use Rattle.std.specs.List.{AllPairs, range_with_len}
-use Rattle.std.proofs.Common.{zero, suc, length, get_or, refl, ap, sym, ◌∙◌, subst, cond, add-one, arith}
-use Rattle.std.proofs.lemmas.Bool.{and_parts, and_from, or_left, or_right, or_parts, both_ways, eqb-true, false≢true, false_from_ne_true}
+use Rattle.std.proofs.Common.{zero, suc, get_or, refl, ap, sym, ◌∙◌, subst, cond, add-one, arith}
+use Rattle.std.proofs.lemmas.Bool.{and_from, or_left, or_right, or_parts, eqb-true, false≢true}
 use Rattle.std.proofs.lemmas.Bool.Decides.{nat_tests}
 use Rattle.std.proofs.lemmas.List.Elements.{All-nil, All-cons, All-append}
 use Rattle.std.proofs.lemmas.List.Kept.{AllPairs-cons}
 use Rattle.std.proofs.lemmas.List.FromFn.{get_or-map-range_with_len}
-use Rattle.overlay_terms.specs.Column.{column_count, columns}
+use Rattle.overlay_terms.specs.Column.{column_count}
 use Rattle.overlay_terms.specs.Layers.{Name, Layer}
 use Rattle.overlay_terms.specs.Commands.{index_of, stands, stands_as_derived}
 use Rattle.overlay_terms.specs.Orderly.{is_orderly_after}
@@ -19,7 +19,7 @@ use Rattle.layer_book.specs.Layer.{IsBook}
 use Rattle.layer_book.proofs.Names.{own_name, turned}
 use Rattle.layer_book.proofs.Order.{apart, head_of}
 use Rattle.layer_book.proofs.Wanted.{index_at}
-use Rattle.version_core.specs.Table.{row_by, rows_by, row_tiles, tiles_of, laid_in, IsTable}
+use Rattle.version_core.specs.Table.{row_by, rows_by, row_tiles, tiles_of, IsTable}
 use Rattle.version_core.proofs.Restored.{found_is}
 
 -- ---- what is found in lists, one behind the other

@@ -1,9 +1,9 @@
 -- Lists of finished tiles: one more, and what is found in them.
-use Rattle.std.specs.Prelude.{◌≡◌, ℕ, ◌==◌, Bool, true, false, ◌&&◌, List, [], ◌∷◌, ◌++◌, Option, Some, None, bytes_eq, if◌then◌else◌}
+use Rattle.std.specs.Prelude.{◌≡◌, ℕ, ◌==◌, Bool, true, false, ◌&&◌, List, [], ◌∷◌, ◌++◌, Some, None, bytes_eq, if◌then◌else◌}
 use Rattle.std.proofs.Common.{refl, ap, ◌∙◌, cond}
 use Rattle.std.proofs.lemmas.Bool.{and_parts, both_ways, eqb-true}
 use Rattle.overlay_terms.specs.Layers.{Name}
-use Rattle.overlay_terms.specs.Histories.{Tile, Finished, tile_at}
+use Rattle.overlay_terms.specs.Histories.{Finished, tile_at}
 use Rattle.overlay_terms.proofs.NameLemmas.{same_name}
 use Rattle.version_core.specs.Tiles.{is_of}
 

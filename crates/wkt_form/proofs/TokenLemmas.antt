@@ -9,7 +9,6 @@ use Rattle.std.proofs.lemmas.Bool.{cases_Bool, cond-true, cond-false}
 use Rattle.std.proofs.lemmas.Bool.Decides.{nat_tests, same_from_decides}
 use Rattle.std.proofs.lemmas.Slice.Eq.{bytes_eq-Decides}
 use Rattle.std.proofs.lemmas.Str.Ascii.{lowercase-uppercase}
-use Rattle.wkt_form.specs.declared.token.Token as code
 use Rattle.overlay_terms.specs.Blank.{is_blank}
 use Rattle.wkt_form.specs.Token.{Kind, word, run, Token, is_run_byte, begins, longer, first_longer, tokens_from}
 use Rattle.wkt_form.specs.Symbol.{word_symbol, run_symbol}

@@ -1,4 +1,4 @@
-use Rattle.std.proofs.Common.{◌∙◌, sym, arith}
+use Rattle.std.proofs.Common.{◌∙◌, sym}
 use Rattle.layer_book.proofs.HavingLemmas.{past_skipped, past_more, past_other, past_short, past_all}
 use Rattle.layer_book.proofs.having_input.end_of.Goals as goal
 use Rattle.layer_book.proofs.having_input.end_of.Goals.{then-next-marked-via-then-next-marked, then-next-marked-via-else-next-marked+then-not-is_marked, then-touches+else-next-marked+else-not-is_marked, else-touches}

@@ -1,4 +1,4 @@
-use Rattle.std.proofs.Common.{sym, ap, ◌∙◌}
+use Rattle.std.proofs.Common.{ap, ◌∙◌}
 use Rattle.overlay_terms.specs.Trees.{relabel}
 use Rattle.overlay_terms.specs.SameInput.{same_definition}
 use Rattle.layer_expr.specs.Steps.{step_tree}

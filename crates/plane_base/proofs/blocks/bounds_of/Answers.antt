@@ -1,4 +1,4 @@
-use Rattle.std.proofs.Common.{◌∙◌, arith, ◌*◌, ap, subst, length, sym, rules}
+use Rattle.std.proofs.Common.{◌∙◌, arith, subst, rules}
 use Rattle.std.specs.List.{AllByRecursion}
 use Rattle.plane_base.specs.Bounds.{Holds}
 use Rattle.plane_base.proofs.BlockLemmas.{after_next, cover_next, cover_all}

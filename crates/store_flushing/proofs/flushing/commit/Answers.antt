@@ -1,4 +1,4 @@
-use Rattle.std.proofs.Common.{ap, subst, sym, ◌∙◌}
+use Rattle.std.proofs.Common.{ap, subst, sym}
 use Rattle.overlay_terms.specs.Histories.{History}
 use Rattle.flush_core.specs.declared.flusher.Flusher.{Flusher}
 use Rattle.version_book.specs.Heard.{Heard}

@@ -5,7 +5,7 @@ use Rattle.version_book.specs.Heard.{Heard}
 use Rattle.flush_core.specs.Stored.{stored_after}
 use Rattle.root_store.specs.declared.phase.Progress.TheVariants as progress
 use Rattle.store_flushing.specs.Storing.{Flushes}
-use Rattle.store_flushing.proofs.Storage.{OnlyNow, begun, done_level, none_left, reported, steps, steps_on, then}
+use Rattle.store_flushing.proofs.Storage.{OnlyNow, begun, done_level, reported, steps, steps_on, then}
 use Rattle.store_flushing.proofs.flushing.end_commit.Goals as goal
 
 pub calls-init : goal.calls-init

@@ -1,4 +1,4 @@
-use Rattle.std.proofs.Common.{true, false, refl, sym, ◌∙◌}
+use Rattle.std.proofs.Common.{refl, sym, ◌∙◌}
 use Rattle.std.proofs.lemmas.Bool.{both_ways}
 use Rattle.overlay_terms.specs.Tiles.{is_vertical}
 use Rattle.sweep_line.proofs.labelling.begin.Goals as goal

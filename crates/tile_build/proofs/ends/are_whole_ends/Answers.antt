@@ -1,4 +1,4 @@
-use Rattle.std.proofs.Common.{◌≡◌, true, rules, sym, ◌∙◌}
+use Rattle.std.proofs.Common.{◌≡◌, rules, sym, ◌∙◌}
 use Rattle.std.specs.Ordering.{is_lt}
 use Rattle.overlay_terms.specs.Plane.{whole_cmp}
 use Rattle.tile_build.proofs.EndLemmas.{whole_ends}

@@ -1,4 +1,4 @@
-use Rattle.std.proofs.Common.{sym, subst}
+use Rattle.std.proofs.Common.{subst}
 use Rattle.exact_point.specs.NamedPiece.{ends_of}
 use Rattle.exact_point.specs.PlaceOf.{place_of}
 use Rattle.version_core.specs.Edges.{HasEndMore}

@@ -1,4 +1,3 @@
-use Rattle.std.proofs.Common.{◌∙◌}
 use Rattle.overlay_terms.proofs.FormLemmas.{formed_at}
 use Rattle.version_core.proofs.finishing.kept_tile.Goals as goal
 

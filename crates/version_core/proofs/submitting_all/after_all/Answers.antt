@@ -1,4 +1,4 @@
-use Rattle.std.proofs.Common.{map, drop, ◌+◌, ap, sym, subst, ◌∙◌}
+use Rattle.std.proofs.Common.{map, drop, ◌+◌, ap, subst, ◌∙◌}
 use Rattle.overlay_terms.specs.Commands.{applied, refusal_of, AllAccepted}
 use Rattle.layer_book.specs.Command.{command}
 use Rattle.version_core.specs.Table.{Laid, left_at}

@@ -1,7 +1,6 @@
-use Rattle.std.proofs.Common.{◌≡◌, length, map, ap, sym, ◌∙◌, subst, refl, arith}
+use Rattle.std.proofs.Common.{length, map, ap, sym, ◌∙◌, subst, refl, arith}
 use Rattle.std.proofs.lemmas.Result.{IfOk-from_err}
 use mathlib.Core.List.{IsPrefix}
-use Rattle.std.specs.Arc.{arc_value}
 use Rattle.overlay_terms.specs.Histories.{accepted, commands_of, FollowsBatch}
 use Rattle.layer_book.specs.Command.{command}
 use Rattle.book_history.specs.Logs.{newest_in}

@@ -1,4 +1,4 @@
-use Rattle.std.proofs.Common.{◌≡◌, ◌≤◌, ◌+◌, map, drop, length}
+use Rattle.std.proofs.Common.{◌≡◌, map, drop}
 use Rattle.overlay_terms.specs.Batches.{refusal_from}
 use Rattle.layer_book.specs.Command.{command}
 use Rattle.layer_book.specs.Sketch.{sketched}

@@ -1,12 +1,9 @@
-use Rattle.std.proofs.Common.{◌≡◌, true, not, Some, map, filter, bytes_eq, ap, sym, subst, ◌∙◌}
-use Rattle.std.specs.List.{list_any}
+use Rattle.std.proofs.Common.{not, Some, map, filter, ap, sym, subst, ◌∙◌}
 use Rattle.std.specs.Cmp.Lexicographic.{pointwise}
 use Rattle.overlay_terms.specs.Plane.{segments_of}
 use Rattle.overlay_terms.specs.Column.{columns, touches}
-use Rattle.overlay_terms.specs.Layers.{Name}
 use Rattle.overlay_terms.specs.SameInput.{same_segment}
 use Rattle.overlay_terms.specs.Commands as terms
-use Rattle.overlay_terms.specs.Touched.{derived_over, name_of}
 use Rattle.layer_book.specs.Command.{command}
 use Rattle.layer_book.specs.Layer.{content}
 use Rattle.layer_book.specs.Touching.{AreOfAllOver}

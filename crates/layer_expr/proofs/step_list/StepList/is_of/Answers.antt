@@ -1,9 +1,9 @@
-use Rattle.std.proofs.Common.{◌≡◌, ◌==◌, Bool, false, ◌&&◌, length, map, nat_eq, sym, ap, ◌∙◌, eq-eqb}
+use Rattle.std.proofs.Common.{◌≡◌, false, ◌&&◌, map, nat_eq, sym, ap, ◌∙◌, eq-eqb}
 use Rattle.std.specs.Cmp.Lexicographic.{pointwise}
 use Rattle.std.proofs.lemmas.Bool.{eqb-true, false_from_ne_true}
 use Rattle.overlay_terms.specs.SameInput.{same_definition}
 use Rattle.layer_expr.specs.Steps.{step_tree}
-use Rattle.layer_expr.specs.StepList.{reached, base_names, numbered_steps}
+use Rattle.layer_expr.specs.StepList.{reached, numbered_steps}
 use Rattle.layer_expr.proofs.LentLayers.{length-base_names}
 use Rattle.layer_expr.proofs.step_list.StepList.is_of.Goals as goal
 

@@ -1,4 +1,4 @@
-use Rattle.std.proofs.Common.{rules, List, ℕ, sym, ◌∙◌, ap, subst}
+use Rattle.std.proofs.Common.{rules, List, ℕ, sym, ◌∙◌, subst}
 use Rattle.extent_map.specs.Taken.{taken_of}
 use Rattle.store_terms.specs.StandsFor.{body_at}
 use Rattle.store_terms.specs.declared.root.Root.{Root}

@@ -1,4 +1,4 @@
-use Rattle.std.proofs.Common.{◌≡◌, None, ap, sym, ◌∙◌, subst}
+use Rattle.std.proofs.Common.{ap, ◌∙◌}
 use Rattle.overlay_terms.specs.Commands.{refusal_of, applied}
 use Rattle.layer_book.specs.Command.{command}
 use Rattle.version_core.proofs.LookLemmas.{after_is_table, after_finds}

@@ -1,4 +1,4 @@
-use Rattle.std.proofs.Common.{◌≡◌, None, ap, sym, ◌∙◌, subst, arith}
+use Rattle.std.proofs.Common.{ap, sym, ◌∙◌, arith}
 use Rattle.overlay_terms.specs.Commands.{refusal_of, applied}
 use Rattle.layer_book.specs.Command.{command}
 use Rattle.layer_book.specs.Touching.{touched_rows}

@@ -1,5 +1,4 @@
 use Rattle.std.proofs.Common.{◌≡◌, ◌<◌, ◌==◌, ◌&&◌, true, length, get_or, set, [], Some, bytes_eq, if◌then◌else◌, ap, sym, ◌∙◌, subst}
-use Rattle.std.specs.Prelude.{IsTrue}
 use Rattle.overlay_terms.specs.Column.{column_count}
 use Rattle.overlay_terms.specs.Commands.{index_of, stands_as_derived}
 use Rattle.overlay_terms.specs.Histories.{tile_at}

@@ -1,4 +1,4 @@
-use Rattle.std.proofs.Common.{◌≡◌, length, map, set, Some, ap, sym, ◌∙◌, arith}
+use Rattle.std.proofs.Common.{length, map, set, Some, ap, sym, ◌∙◌}
 use Rattle.std.proofs.lemmas.List.{length-map}
 use Rattle.tile_build.specs.Tile.{tile_of}
 use Rattle.version_core.specs.Table.{tile_in_slot}

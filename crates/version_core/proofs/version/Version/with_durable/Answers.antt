@@ -1,4 +1,4 @@
-use Rattle.std.proofs.Common.{ap, ◌∙◌, sym, subst, arith}
+use Rattle.std.proofs.Common.{◌∙◌, arith}
 use Rattle.version_core.specs.Table.{numbered}
 use Rattle.version_core.proofs.NextVersion.{laid_is_version}
 use Rattle.version_core.proofs.version.Version.with_durable.Goals as goal
