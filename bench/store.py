@@ -1,9 +1,9 @@
 """Measures the store: records to bytes and back, what a commit writes, and opening a big file.
 
-python3 bench/store.py [PROGRAM]
+python3 bench/store.py [PROGRAM]..
 
 Builds the program of bench/store over the store's crates, unproved (bench/unproved.py; minutes); PROGRAM is one that
-was built before. The files and records that it is given are written here, byte by byte, as docs/FORMAT.md
+was built before. Of several the reading and writing of records is told side by side, all else of the first. The files and records that it is given are written here, byte by byte, as docs/FORMAT.md
 has them. Processor times, the best of five runs less those without the work, each on a disk in memory.
 """
 
@@ -112,18 +112,28 @@ def each(program, word, path, times):
     return (seconds(program, word, path, times) - seconds(program, word, path, 0)) / times
 
 
-def records(program, folder):
+def speeds(programs, word, path, times):
+    """Megabytes a second of each program, in turns."""
+    size, best = path.stat().st_size, {}
+    for _ in range(3):
+        for at, program in enumerate(programs):
+            took = each(program, word, path, times)
+            best[at] = min(took, best.get(at, took))
+    return ", ".join(f"{size / best[at] / 1e6:.0f}" for at in range(len(programs))) + " MB/s"
+
+
+def records(programs, folder):
     base, whole, crossed = folder / "base", folder / "whole", folder / "crossed"
     base.write_bytes(zigzag(2048))
     whole.write_bytes(tile_record(8, 60000, whole_piece))
     crossed.write_bytes(tile_record(8, 60000, crossed_piece))
-    reading, writing = each(program, "read_base", base, 2000), each(program, "write_base", base, 10000)
-    size = base.stat().st_size
-    print(f"base layer of 2,048 steps, {size} bytes: read {size / reading / 1e6:.0f} MB/s, written {size / writing / 1e6:.0f} MB/s")
-    for name, path in [("ends on whole points", whole), ("right ends at crossings", crossed)]:
-        size = path.stat().st_size
-        reading, writing = each(program, "read_tile", path, 10), each(program, "write_tile", path, 100)
-        print(f"tile of 60,000 pieces, {name}, {size} bytes: read {size / reading / 1e6:.0f} MB/s, written {size / writing / 1e6:.0f} MB/s")
+    for name, path, kind, reads, writes in [
+        ("base layer of 2,048 steps", base, "base", 2000, 10000),
+        ("tile of 60,000 pieces, ends on whole points", whole, "tile", 10, 100),
+        ("tile of 60,000 pieces, right ends at crossings", crossed, "tile", 10, 100),
+    ]:
+        read, written = speeds(programs, f"read_{kind}", path, reads), speeds(programs, f"write_{kind}", path, writes)
+        print(f"{name}, {path.stat().st_size} bytes: read {read}, written {written}", flush=True)
 
 
 def files(program, folder):
@@ -186,8 +196,9 @@ def beginnings(program, folder):
 
 def main():
     with tempfile.TemporaryDirectory() as folder:
-        program = pathlib.Path(sys.argv[1]).resolve() if len(sys.argv) > 1 else built(folder)
-        records(program, pathlib.Path(folder))
+        programs = [pathlib.Path(word).resolve() for word in sys.argv[1:]] or [built(folder)]
+        program = programs[0]
+        records(programs, pathlib.Path(folder))
         files(program, pathlib.Path(folder))
         changes(program, pathlib.Path(folder))
         beginnings(program, pathlib.Path(folder))
