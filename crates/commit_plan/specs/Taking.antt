@@ -12,7 +12,7 @@ use Rattle.root_reading.specs.Looking.{Gives}
 use Rattle.root_reading.specs.Taking.{IsMapOf, AllNear, if_apart}
 use Rattle.commit_plan.specs.declared.room.Room.{Room}
 
--- a catalog and the records that it lists take a room, if no two have a block in common
+-- what comes of giving a catalog and its records room: the map of just their blocks, or Overlap where two share one
 pub record TakesRoom {X : Type 0} (room_of : X → Room) (catalog : RecordExtent) (listing : List Listed) (max_blocks : ℕ)
     (result : Result X LoadFault) : Type 0 where
   pub taken : AllNear (catalog ∷ extents_listed listing)

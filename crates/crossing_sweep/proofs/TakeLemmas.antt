@@ -17,7 +17,7 @@ use Rattle.exact_point.specs.declared.point_name.PointName.{PointName}
 use Rattle.arrange.specs.NamedPlaces.{named_cmp, named_total}
 use Rattle.arrange.specs.declared.named_place.NamedPlace.{NamedPlace}
 use Rattle.exact_point.proofs.PlaceOrder.{same_from_equal, same_turned}
-use Rattle.crossing_sweep.specs.Ahead.{HasAdded, entry_of, put_all, is_first_before, AreAhead}
+use Rattle.crossing_sweep.specs.Ahead.{HasAdded, known_entry, put_all, is_first_before, AreAhead}
 use Rattle.crossing_sweep.proofs.AheadLemmas.{point_positive}
 use Rattle.crossing_sweep.proofs.Pairs.{pairs_head, pairs_second}
 use Rattle.crossing_sweep.proofs.PassLemmas.{all_of}
@@ -55,8 +55,8 @@ pub rest_ordered : (known : List NamedPlace) (k : ℕ) → AllPairs (λ a b. nam
 rest_ordered known k h = λ i j d l m. pairs_second (λ a b. named_cmp a b ≡ Less) (take k known) (drop k known) (rw (take-append-drop k known) h) i j d l m
 
 -- the next of them comes before all others
-pub next_before : (k : NamedPlace) (ks : List NamedPlace) → AllPairs (λ a b. named_cmp a b ≡ Less) (k ∷ ks) → All (λ y. hpoint_cmp k.at y.0 ≡ Less) (map entry_of ks)
-next_before k ks h = All-map (λ (y : HPoint × PointName). hpoint_cmp k.at y.0 ≡ Less) entry_of ks (pairs_head (λ (a b : NamedPlace). named_cmp a b ≡ Less) k ks h)
+pub next_before : (k : NamedPlace) (ks : List NamedPlace) → AllPairs (λ a b. named_cmp a b ≡ Less) (k ∷ ks) → All (λ y. hpoint_cmp k.at y.0 ≡ Less) (map known_entry ks)
+next_before k ks h = All-map (λ (y : HPoint × PointName). hpoint_cmp k.at y.0 ≡ Less) known_entry ks (pairs_head (λ (a b : NamedPlace). named_cmp a b ≡ Less) k ks h)
 
 -- ---- the first of those found since
 below : (p : HPoint × PointName) (rest : List (HPoint × PointName)) → All (IsLtBy hpoint_cmp p.0) (keys_of rest) → All (λ y. hpoint_cmp p.0 y.0 ≡ Less) rest
@@ -74,16 +74,16 @@ popped_least (Some p) rest known h k = all_put (λ (y : HPoint × PointName). hp
 
 -- it comes before the next of those known, so before all of these
 pub first_before : (o : Option (HPoint × PointName)) (es rest : List (HPoint × PointName)) (k : NamedPlace) (ks : List NamedPlace) → IfSome o (λ p. es ≡ p ∷ rest) → is_first_before es k.at ≡ true → AllPairs (λ a b. named_cmp a b ≡ Less) (k ∷ ks)
-    → IfSome o (λ p. All (λ y. hpoint_cmp p.0 y.0 ≡ Less) (map entry_of (k ∷ ks)))
+    → IfSome o (λ p. All (λ y. hpoint_cmp p.0 y.0 ≡ Less) (map known_entry (k ∷ ks)))
 first_before None es rest k ks e t h = e
 first_before (Some p) es rest k ks e t h =
     let P : List (HPoint × PointName) → Type 0 = λ l. is_first_before l k.at ≡ true in
     let first : hpoint_cmp p.0 k.at ≡ Less = less_from_test (hpoint_cmp p.0 k.at) (subst P e t) in
-    all_of (λ (y : HPoint × PointName). hpoint_cmp p.0 y.0 ≡ Less) (map entry_of (k ∷ ks)) (λ y c. by y first (Contains-cons_cases (entry_of k) (map entry_of ks) y c))
+    all_of (λ (y : HPoint × PointName). hpoint_cmp p.0 y.0 ≡ Less) (map known_entry (k ∷ ks)) (λ y c. by y first (Contains-cons_cases (known_entry k) (map known_entry ks) y c))
   where
-    by : (y : HPoint × PointName) → hpoint_cmp p.0 k.at ≡ Less → (entry_of k ≡ y) ⊎ Contains (map entry_of ks) y → hpoint_cmp p.0 y.0 ≡ Less
+    by : (y : HPoint × PointName) → hpoint_cmp p.0 k.at ≡ Less → (known_entry k ≡ y) ⊎ Contains (map known_entry ks) y → hpoint_cmp p.0 y.0 ≡ Less
     by y first (inl f) = let Q : HPoint × PointName → Type 0 = λ z. hpoint_cmp p.0 z.0 ≡ Less in subst Q f first
-    by y first (inr c) = hpoint_cmp_total.trans p.0 k.at y.0 first (All-contains (λ (y : HPoint × PointName). hpoint_cmp k.at y.0 ≡ Less) (map entry_of ks) y (next_before k ks h) c)
+    by y first (inr c) = hpoint_cmp_total.trans p.0 k.at y.0 first (All-contains (λ (y : HPoint × PointName). hpoint_cmp k.at y.0 ≡ Less) (map known_entry ks) y (next_before k ks h) c)
 
 pub differ : false ≡ true → ⊥
 differ e = cc
@@ -100,28 +100,28 @@ popped_keeps P None es rest e same h = subst (λ (l : List (HPoint × PointName)
 popped_keeps P (Some p) es rest e same h = All-tail P p rest (subst (λ (l : List (HPoint × PointName)). All P l) e h)
 
 -- none is known where all are taken out
-pub all_taken : (known : List NamedPlace) (taken : ℕ) → length known ≤ taken → map entry_of (drop taken known) ≡ []
-all_taken known taken l = ap (map entry_of) (drop_all taken known l)
+pub all_taken : (known : List NamedPlace) (taken : ℕ) → length known ≤ taken → map known_entry (drop taken known) ≡ []
+all_taken known taken l = ap (map known_entry) (drop_all taken known l)
 
 pub below_none : (o : Option (HPoint × PointName)) (known : List (HPoint × PointName)) → known ≡ [] → IfSome o (λ p. All (λ y. hpoint_cmp p.0 y.0 ≡ Less) known)
 below_none None known e = tt
 below_none (Some p) known e = subst (λ (l : List (HPoint × PointName)). All (λ y. hpoint_cmp p.0 y.0 ≡ Less) l) (sym e) (All-nil (λ (y : HPoint × PointName). hpoint_cmp p.0 y.0 ≡ Less))
 
 -- ---- whether there is any
-pub none_if : (known : List NamedPlace) (taken : ℕ) (es v : List (HPoint × PointName)) (b : Bool) → length known ≤ taken → put_all es (map entry_of (drop taken known)) ≡ v → IsTrue b ↔ (length es ≡ 0) → IsTrue b ↔ (v ≡ [])
+pub none_if : (known : List NamedPlace) (taken : ℕ) (es v : List (HPoint × PointName)) (b : Bool) → length known ≤ taken → put_all es (map known_entry (drop taken known)) ≡ v → IsTrue b ↔ (length es ≡ 0) → IsTrue b ↔ (v ≡ [])
 none_if known taken es v b l view h = (
   λ yes. sym view ∙ ap (λ (m : List (HPoint × PointName)). put_all es m) (all_taken known taken l) ∙ empty es (h.0 yes),
-  λ no. h.1 (ap length (none_put es (map entry_of (drop taken known)) (view ∙ no)).0),
+  λ no. h.1 (ap length (none_put es (map known_entry (drop taken known)) (view ∙ no)).0),
 )
   where
     empty : (es : List (HPoint × PointName)) → length es ≡ 0 → put_all es [] ≡ []
     empty [] e = refl
     empty (x ∷ xs) e = absurd (omega (arith, e))
 
-pub some_left : (known : List NamedPlace) (taken : ℕ) (es v : List (HPoint × PointName)) → taken < length known → put_all es (map entry_of (drop taken known)) ≡ v → v ≡ [] → ⊥
+pub some_left : (known : List NamedPlace) (taken : ℕ) (es v : List (HPoint × PointName)) → taken < length known → put_all es (map known_entry (drop taken known)) ≡ v → v ≡ [] → ⊥
 some_left known taken es v l view e =
-    let none : map entry_of (drop taken known) ≡ [] = (none_put es (map entry_of (drop taken known)) (view ∙ e)).1 in
-    absurd (omega (arith, l, ap length none, length-map (drop taken known) entry_of, length-drop taken known))
+    let none : map known_entry (drop taken known) ≡ [] = (none_put es (map known_entry (drop taken known)) (view ∙ e)).1 in
+    absurd (omega (arith, l, ap length none, length-map (drop taken known) known_entry, length-drop taken known))
 
 -- ---- the next of those known
 -- it stands before the others
@@ -151,9 +151,9 @@ next_first es k ks h apart = all_of (λ (e : HPoint × PointName). hpoint_cmp e.
     one : (e : HPoint × PointName) → (hpoint_cmp e.0 k.at ≡ Less → ⊥) → (hpoint_cmp k.at e.0 ≡ Equal → ⊥) → hpoint_cmp e.0 k.at ≡ Greater
     one e f g = greater_left (hpoint_cmp e.0 k.at) f (λ q. g (hpoint_cmp_total.antisymm k.at e.0 ∙ ap ordering_reverse q))
 
-pub next_least : (es : List (HPoint × PointName)) (k : NamedPlace) (ks : List NamedPlace) → All (λ e. hpoint_cmp e.0 k.at ≡ Greater) es → AllPairs (λ a b. named_cmp a b ≡ Less) (k ∷ ks) → All (λ y. hpoint_cmp k.at y.0 ≡ Less) (put_all es (map entry_of ks))
+pub next_least : (es : List (HPoint × PointName)) (k : NamedPlace) (ks : List NamedPlace) → All (λ e. hpoint_cmp e.0 k.at ≡ Greater) es → AllPairs (λ a b. named_cmp a b ≡ Less) (k ∷ ks) → All (λ y. hpoint_cmp k.at y.0 ≡ Less) (put_all es (map known_entry ks))
 next_least es k ks h up =
-    all_put (λ (y : HPoint × PointName). hpoint_cmp k.at y.0 ≡ Less) es (map entry_of ks)
+    all_put (λ (y : HPoint × PointName). hpoint_cmp k.at y.0 ≡ Less) es (map known_entry ks)
     (All-weaker (λ (e : HPoint × PointName). hpoint_cmp e.0 k.at ≡ Greater) (λ (y : HPoint × PointName). hpoint_cmp k.at y.0 ≡ Less) (λ e g. after_before e.0 k.at g) es h) (next_before k ks up)
 
 -- the first found is not before a place, so no other is
@@ -240,15 +240,15 @@ module _ (items : List NamedPlace) (taken : ℕ) (es : List (HPoint × PointName
   known = drop taken items
 
   -- that is known
-  pub add_known : (v : List (HPoint × PointName)) → put_all es (map entry_of (drop taken items)) ≡ v → Any (λ z. named_cmp z (record { name = name; at = at }) ≡ Equal) (drop taken items) → HasAdded v at name v
+  pub add_known : (v : List (HPoint × PointName)) → put_all es (map known_entry (drop taken items)) ≡ v → Any (λ z. named_cmp z (record { name = name; at = at }) ≡ Equal) (drop taken items) → HasAdded v at name v
   add_known v view a =
       let same : IsTrue (same_place (place at) (place a.1.at)) = same_turned (place a.1.at) (place at) (same_from_equal (place a.1.at) (place at) (point_positive a.1.at) (point_positive at) a.4) in
       let there : Contains known a.1 = any_contains (λ (z : NamedPlace). named_cmp z (record { name = name; at = at }) ≡ Equal) (drop taken items) a in
-      subst (λ (l : List (HPoint × PointName)). HasAdded l at name l) view (known_there es (map entry_of known) at name (entry_of a.1) (contains_map entry_of known a.1 there) same)
+      subst (λ (l : List (HPoint × PointName)). HasAdded l at name l) view (known_there es (map known_entry known) at name (known_entry a.1) (contains_map known_entry known a.1 there) same)
 
   -- to those found
-  pub add_new : (v new : List (HPoint × PointName)) → put_all es (map entry_of (drop taken items)) ≡ v → HasAdded es at name new → HasAdded v at name (put_all new (map entry_of (drop taken items)))
-  add_new v new view h = subst (λ (l : List (HPoint × PointName)). HasAdded l at name (put_all new (map entry_of known))) view (put_added es new (map entry_of known) at name h)
+  pub add_new : (v new : List (HPoint × PointName)) → put_all es (map known_entry (drop taken items)) ≡ v → HasAdded es at name new → HasAdded v at name (put_all new (map known_entry (drop taken items)))
+  add_new v new view h = subst (λ (l : List (HPoint × PointName)). HasAdded l at name (put_all new (map known_entry known))) view (put_added es new (map known_entry known) at name h)
 
   pub add_apart : (new : List (HPoint × PointName)) → AreAhead items taken es → All (λ z. named_cmp z (record { name = name; at = at }) ≡ Equal → ⊥) (drop taken items) → ((e : HPoint × PointName) → Contains new e → Contains es e ⊎ ((at, name) ≡ e)) → AreAhead items taken new
   add_apart new are h only = record {

@@ -19,8 +19,8 @@ abbrev pub points_of : List (HPoint × PointName) → List Point
 points_of found = map (λ e. place e.0) found
 
 -- a known place under its name
-abbrev pub entry_of : NamedPlace → HPoint × PointName
-entry_of z = (z.at, z.name)
+abbrev pub known_entry : NamedPlace → HPoint × PointName
+known_entry z = (z.at, z.name)
 
 -- a place put before the first that does not come before it
 abbrev pub put_place : HPoint × PointName → List (HPoint × PointName) → List (HPoint × PointName)
@@ -32,7 +32,7 @@ abbrev pub put_all : List (HPoint × PointName) → List (HPoint × PointName) �
 put_all [] known = known
 put_all (e ∷ es) known = put_place e (put_all es known)
 
--- known places in order, of which so many are taken out, and apart from the others places found since
+-- known places in one sorted list, the first of which are taken out; none of those found since is one still in the list
 pub record AreAhead (known : List NamedPlace) (taken : ℕ) (found : List (HPoint × PointName)) : Type 0 where
   pub ordered : AllPairs (λ a b. named_cmp a b ≡ Less) known
   pub few : taken ≤ length known

@@ -6,7 +6,7 @@ ghost use Rattle.exact_point.specs.Place.{place, hpoint_cmp};
 ghost use Rattle.exact_point.specs.declared.point.HPoint.{HPoint};
 ghost use Rattle.exact_point.specs.declared.point_name.PointName.{PointName};
 ghost use Rattle.arrange.specs.NamedPlaces.{named_cmp};
-ghost use Rattle.crossing_sweep.specs.Ahead.{HasAdded, entry_of, is_first_before};
+ghost use Rattle.crossing_sweep.specs.Ahead.{HasAdded, known_entry, is_first_before};
 
 use arrange::named_place::NamedPlace;
 use exact_point::point::HPoint;
@@ -15,8 +15,8 @@ use std::alloc::{AllocError, Global};
 use std::collections::BTreeMap;
 use std::marker::Model;
 
-/// Places in their order, each once, under one of its names: those that were known at first in one
-/// list, of which so many are taken out, and apart from the others those found since.
+/// Places in their order, each once, under one of its names. Known places stand in one sorted list, the first `taken`
+/// of which are out; those found since stand in a tree, and none of them is a known one still in the list.
 #[derive(Drop)]
 pub(crate) struct Ahead {
     known: Vec<NamedPlace>,
@@ -28,11 +28,11 @@ impl Model for Ahead {
     ghost use Rattle.std.specs.Prelude.{List, map, drop};
     ghost use Rattle.exact_point.specs.declared.point.HPoint.{HPoint};
     ghost use Rattle.exact_point.specs.declared.point_name.PointName.{PointName};
-    ghost use Rattle.crossing_sweep.specs.Ahead.{entry_of, put_all, AreAhead};
+    ghost use Rattle.crossing_sweep.specs.Ahead.{known_entry, put_all, AreAhead};
 
     ghost Value = { List (HPoint × PointName) };
 
-    ghost view = { λ a. put_all a.found.entries (map entry_of (drop a.taken a.known.items)) };
+    ghost view = { λ a. put_all a.found.entries (map known_entry (drop a.taken a.known.items)) };
 
     ghost invariant = { λ a. AreAhead a.known.items a.taken a.found.entries };
 }
@@ -41,7 +41,7 @@ impl Ahead {
     /// Known places in their order, each once.
     pub(crate) fn of(alloc: Global, known: Vec<NamedPlace>) -> Ahead
         requires { AllPairs (λ a b. named_cmp a b ≡ Less) known.items }
-        ensures { result ≡ map entry_of known.items }
+        ensures { result ≡ map known_entry known.items }
     {
         Ahead {
             known,

@@ -3,7 +3,7 @@ ghost use Rattle.std.specs.Prelude.{◌≡◌, ◌++◌, [], ◌∷◌, List, ma
 ghost use Rattle.std.specs.declared.cmp.Ordering.TheVariants.{Less};
 ghost use Rattle.exact_point.specs.declared.point_name.PointName.{PointName};
 ghost use Rattle.arrange.specs.NamedPlaces.{own_names, named_cmp};
-ghost use Rattle.crossing_sweep.specs.Ahead.{AreKnownPlaces, AreOffered, entry_of};
+ghost use Rattle.crossing_sweep.specs.Ahead.{AreKnownPlaces, AreOffered, known_entry};
 
 use crate::ahead::Ahead;
 use arrange::closed_column::is_within;
@@ -25,7 +25,7 @@ pub(crate) fn known_places(alloc: Global, input: &TileInput) -> Result<Ahead, Al
 
 /// These places in their order, each once: a place of several segments under one of its names.
 fn places_in_order(alloc: Global, input: &TileInput) -> Result<Vec<NamedPlace>, AllocError>
-    ensures known { IfOk result (λ places. AreKnownPlaces input.now (map entry_of places.items)) }
+    ensures known { IfOk result (λ places. AreKnownPlaces input.now (map known_entry places.items)) }
     ensures in_order { IfOk result (λ places. AllPairs (λ a b. named_cmp a b ≡ Less) places.items) }
 {
     let mut places = Vec::new(alloc);
@@ -39,7 +39,7 @@ fn places_in_order(alloc: Global, input: &TileInput) -> Result<Vec<NamedPlace>, 
 
 /// Offers the ends of a segment and where the column's borders cut it.
 fn offer_own(places: &mut Vec<NamedPlace>, seg: &Seg, column: Column) -> Result<(), AllocError>
-    ensures { OnOk result ((names : List PointName) → AreOffered column names (map entry_of places.old.items) → AreOffered column (names ++ own_names seg.now column) (map entry_of places.new.items)) }
+    ensures { OnOk result ((names : List PointName) → AreOffered column names (map known_entry places.old.items) → AreOffered column (names ++ own_names seg.now column) (map known_entry places.new.items)) }
 {
     offer(places, PointName::Vertex(seg.left()), column)?;
     offer(places, PointName::Vertex(seg.right()), column)?;
@@ -50,7 +50,7 @@ fn offer_own(places: &mut Vec<NamedPlace>, seg: &Seg, column: Column) -> Result<
 
 /// Adds the place that a name stands for, if it lies in the closed column.
 fn offer(places: &mut Vec<NamedPlace>, name: PointName, column: Column) -> Result<(), AllocError>
-    ensures { OnOk result ((names : List PointName) → AreOffered column names (map entry_of places.old.items) → AreOffered column (names ++ name ∷ []) (map entry_of places.new.items)) }
+    ensures { OnOk result ((names : List PointName) → AreOffered column names (map known_entry places.old.items) → AreOffered column (names ++ name ∷ []) (map known_entry places.new.items)) }
 {
     if let Some(at) = name.point() {
         if is_within(column, &at) {

@@ -23,5 +23,5 @@ RefusesLayer fault file old l =
     → Refuses fault (then_layers (map finished_of old.tiles.items) (layers_of file old.layers (l ∷ rest)))
 
 -- the layers and tiles are as a file holds them
-abbrev pub IsStored : RootContent → Type 0
-IsStored content = AreStored content.layers (map finished_of content.tiles.items)
+abbrev pub IsAsStored : RootContent → Type 0
+IsAsStored content = AreStored content.layers (map finished_of content.tiles.items)

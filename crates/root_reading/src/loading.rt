@@ -11,7 +11,7 @@ ghost use Rattle.store_terms.specs.Image.{layers_of, with_layer};
 ghost use Rattle.root_reading.specs.Looking.{Gives, Looks, Causes, OnlyLooks};
 ghost use Rattle.root_reading.specs.Loading.{layers_with_derived};
 ghost use Rattle.root_reading.specs.Stored.{AreStoredTo};
-ghost use Rattle.root_reading.specs.Contents.{Adds, RefusesLayer, IsStored};
+ghost use Rattle.root_reading.specs.Contents.{Adds, RefusesLayer, IsAsStored};
 
 use crate::keeping::{keep, name_in};
 use crate::load_fault::LoadFault;
@@ -94,7 +94,7 @@ fn add_base<D: Disk>(
     ensures refuses { D.is_honest disk.old
         → IfErr result
         (λ e. RefusesLayer e (D.seen disk.old) content.old (record { name = name.now; records = inl extent })) }
-    ensures stored { IsStored content.old → OnOk result (IsStored content.new) }
+    ensures stored { IsAsStored content.old → OnOk result (IsAsStored content.new) }
 {
     let rings = base_at(alloc, disk, size, extent)?;
     let layers = with_base(alloc, &content.layers, name, rings)?;
@@ -122,7 +122,7 @@ fn add_derived<D: Disk>(
         → IfErr result
         (λ e. RefusesLayer e (D.seen disk.old) content.old
         (record { name = name.now; records = inr (extent, entries.now) })) }
-    ensures stored { IsStored content.old → OnOk result (IsStored content.new) }
+    ensures stored { IsAsStored content.old → OnOk result (IsAsStored content.new) }
 {
     let layers = with_derived(alloc, disk, size, &content.layers, name, extent)?;
     let own = name_in(alloc, name)?;
@@ -145,7 +145,7 @@ fn add_layer<D: Disk>(
         → OnOk result (Adds (D.seen disk.old) content.old content.new (entry_of entry.now)) }
     ensures refuses { D.is_honest disk.old
         → IfErr result (λ e. RefusesLayer e (D.seen disk.old) content.old (entry_of entry.now)) }
-    ensures stored { IsStored content.old → OnOk result (IsStored content.new) }
+    ensures stored { IsAsStored content.old → OnOk result (IsAsStored content.new) }
 {
     match &entry.records {
         Records::Base(extent) => add_base(alloc, disk, size, &entry.name, *extent, content),

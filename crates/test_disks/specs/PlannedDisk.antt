@@ -34,12 +34,12 @@ pub record GoesByPlan {D P T E : Type 0} (g : Ghosts D) (p : plans.Ghosts P) (re
   pub plan : plan_of new ≡ p.next (plan_of old)
 
 -- a call of an honest disk: time goes on, and the call is counted, as a failure too where it is one
-pub record IsCounted {D P T E : Type 0} (g : Ghosts D) (result : Result T E) (old new : PlannedDisk D P) : Type 0 where
+pub record IsCallCounted {D P T E : Type 0} (g : Ghosts D) (result : Result T E) (old new : PlannedDisk D P) : Type 0 where
   pub time : Elapses (g.moment (below_of old)) (g.moment (below_of new)) (g.left_since (below_of old)) (g.left_since (below_of new)) (g.may_leave (below_of new))
   pub cause : CountsFailure result (faults_of g old) (faults_of g new)
   pub calls : CountsCall result (calls_of g old) (calls_of g new)
 
 -- a read gives the same bytes, and a crash leaves nothing that it might not have left before
-pub record IsKept {D : Type 0} (g : Ghosts D) (old new : D) : Type 0 where
+pub record StaysAsItWas {D : Type 0} (g : Ghosts D) (old new : D) : Type 0 where
   pub seen : g.seen new ≡ g.seen old
   pub crash : Fewer (g.may_leave old) (g.may_leave new)

@@ -55,7 +55,7 @@ impl<D: Disk, P: Plan> PlannedDisk<D, P> {
 }
 
 impl<D: Disk, P: Plan> Disk for PlannedDisk<D, P> {
-    ghost use Rattle.test_disks.specs.PlannedDisk.{below_of, GoesByPlan, IsCounted, IsKept};
+    ghost use Rattle.test_disks.specs.PlannedDisk.{below_of, GoesByPlan, IsCallCounted, StaysAsItWas};
 
     ghost is_honest = { λ d. D.Disk.is_honest d.disk };
 
@@ -81,8 +81,8 @@ impl<D: Disk, P: Plan> Disk for PlannedDisk<D, P> {
         ensures plan { GoesByPlan D.Disk P.Plan result self.old self.new }
         ensures honest { D.is_honest (below_of self.new) ↔ D.is_honest (below_of self.old) }
         ensures length { D.is_honest (below_of self.old) → IfOk result (λ n. n ≡ length (D.seen (below_of self.old))) }
-        ensures kept { D.is_honest (below_of self.old) → IsKept D.Disk (below_of self.old) (below_of self.new) }
-        ensures counted { D.is_honest (below_of self.old) → IsCounted D.Disk result self.old self.new }
+        ensures kept { D.is_honest (below_of self.old) → StaysAsItWas D.Disk (below_of self.old) (below_of self.new) }
+        ensures counted { D.is_honest (below_of self.old) → IsCallCounted D.Disk result self.old self.new }
     {
         self.pass()?;
         self.disk.length()
@@ -94,8 +94,8 @@ impl<D: Disk, P: Plan> Disk for PlannedDisk<D, P> {
         ensures honest { D.is_honest (below_of self.new) ↔ D.is_honest (below_of self.old) }
         ensures read { D.is_honest (below_of self.old)
             → OnOk result (buf.new ≡ part (D.seen (below_of self.old)) at (length buf.old)) }
-        ensures kept { D.is_honest (below_of self.old) → IsKept D.Disk (below_of self.old) (below_of self.new) }
-        ensures counted { D.is_honest (below_of self.old) → IsCounted D.Disk result self.old self.new }
+        ensures kept { D.is_honest (below_of self.old) → StaysAsItWas D.Disk (below_of self.old) (below_of self.new) }
+        ensures counted { D.is_honest (below_of self.old) → IsCallCounted D.Disk result self.old self.new }
     {
         self.pass()?;
         self.disk.read(at, buf)
@@ -110,7 +110,7 @@ impl<D: Disk, P: Plan> Disk for PlannedDisk<D, P> {
             → Torn at (length bytes.now) (D.seen (below_of self.old)) (D.seen (below_of self.new)) }
         ensures crash { D.is_honest (below_of self.old)
             → OneStepOn (Torn at (length bytes.now)) (D.may_leave (below_of self.old)) (D.may_leave (below_of self.new)) }
-        ensures counted { D.is_honest (below_of self.old) → IsCounted D.Disk result self.old self.new }
+        ensures counted { D.is_honest (below_of self.old) → IsCallCounted D.Disk result self.old self.new }
     {
         self.pass()?;
         self.disk.write_at(at, bytes)
@@ -121,8 +121,8 @@ impl<D: Disk, P: Plan> Disk for PlannedDisk<D, P> {
         ensures honest { D.is_honest (below_of self.new) ↔ D.is_honest (below_of self.old) }
         ensures durable { D.is_honest (below_of self.old)
             → OnOk result (Only (D.seen (below_of self.old)) (D.may_leave (below_of self.new))) }
-        ensures kept { D.is_honest (below_of self.old) → IsKept D.Disk (below_of self.old) (below_of self.new) }
-        ensures counted { D.is_honest (below_of self.old) → IsCounted D.Disk result self.old self.new }
+        ensures kept { D.is_honest (below_of self.old) → StaysAsItWas D.Disk (below_of self.old) (below_of self.new) }
+        ensures counted { D.is_honest (below_of self.old) → IsCallCounted D.Disk result self.old self.new }
     {
         self.pass()?;
         self.disk.sync()

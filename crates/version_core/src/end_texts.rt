@@ -16,7 +16,7 @@ use std::alloc::{AllocError, Global};
 /// How many texts are kept at once.
 const KEPT: usize = 1024;
 
-/// How many bytes a text has at most: three numbers and two spaces.
+/// How many bytes a text has at most: three numbers of up to 40 bytes each, and two spaces.
 const TEXT_MAX: usize = 122;
 
 /// The place of a name in lowest terms, and its text.
@@ -112,7 +112,8 @@ fn slot_of(name: &PointName) -> usize {
     (mixed.unsigned_abs() >> 40) as usize % KEPT
 }
 
-/// The coordinates of a segment as one number, by which segments differ in its upper bits too.
+/// The coordinates of a segment as one number: each times a large odd number, so that segments differ in its upper bits
+/// too. Any odd numbers would do.
 fn mixed(seg: &Seg) -> i64 {
     let (left, right) = (seg.left(), seg.right());
     let from = left

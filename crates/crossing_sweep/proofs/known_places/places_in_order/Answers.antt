@@ -10,7 +10,7 @@ use Rattle.arrange.specs.Marked.{marked_of}
 use Rattle.arrange.specs.NamedPlaces.{own_names, same_named}
 use Rattle.arrange.specs.declared.marked_seg.MarkedSeg.{MarkedSeg}
 use Rattle.arrange.specs.declared.named_place.NamedPlace.{NamedPlace}
-use Rattle.crossing_sweep.specs.Ahead.{AreOffered, entry_of}
+use Rattle.crossing_sweep.specs.Ahead.{AreOffered, known_entry}
 use Rattle.crossing_sweep.proofs.KnownLemmas.{own_more, known_places}
 use Rattle.crossing_sweep.proofs.PlacesInOrder.{in_order, offered_once}
 use Rattle.crossing_sweep.proofs.known_places.places_in_order.Goals as goal
@@ -22,9 +22,9 @@ loop-m-preserved c =
     let i : ℕ = c.loop-m.m-index in
     let names : List PointName = flat_map (λ s. own_names s k) (map (λ (m : MarkedSeg). m.seg) (take i items)) in
     let new : List NamedPlace = c.offer_own.new.places.items in
-    let Step : ℕ → Type 0 = λ j. (names : List PointName) → AreOffered j names (map entry_of c.loop-m.places.items) → AreOffered j (names ++ own_names c.m-item.result.seg j) (map entry_of new) in
+    let Step : ℕ → Type 0 = λ j. (names : List PointName) → AreOffered j names (map known_entry c.loop-m.places.items) → AreOffered j (names ++ own_names c.m-item.result.seg j) (map known_entry new) in
     let step : Step k = subst Step c.column.ensures.value c.in_ok-offer_own.ensures in
-    subst (λ (names : List PointName). AreOffered k names (map entry_of new)) (own_more k items i c.m-item.result c.loop-m-test.true c.m-item.is) (step names c.loop-m.invariant)
+    subst (λ (names : List PointName). AreOffered k names (map known_entry new)) (own_more k items i c.m-item.result c.loop-m-test.true c.m-item.is) (step names c.loop-m.invariant)
 
 pub returns-clause-known : goal.returns-clause-known
 returns-clause-known c =
@@ -36,8 +36,8 @@ returns-clause-known c =
     ∙ ap (map (λ (m : terms.Marked). m.segment)) c.marked-m-items.ensures.value in
     let names : List PointName = flat_map (λ s. own_names s k) (map (λ (m : terms.Marked). m.segment) c.args.input.now.marked) in
     let found : List NamedPlace = c.loop-m.places.items in
-    let offered : AreOffered k names (map entry_of found) = subst (λ (segs : List Segment). AreOffered k (flat_map (λ s. own_names s k) segs) (map entry_of found)) whole_list c.loop-m.invariant in
-    known_places c.args.input.now c.marked-m-items.ensures.valid (map entry_of c.dedup.new.self.items)
+    let offered : AreOffered k names (map known_entry found) = subst (λ (segs : List Segment). AreOffered k (flat_map (λ s. own_names s k) segs) (map known_entry found)) whole_list c.loop-m.invariant in
+    known_places c.args.input.now c.marked-m-items.ensures.valid (map known_entry c.dedup.new.self.items)
     (offered_once k names found c.sort_unstable.new.self.items c.dedup.new.self.items c.sort_unstable.ensures.permutation c.sort_unstable.ensures.sorted (dedup_is same_named c.sort_unstable.new.self.items c.dedup.new.self.items c.dedup.ensures.filtered) offered)
 
 pub returns-clause-in_order : goal.returns-clause-in_order

@@ -1,9 +1,9 @@
 use Rattle.std.proofs.Common.{take, map}
 use Rattle.std.specs.Prelude.{flat_map}
 use Rattle.arrange.specs.NamedPlaces.{own_names}
-use Rattle.crossing_sweep.specs.Ahead.{AreOffered, entry_of}
+use Rattle.crossing_sweep.specs.Ahead.{AreOffered, known_entry}
 use Rattle.crossing_sweep.proofs.known_places.places_in_order.Given as goal
 
 -- the names of the first segments have been offered
 abbrev pub invariant-loop-m : goal.invariant-loop-m
-invariant-loop-m l = AreOffered l.fn.input.column (flat_map (λ s. own_names s l.fn.input.column) (map (λ m. m.seg) (take l.m-index l.m-items))) (map entry_of l.places.items)
+invariant-loop-m l = AreOffered l.fn.input.column (flat_map (λ s. own_names s l.fn.input.column) (map (λ m. m.seg) (take l.m-index l.m-items))) (map known_entry l.places.items)
