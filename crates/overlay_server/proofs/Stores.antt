@@ -12,12 +12,11 @@ use Rattle.root_store.specs.Running.{is_busy}
 use Rattle.flush_core.specs.declared.flusher.Flusher.{Flusher}
 use Rattle.book_history.specs.Logs.{history_of, newest_in, IsLog}
 use Rattle.version_book.specs.Heard.{Heard}
-use Rattle.store_flushing.specs.Among.{IsFileIn}
+use Rattle.store_flushing.specs.Among.{IsFileIn, IsFileExactlyIn}
 use Rattle.store_flushing.specs.Storing.{IsStoreOf, Flushes}
 use Rattle.store_flushing.proofs.Histories.{file_more, begins_self}
 use Rattle.store_flushing.proofs.Storage.{OnlyNow, begun, store_leaves, then}
-use Rattle.book_closing.specs.Files.{IsFileExactlyIn}
-use Rattle.book_closing.specs.declared.closing.Closed.{Closed}
+use Rattle.store_flushing.specs.declared.closing.Closed.{Closed}
 use Rattle.overlay_server.specs.Moments.{HasOnlyNow}
 use Rattle.overlay_server.specs.Keeping.{AreFlushed, IsFlushed, IsStoreKept}
 use Rattle.overlay_server.specs.Serving.{AreLeft, AreStopped, IsLeftBy, IsStoppedBy, first_log}

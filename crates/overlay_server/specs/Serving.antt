@@ -15,10 +15,9 @@ use Rattle.book_history.specs.Known.{Known, seen}
 use Rattle.book_history.specs.Logs.{entry, no_event, history_of, newest_in, IsLog}
 use Rattle.book_lock.specs.Steps.{beginners, HasAllOf}
 use Rattle.server_session.specs.Session.{IsSharedSession}
-use Rattle.store_flushing.specs.Among.{IsFileIn}
+use Rattle.store_flushing.specs.Among.{IsFileIn, IsFileExactlyIn}
 use Rattle.store_flushing.specs.Storing.{IsStoreOf}
-use Rattle.book_closing.specs.Files.{IsFileExactlyIn}
-use Rattle.book_closing.specs.declared.closing.Closed.{Closed}
+use Rattle.store_flushing.specs.declared.closing.Closed.{Closed}
 use Rattle.overlay_server.specs.declared.outcome.Outcome.{Outcome}
 use Rattle.overlay_server.specs.declared.outcome.Served.{Served}
 use Rattle.overlay_server.specs.declared.outcome.ServerFault.{ServerFault}

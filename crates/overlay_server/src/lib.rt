@@ -9,12 +9,12 @@ pub mod serving;
 mod storing;
 mod threads;
 
-pub use book_closing::closing::{Closed, close};
 pub use outcome::{Outcome, ServeOptions, Served, ServerFault};
 pub use overlay_grid::{GridSpec, grid};
 pub use script_form::{CommandFault, SessionEnd};
 pub use server_session::session_run;
 pub use serving::serve;
+pub use store_flushing::closing::{Closed, close};
 pub use store_flushing::flushing::flusher_loop;
 pub use tile_workers::gate::{Gate, OpenGate};
 pub use tile_workers::worker::worker_loop;

@@ -1,8 +1,8 @@
 //! What a server is run with, and what it leaves.
 ghost use Rattle.std.specs.Prelude.{◌≤◌};
 
-use book_closing::closing::Closed;
 use script_form::SessionEnd;
+use store_flushing::closing::Closed;
 
 /// What a server is run with.
 #[derive(Clone, Copy, Debug, Drop)]

@@ -4,7 +4,7 @@ use Rattle.std.specs.Arc.{arc_value}
 use Rattle.std.specs.List.{list_all}
 use Rattle.script_form.specs.declared.session_end.SessionEnd.{SessionEnd}
 use Rattle.script_form.specs.declared.session_end.SessionEnd.TheVariants.{End, Failed}
-use Rattle.book_closing.specs.declared.closing.Closed.{Closed}
+use Rattle.store_flushing.specs.declared.closing.Closed.{Closed}
 use Rattle.overlay_server.specs.declared.outcome.Outcome.{Outcome}
 use Rattle.overlayd.specs.declared.fault.ProgramFault.{ProgramFault}
 use Rattle.overlayd.specs.declared.fault.ProgramFault.TheVariants.{OutOfMemory, Write}

@@ -4,9 +4,9 @@ ghost use Rattle.std.specs.List.{list_all};
 ghost use Rattle.overlayd.specs.Ending.{have_ended, is_end, is_stored, unsaid, was_run, was_written};
 
 use crate::fault::ProgramFault;
-use book_closing::closing::Closed;
 use overlay_server::outcome::Outcome;
 use script_form::SessionEnd;
+use store_flushing::closing::Closed;
 
 /// Whether every script was read to its end.
 pub fn have_ended(sessions: &[Outcome]) -> bool

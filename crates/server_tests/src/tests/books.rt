@@ -3,11 +3,9 @@ ghost use Rattle.std.specs.Prelude.{◌≡◌, ◌∷◌, []};
 ghost use Rattle.book_history.specs.Logs.{entry, no_event};
 ghost use Rattle.book_history.specs.Rules.{head_of};
 
-use book_closing::closing::close;
 use disk_model::mem_disk::MemDisk;
 use flush_core::flusher::Flusher;
-use script_form::SessionEnd;
-use server_session::session::session_run;
+use overlay_server::{SessionEnd, close, session_run};
 use std::alloc::Global;
 use std::io::{Read, Write};
 use std::marker::Brand;

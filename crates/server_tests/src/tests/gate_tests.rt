@@ -5,11 +5,11 @@ use crate::tests::testing::{
 use disk_model::mem_disk::MemDisk;
 use layer_expr::name::Name;
 use overlay_engine::engine::Engine;
+use overlay_server::Gate;
 use std::sync::atomic::Ordering;
 use std::test::Fail;
 use std::thread;
 use std::time::{Clock, Duration};
-use tile_workers::gate::Gate;
 
 /// A gate that holds the first worker until a second one has entered and the reader was asked often enough.
 #[derive(Drop)]

@@ -2,8 +2,8 @@
 use crate::tests::testing::{expect, served, written};
 use disk_model::mem_disk::MemDisk;
 use overlay_engine::engine::Engine;
+use overlay_server::OpenGate;
 use std::test::Fail;
-use tile_workers::gate::OpenGate;
 
 const SQUARES: &[u8] = b"PUT A POLYGON ((0 0, 10 0, 10 10, 0 10, 0 0))
 PUT B POLYGON ((5 5, 15 5, 15 15, 5 15, 5 5))

@@ -1,6 +1,6 @@
 //! What no script shows: reads and writes that fail, and the limits of lines and of scripts.
 use crate::tests::books::run_script;
-use script_form::SessionEnd;
+use overlay_server::SessionEnd;
 use std::alloc::{AllocError, Global};
 use std::cell::Cell;
 use std::io;

@@ -5,6 +5,7 @@ use crate::tests::testing::{created, empty_disk, expect, recovered, served};
 use disk_model::disk::Disk;
 use disk_model::mem_disk::MemDisk;
 use file_disk::file_disk::FileDisk;
+use overlay_server::OpenGate;
 use overlay_server::outcome::Served;
 use std::alloc::Global;
 use std::fs;
@@ -16,7 +17,6 @@ use std::test::Fail;
 use std::thread::Threads;
 use test_disks::fault_disk::FaultDisk;
 use test_disks::stop_disk::StopDisk;
-use tile_workers::gate::OpenGate;
 
 const PUT_A: &[u8] = b"PUT A POLYGON ((0 0, 10 0, 10 10, 0 10, 0 0))\n";
 

@@ -7,7 +7,7 @@ use layer_expr::name::Name;
 use overlay_engine::engine::Engine;
 use overlay_server::outcome::{ServeOptions, Served};
 use overlay_server::serving::serve;
-use script_form::SessionEnd;
+use overlay_server::{Gate, SessionEnd};
 use std::alloc::Global;
 use std::io::Read;
 use std::process::Abort;
@@ -17,7 +17,6 @@ use std::test::Fail;
 use std::thread::Threads;
 use std::time::{Clock, Duration};
 use std::{io, thread};
-use tile_workers::gate::Gate;
 
 /// How many blocks a store of the tests may have.
 pub const BLOCKS: u32 = 200;

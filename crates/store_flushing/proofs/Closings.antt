@@ -9,10 +9,9 @@ use Rattle.commit_plan.proofs.Reading.{calm_stands}
 use Rattle.flush_core.specs.declared.flusher.Flusher.{Flusher}
 use Rattle.book_history.specs.Logs.{newest_in}
 use Rattle.version_book.specs.Heard.{Heard, HasHeard}
-use Rattle.store_flushing.specs.Among.{IsFileIn}
+use Rattle.store_flushing.specs.Among.{IsFileIn, IsFileExactlyIn}
 use Rattle.store_flushing.specs.Storing.{IsStoreAt, IsStoreOf}
 use Rattle.store_flushing.proofs.Histories.{among_more, file_more}
-use Rattle.book_closing.specs.Files.{IsFileExactlyIn}
 
 -- the number that is stored, and the disk, of a store if there is one
 abbrev pub IsLeftOf : {D : Type 0} → Option (Flusher D) → ℕ → Option D → Type 0

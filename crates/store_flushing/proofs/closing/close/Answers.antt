@@ -2,8 +2,8 @@ use Rattle.std.proofs.Common.{All, subst}
 use Rattle.book_history.specs.Logs.{history_of}
 use Rattle.book_history.proofs.Chains.{begins_with}
 use Rattle.book_lock.specs.Steps.{HasAllOf}
-use Rattle.book_closing.proofs.Closings.{exactly_left, files_left, reported_left}
-use Rattle.book_closing.proofs.closing.close.Goals as goal
+use Rattle.store_flushing.proofs.Closings.{exactly_left, files_left, reported_left}
+use Rattle.store_flushing.proofs.closing.close.Goals as goal
 
 pub returns-clause-sessions : goal.returns-clause-sessions
 returns-clause-sessions g c =

@@ -6,9 +6,8 @@ ghost use Rattle.disk_model.specs.Moments.{Leaves};
 ghost use Rattle.root_store.specs.declared.phase.Phase.TheVariants as phases;
 ghost use Rattle.book_history.specs.Logs.{history_of, newest_in, IsLog};
 ghost use Rattle.book_lock.specs.Steps.{HasAllOf};
-ghost use Rattle.store_flushing.specs.Among.{IsFileIn};
+ghost use Rattle.store_flushing.specs.Among.{IsFileExactlyIn, IsFileIn};
 ghost use Rattle.store_flushing.specs.Storing.{IsStoreOf};
-ghost use Rattle.book_closing.specs.Files.{IsFileExactlyIn};
 
 use disk_model::disk::Disk;
 use flush_core::flusher::Flusher;
