@@ -140,20 +140,13 @@ impl Piece {
 
     /// Whether both ends are at the places of those of another piece, whatever their names.
     pub(crate) fn is_same(&self, other: &Piece) -> bool
-        ensures { result ≡ same_pair (ends_of self.now) (ends_of other.now) }
+        ensures value { result ≡ same_pair (ends_of self.now) (ends_of other.now) }
+        // Both ends have places by the type.
+        ensures positive { IsPositivePair (ends_of self.now) }
     {
         let from = self.from.known_point() == other.from.known_point();
         let to = self.to.known_point() == other.to.known_point();
         from && to
-    }
-
-    /// Says of a piece what is true of each: its ends have positive denominators. The call does
-    /// nothing.
-    pub(crate) fn known(&self)
-        ensures { IsPositivePair (ends_of self.now) }
-    {
-        // Both ends have places by the type: the clause rests on that.
-        let _ = &self.support;
     }
 
     /// An equal piece.

@@ -1,5 +1,5 @@
 //! Tiles.
-ghost use Rattle.std.specs.Prelude.{◌≡◌, ◌%◌, ◌==◌, count_by, map, All, IfOk};
+ghost use Rattle.std.specs.Prelude.{◌≡◌, ◌%◌, ◌==◌, count_by, map, true, All, IfOk};
 ghost use Rattle.overlay_terms.specs.TileLaws.{is_pair_below};
 ghost use Rattle.exact_point.specs.Place.{place};
 ghost use Rattle.exact_point.specs.NamedPiece.{ends_of};
@@ -32,23 +32,12 @@ impl Tile {
     /// many.
     pub fn is_same(&self, other: &Tile) -> bool
         ensures value { result ≡ same_tile (tile_of self.now) (tile_of other.now) }
-        ensures positive { HasPositiveEnds (tile_of self.now) }
+        ensures positive { result ≡ true → HasPositiveEnds (tile_of self.now) }
     {
-        self.known();
         match (self, other) {
             (Tile::Pieces(held), Tile::Pieces(built)) => are_same(held, built),
             (Tile::Oversize, Tile::Oversize) => true,
             _ => false,
-        }
-    }
-
-    /// Says of a tile what is true of each: the ends of its pieces have positive denominators. The
-    /// call changes nothing.
-    fn known(&self)
-        ensures { HasPositiveEnds (tile_of self.now) }
-    {
-        if let Tile::Pieces(pieces) = self {
-            are_known(pieces);
         }
     }
 
@@ -79,7 +68,8 @@ fn is_odd_below(pieces: &[Piece], query: &HPoint) -> bool
 
 /// Whether there are as many pieces, and each has the places of the one at its place.
 fn are_same(held: &[Piece], built: &[Piece]) -> bool
-    ensures { result ≡ same_ends (map ends_of held.now) (map ends_of built.now) }
+    ensures value { result ≡ same_ends (map ends_of held.now) (map ends_of built.now) }
+    ensures positive { result ≡ true → All IsPositivePair (map ends_of held.now) }
 {
     if held.len() != built.len() {
         return false;
@@ -90,15 +80,6 @@ fn are_same(held: &[Piece], built: &[Piece]) -> bool
         }
     }
     true
-}
-
-/// Says of pieces what is true of each.
-fn are_known(pieces: &[Piece])
-    ensures { All IsPositivePair (map ends_of pieces.now) }
-{
-    for piece in pieces {
-        piece.known();
-    }
 }
 
 /// Equal pieces in memory of their own.

@@ -93,7 +93,7 @@ module _ (marked : List Marked) (steps : Steps) (k : ℕ) where
 pub held_tile : HeldTile
 held_tile input (pieces held) (pieces built) positive right = (
   λ alike. let long : length held ≡ length built = as_long same_pair held built alike in
-      (omega (arith, long, right.0), tile_there input.marked input.steps input.column held built positive alike right.1),
+      (omega (arith, long, right.0), tile_there input.marked input.steps input.column held built (positive alike) alike right.1),
   λ other. tiles_alike input.marked input.steps input.column held built other.1 right.1,
 )
 held_tile input (pieces held) oversize positive right = (

@@ -13,10 +13,10 @@ use Rattle.version_core.specs.declared.verifying.Verdict.{Verdict}
 use Rattle.version_core.specs.declared.verifying.Verdict.TheVariants.{Same, Different}
 
 -- the comparison with a tile of the input tells whether the held tile is one
-told : (input : Input) (held built : Tile) (same : Bool) → IsTileAt pieces_max input built → same ≡ same_tile held built → HasPositiveEnds held → IsTrue same ↔ IsTileAt pieces_max input held
+told : (input : Input) (held built : Tile) (same : Bool) → IsTileAt pieces_max input built → same ≡ same_tile held built → (IsTrue same → HasPositiveEnds held) → IsTrue same ↔ IsTileAt pieces_max input held
 told input held built same right is positive = (
-  λ t. (held_tile input held built positive right).0 (sym is ∙ t),
-  λ h. is ∙ (held_tile input held built positive right).1 h,
+  λ t. (held_tile input held built (λ alike. positive (is ∙ alike)) right).0 (sym is ∙ t),
+  λ h. is ∙ (held_tile input held built (λ alike. positive (is ∙ alike)) right).1 h,
 )
 
 -- the verdict that a comparison gives
@@ -29,7 +29,7 @@ same_told true = (λ e. refl, λ e. refl)
 same_told false = (λ e. cc, λ e. absurd (false≢true e))
 
 -- the verdict is right
-pub is_verdict : (version : Version) (name : Name) (column : Option ℕ) (k : ℕ) (held built : Tile) (same : Bool) → column ≡ Some k → tile_at version.tiles name k ≡ Some held → IsTileAt pieces_max (input_of version.layers name k) built → same ≡ same_tile held built → HasPositiveEnds held → IsVerdict version name column (verdict_of same)
+pub is_verdict : (version : Version) (name : Name) (column : Option ℕ) (k : ℕ) (held built : Tile) (same : Bool) → column ≡ Some k → tile_at version.tiles name k ≡ Some held → IsTileAt pieces_max (input_of version.layers name k) built → same ≡ same_tile held built → (IsTrue same → HasPositiveEnds held) → IsVerdict version name column (verdict_of same)
 is_verdict version name column k held built same here at right is positive j tile there e =
     let level : j ≡ k = same_Some j k (sym there ∙ here) in
     let one : held ≡ tile = same_Some held tile (sym at ∙ ap (λ m. tile_at version.tiles name m) (sym level) ∙ e) in

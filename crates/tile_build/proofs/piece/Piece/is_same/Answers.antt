@@ -6,8 +6,8 @@ use Rattle.tile_laws.specs.SameTile.{same_pair}
 use Rattle.tile_build.proofs.SameLemmas.{same_places}
 use Rattle.tile_build.proofs.piece.Piece.is_same.Goals as goal
 
-pub returns-then-from : goal.returns-then-from
-returns-then-from c =
+pub returns-then-from-clause-value : goal.returns-then-from-clause-value
+returns-then-from-clause-value c =
     let p : Point = place_of c.self.inside.from in
     let q : Point = place_of c.other.inside.from in
     let r : Point = place_of c.self.inside.to in
@@ -19,8 +19,8 @@ returns-then-from c =
     ap (λ b. b && c.eq-to.result) (sym c.if-from.true) ∙ (λ i. from i && to i)
     ∙ (λ i. same_pair (ends_of (c.self.view_is i)) (ends_of (c.other.view_is i)))
 
-pub returns-else-from : goal.returns-else-from
-returns-else-from c =
+pub returns-else-from-clause-value : goal.returns-else-from-clause-value
+returns-else-from-clause-value c =
     let p : Point = place_of c.self.inside.from in
     let q : Point = place_of c.other.inside.from in
     let r : Point = place_of c.self.inside.to in
