@@ -130,14 +130,20 @@ const BUILT: &[&[Row]] = &[
             Call::Submit(Change::Remove("I")),
             Err(UNKNOWN_LAYER),
         ),
+        Row::Calls(Call::Submit(Change::Define("I", "A | B")), Ok(Some(7))),
+        Row::WaitsBeside(
+            WaitFor::Built("I"),
+            Call::SubmitAll(&[Change::Remove("I"), Change::Remove("B")]),
+            Err(UNKNOWN_LAYER),
+        ),
     ],
 ];
 
 const UNKNOWN_LAYER: BookFault = BookFault::Version(VersionFault::Layer(LayerFault::UnknownLayer));
 
 #[test]
-fn the_last_tile_and_a_command_each_end_a_wait(rt: HostRuntime) {
-    play(&rt, rt.alloc(), false, BUILT, 6);
+fn the_last_tile_a_command_and_a_batch_each_end_a_wait(rt: HostRuntime) {
+    play(&rt, rt.alloc(), false, BUILT, 8);
 }
 
 const DURABLE: &[&[Row]] = &[&[

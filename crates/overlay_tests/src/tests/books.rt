@@ -27,6 +27,8 @@ use version_core::version::Version;
 /// A call on a book by its first session or its reporter.
 pub enum Call {
     Submit(Change),
+    /// A batch that is accepted.
+    SubmitAll(&'static [Change]),
     /// The number of the snapshot, where a point is inside a layer of it.
     Snapshot(&'static str, i64, i64),
     WaitBuilt(&'static str),
@@ -279,6 +281,11 @@ pub fn answer<J: Naming, R: Wait + Abort>(
         Call::Submit(change) => {
             let change = command(rt, alloc, change);
             told(shared.submit(rt, alloc, me, &change))
+        }
+        Call::SubmitAll(changes) => {
+            let batch = batch(rt, alloc, changes);
+            let number = shared.submit_all(rt, alloc, me, &batch);
+            Ok(Some(number.expect(rt, "a batch is refused")))
         }
         Call::Snapshot(name, x, y) => {
             let version = me.snapshot()?;
