@@ -31,7 +31,7 @@ use tile_build::tile::Tile;
 
 /// What the live root's catalog lists, the blocks that the root takes, and the layers and finished tiles that it holds,
 /// which it shares with the versions that have them.
-#[derive(Drop)]
+#[derive(Debug, Drop)]
 pub struct LiveRecords {
     pub(crate) listing: Vec<Listed>,
     pub(crate) room: Room,

@@ -13,7 +13,7 @@ use extent_map::fault::ExtentFault;
 use std::alloc::{AllocError, Global};
 
 /// The blocks that are taken, of a file that may have so many.
-#[derive(Drop)]
+#[derive(Debug, Drop)]
 pub struct Room {
     pub(crate) map: Extents,
     pub(crate) max_blocks: u32,

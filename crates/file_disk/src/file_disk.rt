@@ -9,7 +9,7 @@ use std::rt::Files;
 use std::{fs, io};
 
 /// A plain file. That it is honest is claimed nowhere: what it does is shown by tests.
-#[derive(Drop)]
+#[derive(Debug, Drop)]
 pub struct FileDisk {
     /// None once a write or a sync has failed: each call fails then until the file is opened anew. After a sync that
     /// failed, what was written may be gone although the system takes the next sync as done.

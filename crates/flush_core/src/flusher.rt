@@ -16,7 +16,7 @@ use std::alloc::Global;
 use version_core::version::Version;
 
 /// A store to which versions are written.
-#[derive(Drop)]
+#[derive(Debug, Drop)]
 pub struct Flusher<D: Disk> {
     pub(crate) commit: Commit<D>,
 }

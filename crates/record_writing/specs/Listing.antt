@@ -26,7 +26,7 @@ entries_of ls = map entry_of ls
 
 abbrev pub HasColumns : Records → Type 0
 HasColumns (Base _) = Unit {0}
-HasColumns (Derived extent tiles) = length tiles.items ≡ column_count
+HasColumns (Derived _ tiles) = length tiles.items ≡ column_count
 
 -- a layer that a catalog can list: its name has fewer than 256 bytes, and a definition has an entry for each column
 pub record IsListable (l : Listed) : Type 0 where

@@ -14,7 +14,7 @@ use tile_build::tile::Tile;
 
 /// The number of a version, its layers, and its finished tiles, each with the name of its layer and
 /// its column: in the order of the layers, then of the columns. It shares the tiles with who else has them.
-#[derive(Drop)]
+#[derive(Debug, Drop)]
 pub struct Image {
     number: u64,
     layers: Layers,

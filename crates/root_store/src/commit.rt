@@ -18,7 +18,7 @@ use store_terms::root::Root;
 const GATE_CLOSED: u8 = 0;
 
 /// A store on a disk: its live root with what that holds and where, and the commit that is under way.
-#[derive(Drop)]
+#[derive(Debug, Drop)]
 pub struct Commit<D: Disk> {
     pub(crate) disk: D,
     /// What the file stands for while no commit is under way.

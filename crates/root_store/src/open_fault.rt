@@ -3,7 +3,7 @@
 use commit_plan::fault::StoreFault;
 
 /// Why no store is made or opened, and the disk as the calls have left it.
-#[derive(Drop)]
+#[derive(Debug, Drop)]
 pub struct OpenFault<D> {
     pub fault: StoreFault,
     pub disk: D,
