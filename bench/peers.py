@@ -4,7 +4,7 @@
 python3 bench/peers.py PROGRAM.. [--edges N].. [--only NAME]..
 
 PROGRAM is a built program of this repository; several run in turns, for a before and an after in one run. The peers are
-those of Debian that are there (libcgal-dev libgmp-dev libmpfr-dev, libboost-dev, libgeos-dev): their programs in
+those of Debian that are there (libcgal-dev libgmp-dev libmpfr-dev, libboost-dev, libgeos++-dev): their programs in
 bench/peers are compiled by g++ -O2; one that cannot be compiled is left out.
 
 - The symmetric difference of two layers of so many edges each (the families of bench/tiles.py, laid over all columns):

@@ -5,7 +5,7 @@ use Rattle.overlay_terms.specs.Commands.{Command, refusal_at}
 use Rattle.overlay_terms.specs.Histories.{Version}
 use Rattle.layer_book.specs.declared.batch_fault.BatchFault.{BatchFault}
 use Rattle.version_core.specs.Fault.{version_fault_of}
-use Rattle.book_history.specs.Fault.{IfBatchGone, IfGone, IsRefused, no_memory}
+use Rattle.book_history.specs.Fault.{IfBatchGone, IfGone, IsCommandRefused, no_memory}
 use Rattle.book_history.specs.declared.fault.BookFault.{BookFault}
 use Rattle.book_history.specs.declared.fault.BookFault.TheVariants as fault
 
@@ -14,7 +14,7 @@ pub no_reason : {A B : Type 0} (f : A → B) (o : Option A) → o ≡ None → o
 no_reason f o none = ap (option_map f) none
 
 -- a command that could be accepted is refused for want of memory
-pub for_want : (closing : Bool) (version : Version) (change : Command) → refusal_at version.number version.layers change ≡ None → IsRefused closing version change no_memory
+pub for_want : (closing : Bool) (version : Version) (change : Command) → refusal_at version.number version.layers change ≡ None → IsCommandRefused closing version change no_memory
 for_want closing version change none = inl (refl, no_reason version_fault_of _ none)
 
 -- one of two facts, whatever the fault is

@@ -64,13 +64,13 @@ no_memory = fault.Version (Layer NoMemory)
 
 -- why a book refuses a command: the refusal of the definitions, or memory ran out where there is none;
 -- or it closes, where it may; or it is behind, which each call says by itself
-abbrev pub IsRefused : Bool → Version → Command → BookFault → Type 0
-IsRefused closing version command (fault.Version refused) =
+abbrev pub IsCommandRefused : Bool → Version → Command → BookFault → Type 0
+IsCommandRefused closing version command (fault.Version refused) =
     RefusedBy (Layer NoMemory) (option_map version_fault.version_fault_of (refusal_at version.number version.layers command)) refused
-IsRefused closing version command fault.Closing = IsTrue closing
-IsRefused closing version command fault.Gone = Unit {0}
-IsRefused closing version command fault.NoStore = ⊥
-IsRefused closing version command (fault.Store refused) = ⊥
+IsCommandRefused closing version command fault.Closing = IsTrue closing
+IsCommandRefused closing version command fault.Gone = Unit {0}
+IsCommandRefused closing version command fault.NoStore = ⊥
+IsCommandRefused closing version command (fault.Store refused) = ⊥
 
 -- one fact where the fault is that the locked book is behind or cannot go on, another at each other fault
 abbrev pub IfGone : BookFault → Type 0 → Type 0 → Type 0

@@ -1,6 +1,7 @@
 //! What is written down in the history.
-ghost use Rattle.std.specs.Prelude.{ℕ, ◌≡◌, ◌+◌, ◌<◌, ◌^◌, [], length, slice_index};
+ghost use Rattle.std.specs.Prelude.{ℕ, ◌≡◌, ◌+◌, ◌<◌, [], length, slice_index};
 ghost use Rattle.std.specs.List.{cons_option};
+ghost use Rattle.overlay_terms.specs.Commands.{version_max};
 ghost use Rattle.overlay_terms.specs.Histories.{own_command};
 ghost use Rattle.book_history.specs.Causes.{event_of, HasSeat};
 
@@ -69,7 +70,7 @@ pub struct Ask<'a> {
 /// How many batches of each session there are with one more entry.
 pub fn counted(counts: [u64; 4], cause: Cause<'_>) -> [u64; 4]
     requires seat { HasSeat cause }
-    requires room { (k : ℕ) → k < 4 → slice_index counts k < 2 ^ 62 }
+    requires room { (k : ℕ) → k < 4 → slice_index counts k < version_max }
     ensures { (k : ℕ) → k < 4
         → slice_index result k ≡ slice_index counts k + length (cons_option (own_command k (event_of cause.entry)) []) }
 {

@@ -3,7 +3,6 @@
 
 pub mod entry;
 pub mod fault;
-pub mod making;
 pub mod published;
 pub mod publisher;
 pub mod reader_place;

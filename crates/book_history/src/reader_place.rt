@@ -14,7 +14,8 @@ pub fn moved(place: Option<ReaderPlace>, to: &SeenLog) -> Option<ReaderPlace>
     let reading = place?.enter_as::<Sees>().ok()?;
     let there = &reading.get().seen_log;
     let level = there.at() >= to.at();
-    to.compare(there);
+    // Two logs of one book begin with the same entries: the clause rests on that.
+    let _ = to.compare(there);
     let place = reading.leave();
     if level { Some(place) } else { None }
 }

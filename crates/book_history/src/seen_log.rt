@@ -1,6 +1,7 @@
 //! A beginning of the history that was seen.
-ghost use Rattle.std.specs.Prelude.{◌≡◌, ◌+◌, ◌<◌, ◌≤◌, ◌^◌, ◌++◌, ◌∷◌, [], length, MatchBool};
+ghost use Rattle.std.specs.Prelude.{◌≡◌, ◌+◌, ◌<◌, ◌≤◌, ◌++◌, ◌∷◌, [], length, MatchBool};
 ghost use mathlib.Core.List.{IsPrefix};
+ghost use Rattle.overlay_terms.specs.Commands.{version_max};
 ghost use Rattle.overlay_terms.specs.Histories.{Follows};
 ghost use Rattle.book_history.specs.Logs.{IsLog, entry, no_event, newest_in};
 ghost use Rattle.book_history.specs.Causes.{event_of};
@@ -153,6 +154,7 @@ impl SeenLog {
     {
         let mut both = self.seen.again();
         both.learn(&other.seen);
+        // Their lengths are told by both: the clauses rest on that.
         let _ = &self.at;
         let _ = &other.at;
     }
@@ -160,7 +162,7 @@ impl SeenLog {
     /// Adds an entry to all that was seen, and says whether it did.
     pub fn add(&mut self, head: &Head, cause: Cause<'_>, version: &Version) -> bool
         requires head { head.now ≡ head_of self.old.book }
-        requires room { length self.old.log < 2 ^ 62 }
+        requires room { length self.old.log < version_max }
         requires follows { Follows (newest_in self.old.log) (event_of cause) version.now }
         ensures { MatchBool result (self.new ≡ record { book = self.old.book; log = self.old.log ++ entry (event_of cause.entry) version.now ∷ [] }) (self.new ≡ self.old) }
     {

@@ -5,9 +5,9 @@ ghost use Rattle.book_history.specs.Logs.{newest_in};
 ghost use Rattle.book_lock.specs.Steps.{IsFinishedIn, IsReportedIn};
 
 use crate::locked_log::LockedLog;
+use crate::making::{kept_version, reported_version};
 use book_history::entry::Cause;
 use book_history::fault::BookFault;
-use book_history::making::{kept_version, reported_version};
 use book_history::seen_log::Naming;
 use layer_expr::name::Name;
 use std::alloc::Global;

@@ -4,5 +4,6 @@
 pub mod closed;
 mod keeping;
 pub mod locked_log;
+pub mod making;
 pub mod session;
 mod submitting;

@@ -1,9 +1,10 @@
 //! The log under the lock, which is what is published.
-ghost use Rattle.std.specs.Prelude.{ℕ, ◌≡◌, ◌+◌, ◌^◌, ◌<◌, ◌≤◌, [], ◌∷◌, ◌++◌, ◌⊎◌, length, slice_index, IfOk, IfErr};
+ghost use Rattle.std.specs.Prelude.{ℕ, ◌≡◌, ◌+◌, ◌<◌, ◌≤◌, [], ◌∷◌, ◌++◌, ◌⊎◌, length, slice_index, IfOk, IfErr};
 ghost use Rattle.std.specs.Prelude.{IsTrue, All, false};
 ghost use Rattle.std.specs.Arc.{arc_value};
 ghost use mathlib.Core.List.{IsPrefix};
 ghost use Rattle.left_right.specs.Sides.{view};
+ghost use Rattle.overlay_terms.specs.Commands.{version_max};
 ghost use Rattle.overlay_terms.specs.Histories.{commands_of, Follows};
 ghost use Rattle.book_history.specs.Causes.{event_of, HasSeat};
 ghost use Rattle.book_history.specs.Fault.{no_memory};
@@ -12,10 +13,10 @@ ghost use Rattle.book_history.specs.Rules.{head_of};
 ghost use Rattle.book_lock.specs.Steps.{HasLooked, IsLevel, beginners};
 
 use crate::closed::ClosedBook;
+use crate::making::{NO_MEMORY, shared};
 use crate::session::Session;
 use book_history::entry::{Cause, counted};
 use book_history::fault::BookFault;
-use book_history::making::{NO_MEMORY, shared};
 use book_history::published::{Published, Publisher};
 use book_history::publisher::{first_publisher, new_place, put_out};
 use book_history::seen_log::{Head, Naming, SeenLog};
@@ -143,7 +144,7 @@ impl<J: Naming, R: Wait + Drop> LockedLog<J, R> {
         requires follows { Follows (newest_in self.old) (event_of cause) (arc_value version) }
         requires seat { HasSeat cause }
         ensures ok { IfOk result (λ _. self.new ≡ self.old ++ entry (event_of cause.entry) (arc_value version) ∷ []) }
-        ensures room { IfOk result (λ _. length self.old < 2 ^ 62) }
+        ensures room { IfOk result (λ _. length self.old < version_max) }
         ensures err { IfErr result (λ fault. (fault ≡ BookFault.Gone) × (self.new ≡ self.old)) }
     {
         let mut seen_log = self.publisher.published().seen_log.again();

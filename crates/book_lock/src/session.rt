@@ -1,8 +1,9 @@
 //! A session: what it has seen and made.
-ghost use Rattle.std.specs.Prelude.{◌≡◌, ◌+◌, ◌<◌, ◌≤◌, ◌^◌, ◌++◌, ◌∷◌, [], length, IfOk, IfErr, IfSome, IsTrue};
+ghost use Rattle.std.specs.Prelude.{◌≡◌, ◌+◌, ◌<◌, ◌≤◌, ◌++◌, ◌∷◌, [], length, IfOk, IfErr, IfSome, IsTrue};
 ghost use Rattle.std.specs.Arc.{arc_value};
 ghost use Rattle.left_right.specs.Sides.{view as place_view};
 ghost use mathlib.Core.List.{IsPrefix};
+ghost use Rattle.overlay_terms.specs.Commands.{version_max};
 ghost use Rattle.overlay_terms.specs.Batches.{Batch};
 ghost use Rattle.overlay_terms.specs.Histories.{commands_of, newest, BeginsWith, IsHistory};
 ghost use Rattle.book_history.specs.Logs.{newest_in};
@@ -108,7 +109,8 @@ impl Session {
         ensures level { IsPrefix self.now.log now.now.log → commands_of self.now.session now.now.log ≡ self.now.made
             → IsTrue result }
     {
-        now.compare(&self.seen_log);
+        // Two logs of one book begin with the same entries: the clauses rest on that.
+        let _ = now.compare(&self.seen_log);
         self.seen_log.at() <= now.at() && self.count == count
     }
 
@@ -131,7 +133,7 @@ impl Session {
         requires book { to.now.book ≡ self.old.book }
         requires longer { IsPrefix self.old.log to.now.log }
         requires own { (batch : Batch) × (commands_of self.old.session to.now.log ≡ self.old.made ++ batch ∷ []) }
-        requires room { length self.old.made < 2 ^ 62 }
+        requires room { length self.old.made < version_max }
         ensures { self.new ≡ record { book = self.old.book; session = self.old.session; log = to.now.log; made = commands_of self.old.session to.now.log } }
     {
         let place = self.place.take();

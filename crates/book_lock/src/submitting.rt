@@ -4,15 +4,15 @@ ghost use Rattle.std.specs.Arc.{arc_value};
 ghost use mathlib.Core.List.{IsPrefix};
 ghost use Rattle.overlay_terms.specs.Histories.{commands_of, FollowsBatch};
 ghost use Rattle.layer_book.specs.Command.{command};
-ghost use Rattle.book_history.specs.Fault.{IfBatchGone, IfGone, IsBatchRefused, IsRefused};
+ghost use Rattle.book_history.specs.Fault.{IfBatchGone, IfGone, IsBatchRefused, IsCommandRefused};
 ghost use Rattle.book_history.specs.Logs.{newest_in, IsLog};
 ghost use Rattle.book_lock.specs.Steps.{HasLooked, IsAcceptedIn, IsLevel};
 
 use crate::locked_log::LockedLog;
+use crate::making::{next_version, version_after};
 use crate::session::Session;
 use book_history::entry::Cause;
 use book_history::fault::BookFault;
-use book_history::making::{next_version, version_after};
 use book_history::seen_log::Naming;
 use layer_book::batch::Batch;
 use layer_book::batch_fault::BatchFault;
@@ -38,7 +38,7 @@ impl<J: Naming, R: Wait + Drop> LockedLog<J, R> {
         ensures same { (me.new.book ≡ me.old.book) × (me.new.session ≡ me.old.session) }
         ensures err { IfErr result (λ fault. (self.new ≡ self.old)
             × IfGone fault (me.new ≡ me.old) (HasLooked me.old self.old me.new)) }
-        ensures refused { IfErr result (λ fault. IsRefused false (newest_in self.old) (command change.now) fault) }
+        ensures refused { IfErr result (λ fault. IsCommandRefused false (newest_in self.old) (command change.now) fault) }
     {
         if !self.is_level(me) {
             return Err(BookFault::Gone);

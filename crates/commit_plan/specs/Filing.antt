@@ -12,7 +12,7 @@ use Rattle.store_terms.specs.DefinitionRecord.{definition_of_record}
 use Rattle.store_terms.specs.TileRecord.{tile_of_record}
 use Rattle.store_terms.specs.declared.root.RecordExtent.{RecordExtent}
 use Rattle.store_terms.specs.Catalog.{Listed, catalog_of_record}
-use Rattle.store_terms.specs.Places.{blocks, all_apart, extents_listed}
+use Rattle.store_terms.specs.Places.{block_size, blocks, all_apart, extents_listed}
 use Rattle.store_terms.specs.Spelled.{MayBeStored}
 use Rattle.commit_plan.specs.declared.write.Write.{Write}
 use Rattle.commit_plan.specs.Kept.{Kept, Shut}
@@ -100,11 +100,11 @@ module _ (live : Standing) where
 -- the write of a record: whole blocks, the record in front and zeros behind it
 pub record IsWriteOf (f : Filed) (w : Write) : Type 0 where
   pub behind : 2 ≤ f.extent.block
-  pub there : w.at ≡ 4096 * f.extent.block
+  pub there : w.at ≡ block_size * f.extent.block
   pub size : f.extent.size ≡ length f.bytes
   pub front : take f.extent.size w.bytes.items ≡ f.bytes
-  pub filled : w.bytes.items ≡ f.bytes ++ replicate (4096 * blocks f.extent.size - f.extent.size) 0
-  pub blocks : length w.bytes.items ≡ 4096 * blocks f.extent.size
+  pub filled : w.bytes.items ≡ f.bytes ++ replicate (block_size * blocks f.extent.size - f.extent.size) 0
+  pub blocks : length w.bytes.items ≡ block_size * blocks f.extent.size
 
 -- the writes are those of the records, in order
 abbrev pub AreWritesOf : List Filed → List Write → Type 0

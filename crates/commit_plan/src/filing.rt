@@ -56,11 +56,13 @@ fn own_bytes(alloc: Global, layer: &Layer) -> Result<Vec<u8>, AllocError>
 {
     match layer {
         Layer::Base(rings) => {
-            rings.rings();
+            // The rings are closed by their type: the clauses rest on that.
+            let _ = rings.rings();
             write_base(alloc, rings)
         }
         Layer::Derived(expression) => {
-            expression.root();
+            // Its names are names by their type: the clauses rest on that.
+            let _ = expression.root();
             write_definition(alloc, expression)
         }
     }
@@ -188,7 +190,8 @@ fn file_layer<'a>(
         → IsErrOf result StoreFault.Full → FindsNone (standing live.now) given limit sizes layers.now place tiles.now }
     ensures err { IfErr result (λ fault. (fault ≡ StoreFault.Full) ⊎ (fault ≡ StoreFault.OutOfMemory)) }
 {
-    layers.len();
+    // The layers are a book by their type: the clauses rest on that.
+    let _ = layers.len();
     let Some((named, layer)) = layers.at(place) else {
         unreachable!()
     };

@@ -26,7 +26,7 @@ use store_terms::root::{RecordExtent, Root};
 use tile_build::stored_tile::shared_again;
 
 /// What is read of a file: its root, what the root holds, and the blocks that it takes.
-#[derive(Drop)]
+#[derive(Debug, Drop)]
 pub struct Loaded {
     pub root: Root,
     /// What it holds, for the version that is opened.

@@ -5,7 +5,7 @@ use crate::write::Write;
 use store_terms::root::Root;
 
 /// A root, its records, and the writes that lead to it.
-#[derive(Drop)]
+#[derive(Debug, Drop)]
 pub struct Next {
     pub root: Root,
     pub live: LiveRecords,

@@ -16,7 +16,7 @@ use store_terms::damage::Damage;
 use store_terms::root::RecordExtent;
 
 /// The room that a catalog and the records that it lists take, if no two have a block in common.
-pub fn room_of(
+pub(crate) fn room_of(
     alloc: Global,
     catalog: RecordExtent,
     listing: &[Listed],

@@ -3,8 +3,8 @@
 
 mod arithmetic;
 pub mod columns;
-pub mod marking;
-pub mod passing;
+mod marking;
+mod passing;
 pub mod rising;
 
 pub use columns::column;

@@ -30,7 +30,11 @@ impl Layers {
     }
 
     /// The layers after commands that are accepted one after another.
-    pub fn applied_all(&self, alloc: Global, commands: &[Command]) -> Result<Layers, AllocError>
+    pub(crate) fn applied_all(
+        &self,
+        alloc: Global,
+        commands: &[Command],
+    ) -> Result<Layers, AllocError>
         requires { AllAccepted self.now (map command commands.now) }
         ensures { IfOk result (λ layers. layers ≡ applied_all self.now (map command commands.now)) }
     {

@@ -53,11 +53,4 @@ impl Batch {
     {
         &self.commands
     }
-
-    /// Gives the commands back.
-    pub fn into_commands(self) -> Vec<Command>
-        ensures { map command result.items ≡ self }
-    {
-        self.commands
-    }
 }

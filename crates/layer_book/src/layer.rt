@@ -39,10 +39,11 @@ impl Layer {
         ensures name { IsTrue (is_name name.now) }
         ensures rings { HasRings (content self.now) }
     {
-        name.bytes();
+        // The name and the rings are so by their types: the clauses rest on that.
+        let _ = name.bytes();
         match self {
             Layer::Base(rings) => {
-                rings.rings();
+                let _ = rings.rings();
             }
             Layer::Derived(_) => {}
         }

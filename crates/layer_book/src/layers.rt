@@ -95,7 +95,8 @@ impl Layers {
         requires { refusal_of self.now (keeping name.now (content layer)) ≡ None }
         ensures { IfOk result (λ layers. layers ≡ with_content self.now name.now (content layer)) }
     {
-        layer.known(name);
+        // Name and rings are so by their types: the clause rests on that.
+        let _ = layer.known(name);
         let mut map = copied(alloc, &self.map)?;
         map.insert(name.clone()?, layer)?;
         Ok(Layers { map })

@@ -104,7 +104,7 @@ impl Layers {
     }
 
     /// What is known of the layer with a name.
-    pub fn known_of(&self, name: &Name, known: &[bool]) -> bool
+    pub(crate) fn known_of(&self, name: &Name, known: &[bool]) -> bool
         ensures { result ≡ unwrap_or (slice_get known.now (index_of self.now name.now)) false }
     {
         known.get(self.index_of(name)).copied().unwrap_or(false)

@@ -15,7 +15,7 @@ use std::alloc::{AllocError, Global};
 
 impl Layers {
     /// The base layers at the wanted indices.
-    pub fn wanted_bases<'a>(
+    pub(crate) fn wanted_bases<'a>(
         &'a self,
         alloc: Global,
         wanted: &[bool; MAX_LAYERS],
@@ -35,7 +35,7 @@ impl Layers {
 
     /// The layers at the wanted indices, each with its name and, where it is derived, its expression, and how many they
     /// are. The places behind them hold a name that is handed in. It takes no memory.
-    pub fn wanted_layers<'a>(
+    pub(crate) fn wanted_layers<'a>(
         &'a self,
         blank: &'a Name,
         wanted: &[bool; MAX_LAYERS],

@@ -16,7 +16,7 @@ pub mod writing;
 
 pub use expr::{Expr, Node, Operation};
 pub use fault::ExprFault;
-pub use name::{NAME_MAX, Name, is_well_formed};
+pub use name::{NAME_MAX, Name};
 pub use reading::read_expr;
 pub use step_list::StepList;
 pub use steps::MAX_LAYERS;

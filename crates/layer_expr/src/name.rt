@@ -72,7 +72,7 @@ fn placed(bytes: &[u8]) -> [u8; NAME_MAX]
 }
 
 /// Whether the bytes are those of a name.
-pub fn is_well_formed(bytes: &[u8]) -> bool
+pub(crate) fn is_well_formed(bytes: &[u8]) -> bool
     ensures value { result ≡ is_name bytes.now }
     ensures short { IsTrue result → length bytes.now ≤ 32 }
 {

@@ -19,7 +19,7 @@ use Rattle.store_flushing.proofs.Storage.{OnlyNow, begun, store_leaves, then}
 use Rattle.store_flushing.specs.declared.closing.Closed.{Closed}
 use Rattle.overlay_server.specs.Moments.{HasOnlyNow}
 use Rattle.overlay_server.specs.Keeping.{AreFlushed, IsFlushed, IsStoreKept}
-use Rattle.overlay_server.specs.Serving.{AreLeft, AreStopped, IsLeftBy, IsStoppedBy, first_log}
+use Rattle.overlay_server.specs.Serving.{IsLeftOfStore, AreStopped, IsLeftBy, IsStoppedBy, first_log}
 use Rattle.overlay_server.specs.declared.storing.Store.{Store}
 
 -- no commit is under way
@@ -80,7 +80,7 @@ module _ {D : Type 0} (g : Ghosts D) where
         → IfSome closed.disk (λ (d : D). Leaves g d (IsFileExactlyIn (history_of closed.seen_log.log) closed.stored)))
 
   pub left_by : (start : Version) (was now : Heard) (old new : Option (Flusher D)) (closed : Closed D) → was.log ≡ first_log start
-      → AreFlushed g was old now new → Closes now new closed → AreLeft g start old closed
+      → AreFlushed g was old now new → Closes now new closed → IsLeftOfStore g start old closed
   left_by start was now None None closed first flushed closes = closes.none
   left_by start was now None (Some l) closed first flushed closes = absurd flushed
   left_by start was now (Some f) None closed first flushed closes = absurd flushed

@@ -6,17 +6,17 @@ use Rattle.overlay_server.specs.declared.running.Rooms.{Rooms}
 use Rattle.overlay_server.specs.declared.seating.Parts.{Parts}
 
 -- a list is empty, and has room for so many
-pub record HasRoom {X Z : Type 0} (list : Vec X Z) (count : ℕ) : Type 0 where
+pub record IsReserved {X Z : Type 0} (list : Vec X Z) (count : ℕ) : Type 0 where
   pub empty : list.items ≡ []
   pub none : vec_len list ≡ 0
   pub room : count ≤ vec_capacity list
 
 -- for the threads of so many sessions, and for what they leave
 pub record HasRooms {J R : Type 0} (rooms : Rooms J R) (count : ℕ) : Type 0 where
-  pub running : HasRoom rooms.running count
-  pub ended : HasRoom rooms.ended count
+  pub running : IsReserved rooms.running count
+  pub ended : IsReserved rooms.ended count
 
 -- for so many sessions and outcomes
 pub record HasParts (parts : Parts) (count : ℕ) : Type 0 where
-  pub sessions : HasRoom parts.sessions count
-  pub outcomes : HasRoom parts.outcomes count
+  pub sessions : IsReserved parts.sessions count
+  pub outcomes : IsReserved parts.outcomes count

@@ -86,9 +86,9 @@ module _ {D : Type 0} (g : Ghosts D) where
     pub left : IsStoreOf g (history_of (first_log start)) old → IsLeftBy closed.seen_log.log old last
 
   -- the same where there was one
-  abbrev pub AreLeft : Version → Option (Flusher D) → Closed D → Type 0
-  AreLeft start None closed = (closed.stored ≡ 0) × (closed.disk ≡ None)
-  AreLeft start (Some old) closed = IsLeft start old closed
+  abbrev pub IsLeftOfStore : Version → Option (Flusher D) → Closed D → Type 0
+  IsLeftOfStore start None closed = (closed.stored ≡ 0) × (closed.disk ≡ None)
+  IsLeftOfStore start (Some old) closed = IsLeft start old closed
 
   -- a server that could not run left a store: a crash at any moment left a file that stands for a version of a log that
   -- begins with the first version
@@ -99,7 +99,7 @@ module _ {D : Type 0} (g : Ghosts D) where
     pub moments : LeavesOnly g old.commit.disk disk (IsFileIn (history_of log) old.commit.root.version)
 
   -- the disk comes back
-  pub record IsStopped (start : Version) (old : Flusher D) (back : Option D) : Type 0 where
+  pub record ComesBack (start : Version) (old : Flusher D) (back : Option D) : Type 0 where
     pub disk : D
     pub there : back ≡ Some disk
     pub stopped : IsStoreOf g (history_of (first_log start)) old → IsStoppedBy start old disk
@@ -107,7 +107,7 @@ module _ {D : Type 0} (g : Ghosts D) where
   -- the same where there was one
   abbrev pub AreStopped : Version → Option (Flusher D) → Option D → Type 0
   AreStopped start None back = back ≡ None
-  AreStopped start (Some old) back = IsStopped start old back
+  AreStopped start (Some old) back = ComesBack start old back
 
 -- ---- the server
 
@@ -117,7 +117,7 @@ pub record IsServedFrom {R D : Type 0} (remaining : R → Option (List ℕ)) (g 
   pub log : IsLog served.closed.seen_log.log
   pub begins : (history_of served.closed.seen_log.log).start ≡ start
   pub sessions : AreServed (is_some store) remaining start served.closed.seen_log.log readers served.sessions.items
-  pub kept : AreLeft g start store served.closed
+  pub kept : IsLeftOfStore g start store served.closed
 
 -- a server could not run: for want of memory or of a thread, or of places in the book; the disk comes back
 pub record IsRefusedFrom {D : Type 0} (g : Ghosts D) (start : Version) (store : Option (Flusher D)) (fault : ServerFault D) : Type 0 where

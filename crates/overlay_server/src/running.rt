@@ -1,7 +1,7 @@
 //! Sessions in threads of their own, one for each reader.
 ghost use Rattle.std.specs.Prelude.{◌≡◌, All, length, IfSome};
 ghost use Rattle.std.specs.List.{AllZip};
-ghost use Rattle.overlay_server.specs.Rooms.{HasRoom, HasRooms};
+ghost use Rattle.overlay_server.specs.Rooms.{IsReserved, HasRooms};
 ghost use Rattle.overlay_server.specs.Running.{IsRunOf};
 ghost use Rattle.version_book.specs.Store.{has_store};
 
@@ -96,7 +96,7 @@ where
     Q: Threads + Wait + Sync,
     R: Read + Send + Drop + 's,
     requires scripts { All (λ script. script.session.book ≡ J.book) scripts.items }
-    requires room { HasRoom list (length scripts.items) }
+    requires room { IsReserved list (length scripts.items) }
     ensures begun { IfSome result (λ list. AllZip (λ script h. (h.promise.begun.value ≡ script) × (h.promise.stored ≡ has_store shared.now)) scripts.items list.items) }
 {
     for script in scripts {
@@ -143,7 +143,7 @@ fn join_sessions<J: Naming, Q: Threads, R: Read + Drop>(
     running: Vec<Running<J, R>>,
     mut list: Vec<Ended<R>>,
 ) -> Vec<Ended<R>>
-    requires { HasRoom list (length running.items) }
+    requires { IsReserved list (length running.items) }
     ensures { AllZip (λ h ended. IsRunOf J.book h.promise.stored R.remaining h.promise.begun.value ended) running.items result.items }
 {
     for handle in running {

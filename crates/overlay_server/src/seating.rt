@@ -1,6 +1,6 @@
 //! Which session runs which reader's script, and what the sessions leave.
 ghost use Rattle.std.specs.Prelude.{◌≡◌, length, map, IfSome};
-ghost use Rattle.overlay_server.specs.Rooms.{HasParts, HasRoom, HasRooms};
+ghost use Rattle.overlay_server.specs.Rooms.{HasParts, IsReserved, HasRooms};
 ghost use Rattle.overlay_server.specs.Seats.{ended_session, outcome_of, reader_of, session_of};
 
 use crate::outcome::Outcome;
@@ -69,7 +69,7 @@ fn room_for_parts(alloc: Global, count: usize) -> Option<Parts>
 
 /// An empty list with room for so many.
 fn room<T>(alloc: Global, count: usize) -> Option<Vec<T>>
-    ensures { IfSome result (λ list. HasRoom list count) }
+    ensures { IfSome result (λ list. IsReserved list count) }
 {
     Vec::with_capacity(alloc, count).ok()
 }

@@ -38,12 +38,6 @@ impl Ring {
         &self.points
     }
 
-    pub fn into_points(self) -> Vec<Pt>
-        ensures { result.items ≡ self }
-    {
-        self.points
-    }
-
     /// What is wrong with the ring, which has this index among its layer's rings.
     fn fault(&self, at: usize) -> Option<PlaneFault>
         ensures { result ≡ ring_fault at self.now }
@@ -67,8 +61,9 @@ fn add_segments(segs: &mut Vec<Seg>, ring: &[Pt]) -> Result<(), AllocError>
 {
     for i in 1..ring.len() {
         let (from, to) = (ring[i - 1], ring[i]);
-        from.known();
-        to.known();
+        // Both points are in range by their type: the clauses rest on that.
+        let _ = from.known();
+        let _ = to.known();
         if let Some(seg) = Seg::of(from, to) {
             segs.push(seg)?;
         }

@@ -8,7 +8,7 @@ use std::alloc::{AllocError, Global};
 use std::marker::Model;
 
 /// How many segments a block has; the last one may have fewer.
-pub const SEGMENTS_PER_BLOCK: usize = 32;
+pub(crate) const SEGMENTS_PER_BLOCK: usize = 32;
 
 /// A list of segments. Beside it stand the same segments by the x of their left ends, in blocks of 32 with their
 /// ranges of x and y.

@@ -24,7 +24,7 @@ impl Bounds {
     };
 
     /// The least ranges that hold some segments.
-    pub fn around(segs: &[Seg]) -> Bounds
+    pub(crate) fn around(segs: &[Seg]) -> Bounds
         ensures { AllByRecursion (Holds result) segs.now }
     {
         let mut bounds = Bounds::NOTHING;

@@ -12,6 +12,7 @@ pub fn write_definition(alloc: Global, expression: &Expr) -> Result<Vec<u8>, All
     ensures spelled { IfOk result (λ v. v.items ≡ expression_text expression.now) }
     ensures reads_back { IfOk result (λ v. definition_of_record v.items ≡ Some expression.now) }
 {
-    expression.root();
+    // Its names are names by their type: the clauses rest on that.
+    let _ = expression.root();
     write_expr(alloc, expression)
 }

@@ -12,7 +12,7 @@ use store_terms::damage::Damage;
 use thiserror::Error;
 
 /// Why some bytes of a record are not read.
-#[derive(Clone, Copy)]
+#[derive(Clone, Copy, Debug)]
 pub enum ReadFault {
     Memory,
     /// The bytes have not the form.

@@ -25,7 +25,8 @@ pub(crate) fn name_in(alloc: Global, bytes: &[u8]) -> Result<Name, RecordFault>
 {
     match Name::new(alloc, bytes) {
         Ok(name) => {
-            name.bytes();
+            // It is a name by its type: the clauses rest on that.
+            let _ = name.bytes();
             Ok(name)
         }
         Err(ExprFault::OutOfMemory) => Err(RecordFault::OutOfMemory),

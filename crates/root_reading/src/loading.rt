@@ -29,7 +29,7 @@ use store_terms::root::RecordExtent;
 use tile_build::stored_tile::StoredTile;
 
 /// What is read so far: layers, and the finished tiles of them.
-#[derive(Drop)]
+#[derive(Debug, Drop)]
 pub struct RootContent {
     pub layers: Layers,
     pub tiles: Vec<StoredTile>,

@@ -12,7 +12,7 @@ use Rattle.script_form.specs.declared.gathering.LinesFault.{LinesFault}
 use Rattle.script_form.specs.declared.gathering.LinesFault.TheVariants.{Unread, OutOfMemory}
 use Rattle.script_form.specs.declared.line_turn.LineTurn.TheVariants.{Whole}
 use Rattle.script_form.specs.Fault.{code_of}
-use Rattle.script_form.specs.Gathering.{AreUnread, AreRead, AreReadSoFar, IsGathering, IsOpen, IsTaken, unread}
+use Rattle.script_form.specs.Gathering.{AreUnread, AreRead, AreReadSoFar, IsGathering, IsOpen, IsLineGathered, unread}
 use Rattle.script_form.specs.Reading.{IsMemory, IsPutRefused}
 use Rattle.script_form.specs.Turns.{Waiting, asked_size, of_size, is_nothing, is_whole, with_line}
 use Rattle.script_form.specs.BatchLines.{IsCommandOf, IsNoCommand, AreCommandsOf, IsFirstUnread}
@@ -121,7 +121,7 @@ module _ (waiting : Waiting) (asked : Request) (gathering : Gathering) (is : IsG
 
 -- the last line of a batch
 pub taken_whole : (waiting : Option Waiting) (old : Gathering) (asked : Request) (read : Result Batch LinesFault) → is_nothing asked ≡ false → IsOpen waiting (Some old)
-    → ((w : Waiting) → IsGathering w old → (is_whole (with_line w asked) ≡ true) × AreRead (w.came ++ asked ∷ []) read) → IsTaken waiting asked None (Whole read)
+    → ((w : Waiting) → IsGathering w old → (is_whole (with_line w asked) ≡ true) × AreRead (w.came ++ asked ∷ []) read) → IsLineGathered waiting asked None (Whole read)
 taken_whole None old asked read some there joined = absurd there
 taken_whole (Some waiting) old asked read some there joined =
     let all = joined waiting there in

@@ -4,12 +4,12 @@ use Rattle.overlay_terms.specs.Commands.{Command}
 use Rattle.overlay_terms.specs.Batches.{Batch}
 use Rattle.script_form.specs.declared.fault.CommandFault.{CommandFault}
 use Rattle.script_form.specs.declared.fault.CommandFault.TheVariants.{CommandSyntax, LineTooLong}
-use Rattle.script_form.specs.Reading.{IsNoName, IsPut, IsPutRefused, IsDefine, IsDefineRefused, IsRemove}
+use Rattle.script_form.specs.Reading.{IsNoName, SpellsPut, IsPutRefused, IsDefine, IsDefineRefused, IsRemove}
 use Rattle.script_form.specs.Requests.{Request, too_long, put_text, define_text, remove_name}
 
 -- what a line of a batch asks for is a command
 abbrev pub IsCommandOf : Request → Command → Type 0
-IsCommandOf (put_text name text) command = IsPut name text command
+IsCommandOf (put_text name text) command = SpellsPut name text command
 IsCommandOf (define_text name text) command = IsDefine name text command
 IsCommandOf (remove_name name) command = IsRemove name command
 IsCommandOf other command = ⊥

@@ -50,12 +50,12 @@ IsEnded turns (Alone asked) = turns ≡ alone (request asked) ∷ []
 IsEnded turns (Whole read) = (requests : List Request) × (turns ≡ together requests ∷ []) × AreRead requests read
 
 -- a line is taken: which batch waits then, and which turn ended
-pub record IsTaken (waiting : Option Waiting) (asked : Request) (new : Option Gathering) (turn : LineTurn) : Type 0 where
+pub record IsLineGathered (waiting : Option Waiting) (asked : Request) (new : Option Gathering) (turn : LineTurn) : Type 0 where
   pub open_then : IsOpen (waiting_after waiting asked) new
   pub ended : IsEnded (ended_by waiting asked) turn
 
 abbrev pub TakesLine : Option Gathering → Request → Option Gathering → LineTurn → Type 0
-TakesLine old asked new turn = (waiting : Option Waiting) → IsOpen waiting old → IsTaken waiting asked new turn
+TakesLine old asked new turn = (waiting : Option Waiting) → IsOpen waiting old → IsLineGathered waiting asked new turn
 
 -- what a line of a batch makes of it: the batch with this line waits for more, or all of its lines came
 abbrev pub IsJoined : Waiting → Joined → Type 0

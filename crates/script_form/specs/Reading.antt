@@ -23,7 +23,7 @@ abbrev pub IsNoName : List ℕ → CommandFault → Type 0
 IsNoName name fault = (is_name name ≡ false) × (fault ≡ Expression BadName)
 
 -- a name and the text of rings are a PUT; they are refused by the name, then by the text
-pub record IsPut (name text : List ℕ) (command : Command) : Type 0 where
+pub record SpellsPut (name text : List ℕ) (command : Command) : Type 0 where
   pub named : IsTrue (is_name name)
   pub rings : List (List WholePoint)
   pub read : wkt.ReadsAs text rings

@@ -2,7 +2,7 @@
 #![tactic(auto)]
 
 pub mod fault;
-pub mod fault_text;
+mod fault_text;
 pub mod gathering;
 mod joining;
 pub mod laws;

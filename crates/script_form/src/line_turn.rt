@@ -1,6 +1,6 @@
 //! What lines make of the batch that waits for them, and the turns that they end.
 ghost use Rattle.std.specs.Prelude.{◌≡◌, Some, None};
-ghost use Rattle.script_form.specs.Gathering.{IsTaken, TakesLine};
+ghost use Rattle.script_form.specs.Gathering.{IsLineGathered, TakesLine};
 ghost use Rattle.script_form.specs.Requests.{request, request_of};
 ghost use Rattle.script_form.specs.Turns.{is_nothing};
 
@@ -37,7 +37,7 @@ pub fn take_line<'a>(alloc: Global, waiting: &mut Option<Gathering>, line: &'a [
 
 /// A line where no batch waits: it begins one, or has its own turn.
 fn begin<'a>(alloc: Global, asked: Request<'a>) -> (Option<Gathering>, LineTurn<'a>)
-    ensures { IsTaken None (request asked.entry) result.0 result.1 }
+    ensures { IsLineGathered None (request asked.entry) result.0 result.1 }
 {
     let Request::Batch(size) = asked else {
         return (None, LineTurn::Alone(asked));

@@ -2,7 +2,7 @@
 ghost use Rattle.std.specs.Prelude.{◌≡◌, ◌⊎◌, IfOk, IfErr, IsTrue};
 ghost use Rattle.layer_expr.specs.Name.{is_name};
 ghost use Rattle.layer_book.specs.Command.{command};
-ghost use Rattle.script_form.specs.Reading.{IsMemory, IsNoName, IsPut, IsPutRefused, IsDefine, IsDefineRefused, IsRemove};
+ghost use Rattle.script_form.specs.Reading.{IsMemory, IsNoName, SpellsPut, IsPutRefused, IsDefine, IsDefineRefused, IsRemove};
 
 use crate::fault::CommandFault;
 use layer_book::command::Command;
@@ -22,7 +22,7 @@ pub fn read_name(alloc: Global, bytes: &[u8]) -> Result<Name, CommandFault>
 
 /// The PUT of a name and the text of rings. The name is looked at before the text.
 pub fn read_put(alloc: Global, name: &[u8], text: &[u8]) -> Result<Command, CommandFault>
-    ensures ok { IfOk result (λ change. IsPut name.now text.now (command change)) }
+    ensures ok { IfOk result (λ change. SpellsPut name.now text.now (command change)) }
     ensures refused { IfErr result (λ fault. IsMemory name.now fault ⊎ IsPutRefused name.now text.now fault) }
 {
     let name = read_name(alloc, name)?;

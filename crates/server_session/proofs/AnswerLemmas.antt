@@ -25,7 +25,7 @@ use Rattle.version_core.specs.declared.fault.VersionFault.TheVariants.{Layer}
 use Rattle.overlay_grid.specs.Grid.{Grid, IsGridSize, grid_with, grid_refusal, grid_text}
 use Rattle.overlay_grid.specs.declared.fault.GridFault.{GridFault}
 use Rattle.overlay_grid.specs.declared.fault.GridFault.TheVariants as picture
-use Rattle.book_history.specs.Fault.{IfGone, IfBatchGone, IsBatchRefused, IsRefused as IsRefusedBy}
+use Rattle.book_history.specs.Fault.{IfGone, IfBatchGone, IsBatchRefused, IsCommandRefused}
 use Rattle.book_history.specs.Known.{Known, seen, IsOwn}
 use Rattle.book_history.specs.Logs.{IsAccepted}
 use Rattle.book_history.specs.declared.fault.BookFault.{BookFault}
@@ -33,7 +33,7 @@ use Rattle.book_history.specs.declared.fault.BookFault.TheVariants as book
 use Rattle.script_form.specs.declared.fault.CommandFault.{CommandFault}
 use Rattle.script_form.specs.declared.fault.CommandFault.TheVariants.{Expression, Query, Version, OutOfMemory, Closing, Gone, GridSize}
 use Rattle.script_form.specs.Fault.{of_grid}
-use Rattle.script_form.specs.Reading.{IsMemory, IsNoName, IsPut, IsPutRefused, IsDefine, IsDefineRefused, IsRemove}
+use Rattle.script_form.specs.Reading.{IsMemory, IsNoName, SpellsPut, IsPutRefused, IsDefine, IsDefineRefused, IsRemove}
 use Rattle.script_form.specs.Replies.{ok_line, error_line, refused_line, location_line}
 use Rattle.script_form.specs.Requests.{Request, request, put_text, define_text, remove_name, locate, grid, list_layers, request_of}
 use Rattle.script_form.specs.Transcript.{IsRefused, IsRefusedBatch, IsSubmitted, IsSubmittedAll, IsAnswered, IsOutOfMemory, IsTold, Drawn, WithName}
@@ -112,7 +112,7 @@ made_none book.Gone was now gone = ap (λ (k : Known). k.made) gone
 made_none book.NoStore was now other = other.0
 made_none (book.Store refused) was now other = other.0
 
-submit_refused : (was now : Known) (command : Command) (fault : BookFault) → IsRefusedBy true (newest (seen now)) command fault
+submit_refused : (was now : Known) (command : Command) (fault : BookFault) → IsCommandRefused true (newest (seen now)) command fault
     → IsRefused OutOfMemory [] (error_line (fault_told fault)) ⊎ IsSubmitted was.session (seen was) command (seen now) [] (error_line (fault_told fault))
 submit_refused was now command (book.Version wrong) (inl memory) = inl (record { nothing_made = refl; told = ap (λ w. error_line (Version w)) memory.0 })
 submit_refused was now command (book.Version wrong) (inr by) =
@@ -124,7 +124,7 @@ submit_refused was now command book.NoStore refused = absurd refused
 submit_refused was now command (book.Store fault) refused = absurd refused
 
 pub submits_refused : (was now : Known) (command : Command) (fault : BookFault) → BeginsWith (seen now) (seen was) → (now.book ≡ was.book) × (now.session ≡ was.session)
-    → IfGone fault (now ≡ was) ((now.made ≡ was.made) × IsOwn now) → IsRefusedBy true (newest (seen now)) command fault
+    → IfGone fault (now ≡ was) ((now.made ≡ was.made) × IsOwn now) → IsCommandRefused true (newest (seen now)) command fault
     → (told : CommandFault) → told ≡ fault_told fault → Submits was command now (error_line told)
 submits_refused was now command fault on same unchanged refused told is =
     let stays : Stays was now = record { book = same.0; session = same.1; goes_on = on } in
@@ -231,7 +231,7 @@ answers_unread me fault reply is =
 -- ==== PUT, DEFINE, DROP
 
 pub answers_put : (stored : Bool) (was now : Known) (name text : List ℕ) (command : Command) (reply : List ℕ)
-    → IsPut name text command → Submits was command now reply → Answers stored was (put_text name text) now reply
+    → SpellsPut name text command → Submits was command now reply → Answers stored was (put_text name text) now reply
 answers_put stored was now name text command reply is s = record {
   stays = s.stays;
   answered = record {

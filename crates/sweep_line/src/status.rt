@@ -82,7 +82,7 @@ impl Status {
 
     /// How many pieces, from the lowest on, a piece of the segment that begins at the point has
     /// under it: those that pass under the point, or through it and turn less to the left.
-    pub fn place_of(&self, at: &HPoint, support: &Seg) -> usize
+    pub(crate) fn place_of(&self, at: &HPoint, support: &Seg) -> usize
         ensures bound { result ≤ length self.now }
         ensures partitioned { IsPartitionedBy (is_passed (place at.now) support.now) self.now
             → IsPartitionPoint (λ e. is_passed (place at.now) support.now e ≡ true) (λ e. is_passed (place at.now) support.now e ≡ false) self.now result }

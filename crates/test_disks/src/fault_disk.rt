@@ -9,7 +9,7 @@ use disk_model::disk::Disk;
 pub type FaultDisk<D> = PlannedDisk<D, FaultPlan>;
 
 /// How many calls come before the one that fails; none where it is over.
-#[derive(Drop)]
+#[derive(Debug, Drop)]
 pub struct FaultPlan {
     before: Option<u64>,
 }

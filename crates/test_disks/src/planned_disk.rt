@@ -7,7 +7,7 @@ use disk_model::disk::Disk;
 use disk_model::fault::DiskFault;
 
 /// A disk that passes the calls of a plan on to another, of any kind. All others fail and reach nothing.
-#[derive(Drop)]
+#[derive(Debug, Drop)]
 pub struct PlannedDisk<D: Disk, P: Plan> {
     disk: D,
     plan: P,

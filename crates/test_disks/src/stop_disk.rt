@@ -9,7 +9,7 @@ use disk_model::disk::Disk;
 pub type StopDisk<D> = PlannedDisk<D, StopPlan>;
 
 /// How many calls are passed on: none after them.
-#[derive(Drop)]
+#[derive(Debug, Drop)]
 pub struct StopPlan {
     left: u64,
 }

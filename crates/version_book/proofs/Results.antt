@@ -8,7 +8,7 @@ use Rattle.overlay_terms.specs.Layers.{Name}
 use Rattle.overlay_terms.specs.Histories.{Version, Entry, accepted, commands_of, newest, BeginsWith, IsHistory}
 use Rattle.book_history.specs.Logs.{entry, newest_in, history_of, IsAccepted, IsLog}
 use Rattle.layer_book.specs.declared.batch_fault.BatchFault.{BatchFault}
-use Rattle.book_history.specs.Fault.{IfBatchGone, IfGone, IsBatchRefused, IsRefused}
+use Rattle.book_history.specs.Fault.{IfBatchGone, IfGone, IsBatchRefused, IsCommandRefused}
 use Rattle.book_history.specs.Known.{Known, seen, IsOwn}
 use Rattle.book_lock.specs.Steps.{HasLooked, IsReportedIn}
 use Rattle.version_book.specs.Heard.{Heard, HasHeard, IsReportedBy}
@@ -95,7 +95,7 @@ module _ (was now : Known) (log : List Entry) where
   looks_refused (Err f) Q gone h q = at_fault f was now log Q gone q h
 
 -- a book that may close refuses no less
-pub refused_more : (f : BookFault) (closing : Bool) (v : Version) (c : Command) → IsRefused closing v c f → IsRefused true v c f
+pub refused_more : (f : BookFault) (closing : Bool) (v : Version) (c : Command) → IsCommandRefused closing v c f → IsCommandRefused true v c f
 refused_more (fault.Version r) closing v c q = q
 refused_more fault.Closing closing v c q = refl
 refused_more fault.Gone closing v c q = q
@@ -161,10 +161,10 @@ module _ (was now : Known) (old new : List Entry) where
   submit_err (Err f) A B d = gone_map f (λ s. s) (λ h. (ap (λ k. k.made) h.knows, looked_own was now old h)) d.2
 
   pub submit_refused : (r : Result ℕ BookFault) (A B : BookFault → Type 0) (closing : Bool) (c : Command)
-      → IfErr r (λ f. A f × B f × IfGone f (now ≡ was) (HasLooked was old now)) → IfErr r (λ f. IsRefused closing (newest_in old) c f)
-      → IfErr r (λ f. IsRefused true (newest (seen now)) c f)
+      → IfErr r (λ f. A f × B f × IfGone f (now ≡ was) (HasLooked was old now)) → IfErr r (λ f. IsCommandRefused closing (newest_in old) c f)
+      → IfErr r (λ f. IsCommandRefused true (newest (seen now)) c f)
   submit_refused (Ok n) A B closing c d q = tt
-  submit_refused (Err f) A B closing c d q = at_fault f was now old (λ v g. IsRefused true v c g) (λ v. tt) (refused_more f closing (newest_in old) c q) d.2
+  submit_refused (Err f) A B closing c d q = at_fault f was now old (λ v g. IsCommandRefused true v c g) (λ v. tt) (refused_more f closing (newest_in old) c q) d.2
 
   pub batch_err : (r : Result ℕ BatchFault) (A B : BatchFault → Type 0) → IfErr r (λ f. A f × B f × IfBatchGone f (now ≡ was) (HasLooked was old now))
       → IfErr r (λ f. IfBatchGone f (now ≡ was) ((now.made ≡ was.made) × IsOwn now))

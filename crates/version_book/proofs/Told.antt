@@ -7,7 +7,7 @@ use Rattle.overlay_terms.specs.Commands.{Command}
 use Rattle.overlay_terms.specs.Histories.{Version, Entry}
 use Rattle.overlay_terms.specs.Layers.{Name}
 use Rattle.overlay_terms.specs.Tiles.{Input, input_of}
-use Rattle.book_history.specs.Fault.{IfGone, IsRefused}
+use Rattle.book_history.specs.Fault.{IfGone, IsCommandRefused}
 use Rattle.version_book.specs.Free.{IsFree}
 use Rattle.book_history.specs.Known.{Known}
 use Rattle.book_history.specs.Logs.{newest_in, IsLog}
@@ -68,7 +68,7 @@ gone_told (Err f) x v old name is gone = subst (λ y. IsAfterTold v old name (Er
 
 -- ---- of a command
 -- what refuses it in a book that is open refuses it in one that may close
-pub open_refused : (f : BookFault) (closing : Bool) (v : Version) (c : Command) → IsRefused false v c f → IsRefused closing v c f
+pub open_refused : (f : BookFault) (closing : Bool) (v : Version) (c : Command) → IsCommandRefused false v c f → IsCommandRefused closing v c f
 open_refused (fault.Version x) closing v c q = q
 open_refused fault.Closing closing v c q = absurd (true≢false (sym q))
 open_refused fault.Gone closing v c q = q
@@ -88,9 +88,9 @@ away_looks was now log f (inl h) = subst (λ f. IfGone f (now ≡ was) (HasLooke
 away_looks was now log f (inr h) = subst (λ f. IfGone f (now ≡ was) (HasLooked was log now)) (sym h.0) h.1
 
 pub away_refused : (was now : Known) (log : List Entry) (f : BookFault) (closing : Bool) (v : Version) (c : Command)
-    → IsTurnedAway was now log f → IsTrue closing → IsRefused closing v c f
-away_refused was now log f closing v c (inl h) is = subst (λ f. IsRefused closing v c f) (sym h.0) is
-away_refused was now log f closing v c (inr h) is = subst (λ f. IsRefused closing v c f) (sym h.0) tt
+    → IsTurnedAway was now log f → IsTrue closing → IsCommandRefused closing v c f
+away_refused was now log f closing v c (inl h) is = subst (λ f. IsCommandRefused closing v c f) (sym h.0) is
+away_refused was now log f closing v c (inr h) is = subst (λ f. IsCommandRefused closing v c f) (sym h.0) tt
 
 -- ---- of what is passed up
 abbrev refused_by : BookFault → Result ℕ BookFault

@@ -3,7 +3,7 @@ ghost use Rattle.std.specs.Prelude.{◌≡◌, ◌⊎◌, [], ◌∷◌, ◌++�
 ghost use mathlib.Core.List.{IsPrefix};
 ghost use Rattle.overlay_terms.specs.Histories.{commands_of};
 ghost use Rattle.layer_book.specs.Command.{command};
-ghost use Rattle.book_history.specs.Fault.{IfBatchGone, IfGone, IsBatchRefused, IsRefused, no_memory, whole};
+ghost use Rattle.book_history.specs.Fault.{IfBatchGone, IfGone, IsBatchRefused, IsCommandRefused, no_memory, whole};
 ghost use Rattle.book_history.specs.Logs.{newest_in, IsLog};
 ghost use Rattle.version_book.specs.Standing.{IsAfterCommand, IsAfterFinish};
 ghost use Rattle.book_lock.specs.Steps.{HasLooked, IsAcceptedIn, IsFinishedIn};
@@ -56,7 +56,7 @@ impl<J: Naming, R: Wait + Drop> LockedBook<J, R> {
         ensures err { IfErr result (λ fault. (self.new.log ≡ self.old.log) × (self.new.standing ≡ self.old.standing)
             × IfGone fault (me.new ≡ me.old) (HasLooked me.old self.old.log me.new)) }
         ensures refused { IfErr result
-            (λ fault. IsRefused self.old.standing.closing (newest_in self.old.log) (command change.now) fault) }
+            (λ fault. IsCommandRefused self.old.standing.closing (newest_in self.old.log) (command change.now) fault) }
         ensures closing { IsTrue self.old.standing.closing
             → (result ≡ Err BookFault.Closing) ⊎ (result ≡ Err BookFault.Gone) }
     {

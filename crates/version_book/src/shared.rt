@@ -4,7 +4,7 @@ ghost use Rattle.std.specs.Prelude.{length, true, false, Err, IsErrAnd};
 ghost use Rattle.std.specs.Arc.{arc_value};
 ghost use Rattle.overlay_terms.specs.Histories.{newest, BeginsWith, IsHistory};
 ghost use Rattle.layer_book.specs.Command.{command};
-ghost use Rattle.book_history.specs.Fault.{IfBatchGone, IfGone, IsBatchRefused, IsRefused, no_memory};
+ghost use Rattle.book_history.specs.Fault.{IfBatchGone, IfGone, IsBatchRefused, IsCommandRefused, no_memory};
 ghost use Rattle.book_history.specs.Known.{seen, IsOwn};
 ghost use Rattle.book_history.specs.Logs.{entry, history_of, newest_in, no_event, IsAccepted, IsLog};
 ghost use Rattle.book_history.specs.Rules.{head_of};
@@ -97,7 +97,7 @@ impl<J: Naming, R: Wait + Drop> Shared<J, R> {
         ensures own { IfOk result (λ _. IsOwn me.new) }
         ensures err { IfErr result (λ fault. IfGone fault (me.new ≡ me.old) ((me.new.made ≡ me.old.made)
             × IsOwn me.new)) }
-        ensures refused { IfErr result (λ fault. IsRefused true (newest (seen me.new)) (command change.now) fault) }
+        ensures refused { IfErr result (λ fault. IsCommandRefused true (newest (seen me.new)) (command change.now) fault) }
         ensures same { (me.new.book ≡ me.old.book) × (me.new.session ≡ me.old.session) }
     {
         // It has seen some version: the clauses rest on that.

@@ -1,7 +1,7 @@
 use Rattle.std.proofs.Common.{rules, ◌≡◌, sym, subst, length}
 use Rattle.std.specs.List.{AllZip}
 use Rattle.version_book.specs.Store.{has_store}
-use Rattle.overlay_server.specs.Rooms.{HasRoom}
+use Rattle.overlay_server.specs.Rooms.{IsReserved}
 use Rattle.overlay_server.specs.Running.{IsRunOf}
 use Rattle.overlay_server.proofs.Lists.{beside_length, beside_through}
 use Rattle.overlay_server.proofs.running.run_sessions.Goals as goal
@@ -11,7 +11,7 @@ join_sessions-requires g c =
     let running = c.in_ok-running.running in
     let stored = has_store c.args.shared.now in
     let begun : AllZip (λ script h. (h.promise.begun.value ≡ script) × (h.promise.stored ≡ stored)) c.args.scripts.items running.items = search rules in
-    subst (λ n. HasRoom c.args.rooms.ended n)
+    subst (λ n. IsReserved c.args.rooms.ended n)
     (beside_length (λ script h. (h.promise.begun.value ≡ script) × (h.promise.stored ≡ stored)) c.args.scripts.items running.items begun) c.requires.rooms.ended
 
 pub returns : goal.returns

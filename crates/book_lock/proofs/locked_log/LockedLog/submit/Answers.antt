@@ -2,7 +2,7 @@ use Rattle.std.proofs.Common.{◌≡◌, ◌++◌, ◌∷◌, [], map, ap, sym, 
 use Rattle.std.specs.Arc.{arc_value}
 use Rattle.overlay_terms.specs.Histories.{commands_of, FollowsBatch}
 use Rattle.layer_book.specs.Command.{command}
-use Rattle.book_history.specs.Fault.{IfGone, IsRefused}
+use Rattle.book_history.specs.Fault.{IfGone, IsCommandRefused}
 use Rattle.book_history.specs.Logs.{newest_in, IsLog}
 use Rattle.std.proofs.lemmas.Result.{IfErr-weaker, IfOk-from_err, IfOk-weaker}
 use Rattle.book_history.proofs.Gone.{gone_map, passed}
@@ -28,7 +28,7 @@ returns-in_err-show-in-Err g c =
       err = passed _ _ _ failed.1
           (refl, subst (λ f. IfGone f (me ≡ was) (HasLooked was c.args.self.now me)) (sym gone.0) gone.1);
       refused = passed _ _ _ failed.1
-          (subst (λ f. IsRefused false (newest_in c.args.self.now) change f) (sym gone.0) tt);
+          (subst (λ f. IsCommandRefused false (newest_in c.args.self.now) change f) (sym gone.0) tt);
     }
 
 pub returns-in-Err : goal.returns-in-Err
@@ -41,7 +41,7 @@ returns-in-Err g c =
       made = tt;
       same = (ap (λ k. k.book) looked.knows, ap (λ k. k.session) looked.knows);
       err = (refl, gone_map c.in-Err.fault (λ none. absurd none) (λ _. looked) c.in-Err.ensures.there);
-      refused = subst (λ v. IsRefused false v (command c.args.change.now) c.in-Err.fault) old c.in-Err.ensures.err;
+      refused = subst (λ v. IsCommandRefused false v (command c.args.change.now) c.in-Err.fault) old c.in-Err.ensures.err;
     }
 
 pub accept-requires : goal.accept-requires
@@ -74,5 +74,5 @@ returns g c =
       made = subst (λ b. IfOk r (λ _. (now.made ≡ was.made ++ b ∷ []) × (commands_of was.session after ≡ now.made) × IsLog after)) one e.made;
       same = e.same;
       err = IfErr-weaker r _ _ (λ f gone. (gone.1, subst (λ x. IfGone x (now ≡ was) (HasLooked was log now)) (sym gone.0) gone.2)) e.err;
-      refused = IfErr-weaker r _ _ (λ f gone. subst (λ x. IsRefused false (newest_in log) change x) (sym gone.0) tt) e.err;
+      refused = IfErr-weaker r _ _ (λ f gone. subst (λ x. IsCommandRefused false (newest_in log) change x) (sym gone.0) tt) e.err;
     }

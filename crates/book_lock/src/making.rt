@@ -6,9 +6,9 @@ ghost use Rattle.overlay_terms.specs.Histories.{FollowsBatch, FollowsTile, IsRep
 ghost use Rattle.layer_book.specs.BatchFault.{RefusedAllBy};
 ghost use Rattle.layer_book.specs.Command.{command};
 ghost use Rattle.version_core.specs.Finish.{IsAwaited};
-ghost use Rattle.book_history.specs.Fault.{IfGone, IsRefused, no_memory};
+ghost use Rattle.book_history.specs.Fault.{IfGone, IsCommandRefused, no_memory};
 
-use crate::fault::BookFault;
+use book_history::fault::BookFault;
 use layer_book::batch::Batch;
 use layer_book::batch_fault::BatchFault;
 use layer_book::command::Command;
@@ -25,7 +25,7 @@ use version_core::version::Version;
 pub const NO_MEMORY: BookFault = BookFault::Version(VersionFault::Layer(LayerFault::OutOfMemory));
 
 /// A version for as many as ask for it.
-pub fn shared(alloc: Global, version: Version) -> Result<Arc<Version, Global>, BookFault>
+pub(crate) fn shared(alloc: Global, version: Version) -> Result<Arc<Version, Global>, BookFault>
     ensures ok { IfOk result (λ v. arc_value v ≡ version) }
     ensures err { IfErr result (λ fault. fault ≡ no_memory) }
 {
@@ -36,14 +36,14 @@ pub fn shared(alloc: Global, version: Version) -> Result<Arc<Version, Global>, B
 }
 
 /// The version after a command, which is a batch of one.
-#[tactic(auto, using(crate::proofs::Gone::no_reason))]
-pub fn next_version(
+#[tactic(auto, using(book_history::proofs::Gone::no_reason))]
+pub(crate) fn next_version(
     alloc: Global,
     now: &Version,
     change: &Command,
 ) -> Result<Arc<Version, Global>, BookFault>
     ensures ok { IfOk result (λ v. FollowsBatch now.now (command change.now ∷ []) (arc_value v)) }
-    ensures err { IfErr result (λ fault. IsRefused false now.now (command change.now) fault) }
+    ensures err { IfErr result (λ fault. IsCommandRefused false now.now (command change.now) fault) }
     ensures there { IfErr result (λ fault. IfGone fault ⊥ (Unit {0})) }
 {
     match now.submit(alloc, change) {
@@ -53,7 +53,7 @@ pub fn next_version(
 }
 
 /// The version after a batch.
-pub fn version_after(
+pub(crate) fn version_after(
     alloc: Global,
     now: &Version,
     batch: &Batch,
@@ -69,7 +69,7 @@ pub fn version_after(
 }
 
 /// The version with a built tile, where it is awaited.
-pub fn kept_version(
+pub(crate) fn kept_version(
     alloc: Global,
     now: &Version,
     name: &Name,
@@ -88,7 +88,7 @@ pub fn kept_version(
 }
 
 /// The version after a report of a number.
-pub fn reported_version(
+pub(crate) fn reported_version(
     alloc: Global,
     now: &Version,
     number: u64,
