@@ -28,7 +28,8 @@ fn places_in_order(alloc: Global, input: &TileInput) -> Result<Vec<NamedPlace>, 
     ensures known { IfOk result (λ places. AreKnownPlaces input.now (map known_entry places.items)) }
     ensures in_order { IfOk result (λ places. AllPairs (λ a b. named_cmp a b ≡ Less) places.items) }
 {
-    let mut places = Vec::new(alloc);
+    // Mostly two of each segment: it is cut by both borders, or ends within and is cut by one.
+    let mut places = Vec::with_capacity(alloc, 2 * input.marked().len())?;
     for m in input.marked() {
         offer_own(&mut places, &m.seg, input.column())?;
     }
