@@ -26,3 +26,4 @@ pub mod EndCounts
 pub mod EndStretches
 pub mod UnitsAlong
 pub mod RunLemmas
+pub mod LoneUnits

@@ -1,5 +1,6 @@
 pub mod Marked
 pub mod Units
+pub mod AddedUnits
 pub mod Arrangement
 pub mod NamedPlaces
 pub mod Masks

@@ -1,5 +1,5 @@
 //! Collinear segments, cut at each other's ends: sorted by their lines, and cut a line at a time.
-ghost use Rattle.std.specs.Prelude.{◌≡◌, ◌<◌, ◌≤◌, ℕ, All, IfOk, map, length, get_or};
+ghost use Rattle.std.specs.Prelude.{◌≡◌, ◌<◌, ◌≤◌, ℕ, [], ◌∷◌, All, IfOk, OnOk, map, length, get_or};
 ghost use Rattle.std.specs.List.Sorted.{IsPermutation, IsSorted};
 ghost use Rattle.std.specs.declared.cmp.Ordering.TheVariants.{Equal};
 ghost use Rattle.arrange.specs.declared.line_seg.LineSeg.{LineSeg};
@@ -7,6 +7,7 @@ ghost use Rattle.overlay_terms.specs.Layers.{layers_max};
 ghost use Rattle.arrange.specs.Marked.{AllProper, marked_of};
 ghost use Rattle.arrange.specs.LineEnds.{AreInOrder, AreOnOneLine, both_ends};
 ghost use Rattle.arrange.specs.Lines.{line_cmp, line_marked};
+ghost use Rattle.arrange.specs.AddedUnits.{HasAddedUnits};
 ghost use Rattle.arrange.specs.Units.{AreUnits};
 
 use crate::line_end::LineEnd;
@@ -22,12 +23,11 @@ pub fn units(alloc: Global, input: &TileInput) -> Result<Vec<Unit>, AllocError>
     ensures { IfOk result (λ list. AreUnits input.now.marked list.items) }
 {
     let lines = by_line(alloc, input.marked())?;
-    let mut list = Vec::new(alloc);
+    let mut list = Vec::with_capacity(alloc, lines.len())?;
     let mut start = 0;
     while start < lines.len() {
         let end = line_end(&lines, start);
-        let mut more = units_on_line(alloc, &lines[start..end])?;
-        list.append(&mut more)?;
+        add_units(alloc, &mut list, &lines[start..end])?;
         start = end;
     }
     Ok(list)
@@ -51,7 +51,7 @@ fn lines_of(alloc: Global, marked: &[MarkedSeg]) -> Result<Vec<LineSeg>, AllocEr
     requires proper { AllProper (map marked_of marked.now) }
     ensures { IfOk result (λ list. map line_marked list.items ≡ map marked_of marked.now) }
 {
-    let mut lines = Vec::new(alloc);
+    let mut lines = Vec::with_capacity(alloc, marked.len())?;
     for m in marked {
         lines.push(LineSeg::of(*m))?;
     }
@@ -72,6 +72,34 @@ fn line_end(lines: &[LineSeg], start: usize) -> usize
         }
     }
     lines.len()
+}
+
+/// Adds the units of the segments on one line. Mostly there is one segment, and no memory is taken but for its unit.
+fn add_units(alloc: Global, list: &mut Vec<Unit>, run: &[LineSeg]) -> Result<(), AllocError>
+    requires { AreOnOneLine run.now }
+    ensures { OnOk result (HasAddedUnits (map line_marked run.now) list.old.items list.new.items) }
+{
+    if run.len() == 1 {
+        return add_lone(list, &run[0]);
+    }
+    let mut more = units_on_line(alloc, run)?;
+    list.append(&mut more)?;
+    Ok(())
+}
+
+/// Adds the unit of a segment that is alone on its line.
+fn add_lone(list: &mut Vec<Unit>, segment: &LineSeg) -> Result<(), AllocError>
+    requires { AreOnOneLine (segment.now ∷ []) }
+    ensures { OnOk result (HasAddedUnits (line_marked segment.now ∷ []) list.old.items list.new.items) }
+{
+    let from = LineEnd::left_of(&segment.marked);
+    let to = LineEnd::right_of(&segment.marked);
+    let mut passed = PassedEnds::none();
+    passed.add(&from);
+    if let Some(unit) = passed.unit_between(from.at, to.at) {
+        list.push(unit)?;
+    }
+    Ok(())
 }
 
 /// The units of the segments on one line, found by one pass over their ends.

@@ -121,7 +121,7 @@ impl TileInput {
     pub fn try_copy(&self, alloc: Global) -> Result<TileInput, AllocError>
         ensures { IfOk result (λ copy. copy ≡ self.now) }
     {
-        let mut marked = Vec::new(alloc);
+        let mut marked = Vec::with_capacity(alloc, self.marked.len())?;
         for m in &self.marked {
             marked.push(*m)?;
         }

@@ -29,6 +29,7 @@ pub mod AheadLemmas
 pub mod PutLemmas
 pub mod TakeLemmas
 pub mod KnownLemmas
+pub mod KnownEnds
 pub mod PlacesInOrder
 pub mod StartLemmas
 pub mod UnitBits

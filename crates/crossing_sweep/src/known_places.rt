@@ -2,6 +2,8 @@
 ghost use Rattle.std.specs.Prelude.{◌≡◌, ◌++◌, [], ◌∷◌, List, map, AllPairs, IfOk, OnOk};
 ghost use Rattle.std.specs.declared.cmp.Ordering.TheVariants.{Less};
 ghost use Rattle.exact_point.specs.declared.point_name.PointName.{PointName};
+ghost use Rattle.overlay_terms.specs.Plane.{whole};
+ghost use Rattle.arrange.specs.Arrangement.{is_in_closed_column};
 ghost use Rattle.arrange.specs.NamedPlaces.{own_names, named_cmp};
 ghost use Rattle.crossing_sweep.specs.Ahead.{AreKnownPlaces, AreOffered, known_entry};
 
@@ -11,7 +13,7 @@ use arrange::named_place::NamedPlace;
 use arrange::tile_input::TileInput;
 use exact_point::point_name::PointName;
 use plane_base::column::Column;
-use plane_base::point::Seg;
+use plane_base::point::{Pt, Seg};
 use std::alloc::{AllocError, Global};
 
 /// The ends of an input's segments, and where the borders of the column cut them, in the closed
@@ -28,7 +30,8 @@ fn places_in_order(alloc: Global, input: &TileInput) -> Result<Vec<NamedPlace>, 
     ensures known { IfOk result (λ places. AreKnownPlaces input.now (map known_entry places.items)) }
     ensures in_order { IfOk result (λ places. AllPairs (λ a b. named_cmp a b ≡ Less) places.items) }
 {
-    let mut places = Vec::new(alloc);
+    // Mostly two of each segment: it is cut by both borders, or ends within and is cut by one.
+    let mut places = Vec::with_capacity(alloc, 2 * input.marked().len())?;
     for m in input.marked() {
         offer_own(&mut places, &m.seg, input.column())?;
     }
@@ -41,11 +44,31 @@ fn places_in_order(alloc: Global, input: &TileInput) -> Result<Vec<NamedPlace>, 
 fn offer_own(places: &mut Vec<NamedPlace>, seg: &Seg, column: Column) -> Result<(), AllocError>
     ensures { OnOk result ((names : List PointName) → AreOffered column names (map known_entry places.old.items) → AreOffered column (names ++ own_names seg.now column) (map known_entry places.new.items)) }
 {
-    offer(places, PointName::Vertex(seg.left()), column)?;
-    offer(places, PointName::Vertex(seg.right()), column)?;
+    offer_end(places, seg.left(), column)?;
+    offer_end(places, seg.right(), column)?;
     offer(places, PointName::Border(*seg, column.number()), column)?;
     offer(places, PointName::Border(*seg, column.number() + 1), column)?;
     Ok(())
+}
+
+/// Adds an end of a segment, if it lies in the closed column. Most do not, and no exact place is made of these.
+fn offer_end(places: &mut Vec<NamedPlace>, vertex: Pt, column: Column) -> Result<(), AllocError>
+    ensures { OnOk result ((names : List PointName) → AreOffered column names (map known_entry places.old.items) → AreOffered column (names ++ PointName.Vertex vertex ∷ []) (map known_entry places.new.items)) }
+{
+    if !is_end_within(column, vertex) {
+        return Ok(());
+    }
+    offer(places, PointName::Vertex(vertex), column)
+}
+
+/// Whether a whole point lies from a column's left border to its right border.
+#[tactic(auto, using(crate::proofs::KnownEnds::whole_within))]
+fn is_end_within(column: Column, vertex: Pt) -> bool
+    ensures { result ≡ is_in_closed_column column (whole vertex) }
+{
+    let x = vertex.x();
+    // Eager, so that one equation says all: neither side costs more than a comparison.
+    (column.border() <= x) & (x <= column.end())
 }
 
 /// Adds the place that a name stands for, if it lies in the closed column.

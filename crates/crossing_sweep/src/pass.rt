@@ -74,17 +74,19 @@ impl<'a> Pass<'a> {
         let _ = input.column();
         let starts = starts(alloc, input)?;
         let ahead = known_places(alloc, input)?;
+        let status = Vec::with_capacity(alloc, starts.len())?;
+        let names = Vec::with_capacity(alloc, 2 * starts.len())?;
         let progress = Progress {
             starts,
             entered: 0,
-            status: Vec::new(alloc),
+            status,
             search: Search {
                 ahead,
                 listed,
                 tests: Vec::new(alloc),
             },
             rows: Vec::new(alloc),
-            names: Vec::new(alloc),
+            names,
         };
         Ok(Pass { input, progress })
     }

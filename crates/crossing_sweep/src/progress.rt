@@ -68,7 +68,8 @@ impl Progress {
     }
 }
 
-/// Puts members in the place of those of a range.
+/// Puts members in the place of those of a range. Mostly as many come as go, or one comes, or one goes:
+/// for these the others are moved where they stand, and no memory is taken but for the status.
 fn replace(
     status: &mut Vec<Member>,
     low: usize,
@@ -79,6 +80,17 @@ fn replace(
     requires few { high ≤ length status.old.items }
     ensures { OnOk result (status.new.items ≡ take low status.old.items ++ stay.items ++ drop high status.old.items) }
 {
-    status.splice(low..high, stay)?;
+    match (high - low, stay.len()) {
+        (0, 1) => {
+            status.insert(low, stay[0])?;
+        }
+        (1, 0) => {
+            status.remove(low);
+        }
+        (gone, come) if gone == come => status[low..high].copy_from_slice(&stay),
+        _ => {
+            status.splice(low..high, stay)?;
+        }
+    }
     Ok(())
 }

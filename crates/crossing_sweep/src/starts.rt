@@ -20,7 +20,7 @@ pub(crate) fn starts(alloc: Global, input: &TileInput) -> Result<Vec<Start>, All
     ensures { IfOk result (λ list. AreStarts input.now list.items) }
 {
     let units = units(alloc, input)?;
-    let mut list = Vec::new(alloc);
+    let mut list = Vec::with_capacity(alloc, units.len())?;
     for unit in &units {
         if is_met(&unit.seg, input.column()) {
             let at = first_place(&unit.seg, input.column());

@@ -86,7 +86,7 @@ fn are_same(held: &[Piece], built: &[Piece]) -> bool
 fn copied(alloc: Global, pieces: &[Piece]) -> Result<Vec<Piece>, AllocError>
     ensures { IfOk result (λ copies. copies.items ≡ pieces.now) }
 {
-    let mut copies = Vec::new(alloc);
+    let mut copies = Vec::with_capacity(alloc, pieces.len())?;
     for piece in pieces {
         copies.push(piece.copy())?;
     }

@@ -5,7 +5,7 @@ use Rattle.std.proofs.lemmas.List.Sorted.{IsPermutation-sym}
 use Rattle.overlay_terms.specs.Layers.{Marked}
 use Rattle.arrange.specs.LineEnds.{AreOnOneLine}
 use Rattle.arrange.specs.Lines.{line_marked}
-use Rattle.arrange.specs.Units.{AreUnits}
+use Rattle.arrange.specs.AddedUnits.{HasAddedUnits}
 use Rattle.arrange.specs.declared.line_seg.LineSeg.{LineSeg}
 use Rattle.arrange.specs.declared.unit.Unit.{Unit}
 use Rattle.arrange.proofs.LineLemmas.{HaveLines, IsRun, have_next_line, have_all_lines}
@@ -13,8 +13,8 @@ use Rattle.arrange.proofs.RunLemmas.{run_on_one_line}
 use Rattle.arrange.proofs.UnitParts.{units_permuted}
 use Rattle.arrange.proofs.finding_units.units.Goals as goal
 
-pub units_on_line-requires : goal.units_on_line-requires
-units_on_line-requires c =
+pub add_units-requires : goal.add_units-requires
+add_units-requires c =
     let start = c.loop-start.start in
     let end = c.line_end-end.result in
     let found : IsRun c.deref.result.now start end =
@@ -29,10 +29,10 @@ loop-start-preserved c =
     let found : IsRun c.deref.result.now start end =
     record { after = c.line_end-end.ensures.after; within = c.line_end-end.ensures.within; same = c.line_end-end.ensures.same; next = c.line_end-end.ensures.next } in
     let run : IsRun lines start end = subst (λ (xs : List LineSeg). IsRun xs start end) c.deref.ensures.value found in
-    let units : AreUnits (map line_marked (slice_range lines start end)) c.in_ok-more.more.items =
-    subst (λ (xs : List LineSeg). AreUnits (map line_marked (slice_range xs start end)) c.in_ok-more.more.items) c.deref-in-loop-start.ensures.value c.in_ok-more.ensures in
-    subst (λ (us : List Unit). HaveLines lines end us) (sym c.in_ok-append.ensures.items)
-    (have_next_line lines c.in_ok-lines.ensures.sorted start end c.loop-start.list.items c.in_ok-more.more.items c.loop-start.invariant run units)
+    let added : HasAddedUnits (map line_marked (slice_range lines start end)) c.loop-start.list.items c.add_units.new.list.items =
+    subst (λ (xs : List LineSeg). HasAddedUnits (map line_marked (slice_range xs start end)) c.loop-start.list.items c.add_units.new.list.items) c.deref-in-loop-start.ensures.value c.in_ok-add_units.ensures in
+    subst (λ (us : List Unit). HaveLines lines end us) (sym added.added)
+    (have_next_line lines c.in_ok-lines.ensures.sorted start end c.loop-start.list.items added.more c.loop-start.invariant run added.are)
 
 pub returns : goal.returns
 returns c =
