@@ -61,7 +61,7 @@ pub labelled-nil : (layers : List Layer) → labelled layers [] ≡ []
 labelled-nil [] = refl
 labelled-nil (layer ∷ layers) = refl
 
-labelled_more : (layers : List Layer) (known : List Bool) (i : ℕ) (layer : Layer) (v : Bool) → length known ≡ i → slice_get layers i ≡ Some layer → labelled layers (known ++ v ∷ []) ≡ labelled layers known ++ (layer.name, v) ∷ []
+pub labelled_more : (layers : List Layer) (known : List Bool) (i : ℕ) (layer : Layer) (v : Bool) → length known ≡ i → slice_get layers i ≡ Some layer → labelled layers (known ++ v ∷ []) ≡ labelled layers known ++ (layer.name, v) ∷ []
 labelled_more [] known i layer v n e = cc
 labelled_more (l ∷ layers) [] zero layer v n e =
     let same : l ≡ layer = cc in
@@ -96,7 +96,7 @@ whole [] (layer ∷ layers) h = absurd (omega arith)
 whole (w ∷ ws) [] h = refl
 whole (w ∷ ws) (layer ∷ layers) h = ap (λ ls. record { name = layer.name; content = if_wanted w layer.content } ∷ ls) (whole ws layers (omega arith))
 
-labelled_whole : (layers : List Layer) (known : List Bool) → labelled layers (take (length layers) known) ≡ labelled layers known
+pub labelled_whole : (layers : List Layer) (known : List Bool) → labelled layers (take (length layers) known) ≡ labelled layers known
 labelled_whole [] known = refl
 labelled_whole (layer ∷ layers) [] = refl
 labelled_whole (layer ∷ layers) (k ∷ known) = ap (λ ls. (layer.name, k) ∷ ls) (labelled_whole layers known)

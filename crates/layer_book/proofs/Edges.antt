@@ -24,11 +24,11 @@ any-map : {X Y : Type 0} (f : Y → Bool) (g : X → Y) (xs : List X) → list_a
 any-map f g [] = refl
 any-map f g (x ∷ xs) = ap (λ b. f (g x) || b) (any-map f g xs)
 
-any-flat_map : {X Y : Type 0} (f : Y → Bool) (g : X → List Y) (xs : List X) → list_any f (flat_map g xs) ≡ list_any (λ x. list_any f (g x)) xs
+pub any-flat_map : {X Y : Type 0} (f : Y → Bool) (g : X → List Y) (xs : List X) → list_any f (flat_map g xs) ≡ list_any (λ x. list_any f (g x)) xs
 any-flat_map f g [] = refl
 any-flat_map f g (x ∷ xs) = list_any-append f (g x) (flat_map g xs) ∙ ap (λ b. list_any f (g x) || b) (any-flat_map f g xs)
 
-any-filter : {X : Type 0} (f t : X → Bool) (xs : List X) → list_any f (filter t xs) ≡ list_any (λ x. t x && f x) xs
+pub any-filter : {X : Type 0} (f t : X → Bool) (xs : List X) → list_any f (filter t xs) ≡ list_any (λ x. t x && f x) xs
 any-filter f t [] = refl
 any-filter f t (x ∷ xs) = split (t x) (any-filter f t xs) where
   split : (b : Bool) → list_any f (filter t xs) ≡ list_any (λ x. t x && f x) xs → list_any f (cond b (x ∷ filter t xs) (filter t xs)) ≡ ((b && f x) || list_any (λ x. t x && f x) xs)
@@ -55,7 +55,7 @@ any-turned : {X Y : Type 0} (h : Y → X → Bool) (xs : List X) (ys : List Y) �
 any-turned h xs [] = any-none xs
 any-turned h xs (y ∷ ys) = any-or (h y) (λ x. list_any (λ y. h y x) ys) xs ∙ ap (λ b. list_any (h y) xs || b) (any-turned h xs ys)
 
-any-and : {X : Type 0} (f : X → Bool) (b : Bool) (xs : List X) → list_any (λ x. f x && b) xs ≡ (list_any f xs && b)
+pub any-and : {X : Type 0} (f : X → Bool) (b : Bool) (xs : List X) → list_any (λ x. f x && b) xs ≡ (list_any f xs && b)
 any-and f b [] = refl
 any-and f b (x ∷ xs) = ap (λ c. (f x && b) || c) (any-and f b xs) ∙ both (f x) (list_any f xs) b where
   both : (a c b : Bool) → ((a && b) || (c && b)) ≡ ((a || c) && b)
@@ -114,14 +114,14 @@ own_edge p before layer behind h =
 
 module _ (is_in : Name → Bool) where
   -- the answers of names are those of what they reach
-  abbrev Reach : List (Name × Bool) → List (Name × List Name) → Type 0
+  abbrev pub Reach : List (Name × Bool) → List (Name × List Name) → Type 0
   Reach known reached = (absent : Bool) (none : List Name) (n : Name) → absent ≡ list_any is_in none → named absent known n ≡ list_any is_in (named none reached n)
 
 named-push : {A : Type 0} (absent : A) (known : List (Name × A)) (x : Name) (v : A) (n : Name) → named absent (known ++ (x, v) ∷ []) n ≡ named (cond (bytes_eq x n) v absent) known n
 named-push absent [] x v n = refl
 named-push absent (e ∷ known) x v n = ap (λ rest. cond (bytes_eq e.0 n) e.1 rest) (named-push absent known x v n)
 
-reach_push : (is_in : Name → Bool) (known : List (Name × Bool)) (reached : List (Name × List Name)) (x : Name) (v : Bool) (ns : List Name)
+pub reach_push : (is_in : Name → Bool) (known : List (Name × Bool)) (reached : List (Name × List Name)) (x : Name) (v : Bool) (ns : List Name)
     → Reach is_in known reached → v ≡ list_any is_in ns → Reach is_in (known ++ (x, v) ∷ []) (reached ++ (x, ns) ∷ [])
 reach_push is_in known reached x v ns h e absent none n a =
     named-push absent known x v n ∙ h (cond (bytes_eq x n) v absent) (cond (bytes_eq x n) ns none) n (split (bytes_eq x n)) ∙ ap (list_any is_in) (sym (named-push none reached x ns n))

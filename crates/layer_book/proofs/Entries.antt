@@ -1,6 +1,8 @@
 -- What the calls of the map make of its layers.
-use Rattle.std.proofs.Common.{◌≡◌, ℕ, suc, ◌+◌, ◌<◌, Bool, true, false, not, cond, ◌||◌, nat_lt, List, [], ◌∷◌, ◌++◌, length, map, Option, Some, None, is_some, IfSome, refl, ap, sym, ◌∙◌, subst, arith, position, bytes_eq, Bor}
-use Rattle.std.specs.List.{position_or_len}
+use Rattle.std.proofs.Common.{◌≡◌, ℕ, zero, suc, ◌+◌, ◌<◌, Bool, true, false, not, cond, ◌||◌, nat_lt, List, [], ◌∷◌, ◌++◌, length, map, Option, Some, None, is_some, IfSome, IfOk, slice_get, refl, ap, sym, ◌∙◌, subst, arith, position, bytes_eq, Bor}
+use Rattle.std.specs.List.{position_or_len, AllZip}
+use Rattle.std.specs.Prelude.{Result, Ok, Err}
+use Rattle.std.specs.Result.{MatchResult}
 use Rattle.std.specs.Map.{keys_of, lookup, remove_entry}
 use Rattle.std.specs.Option.{option_map, option_copied}
 use Rattle.std.proofs.lemmas.Bool.{or_parts}
@@ -13,7 +15,8 @@ use Rattle.overlay_terms.specs.Orderly.{is_orderly_after}
 use Rattle.layer_book.specs.declared.layer.Layer.{Layer}
 use Rattle.layer_book.specs.Layer.{content, named_layer, layers_of, content_named, others}
 use Rattle.layer_book.proofs.Names.{same_name, turned, stands_is}
-use Rattle.layer_book.proofs.Order.{head_of, apart, fresh, replaced_absent, others_absent}
+use Rattle.layer_book.proofs.Order.{head_of, apart, replaced_absent, others_absent}
+use Rattle.layer_book.proofs.Wanted.{index_at}
 
 same_length : (es : List (List ℕ × Layer)) → length (keys_of es) ≡ length (layers_of es)
 same_length [] = refl
@@ -112,12 +115,6 @@ remove_after known (e ∷ es) name h =
 pub remove_is : (es : List (List ℕ × Layer)) (name : List ℕ) → is_orderly_after [] (layers_of es) ≡ true → layers_of (remove_entry (bytes_eq name) es) ≡ others (layers_of es) name
 remove_is es name h = remove_after [] es name h
 
--- while entries are copied in order, the next name is new
-pub next_is_new : (done : List (List ℕ × Layer)) (next : List ℕ × Layer) (left : List (List ℕ × Layer)) (all : List terms.Layer)
-    → is_orderly_after [] all ≡ true → layers_of done ++ layers_of (next ∷ left) ≡ all → stands (layers_of done) next.0 ≡ false
-next_is_new done next left all h e =
-    fresh [] (layers_of done) (named_layer next) (layers_of left) (subst (λ ls. is_orderly_after [] ls ≡ true) (sym e) h)
-
 -- the layers after `insert` into a copy
 pub with_is : (entries : List (List ℕ × Layer)) (all : List terms.Layer) (copy name : List ℕ) (layer : Layer) (made : List (List ℕ × Layer))
     → is_orderly_after [] all ≡ true → layers_of entries ≡ all → copy ≡ name → made ≡ insert_entry bytes_eq entries copy layer
@@ -131,3 +128,31 @@ pub without_is : (entries : List (List ℕ × Layer)) (all : List terms.Layer) (
     → is_orderly_after [] all ≡ true → layers_of entries ≡ all → made ≡ remove_entry (bytes_eq name) entries → layers_of made ≡ others all name
 without_is entries all name made h e m =
     ap layers_of m ∙ remove_is entries name (subst (λ ls. is_orderly_after [] ls ≡ true) (sym e) h) ∙ ap (λ ls. others ls name) e
+
+-- where each entry is copied, the layers stay
+pub copies_are : (es copies : List (List ℕ × Layer)) → AllZip (λ e copy. (copy.0 ≡ e.0) × (content copy.1 ≡ content e.1)) es copies → layers_of copies ≡ layers_of es
+copies_are [] [] h = refl
+copies_are [] (copy ∷ copies) h = absurd h
+copies_are (e ∷ es) [] h = absurd h
+copies_are (e ∷ es) (copy ∷ copies) h =
+    let later = copies_are es copies h.1 in
+    λ i. record { name = h.0.0 i; content = h.0.1 i } ∷ later i
+
+pub copies_ok : {X E : Type 0} (entries : X → List (List ℕ × Layer)) (es : List (List ℕ × Layer)) (r : Result X E) (Q : E → Type 0)
+    → MatchResult r (λ n. AllZip (λ e copy. (copy.0 ≡ e.0) × (content copy.1 ≡ content e.1)) es (entries n)) Q → IfOk r (λ n. layers_of (entries n) ≡ layers_of es)
+copies_ok entries es (Ok n) Q h = copies_are es (entries n) h
+copies_ok entries es (Err e) Q h = tt
+
+entry_layer_at : (es : List (List ℕ × Layer)) (i : ℕ) (e : List ℕ × Layer) → Some e ≡ slice_get es i → slice_get (layers_of es) i ≡ Some (named_layer e)
+entry_layer_at [] i e there = cc
+entry_layer_at (x ∷ es) zero e there =
+    let same : x ≡ e = cc in
+    ap (λ x. Some (named_layer x)) same
+entry_layer_at (x ∷ es) (suc i) e there = entry_layer_at es i e there
+
+-- where the entry at an index has the name, the index is the name's
+pub near_is : (es : List (List ℕ × Layer)) (all : List terms.Layer) (i : ℕ) (own name : List ℕ) (layer : Layer) → is_orderly_after [] all ≡ true → layers_of es ≡ all
+    → Some (own, layer) ≡ slice_get es i → bytes_eq own name ≡ true → i ≡ index_of all name
+near_is es all i own name layer orderly are there same =
+    sym (subst (λ n. index_of all n ≡ i) (same_name own name same)
+    (index_at [] all i (named_layer (own, layer)) orderly (ap (λ ls. slice_get ls i) (sym are) ∙ entry_layer_at es i (own, layer) there)))

@@ -20,3 +20,4 @@ pub mod Sketches
 pub mod BatchRefusals
 pub mod HavingLemmas
 pub mod ReplacedLemmas
+pub mod ReachingLemmas

@@ -24,7 +24,7 @@ abbrev pub passes : (Content → Bool) → Option Content → Bool
 passes test None = false
 passes test (Some c) = test c
 
-none_passes : (test : Content → Bool) (layers : List Layer) (name : Name) → stands layers name ≡ false → list_any (λ layer. bytes_eq layer.name name && test layer.content) layers ≡ false
+pub none_passes : (test : Content → Bool) (layers : List Layer) (name : Name) → stands layers name ≡ false → list_any (λ layer. bytes_eq layer.name name && test layer.content) layers ≡ false
 none_passes test [] name h = refl
 none_passes test (layer ∷ layers) name h =
     let parts = or_parts (bytes_eq layer.name name) (stands layers name) h in

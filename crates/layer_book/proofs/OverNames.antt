@@ -19,7 +19,7 @@ abbrev passed_names : (Name → Bool) → List Layer → List Name
 passed_names test layers = map (λ (l : Layer). l.name) (filter (λ (l : Layer). is_derived l.content && test l.name) layers)
 
 -- whether a derived layer with a name passes a test of names
-named_among : (test : Name → Bool) (own : Name) (layers : List Layer) → list_any (bytes_eq own) (map (λ (layer : Layer). layer.name) (filter (λ (layer : Layer). is_derived layer.content && test layer.name) layers)) ≡ (stands_as_derived layers own && test own)
+pub named_among : (test : Name → Bool) (own : Name) (layers : List Layer) → list_any (bytes_eq own) (map (λ (layer : Layer). layer.name) (filter (λ (layer : Layer). is_derived layer.content && test layer.name) layers)) ≡ (stands_as_derived layers own && test own)
 named_among test own [] = refl
 named_among test own (layer ∷ layers) =
     split (bytes_eq layer.name own) (is_derived layer.content) (test layer.name) (turned own layer.name) (λ e. ap test (same_name layer.name own e)) (named_among test own layers)

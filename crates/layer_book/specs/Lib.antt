@@ -8,4 +8,5 @@ pub mod Listing
 pub mod Question
 pub mod Having
 pub mod TileRefusal
+pub mod Reaching
 pub mod Touching

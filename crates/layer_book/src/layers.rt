@@ -73,6 +73,16 @@ impl Layers {
         self.map.get_index_of(name)
     }
 
+    /// The index of the layer with a name, or how many layers there are. It is looked for at an index first.
+    pub fn index_near(&self, near: usize, name: &Name) -> usize
+        ensures { result ≡ index_of self.now name.now }
+    {
+        match self.map.get_index(near) {
+            Some((own, _)) if own == name => near,
+            _ => self.index_of(name),
+        }
+    }
+
     /// What stands under a name.
     pub fn get(&self, name: &Name) -> Option<&Layer>
         ensures value { option_map (λ layer. content layer.now) result ≡ content_named self.now name.now }
@@ -85,7 +95,7 @@ impl Layers {
     pub fn try_copy(&self, alloc: Global) -> Result<Layers, AllocError>
         ensures { IfOk result (λ copy. copy ≡ self.now) }
     {
-        let map = copied(alloc, &self.map)?;
+        let map = copied(&self.map)?;
         Ok(Layers { map })
     }
 
@@ -97,7 +107,7 @@ impl Layers {
     {
         // Name and rings are so by their types: the clause rests on that.
         let _ = layer.known(name);
-        let mut map = copied(alloc, &self.map)?;
+        let mut map = copied(&self.map)?;
         map.insert(name.clone()?, layer)?;
         Ok(Layers { map })
     }
@@ -108,29 +118,15 @@ impl Layers {
         requires { refusal_of_remove self.now name.now ≡ None }
         ensures { IfOk result (λ layers. layers ≡ others self.now name.now) }
     {
-        let mut map = copied(alloc, &self.map)?;
+        let mut map = copied(&self.map)?;
         map.shift_remove(name);
         Ok(Layers { map })
     }
 }
 
-/// The entries once more, with room for another.
-fn copied(alloc: Global, map: &IndexMap<Name, Layer>) -> Result<IndexMap<Name, Layer>, AllocError>
-    requires { IsOrderly (layers_of map.now.entries) }
+/// The entries once more.
+fn copied(map: &IndexMap<Name, Layer>) -> Result<IndexMap<Name, Layer>, AllocError>
     ensures { IfOk result (λ copy. layers_of copy.entries ≡ layers_of map.now.entries) }
 {
-    let mut copy = IndexMap::with_capacity(alloc, map.len() + 1)?;
-    for (name, layer) in map {
-        add_copy(&mut copy, name, layer)?;
-    }
-    Ok(copy)
-}
-
-/// Adds a copy of an entry, whose name is new, at the end.
-fn add_copy(map: &mut IndexMap<Name, Layer>, name: &Name, layer: &Layer) -> Result<(), AllocError>
-    requires { stands (layers_of map.old.entries) name.now ≡ false }
-    ensures { OnOk result (layers_of map.new.entries ≡ layers_of map.old.entries ++ named_layer (name.now, layer.now) ∷ []) }
-{
-    map.insert(name.clone()?, layer.clone()?)?;
-    Ok(())
+    map.clone()
 }

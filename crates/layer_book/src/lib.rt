@@ -16,6 +16,7 @@ pub mod layers;
 pub mod listing;
 pub mod question;
 pub mod reach;
+mod reaching;
 mod sketch;
 pub mod touching;
 pub mod wanted_layers;

@@ -92,7 +92,7 @@ impl Layers {
     }
 
     /// Whether one of the names below a node has the answer true.
-    fn node_edge(&self, node: &Node, known: &[bool]) -> bool
+    pub(crate) fn node_edge(&self, node: &Node, known: &[bool]) -> bool
         ensures { result ≡ list_any (λ used. unwrap_or (slice_get known.now (index_of self.now used)) false) (leaves (tree node.now)) }
     {
         match node {

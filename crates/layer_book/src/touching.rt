@@ -1,19 +1,21 @@
 //! Which tiles a command touches: the inputs before and after it are compared by their parts.
-ghost use Rattle.std.specs.Prelude.{◌≡◌, true, not, None, map, bytes_eq, IfOk, IfSome};
+ghost use Rattle.std.specs.Prelude.{◌≡◌, ◌<◌, ◌&&◌, true, not, None, map, bytes_eq, IfOk, IfSome};
 ghost use Rattle.std.specs.List.{list_any};
 ghost use Rattle.overlay_terms.specs.Column.{columns};
 ghost use Rattle.overlay_terms.specs.Tiles.{input_of};
 ghost use Rattle.overlay_terms.specs.SameInput.{same_input};
-ghost use Rattle.overlay_terms.specs.Commands.{applied, refusal_of, stands_as_derived};
-ghost use Rattle.overlay_terms.specs.Touched.{derived_over};
+ghost use Rattle.overlay_terms.specs.Commands.{applied, is_derived, refusal_of, stands_as_derived};
+ghost use Rattle.overlay_terms.specs.Touched.{derived_over, name_of};
 ghost use Rattle.layer_book.specs.Command.{command};
-ghost use Rattle.layer_book.specs.Layer.{IsBook};
+ghost use Rattle.layer_book.specs.Layer.{content, IsBook};
+ghost use Rattle.layer_book.specs.Question.{at_index};
 ghost use Rattle.layer_book.specs.Touching.{AreOfAllOver, touched_columns, touched_rows};
 
 use crate::command::Command;
 use crate::comparing::{changed_columns, differing_columns};
 use crate::layer::Layer;
 use crate::layers::Layers;
+use layer_expr::MAX_LAYERS;
 use layer_expr::name::Name;
 use plane_base::COLUMN_COUNT;
 use std::alloc::{AllocError, Global};
@@ -35,10 +37,12 @@ impl Layers {
         ensures { IfOk result (λ rows. rows.items ≡ touched_rows self.now (command change.now)) }
     {
         let replaced = self.replaced_columns(change);
-        let mut rows = Vec::new(alloc);
+        let reaching = self.reaching(change.name());
+        let mut rows = Vec::with_capacity(alloc, self.len())?;
         for i in 0..self.len() {
-            if let Some((name, _)) = self.at(i) {
-                let row = self.touched_columns(alloc, change, after, name, &replaced)?;
+            if let Some((name, layer)) = self.at(i) {
+                let is_over = is_derived_and_marked(layer, &reaching, i);
+                let row = self.touched_columns(alloc, change, is_over, after, name, &replaced)?;
                 rows.push(row)?;
             }
         }
@@ -59,12 +63,13 @@ impl Layers {
         }
     }
 
-    /// In which columns a command touches the tile of a layer. No other layers than those that reach
-    /// the command's name are compared.
+    /// In which columns a command touches the tile of a layer, where it is known whether the layer is derived and
+    /// reaches the command's name. No other layers are compared.
     fn touched_columns(
         &self,
         alloc: Global,
         change: &Command,
+        is_over: bool,
         after: &Layers,
         name: &Name,
         replaced: &Option<[bool; COLUMNS]>,
@@ -72,10 +77,11 @@ impl Layers {
         requires book { IsBook self.now }
         requires accepted { refusal_of self.now (command change.now) ≡ None }
         requires made { after.now ≡ applied self.now (command change.now) }
+        requires over { is_over ≡ list_any (bytes_eq name.now) (derived_over self.now (name_of (command change.now))) }
         requires replaced { IfSome replaced.now (AreOfAllOver self.now (command change.now)) }
         ensures { IfOk result (λ row. row ≡ touched_columns self.now (command change.now) name.now) }
     {
-        if !self.is_over(name, change.name()) {
+        if !is_over {
             return Ok([false; COLUMNS]);
         }
         if let Some(row) = replaced {
@@ -108,15 +114,12 @@ impl Layers {
         let new_bases = after.bases_in_reach(alloc, name)?;
         Ok(changed_columns(&new_bases, &old_bases))
     }
+}
 
-    /// Whether a layer is derived and reaches another one, or is that one.
-    fn is_over(&self, name: &Name, under: &Name) -> bool
-        ensures { result ≡ list_any (bytes_eq name.now) (derived_over self.now under.now) }
-    {
-        if !self.stands_as_derived(name) {
-            return false;
-        }
-        let wanted = self.reach(name);
-        self.stands(under) && self.known_of(under, &wanted)
-    }
+/// Whether a layer is derived and the mark at its index is set.
+fn is_derived_and_marked(layer: &Layer, marks: &[bool; MAX_LAYERS], i: usize) -> bool
+    requires { i < MAX_LAYERS }
+    ensures { result ≡ (at_index marks.now i && is_derived (content layer.now)) }
+{
+    marks[i] && layer.is_derived()
 }
