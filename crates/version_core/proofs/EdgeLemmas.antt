@@ -1,9 +1,8 @@
 -- The text of a tile's edges grows line by line.
 use Rattle.std.specs.Prelude.{◌≡◌, ℕ, ◌+◌, List, [], ◌∷◌, ◌++◌, length, take, flat_map, codes, decimal, IsTrue}
-use Rattle.std.proofs.Common.{zero, suc, ◌<◌, get_or, add-one, refl, ap, sym, ◌∙◌, subst, arith, lit<, append_assoc, append-nil}
+use Rattle.std.proofs.Common.{zero, suc, ◌<◌, get_or, add-one, refl, ap, sym, ◌∙◌, subst, arith, append_assoc, append-nil}
 use Rattle.std.proofs.lemmas.Grind.{flat_map-append}
 use Rattle.overlay_terms.specs.Plane.{Point, WholePoint, whole, same_place}
-use Rattle.std.proofs.lemmas.Fmt.{decimal_digit}
 use Rattle.std.proofs.lemmas.Int.{ints}
 use Rattle.exact_point.specs.declared.point.HPoint.{HPoint}
 use Rattle.exact_point.specs.declared.point_name.PointName.{PointName}
@@ -12,7 +11,6 @@ use Rattle.exact_point.specs.PlaceOf.{place_of}
 use Rattle.exact_point.specs.Reduced.{IsLowest}
 use Rattle.exact_point.proofs.PlaceOrder.{same_self}
 use Rattle.exact_point.proofs.ReducedLemmas.{whole_lowest}
-use Rattle.std.specs.Fmt.{signed_decimal}
 use Rattle.version_core.specs.Edges.{edge_line, point_text, HasEndMore, HasLineMore, IsLowestOf, AreLowest, IsTextOf}
 
 -- the count of pieces and the lines of those so far
@@ -91,14 +89,6 @@ end_more name wanted low before after text named same lowest is e = record {
   is = e ∙ ap (λ t. before ++ t) is;
 }
 
--- three numbers with spaces between them, put down one after another
-pub three_numbers : (x y w none one spaced two again three : List ℕ) → none ≡ [] → one ≡ none ++ x → spaced ≡ one ++ codes " " → two ≡ spaced ++ y → again ≡ two ++ codes " " → three ≡ again ++ w → three ≡ x ++ (codes " " ++ (y ++ (codes " " ++ w)))
-three_numbers x y w none one spaced two again three e0 e1 e2 e3 e4 e5 =
-    let first : one ≡ x = e1 ∙ ap (λ t. t ++ x) e0 in
-    let second : two ≡ x ++ (codes " " ++ y) = e3 ∙ ap (λ t. t ++ y) (e2 ∙ ap (λ t. t ++ codes " ") first) ∙ append_assoc x (codes " ") y in
-    e5 ∙ ap (λ t. t ++ w) (e4 ∙ ap (λ t. t ++ codes " ") second)
-    ∙ append_assoc (x ++ (codes " " ++ y)) (codes " ") w ∙ append_assoc x (codes " " ++ y) (codes " " ++ w) ∙ ap (λ t. x ++ t) (append_assoc (codes " ") y (codes " " ++ w))
-
 -- one end more, a whole point
 pub whole_more : (point : WholePoint) (before after : List ℕ) → after ≡ before ++ point_text (whole point) → HasEndMore before after (whole point)
 whole_more point before after e = record {
@@ -106,14 +96,3 @@ whole_more point before after e = record {
   lowest = record { same = same_self (whole point); positive = omega (arith, ints); lowest_terms = whole_lowest (whole point) refl };
   is = e;
 }
-
--- two numbers and the denominator of a whole point, put down one after another
-pub whole_written : (point : WholePoint) (text one spaced two three : List ℕ) → one ≡ text ++ signed_decimal point.x → spaced ≡ one ++ codes " " → two ≡ spaced ++ signed_decimal point.y → three ≡ two ++ codes " 1" → three ≡ text ++ point_text (whole point)
-whole_written point text one spaced two three e1 e2 e3 e4 =
-    let x = signed_decimal point.x in
-    let y = signed_decimal point.y in
-    let first : spaced ≡ text ++ (x ++ codes " ") = e2 ∙ ap (λ t. t ++ codes " ") e1 ∙ append_assoc text x (codes " ") in
-    let second : two ≡ text ++ (x ++ (codes " " ++ y)) = e3 ∙ ap (λ t. t ++ y) first ∙ append_assoc text (x ++ codes " ") y ∙ ap (λ t. text ++ t) (append_assoc x (codes " ") y) in
-    e4 ∙ ap (λ t. t ++ codes " 1") second ∙ append_assoc text (x ++ (codes " " ++ y)) (codes " 1")
-    ∙ ap (λ t. text ++ t) (append_assoc x (codes " " ++ y) (codes " 1") ∙ ap (λ t. x ++ t) (append_assoc (codes " ") y (codes " 1")))
-    ∙ ap (λ d. text ++ (x ++ (codes " " ++ (y ++ (codes " " ++ d))))) (sym (decimal_digit 1 (lit< tt)))

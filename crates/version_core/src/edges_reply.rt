@@ -10,8 +10,9 @@ ghost use Rattle.layer_book.specs.Fault.{RefusedBy};
 ghost use Rattle.tile_build.specs.Tile.{tile_of};
 ghost use Rattle.version_core.specs.Edges.{AreEdges, HasEndMore, HasLineMore, IsTextOf, edges_refusal, point_text, tile_absence};
 
-use crate::end_texts::{EndText, EndTexts};
+use crate::end_texts::{EndText, EndTexts, mark_of};
 use crate::fault::VersionFault;
+use crate::place_text::PlaceText;
 use crate::version::Version;
 use exact_point::{HPoint, PointName};
 use itoa::Buffer;
@@ -66,7 +67,7 @@ fn written(alloc: Global, pieces: &[Piece]) -> Result<Vec<u8>, AllocError>
     ensures { IfOk result (λ text. IsTextOf (map ends_of pieces.now) text.items) }
 {
     let mut text = head_line(alloc, pieces.len())?;
-    let mut texts = EndTexts::new(alloc);
+    let mut texts = EndTexts::new(alloc, pieces.len());
     for piece in pieces {
         push_line(&mut text, &mut texts, piece)?;
     }
@@ -110,13 +111,14 @@ fn push_end(
         push_whole(text, *point)?;
         return Ok(());
     }
-    if let Some(kept) = texts.find(name) {
-        text.extend_from_slice(kept.text.as_str().as_bytes())?;
+    let mark = mark_of(name);
+    if let Some(kept) = texts.find(name, mark) {
+        text.extend_from_slice(kept.text.as_bytes())?;
         return Ok(());
     }
     let made = EndText::new(name, &place_at(piece, name));
-    text.extend_from_slice(made.text.as_str().as_bytes())?;
-    texts.keep(made)?;
+    text.extend_from_slice(made.text.as_bytes())?;
+    texts.keep(made, mark);
     Ok(())
 }
 
@@ -124,11 +126,8 @@ fn push_end(
 fn push_whole(text: &mut Vec<u8>, point: Pt) -> Result<(), AllocError>
     ensures { OnOk result (text.new.items ≡ text.old.items ++ point_text (whole point)) }
 {
-    let mut digits = Buffer::new();
-    text.extend_from_slice(digits.format(point.x()).as_bytes())?;
-    text.push(b' ')?;
-    text.extend_from_slice(digits.format(point.y()).as_bytes())?;
-    text.extend_from_slice(b" 1")?;
+    let made = PlaceText::new(&HPoint::of(point));
+    text.extend_from_slice(made.as_bytes())?;
     Ok(())
 }
 

@@ -7,27 +7,23 @@ ghost use Rattle.exact_point.specs.PlaceOf.{place_of};
 ghost use Rattle.exact_point.specs.Reduced.{IsLowest};
 ghost use Rattle.version_core.specs.Edges.{point_text};
 
-use arrayvec::ArrayString;
+use crate::place_text::PlaceText;
 use exact_point::{HPoint, PointName, reduced};
-use itoa::Buffer;
 use plane_base::Seg;
-use std::alloc::{AllocError, Global};
+use std::alloc::Global;
 
-/// How many texts are kept at once.
-const KEPT: usize = 1024;
-
-/// How many bytes a text has at most: three numbers of up to 40 bytes each, and two spaces.
-const TEXT_MAX: usize = 122;
+/// How many texts are kept at once at most.
+const KEPT: usize = 4096;
 
 /// The place of a name in lowest terms, and its text.
 #[derive(Debug, Drop)]
 pub(crate) struct EndText {
     pub(crate) name: PointName,
     low: HPoint,
-    pub(crate) text: ArrayString<TEXT_MAX>,
+    pub(crate) text: PlaceText,
     ghost same: { IsTrue (same_place (place low) (place_of name)) },
     ghost lowest: { IsLowest (place low) },
-    ghost is_text: { text.bytes ≡ point_text (place low) },
+    ghost is_text: { text ≡ point_text (place low) },
 }
 
 impl EndText {
@@ -37,7 +33,7 @@ impl EndText {
         ensures { result.name ≡ name.now }
     {
         let low = reduced(point);
-        let text = text_of(&low);
+        let text = PlaceText::new(&low);
         EndText {
             name: *name,
             low,
@@ -46,24 +42,28 @@ impl EndText {
     }
 }
 
-/// The texts that are kept, each in the slot that its name has. There are no slots before the first.
+/// The texts that are kept, each in the slot that its name has. There are no slots before the first text.
 #[derive(Debug, Drop)]
 pub(crate) struct EndTexts {
     slots: Vec<Option<EndText>>,
+    /// How many slots there will be: 0 where there was no memory for them.
+    wanted: usize,
 }
 
 impl EndTexts {
-    pub(crate) fn new(alloc: Global) -> EndTexts {
+    /// Room for the ends of so many pieces.
+    pub(crate) fn new(alloc: Global, pieces: usize) -> EndTexts {
         EndTexts {
             slots: Vec::new(alloc),
+            wanted: pieces.min(KEPT),
         }
     }
 
     /// The text of the place that has a name, if it is kept.
-    pub(crate) fn find(&self, name: &PointName) -> Option<&EndText>
+    pub(crate) fn find(&self, name: &PointName, mark: u64) -> Option<&EndText>
         ensures { IfSome result (λ kept. kept.now.name ≡ name.now) }
     {
-        match self.slots.get(slot_of(name)) {
+        match self.slots.get(self.slot_of(mark)) {
             Some(Some(kept)) => {
                 if is_same(&kept.name, name) {
                     Some(kept)
@@ -75,19 +75,32 @@ impl EndTexts {
         }
     }
 
-    /// Keeps a text, in the place of another one in its slot.
-    pub(crate) fn keep(&mut self, text: EndText) -> Result<(), AllocError> {
-        let slot = slot_of(&text.name);
-        if self.slots.is_empty() {
-            self.slots.reserve(KEPT)?;
+    /// Keeps a text, in the place of another one in its slot, where there is memory for slots.
+    pub(crate) fn keep(&mut self, text: EndText, mark: u64) {
+        if self.slots.len() < self.wanted {
+            self.make_slots();
         }
-        for _ in self.slots.len()..KEPT {
-            self.slots.push(None)?;
-        }
+        let slot = self.slot_of(mark);
         if let Some(kept) = self.slots.get_mut(slot) {
             *kept = Some(text);
         }
-        Ok(())
+    }
+
+    /// The slot of the names with a mark: as far among the slots as the mark among all marks.
+    fn slot_of(&self, mark: u64) -> usize {
+        (mark.wrapping_mul(self.slots.len() as u64) >> 32) as usize
+    }
+
+    /// Makes the slots at once, or says that none are wanted any more.
+    fn make_slots(&mut self) {
+        if self.slots.reserve(self.wanted).is_err() {
+            self.wanted = 0;
+        }
+        for _ in self.slots.len()..self.wanted {
+            if self.slots.push(None).is_err() {
+                return;
+            }
+        }
     }
 }
 
@@ -102,14 +115,14 @@ fn is_same(name: &PointName, other: &PointName) -> bool
     }
 }
 
-/// The slot of a name. Two names seldom have the same one.
-fn slot_of(name: &PointName) -> usize {
+/// A number of up to 32 bits for a name. Two names seldom have the same one.
+pub(crate) fn mark_of(name: &PointName) -> u64 {
     let mixed = match name {
         PointName::Vertex(_) => 0,
         PointName::Cross(a, b) => mixed(a).wrapping_mul(31).wrapping_add(mixed(b)),
         PointName::Border(seg, _) => mixed(seg),
     };
-    (mixed.unsigned_abs() >> 40) as usize % KEPT
+    mixed.unsigned_abs() >> 31
 }
 
 /// The coordinates of a segment as one number: each times a large odd number, so that segments differ in its upper bits
@@ -125,18 +138,4 @@ fn mixed(seg: &Seg) -> i64 {
         .wrapping_mul(0x165667B19E3779F9)
         .wrapping_add(right.y().wrapping_mul(0x56E8FEB86659FD93));
     from.wrapping_add(to)
-}
-
-/// A place as text.
-fn text_of(point: &HPoint) -> ArrayString<TEXT_MAX>
-    ensures { result.bytes ≡ point_text (place point.now) }
-{
-    let mut digits = Buffer::new();
-    let mut text = ArrayString::new();
-    text.push_str(digits.format(point.x));
-    text.push_str(" ");
-    text.push_str(digits.format(point.y));
-    text.push_str(" ");
-    text.push_str(digits.format(point.w));
-    text
 }

@@ -8,6 +8,7 @@ pub mod fault;
 pub mod finishing;
 pub mod locating;
 pub mod pending_tiles;
+mod place_text;
 pub mod reporting;
 pub mod restoring;
 pub mod submitting;

@@ -1,4 +1,4 @@
-use Rattle.std.proofs.Common.{sym, subst, ◌∙◌}
+use Rattle.std.proofs.Common.{◌++◌, ap, sym, subst, ◌∙◌}
 use Rattle.exact_point.specs.PlaceOf.{place_of}
 use Rattle.version_core.specs.Edges.{HasEndMore}
 use Rattle.version_core.proofs.EdgeLemmas.{end_more, whole_more}
@@ -7,12 +7,12 @@ use Rattle.version_core.proofs.edges_reply.push_end.Goals as goal
 pub returns-in-Some : goal.returns-in-Some
 returns-in-Some c =
     let kept = c.in-Some.kept.now in
-    end_more kept.name c.args.name.now kept.low _ _ _ c.in-Some.ensures kept.same kept.lowest (c.as_bytes.ensures.value ∙ c.as_str.ensures.value ∙ kept.is_text) c.in_ok-extend_from_slice.ensures.items
+    end_more kept.name c.args.name.now kept.low _ _ kept.text c.in-Some.ensures kept.same kept.lowest kept.is_text (c.in_ok-extend_from_slice.ensures.items ∙ ap (λ t. c.args.text.now.items ++ t) c.as_bytes.ensures)
 
 pub returns : goal.returns
 returns c =
     let made = c.new-made.result in
-    end_more made.name c.args.name.now made.low _ _ _ c.new-made.ensures made.same made.lowest (c.as_bytes-2.ensures.value ∙ c.as_str-2.ensures.value ∙ made.is_text) c.in_ok-extend_from_slice-2.ensures.items
+    end_more made.name c.args.name.now made.low _ _ made.text c.new-made.ensures made.same made.lowest made.is_text (c.in_ok-extend_from_slice-2.ensures.items ∙ ap (λ t. c.args.text.now.items ++ t) c.as_bytes-2.ensures)
 
 pub returns-in-Vertex : goal.returns-in-Vertex
 returns-in-Vertex c =

@@ -1,0 +1,65 @@
+//! A place as text.
+ghost use Rattle.std.specs.Prelude.{◌≡◌, ℕ, ◌+◌, ◌^◌, ◌≤◌, List, ◌++◌, drop, unsigned_abs};
+ghost use Rattle.std.specs.Fmt.{signed_decimal};
+ghost use Rattle.exact_point.specs.Place.{place};
+ghost use Rattle.version_core.specs.Edges.{point_text};
+
+use exact_point::HPoint;
+use itoa::write_digits;
+use std::marker::Model;
+
+/// How many bytes there are for a text: its three numbers have a sign and 19 digits at most, with a space between them.
+const TEXT_MAX: usize = 64;
+
+/// A text that ends with the last byte, as it is put down from its end to its start.
+#[derive(Debug, Drop)]
+pub(crate) struct PlaceText {
+    bytes: [u8; TEXT_MAX],
+    start: usize,
+}
+
+impl Model for PlaceText {
+    ghost Value = { List ℕ };
+
+    ghost view = { λ t. drop t.start t.bytes };
+
+    ghost invariant = { λ t. t.start ≤ 64 };
+}
+
+impl PlaceText {
+    /// A place as `x y w`.
+    pub(crate) fn new(point: &HPoint) -> PlaceText
+        ensures { result ≡ point_text (place point.now) }
+    {
+        let mut bytes = [0; TEXT_MAX];
+        let w = put_number(&mut bytes, TEXT_MAX, point.w);
+        bytes[w - 1] = b' ';
+        let y = put_number(&mut bytes, w - 1, point.y);
+        bytes[y - 1] = b' ';
+        let start = put_number(&mut bytes, y - 1, point.x);
+        PlaceText { bytes, start }
+    }
+
+    pub(crate) fn as_bytes(&self) -> &[u8]
+        ensures { result.now ≡ self.now }
+    {
+        &self.bytes[self.start..]
+    }
+}
+
+/// Puts a number down before a place among the bytes, and tells where it starts.
+fn put_number(bytes: &mut [u8; TEXT_MAX], end: usize, n: i128) -> usize
+    requires small { unsigned_abs n ≤ 2 ^ 63 }
+    requires room { 20 ≤ end }
+    requires within { end ≤ 64 }
+    ensures before { result ≤ end }
+    ensures short { end ≤ result + 20 }
+    ensures written { drop result bytes.new ≡ signed_decimal n ++ drop end bytes.old }
+{
+    let start = write_digits(n.unsigned_abs() as u64, bytes, end);
+    if n >= 0 {
+        return start;
+    }
+    bytes[start - 1] = b'-';
+    start - 1
+}
