@@ -18,8 +18,8 @@ use Rattle.commit_plan.proofs.Reading.{calm_stands}
 use Rattle.root_store.proofs.Steps.{rest_either, shut_either, both_either}
 use Rattle.flush_core.specs.declared.flusher.Flusher.{Flusher}
 use Rattle.overlay_engine.specs.Start.{Start, layers_from}
-use Rattle.overlay_engine.specs.Covers.{IsStored, Covered, UnderWay, In, Covers, added, ReportsStored}
-use Rattle.overlay_engine.specs.Laws.{EventsCover, CoveredStays}
+use Rattle.overlay_engine.specs.Covers.{IsStored, Covered, AtRest, UnderWay, In, Covers, added, ReportsStored}
+use Rattle.overlay_engine.specs.Laws.{EventsCover, CoveredRests, CoveredStays}
 
 -- ---- more batches, and a smaller least
 
@@ -149,3 +149,8 @@ events_cover g start f old new event batches covers follows reported = event_cov
 
 pub covers_leaves : {D : Type 0} (g : Ghosts D) → CoveredStays g
 covers_leaves g start f version batches covers = stored_leaves g start f version batches covers
+
+pub covered_rests : {D : Type 0} (g : Ghosts D) → CoveredRests g
+covered_rests g start f version batches covers idle =
+    let rest : AtRest g start f batches = subst (λ (q : Phase). In g start q f batches) idle covers.store in
+    (rest.x, rest.stands)

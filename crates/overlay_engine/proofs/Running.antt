@@ -9,8 +9,9 @@ use Rattle.overlay_engine.specs.declared.step.Step.{Step}
 use Rattle.overlay_engine.specs.declared.step.Reply.{Reply}
 use Rattle.overlay_engine.specs.Start.{Start}
 use Rattle.overlay_engine.specs.Covers.{Covered, Covers}
+use Rattle.overlay_engine.specs.Committing.{CommitsJust}
 use Rattle.overlay_engine.specs.Acts.{Acts, Survives, accepted_by}
-use Rattle.overlay_engine.specs.Runs.{Made, Leads, EachSurvives, Drives, CrashesIn, accepted_in}
+use Rattle.overlay_engine.specs.Runs.{Made, Leads, EachSurvives, EachCommits, Drives, CrashesIn, accepted_in}
 
 accepted_push : {D : Type 0} (run : List (Made D)) (made : Made D) → accepted_in (run ++ made ∷ []) ≡ accepted_in run ++ accepted_by made.step made.reply
 accepted_push [] made = append-nil (accepted_by made.step made.reply)
@@ -35,18 +36,23 @@ module _ {D : Type 0} (g : Ghosts D) where
         (sym (append_assoc batches (accepted_by first.step first.reply) (accepted_in run))) last),
   )
 
+  commit_on : (run : List (Made D)) (made : Made D) → EachCommits g run → CommitsJust g made.old made.reply made.new → EachCommits g (run ++ made ∷ [])
+  commit_on [] made each last = (last, tt)
+  commit_on (first ∷ run) made (commits, each) last = (commits, commit_on run made each last)
+
   -- before the first step
   pub not_driven : (old : Engine D) → Drives g [] old [] old
   not_driven old = record {
     run = [];
     is = record { asked = refl; answered = refl; leads = refl };
+    commits = tt;
     survives = λ start batches covers. (tt, subst (Covers g start old.flusher old.version) (sym (append-nil batches)) covers);
   }
 
   pub driven_on : (steps : List Step) (old : Engine D) (replies : List Reply) (mid : Engine D) (step : Step) (reply : Reply) (new : Engine D) → Drives g steps old replies mid
-      → Acts g step mid reply new → ((start : Start) (batches : List Batch) → Covers g start mid.flusher mid.version batches → Survives g start batches step mid reply new)
+      → Acts g step mid reply new → CommitsJust g mid reply new → ((start : Start) (batches : List Batch) → Covers g start mid.flusher mid.version batches → Survives g start batches step mid reply new)
       → Drives g (steps ++ step ∷ []) old (replies ++ reply ∷ []) new
-  driven_on steps old replies mid step reply new drives acts survives =
+  driven_on steps old replies mid step reply new drives acts commits survives =
       let made : Made D = record { step = step; old = mid; reply = reply; new = new } in
       let run = drives.run in
       record {
@@ -56,6 +62,7 @@ module _ {D : Type 0} (g : Ghosts D) where
           answered = map-append (λ (m : Made D). m.reply) run (made ∷ []) ∙ ap (λ (l : List Reply). l ++ reply ∷ []) drives.is.answered;
           leads = leads_on old mid run made drives.is.leads refl acts;
         };
+        commits = commit_on run made drives.commits commits;
         survives = λ start batches covers.
             let so_far = drives.survives start batches covers in
             let last = survives start (batches ++ accepted_in run) so_far.1 in

@@ -19,7 +19,6 @@ use Rattle.overlay_engine.specs.Start.{Start}
 use Rattle.overlay_engine.specs.Covers.{Covered, Covers, Moves, added, ReportsStored}
 use Rattle.overlay_engine.specs.Steps.{Submits, SubmitsAll, Takes, Finishes, Reports}
 use Rattle.overlay_engine.specs.Devices.{Calls, Devices}
-use Rattle.overlay_engine.specs.Committing.{IsToCommit, Committed}
 use Rattle.overlay_engine.specs.Acts.{Survives, accepted_by}
 use Rattle.overlay_engine.proofs.Covering.{events_cover}
 use Rattle.overlay_engine.proofs.Recovering.{stays_covered}
@@ -45,12 +44,11 @@ module _ {D : Type 0} (g : Ghosts D) where
 
 module _ {D : Type 0} (g : Ghosts D) (start : Start) (batches : List Batch) (old : Engine D) (covers : Covers g start old.flusher old.version batches) where
   pub moved : (reply : Reply) (new : Engine D) → Devices g old reply new → Moves g start old.flusher new.flusher old.version batches
-      → ((version : Version) → IsToCommit g old version → Committed g version reply new.flusher) → Survives g start batches Device old reply new
-  moved reply new devices moves commits = record {
+      → Survives g start batches Device old reply new
+  moved reply new devices moves = record {
     covers = subst (Covers g start new.flusher new.version) (sym (append-nil batches))
         (subst (λ (v : Version). Covers g start new.flusher v batches) (sym (device_version g old reply new devices)) moves.covers);
     moments = moves.moments;
-    commits = commits;
   }
 
   module _ (now : (c : List ℕ) → g.left_since old.flusher.commit.disk (g.moment old.flusher.commit.disk) c → g.may_leave old.flusher.commit.disk c) where
@@ -60,34 +58,30 @@ module _ {D : Type 0} (g : Ghosts D) (start : Start) (batches : List Batch) (old
         (stays_covered g start old.flusher old.version batches old.flusher.commit.disk refl now covers)
 
     by_event : (step : Step) (reply : Reply) (new : Engine D) (event : Event) → accepted_by step reply ≡ added event → Follows old.version event new.version
-        → ReportsStored old.flusher event → new.flusher ≡ old.flusher → ((version : Version) → IsToCommit g old version → Committed g version reply new.flusher)
+        → ReportsStored old.flusher event → new.flusher ≡ old.flusher
         → Survives g start batches step old reply new
-    by_event step reply new event adds follows reported same commits = record {
+    by_event step reply new event adds follows reported same = record {
       covers = subst (λ (more : List Batch). Covers g start new.flusher new.version (batches ++ more)) (sym adds)
           (subst (λ (f : Flusher D). Covers g start f new.version (batches ++ added event)) (sym same)
           (events_cover g start old.flusher old.version new.version event batches covers follows reported));
       moments = still new same;
-      commits = commits;
     }
 
-    by_nothing : (step : Step) (reply : Reply) (new : Engine D) → accepted_by step reply ≡ [] → new.version ≡ old.version → new.flusher ≡ old.flusher
-        → ((version : Version) → IsToCommit g old version → Committed g version reply new.flusher) → Survives g start batches step old reply new
-    by_nothing step reply new adds version same commits = record {
+    by_nothing : (step : Step) (reply : Reply) (new : Engine D) → accepted_by step reply ≡ [] → new.version ≡ old.version → new.flusher ≡ old.flusher → Survives g start batches step old reply new
+    by_nothing step reply new adds version same = record {
       covers = subst (Covers g start new.flusher new.version) (sym (ap (λ (more : List Batch). batches ++ more) adds ∙ append-nil batches))
           (subst (λ (f : Flusher D). Covers g start f new.version batches) (sym same)
           (subst (λ (v : Version). Covers g start old.flusher v batches) (sym version) covers));
       moments = still new same;
-      commits = commits;
     }
 
-    unchanged : (step : Step) (reply : Reply) (new : Engine D) → accepted_by step reply ≡ [] → new ≡ old
-        → ((version : Version) → IsToCommit g old version → Committed g version reply new.flusher) → Survives g start batches step old reply new
-    unchanged step reply new adds same commits = by_nothing step reply new adds (ap (λ (e : Engine D). e.version) same) (ap (λ (e : Engine D). e.flusher) same) commits
+    unchanged : (step : Step) (reply : Reply) (new : Engine D) → accepted_by step reply ≡ [] → new ≡ old → Survives g start batches step old reply new
+    unchanged step reply new adds same = by_nothing step reply new adds (ap (λ (e : Engine D). e.version) same) (ap (λ (e : Engine D). e.flusher) same)
 
     pub submitted : (change : code.Command) (reply : Reply) (new : Engine D) → Submits (command change) old reply new → Survives g start batches (Submit change) old reply new
     submitted change (Accepted number) new submits =
-        by_event (Submit change) (Accepted number) new (accepted 0 (command change ∷ [])) refl ((one_follows_alike old.version new.version (command change)).1 submits.0) tt (ap (λ (e : Engine D). e.flusher) submits.2) (λ version is. tt)
-    submitted change (Refused code) new submits = unchanged (Submit change) (Refused code) new refl submits.1 (λ version is. tt)
+        by_event (Submit change) (Accepted number) new (accepted 0 (command change ∷ [])) refl ((one_follows_alike old.version new.version (command change)).1 submits.0) tt (ap (λ (e : Engine D). e.flusher) submits.2)
+    submitted change (Refused code) new submits = unchanged (Submit change) (Refused code) new refl submits.1
     submitted change (Taken number) new submits = absurd submits
     submitted change NoJob new submits = absurd submits
     submitted change Kept new submits = absurd submits
@@ -99,9 +93,9 @@ module _ {D : Type 0} (g : Ghosts D) (start : Start) (batches : List Batch) (old
 
     pub submitted_all : (batch : Batch) (reply : Reply) (new : Engine D) → SubmitsAll batch old reply new → Survives g start batches (SubmitAll batch) old reply new
     submitted_all batch (Accepted number) new submits =
-        by_event (SubmitAll batch) (Accepted number) new (accepted 0 batch) refl submits.0 tt (ap (λ (e : Engine D). e.flusher) submits.2) (λ version is. tt)
-    submitted_all batch (Refused code) new submits = unchanged (SubmitAll batch) (Refused code) new refl submits.1 (λ version is. tt)
-    submitted_all batch (RefusedAt place code) new submits = unchanged (SubmitAll batch) (RefusedAt place code) new refl submits.1 (λ version is. tt)
+        by_event (SubmitAll batch) (Accepted number) new (accepted 0 batch) refl submits.0 tt (ap (λ (e : Engine D). e.flusher) submits.2)
+    submitted_all batch (Refused code) new submits = unchanged (SubmitAll batch) (Refused code) new refl submits.1
+    submitted_all batch (RefusedAt place code) new submits = unchanged (SubmitAll batch) (RefusedAt place code) new refl submits.1
     submitted_all batch (Taken number) new submits = absurd submits
     submitted_all batch NoJob new submits = absurd submits
     submitted_all batch Kept new submits = absurd submits
@@ -111,9 +105,9 @@ module _ {D : Type 0} (g : Ghosts D) (start : Start) (batches : List Batch) (old
     submitted_all batch (Durable number) new submits = absurd submits
 
     pub taken : (name : Name) (column : ℕ) (reply : Reply) (new : Engine D) → Takes name column old reply new → Survives g start batches (Take name column) old reply new
-    taken name column (Taken number) new takes = by_nothing (Take name column) (Taken number) new refl takes.2.version takes.2.flusher (λ version is. tt)
-    taken name column NoJob new takes = unchanged (Take name column) NoJob new refl takes.2 (λ version is. tt)
-    taken name column (Refused code) new takes = by_nothing (Take name column) (Refused code) new refl takes.2.version takes.2.flusher (λ version is. tt)
+    taken name column (Taken number) new takes = by_nothing (Take name column) (Taken number) new refl takes.2.version takes.2.flusher
+    taken name column NoJob new takes = unchanged (Take name column) NoJob new refl takes.2
+    taken name column (Refused code) new takes = by_nothing (Take name column) (Refused code) new refl takes.2.version takes.2.flusher
     taken name column (Accepted number) new takes = absurd takes
     taken name column Kept new takes = absurd takes
     taken name column Stale new takes = absurd takes
@@ -123,10 +117,10 @@ module _ {D : Type 0} (g : Ghosts D) (start : Start) (batches : List Batch) (old
     taken name column (Durable number) new takes = absurd takes
 
     pub finished : (job : ℕ) (reply : Reply) (new : Engine D) → Finishes job old reply new → Survives g start batches (Finish job) old reply new
-    finished job Kept new (held, gives, (awaited, tile, follows)) = by_event (Finish job) Kept new (kept held.name held.input.column tile) refl follows tt gives.flusher (λ version is. tt)
-    finished job Stale new (held, gives, stale, same) = by_nothing (Finish job) Stale new refl same gives.flusher (λ version is. tt)
-    finished job NoJob new finishes = unchanged (Finish job) NoJob new refl finishes.1 (λ version is. tt)
-    finished job (Refused code) new finishes = unchanged (Finish job) (Refused code) new refl finishes.2 (λ version is. tt)
+    finished job Kept new (held, gives, (awaited, tile, follows)) = by_event (Finish job) Kept new (kept held.name held.input.column tile) refl follows tt gives.flusher
+    finished job Stale new (held, gives, stale, same) = by_nothing (Finish job) Stale new refl same gives.flusher
+    finished job NoJob new finishes = unchanged (Finish job) NoJob new refl finishes.1
+    finished job (Refused code) new finishes = unchanged (Finish job) (Refused code) new refl finishes.2
     finished job (Accepted number) new finishes = absurd finishes
     finished job (RefusedAt place code) new finishes = absurd finishes
     finished job (Taken number) new finishes = absurd finishes
@@ -136,10 +130,10 @@ module _ {D : Type 0} (g : Ghosts D) (start : Start) (batches : List Batch) (old
 
     pub reported : (reply : Reply) (new : Engine D) → Reports old reply new → Survives g start batches Report old reply new
     reported (Durable number) new (inl follows, told, same) =
-        by_event Report (Durable number) new (durable_to old.flusher.commit.root.version) refl follows (omega arith) (ap (λ (e : Engine D). e.flusher) same) (λ version is. tt)
+        by_event Report (Durable number) new (durable_to old.flusher.commit.root.version) refl follows (omega arith) (ap (λ (e : Engine D). e.flusher) same)
     reported (Durable number) new (inr stays, told, same) =
-        by_nothing Report (Durable number) new refl stays.same (ap (λ (e : Engine D). e.flusher) same) (λ version is. tt)
-    reported (Refused code) new reports = unchanged Report (Refused code) new refl reports.1 (λ version is. tt)
+        by_nothing Report (Durable number) new refl stays.same (ap (λ (e : Engine D). e.flusher) same)
+    reported (Refused code) new reports = unchanged Report (Refused code) new refl reports.1
     reported (Accepted number) new reports = absurd reports
     reported (Taken number) new reports = absurd reports
     reported NoJob new reports = absurd reports

@@ -3,7 +3,6 @@ use Rattle.std.specs.Prelude.{List, [], ◌∷◌, ◌++◌}
 use Rattle.disk_model.specs.declared.disk.Disk.{Ghosts}
 use Rattle.disk_model.specs.Moments.{LeavesOnly}
 use Rattle.overlay_terms.specs.Batches.{Batch}
-use Rattle.overlay_terms.specs.Histories.{Version}
 use Rattle.layer_book.specs.Command.{command}
 use Rattle.overlay_engine.specs.declared.engine.Engine.{Engine}
 use Rattle.overlay_engine.specs.declared.step.Step.{Step}
@@ -12,7 +11,6 @@ use Rattle.overlay_engine.specs.declared.step.Reply.{Reply}
 use Rattle.overlay_engine.specs.declared.step.Reply.TheVariants.{Accepted}
 use Rattle.overlay_engine.specs.Start.{Start}
 use Rattle.overlay_engine.specs.Covers.{Covered, Covers}
-use Rattle.overlay_engine.specs.Committing.{IsToCommit, Committed}
 use Rattle.overlay_engine.specs.Steps.{Submits, SubmitsAll, Takes, Finishes, Reports}
 use Rattle.overlay_engine.specs.Devices.{Devices}
 
@@ -31,8 +29,7 @@ accepted_by (Submit change) (Accepted number) = (command change ∷ []) ∷ []
 accepted_by (SubmitAll batch) (Accepted number) = batch ∷ []
 accepted_by step reply = []
 
--- a step of an engine that has accepted these batches: the store covers them, with the step's, as it ends; and a crash at any moment of the step leaves a version of them that is no older than what was durable as it began; what a device step commits is the version with which its commit began
+-- a step of an engine that has accepted these batches: the store covers them, with the step's, as it ends; and a crash at any moment of the step leaves a version of them that is no older than what was durable as it began
 pub record Survives {D : Type 0} (g : Ghosts D) (start : Start) (batches : List Batch) (step : Step) (old : Engine D) (reply : Reply) (new : Engine D) : Type 0 where
   pub covers : Covers g start new.flusher new.version (batches ++ accepted_by step reply)
   pub moments : LeavesOnly g old.flusher.commit.disk new.flusher.commit.disk (Covered start old.version.durable batches)
-  pub commits : (version : Version) → IsToCommit g old version → Committed g version reply new.flusher

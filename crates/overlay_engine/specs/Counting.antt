@@ -3,18 +3,17 @@ use Rattle.std.specs.Prelude.{◌≡◌, ℕ, ◌+◌, false, List, [], ◌∷�
 use Rattle.std.specs.List.{AllByRecursion}
 use Rattle.disk_model.specs.declared.disk.Disk.{Ghosts}
 use Rattle.disk_model.specs.Moments.{Leaves}
-use Rattle.overlay_terms.specs.Batches.{Batch}
-use Rattle.root_store.specs.Running.{is_busy}
+use Rattle.commit_plan.specs.Kept.{Kept}
+use Rattle.root_store.specs.Running.{Stands, is_busy}
 use Rattle.flush_core.specs.Stored.{calls_of}
 use Rattle.overlay_engine.specs.declared.engine.Engine.{Engine}
 use Rattle.overlay_engine.specs.declared.step.Step.{Step}
 use Rattle.overlay_engine.specs.declared.step.Step.TheVariants.{Submit, SubmitAll, Take, Finish, Device, Report}
 use Rattle.overlay_engine.specs.declared.step.Reply.TheVariants.{Refused, Going, Done}
-use Rattle.overlay_engine.specs.Start.{Start}
 use Rattle.overlay_engine.specs.Acts.{Acts}
-use Rattle.overlay_engine.specs.Committing.{IsFileOf}
+use Rattle.overlay_engine.specs.Committing.{IsFileOf, RestsWith}
 use Rattle.overlay_engine.specs.Devices.{DeviceFailed}
-use Rattle.overlay_engine.specs.Runs.{Made, Leads, EachSurvives}
+use Rattle.overlay_engine.specs.Runs.{Made, Leads, EachCommits}
 
 -- how many device calls are asked for by a step
 abbrev pub calls_asked : Step → ℕ
@@ -61,7 +60,7 @@ module _ {D : Type 0} (g : Ghosts D) where
   abbrev pub CommitTells : Type 0
   CommitTells = (old : Engine D) (run : List (Made D)) (new : Engine D) (whole : IsWholeCommit old run new) → whole.number ≡ old.version.number
 
-  -- and, where each of its steps is survived, it leaves that version: every file that a crash may leave then stands for its number, its layers and its finished tiles
+  -- and, where the store stood for something before it, it leaves that version, whichever tiles that has: the store rests with it, and every file that a crash may leave then stands for its number, its layers and its finished tiles
   abbrev pub CommitLeaves : Type 0
-  CommitLeaves = (start : Start) (batches : List Batch) (old : Engine D) (run : List (Made D)) (new : Engine D) → EachSurvives g start batches run → IsWholeCommit old run new
-      → Leaves g new.flusher.commit.disk (IsFileOf old.version)
+  CommitLeaves = (old : Engine D) (run : List (Made D)) (new : Engine D) (x : Kept) → Stands g old.flusher.commit x → EachCommits g run → IsWholeCommit old run new
+      → RestsWith g new.flusher old.version × Leaves g new.flusher.commit.disk (IsFileOf old.version)

@@ -26,6 +26,12 @@ module _ {D : Type 0} (g : Ghosts D) where
       (start : Start) (f : Flusher D) (version : Version) (batches : List Batch)
       → Covers g start f version batches → Leaves g f.commit.disk (Covered start f.commit.root.version batches)
 
+  -- and it stands for something, where no commit is under way and no call has failed
+  abbrev pub CoveredRests : Type 0
+  CoveredRests =
+      (start : Start) (f : Flusher D) (version : Version) (batches : List Batch)
+      → Covers g start f version batches → f.commit.phase ≡ Idle → (x : Kept) × Stands g f.commit x
+
   -- a store that was opened on this disk, with what its file holds
   pub record IsOpened (disk : D) (f : Flusher D) (x : Kept) : Type 0 where
     pub stays : g.may_leave disk (g.seen disk)

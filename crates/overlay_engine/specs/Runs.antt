@@ -1,5 +1,6 @@
 -- Runs of an engine: steps, one after the other.
 use Rattle.std.specs.Prelude.{◌≡◌, ℕ, List, [], ◌∷◌, ◌++◌, map, flat_map}
+use Rattle.std.specs.List.{AllByRecursion}
 use Rattle.disk_model.specs.declared.disk.Disk.{Ghosts}
 use Rattle.overlay_terms.specs.Batches.{Batch}
 use Rattle.overlay_engine.specs.declared.engine.Engine.{Engine}
@@ -7,6 +8,7 @@ use Rattle.overlay_engine.specs.declared.step.Step.{Step}
 use Rattle.overlay_engine.specs.declared.step.Reply.{Reply}
 use Rattle.overlay_engine.specs.Start.{Start}
 use Rattle.overlay_engine.specs.Covers.{Covers}
+use Rattle.overlay_engine.specs.Committing.{CommitsJust}
 use Rattle.overlay_engine.specs.Acts.{Acts, Survives, accepted_by}
 
 -- a step that was made: what was asked, of which engine, what was answered, and which engine it left
@@ -38,10 +40,15 @@ module _ {D : Type 0} (g : Ghosts D) where
   EachSurvives start batches (made ∷ run) =
       Survives g start batches made.step made.old made.reply made.new × EachSurvives start (batches ++ accepted_by made.step made.reply) run
 
-  -- steps are made one after the other, by a run that a crash within any of its steps survives; in the end the store covers the batches, with those that were accepted
+  -- each step of a run commits just what it is to commit
+  abbrev pub EachCommits : List (Made D) → Type 0
+  EachCommits run = AllByRecursion (λ (made : Made D). CommitsJust g made.old made.reply made.new) run
+
+  -- steps are made one after the other, by a run of which each step commits just what it is to commit, and that a crash within any of its steps survives; in the end the store covers the batches, with those that were accepted
   pub record Drives (steps : List Step) (old : Engine D) (replies : List Reply) (new : Engine D) : Type 0 where
     pub run : List (Made D)
     pub is : IsRun steps old replies new run
+    pub commits : EachCommits run
     pub survives : (start : Start) (batches : List Batch) → Covers g start old.flusher old.version batches
         → EachSurvives start batches run × Covers g start new.flusher new.version (batches ++ accepted_in run)
 

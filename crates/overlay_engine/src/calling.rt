@@ -3,10 +3,11 @@ ghost use Rattle.std.specs.Prelude.{◌≡◌, ℕ, true, List};
 ghost use Rattle.disk_model.specs.Moments.{Leaves};
 ghost use Rattle.overlay_terms.specs.Batches.{Batch};
 ghost use Rattle.overlay_terms.specs.Histories.{Version};
+ghost use Rattle.commit_plan.specs.Kept.{Kept};
 ghost use Rattle.root_store.specs.Running.{KeepsTo, is_busy};
 ghost use Rattle.overlay_engine.specs.Start.{Start};
 ghost use Rattle.overlay_engine.specs.Covers.{Covers, CoveredExactly, Moves};
-ghost use Rattle.overlay_engine.specs.Committing.{Commits, Committed};
+ghost use Rattle.overlay_engine.specs.Committing.{Commits, CarriesOn};
 ghost use Rattle.overlay_engine.specs.Steps.{IfDone};
 ghost use Rattle.overlay_engine.specs.Devices.{Calls};
 
@@ -26,8 +27,8 @@ impl<D: Disk> Engine<D> {
         ensures moves { (start : Start) (batches : List Batch) → Covers D.Disk start self.old.flusher self.old.version batches
             → Moves D.Disk start self.old.flusher self.new.flusher self.old.version batches }
         // What is committed is the version with which the commit began.
-        ensures commits { (version : Version) → Commits D.Disk self.old.flusher version
-            → Committed D.Disk version result self.new.flusher }
+        ensures commits { (x : Kept) (version : Version) → Commits D.Disk self.old.flusher x version
+            → CarriesOn D.Disk x version self.old.flusher result self.new.flusher }
         // After the last call a crash leaves what the commit began with, and nothing older.
         ensures done { (start : Start) (batches : List Batch) → Covers D.Disk start self.old.flusher self.old.version batches
             → IfDone result (λ number. Leaves D.Disk self.new.flusher.commit.disk (CoveredExactly start number batches)) }

@@ -2,11 +2,10 @@
 ghost use Rattle.std.specs.Prelude.{ℕ, List};
 ghost use Rattle.disk_model.specs.Moments.{Leaves};
 ghost use Rattle.overlay_terms.specs.Batches.{Batch};
-ghost use Rattle.overlay_terms.specs.Histories.{Version};
 ghost use Rattle.root_store.specs.Running.{KeepsTo};
 ghost use Rattle.overlay_engine.specs.Start.{Start};
 ghost use Rattle.overlay_engine.specs.Covers.{Covers, CoveredExactly, Moves};
-ghost use Rattle.overlay_engine.specs.Committing.{IsToCommit, Committed};
+ghost use Rattle.overlay_engine.specs.Committing.{CommitsJust};
 ghost use Rattle.overlay_engine.specs.Devices.{Devices};
 ghost use Rattle.overlay_engine.specs.Steps.{IfDone};
 
@@ -26,8 +25,7 @@ impl<D: Disk> Engine<D> {
         ensures moves { (start : Start) (batches : List Batch) → Covers D.Disk start self.old.flusher self.old.version batches
             → Moves D.Disk start self.old.flusher self.new.flusher self.old.version batches }
         // What is committed is the version with which the commit began: the newest one, where none was under way.
-        ensures commits { (start : Start) (batches : List Batch) → Covers D.Disk start self.old.flusher self.old.version batches
-            → (version : Version) → IsToCommit D.Disk self.old version → Committed D.Disk version result self.new.flusher }
+        ensures commits { CommitsJust D.Disk self.old result self.new }
         // After the last call a crash leaves what the commit began with, and nothing older.
         ensures done { (start : Start) (batches : List Batch) → Covers D.Disk start self.old.flusher self.old.version batches
             → IfDone result (λ number. Leaves D.Disk self.new.flusher.commit.disk (CoveredExactly start number batches)) }

@@ -1,6 +1,6 @@
 //! Laws over the definitions: each function does nothing, and its contract is the law.
 ghost use Rattle.overlay_engine.specs.Counting.{CommitCalls, CommitCounts, CommitLeaves, CommitTells, DeviceRefusals};
-ghost use Rattle.overlay_engine.specs.Laws.{BegunCovers, CoveredStays, EventsCover, OpenedRecovers, OpeningIsCovered};
+ghost use Rattle.overlay_engine.specs.Laws.{BegunCovers, CoveredRests, CoveredStays, EventsCover, OpenedRecovers, OpeningIsCovered};
 ghost use Rattle.overlay_engine.specs.Lives.{NothingIsLost};
 ghost use Rattle.overlay_engine.specs.Recovery.{RecoveredAnswers};
 ghost use Rattle.overlay_engine.specs.Start.{Start};
@@ -16,6 +16,11 @@ pub fn events_cover<D: Disk>()
 /// A store that covers a version leaves, whenever the machine crashes, a file that is covered.
 pub fn crash_is_covered<D: Disk>()
     ensures { CoveredStays D.Disk }
+{}
+
+/// A store that covers a version stands for something, where no commit is under way and no call has failed.
+pub fn covered_rests<D: Disk>()
+    ensures { CoveredRests D.Disk }
 {}
 
 /// A store that was opened on a disk of which each outcome is covered covers what its file stands for.
@@ -59,8 +64,8 @@ pub fn commit_tells<D: Disk>()
     ensures { CommitTells D.Disk }
 {}
 
-/// Where each of its steps is survived, as `Engine::drive` tells of an engine whose store covers it, a commit leaves just
-/// the version with which it began.
+/// Where the store stood for something before it, and each of its steps commits just what it is to commit, as
+/// `Engine::drive` tells, a commit leaves just the version with which it began, whichever tiles that has.
 pub fn commit_leaves<D: Disk>()
     ensures { CommitLeaves D.Disk }
 {}

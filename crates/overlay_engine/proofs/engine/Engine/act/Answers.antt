@@ -2,6 +2,7 @@ use Rattle.std.proofs.Common.{refl, sym, subst}
 use Rattle.overlay_engine.specs.declared.step.Step.{Step}
 use Rattle.overlay_engine.specs.declared.step.Step.TheVariants.{Submit, SubmitAll, Take, Finish, Device, Report}
 use Rattle.overlay_engine.specs.Acts.{Survives}
+use Rattle.overlay_engine.proofs.Committed.{none_commits}
 use Rattle.overlay_engine.proofs.Following.{acts_exact, acts_keep}
 use Rattle.overlay_engine.proofs.Surviving.{moved, submitted, submitted_all, taken, finished, reported}
 use Rattle.overlay_engine.proofs.engine.Engine.act.Goals as goal
@@ -38,8 +39,7 @@ pub returns-in-Device-clause-survives : goal.returns-in-Device-clause-survives
 returns-in-Device-clause-survives g c start batches covers =
     let e = c.args.self.now in
     subst (λ (step : Step). Survives g.D.Disk start batches step e c.device.result c.device.new.self) (sym c.in-Device.is)
-    (moved g.D.Disk start batches e covers c.device.result c.device.new.self c.device.ensures.device
-    (c.device.ensures.moves start batches covers) (c.device.ensures.commits start batches covers))
+    (moved g.D.Disk start batches e covers c.device.result c.device.new.self c.device.ensures.device (c.device.ensures.moves start batches covers))
 
 pub returns-in-Report-clause-survives : goal.returns-in-Report-clause-survives
 returns-in-Report-clause-survives g c start batches covers =
@@ -80,3 +80,18 @@ returns-in-Finish-clause-blocks g c limit keeps = acts_keep g.D.Disk (Finish c.i
 
 pub returns-in-Report-clause-blocks : goal.returns-in-Report-clause-blocks
 returns-in-Report-clause-blocks g c limit keeps = acts_keep g.D.Disk Report c.args.self.now c.report.result c.report.new.self c.report.ensures refl limit keeps
+
+pub returns-in-Submit-clause-commits : goal.returns-in-Submit-clause-commits
+returns-in-Submit-clause-commits g c = none_commits g.D.Disk (Submit c.in-Submit.change) c.args.self.now c.submit.result c.submit.new.self c.submit.ensures refl (λ honest f left. g.met.D.Disk.only_now c.args.self.now.flusher.commit.disk f honest left)
+
+pub returns-in-SubmitAll-clause-commits : goal.returns-in-SubmitAll-clause-commits
+returns-in-SubmitAll-clause-commits g c = none_commits g.D.Disk (SubmitAll c.in-SubmitAll.batch) c.args.self.now c.submit_all.result c.submit_all.new.self c.submit_all.ensures refl (λ honest f left. g.met.D.Disk.only_now c.args.self.now.flusher.commit.disk f honest left)
+
+pub returns-in-Take-clause-commits : goal.returns-in-Take-clause-commits
+returns-in-Take-clause-commits g c = none_commits g.D.Disk (Take c.in-Take.name c.in-Take.column) c.args.self.now c.take.result c.take.new.self c.take.ensures refl (λ honest f left. g.met.D.Disk.only_now c.args.self.now.flusher.commit.disk f honest left)
+
+pub returns-in-Finish-clause-commits : goal.returns-in-Finish-clause-commits
+returns-in-Finish-clause-commits g c = none_commits g.D.Disk (Finish c.in-Finish.number) c.args.self.now c.finish.result c.finish.new.self c.finish.ensures refl (λ honest f left. g.met.D.Disk.only_now c.args.self.now.flusher.commit.disk f honest left)
+
+pub returns-in-Report-clause-commits : goal.returns-in-Report-clause-commits
+returns-in-Report-clause-commits g c = none_commits g.D.Disk Report c.args.self.now c.report.result c.report.new.self c.report.ensures refl (λ honest f left. g.met.D.Disk.only_now c.args.self.now.flusher.commit.disk f honest left)

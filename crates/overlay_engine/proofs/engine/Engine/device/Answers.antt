@@ -1,6 +1,6 @@
 use Rattle.std.proofs.Common.{inl, inr, refl, sym, ◌∙◌, subst}
 use Rattle.overlay_engine.proofs.DeviceSteps.{never_both, resting, begun_moves, stays}
-use Rattle.overlay_engine.proofs.Committed.{busy_commits, begun_commits}
+use Rattle.overlay_engine.proofs.Committed.{busy_commits, begun_carries, nothing_moves, is_honest_store}
 use Rattle.overlay_engine.proofs.engine.Engine.device.Goals as goal
 
 pub returns-in-Ok-clause-device : goal.returns-in-Ok-clause-device
@@ -28,14 +28,19 @@ returns-in-Err-clause-moves g c start batches covers =
     stays g.D.Disk start e.flusher c.begin.new.self e.version batches c.in-Err.ensures.err (λ f left. g.met.D.Disk.only_now e.flusher.commit.disk f covers.honest left) covers
 
 pub returns-in-Ok-clause-commits : goal.returns-in-Ok-clause-commits
-returns-in-Ok-clause-commits g c start batches covers version is =
+returns-in-Ok-clause-commits g c =
     let e = c.args.self.now in
     let idle = resting e.flusher.commit.phase (sym c.busy.ensures ∙ c.if-busy.false) (λ failed. never_both c.begin.result _ _ c.in-Ok.is (c.begin.ensures.failed failed)) in
-    c.call-in-Ok.ensures.commits version (begun_commits g.D.Disk start batches e c.begin.new.self version idle c.in-Ok.ensures.begun covers is)
+    begun_carries g.D.Disk e c.begin.new.self c.call-in-Ok.new.self.flusher c.call-in-Ok.result idle c.begin.ensures.disk c.in-Ok.ensures.begun c.call-in-Ok.ensures.commits
+
+pub returns-in-Err-clause-commits : goal.returns-in-Err-clause-commits
+returns-in-Err-clause-commits g c x version is =
+    let e = c.args.self.now in
+    (nothing_moves g.D.Disk e c.begin.new.self x version c.in-Err.ensures.err (λ f left. g.met.D.Disk.only_now e.flusher.commit.disk f (is_honest_store g.D.Disk e x version is) left) is, tt)
 
 pub returns-then-busy-clause-commits : goal.returns-then-busy-clause-commits
-returns-then-busy-clause-commits g c start batches covers version is =
-    c.call.ensures.commits version (busy_commits g.D.Disk c.args.self.now version (sym c.busy.ensures ∙ c.if-busy.true) is)
+returns-then-busy-clause-commits g c x version is =
+    c.call.ensures.commits x version (busy_commits g.D.Disk c.args.self.now x version (sym c.busy.ensures ∙ c.if-busy.true) is)
 
 pub returns-in-Ok-clause-blocks : goal.returns-in-Ok-clause-blocks
 returns-in-Ok-clause-blocks g c limit keeps = c.call-in-Ok.ensures.blocks limit (c.begin.ensures.blocks limit keeps)

@@ -26,7 +26,7 @@ loop-step-preserved g c =
     let was = c.loop-step.invariant in
     let inside : i < length steps = c.loop-step-test.true in
     let more : take i steps ++ step ∷ [] ≡ take (i + 1) steps = ap (λ (s : Step). take i steps ++ s ∷ []) c.step-item.is ∙ sym (take_more steps i step inside) in
-    let on = driven_on k (take i steps) old c.loop-step.replies.items c.loop-step.self step c.act-reply.result new was.drives c.act-reply.ensures.acts c.act-reply.ensures.survives in
+    let on = driven_on k (take i steps) old c.loop-step.replies.items c.loop-step.self step c.act-reply.result new was.drives c.act-reply.ensures.acts c.act-reply.ensures.commits c.act-reply.ensures.survives in
     record {
       drives = subst (λ (replies : List Reply). Drives k (take (i + 1) steps) old replies new) (sym c.in-Ok.ensures.items)
           (subst (λ (first : List Step). Drives k first old (c.loop-step.replies.items ++ c.act-reply.result ∷ []) new) more on);
