@@ -15,7 +15,7 @@ use std::alloc::{AllocError, Global};
 use std::marker::Model;
 
 /// What a pass over a column has found.
-#[derive(Drop)]
+#[derive(Debug, Drop)]
 pub struct Crossed {
     /// The pieces of the boundary, by their left ends, then by their right ends; where they are more
     /// than the cap, some of them, more than the cap too.

@@ -140,7 +140,7 @@ fn place_at(piece: &Piece, name: &PointName) -> HPoint
         Some(place) => place,
         None => {
             // The names of a piece have places, as its ends say.
-            piece.ends();
+            let _ = piece.ends();
             unreachable!()
         }
     }

@@ -62,7 +62,7 @@ impl Version {
     }
 
     /// Whether the tile of an input is awaited: it is pending, and the input is the present one. It takes no memory.
-    pub fn is_awaited(&self, name: &Name, input: &TileInput) -> bool
+    pub(crate) fn is_awaited(&self, name: &Name, input: &TileInput) -> bool
         ensures { IsTrue result ↔ IsAwaited self.now name.now input.now }
     {
         let column = input.column().number();
@@ -98,7 +98,8 @@ fn kept_tile(alloc: Global, built: &Built) -> Result<Arc<Tile>, AllocError>
     ensures right { IsTileAt pieces_max built.now.0 built.now.1 }
     ensures known { built.now.0.column < column_count }
 {
-    built.input().column();
+    // The tile is one of its input's column by the type: the clauses rest on that.
+    let _ = built.input().column();
     let copy = built.tile().try_copy(alloc)?;
     Ok(Arc::new(alloc, copy)?)
 }

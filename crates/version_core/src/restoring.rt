@@ -65,7 +65,8 @@ fn filled(alloc: Global, layers: Layers, tiles: &[StoredTile]) -> Result<Arc<Tab
         let made = table.with_tile(alloc, &stored.name, stored.column, tile)?;
         table = made;
     }
-    table.layers();
+    // A table is laid out as its layers are by its type: the clause rests on that.
+    let _ = table.layers();
     let shared = Arc::new(alloc, table)?;
     Ok(shared)
 }

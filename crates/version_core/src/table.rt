@@ -174,7 +174,8 @@ impl Table {
         ensures valid { IfOk result IsLaid }
     {
         let place = self.layers.index_of(name);
-        column.number();
+        // A column is below their number by its type: the clauses rest on that.
+        let _ = column.number();
         let rows = rows_with(alloc, &self.rows, place, column, tile)?;
         let shared = self.layers.clone()?;
         Ok(Table {

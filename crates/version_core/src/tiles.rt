@@ -117,7 +117,7 @@ impl TileRow {
     }
 
     /// Whether each column has its tile.
-    pub fn is_full(&self) -> bool
+    pub(crate) fn is_full(&self) -> bool
         ensures { result ≡ list_all is_some self.now }
     {
         self.is_full

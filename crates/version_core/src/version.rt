@@ -100,7 +100,8 @@ impl Version {
                 Ok(Arc::new(alloc, table)?)
             }
             VersionContent::Tiled(table) => {
-                table.layers();
+                // A table is laid out as its layers are by its type: the clauses rest on that.
+                let _ = table.layers();
                 Ok(table.clone()?)
             }
         }
