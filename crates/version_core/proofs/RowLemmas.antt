@@ -1,7 +1,8 @@
 -- Slots and rows one after another.
-use Rattle.std.specs.Prelude.{◌≡◌, ℕ, ◌+◌, ◌<◌, ◌≤◌, ◌&&◌, is_some, Bool, true, false, List, [], ◌∷◌, ◌++◌, map, set, take, replicate, slice_get, Option, Some, None, if◌then◌else◌}
-use Rattle.std.specs.List.{range_with_len}
+use Rattle.std.specs.Prelude.{◌≡◌, ℕ, ◌+◌, ◌<◌, ◌≤◌, ◌&&◌, is_some, Bool, true, false, not, List, [], ◌∷◌, ◌++◌, map, set, take, replicate, slice_get, Option, Some, None, if◌then◌else◌}
+use Rattle.std.specs.List.{range_with_len, list_any}
 use Rattle.std.proofs.Common.{zero, suc, nat_lt, length, get_or, refl, ap, sym, subst, ◌∙◌, add-one, arith}
+use Rattle.std.proofs.lemmas.Bool.{not-true}
 use Rattle.std.proofs.lemmas.Bool.Decides.{nat_tests}
 use Rattle.std.proofs.lemmas.List.{map-append}
 use Rattle.overlay_terms.specs.Column.{column_count}
@@ -63,6 +64,46 @@ module _ (marks : List Bool) (row : List (Option Tile)) where
         let past : n ≤ k = grind (arith, nat_tests) in
         let last : n ≡ k = omega arith in
         subst (λ m. left_at_column m ≡ get_or row m None) last (unmarked (get_or marks n false) (get_or row n None) here)
+
+  emptied : (is_marked : Bool) (slot : Option Tile) → (not is_marked && is_some slot) ≡ false → (if is_marked then None else slot) ≡ None
+  emptied true slot e = refl
+  emptied false None e = refl
+  emptied false (Some tile) e = absurd (cc)
+
+  pub bare_more : (n : ℕ) → ((k : ℕ) → k < n → left_at_column k ≡ None) → (not (get_or marks n false) && is_some (get_or row n None)) ≡ false → (k : ℕ) → k < n + 1 → left_at_column k ≡ None
+  bare_more n before here k h = split (nat_lt k n) refl where
+    split : (b : Bool) → nat_lt k n ≡ b → left_at_column k ≡ None
+    split true e = let near : k < n = grind (arith, nat_tests) in before k near
+    split false e =
+        let past : n ≤ k = grind (arith, nat_tests) in
+        let last : n ≡ k = omega arith in
+        subst (λ m. left_at_column m ≡ None) last (emptied (get_or marks n false) (get_or row n None) here)
+
+  -- a row without a tile, whatever is marked
+  nothing_there : (slots : List (Option Tile)) (k : ℕ) → list_any is_some slots ≡ false → get_or slots k None ≡ None
+  nothing_there [] k e = refl
+  nothing_there (None ∷ slots) zero e = refl
+  nothing_there (None ∷ slots) (suc k) e = nothing_there slots k e
+  nothing_there (Some tile ∷ slots) k e = absurd (cc)
+
+  pub bare_stays : (is_bare : Bool) → is_bare ≡ not (list_any is_some row) → is_bare ≡ true → (k : ℕ) → left_at_column k ≡ get_or row k None
+  bare_stays is_bare told none k =
+      let nothing = nothing_there row k (not-true (list_any is_some row) (sym told ∙ none)) in
+      ap (λ (o : Option Tile). if get_or marks k false then None else o) nothing ∙ none_either (get_or marks k false) ∙ sym nothing
+    where
+      none_either : (b : Bool) → ◌≡◌ {A = Option Tile} (if b then None else None) None
+      none_either true = refl
+      none_either false = refl
+
+  pub bare_row : ((k : ℕ) → k < column_count → left_at_column k ≡ None) → replicate column_count None ≡ row_by left_at_column
+  bare_row each = sym (all_none column_count 0 (λ k less. let start : 0 + k ≡ k = omega arith in ap left_at_column start ∙ each k less)) where
+    all_none : (n a : ℕ) → ((k : ℕ) → k < n → left_at_column (a + k) ≡ None) → map left_at_column (range_with_len a n) ≡ replicate n None
+    all_none zero a h = refl
+    all_none (suc n) a h =
+        let start : a ≡ a + 0 = omega arith in
+        let first : left_at_column a ≡ None = ap left_at_column start ∙ h 0 (omega arith) in
+        let rest = all_none n (a + 1) (λ k less. let next : (a + 1) + k ≡ a + suc k = omega arith in ap left_at_column next ∙ h (suc k) (omega (arith, less))) in
+        λ i. first i ∷ rest i
 
   by_column : (f : ℕ → Option Tile) (slots : List (Option Tile)) (a : ℕ) → ((k : ℕ) → k < length slots → f (a + k) ≡ get_or slots k None) → map f (range_with_len a (length slots)) ≡ slots
   by_column f [] a h = refl

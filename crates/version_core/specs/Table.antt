@@ -1,6 +1,6 @@
 -- Finished tiles as a table: a row for each layer, with a slot for each column.
-use Rattle.std.specs.Prelude.{◌≡◌, refl, ℕ, ◌+◌, IsTrue, List, [], ◌∷◌, ◌++◌, map, Option, Some, None, length, is_some, Bool, if◌then◌else◌}
-use Rattle.std.specs.List.{AllPairs, list_all}
+use Rattle.std.specs.Prelude.{◌≡◌, refl, ℕ, ◌+◌, IsTrue, List, [], ◌∷◌, ◌++◌, map, Option, Some, None, length, is_some, Bool, not, if◌then◌else◌}
+use Rattle.std.specs.List.{AllPairs, list_all, list_any}
 use Rattle.std.specs.Option.{option_map}
 use Rattle.std.specs.Arc.{arc_value}
 use Rattle.std.specs.Coded.{Coded, code_by, coded_list, coded_option, coded×}
@@ -27,10 +27,11 @@ tile_in_slot slot = option_map (λ held. tile_of (arc_value held)) slot.tile
 abbrev pub row_code : Coded (List (Option Tile))
 row_code = coded_list (coded_option tile_code)
 
--- a slot for each column; and whether each has its tile
-pub record IsRow (slots : List (Option Tile)) (is_full : Bool) : Type 0 where
+-- a slot for each column; and whether each has its tile, and whether none has
+pub record IsRow (slots : List (Option Tile)) (is_full is_bare : Bool) : Type 0 where
   pub whole : length slots ≡ column_count
   pub full : is_full ≡ list_all is_some slots
+  pub bare : is_bare ≡ not (list_any is_some slots)
 
 -- the row that has in each column what is found there
 abbrev pub row_by : (ℕ → Option Tile) → List (Option Tile)

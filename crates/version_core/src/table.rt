@@ -132,10 +132,11 @@ impl Table {
     {
         let touched = self.layers().touched_rows(alloc, change, after)?;
         let marks = touched.as_slice();
+        let bare = TileRow::empty(alloc)?;
         let mut rows = Vec::with_capacity(alloc, after.len())?;
         for place in 0..after.len() {
             if let Some((name, _)) = after.at(place) {
-                let row = self.row_left(alloc, marks, name)?;
+                let row = self.row_left(alloc, marks, place, name, &bare)?;
                 rows.push(row)?;
             }
         }
@@ -143,19 +144,23 @@ impl Table {
     }
 
     /// The row of a layer without the tiles that are touched, where the marks of each layer say so. A new layer has none.
+    /// The layer is looked for at a place first, and a row without a tile is handed in.
     fn row_left(
         &self,
         alloc: Global,
         touched: &[[bool; COLUMNS]],
+        near: usize,
         name: &Name,
+        bare: &TileRow,
     ) -> Result<TileRow, AllocError>
+        requires { bare.now ≡ replicate column_count None }
         ensures { (change : commands.Command) → touched.now ≡ touched_rows self.now.layers change → IfOk result (λ row. row ≡ row_by (left_at self.now change name.now)) }
     {
-        let place = self.layers().index_of(name);
+        let place = self.layers().index_near(near, name);
         let marks = marks_at(touched, place);
         match self.row(place) {
-            Some(row) => row.without(alloc, &marks),
-            None => TileRow::empty(alloc),
+            Some(row) => row.without(alloc, &marks, bare),
+            None => bare.share(),
         }
     }
 

@@ -1,6 +1,6 @@
 //! Rows of finished tiles.
-ghost use Rattle.std.specs.Prelude.{◌≡◌, ◌<◌, ◌&&◌, None, Some, false, get_or, is_some, length, map, replicate, set, take, IfOk, IsTrue, if◌then◌else◌};
-ghost use Rattle.std.specs.List.{list_all};
+ghost use Rattle.std.specs.Prelude.{◌≡◌, ◌<◌, ◌&&◌, None, Some, false, not, get_or, is_some, length, map, replicate, set, take, IfOk, IsTrue, if◌then◌else◌};
+ghost use Rattle.std.specs.List.{list_all, list_any};
 ghost use Rattle.std.specs.Option.{option_map};
 ghost use Rattle.overlay_terms.specs.Column.{column_count};
 ghost use Rattle.tile_build.specs.Tile.{tile_of};
@@ -53,11 +53,13 @@ impl Slot {
     }
 }
 
-/// The finished tiles of a layer, a slot for each column. Tables share it.
+/// The finished tiles of a layer, a slot for each column. Tables share it. It knows whether it has all of them, and
+/// whether it has none.
 #[derive(Debug, Drop)]
 pub struct TileRow {
     slots: Arc<Vec<Slot>>,
     is_full: bool,
+    is_bare: bool,
 }
 
 impl Model for TileRow {
@@ -71,7 +73,7 @@ impl Model for TileRow {
 
     ghost view = { λ r. map tile_in_slot r.slots.value.items };
 
-    ghost invariant = { λ r. IsRow (map tile_in_slot r.slots.value.items) r.is_full };
+    ghost invariant = { λ r. IsRow (map tile_in_slot r.slots.value.items) r.is_full r.is_bare };
 }
 
 impl TileRow {
@@ -88,8 +90,13 @@ impl TileRow {
         ensures { IfOk result (λ row. row ≡ map tile_in_slot slots.items) }
     {
         let is_full = are_filled(&slots);
+        let is_bare = are_bare(&slots);
         let slots = Arc::new(alloc, slots)?;
-        Ok(TileRow { slots, is_full })
+        Ok(TileRow {
+            slots,
+            is_full,
+            is_bare,
+        })
     }
 
     /// The same row, shared by one more.
@@ -100,6 +107,7 @@ impl TileRow {
         Ok(TileRow {
             slots: self.slots.clone()?,
             is_full: self.is_full,
+            is_bare: self.is_bare,
         })
     }
 
@@ -138,16 +146,22 @@ impl TileRow {
         Ok(row)
     }
 
-    /// The row without the tiles of the columns that are marked. Where it has none of them it is shared.
+    /// The row without the tiles of the columns that are marked. Where it has none of them it is shared; where it has no
+    /// others, a row without a tile is, which is handed in.
     pub(crate) fn without(
         &self,
         alloc: Global,
         marks: &[bool; COLUMNS],
+        bare: &TileRow,
     ) -> Result<TileRow, AllocError>
+        requires { bare.now ≡ replicate column_count None }
         ensures { IfOk result (λ row. row ≡ row_by (λ k. if get_or marks.now k false then None else get_or self.now k None)) }
     {
         if self.is_left_whole(marks) {
             return self.share();
+        }
+        if self.is_left_bare(marks) {
+            return bare.share();
         }
         let slots = left_in(alloc, &self.slots, marks)?;
         TileRow::of(alloc, slots)
@@ -157,8 +171,23 @@ impl TileRow {
     fn is_left_whole(&self, marks: &[bool; COLUMNS]) -> bool
         ensures { IsTrue result → (k : _) → k < column_count → (if get_or marks.now k false then None else get_or self.now k None) ≡ get_or self.now k None }
     {
+        if self.is_bare {
+            return true;
+        }
         for number in 0..COLUMNS {
             if self.has_marked(marks, number) {
+                return false;
+            }
+        }
+        true
+    }
+
+    /// Whether the row has no tile of the columns that are not marked.
+    fn is_left_bare(&self, marks: &[bool; COLUMNS]) -> bool
+        ensures { IsTrue result → (k : _) → k < column_count → (if get_or marks.now k false then None else get_or self.now k None) ≡ None }
+    {
+        for number in 0..COLUMNS {
+            if self.has_unmarked(marks, number) {
                 return false;
             }
         }
@@ -172,6 +201,17 @@ impl TileRow {
     {
         match self.tile_at(number) {
             Some(_) => marks[number],
+            None => false,
+        }
+    }
+
+    /// Whether the column with a number has a tile and is not marked.
+    fn has_unmarked(&self, marks: &[bool; COLUMNS], number: usize) -> bool
+        requires { number < column_count }
+        ensures { result ≡ (not (get_or marks.now number false) && is_some (get_or self.now number None)) }
+    {
+        match self.tile_at(number) {
+            Some(_) => !marks[number],
             None => false,
         }
     }
@@ -215,6 +255,18 @@ fn are_filled(slots: &[Slot]) -> bool
 {
     for slot in slots {
         if !slot.is_filled() {
+            return false;
+        }
+    }
+    true
+}
+
+/// Whether no slot has a tile.
+fn are_bare(slots: &[Slot]) -> bool
+    ensures { result ≡ not (list_any is_some (map tile_in_slot slots.now)) }
+{
+    for slot in slots {
+        if slot.is_filled() {
             return false;
         }
     }
