@@ -44,14 +44,15 @@ pub(crate) fn sum(a: i128, b: i128) -> i128
     a + b
 }
 
-/// The product of a coordinate and a denominator.
+/// The product of a coordinate and a denominator, by their sizes, each of 64 bits.
 pub(crate) fn product(a: i128, w: i128) -> i128
     requires a_small { IsWithin (2 ^ 63) a }
     requires w_small { IsWithin denominator_max w }
     ensures value { result ≡ a *ℤ w }
     ensures small { IsWithin (2 ^ 106) result }
 {
-    a * w
+    let size = (a.unsigned_abs() as u64 as u128 * w.unsigned_abs() as u64 as u128) as i128;
+    if (a < 0) != (w < 0) { -size } else { size }
 }
 
 /// The cross product of the vectors (a, b) and (c, d).

@@ -1,16 +1,20 @@
 -- Pieces by the names of their ends: their test, and how they are read.
-use Rattle.std.proofs.Common.{◌≡◌, ℕ, pos, Bool, true, false, cond, ◌&&◌, List, Option, Some, None, refl, sym, ap, ◌∙◌}
-use Rattle.std.specs.Prelude.{◌↔◌, IsSome, IfSome, int_lt}
+use Rattle.std.proofs.Common.{◌≡◌, ℕ, pos, ◌<ℤ◌, Bool, true, false, cond, not, ◌&&◌, List, Option, Some, None, refl, ap, ◌∙◌}
+use Rattle.std.specs.Prelude.{int_lt, nat_lt}
 use Rattle.std.specs.Ordering.{is_lt}
 use Rattle.std.specs.declared.cmp.Ordering.{Ordering}
 use Rattle.std.specs.declared.cmp.Ordering.TheVariants.{Less, Equal, Greater}
-use Rattle.std.proofs.lemmas.Bool.{false≢true, and_parts, and_from, false_from_ne_true, cond-true, cond-false}
+use Rattle.std.proofs.lemmas.Bool.{and_parts, and_from, not_from_false, lt-ltb, false_from_ne_true, cond-true, cond-false}
 use Rattle.std.proofs.lemmas.Option.{same_Some}
 use Rattle.overlay_terms.specs.Plane.{Segment, WholePoint, whole_cmp, point_cmp, is_on}
-use Rattle.overlay_terms.proofs.InputNumbers.{lt_true}
+use Rattle.overlay_terms.specs.Column.{column_count, border}
+use Rattle.overlay_terms.specs.Tiles.{is_parallel}
+use Rattle.overlay_terms.proofs.InputNumbers.{lt_true, true_lt}
 use Rattle.exact_point.specs.NamedPiece.{NamedPiece}
-use Rattle.exact_point.specs.PlaceOf.{place_of}
+use Rattle.exact_point.specs.PlaceOf.{place_of, crossing_place}
+use Rattle.exact_point.specs.PointName.{HasPlace, IsPlaceOf}
 use Rattle.exact_point.specs.declared.point_name.PointName.{PointName}
+use Rattle.exact_point.specs.declared.point_name.PointName.TheVariants.{Vertex, Cross, Border}
 use Rattle.tile_build.specs.Piece.{IsBetween}
 use Rattle.store_terms.specs.Fields.{◌>>=◌, Field, both}
 use Rattle.store_terms.specs.BaseRecord.{whole_point}
@@ -22,6 +26,19 @@ less_so : (o : Ordering) → is_lt o ≡ true → o ≡ Less
 less_so Less e = refl
 less_so Equal e = absurd cc
 less_so Greater e = absurd cc
+
+-- a name that stands for a place passes its test
+placed : (n : PointName) → HasPlace n → pos 0 <ℤ (place_of n).w → IsPlaceOf n (place_of n) → has_place n ≡ true
+placed (Vertex v) has positive at = refl
+placed (Cross a b) has positive at =
+    and_from (not (is_parallel a b) && int_lt (pos 0) (crossing_place a b).w && is_on a (crossing_place a b)) (is_on b (crossing_place a b))
+    (and_from (not (is_parallel a b) && int_lt (pos 0) (crossing_place a b).w) (is_on a (crossing_place a b))
+    (and_from (not (is_parallel a b)) (int_lt (pos 0) (crossing_place a b).w) (not_from_false (is_parallel a b) at.not_parallel)
+    (true_lt (pos 0) (crossing_place a b).w positive)) at.on_first) at.on_second
+placed (Border s k) has positive at =
+    and_from (nat_lt k column_count && int_lt s.left.x (border k)) (int_lt (border k) s.right.x)
+    (and_from (nat_lt k column_count) (int_lt s.left.x (border k)) (lt-ltb k column_count has.known_column) (true_lt s.left.x (border k) has.after_left))
+    (true_lt (border k) s.right.x has.before_right)
 
 module _ (s : Segment) (f t : PointName) where
   -- what the test of a piece says
@@ -53,23 +70,13 @@ module _ (s : Segment) (f t : PointName) where
         },
       )
 
-  abbrev chosen : Option NamedPiece
-  chosen = cond (is_piece (the_piece s f t)) (Some (the_piece s f t)) None
+  pub is_one : IsBetween s f t → IsPlaceOf f (place_of f) × IsPlaceOf t (place_of t) → is_piece (the_piece s f t) ≡ true
+  is_one between at =
+      passes s f t (placed f between.from_named between.from_positive at.0)
+      (placed t between.to_named between.to_positive at.1) between
 
-  none_chosen : (is_piece (the_piece s f t) ≡ true → ⊥) → None ≡ chosen
-  none_chosen never =
-      sym (cond-false (is_piece (the_piece s f t)) (Some (the_piece s f t)) None (false_from_ne_true (is_piece (the_piece s f t)) never))
-
-  pub no_end : (has_place f && has_place t) ≡ false → None ≡ chosen
-  no_end none =
-      none_chosen (λ e. false≢true (sym none ∙ and_from (has_place f) (has_place t) (tested e).0 (tested e).1))
-
-  pub made_piece : (r : Option NamedPiece) → has_place f ≡ true → has_place t ≡ true → IsSome r ↔ IsBetween s f t
-      → IfSome r (λ q. q ≡ the_piece s f t) → r ≡ chosen
-  made_piece None from to known is = none_chosen (λ e. false≢true (known.1 (tested e).2))
-  made_piece (Some q) from to known is =
-      ap (λ (p : NamedPiece). Some p) is
-      ∙ sym (cond-true (is_piece (the_piece s f t)) (Some (the_piece s f t)) None (passes s f t from to (known.0 refl)))
+  pub is_none : (IsBetween s f t → ⊥) → is_piece (the_piece s f t) ≡ false
+  is_none never = false_from_ne_true (is_piece (the_piece s f t)) (λ e. never (tested e).2)
 
 abbrev both_names : Field (PointName × PointName)
 both_names = both point_name point_name
@@ -116,7 +123,7 @@ read_ends bytes behind rest l r left right =
     ∙ ap (λ (o : Option (WholePoint × List ℕ)). ((o >>= with_right l) >>= joining) >>= ordering) right
 
 -- a piece from its segment and the names of its ends
-pub read_parts : (bytes behind after rest : List ℕ) (s : Segment) (f t : PointName)
+read_parts : (bytes behind after rest : List ℕ) (s : Segment) (f t : PointName)
     → segment.read bytes ≡ Some (s, behind) → point_name.read behind ≡ Some (f, after)
     → point_name.read after ≡ Some (t, rest)
     → piece.read bytes ≡ cond (is_piece (the_piece s f t)) (Some (front (the_piece s f t) rest)) None
@@ -125,12 +132,24 @@ read_parts bytes behind after rest s f t support from to =
     ∙ ap (λ (o : Option (PointName × List ℕ)). (((o >>= behind_first) >>= with_names s) >>= making) >>= sieving) from
     ∙ ap (λ (o : Option (PointName × List ℕ)). (((o >>= with_second f) >>= with_names s) >>= making) >>= sieving) to
 
-pub keeps : {A : Type 0} (b : Bool) (p q : A) (rest : List ℕ) → cond b (Some p) None ≡ Some q
+module _ (bytes behind after rest : List ℕ) (s : Segment) (f t : PointName) (support : segment.read bytes ≡ Some (s, behind))
+    (from : point_name.read behind ≡ Some (f, after)) (to : point_name.read after ≡ Some (t, rest)) where
+  pub piece_read : is_piece (the_piece s f t) ≡ true → piece.read bytes ≡ Some (the_piece s f t, rest)
+  piece_read is =
+      read_parts bytes behind after rest s f t support from to
+      ∙ cond-true (is_piece (the_piece s f t)) (Some (front (the_piece s f t) rest)) None is
+
+  pub no_piece : is_piece (the_piece s f t) ≡ false → piece.read bytes ≡ None
+  no_piece none =
+      read_parts bytes behind after rest s f t support from to
+      ∙ cond-false (is_piece (the_piece s f t)) (Some (front (the_piece s f t) rest)) None none
+
+keeps : {A : Type 0} (b : Bool) (p q : A) (rest : List ℕ) → cond b (Some p) None ≡ Some q
     → cond b (Some (front p rest)) None ≡ Some (front q rest)
 keeps {A} true p q rest e = ap (λ (x : A). Some (front x rest)) (same_Some p q e)
 keeps false p q rest e = absurd cc
 
-pub keeps_none : {A : Type 0} (b : Bool) (p : A) (rest : List ℕ) → cond b (Some p) None ≡ None
+keeps_none : {A : Type 0} (b : Bool) (p : A) (rest : List ℕ) → cond b (Some p) None ≡ None
     → cond b (Some (front p rest)) None ≡ None
 keeps_none true p rest e = absurd cc
 keeps_none false p rest e = refl

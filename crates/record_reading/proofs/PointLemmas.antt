@@ -1,14 +1,17 @@
 -- A point is read from eight bytes by one test of their length.
-use Rattle.std.proofs.Common.{◌≡◌, inl, inr, ℕ, ℤ, ◌<◌, ◌≤◌, Bool, true, false, cond, List, length, drop, Option, Some, None, refl, ap, ◌∙◌, arith}
-use Rattle.std.proofs.lemmas.Bool.{cases_lt, lt-ltb, le-ltb}
+use Rattle.std.proofs.Common.{◌≡◌, inl, inr, ℕ, ℤ, unsigned_abs, ◌<◌, ◌≤◌, Bool, true, false, cond, List, length, drop, Option, Some, None, refl, ap, ◌∙◌, arith}
+use Rattle.std.proofs.lemmas.Bool.{cases_lt, lt-ltb, le-ltb, le-leb, leb-true}
 use Rattle.std.proofs.lemmas.List.{length-drop, drop-drop}
-use Rattle.std.proofs.lemmas.Option.{same_Some}
 use Rattle.std.specs.Int.{w32, cast_signed}
 use Rattle.byteorder.specs.Endian.{big_number}
-use Rattle.overlay_terms.specs.Plane.{WholePoint}
+use Rattle.overlay_terms.specs.Plane.{WholePoint, InRange, coordinate_max}
+use Rattle.overlay_terms.proofs.Bounds.{abs_within, within_abs}
 use Rattle.store_terms.specs.Fields.{◌>>=◌}
 use Rattle.store_terms.specs.BaseRecord.{is_coordinate, coordinate, whole_point}
-use Rattle.record_reading.specs.Points.{number_in, coordinate_in}
+
+-- the signed number that the first four bytes spell
+abbrev pub number_in : List ℕ → ℤ
+number_in bytes = cast_signed w32 (big_number 4 bytes)
 
 abbrev passing : ℕ × List ℕ → Option (ℤ × List ℕ)
 passing n = cond (is_coordinate (cast_signed w32 n.0)) (Some (cast_signed w32 n.0, n.1)) None
@@ -50,25 +53,18 @@ point_short bytes lt =
           (short (drop 4 bytes) (omega (arith, length-drop 4 bytes)))
     ]
 
-nothing_read : (b : Bool) (x : ℤ) (rest : List ℕ) → cond b (Some x) None ≡ None
-    → ((front b x rest >>= behind_x) >>= making) ≡ None
-nothing_read true x rest e = absurd cc
-nothing_read false x rest e = refl
+coordinate_is : (z : ℤ) → InRange z → is_coordinate z ≡ true
+coordinate_is z h = le-leb (unsigned_abs z) coordinate_max (abs_within coordinate_max z (record { low = h.0; high = h.1 }))
 
-no_second : (b c : Bool) (x y : ℤ) (rest last : List ℕ) → coordinate.read rest ≡ front c y last
-    → cond c (Some y) None ≡ None → ((front b x rest >>= behind_x) >>= making) ≡ None
-no_second true true x y rest last read e = absurd cc
-no_second true false x y rest last read e = ap (λ (o : Option (ℤ × List ℕ)). (o >>= with_y x) >>= making) read
-no_second false c x y rest last read e = refl
+in_range : (z : ℤ) → is_coordinate z ≡ true → InRange z
+in_range z e =
+    let within = within_abs coordinate_max z (leb-true (unsigned_abs z) coordinate_max e) in (within.low, within.high)
 
-both_read : (b c : Bool) (x y p q : ℤ) (rest last : List ℕ) → coordinate.read rest ≡ front c y last
-    → cond b (Some x) None ≡ Some p → cond c (Some y) None ≡ Some q
-    → ((front b x rest >>= behind_x) >>= making) ≡ Some (record { x = p; y = q }, last)
-both_read true true x y p q rest last read is_x is_y =
-    ap (λ (o : Option (ℤ × List ℕ)). (o >>= with_y x) >>= making) read
-    ∙ (λ i. Some (record { x = same_Some x p is_x i; y = same_Some y q is_y i }, last))
-both_read true false x y p q rest last read is_x is_y = absurd cc
-both_read false c x y p q rest last read is_x is_y = absurd cc
+out : (b c : Bool) (x y : ℤ) (rest last : List ℕ) → coordinate.read rest ≡ front c y last
+    → (b ≡ true → c ≡ true → ⊥) → ((front b x rest >>= behind_x) >>= making) ≡ None
+out true true x y rest last read never = absurd (never refl refl)
+out true false x y rest last read never = ap (λ (o : Option (ℤ × List ℕ)). (o >>= with_y x) >>= making) read
+out false c x y rest last read never = refl
 
 module _ (bytes : List ℕ) (le : 8 ≤ length bytes) where
   x_read : coordinate.read bytes ≡ front (is_coordinate (number_in bytes)) (number_in bytes) (drop 4 bytes)
@@ -82,17 +78,18 @@ module _ (bytes : List ℕ) (le : 8 ≤ length bytes) where
       ≡ ((front (is_coordinate (number_in bytes)) (number_in bytes) (drop 4 bytes) >>= behind_x) >>= making)
   of_x = ap (λ (o : Option (ℤ × List ℕ)). (o >>= behind_x) >>= making) x_read
 
-  pub no_x : coordinate_in bytes ≡ None → whole_point.read bytes ≡ None
-  no_x none = of_x ∙ nothing_read (is_coordinate (number_in bytes)) (number_in bytes) (drop 4 bytes) none
+  pub point_read : InRange (number_in bytes) → InRange (number_in (drop 4 bytes))
+      → whole_point.read bytes ≡ Some (record { x = number_in bytes; y = number_in (drop 4 bytes) }, drop 8 bytes)
+  point_read x y =
+      of_x
+      ∙ (λ i. (front (coordinate_is (number_in bytes) x i) (number_in bytes) (drop 4 bytes) >>= behind_x) >>= making)
+      ∙ ap (λ (o : Option (ℤ × List ℕ)). (o >>= with_y (number_in bytes)) >>= making)
+      (y_read ∙ (λ i. front (coordinate_is (number_in (drop 4 bytes)) y i) (number_in (drop 4 bytes)) (drop 4 (drop 4 bytes))))
+      ∙ ap (λ (rest : List ℕ). Some (record { x = number_in bytes; y = number_in (drop 4 bytes) }, rest)) (drop-drop 4 4 bytes)
 
-  pub no_y : coordinate_in (drop 4 bytes) ≡ None → whole_point.read bytes ≡ None
-  no_y none =
-      of_x ∙ no_second (is_coordinate (number_in bytes)) (is_coordinate (number_in (drop 4 bytes))) (number_in bytes)
-      (number_in (drop 4 bytes)) (drop 4 bytes) (drop 4 (drop 4 bytes)) y_read none
-
-  pub point_read : (x y : ℤ) → coordinate_in bytes ≡ Some x → coordinate_in (drop 4 bytes) ≡ Some y
-      → whole_point.read bytes ≡ Some (record { x = x; y = y }, drop 8 bytes)
-  point_read x y is_x is_y =
-      of_x ∙ both_read (is_coordinate (number_in bytes)) (is_coordinate (number_in (drop 4 bytes))) (number_in bytes)
-      (number_in (drop 4 bytes)) x y (drop 4 bytes) (drop 4 (drop 4 bytes)) y_read is_x is_y
-      ∙ ap (λ (rest : List ℕ). Some (record { x = x; y = y }, rest)) (drop-drop 4 4 bytes)
+  pub point_out : (InRange (number_in bytes) × InRange (number_in (drop 4 bytes)) → ⊥) → whole_point.read bytes ≡ None
+  point_out never =
+      of_x
+      ∙ out (is_coordinate (number_in bytes)) (is_coordinate (number_in (drop 4 bytes))) (number_in bytes)
+      (number_in (drop 4 bytes)) (drop 4 bytes) (drop 4 (drop 4 bytes)) y_read
+      (λ x y. never (in_range (number_in bytes) x, in_range (number_in (drop 4 bytes)) y))

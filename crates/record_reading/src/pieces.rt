@@ -1,9 +1,9 @@
 //! Pieces at the front of some bytes.
-ghost use Rattle.std.specs.Prelude.{◌≡◌, ◌&&◌, ℕ, List, Some, IfOk, IfErr};
+ghost use Rattle.std.specs.Prelude.{◌≡◌, ℕ, List, Some, IfOk, IfErr};
 ghost use Rattle.record_writing.specs.Answers.{Fails, Gives};
 ghost use Rattle.record_reading.specs.Added.{IsAdded};
 ghost use Rattle.store_terms.specs.Fields.{read_many};
-ghost use Rattle.store_terms.specs.TileRecord.{has_place, piece as spelled, segment};
+ghost use Rattle.store_terms.specs.TileRecord.{piece as spelled, point_name, segment};
 
 use crate::segments::{point_name_at, segment_at, vertex_at};
 use exact_point::PointName;
@@ -11,6 +11,7 @@ use plane_base::Seg;
 use record_writing::fault::ReadFault;
 use std::alloc::Global;
 use tile_build::Piece;
+use tile_build::ends::{are_ends, are_whole_ends};
 
 /// So many pieces, one behind another, and what follows them.
 pub(crate) fn pieces_at(
@@ -28,8 +29,9 @@ pub(crate) fn pieces_at(
     Ok((pieces, rest))
 }
 
-/// Adds the piece at the front of some bytes, and gives what follows it. It goes from its names into the vector: what
-/// stands between them would be copied as a whole. One between whole points, as most are, is read without the names.
+/// Adds the piece at the front of some bytes, and gives what follows it. It is made in its place in the vector: what
+/// holds it elsewhere would be filled and copied as a whole. One between whole points, as most are, is read without
+/// the names.
 fn push_piece<'a>(pieces: &mut Vec<Piece>, bytes: &'a [u8]) -> Result<&'a [u8], ReadFault>
     ensures ok { IfOk result (λ rest. IsAdded spelled bytes.now rest.now pieces.old.items pieces.new.items) }
     ensures err { IfErr result (λ fault. Fails fault (spelled.read bytes.now)) }
@@ -38,19 +40,18 @@ fn push_piece<'a>(pieces: &mut Vec<Piece>, bytes: &'a [u8]) -> Result<&'a [u8], 
         Ok(support) => match vertex_at(support.1) {
             Some(from) => match vertex_at(from.1) {
                 Some(to) => {
-                    match Piece::new(
+                    if !are_whole_ends(&support.0, from.0, to.0) {
+                        return Err(ReadFault::Form);
+                    }
+                    pieces.reserve(1)?;
+                    pieces.push_reserved(Piece::between(
                         support.0,
                         PointName::Vertex(from.0),
                         PointName::Vertex(to.0),
-                    ) {
-                        Some(piece) => {
-                            pieces.push(piece)?;
-                            Ok(to.1)
-                        }
-                        None => Err(ReadFault::Form),
-                    }
+                    ));
+                    Ok(to.1)
                 }
-                None => push_named(pieces, support.0, support.1),
+                None => push_from(pieces, support.0, PointName::Vertex(from.0), from.1),
             },
             None => push_named(pieces, support.0, support.1),
         },
@@ -70,46 +71,34 @@ fn push_named<'a>(
         → IfErr result (λ fault. Fails fault (spelled.read all)) }
 {
     match point_name_at(bytes) {
-        Ok(from) => match point_name_at(from.1) {
-            Ok(to) => {
-                if !are_places(&from.0, &to.0) {
-                    return Err(ReadFault::Form);
-                }
-                match Piece::new(support, from.0, to.0) {
-                    Some(piece) => {
-                        pieces.push(piece)?;
-                        Ok(to.1)
-                    }
-                    None => Err(ReadFault::Form),
-                }
-            }
-            Err(fault) => Err(fault),
-        },
+        Ok(from) => push_from(pieces, support, from.0, from.1),
         Err(fault) => Err(fault),
     }
 }
 
-/// Whether two names stand for places.
-fn are_places(from: &PointName, to: &PointName) -> bool
-    ensures { result ≡ (has_place from.now && has_place to.now) }
+/// The same behind the name of its left end.
+fn push_from<'a>(
+    pieces: &mut Vec<Piece>,
+    support: Seg,
+    from: PointName,
+    bytes: &'a [u8],
+) -> Result<&'a [u8], ReadFault>
+    ensures ok { (all behind : List ℕ) → segment.read all ≡ Some (support, behind)
+        → point_name.read behind ≡ Some (from, bytes.now)
+        → IfOk result (λ rest. IsAdded spelled all rest.now pieces.old.items pieces.new.items) }
+    ensures err { (all behind : List ℕ) → segment.read all ≡ Some (support, behind)
+        → point_name.read behind ≡ Some (from, bytes.now)
+        → IfErr result (λ fault. Fails fault (spelled.read all)) }
 {
-    // Eager, so that one equation says all: of a piece both are asked.
-    stands_for_a_place(from) & stands_for_a_place(to)
-}
-
-/// Whether a name stands for a place. That of a whole point does.
-fn stands_for_a_place(name: &PointName) -> bool
-    ensures { result ≡ has_place name.now }
-{
-    match name {
-        PointName::Vertex(_) => true,
-        _ => has_exact_place(name),
+    match point_name_at(bytes) {
+        Ok(to) => {
+            if !are_ends(&support, &from, &to.0) {
+                return Err(ReadFault::Form);
+            }
+            pieces.reserve(1)?;
+            pieces.push_reserved(Piece::between(support, from, to.0));
+            Ok(to.1)
+        }
+        Err(fault) => Err(fault),
     }
-}
-
-/// The same by exact coordinates.
-fn has_exact_place(name: &PointName) -> bool
-    ensures { result ≡ has_place name.now }
-{
-    name.point().is_some()
 }

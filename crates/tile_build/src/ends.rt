@@ -14,8 +14,9 @@ use plane_base::{Column, Pt, Seg};
 use std::cmp::Ordering;
 
 /// Whether two names stand for places on a segment, the first left of the second.
-pub(crate) fn are_ends(support: &Seg, from: &PointName, to: &PointName) -> bool
-    ensures { IsTrue result ↔ IsBetween support.now from.now to.now }
+pub fn are_ends(support: &Seg, from: &PointName, to: &PointName) -> bool
+    ensures between { IsTrue result ↔ IsBetween support.now from.now to.now }
+    ensures placed { IsTrue result → IsPlaceOf from.now (place_of from.now) × IsPlaceOf to.now (place_of to.now) }
 {
     match (from, to) {
         (PointName::Vertex(left), PointName::Vertex(right)) => {
@@ -26,7 +27,7 @@ pub(crate) fn are_ends(support: &Seg, from: &PointName, to: &PointName) -> bool
 }
 
 /// The same of whole points.
-fn are_whole_ends(support: &Seg, left: Pt, right: Pt) -> bool
+pub fn are_whole_ends(support: &Seg, left: Pt, right: Pt) -> bool
     ensures { IsTrue result ↔ IsBetween support.now (PointName.Vertex left) (PointName.Vertex right) }
 {
     if !is_whole_on(support, left) {
@@ -40,7 +41,8 @@ fn are_whole_ends(support: &Seg, left: Pt, right: Pt) -> bool
 
 /// The same by exact coordinates.
 fn are_exact_ends(support: &Seg, from: &PointName, to: &PointName) -> bool
-    ensures { IsTrue result ↔ IsBetween support.now from.now to.now }
+    ensures between { IsTrue result ↔ IsBetween support.now from.now to.now }
+    ensures placed { IsTrue result → IsPlaceOf from.now (place_of from.now) × IsPlaceOf to.now (place_of to.now) }
 {
     let Some(left) = from.point() else {
         return false;

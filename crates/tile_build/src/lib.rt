@@ -6,7 +6,7 @@ pub mod building;
 pub mod built;
 pub mod counted;
 pub mod counting;
-mod ends;
+pub mod ends;
 pub mod piece;
 pub mod stored_tile;
 pub mod tile;

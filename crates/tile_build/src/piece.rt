@@ -1,5 +1,5 @@
 //! Pieces of the boundary.
-ghost use Rattle.std.specs.Prelude.{◌≡◌, ◌↔◌, IsSome, IfSome, map};
+ghost use Rattle.std.specs.Prelude.{◌≡◌, map};
 ghost use Rattle.overlay_terms.specs.TileLaws.{is_pair_below};
 ghost use Rattle.exact_point.specs.Place.{place};
 ghost use Rattle.exact_point.specs.NamedPiece.{ends_of};
@@ -7,7 +7,7 @@ ghost use Rattle.exact_point.specs.PlaceOf.{place_of};
 ghost use Rattle.crossing_sweep.specs.Crossed.{name_at, IsSpan};
 ghost use Rattle.crossing_sweep.specs.Rows.{row_ends};
 
-use crate::ends::{are_ends, is_name_in, name_cmp};
+use crate::ends::{is_name_in, name_cmp};
 use arrange::Elementary;
 use crossing_sweep::Row;
 use exact_point::side::side;
@@ -47,15 +47,12 @@ impl Piece {
     ghost use Rattle.tile_laws.specs.SameTile.{same_pair, IsPositivePair};
 
     /// The stretch of a segment between two named places, where both lie on the segment and the
-    /// first is left of the second.
-    pub fn new(support: Seg, from: PointName, to: PointName) -> Option<Piece>
-        ensures between { IsSome result ↔ IsBetween support from to }
-        ensures value { IfSome result (λ piece. piece ≡ record { support = support; from = from; to = to }) }
+    /// first is left of the second: `are_ends` is the test.
+    pub fn between(support: Seg, from: PointName, to: PointName) -> Piece
+        requires { IsBetween support from to }
+        ensures { result ≡ record { support = support; from = from; to = to } }
     {
-        if !are_ends(&support, &from, &to) {
-            return None;
-        }
-        Some(Piece { support, from, to })
+        Piece { support, from, to }
     }
 
     /// The segment that the piece is a stretch of.

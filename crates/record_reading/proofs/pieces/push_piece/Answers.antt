@@ -1,29 +1,19 @@
-use Rattle.std.proofs.Common.{refl, sym, ◌∙◌}
-use Rattle.exact_point.specs.NamedPiece.{NamedPiece}
+use Rattle.std.proofs.Common.{sym, ◌∙◌}
+use Rattle.std.proofs.lemmas.Bool.{false≢true}
 use Rattle.exact_point.specs.declared.point_name.PointName.TheVariants.{Vertex}
-use Rattle.store_terms.specs.TileRecord.{is_piece}
-use Rattle.record_reading.proofs.NamedPieceLemmas.{read_parts, keeps, keeps_none, made_piece}
+use Rattle.record_reading.proofs.NamedPieceLemmas.{is_none, no_piece}
 use Rattle.record_reading.proofs.pieces.push_piece.Goals as goal
 
-pub returns-in_ok-push-in-Some-new-clause-ok : goal.returns-in_ok-push-in-Some-new-clause-ok
-returns-in_ok-push-in-Some-new-clause-ok c =
+pub returns-then-not-are_whole_ends-clause-err : goal.returns-then-not-are_whole_ends-clause-err
+returns-then-not-are_whole_ends-clause-err c =
     let s = c.in-Ok.support in
     let f = c.in-Some.from in
     let t = c.in-Some-vertex_at.to in
-    let p : NamedPiece = record { support = s.0; from = Vertex f.0; to = Vertex t.0 } in
-    let made = made_piece s.0 (Vertex f.0) (Vertex t.0) c.new.result refl refl c.new.ensures.between c.new.ensures.value in (
-      c.in-Some-new.piece,
-      read_parts c.args.bytes.now s.1.now f.1.now t.1.now s.0 (Vertex f.0) (Vertex t.0) c.in-Ok.ensures c.in-Some.ensures c.in-Some-vertex_at.ensures
-          ∙ keeps (is_piece p) p c.in-Some-new.piece t.1.now (sym made ∙ c.in-Some-new.is),
-      c.in_ok-push-in-Some-new.ensures.items,
-    )
+    no_piece c.args.bytes.now s.1.now f.1.now t.1.now s.0 (Vertex f.0) (Vertex t.0) c.in-Ok.ensures c.in-Some.ensures c.in-Some-vertex_at.ensures
+    (is_none s.0 (Vertex f.0) (Vertex t.0) (λ between. false≢true (sym c.if-not-are_whole_ends.true ∙ c.are_whole_ends.ensures.1 between)))
 
-pub returns-in-None-new-clause-err : goal.returns-in-None-new-clause-err
-returns-in-None-new-clause-err c =
-    let s = c.in-Ok.support in
-    let f = c.in-Some.from in
-    let t = c.in-Some-vertex_at.to in
-    let p : NamedPiece = record { support = s.0; from = Vertex f.0; to = Vertex t.0 } in
-    let made = made_piece s.0 (Vertex f.0) (Vertex t.0) c.new.result refl refl c.new.ensures.between c.new.ensures.value in
-    read_parts c.args.bytes.now s.1.now f.1.now t.1.now s.0 (Vertex f.0) (Vertex t.0) c.in-Ok.ensures c.in-Some.ensures c.in-Some-vertex_at.ensures
-    ∙ keeps_none (is_piece p) p t.1.now (sym made ∙ c.in-None-new.is)
+pub returns-in-None-vertex_at-clause-ok : goal.returns-in-None-vertex_at-clause-ok
+returns-in-None-vertex_at-clause-ok c = c.push_from.ensures.ok c.args.bytes.now c.in-Ok.support.1.now c.in-Ok.ensures c.in-Some.ensures
+
+pub returns-in-None-vertex_at-clause-err : goal.returns-in-None-vertex_at-clause-err
+returns-in-None-vertex_at-clause-err c = c.push_from.ensures.err c.args.bytes.now c.in-Ok.support.1.now c.in-Ok.ensures c.in-Some.ensures
