@@ -1,7 +1,8 @@
 -- Where two lines meet, and when that place lies on both segments. The ways (a, b) and (c, d) of two segments,
 -- the way (e, f) from the left end of the first to that of the second, the way (x, y) from there to a place.
-use Rattle.std.proofs.Common.{◌≡◌, ℤ, pos, ◌+ℤ◌, ◌-ℤ◌, ◌*ℤ◌, ◌<ℤ◌, ◌≤ℤ◌, ap, sym, ◌∙◌, arith, true, false}
-use Rattle.std.proofs.lemmas.Int.{ints}
+use Rattle.std.proofs.Common.{◌≡◌, ℤ, pos, ◌+ℤ◌, ◌-ℤ◌, ◌*ℤ◌, ◌<ℤ◌, ◌≤ℤ◌, ap, sym, subst, ◌∙◌, arith, Bool, true, false, int_lt}
+use Rattle.std.specs.Prelude.{if◌then◌else◌}
+use Rattle.std.proofs.lemmas.Int.{ints, by_lt_z}
 use Rattle.std.proofs.lemmas.Bool.{false_from_ne_true, and_from, both_ways}
 use Rattle.std.proofs.lemmas.Bool.Decides.{Decides-int_eq}
 use Rattle.std.proofs.Math.IntN.{*ℤ_comm, *ℤ-zero}
@@ -14,6 +15,7 @@ use Rattle.exact_point.proofs.Signs.{no_negative_factor}
 use Rattle.exact_point.proofs.Lexical.{Forward, NotBack, no_negative}
 use Rattle.exact_point.proofs.OnSegment.{IsReached, reached, is_reached, part_reached, leads}
 use Rattle.exact_point.specs.Crossing.{IsCrossingOf, IsOnlyCrossingOf, CrossNowhere, IsPartWay, turn_of, lead_of}
+use Rattle.exact_point.specs.PlaceOf.{part_way, crossing_place}
 
 -- ---- identities
 second_way : (a b c d e f : ℤ) → a *ℤ ((e *ℤ d) -ℤ (f *ℤ c)) ≡ (e *ℤ ((a *ℤ d) -ℤ (b *ℤ c))) +ℤ (c *ℤ ((e *ℤ b) -ℤ (f *ℤ a)))
@@ -212,6 +214,13 @@ no_turn a b e p w h =
     let level : (a.right.x -ℤ a.left.x) *ℤ (b.right.y -ℤ b.left.y) ≡ (a.right.y -ℤ a.left.y) *ℤ (b.right.x -ℤ b.left.x) = omega (arith, ints, e) in
     both_ways _ h.not_parallel ((Decides-int_eq ((a.right.x -ℤ a.left.x) *ℤ (b.right.y -ℤ b.left.y)) ((a.right.y -ℤ a.left.y) *ℤ (b.right.x -ℤ b.left.x))).1 level)
 
+pub turn_other : (a b : Segment) → turn_of b a ≡ pos 0 -ℤ turn_of a b
+turn_other a b =
+    omega (arith, ints, *ℤ_comm (a.right.x -ℤ a.left.x) (b.right.y -ℤ b.left.y), *ℤ_comm (a.right.y -ℤ a.left.y) (b.right.x -ℤ b.left.x))
+
+pub known_turn : (a b : Segment) (p : Point) → pos 0 <ℤ p.w → IsCrossingOf a b p → pos 0 ≤ℤ turn_of a b → pos 0 <ℤ turn_of a b
+known_turn a b p hp k l = by_lt_z (pos 0) (turn_of a b) (λ m. m) (λ m. absurd (no_turn a b (omega (arith, ints, l, m)) p hp k))
+
 -- ---- as the code has them: t and u are how far along, w the turn
 pub not_along_first : (a b : Segment) (t w : ℤ) → t ≡ lead_of a b b → w ≡ turn_of a b → pos 0 <ℤ w → whole_cmp a.left a.right ≡ Less → ((pos 0 ≤ℤ t) × (t ≤ℤ w) → ⊥) → CrossNowhere a b
 not_along_first a b t w et ew h f out p hp k =
@@ -234,6 +243,29 @@ as_formed a b t w p et ew h = record {
   along = h.along ∙ ap (λ z. (a.left.y *ℤ z) +ℤ ((a.right.y -ℤ a.left.y) *ℤ t)) ew ∙ ap (λ z. (a.left.y *ℤ turn_of a b) +ℤ ((a.right.y -ℤ a.left.y) *ℤ z)) et;
 }
 
+-- ---- segments that are known to cross: how far along each the place lies
+along_first : (a b : Segment) (p : Point) → pos 0 <ℤ turn_of a b → whole_cmp a.left a.right ≡ Less → pos 0 <ℤ p.w → IsCrossingOf a b p → IsPart (lead_of a b b) (turn_of a b)
+along_first a b p h f hp k =
+    let first = reached a p k.on_first in
+    let all = shared a b p first (reached b p k.on_second) in
+    part_of a p (lead_of a b b) (turn_of a b) h hp (leads a f) first all.first_across all.first_along
+
+along_second : (a b : Segment) (p : Point) → pos 0 <ℤ turn_of a b → whole_cmp b.left b.right ≡ Less → pos 0 <ℤ p.w → IsCrossingOf a b p → IsPart (lead_of a b a) (turn_of a b)
+along_second a b p h g hp k =
+    let second = reached b p k.on_second in
+    let all = shared a b p (reached a p k.on_first) second in
+    part_of b p (lead_of a b a) (turn_of a b) h hp (leads b g) second all.second_across all.second_along
+
+pub known_part : (a b : Segment) (t w : ℤ) (p : Point) → t ≡ lead_of a b b → w ≡ turn_of a b → pos 0 <ℤ w → whole_cmp a.left a.right ≡ Less → pos 0 <ℤ p.w → IsCrossingOf a b p → (pos 0 ≤ℤ t) × (t ≤ℤ w)
+known_part a b t w p et ew h f hp k =
+    let part = along_first a b p (rw ew at h) f hp k in
+    (omega (arith, ints, part.low), omega (arith, ints, part.high))
+
+pub known_found : (a b : Segment) (t w : ℤ) (p z : Point) → t ≡ lead_of a b b → w ≡ turn_of a b → pos 0 <ℤ w → whole_cmp a.left a.right ≡ Less → whole_cmp b.left b.right ≡ Less → pos 0 <ℤ p.w → IsCrossingOf a b p → IsPartWay a t w z → IsCrossingOf a b z
+known_found a b t w p z et ew h f g hp k m =
+    let turns : pos 0 <ℤ turn_of a b = rw ew at h in
+    crossing_at_part a b z turns (leads a f) (leads b g) (along_first a b p turns f hp k) (along_second a b p turns g hp k) (as_formed a b t w z et ew m)
+
 part_formed : (t w t' w' : ℤ) → t ≡ t' → w ≡ w' → (pos 0 ≤ℤ t) × (t ≤ℤ w) → IsPart t' w'
 part_formed t w t' w' et ew h = record { low = omega (arith, ints, h.0); high = omega (arith, ints, h.1) }
 
@@ -244,6 +276,29 @@ crossing_found a b t u w p et eu ew h f g k l m =
 pub only_crossing : (a b : Segment) (t w : ℤ) (z : Point) → t ≡ lead_of a b b → w ≡ turn_of a b → IsPartWay a t w z → IsOnlyCrossingOf a b z
 only_crossing a b t w z et ew m p hp k =
     one_crossing a b z p (as_formed a b t w z et ew m) (reached a p k.on_first) (reached b p k.on_second)
+
+-- ---- the place is told along the one that the other turns left from
+ahead : (t : ℤ) → pos 0 <ℤ t → int_lt (pos 0) t ≡ true
+ahead t h = grind (arith, ints)
+
+behind : (t : ℤ) → t <ℤ pos 0 → int_lt (pos 0) t ≡ false
+behind t h = grind (arith, ints)
+
+pub on_first : (a b : Segment) (w : ℤ) → w ≡ turn_of a b → pos 0 <ℤ w → part_way a (lead_of a b b) w ≡ crossing_place a b
+on_first a b w e h =
+    ap (part_way a (lead_of a b b)) e
+    ∙ sym (ap (λ (v : Bool). if v then part_way a (lead_of a b b) (turn_of a b) else part_way b (lead_of b a a) (turn_of b a)) (ahead _ (subst (λ (t : ℤ). pos 0 <ℤ t) e h)))
+
+pub on_second : (a b : Segment) (w : ℤ) → w ≡ turn_of b a → turn_of a b <ℤ pos 0 → part_way b (lead_of b a a) w ≡ crossing_place a b
+on_second a b w e h =
+    ap (part_way b (lead_of b a a)) e
+    ∙ sym (ap (λ (v : Bool). if v then part_way a (lead_of a b b) (turn_of a b) else part_way b (lead_of b a a) (turn_of b a)) (behind _ h))
+
+pub way_at : (s : Segment) (t w t' w' : ℤ) (p : Point) → t ≡ t' → w ≡ w' → IsPartWay s t w p → p ≡ part_way s t' w'
+way_at s t w t' w' p et ew h = point_by p (part_way s t w) h.across h.along h.over ∙ (λ i. part_way s (et i) (ew i))
+  where
+    point_by : (p r : Point) → p.x ≡ r.x → p.y ≡ r.y → p.w ≡ r.w → p ≡ r
+    point_by p r ex ey ew i = record { x = ex i; y = ey i; w = ew i }
 
 -- ---- a place part of the way lies within the coordinates
 mean : (l r t w : ℤ) → (l *ℤ w) +ℤ ((r -ℤ l) *ℤ t) ≡ (l *ℤ (w -ℤ t)) +ℤ (r *ℤ t)

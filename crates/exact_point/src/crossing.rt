@@ -49,6 +49,31 @@ fn meeting(a: &Seg, b: &Seg, left: i128) -> Option<HPoint>
     Some(part_way(a, along_first, left))
 }
 
+/// The place where two segments cross that are known to.
+pub(crate) fn known_crossing(a: &Seg, b: &Seg) -> HPoint
+    requires { (p : Point) × (pos 0 <ℤ p.w) × IsCrossingOf a.now b.now p }
+    ensures meets { IsCrossingOf a.now b.now (place result) }
+    ensures value { place result ≡ crossing_place a.now b.now }
+{
+    let left = turn(a, b);
+    if left < 0 {
+        return known_meeting(b, a, -left);
+    }
+    known_meeting(a, b, left)
+}
+
+/// The same of two segments the second of which turns left from the first. Where it lies is not asked again.
+fn known_meeting(a: &Seg, b: &Seg, left: i128) -> HPoint
+    requires meets { (p : Point) × (pos 0 <ℤ p.w) × IsCrossingOf a.now b.now p }
+    requires positive { pos 0 <ℤ left }
+    requires value { left ≡ turn_of a.now b.now }
+    requires small { IsWithin denominator_max left }
+    ensures meets { IsCrossingOf a.now b.now (place result) }
+    ensures value { place result ≡ way_place a.now (lead_of a.now b.now b.now) left }
+{
+    part_way(a, lead(a, b, b), left)
+}
+
 /// Whether t / w of a way lies on it.
 fn is_part(t: i128, w: i128) -> bool
     ensures { IsTrue result ↔ ((pos 0 ≤ℤ t) × (t ≤ℤ w)) }

@@ -6,7 +6,7 @@ ghost use Rattle.exact_point.specs.PlaceOf.{place_of, cut_place};
 ghost use Rattle.exact_point.specs.PointName.{IsPlaceOf, IsOnlyPlaceOf, HasPlace, IsCutBy, IsCutOf};
 
 use crate::arithmetic::minus;
-use crate::crossing::{cross_of, part_way};
+use crate::crossing::{cross_of, known_crossing, part_way};
 use crate::point::HPoint;
 use plane_base::{Column, Pt, Seg};
 
@@ -40,7 +40,10 @@ impl PointName {
         ensures value { place result ≡ place_of self.now }
         ensures stands { IsPlaceOf self.now (place result) }
     {
-        self.point().unwrap()
+        match self {
+            PointName::Cross(a, b) => known_crossing(a, b),
+            _ => self.point().unwrap(),
+        }
     }
 }
 

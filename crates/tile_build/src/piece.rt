@@ -4,6 +4,7 @@ ghost use Rattle.overlay_terms.specs.TileLaws.{is_pair_below};
 ghost use Rattle.exact_point.specs.Place.{place};
 ghost use Rattle.exact_point.specs.NamedPiece.{ends_of};
 ghost use Rattle.exact_point.specs.PlaceOf.{place_of};
+ghost use Rattle.exact_point.specs.PointName.{HasPlace};
 ghost use Rattle.crossing_sweep.specs.Crossed.{name_at, IsSpan};
 ghost use Rattle.crossing_sweep.specs.Rows.{row_ends};
 
@@ -76,10 +77,12 @@ impl Piece {
         self.to
     }
 
-    /// The names of its ends, the left one first.
+    /// The names of its ends, the left one first. Both have places.
     pub fn names(&self) -> (&PointName, &PointName)
         ensures left { result.0.now ≡ self.now.from }
         ensures right { result.1.now ≡ self.now.to }
+        ensures left_stands { HasPlace result.0.now }
+        ensures right_stands { HasPlace result.1.now }
     {
         (&self.from, &self.to)
     }

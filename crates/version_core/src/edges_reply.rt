@@ -1,11 +1,11 @@
 //! The edges of a tile as text.
-ghost use Rattle.std.specs.Prelude.{◌≡◌, ◌++◌, ◌∷◌, ◌⊎◌, [], None, Some, codes, decimal, map, IfOk, IfErr, OnOk};
+ghost use Rattle.std.specs.Prelude.{◌≡◌, ◌++◌, ◌∷◌, [], None, Some, codes, decimal, map, IfOk, IfErr, OnOk};
 ghost use Rattle.overlay_terms.specs.Column.{column_numbered};
 ghost use Rattle.overlay_terms.specs.Histories.{tile_at};
 ghost use Rattle.overlay_terms.specs.Plane.{whole};
 ghost use Rattle.exact_point.specs.NamedPiece.{ends_of};
-ghost use Rattle.exact_point.specs.Place.{place};
 ghost use Rattle.exact_point.specs.PlaceOf.{place_of};
+ghost use Rattle.exact_point.specs.PointName.{HasPlace};
 ghost use Rattle.layer_book.specs.Fault.{RefusedBy};
 ghost use Rattle.tile_build.specs.Tile.{tile_of};
 ghost use Rattle.version_core.specs.Edges.{AreEdges, HasEndMore, HasLineMore, IsTextOf, edges_refusal, point_text, tile_absence};
@@ -90,21 +90,16 @@ fn push_line(text: &mut Vec<u8>, texts: &mut EndTexts, piece: &Piece) -> Result<
     ensures { OnOk result (HasLineMore text.old.items text.new.items (ends_of piece.now)) }
 {
     let (from, to) = piece.names();
-    push_end(text, texts, piece, from)?;
+    push_end(text, texts, from)?;
     text.push(b' ')?;
-    push_end(text, texts, piece, to)?;
+    push_end(text, texts, to)?;
     text.push(b'\n')?;
     Ok(())
 }
 
-/// Adds the end of a piece that has a name. The text of a whole point is not kept: it is made as fast.
-fn push_end(
-    text: &mut Vec<u8>,
-    texts: &mut EndTexts,
-    piece: &Piece,
-    name: &PointName,
-) -> Result<(), AllocError>
-    requires { (name.now ≡ piece.now.from) ⊎ (name.now ≡ piece.now.to) }
+/// Adds the place that a name stands for. The text of a whole point is not kept: it is made as fast.
+fn push_end(text: &mut Vec<u8>, texts: &mut EndTexts, name: &PointName) -> Result<(), AllocError>
+    requires { HasPlace name.now }
     ensures { OnOk result (HasEndMore text.old.items text.new.items (place_of name.now)) }
 {
     if let PointName::Vertex(point) = name {
@@ -116,7 +111,21 @@ fn push_end(
         text.extend_from_slice(kept.text.as_bytes())?;
         return Ok(());
     }
-    let made = EndText::new(name, &place_at(piece, name));
+    push_made(text, texts, name, mark)?;
+    Ok(())
+}
+
+/// Adds the place of a name whose text is not kept, and keeps it.
+fn push_made(
+    text: &mut Vec<u8>,
+    texts: &mut EndTexts,
+    name: &PointName,
+    mark: u64,
+) -> Result<(), AllocError>
+    requires { HasPlace name.now }
+    ensures { OnOk result (HasEndMore text.old.items text.new.items (place_of name.now)) }
+{
+    let made = EndText::new(name);
     text.extend_from_slice(made.text.as_bytes())?;
     texts.keep(made, mark);
     Ok(())
@@ -129,19 +138,4 @@ fn push_whole(text: &mut Vec<u8>, point: Pt) -> Result<(), AllocError>
     let made = PlaceText::new(&HPoint::of(point));
     text.extend_from_slice(made.as_bytes())?;
     Ok(())
-}
-
-/// The place of the end of a piece that has a name.
-fn place_at(piece: &Piece, name: &PointName) -> HPoint
-    requires { (name.now ≡ piece.now.from) ⊎ (name.now ≡ piece.now.to) }
-    ensures { place result ≡ place_of name.now }
-{
-    match name.point() {
-        Some(place) => place,
-        None => {
-            // The names of a piece have places, as its ends say.
-            let _ = piece.ends();
-            unreachable!()
-        }
-    }
 }

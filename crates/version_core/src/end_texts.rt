@@ -4,6 +4,7 @@ ghost use Rattle.std.specs.Prelude.{◌≡◌, IfSome, IsTrue};
 ghost use Rattle.overlay_terms.specs.Plane.{same_place};
 ghost use Rattle.exact_point.specs.Place.{place};
 ghost use Rattle.exact_point.specs.PlaceOf.{place_of};
+ghost use Rattle.exact_point.specs.PointName.{HasPlace};
 ghost use Rattle.exact_point.specs.Reduced.{IsLowest};
 ghost use Rattle.version_core.specs.Edges.{point_text};
 
@@ -27,12 +28,12 @@ pub(crate) struct EndText {
 }
 
 impl EndText {
-    /// The text of the place that has a name.
-    pub(crate) fn new(name: &PointName, point: &HPoint) -> EndText
-        requires { place point.now ≡ place_of name.now }
+    /// The text of the place that a name stands for.
+    pub(crate) fn new(name: &PointName) -> EndText
+        requires { HasPlace name.now }
         ensures { result.name ≡ name.now }
     {
-        let low = reduced(point);
+        let low = reduced(&name.known_point());
         let text = PlaceText::new(&low);
         EndText {
             name: *name,

@@ -1,5 +1,4 @@
-use Rattle.std.proofs.Common.{rules, ◌≡◌, ℤ, pos, ◌<ℤ◌, arith, ap, subst, sym, ◌∙◌, lit<, Bool, true, false, int_lt, Option, Some, None, to_z, of_z}
-use Rattle.std.specs.Prelude.{if◌then◌else◌}
+use Rattle.std.proofs.Common.{rules, ◌≡◌, ℤ, pos, ◌<ℤ◌, arith, subst, sym, ◌∙◌, lit<, Option, Some, None, to_z, of_z}
 use Rattle.std.specs.Int.{w128}
 use Rattle.std.specs.Option.{IfSome}
 use Rattle.std.specs.declared.cmp.Ordering.TheVariants.{Less, Equal, Greater}
@@ -7,11 +6,10 @@ use Rattle.std.proofs.lemmas.Cmp.{int_ranked}
 use Rattle.std.proofs.lemmas.Int.{ints}
 use Rattle.overlay_terms.specs.Plane.{Point, Segment}
 use Rattle.overlay_terms.proofs.Bounds.{read}
-use Rattle.exact_point.specs.Crossing.{IsCrossingOf, IsOnlyCrossingOf, turn_of, lead_of}
+use Rattle.exact_point.specs.Crossing.{IsCrossingOf, IsOnlyCrossingOf, turn_of}
 use Rattle.exact_point.specs.Place.{place}
-use Rattle.exact_point.specs.PlaceOf.{part_way, crossing_place}
 use Rattle.exact_point.specs.declared.point.HPoint.{HPoint}
-use Rattle.exact_point.proofs.CrossingLemmas.{crossing_turned, no_turn, turn_back}
+use Rattle.exact_point.proofs.CrossingLemmas.{crossing_turned, no_turn, on_first, on_second, turn_back}
 use Rattle.exact_point.proofs.crossing.cross_of.Goals as goal
 
 met : (a b : Segment) (r : Option HPoint) → IfSome r (λ z. IsCrossingOf b a (place z)) → IfSome r (λ z. IsCrossingOf a b (place z))
@@ -25,23 +23,6 @@ alone a b (Some z) h = λ p w k. h p w (crossing_turned a b p k)
 placed : (o : Option HPoint) (p q : Point) → p ≡ q → IfSome o (λ z. place z ≡ p) → IfSome o (λ z. place z ≡ q)
 placed None p q e h = tt
 placed (Some z) p q e h = h ∙ e
-
-ahead : (t : ℤ) → pos 0 <ℤ t → int_lt (pos 0) t ≡ true
-ahead t h = grind (arith, ints)
-
-behind : (t : ℤ) → t <ℤ pos 0 → int_lt (pos 0) t ≡ false
-behind t h = grind (arith, ints)
-
--- the place is told along the one that the other turns left from
-on_first : (a b : Segment) (w : ℤ) → w ≡ turn_of a b → pos 0 <ℤ w → part_way a (lead_of a b b) w ≡ crossing_place a b
-on_first a b w e h =
-    ap (part_way a (lead_of a b b)) e
-    ∙ sym (ap (λ (v : Bool). if v then part_way a (lead_of a b b) (turn_of a b) else part_way b (lead_of b a a) (turn_of b a)) (ahead _ (subst (λ (t : ℤ). pos 0 <ℤ t) e h)))
-
-on_second : (a b : Segment) (w : ℤ) → w ≡ turn_of b a → turn_of a b <ℤ pos 0 → part_way b (lead_of b a a) w ≡ crossing_place a b
-on_second a b w e h =
-    ap (part_way b (lead_of b a a)) e
-    ∙ sym (ap (λ (v : Bool). if v then part_way a (lead_of a b b) (turn_of a b) else part_way b (lead_of b a a) (turn_of b a)) (behind _ h))
 
 pub meeting-requires-clause-positive : goal.meeting-requires-clause-positive
 meeting-requires-clause-positive c =

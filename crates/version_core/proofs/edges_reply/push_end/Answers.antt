@@ -9,11 +9,6 @@ returns-in-Some c =
     let kept = c.in-Some.kept.now in
     end_more kept.name c.args.name.now kept.low _ _ kept.text c.in-Some.ensures kept.same kept.lowest kept.is_text (c.in_ok-extend_from_slice.ensures.items ∙ ap (λ t. c.args.text.now.items ++ t) c.as_bytes.ensures)
 
-pub returns : goal.returns
-returns c =
-    let made = c.new-made.result in
-    end_more made.name c.args.name.now made.low _ _ made.text c.new-made.ensures made.same made.lowest made.is_text (c.in_ok-extend_from_slice-2.ensures.items ∙ ap (λ t. c.args.text.now.items ++ t) c.as_bytes-2.ensures)
-
 pub returns-in-Vertex : goal.returns-in-Vertex
 returns-in-Vertex c =
     subst (λ n. HasEndMore c.args.text.now.items c.push_whole.new.text.items (place_of n)) (sym c.in-Vertex.is)
