@@ -11,6 +11,7 @@ ghost use Rattle.commit_plan.specs.Fitting.{HasRoom, HasNoRoom};
 ghost use Rattle.commit_plan.specs.Live.{standing};
 ghost use Rattle.commit_plan.specs.Sizes.{new_records};
 ghost use Rattle.root_store.specs.Beginning.{IsRefusal, IsReason, IsLaid};
+ghost use Rattle.root_store.specs.Writing.{writes_left};
 
 use crate::commit::Commit;
 use crate::finding::NUMBER_MAX;
@@ -31,6 +32,7 @@ impl<D: Disk> Commit<D> {
         ensures disk { self.new.disk ≡ self.old.disk }
         ensures root { self.new.next_root ≡ next.root }
         ensures plan { self.new.plan.items ≡ next.plan.items }
+        ensures left { writes_left self.new ≡ self.new.plan.items }
         ensures live { self.new.root ≡ self.old.root }
         ensures blocks { (limit : ℕ) → limit_of self.old.live.room.map ≡ limit → limit_of next.live.room.map ≡ limit
             → KeepsTo limit self.new }
@@ -83,6 +85,8 @@ impl<D: Disk> Commit<D> {
         // The new records, the catalog and the body, in this order; each record and the catalog in the lowest run of free
         // blocks, in whole blocks.
         ensures laid { OnOk result (IsLaid self.old image self.new) }
+        // None of them is made.
+        ensures left { OnOk result (writes_left self.new ≡ self.new.plan.items) }
         // One for each new record and the catalog, and six more.
         ensures calls { OnOk result (calls_left self.new ≡ new_records (standing self.old.live) (image_held image) + 7) }
         ensures disk { self.new.disk ≡ self.old.disk }
