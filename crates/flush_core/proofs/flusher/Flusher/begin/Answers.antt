@@ -1,18 +1,34 @@
-use Rattle.std.proofs.Common.{◌≡◌, ◌+◌, OnOk, subst}
+use Rattle.std.proofs.Common.{◌≡◌, ◌+◌, Result, Ok, Err, OnOk, ap, sym, subst, ◌∙◌}
 use Rattle.std.proofs.lemmas.Result.{on_ok_weaker}
 use Rattle.store_terms.specs.Image.{Held}
+use Rattle.store_terms.specs.declared.root.Root.{Root}
 use Rattle.commit_plan.specs.Live.{standing}
 use Rattle.commit_plan.specs.Sizes.{new_records}
 use Rattle.commit_plan.specs.Fitting.{HasNoRoom}
 use Rattle.root_store.specs.Running.{calls_left}
 use Rattle.root_store.proofs.Reasons.{refused_so, reason_of}
-use Rattle.flush_core.specs.Stored.{HasRoomFor, HasNoRoomFor}
+use Rattle.flush_core.specs.Stored.{IsImageOf, HasRoomFor, HasNoRoomFor}
 use Rattle.flush_core.proofs.flusher.Flusher.begin.Goals as goal
 
 pub returns-in-Some-clause-errors : goal.returns-in-Some-clause-errors
 returns-in-Some-clause-errors g c =
     let s = c.args.self.now.commit in
     refused_so s.phase s.root (HasNoRoomFor s c.args.version.now) c.in-Some.fault c.in-Some.ensures.reason
+
+-- two facts of a success give a third
+both : {T E A B C : Type 0} (r : Result T E) → (A → B → C) → OnOk r A → OnOk r B → OnOk r C
+both (Ok v) f a b = f a b
+both (Err e) f a b = b
+
+pub returns-clause-begun : goal.returns-clause-begun
+returns-clause-begun g c = λ x stands.
+    let image = c.in_ok-image in
+    both c.begin.result
+    (λ led number. (led.0, record {
+      root = ap (λ (r : Root). r.version) (sym led.2.next_root) ∙ number ∙ image.ensures.tiles.number;
+      image = subst (IsImageOf c.args.version.now) (sym led.1) image.ensures.tiles;
+    }, led.2))
+    (c.begin.ensures.begun x stands) c.begin.ensures.number
 
 pub returns-clause-room : goal.returns-clause-room
 returns-clause-room g c =
