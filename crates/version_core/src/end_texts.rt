@@ -110,7 +110,7 @@ fn is_same(name: &PointName, other: &PointName) -> bool
     ensures { IsTrue result → name.now ≡ other.now }
 {
     match (name, other) {
-        (PointName::Cross(a, b), PointName::Cross(c, d)) => a == c && b == d,
+        (PointName::Cross(a, b), PointName::Cross(c, d)) => *a == *c && *b == *d,
         (PointName::Border(s, k), PointName::Border(t, l)) => s == t && k == l,
         _ => false,
     }
