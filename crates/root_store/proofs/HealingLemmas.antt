@@ -1,8 +1,8 @@
 -- The completing write, call by call.
-use Rattle.std.proofs.Common.{◌≡◌, ℕ, ◌^◌, ◌<◌, List, length, Result, Ok, Err, subst}
+use Rattle.std.proofs.Common.{◌≡◌, ℕ, ◌^◌, ◌<◌, List, length, Result, Ok, Err, sym, subst}
 use Rattle.std.specs.Prelude.{IsErr}
 use Rattle.disk_model.specs.declared.disk.Disk.{Ghosts}
-use Rattle.disk_model.specs.Disk.{Holds, Torn, OneStepOn}
+use Rattle.disk_model.specs.Disk.{Holds, Torn, OneStepOn, Only, Elapses}
 use Rattle.disk_model.specs.Moments.{Leaves, LeavesOnly}
 use Rattle.store_terms.specs.declared.root.Root.{Root}
 use Rattle.store_terms.specs.Roots.{body_text, sequence_max}
@@ -13,7 +13,8 @@ use Rattle.root_store.specs.Healing.{twin, HoldsTwin}
 use Rattle.root_store.specs.Opening.{Heals}
 use Rattle.root_store.proofs.Healed.{twin_heals}
 use Rattle.commit_plan.proofs.Plan.{body_spares}
-use Rattle.root_store.proofs.Steps.{leaves_torn}
+use Rattle.root_store.proofs.Steps.{one_call, leaves_torn}
+use Rattle.root_store.proofs.WritingLemmas.{torn_same}
 
 -- a write of a body in the other slot, whole or in part, whatever its bytes
 pub body_torn : (r : Root) (at : ℕ) (bytes : List ℕ) → at ≡ body_at (other r) → length bytes ≡ 48
@@ -29,6 +30,24 @@ module _ {D : Type 0} (g : Ghosts D) (old mid : D) (x : Kept) (at : ℕ) (bytes 
   still_shut all follows =
       leaves_torn g old mid (Shut x) at (length bytes) all follows
       (λ c d shut torn. body_spares x c d shut (body_torn x.root at bytes there long c d torn))
+
+-- of a file that is all on the disk, what a crash leaves while such a body is written
+module _ {D : Type 0} (g : Ghosts D) (old mid : D) (r : Root) (at : ℕ) (bytes : List ℕ)
+    (there : at ≡ body_at (other r)) (long : length bytes ≡ 48) (file : List ℕ) (only : Only file (g.may_leave old))
+    (follows : OneStepOn (Torn at (length bytes)) (g.may_leave old) (g.may_leave mid)) where
+  pub torn_left : Leaves g mid (Torn (body_at (other r)) 48 file)
+  torn_left c left =
+      let from = follows c left in
+      subst (λ (f : List ℕ). Torn (body_at (other r)) 48 f c) (only from.0 from.1)
+      (body_torn r at bytes there long from.0 c from.2)
+
+  pub torn_run : ((c : List ℕ) → g.left_since old (g.moment old) c → g.may_leave old c)
+      → Elapses (g.moment old) (g.moment mid) (g.left_since old) (g.left_since mid) (g.may_leave mid)
+      → LeavesOnly g old mid (Torn (body_at (other r)) 48 file)
+  torn_run now time =
+      one_call g old mid (Torn (body_at (other r)) 48 file) now
+      (λ c left. subst (λ (f : List ℕ). Torn (body_at (other r)) 48 file f) (sym (only c left))
+      (torn_same (body_at (other r)) 48 file)) time torn_left
 
 -- put whole, the twin's body is there
 pub holds_twin : (x : Kept) (at : ℕ) (bytes : List ℕ) → at ≡ body_at (other x.root) → bytes ≡ body_text (twin x.root)

@@ -5,6 +5,7 @@ mod FindingLemmas
 mod TakenLemmas
 mod HealingLemmas
 mod LaidLemmas
+mod WritingLemmas
 pub mod Reasons
 mod OpeningLemmas
 mod CreatingLemmas

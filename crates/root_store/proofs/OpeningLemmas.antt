@@ -1,5 +1,5 @@
 -- What opening knows once all is read, and what it leaves.
-use Rattle.std.proofs.Common.{◌≡◌, ◌≢◌, inl, inr, ℕ, ◌<◌, ◌≤◌, Bool, true, false, List, Result, Ok, Err, refl, sym, ◌∙◌, ap, subst}
+use Rattle.std.proofs.Common.{◌≡◌, ◌≢◌, inl, inr, ⊎_elim, ℕ, ◌<◌, ◌≤◌, Bool, true, false, List, Result, Ok, Err, refl, sym, ◌∙◌, ap, subst}
 use Rattle.std.specs.Prelude.{IsErrAnd, IfErr}
 use Rattle.std.proofs.lemmas.Result.{err_from_is_err_and}
 use Rattle.disk_model.specs.declared.disk.Disk.{Ghosts}
@@ -18,7 +18,7 @@ use Rattle.commit_plan.specs.Kept.{Kept, other, Live, Rest, Shut, Calm}
 use Rattle.commit_plan.specs.Loading.{held_in, kept_in}
 use Rattle.root_reading.specs.Looking.{Looks, Refuses, Causes}
 use Rattle.commit_plan.specs.Fault.{fault_told}
-use Rattle.root_store.specs.Opening.{Heals, IsRead, Opened, Loads, InPhases, Stops, Untouched, Writes, IsCompleted, Tells, FailedBy}
+use Rattle.root_store.specs.Opening.{Heals, IsRead, Opened, Loads, InPhases, Stops, Untouched, StandsStill, Writes, IsCompleted, Tells, FailedBy}
 use Rattle.root_store.specs.Healing.{HoldsTwin}
 use Rattle.commit_plan.specs.declared.fault.StoreFault.{StoreFault}
 use Rattle.commit_plan.specs.declared.fault.StoreFault.TheVariants as stores
@@ -127,34 +127,6 @@ module _ {D : Type 0} (g : Ghosts D) (old mid : D) (x : Loaded) (is_alone : Bool
               λ f left. same_stands f (still f left);
         })
 
--- after the first sync all is only read
-pub phases_read : {D : Type 0} (g : Ghosts D) (old mid new : D) → Looks g old mid
-    → Only (g.seen old) (g.may_leave mid) → Looks g mid new → InPhases g old new
-phases_read g old mid new first only rest = record {
-  synced = mid;
-  before = first.run;
-  only = only;
-  after = widened g mid new (g.may_leave mid) (λ file. reading file ≡ reading (g.seen old))
-      (λ c left. ap reading (only c left)) rest.run;
-}
-
--- and then a body is made whole
-pub phases_healed : {D : Type 0} (g : Ghosts D) (old mid new : D) (x : Kept)
-    → reading (g.seen old) ≡ Ok x.held → InPhases g old mid → LeavesOnly g mid new (Shut x) → InPhases g old new
-phases_healed g old mid new x reads phases run = record {
-  synced = phases.synced;
-  before = phases.before;
-  only = phases.only;
-  after = joined g phases.synced mid new (λ file. reading file ≡ reading (g.seen old))
-      (Shut x) (λ c shut. shut_stands x c shut ∙ sym reads) phases.after run;
-}
-
--- why opening ended early, as the store tells it
-pub stops_told : {D : Type 0} (g : Ghosts D) (old new : D) (fault : LoadFault) (told : StoreFault)
-    → told ≡ fault_told fault → Stops g old (fault ≡ Device) new → Stops g old (told ≡ stores.Device) new
-stops_told g old new fault told is (inl (failed, run)) = inl (is ∙ ap fault_told failed, run)
-stops_told g old new fault told is (inr phases) = inr phases
-
 -- a file of which one gate is shut, once the body behind it is written
 pub body_writes : (file now new : List ℕ) (r : Root) → root_of file ≡ Ok r → has_shut_gate file ≡ true → now ≡ file
     → r.sequence < sequence_max → Torn (body_at (other r)) 48 now new → Writes file new
@@ -167,6 +139,51 @@ body_writes file now new r is alone same below torn =
       below = below;
       torn = subst (λ (f : List ℕ). Torn (body_at (other r)) 48 f new) same torn;
     })
+
+-- a run of which two things are known
+pub both_left : {D : Type 0} (g : Ghosts D) (old new : D) (P Q : List ℕ → Type 0) → LeavesOnly g old new P
+    → LeavesOnly g old new Q → LeavesOnly g old new (λ file. P file × Q file)
+both_left g old new P Q one two = record {
+  later = one.later;
+  each = λ c left. (one.each c left, two.each c left);
+  before = λ t c le left. ⊎_elim (λ was. inl was)
+      (λ p. ⊎_elim (λ was. inl was) (λ q. inr (p, q)) (two.before t c le left)) (one.before t c le left);
+}
+
+-- after the first sync all is only read
+pub phases_read : {D : Type 0} (g : Ghosts D) (old mid new : D) → Looks g old mid
+    → Only (g.seen old) (g.may_leave mid) → Looks g mid new → InPhases g old new
+phases_read g old mid new first only rest = record {
+  synced = mid;
+  before = first.run;
+  only = only;
+  after = widened g mid new (g.may_leave mid) (StandsStill (g.seen old))
+      (λ c left. (ap reading (only c left), inl (only c left))) rest.run;
+}
+
+-- and then a body is made whole
+pub phases_healed : {D : Type 0} (g : Ghosts D) (old mid new : D) (x : Kept)
+    → reading (g.seen old) ≡ Ok x.held → root_of (g.seen old) ≡ Ok x.root → has_shut_gate (g.seen old) ≡ true
+    → x.root.sequence < sequence_max → InPhases g old mid → LeavesOnly g mid new (Shut x)
+    → LeavesOnly g mid new (Torn (body_at (other x.root)) 48 (g.seen old)) → InPhases g old new
+phases_healed g old mid new x reads root alone below phases run elsewhere = record {
+  synced = phases.synced;
+  before = phases.before;
+  only = phases.only;
+  after = joined g phases.synced mid new (StandsStill (g.seen old))
+      (λ file. Shut x file × Torn (body_at (other x.root)) 48 (g.seen old) file)
+      (λ c made. (
+        shut_stands x c made.0 ∙ sym reads,
+        body_writes (g.seen old) (g.seen old) c x.root root alone refl below made.1,
+      ))
+      phases.after (both_left g mid new (Shut x) (Torn (body_at (other x.root)) 48 (g.seen old)) run elsewhere);
+}
+
+-- why opening ended early, as the store tells it
+pub stops_told : {D : Type 0} (g : Ghosts D) (old new : D) (fault : LoadFault) (told : StoreFault)
+    → told ≡ fault_told fault → Stops g old (fault ≡ Device) new → Stops g old (told ≡ stores.Device) new
+stops_told g old new fault told is (inl (failed, run)) = inl (is ∙ ap fault_told failed, run)
+stops_told g old new fault told is (inr phases) = inr phases
 
 -- the body that opening leaves in the other slot, in each of its ends
 module _ {D : Type 0} (g : Ghosts D) (new : D) (file : List ℕ) (r : Root) (is : root_of file ≡ Ok r) where

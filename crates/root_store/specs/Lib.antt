@@ -4,3 +4,4 @@ pub mod Healing
 pub mod Creating
 pub mod Opening
 pub mod Beginning
+pub mod Writing

@@ -42,19 +42,6 @@ pub record IsRead {D : Type 0} (g : Ghosts D) (old new : D) (x : Loaded) (is_alo
 abbrev pub Opened : {D : Type 0} → Ghosts D → D → List ℕ → Type 0
 Opened g old file = g.may_leave old file ⊎ (reading file ≡ reading (g.seen old))
 
--- a file is opened in two phases: until the first sync has succeeded, a crash leaves what it might have left before;
--- from then on, what stands for the same
-pub record InPhases {D : Type 0} (g : Ghosts D) (old new : D) : Type 0 where
-  -- the disk as that sync left it
-  pub synced : D
-  pub before : LeavesOnly g old synced (g.may_leave old)
-  pub only : Only (g.seen old) (g.may_leave synced)
-  pub after : LeavesOnly g synced new (λ file. reading file ≡ reading (g.seen old))
-
--- opening ends early: that sync failed, or it ends in the second phase
-abbrev pub Stops : {D : Type 0} → Ghosts D → D → Type 0 → D → Type 0
-Stops g old failed new = (failed × LeavesOnly g old new (g.may_leave old)) ⊎ InPhases g old new
-
 -- a file is opened: what it stands for is read, and in the end a crash leaves what stands for it, as between commits
 pub record Loads {D : Type 0} (g : Ghosts D) (old new : D) (result : Result Loaded LoadFault) : Type 0 where
   pub honest : g.is_honest new
@@ -82,6 +69,23 @@ pub record WritesBody (old new : List ℕ) : Type 0 where
 -- what opening writes of a file: nothing but that body, if anything
 abbrev pub Writes : List ℕ → List ℕ → Type 0
 Writes old new = (new ≡ old) ⊎ WritesBody old new
+
+-- the file stands for what it stood for, and nothing but that body is written
+abbrev pub StandsStill : List ℕ → List ℕ → Type 0
+StandsStill old new = (reading new ≡ reading old) × Writes old new
+
+-- a file is opened in two phases: until the first sync has succeeded, a crash leaves what it might have left before;
+-- from then on, what stands for the same, and differs from what was seen in that body alone
+pub record InPhases {D : Type 0} (g : Ghosts D) (old new : D) : Type 0 where
+  -- the disk as that sync left it
+  pub synced : D
+  pub before : LeavesOnly g old synced (g.may_leave old)
+  pub only : Only (g.seen old) (g.may_leave synced)
+  pub after : LeavesOnly g synced new (StandsStill (g.seen old))
+
+-- opening ends early: that sync failed, or it ends in the second phase
+abbrev pub Stops : {D : Type 0} → Ghosts D → D → Type 0 → D → Type 0
+Stops g old failed new = (failed × LeavesOnly g old new (g.may_leave old)) ⊎ InPhases g old new
 
 -- where the gate of the slot that the root is not in was shut, and a number is left, that slot has the body of the
 -- root's twin

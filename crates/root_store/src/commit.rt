@@ -1,8 +1,9 @@
 //! A store, and a commit of it, one device call a step.
-ghost use Rattle.std.specs.Prelude.{◌≡◌, ◌↔◌, ℕ, ◌+◌, ◌<◌, true, length, drop, slice_get, vec_capacity, IfSome, IfOk, OnErr, IsErrOf, IfErr};
+ghost use Rattle.std.specs.Prelude.{◌≡◌, ◌↔◌, ℕ, ◌+◌, ◌<◌, true, length, drop, slice_get, vec_capacity, IfSome, IfOk, OnOk, OnErr, IsErrOf, IfErr};
 ghost use Rattle.disk_model.specs.Disk.{Failed, CountsCall};
 ghost use Rattle.commit_plan.specs.Kept.{Kept};
 ghost use Rattle.root_store.specs.Running.{Runs, KeepsTo, Stepped, FailsByDevice, Counts, Turns, KeepsRoots, calls_left, is_busy, fault_in};
+ghost use Rattle.root_store.specs.Writing.{WritesOnly, writes_left, write_in, left_after};
 
 use crate::finding::GATE_OPEN;
 use crate::phase::{Phase, Progress};
@@ -75,6 +76,12 @@ impl<D: Disk> Commit<D> {
         // Where a commit from x to y is under way, a crash at any moment of the call leaves x or y.
         ensures moves { (x y : Kept) → Runs D.Disk self.old x y → Stepped D.Disk self.old self.new result x y }
         ensures honest { D.is_honest self.new.disk ↔ D.is_honest self.old.disk }
+        // It writes what its phase is named for, and no other byte: the other slot's gate byte, or the first of the
+        // writes that are left. These stay as they are, but for that one.
+        ensures wrote { D.is_honest self.old.disk
+            → WritesOnly D.Disk (write_in self.old.phase self.old.root (writes_left self.old)) self.old.disk
+            self.new.disk result }
+        ensures left { OnOk result (writes_left self.new ≡ left_after self.old.phase (writes_left self.old)) }
         // One device call fewer is left, until Done.
         ensures counted { IfOk result (λ p. Counts p (calls_left self.old) (calls_left self.new)) }
         // Done n: n is the number of the root that the commit leads to, and that root is live. Any other answer leaves

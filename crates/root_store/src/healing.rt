@@ -1,7 +1,7 @@
 //! The completing write of opening a store.
-ghost use Rattle.std.specs.Prelude.{◌≡◌, ◌↔◌, ◌<◌, IfErr};
-ghost use Rattle.disk_model.specs.Disk.{Torn};
-ghost use Rattle.disk_model.specs.Moments.{Leaves};
+ghost use Rattle.std.specs.Prelude.{◌≡◌, ◌↔◌, ◌<◌, List, ℕ, IfErr};
+ghost use Rattle.disk_model.specs.Disk.{Torn, Only};
+ghost use Rattle.disk_model.specs.Moments.{Leaves, LeavesOnly};
 ghost use Rattle.store_terms.specs.Roots.{sequence_max};
 ghost use Rattle.store_terms.specs.StandsFor.{body_at};
 ghost use Rattle.commit_plan.specs.Kept.{Kept, other, Shut};
@@ -23,9 +23,11 @@ pub(crate) fn heal<D: Disk>(disk: &mut D, root: Root) -> Result<(), LoadFault>
     ensures cause { D.is_honest disk.old → Causes result (D.faults disk.old) (D.faults disk.new) }
     ensures heals { D.is_honest disk.old → (x : Kept) → x.root ≡ root → Leaves D.Disk disk.old (Shut x)
         → Heals D.Disk disk.old disk.new result x }
-    // Nothing else is written.
+    // Nothing else is written, at no moment of the call.
     ensures torn { D.is_honest disk.old
         → Torn (body_at (other root)) 48 (D.seen disk.old) (D.seen disk.new) }
+    ensures elsewhere { D.is_honest disk.old → (file : List ℕ) → Only file (D.may_leave disk.old)
+        → LeavesOnly D.Disk disk.old disk.new (Torn (body_at (other root)) 48 file) }
 {
     let twin = Root {
         sequence: root.sequence + 1,

@@ -7,7 +7,7 @@ use Rattle.disk_model.specs.Disk.{Torn}
 use Rattle.commit_plan.specs.Kept.{other, Shut, Rest}
 use Rattle.root_store.specs.Healing.{twin, HoldsTwin}
 use Rattle.root_store.proofs.Steps.{one_call, leaves_fewer, leaves_synced}
-use Rattle.root_store.proofs.HealingLemmas.{still_shut, holds_twin, at_rest, healing_failed, body_torn}
+use Rattle.root_store.proofs.HealingLemmas.{still_shut, holds_twin, at_rest, healing_failed, body_torn, torn_left, torn_run}
 use Rattle.root_store.proofs.healing.heal.Goals as goal
 
 pub returns-in_err-write_at-clause-heals : goal.returns-in_err-write_at-clause-heals
@@ -101,3 +101,44 @@ returns-clause-torn g c honest =
     let torn = body_torn c.args.root c.other_body.result c.write_body-body.result c.other_body.ensures
     long old (k.seen c.write_at.new.self) (c.write_at.ensures.others honest) in
     subst (λ (f : List ℕ). Torn there 48 old f) (sym (c.sync.ensures.seen (c.write_at.ensures.honest.1 honest))) torn
+
+pub returns-in_err-write_at-clause-elsewhere : goal.returns-in_err-write_at-clause-elsewhere
+returns-in_err-write_at-clause-elsewhere g c honest file only =
+    let k = g.D.Disk in
+    let old = c.args.disk.now in
+    let w = c.write_at.ensures in
+    let long : length c.write_body-body.result ≡ 48 = omega arith in
+    torn_run k old c.write_at.new.self c.args.root c.other_body.result c.write_body-body.result c.other_body.ensures long
+    file only (w.crash honest) (λ f left. g.met.D.Disk.only_now old f honest left) (w.time honest)
+
+pub returns-in_err-sync-clause-elsewhere : goal.returns-in_err-sync-clause-elsewhere
+returns-in_err-sync-clause-elsewhere g c honest file only =
+    let k = g.D.Disk in
+    let old = c.args.disk.now in
+    let mid = c.write_at.new.self in
+    let new = c.sync.new.self in
+    let w = c.write_at.ensures in
+    let on = w.honest.1 honest in
+    let long : length c.write_body-body.result ≡ 48 = omega arith in
+    let body = Torn (body_at (other c.args.root)) 48 file in
+    let left = torn_left k old mid c.args.root c.other_body.result c.write_body-body.result c.other_body.ensures long
+    file only (w.crash honest) in
+    let run = torn_run k old mid c.args.root c.other_body.result c.write_body-body.result c.other_body.ensures long
+    file only (w.crash honest) (λ f left. g.met.D.Disk.only_now old f honest left) (w.time honest) in
+    goes_on k old mid new body run (c.sync.ensures.time on) (leaves_fewer k mid new body left (c.sync.ensures.crash on))
+
+pub returns-clause-elsewhere : goal.returns-clause-elsewhere
+returns-clause-elsewhere g c honest file only =
+    let k = g.D.Disk in
+    let old = c.args.disk.now in
+    let mid = c.write_at.new.self in
+    let new = c.sync.new.self in
+    let w = c.write_at.ensures in
+    let on = w.honest.1 honest in
+    let long : length c.write_body-body.result ≡ 48 = omega arith in
+    let body = Torn (body_at (other c.args.root)) 48 file in
+    let left = torn_left k old mid c.args.root c.other_body.result c.write_body-body.result c.other_body.ensures long
+    file only (w.crash honest) in
+    let run = torn_run k old mid c.args.root c.other_body.result c.write_body-body.result c.other_body.ensures long
+    file only (w.crash honest) (λ f left. g.met.D.Disk.only_now old f honest left) (w.time honest) in
+    goes_on k old mid new body run (c.sync.ensures.time on) (leaves_fewer k mid new body left (c.sync.ensures.crash on))

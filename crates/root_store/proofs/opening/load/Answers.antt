@@ -149,12 +149,15 @@ returns-in_err-heal-clause-stops g c honest =
     let new = c.heal.new.disk in
     let r = c.in_ok-loaded.ensures in
     let x = c.in_ok-loaded.loaded in
+    let read = r.read honest in
     let alone : c.in_ok-loaded.is_alone ≡ true = search rules in
+    let below : c.in_ok-loaded.loaded.root.sequence < sequence_max = omega arith in
     let settled = shuts k old mid x c.in_ok-loaded.is_alone (r.run honest) (r.read honest) (r.gives honest) alone in
     let heals = c.heal.ensures.heals (r.honest.1 honest) (kept_in x) refl settled in
     if_err c.from_residual-in_err-heal.result c.in_err-heal.field-0.0
     (λ (e : LoadFault). Stops k old (e ≡ Device) new) c.from_residual-in_err-heal.ensures.1
-    (inr (phases_healed k old mid new (kept_in x) (r.gives honest) (r.phases honest) heals.run))
+    (inr (phases_healed k old mid new (kept_in x) (r.gives honest) read.root (sym read.alone ∙ alone) below
+    (r.phases honest) heals.run (c.heal.ensures.elsewhere (r.honest.1 honest) (k.seen old) read.only)))
 
 pub returns-clause-phases : goal.returns-clause-phases
 returns-clause-phases g c honest =
@@ -163,7 +166,10 @@ returns-clause-phases g c honest =
     let mid = c.read_store.new.disk in
     let r = c.in_ok-loaded.ensures in
     let x = c.in_ok-loaded.loaded in
+    let read = r.read honest in
     let alone : c.in_ok-loaded.is_alone ≡ true = search rules in
+    let below : c.in_ok-loaded.loaded.root.sequence < sequence_max = omega arith in
     let settled = shuts k old mid x c.in_ok-loaded.is_alone (r.run honest) (r.read honest) (r.gives honest) alone in
     let heals = c.heal.ensures.heals (r.honest.1 honest) (kept_in x) refl settled in
-    phases_healed k old mid c.heal.new.disk (kept_in x) (r.gives honest) (r.phases honest) heals.run
+    phases_healed k old mid c.heal.new.disk (kept_in x) (r.gives honest) read.root (sym read.alone ∙ alone) below
+    (r.phases honest) heals.run (c.heal.ensures.elsewhere (r.honest.1 honest) (k.seen old) read.only)

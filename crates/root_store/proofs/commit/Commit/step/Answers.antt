@@ -1,4 +1,4 @@
-use Rattle.std.proofs.Common.{◌≡◌, length, drop, List, [], ◌∷◌, ℕ, inl, refl, sym, ◌∙◌, ap, subst, rules}
+use Rattle.std.proofs.Common.{◌≡◌, length, drop, List, [], ◌∷◌, ℕ, inl, Some, Ok, refl, sym, ◌∙◌, ap, subst, rules}
 use Rattle.disk_model.specs.Disk.{Torn, Holds, OneStepOn}
 use Rattle.root_store.specs.declared.phase.Phase.{Phase}
 use Rattle.store_terms.specs.StandsFor.{gate_at}
@@ -15,6 +15,10 @@ use Rattle.store_terms.specs.declared.root.Root.{Root}
 use Rattle.commit_plan.proofs.Kept.{gate_written}
 use Rattle.commit_plan.proofs.Reading.{opened_rest}
 use Rattle.root_store.proofs.Steps.{one_call, leaves_torn, leaves_fewer, leaves_synced, rest_either, shut_either, both_either, closing, opening, settles, next_leads, next_spares, led, failed}
+use Rattle.root_store.specs.declared.phase.Phase.TheVariants as phases
+use Rattle.root_store.specs.declared.phase.Progress.TheVariants as prog
+use Rattle.root_store.specs.Writing.{writes_left}
+use Rattle.root_store.proofs.WritingLemmas.{writes_this, writes_none, first_from, none_from, not_ok}
 use Rattle.root_store.proofs.commit.Commit.step.Goals as goal
 
 pub returns-in_err-write_at-in-Close-clause-moves : goal.returns-in_err-write_at-in-Close-clause-moves
@@ -342,3 +346,121 @@ returns-in_ok-sync-in-Finish-clause-blocks g c limit keeps = (
   ap (λ (r : LiveRecords). limit_of r.room.map) c.swap.ensures.x_after ∙ keeps.1,
   ap (λ (r : Room). limit_of r.map) c.let_go-in-Finish.ensures.room ∙ ap (λ (r : LiveRecords). limit_of r.room.map) c.swap.ensures.y_after ∙ keeps.0,
 )
+
+pub returns-in_err-write_at-in-Close-clause-wrote : goal.returns-in_err-write_at-in-Close-clause-wrote
+returns-in_err-write_at-in-Close-clause-wrote g c honest =
+    let k = g.D.Disk in
+    let s = c.args.self.now in
+    let new = c.write_at.new.self in
+    let w = c.write_at.ensures in
+    writes_this k s.disk new (λ f left. g.met.D.Disk.only_now s.disk f honest left) (w.time honest) c.from_residual.result s.phase phases.Close c.in-Close.is s.root (writes_left s)
+    c.other_gate.result (0 ∷ []) (ap (λ (a : ℕ). Some (a, 0 ∷ [])) (sym c.other_gate.ensures))
+    (not_ok c.from_residual.result (Holds (k.seen new) c.other_gate.result (0 ∷ [])) c.from_residual.ensures.0) (w.others honest) (w.crash honest)
+
+pub returns-in_err-sync-in-Settle-clause-wrote : goal.returns-in_err-sync-in-Settle-clause-wrote
+returns-in_err-sync-in-Settle-clause-wrote g c honest =
+    let k = g.D.Disk in
+    let s = c.args.self.now in
+    let new = c.sync.new.self in
+    let w = c.sync.ensures in
+    writes_none k s.disk new (λ f left. g.met.D.Disk.only_now s.disk f honest left) (w.time honest) c.from_residual-in_err-sync-in-Settle.result s.phase phases.Settle c.in-Settle.is s.root (writes_left s)
+    refl (w.seen honest) (w.crash honest)
+
+pub returns-in_err-write_at-in-Put-clause-wrote : goal.returns-in_err-write_at-in-Put-clause-wrote
+returns-in_err-write_at-in-Put-clause-wrote g c honest =
+    let k = g.D.Disk in
+    let s = c.args.self.now in
+    let new = c.write_at-then-self-len.new.self in
+    let w = c.write_at-then-self-len.ensures in
+    let v = c.index-write.result.now in
+    let same : c.deref.result.now ≡ v.bytes.items = search rules in
+    writes_this k s.disk new (λ f left. g.met.D.Disk.only_now s.disk f honest left) (w.time honest) c.from_residual-in_err-write_at-in-Put.result s.phase phases.Put c.in-Put.is s.root (writes_left s)
+    v.at c.deref.result.now (first_from s.plan.items s.next v (search rules) (search rules) ∙ ap (λ (bytes : List ℕ). Some (v.at, bytes)) (sym same))
+    (not_ok c.from_residual-in_err-write_at-in-Put.result (Holds (k.seen new) v.at c.deref.result.now) c.from_residual-in_err-write_at-in-Put.ensures.0) (w.others honest) (w.crash honest)
+
+pub returns-in_err-sync-in-Put-clause-wrote : goal.returns-in_err-sync-in-Put-clause-wrote
+returns-in_err-sync-in-Put-clause-wrote g c honest =
+    let k = g.D.Disk in
+    let s = c.args.self.now in
+    let new = c.sync-else-self-len.new.self in
+    let w = c.sync-else-self-len.ensures in
+    writes_none k s.disk new (λ f left. g.met.D.Disk.only_now s.disk f honest left) (w.time honest) c.from_residual-in_err-sync-in-Put.result s.phase phases.Put c.in-Put.is s.root (writes_left s)
+    (none_from s.plan.items s.next (search rules)) (w.seen honest) (w.crash honest)
+
+pub returns-in_err-write_at-in-Open-clause-wrote : goal.returns-in_err-write_at-in-Open-clause-wrote
+returns-in_err-write_at-in-Open-clause-wrote g c honest =
+    let k = g.D.Disk in
+    let s = c.args.self.now in
+    let new = c.write_at-in-Open.new.self in
+    let w = c.write_at-in-Open.ensures in
+    writes_this k s.disk new (λ f left. g.met.D.Disk.only_now s.disk f honest left) (w.time honest) c.from_residual-in_err-write_at-in-Open.result s.phase phases.Open c.in-Open.is s.root (writes_left s)
+    c.other_gate-in-Open.result (167 ∷ []) (ap (λ (a : ℕ). Some (a, 167 ∷ [])) (sym c.other_gate-in-Open.ensures))
+    (not_ok c.from_residual-in_err-write_at-in-Open.result (Holds (k.seen new) c.other_gate-in-Open.result (167 ∷ [])) c.from_residual-in_err-write_at-in-Open.ensures.0) (w.others honest) (w.crash honest)
+
+pub returns-in_err-sync-in-Finish-clause-wrote : goal.returns-in_err-sync-in-Finish-clause-wrote
+returns-in_err-sync-in-Finish-clause-wrote g c honest =
+    let k = g.D.Disk in
+    let s = c.args.self.now in
+    let new = c.sync-in-Finish.new.self in
+    let w = c.sync-in-Finish.ensures in
+    writes_none k s.disk new (λ f left. g.met.D.Disk.only_now s.disk f honest left) (w.time honest) c.from_residual-in_err-sync-in-Finish.result s.phase phases.Finish c.in-Finish.is s.root (writes_left s)
+    refl (w.seen honest) (w.crash honest)
+
+pub returns-in_ok-write_at-in-Close-clause-wrote : goal.returns-in_ok-write_at-in-Close-clause-wrote
+returns-in_ok-write_at-in-Close-clause-wrote g c honest =
+    let k = g.D.Disk in
+    let s = c.args.self.now in
+    let new = c.write_at.new.self in
+    let w = c.write_at.ensures in
+    writes_this k s.disk new (λ f left. g.met.D.Disk.only_now s.disk f honest left) (w.time honest) (Ok prog.Going) s.phase phases.Close c.in-Close.is s.root (writes_left s)
+    c.other_gate.result (0 ∷ []) (ap (λ (a : ℕ). Some (a, 0 ∷ [])) (sym c.other_gate.ensures))
+    (c.in_ok-write_at-in-Close.ensures.written honest) (w.others honest) (w.crash honest)
+
+pub returns-in_ok-sync-in-Settle-clause-wrote : goal.returns-in_ok-sync-in-Settle-clause-wrote
+returns-in_ok-sync-in-Settle-clause-wrote g c honest =
+    let k = g.D.Disk in
+    let s = c.args.self.now in
+    let new = c.sync.new.self in
+    let w = c.sync.ensures in
+    writes_none k s.disk new (λ f left. g.met.D.Disk.only_now s.disk f honest left) (w.time honest) (Ok prog.Going) s.phase phases.Settle c.in-Settle.is s.root (writes_left s)
+    refl (w.seen honest) (w.crash honest)
+
+pub returns-in_ok-write_at-in-Put-clause-wrote : goal.returns-in_ok-write_at-in-Put-clause-wrote
+returns-in_ok-write_at-in-Put-clause-wrote g c honest =
+    let k = g.D.Disk in
+    let s = c.args.self.now in
+    let new = c.write_at-then-self-len.new.self in
+    let w = c.write_at-then-self-len.ensures in
+    let v = c.index-write.result.now in
+    let same : c.deref.result.now ≡ v.bytes.items = search rules in
+    writes_this k s.disk new (λ f left. g.met.D.Disk.only_now s.disk f honest left) (w.time honest) (Ok prog.Going) s.phase phases.Put c.in-Put.is s.root (writes_left s)
+    v.at c.deref.result.now (first_from s.plan.items s.next v (search rules) (search rules) ∙ ap (λ (bytes : List ℕ). Some (v.at, bytes)) (sym same))
+    (c.in_ok-write_at-in-Put.ensures.written honest) (w.others honest) (w.crash honest)
+
+pub returns-in_ok-sync-in-Put-clause-wrote : goal.returns-in_ok-sync-in-Put-clause-wrote
+returns-in_ok-sync-in-Put-clause-wrote g c honest =
+    let k = g.D.Disk in
+    let s = c.args.self.now in
+    let new = c.sync-else-self-len.new.self in
+    let w = c.sync-else-self-len.ensures in
+    writes_none k s.disk new (λ f left. g.met.D.Disk.only_now s.disk f honest left) (w.time honest) (Ok prog.Going) s.phase phases.Put c.in-Put.is s.root (writes_left s)
+    (none_from s.plan.items s.next (search rules)) (w.seen honest) (w.crash honest)
+
+pub returns-in_ok-write_at-in-Open-clause-wrote : goal.returns-in_ok-write_at-in-Open-clause-wrote
+returns-in_ok-write_at-in-Open-clause-wrote g c honest =
+    let k = g.D.Disk in
+    let s = c.args.self.now in
+    let new = c.write_at-in-Open.new.self in
+    let w = c.write_at-in-Open.ensures in
+    writes_this k s.disk new (λ f left. g.met.D.Disk.only_now s.disk f honest left) (w.time honest) (Ok prog.Going) s.phase phases.Open c.in-Open.is s.root (writes_left s)
+    c.other_gate-in-Open.result (167 ∷ []) (ap (λ (a : ℕ). Some (a, 167 ∷ [])) (sym c.other_gate-in-Open.ensures))
+    (c.in_ok-write_at-in-Open.ensures.written honest) (w.others honest) (w.crash honest)
+
+pub returns-in_ok-sync-in-Finish-clause-wrote : goal.returns-in_ok-sync-in-Finish-clause-wrote
+returns-in_ok-sync-in-Finish-clause-wrote g c honest =
+    let k = g.D.Disk in
+    let s = c.args.self.now in
+    let new = c.sync-in-Finish.new.self in
+    let w = c.sync-in-Finish.ensures in
+    writes_none k s.disk new (λ f left. g.met.D.Disk.only_now s.disk f honest left) (w.time honest) _ s.phase phases.Finish c.in-Finish.is s.root (writes_left s)
+    refl (w.seen honest) (w.crash honest)
