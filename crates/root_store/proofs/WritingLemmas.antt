@@ -36,42 +36,42 @@ first_from plan i w h is =
 pub none_from : (plan : List Write) (i : ℕ) → length plan ≤ i → first_write (drop i plan) ≡ None
 none_from plan i past = at_drop_all first_write plan i past
 
-module _ {D : Type 0} (g : Ghosts D) where
-  module _ (old new : D) (now : (c : List ℕ) → g.left_since old (g.moment old) c → g.may_leave old c)
-      (time : Elapses (g.moment old) (g.moment new) (g.left_since old) (g.left_since new) (g.may_leave new)) where
-    -- a call that only looks or syncs
-    pub untouched : g.seen new ≡ g.seen old → Fewer (g.may_leave old) (g.may_leave new) → Untouched g old new
-    untouched seen fewer = record {
-      seen = seen;
-      fewer = fewer;
-      run = one_call g old new (g.may_leave old) now (λ c left. left) time fewer;
-    }
+module _ {D : Type 0} (g : Ghosts D) (old new : D)
+    (now : (c : List ℕ) → g.left_since old (g.moment old) c → g.may_leave old c)
+    (time : Elapses (g.moment old) (g.moment new) (g.left_since old) (g.left_since new) (g.may_leave new)) where
+  -- a call that only looks or syncs
+  pub untouched : g.seen new ≡ g.seen old → Fewer (g.may_leave old) (g.may_leave new) → Untouched g old new
+  untouched seen fewer = record {
+    seen = seen;
+    fewer = fewer;
+    run = one_call g old new (g.may_leave old) now (λ c left. left) time fewer;
+  }
 
-    -- a write
-    pub puts : {T E : Type 0} (at : ℕ) (bytes : List ℕ) (result : Result T E) → OnOk result (Holds (g.seen new) at bytes)
-        → Torn at (length bytes) (g.seen old) (g.seen new)
-        → OneStepOn (Torn at (length bytes)) (g.may_leave old) (g.may_leave new) → Puts g at bytes old new result
-    puts at bytes result put others follows = record {
-      put = put;
-      others = others;
-      crash = follows;
-      run = one_call g old new (IsWrittenOver at (length bytes) (g.may_leave old)) now
-          (λ c left. (c, left, torn_same at (length bytes) c)) time follows;
-    }
+  -- a write
+  pub puts : {T E : Type 0} (at : ℕ) (bytes : List ℕ) (result : Result T E) → OnOk result (Holds (g.seen new) at bytes)
+      → Torn at (length bytes) (g.seen old) (g.seen new)
+      → OneStepOn (Torn at (length bytes)) (g.may_leave old) (g.may_leave new) → Puts g at bytes old new result
+  puts at bytes result put others follows = record {
+    put = put;
+    others = others;
+    crash = follows;
+    run = one_call g old new (IsWrittenOver at (length bytes) (g.may_leave old)) now
+        (λ c left. (c, left, torn_same at (length bytes) c)) time follows;
+  }
 
-    -- a phase in which this is written, or nothing
-    module _ {T E : Type 0} (result : Result T E) (phase this : Phase) (is : phase ≡ this) (root : Root)
-        (writes : List Write) where
-      pub writes_this : (at : ℕ) (bytes : List ℕ) → write_in this root writes ≡ Some (at, bytes)
-          → OnOk result (Holds (g.seen new) at bytes) → Torn at (length bytes) (g.seen old) (g.seen new)
-          → OneStepOn (Torn at (length bytes)) (g.may_leave old) (g.may_leave new)
-          → WritesOnly g (write_in phase root writes) old new result
-      writes_this at bytes what put others follows =
-          subst (λ (w : Option (ℕ × List ℕ)). WritesOnly g w old new result)
-          (sym (ap (λ (p : Phase). write_in p root writes) is ∙ what)) (puts at bytes result put others follows)
+  -- a phase in which this is written, or nothing
+  module _ {T E : Type 0} (result : Result T E) (phase this : Phase) (is : phase ≡ this) (root : Root)
+      (writes : List Write) where
+    pub writes_this : (at : ℕ) (bytes : List ℕ) → write_in this root writes ≡ Some (at, bytes)
+        → OnOk result (Holds (g.seen new) at bytes) → Torn at (length bytes) (g.seen old) (g.seen new)
+        → OneStepOn (Torn at (length bytes)) (g.may_leave old) (g.may_leave new)
+        → WritesOnly g (write_in phase root writes) old new result
+    writes_this at bytes what put others follows =
+        subst (λ (w : Option (ℕ × List ℕ)). WritesOnly g w old new result)
+        (sym (ap (λ (p : Phase). write_in p root writes) is ∙ what)) (puts at bytes result put others follows)
 
-      pub writes_none : write_in this root writes ≡ None → g.seen new ≡ g.seen old
-          → Fewer (g.may_leave old) (g.may_leave new) → WritesOnly g (write_in phase root writes) old new result
-      writes_none what seen fewer =
-          subst (λ (w : Option (ℕ × List ℕ)). WritesOnly g w old new result)
-          (sym (ap (λ (p : Phase). write_in p root writes) is ∙ what)) (untouched seen fewer)
+    pub writes_none : write_in this root writes ≡ None → g.seen new ≡ g.seen old
+        → Fewer (g.may_leave old) (g.may_leave new) → WritesOnly g (write_in phase root writes) old new result
+    writes_none what seen fewer =
+        subst (λ (w : Option (ℕ × List ℕ)). WritesOnly g w old new result)
+        (sym (ap (λ (p : Phase). write_in p root writes) is ∙ what)) (untouched seen fewer)

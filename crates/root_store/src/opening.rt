@@ -125,7 +125,8 @@ pub fn open<D: Disk>(
         → IfErr result
         (λ refused. D.is_honest refused.disk × Leaves D.Disk refused.disk (Opened D.Disk disk)
         × LeavesOnly D.Disk disk refused.disk (Opened D.Disk disk)) }
-    // What might have been left before is left until the first sync has succeeded, and no longer.
+    // What might have been left before is left until the first sync has succeeded, and no longer; from then on the file
+    // as it was seen, but for the body behind a shut gate.
     ensures phases { D.is_honest disk → IfOk result (λ x. InPhases D.Disk disk x.0.disk) }
     ensures stops { D.is_honest disk
         → IfErr result (λ refused. Stops D.Disk disk (refused.fault ≡ StoreFault.Device) refused.disk) }
