@@ -24,10 +24,14 @@ pub returns-clause-begun : goal.returns-clause-begun
 returns-clause-begun g c = λ x stands.
     let image = c.in_ok-image in
     both c.begin.result
-    (λ led number. (led.0, record {
-      root = ap (λ (r : Root). r.version) (sym led.2.next_root) ∙ number ∙ image.ensures.tiles.number;
-      image = subst (IsImageOf c.args.version.now) (sym led.1) image.ensures.tiles;
-    }, led.2))
+    (λ led number. (
+      led.0,
+      record {
+        root = ap (λ (r : Root). r.version) (sym led.2.next_root) ∙ number ∙ image.ensures.tiles.number;
+        image = subst (IsImageOf c.args.version.now) (sym led.1) image.ensures.tiles;
+      },
+      led.2,
+    ))
     (c.begin.ensures.begun x stands) c.begin.ensures.number
 
 pub returns-clause-room : goal.returns-clause-room
