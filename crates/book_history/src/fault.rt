@@ -5,6 +5,7 @@ ghost use Rattle.book_history.specs.Fault.{code_of, passes, store_code_of, store
 
 use fault_texts::{CommonFault, FaultText};
 use layer_book::batch_fault::BatchFault;
+use layer_book::fault::LayerFault;
 use thiserror::Error;
 use version_core::fault::VersionFault;
 
@@ -74,6 +75,9 @@ pub enum BookFault {
     /// The store said this.
     Store(ToldFault),
 }
+
+/// The fault where memory runs out.
+pub const NO_MEMORY: BookFault = BookFault::Version(VersionFault::Layer(LayerFault::OutOfMemory));
 
 impl BookFault {
     /// The text that is printed behind the number.

@@ -4,6 +4,6 @@
 pub mod closed;
 mod keeping;
 pub mod locked_log;
-pub mod making;
+mod making;
 pub mod session;
 mod submitting;

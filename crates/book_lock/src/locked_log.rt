@@ -13,10 +13,10 @@ ghost use Rattle.book_history.specs.Rules.{head_of};
 ghost use Rattle.book_lock.specs.Steps.{HasLooked, IsLevel, beginners};
 
 use crate::closed::ClosedBook;
-use crate::making::{NO_MEMORY, shared};
+use crate::making::shared;
 use crate::session::Session;
 use book_history::entry::{Cause, counted};
-use book_history::fault::BookFault;
+use book_history::fault::{BookFault, NO_MEMORY};
 use book_history::published::{Published, Publisher};
 use book_history::publisher::{first_publisher, new_place, put_out};
 use book_history::seen_log::{Head, Naming, SeenLog};

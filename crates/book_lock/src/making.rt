@@ -8,21 +8,16 @@ ghost use Rattle.layer_book.specs.Command.{command};
 ghost use Rattle.version_core.specs.Finish.{IsAwaited};
 ghost use Rattle.book_history.specs.Fault.{IfGone, IsCommandRefused, no_memory};
 
-use book_history::fault::BookFault;
+use book_history::fault::{BookFault, NO_MEMORY};
 use layer_book::batch::Batch;
 use layer_book::batch_fault::BatchFault;
 use layer_book::command::Command;
-use layer_book::fault::LayerFault;
 use layer_expr::name::Name;
 use std::alloc::Global;
 use std::sync::Arc;
 use tile_build::built::Built;
-use version_core::fault::VersionFault;
 use version_core::finishing::Finish;
 use version_core::version::Version;
-
-/// The fault where memory runs out.
-pub const NO_MEMORY: BookFault = BookFault::Version(VersionFault::Layer(LayerFault::OutOfMemory));
 
 /// A version for as many as ask for it.
 pub(crate) fn shared(alloc: Global, version: Version) -> Result<Arc<Version, Global>, BookFault>

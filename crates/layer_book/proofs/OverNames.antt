@@ -33,39 +33,10 @@ named_among test own (layer ∷ layers) =
     split false true false at e next = next
     split false false t at e next = next
 
--- whether a marked layer has a name
-marked_name : (known : List Name) (ws : List Bool) (layers : List Layer) (name : Name) → is_orderly_after known layers ≡ true → list_any (λ (layer : Layer). bytes_eq layer.name name) (marked_layers ws layers) ≡ (stands layers name && is_wanted layers ws name)
-marked_name known [] [] name orderly = refl
-marked_name known [] (layer ∷ layers) name orderly = sym (and_false (stands (layer ∷ layers) name))
-marked_name known (w ∷ ws) [] name orderly = refl
-marked_name known (w ∷ ws) (layer ∷ layers) name orderly =
-    split (bytes_eq layer.name name) w refl (marked_name (known ++ layer.name ∷ []) ws layers name (head_of known layer layers orderly).behind)
-  where
-    split : (b v : Bool) → bytes_eq layer.name name ≡ b → list_any (λ (l : Layer). bytes_eq l.name name) (marked_layers ws layers) ≡ (stands layers name && is_wanted layers ws name) →
-        list_any (λ (l : Layer). bytes_eq l.name name) (cond v (layer ∷ marked_layers ws layers) (marked_layers ws layers)) ≡ ((b || stands layers name) && at_index (v ∷ ws) (cond b 0 (index_of layers name + 1)))
-    split true true at next = ap (λ c. c || list_any (λ (l : Layer). bytes_eq l.name name) (marked_layers ws layers)) at
-    split true false at next =
-        let gone : stands layers name ≡ false = subst (λ n. stands layers n ≡ false) (same_name layer.name name at) (apart known layer layers orderly) in
-        next ∙ ap (λ c. c && is_wanted layers ws name) gone
-    split false true at next =
-        ap (λ c. c || list_any (λ (l : Layer). bytes_eq l.name name) (marked_layers ws layers)) at ∙ next ∙ ap (λ k. stands layers name && at_index (true ∷ ws) k) (sym (add-one (index_of layers name)))
-    split false false at next = next ∙ ap (λ k. stands layers name && at_index (false ∷ ws) k) (sym (add-one (index_of layers name)))
-
--- a derived layer is over a name where the layer with the name is marked among those in its reach
-pub over_marked : (layers : List Layer) (own under : Name) (ws : List Bool) → is_orderly_after [] layers ≡ true → stands_as_derived layers own ≡ true → marked_layers ws layers ≡ layers_in_reach layers own → (stands layers under && is_wanted layers ws under) ≡ list_any (bytes_eq own) (derived_over layers under)
-over_marked layers own under ws orderly standing same =
-    sym (marked_name [] ws layers under orderly) ∙ ap (list_any (λ (layer : Layer). bytes_eq layer.name under)) same
-    ∙ ap (λ c. c && reaches_name layers own under) (sym standing) ∙ sym (named_among (λ n. reaches_name layers n under) own layers)
-
 -- a layer that is over a name is derived
 pub over_derived : (layers : List Layer) (own under : Name) → list_any (bytes_eq own) (derived_over layers under) ≡ true → stands_as_derived layers own ≡ true
 over_derived layers own under h =
     (and_parts (stands_as_derived layers own) (reaches_name layers own under) (sym (named_among (λ n. reaches_name layers n under) own layers) ∙ h)).0
-
--- a layer that is not derived is over no name
-pub over_none : (layers : List Layer) (own under : Name) → stands_as_derived layers own ≡ false → false ≡ list_any (bytes_eq own) (derived_over layers under)
-over_none layers own under none =
-    ap (λ c. c && reaches_name layers own under) (sym none) ∙ sym (named_among (λ n. reaches_name layers n under) own layers)
 
 -- a layer that is over a name reaches it
 pub over_reaches : (layers : List Layer) (own under : Name) → list_any (bytes_eq own) (derived_over layers under) ≡ true → reaches_name layers own under ≡ true

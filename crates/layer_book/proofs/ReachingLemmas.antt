@@ -11,7 +11,7 @@ use Rattle.overlay_terms.specs.Orderly.{used_names, is_orderly_after}
 use Rattle.overlay_terms.specs.Commands.{stands, is_derived, stands_as_derived}
 use Rattle.overlay_terms.specs.Touched.{reaches_name, derived_over}
 use Rattle.layer_book.specs.Question.{labelled, at_index}
-use Rattle.layer_book.specs.Reaching.{layer_reaches, reaching}
+use Rattle.layer_book.specs.Reaching.{layer_reaches}
 use Rattle.layer_book.proofs.Names.{same_name, own_name, turned}
 use Rattle.layer_book.proofs.Order.{head_of, apart, or_false}
 use Rattle.layer_book.proofs.Lookups.{none_passes}
@@ -19,6 +19,10 @@ use Rattle.layer_book.proofs.Answering.{layer_there, take_there, labelled_more, 
 use Rattle.layer_book.proofs.Wanted.{named_at, stands_at, index_at}
 use Rattle.layer_book.proofs.Edges.{any-flat_map, any-filter, any-and, Reach, reach_push}
 use Rattle.layer_book.proofs.OverNames.{named_among}
+
+-- whether each layer reaches the name, in order
+abbrev pub reaching : Name → List Layer → List (Name × Bool)
+reaching under layers = fold (λ known layer. known ++ (layer.name, layer_reaches under known layer) ∷ []) [] layers
 
 and_true : (b : Bool) → (b && true) ≡ b
 and_true true = refl

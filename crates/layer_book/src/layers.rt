@@ -1,9 +1,8 @@
 //! Layers in order of creation.
-ghost use Rattle.std.specs.Prelude.{◌≡◌, ◌<◌, ◌↔◌, [], length, slice_get, is_some, None, false, IfSome, IfOk, OnOk, IsTrue, ◌++◌, ◌∷◌};
+ghost use Rattle.std.specs.Prelude.{◌≡◌, ◌<◌, ◌↔◌, [], length, slice_get, is_some, None, IfSome, IfOk, IsTrue};
 ghost use Rattle.std.specs.Option.{option_map};
 ghost use Rattle.overlay_terms.specs.Commands.{index_of, stands, with_content, refusal_of, refusal_of_remove};
-ghost use Rattle.overlay_terms.specs.Orderly.{IsOrderly};
-ghost use Rattle.layer_book.specs.Layer.{content, content_named, keeping, layers_of, named_layer, others, IsBook};
+ghost use Rattle.layer_book.specs.Layer.{content, content_named, keeping, layers_of, others, IsBook};
 
 use crate::layer::Layer;
 use indexmap::IndexMap;
@@ -92,7 +91,7 @@ impl Layers {
     }
 
     /// The same layers once more. Rings and expressions are shared.
-    pub fn try_copy(&self, alloc: Global) -> Result<Layers, AllocError>
+    pub fn try_copy(&self, _alloc: Global) -> Result<Layers, AllocError>
         ensures { IfOk result (λ copy. copy ≡ self.now) }
     {
         let map = copied(&self.map)?;
@@ -101,7 +100,7 @@ impl Layers {
 
     /// The layers with a layer under a name: in the place of the one that has it, or last. The
     /// command that asks for this is accepted.
-    pub fn with(&self, alloc: Global, name: &Name, layer: Layer) -> Result<Layers, AllocError>
+    pub fn with(&self, _alloc: Global, name: &Name, layer: Layer) -> Result<Layers, AllocError>
         requires { refusal_of self.now (keeping name.now (content layer)) ≡ None }
         ensures { IfOk result (λ layers. layers ≡ with_content self.now name.now (content layer)) }
     {
@@ -114,7 +113,7 @@ impl Layers {
 
     /// The layers without the one that has a name, which no definition names. Those behind it
     /// close up.
-    pub fn without(&self, alloc: Global, name: &Name) -> Result<Layers, AllocError>
+    pub fn without(&self, _alloc: Global, name: &Name) -> Result<Layers, AllocError>
         requires { refusal_of_remove self.now name.now ≡ None }
         ensures { IfOk result (λ layers. layers ≡ others self.now name.now) }
     {

@@ -37,11 +37,11 @@ impl Layers {
         ensures { IfOk result (λ rows. rows.items ≡ touched_rows self.now (command change.now)) }
     {
         let replaced = self.replaced_columns(change);
-        let reaching = self.reaching(change.name());
+        let over = self.layers_over(change.name());
         let mut rows = Vec::with_capacity(alloc, self.len())?;
         for i in 0..self.len() {
             if let Some((name, layer)) = self.at(i) {
-                let is_over = is_derived_and_marked(layer, &reaching, i);
+                let is_over = is_derived_and_marked(layer, &over, i);
                 let row = self.touched_columns(alloc, change, is_over, after, name, &replaced)?;
                 rows.push(row)?;
             }

@@ -3,7 +3,7 @@ ghost use Rattle.std.specs.Prelude.{◌≡◌, ◌≢◌, ◌↔◌, ◌+◌, []
 ghost use Rattle.disk_model.specs.Disk.{Failed, Fewer};
 ghost use Rattle.overlay_terms.specs.Histories.{empty_version};
 ghost use Rattle.disk_model.specs.Moments.{Leaves};
-ghost use Rattle.root_store.specs.Creating.{IsNewFile, MadeInPhases, refusal_of_new, Tells, CallsBehind};
+ghost use Rattle.root_store.specs.Creating.{IsNewFile, MadeInPhases, refusal_of_new, IsToldBy, CallsBehind};
 ghost use Rattle.root_store.specs.Running.{KeepsTo};
 ghost use Rattle.overlay_engine.specs.Start.{from_nothing};
 ghost use Rattle.overlay_engine.specs.Covers.{Covers};
@@ -34,7 +34,7 @@ impl<D: Disk> Engine<D> {
         ensures version { IfOk result (λ e. e.version ≡ empty_version) }
         ensures jobs { IfOk result (λ e. (e.jobs.items ≡ []) × (e.next_job ≡ 0)) }
         ensures limit { IfOk result (λ e. KeepsTo max_blocks e.flusher.commit) }
-        ensures answer { D.is_honest disk → MatchResult result (λ _. refusal_of_new (D.seen disk) max_blocks ≡ None) (λ refused. Tells refused.fault (refusal_of_new (D.seen disk) max_blocks)) }
+        ensures answer { D.is_honest disk → MatchResult result (λ _. refusal_of_new (D.seen disk) max_blocks ≡ None) (λ refused. IsToldBy refused.fault (refusal_of_new (D.seen disk) max_blocks)) }
         ensures honest { MatchResult result (λ e. D.is_honest e.flusher.commit.disk ↔ D.is_honest disk) (λ refused. D.is_honest refused.disk ↔ D.is_honest disk) }
         // A file that is refused stays as it is.
         ensures unchanged { D.is_honest disk → refusal_of_new (D.seen disk) max_blocks ≢ None → IfErr result (λ refused. (D.seen refused.disk ≡ D.seen disk) × Fewer (D.may_leave disk) (D.may_leave refused.disk)) }

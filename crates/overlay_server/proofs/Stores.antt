@@ -19,7 +19,7 @@ use Rattle.store_flushing.proofs.Storage.{OnlyNow, begun, store_leaves, then}
 use Rattle.store_flushing.specs.declared.closing.Closed.{Closed}
 use Rattle.overlay_server.specs.Moments.{HasOnlyNow}
 use Rattle.overlay_server.specs.Keeping.{AreFlushed, IsFlushed, IsStoreKept}
-use Rattle.overlay_server.specs.Serving.{IsLeftOfStore, AreStopped, IsLeftBy, IsStoppedBy, first_log}
+use Rattle.overlay_server.specs.Serving.{IsLeftOfStore, StoreComesBack, IsLeftBy, IsStoppedBy, first_log}
 use Rattle.overlay_server.specs.declared.storing.Store.{Store}
 
 -- no commit is under way
@@ -109,7 +109,7 @@ module _ {D : Type 0} (g : Ghosts D) where
   -- ---- where a server could not run
 
   pub stopped_by : (start : Version) (was now : Heard) (old new : Option (Flusher D)) (back : Option D) → was.log ≡ first_log start → IsLog now.log
-      → AreFlushed g was old now new → MatchOption new (back ≡ None) (λ (f : Flusher D). back ≡ Some f.commit.disk) → AreStopped g start old back
+      → AreFlushed g was old now new → MatchOption new (back ≡ None) (λ (f : Flusher D). back ≡ Some f.commit.disk) → StoreComesBack g start old back
   stopped_by start was now None None back first valid flushed is = is
   stopped_by start was now None (Some l) back first valid flushed is = absurd flushed
   stopped_by start was now (Some f) None back first valid flushed is = absurd flushed
@@ -128,7 +128,7 @@ module _ {D : Type 0} (g : Ghosts D) where
 
   -- before any thread ran
   pub stopped_at_once : (start : Version) (old : Option (Flusher D)) (back : Option D) → HasOnlyNow g
-      → MatchOption old (back ≡ None) (λ (f : Flusher D). back ≡ Some f.commit.disk) → AreStopped g start old back
+      → MatchOption old (back ≡ None) (λ (f : Flusher D). back ≡ Some f.commit.disk) → StoreComesBack g start old back
   stopped_at_once start None back now is = is
   stopped_at_once start (Some f) back now is = record {
     disk = f.commit.disk;

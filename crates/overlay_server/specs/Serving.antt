@@ -105,9 +105,9 @@ module _ {D : Type 0} (g : Ghosts D) where
     pub stopped : IsStoreOf g (history_of (first_log start)) old → IsStoppedBy start old disk
 
   -- the same where there was one
-  abbrev pub AreStopped : Version → Option (Flusher D) → Option D → Type 0
-  AreStopped start None back = back ≡ None
-  AreStopped start (Some old) back = ComesBack start old back
+  abbrev pub StoreComesBack : Version → Option (Flusher D) → Option D → Type 0
+  StoreComesBack start None back = back ≡ None
+  StoreComesBack start (Some old) back = ComesBack start old back
 
 -- ---- the server
 
@@ -122,4 +122,4 @@ pub record IsServedFrom {R D : Type 0} (remaining : R → Option (List ℕ)) (g 
 -- a server could not run: for want of memory or of a thread, or of places in the book; the disk comes back
 pub record IsRefusedFrom {D : Type 0} (g : Ghosts D) (start : Version) (store : Option (Flusher D)) (fault : ServerFault D) : Type 0 where
   pub code : (fault.code ≡ 40) ⊎ (fault.code ≡ 44)
-  pub back : AreStopped g start store fault.disk
+  pub back : StoreComesBack g start store fault.disk

@@ -79,11 +79,11 @@ CallsBehind Device old new = new ≤ old + 5
 CallsBehind fault old new = new ≡ old + 1
 
 -- a fault tells the reason, unless the device failed; memory is asked for only where there is none
-abbrev pub Tells : StoreFault → Option StoreFault → Type 0
-Tells Device reason = Unit {0}
-Tells OutOfMemory reason = reason ≡ None
-Tells Full reason = reason ≡ Some Full
-Tells NotEmpty reason = reason ≡ Some NotEmpty
-Tells (Damaged damage) reason = ⊥
-Tells Failed reason = ⊥
-Tells SequenceLimit reason = ⊥
+abbrev pub IsToldBy : StoreFault → Option StoreFault → Type 0
+IsToldBy Device reason = Unit {0}
+IsToldBy OutOfMemory reason = reason ≡ None
+IsToldBy Full reason = reason ≡ Some Full
+IsToldBy NotEmpty reason = reason ≡ Some NotEmpty
+IsToldBy (Damaged damage) reason = ⊥
+IsToldBy Failed reason = ⊥
+IsToldBy SequenceLimit reason = ⊥

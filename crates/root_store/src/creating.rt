@@ -6,7 +6,7 @@ ghost use Rattle.extent_map.specs.Taken.{taken_of, limit_of};
 ghost use Rattle.commit_plan.specs.Kept.{Rest, extents_in};
 ghost use Rattle.root_store.specs.Running.{Stands, KeepsTo};
 ghost use Rattle.root_reading.specs.Taking.{IsMapOf};
-ghost use Rattle.root_store.specs.Creating.{nothing_kept, first_root, IsFirstWrite, IsNewFile, MadeInPhases, refusal_of_new, Tells, CallsBehind};
+ghost use Rattle.root_store.specs.Creating.{nothing_kept, first_root, IsFirstWrite, IsNewFile, MadeInPhases, refusal_of_new, IsToldBy, CallsBehind};
 
 use crate::commit::Commit;
 use crate::finding::GATE_OPEN;
@@ -72,7 +72,7 @@ fn check<D: Disk>(disk: &mut D, max_blocks: u32) -> Result<(), StoreFault>
     ensures honest { D.is_honest disk.new ↔ D.is_honest disk.old }
     ensures answer { D.is_honest disk.old
         → MatchResult result (λ _. refusal_of_new (D.seen disk.old) max_blocks ≡ None)
-        (λ fault. Tells fault (refusal_of_new (D.seen disk.old) max_blocks)) }
+        (λ fault. IsToldBy fault (refusal_of_new (D.seen disk.old) max_blocks)) }
     ensures seen { D.is_honest disk.old → D.seen disk.new ≡ D.seen disk.old }
     ensures crash { D.is_honest disk.old → Fewer (D.may_leave disk.old) (D.may_leave disk.new) }
     ensures time { D.is_honest disk.old
@@ -142,7 +142,7 @@ fn prepare<D: Disk>(
     ensures next_limit { IfOk result (λ rooms. limit_of rooms.1.map ≡ max_blocks) }
     ensures answer { D.is_honest disk.old
         → MatchResult result (λ _. refusal_of_new (D.seen disk.old) max_blocks ≡ None)
-        (λ fault. Tells fault (refusal_of_new (D.seen disk.old) max_blocks)) }
+        (λ fault. IsToldBy fault (refusal_of_new (D.seen disk.old) max_blocks)) }
     ensures unchanged { D.is_honest disk.old → refusal_of_new (D.seen disk.old) max_blocks ≢ None
         → (D.seen disk.new ≡ D.seen disk.old) × Fewer (D.may_leave disk.old) (D.may_leave disk.new) }
     ensures cause { D.is_honest disk.old → IsErrOf result StoreFault.Device
@@ -176,7 +176,7 @@ pub fn create<D: Disk>(
     ensures limit { IfOk result (λ store. KeepsTo max_blocks store) }
     ensures answer { D.is_honest disk
         → MatchResult result (λ _. refusal_of_new (D.seen disk) max_blocks ≡ None)
-        (λ refused. Tells refused.fault (refusal_of_new (D.seen disk) max_blocks)) }
+        (λ refused. IsToldBy refused.fault (refusal_of_new (D.seen disk) max_blocks)) }
     ensures honest { MatchResult result (λ store. D.is_honest store.disk ↔ D.is_honest disk)
         (λ refused. D.is_honest refused.disk ↔ D.is_honest disk) }
     // A file that is refused stays as it is.

@@ -52,7 +52,7 @@ pub(crate) struct EndTexts {
 }
 
 impl EndTexts {
-    /// Room for the ends of so many pieces.
+    /// For the ends of so many pieces. It takes no memory yet.
     pub(crate) fn new(alloc: Global, pieces: usize) -> EndTexts {
         EndTexts {
             slots: Vec::new(alloc),
@@ -110,13 +110,13 @@ fn is_same(name: &PointName, other: &PointName) -> bool
     ensures { IsTrue result → name.now ≡ other.now }
 {
     match (name, other) {
-        (PointName::Cross(a, b), PointName::Cross(c, d)) => *a == *c && *b == *d,
+        (PointName::Cross(a, b), PointName::Cross(c, d)) => a == c && b == d,
         (PointName::Border(s, k), PointName::Border(t, l)) => s == t && k == l,
         _ => false,
     }
 }
 
-/// A number of up to 32 bits for a name. Two names seldom have the same one.
+/// A number of at most 2^32 for a name. Two names seldom have the same one.
 pub(crate) fn mark_of(name: &PointName) -> u64 {
     let mixed = match name {
         PointName::Vertex(_) => 0,

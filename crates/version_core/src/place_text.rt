@@ -51,7 +51,7 @@ impl PlaceText {
 fn put_number(bytes: &mut [u8; TEXT_MAX], end: usize, n: i128) -> usize
     requires small { unsigned_abs n ≤ 2 ^ 63 }
     requires room { 20 ≤ end }
-    requires within { end ≤ 64 }
+    requires within { end ≤ TEXT_MAX }
     ensures before { result ≤ end }
     ensures short { end ≤ result + 20 }
     ensures written { drop result bytes.new ≡ signed_decimal n ++ drop end bytes.old }

@@ -11,9 +11,8 @@ ghost use Rattle.version_book.specs.Waits.{IsWaitRefused, IsWriting, Looks, Wait
 
 use crate::locked_book::LockedBook;
 use crate::reporter::Reporter;
-use book_history::fault::{BookFault, ToldFault};
+use book_history::fault::{BookFault, NO_MEMORY, ToldFault};
 use book_history::seen_log::Naming;
-use book_lock::making::NO_MEMORY;
 use book_lock::session::Session;
 use layer_expr::name::Name;
 use std::alloc::Global;

@@ -32,7 +32,7 @@ touched_columns-requires-clause-over c =
     let made = content c.in-Some.layer.now in
     let there = sym c.in-Some.ensures in
     c.is_derived_and_marked-is_over.ensures
-    ∙ over_at layers c.name.result.now c.loop-i.i (record { name = own; content = made }) _ _ c.len-i-end.ensures.valid.sound.orderly there (c.reaching-reaching.ensures.marks c.loop-i.i _ there) refl
+    ∙ over_at layers c.name.result.now c.loop-i.i (record { name = own; content = made }) _ _ c.len-i-end.ensures.valid.sound.orderly there (c.layers_over-over.ensures.marks c.loop-i.i _ there) refl
     ∙ ap (λ n. list_any (bytes_eq own) (derived_over layers n)) c.name.ensures
 
 pub touched_columns-requires-clause-accepted : goal.touched_columns-requires-clause-accepted

@@ -1,4 +1,4 @@
-//! Which layers reach a layer.
+//! Which layers are over a layer.
 ghost use Rattle.std.specs.Prelude.{◌≡◌, ◌≤◌, length, slice_get, Some};
 ghost use Rattle.overlay_terms.specs.Layers.{Layer as Named};
 ghost use Rattle.overlay_terms.specs.Touched.{reaches_name};
@@ -13,18 +13,18 @@ use layer_expr::name::Name;
 impl Layers {
     /// Which layers reach the one with a name, itself among them, by their indices. A layer names earlier ones alone, so
     /// one pass from the first to the last finds them.
-    pub(crate) fn reaching(&self, name: &Name) -> [bool; MAX_LAYERS]
+    pub(crate) fn layers_over(&self, name: &Name) -> [bool; MAX_LAYERS]
         ensures room { length result ≡ MAX_LAYERS }
         ensures marks { (i : _) (layer : Named) → slice_get self.now i ≡ Some layer → at_index result i ≡ reaches_name self.now layer.name name.now }
     {
-        let mut reaching = [false; MAX_LAYERS];
+        let mut over = [false; MAX_LAYERS];
         if !self.stands(name) {
-            return reaching;
+            return over;
         }
         for i in 0..self.len() {
-            reaching[i] = self.reaches_at(i, name, &reaching[..i]);
+            over[i] = self.reaches_at(i, name, &over[..i]);
         }
-        reaching
+        over
     }
 
     /// Whether the layer at an index has the name, or names one that is known to reach it.
