@@ -46,7 +46,7 @@ def built_of(commit, folder):
     subprocess.run(["git", "-C", unproved.TOP, "worktree", "add", "--detach", tree, commit], check=True)
     here, unproved.TOP = unproved.TOP, tree
     try:
-        return unproved.built(HERE / "edges", CRATES, place)
+        return unproved.built(HERE / "edges", CRATES, place, checked=False)
     finally:
         unproved.TOP = here
         subprocess.run(["git", "-C", here, "worktree", "remove", "--force", tree], check=True)
@@ -62,7 +62,7 @@ def main():
         programs = [program.resolve() for program in words.built]
         if not programs:
             (folder / "built").mkdir()
-            programs = [unproved.built(HERE / "edges", CRATES, folder / "built")]
+            programs = [unproved.built(HERE / "edges", CRATES, folder / "built", checked=False)]
         if words.beside:
             programs.append(built_of(words.beside, folder))
         file = folder / "cases"

@@ -86,7 +86,7 @@ def main():
             lines([program.resolve() for program in words.program], folder)
         (folder / "built").mkdir()
         built = [program.resolve() for program in words.built]
-        calls(built or [unproved.built(HERE / "locating", CRATES, folder / "built")], folder)
+        calls(built or [unproved.built(HERE / "locating", CRATES, folder / "built", checked=False)], folder)
 
 
 main()

@@ -130,4 +130,5 @@ def main():
             locates(programs, built, folder)
 
 
-main()
+if __name__ == "__main__":
+    main()

@@ -29,7 +29,7 @@ def main():
         if len(sys.argv) > 1:
             program = pathlib.Path(sys.argv[1]).resolve()
         else:
-            program = unproved.built(HERE / "snapshots", ["server_session"], folder)
+            program = unproved.built(HERE / "snapshots", ["server_session"], folder, checked=False)
         lock = pathlib.Path(folder) / "lock"
         subprocess.run(["gcc", "-O2", "-pthread", "-o", lock, HERE / "lock.c"], check=True)
         alone, beside = best([program])

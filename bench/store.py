@@ -90,7 +90,7 @@ def store(layers):
 
 
 def built(folder):
-    return unproved.built(HERE / "store", CRATES, folder)
+    return unproved.built(HERE / "store", CRATES, folder, checked=False)
 
 
 def processor():

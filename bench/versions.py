@@ -62,7 +62,7 @@ def main():
     with tempfile.TemporaryDirectory() as folder:
         programs = [pathlib.Path(one).resolve() for one in words.built]
         if not programs:
-            programs = [unproved.built(HERE / "versions", CRATES, folder)]
+            programs = [unproved.built(HERE / "versions", CRATES, folder, checked=False)]
         file = pathlib.Path(folder) / "cases"
         file.write_text("".join(cases()))
         least, seen = turns.least_times(programs, file, told)
