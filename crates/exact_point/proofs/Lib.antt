@@ -11,6 +11,7 @@ pub mod SameNodes
 pub mod SameMiddle
 pub mod CrossingLemmas
 pub mod BorderLemmas
+pub mod GcdLemmas
 pub mod ReducedLemmas
 pub mod Comparing
 pub mod LowestTerms
