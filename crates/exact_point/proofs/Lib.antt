@@ -1,5 +1,6 @@
 pub mod Signs
 pub mod PointBounds
+pub mod NarrowBounds
 pub mod Lexical
 pub mod OnSegment
 pub mod PlaceOrder
