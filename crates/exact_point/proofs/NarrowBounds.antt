@@ -3,7 +3,7 @@ use Rattle.std.proofs.Common.{◌≡◌, ℕ, ℤ, ◌-ℤ◌, ◌*ℤ◌, ◌+�
 use Rattle.std.specs.Int.{w64, w128}
 use Rattle.std.proofs.lemmas.Int.{fits_signed_from_abs, to_z-of_z}
 use Rattle.overlay_terms.specs.Within.{IsWithin}
-use Rattle.overlay_terms.proofs.Bounds.{Reads, reads, abs_within, within_mul, within_sub}
+use Rattle.overlay_terms.proofs.Bounds.{Reads, read, reads, abs_within, within_mul, within_sub}
 
 pub narrow_fits : (n : ℕ) (z : ℤ) → IsWithin n z → n < 2 ^ 63 → FitsSigned w64 z
 narrow_fits n z h k = fits_signed_from_abs w64 z (omega (arith, abs_within n z h))
@@ -31,3 +31,7 @@ narrow_sub_reads {m} {n} {e} {f} {y} {z} h k l = rw (h.is, k.is) (narrow_reads (
 -- a number of 64 bits, made wider
 pub widened : {n : ℕ} {a b : ℤ} → IsWithin n a → n < 2 ^ 63 → b ≡ to_z w64 (of_z w64 a) → Reads n (to_z w128 (of_z w128 b)) a
 widened {n} {a} {b} h k e = let is : b ≡ a = e ∙ narrow_read n a h k in rw is (reads n a h (omega (arith, k)))
+
+-- a number of 128 bits, cut to 64
+pub narrowed : {n : ℕ} {a : ℤ} → IsWithin n a → n < 2 ^ 63 → Reads n (to_z w64 (of_z w64 (to_z w128 (of_z w128 a)))) a
+narrowed {n} {a} h k = rw (read n a h (omega (arith, k))) (narrow_reads n a h k)

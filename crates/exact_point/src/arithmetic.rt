@@ -2,6 +2,7 @@
 ghost use Rattle.std.specs.Prelude.{◌≡◌, ℕ, ◌^◌, ◌*◌, ◌+ℤ◌, ◌-ℤ◌, ◌*ℤ◌, ◌≤ℤ◌, pos};
 ghost use Rattle.overlay_terms.specs.Within.{IsWithin};
 ghost use Rattle.overlay_terms.specs.Plane.{denominator_max, InRange};
+ghost use Rattle.exact_point.specs.Lines.{near_max};
 
 /// How far a coordinate lies after another.
 pub(crate) fn minus(a: i64, b: i64) -> i64
@@ -74,6 +75,28 @@ pub(crate) fn cross(a: i64, b: i64, c: i128, d: i128) -> i128
     ensures small { IsWithin (2 ^ 86) result }
 {
     i128::from(a) * d - i128::from(b) * c
+}
+
+/// How far a coordinate over the denominator w lies after a whole one, times w, where w leaves room for it.
+pub(crate) fn apart(a: i128, x: i64, w: i128) -> i64
+    requires a_small { IsWithin (2 ^ 61) a }
+    requires x_small { InRange x }
+    requires w_small { IsWithin near_max w }
+    ensures value { result ≡ a -ℤ x *ℤ w }
+    ensures small { IsWithin (2 ^ 62) result }
+{
+    a as i64 - x * w as i64
+}
+
+/// The cross product of the vectors (a, b) and (c, d), each product by one multiplication.
+pub(crate) fn near_cross(a: i64, b: i64, c: i64, d: i64) -> i128
+    requires a_small { IsWithin (2 ^ 21) a }
+    requires b_small { IsWithin (2 ^ 21) b }
+    requires c_small { IsWithin (2 ^ 62) c }
+    requires d_small { IsWithin (2 ^ 62) d }
+    ensures { result ≡ a *ℤ d -ℤ b *ℤ c }
+{
+    i128::from(a) * i128::from(d) - i128::from(b) * i128::from(c)
 }
 
 /// The sum of two products.
