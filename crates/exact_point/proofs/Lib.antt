@@ -1,5 +1,6 @@
 pub mod Signs
 pub mod PointBounds
+pub mod NarrowBounds
 pub mod Lexical
 pub mod OnSegment
 pub mod PlaceOrder
@@ -11,6 +12,7 @@ pub mod SameNodes
 pub mod SameMiddle
 pub mod CrossingLemmas
 pub mod BorderLemmas
+pub mod GcdLemmas
 pub mod ReducedLemmas
 pub mod Comparing
 pub mod LowestTerms

@@ -7,7 +7,7 @@ ghost use Rattle.exact_point.specs.Place.{place};
 ghost use Rattle.exact_point.specs.PlaceOf.{crossing_place, part_way as way_place};
 ghost use Rattle.exact_point.specs.Crossing.{IsCrossingOf, IsOnlyCrossingOf, CrossNowhere, IsPartWay, turn_of, lead_of};
 
-use crate::arithmetic::{minus, product, scaled, sum, whole_cross};
+use crate::arithmetic::{minus, sum, whole_cross, wide};
 use crate::point::HPoint;
 use plane_base::Seg;
 use std::cmp::Ordering;
@@ -29,7 +29,7 @@ pub fn cross_of(a: &Seg, b: &Seg) -> Option<HPoint>
 
 /// The place where two segments meet, the second of which turns left from the first. The turn is
 /// the denominator of the place, and of how far along each segment it lies.
-fn meeting(a: &Seg, b: &Seg, left: i128) -> Option<HPoint>
+fn meeting(a: &Seg, b: &Seg, left: i64) -> Option<HPoint>
     requires positive { pos 0 <ℤ left }
     requires value { left ≡ turn_of a.now b.now }
     requires small { IsWithin denominator_max left }
@@ -63,7 +63,7 @@ pub(crate) fn known_crossing(a: &Seg, b: &Seg) -> HPoint
 }
 
 /// The same of two segments the second of which turns left from the first. Where it lies is not asked again.
-fn known_meeting(a: &Seg, b: &Seg, left: i128) -> HPoint
+fn known_meeting(a: &Seg, b: &Seg, left: i64) -> HPoint
     requires meets { (p : Point) × (pos 0 <ℤ p.w) × IsCrossingOf a.now b.now p }
     requires positive { pos 0 <ℤ left }
     requires value { left ≡ turn_of a.now b.now }
@@ -75,7 +75,7 @@ fn known_meeting(a: &Seg, b: &Seg, left: i128) -> HPoint
 }
 
 /// Whether t / w of a way lies on it.
-fn is_part(t: i128, w: i128) -> bool
+fn is_part(t: i64, w: i64) -> bool
     ensures { IsTrue result ↔ ((pos 0 ≤ℤ t) × (t ≤ℤ w)) }
 {
     0 <= t && t <= w
@@ -85,11 +85,11 @@ fn is_part(t: i128, w: i128) -> bool
 pub fn direction_cmp(a: &Seg, b: &Seg) -> Ordering
     ensures { result ≡ int_cmp (pos 0) (turn_of a.now b.now) }
 {
-    0_i128.cmp(&turn(a, b))
+    0_i64.cmp(&turn(a, b))
 }
 
 /// How far the second segment turns left from the first, as the cross product of their directions.
-fn turn(a: &Seg, b: &Seg) -> i128
+fn turn(a: &Seg, b: &Seg) -> i64
     ensures value { result ≡ turn_of a.now b.now }
     ensures small { IsWithin denominator_max result }
 {
@@ -103,7 +103,7 @@ fn turn(a: &Seg, b: &Seg) -> i128
 }
 
 /// The cross product of the way between two left ends with the direction of a segment.
-fn lead(from: &Seg, to: &Seg, direction: &Seg) -> i128
+fn lead(from: &Seg, to: &Seg, direction: &Seg) -> i64
     ensures value { result ≡ lead_of from.now to.now direction.now }
     ensures from_ahead { whole_cmp from.now.left from.now.right ≡ Ordering.Less }
     ensures to_ahead { whole_cmp to.now.left to.now.right ≡ Ordering.Less }
@@ -119,7 +119,7 @@ fn lead(from: &Seg, to: &Seg, direction: &Seg) -> i128
 }
 
 /// The place t / w of the way from a segment's left end to its right end.
-pub(crate) fn part_way(seg: &Seg, t: i128, w: i128) -> HPoint
+pub(crate) fn part_way(seg: &Seg, t: i64, w: i64) -> HPoint
     requires t_low { pos 0 ≤ℤ t }
     requires t_high { t ≤ℤ w }
     requires w_low { pos 1 ≤ℤ w }
@@ -130,12 +130,12 @@ pub(crate) fn part_way(seg: &Seg, t: i128, w: i128) -> HPoint
     HPoint {
         x: between(left.x(), right.x(), t, w),
         y: between(left.y(), right.y(), t, w),
-        w,
+        w: i128::from(w),
     }
 }
 
 /// The coordinate t / w of the way from one to another, over the denominator w.
-fn between(from: i64, to: i64, t: i128, w: i128) -> i128
+fn between(from: i64, to: i64, t: i64, w: i64) -> i128
     requires from_small { InRange from }
     requires to_small { InRange to }
     requires t_low { pos 0 ≤ℤ t }
@@ -145,5 +145,5 @@ fn between(from: i64, to: i64, t: i128, w: i128) -> i128
     ensures low { neg_ℤ (pos coordinate_max *ℤ w) ≤ℤ result }
     ensures high { result ≤ℤ (pos coordinate_max *ℤ w) }
 {
-    sum(scaled(from, w), product(minus(to, from), t))
+    sum(wide(from, w), wide(minus(to, from), t))
 }

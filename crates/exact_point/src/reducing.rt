@@ -1,10 +1,10 @@
 //! Points in lowest terms.
 ghost use Prim.Native.Nat.{◌∣◌};
-ghost use Rattle.std.specs.Prelude.{◌≡◌, ◌^◌, ◌%◌, ◌<◌, ◌≤◌, ◌*ℤ◌, pos, unsigned_abs, IsTrue};
-ghost use Rattle.std.specs.Int.{IsGcd};
+ghost use Rattle.std.specs.Prelude.{◌≡◌, ℕ, ◌^◌, ◌%◌, ◌<◌, ◌≤◌, ◌*ℤ◌, pos, unsigned_abs, IsTrue};
+ghost use Rattle.std.specs.Int.{IsGcd, bit_at};
 ghost use Rattle.overlay_terms.specs.Plane.{same_place};
 ghost use Rattle.exact_point.specs.Place.{place};
-ghost use Rattle.exact_point.specs.Reduced.{IsDivisorOf, IsLowest, LowestTermsAreOne};
+ghost use Rattle.exact_point.specs.Reduced.{IsDivisorOf, HasTwos, IsLowest, LowestTermsAreOne};
 
 use crate::point::HPoint;
 
@@ -49,18 +49,54 @@ fn rest_of(a: i128, divisor: u64) -> u64
     a.unsigned_abs() as u64 % divisor
 }
 
-/// The greatest common divisor, by Euclid.
+/// The greatest common divisor.
 fn gcd(a: u64, b: u64) -> u64
+    requires { 0 < a }
+    ensures { IsGcd a b result }
+{
+    let (in_first, in_second) = (a.trailing_zeros(), b.trailing_zeros());
+    if in_first <= in_second {
+        without_twos(a, b, in_first)
+    } else {
+        without_twos(b, a, in_second)
+    }
+}
+
+/// The greatest common divisor of two numbers that have this many factors 2 in common, the first no more.
+fn without_twos(a: u64, b: u64, twos: u32) -> u64
+    requires positive { 0 < a }
+    requires in_word { twos < 64 }
+    requires odd { bit_at a twos ≡ 1 }
+    requires in_first { HasTwos a twos }
+    requires in_second { HasTwos b twos }
+    ensures { IsGcd a b result }
+{
+    odd_gcd(a >> twos, b >> twos) << twos
+}
+
+/// The greatest common divisor of an odd number and another, by differences of odd numbers.
+fn odd_gcd(a: u64, b: u64) -> u64
+    requires { a % 2 ≡ 1 }
     ensures { IsGcd a b result }
 {
     let mut x = a;
     let mut y = b;
     while y != 0 {
-        let rest = x % y;
-        x = y;
-        y = rest;
+        let odd = odd_part(y);
+        y = x.abs_diff(odd);
+        x = x.min(odd);
     }
     x
+}
+
+/// What is left of a number without its factors 2. It has the same common divisors with an odd number.
+fn odd_part(a: u64) -> u64
+    requires { 0 < a }
+    ensures odd { result % 2 ≡ 1 }
+    ensures small { result ≤ a }
+    ensures common { (x g : ℕ) → x % 2 ≡ 1 → IsGcd x result g → IsGcd x a g }
+{
+    a >> a.trailing_zeros()
 }
 
 /// A number divided by one of its divisors.

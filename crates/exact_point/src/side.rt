@@ -1,15 +1,19 @@
 //! Points against segments.
-ghost use Rattle.std.specs.Prelude.{◌≡◌, ◌+◌, ◌^◌, ◌-ℤ◌, ◌*ℤ◌};
+ghost use Rattle.std.specs.Prelude.{◌≡◌, ◌+◌, ◌^◌, ◌-ℤ◌, ◌*ℤ◌, ◌≤ℤ◌, pos};
+ghost use Rattle.exact_point.specs.Lines.{near_max};
 ghost use Rattle.overlay_terms.specs.Within.{IsWithin};
 ghost use Rattle.std.specs.Ordering.{int_cmp};
 ghost use Rattle.exact_point.specs.Place.{place};
 ghost use Rattle.overlay_terms.specs.Column.{border, is_in_column};
 ghost use Rattle.overlay_terms.specs.Plane.{whole, point_cmp, height_over, side_of, is_below, is_on};
 
-use crate::arithmetic::{cross, minus, offset, product, scaled};
+use crate::arithmetic::{apart, cross, minus, near_cross, offset, product, scaled};
 use crate::point::HPoint;
 use plane_base::{Column, Pt, Seg};
 use std::cmp::Ordering;
+
+/// The greatest denominator of a point whose way from an end of a segment is reckoned in 64 bits.
+const NEAR_MAX: i128 = 2199023255552;
 
 /// How far a point lies to the right of the left end, times its denominator.
 pub(crate) fn along(seg: &Seg, p: &HPoint) -> i128
@@ -39,7 +43,24 @@ pub(crate) fn height(seg: &Seg, p: &HPoint, along: i128) -> i128
 pub fn side(seg: &Seg, p: &HPoint) -> Ordering
     ensures { result ≡ side_of seg.now (place p.now) }
 {
+    if p.w <= NEAR_MAX {
+        return near_height(seg, p).cmp(&0);
+    }
     height(seg, p, along(seg, p)).cmp(&0)
+}
+
+/// As `height`, of a point with a denominator of at most `NEAR_MAX`.
+fn near_height(seg: &Seg, p: &HPoint) -> i128
+    requires { (place p.now).w ≤ℤ pos near_max }
+    ensures { result ≡ height_over seg.now (place p.now) }
+{
+    let (left, right) = (seg.left(), seg.right());
+    near_cross(
+        minus(right.x(), left.x()),
+        minus(right.y(), left.y()),
+        apart(p.x, left.x(), p.w),
+        apart(p.y, left.y(), p.w),
+    )
 }
 
 /// Whether the segment is below the point.

@@ -1,11 +1,11 @@
 use Rattle.std.proofs.Common.{rules, ◌≡◌, ℤ, pos, ◌<ℤ◌, arith, subst, sym, ◌∙◌, lit<, Option, Some, None, to_z, of_z}
-use Rattle.std.specs.Int.{w128}
+use Rattle.std.specs.Int.{w64}
 use Rattle.std.specs.Option.{IfSome}
 use Rattle.std.specs.declared.cmp.Ordering.TheVariants.{Less, Equal, Greater}
 use Rattle.std.proofs.lemmas.Cmp.{int_ranked}
 use Rattle.std.proofs.lemmas.Int.{ints}
 use Rattle.overlay_terms.specs.Plane.{Point, Segment}
-use Rattle.overlay_terms.proofs.Bounds.{read}
+use Rattle.exact_point.proofs.NarrowBounds.{narrow_read}
 use Rattle.exact_point.specs.Crossing.{IsCrossingOf, IsOnlyCrossingOf, turn_of}
 use Rattle.exact_point.specs.Place.{place}
 use Rattle.exact_point.specs.declared.point.HPoint.{HPoint}
@@ -26,29 +26,29 @@ placed (Some z) p q e h = h ∙ e
 
 pub meeting-requires-clause-positive : goal.meeting-requires-clause-positive
 meeting-requires-clause-positive c =
-    int_ranked (to_z w128 (of_z w128 c.turn-left.result)) (pos 0) Greater (sym c.in-Greater.is ∙ c.cmp.ensures)
+    int_ranked (to_z w64 (of_z w64 c.turn-left.result)) (pos 0) Greater (sym c.in-Greater.is ∙ c.cmp.ensures)
 
 pub returns-in-Greater-clause-value : goal.returns-in-Greater-clause-value
 returns-in-Greater-clause-value c =
-    let value : to_z w128 (of_z w128 c.turn-left.result) ≡ turn_of c.args.a.now c.args.b.now = read _ _ c.turn-left.ensures.small (lit< tt) ∙ c.turn-left.ensures.value in
-    let greater = int_ranked (to_z w128 (of_z w128 c.turn-left.result)) (pos 0) Greater (sym c.in-Greater.is ∙ c.cmp.ensures) in
+    let value : to_z w64 (of_z w64 c.turn-left.result) ≡ turn_of c.args.a.now c.args.b.now = narrow_read _ _ c.turn-left.ensures.small (lit< tt) ∙ c.turn-left.ensures.value in
+    let greater = int_ranked (to_z w64 (of_z w64 c.turn-left.result)) (pos 0) Greater (sym c.in-Greater.is ∙ c.cmp.ensures) in
     placed _ _ _ (on_first c.args.a.now c.args.b.now _ value greater) c.meeting.ensures.value
 
 pub meeting-requires-in-Less-clause-positive : goal.meeting-requires-in-Less-clause-positive
 meeting-requires-in-Less-clause-positive c =
-    let value : to_z w128 (of_z w128 c.turn-left.result) ≡ turn_of c.args.a.now c.args.b.now = read _ _ c.turn-left.ensures.small (lit< tt) ∙ c.turn-left.ensures.value in
-    let other : to_z w128 (of_z w128 c.turn.result) ≡ turn_of c.args.b.now c.args.a.now = read _ _ c.turn.ensures.small (lit< tt) ∙ c.turn.ensures.value in
-    let less = int_ranked (to_z w128 (of_z w128 c.turn-left.result)) (pos 0) Less (sym c.in-Less.is ∙ c.cmp.ensures) in
+    let value : to_z w64 (of_z w64 c.turn-left.result) ≡ turn_of c.args.a.now c.args.b.now = narrow_read _ _ c.turn-left.ensures.small (lit< tt) ∙ c.turn-left.ensures.value in
+    let other : to_z w64 (of_z w64 c.turn.result) ≡ turn_of c.args.b.now c.args.a.now = narrow_read _ _ c.turn.ensures.small (lit< tt) ∙ c.turn.ensures.value in
+    let less = int_ranked (to_z w64 (of_z w64 c.turn-left.result)) (pos 0) Less (sym c.in-Less.is ∙ c.cmp.ensures) in
     subst (λ (t : ℤ). pos 0 <ℤ t) (sym other) (turn_back c.args.a.now c.args.b.now (subst (λ (t : ℤ). t <ℤ pos 0) value less))
 
 pub meeting-requires-in-Less-clause-value : goal.meeting-requires-in-Less-clause-value
-meeting-requires-in-Less-clause-value c = read _ _ c.turn.ensures.small (lit< tt) ∙ c.turn.ensures.value
+meeting-requires-in-Less-clause-value c = narrow_read _ _ c.turn.ensures.small (lit< tt) ∙ c.turn.ensures.value
 
 pub returns-in-Less-clause-value : goal.returns-in-Less-clause-value
 returns-in-Less-clause-value c =
-    let value : to_z w128 (of_z w128 c.turn-left.result) ≡ turn_of c.args.a.now c.args.b.now = read _ _ c.turn-left.ensures.small (lit< tt) ∙ c.turn-left.ensures.value in
-    let other : to_z w128 (of_z w128 c.turn.result) ≡ turn_of c.args.b.now c.args.a.now = read _ _ c.turn.ensures.small (lit< tt) ∙ c.turn.ensures.value in
-    let less = int_ranked (to_z w128 (of_z w128 c.turn-left.result)) (pos 0) Less (sym c.in-Less.is ∙ c.cmp.ensures) in
+    let value : to_z w64 (of_z w64 c.turn-left.result) ≡ turn_of c.args.a.now c.args.b.now = narrow_read _ _ c.turn-left.ensures.small (lit< tt) ∙ c.turn-left.ensures.value in
+    let other : to_z w64 (of_z w64 c.turn.result) ≡ turn_of c.args.b.now c.args.a.now = narrow_read _ _ c.turn.ensures.small (lit< tt) ∙ c.turn.ensures.value in
+    let less = int_ranked (to_z w64 (of_z w64 c.turn-left.result)) (pos 0) Less (sym c.in-Less.is ∙ c.cmp.ensures) in
     placed _ _ _ (on_second c.args.a.now c.args.b.now _ other (subst (λ (t : ℤ). t <ℤ pos 0) value less)) c.meeting-in-Less.ensures.value
 
 pub returns-in-Less-clause-meets : goal.returns-in-Less-clause-meets
@@ -62,8 +62,8 @@ returns-in-Less-clause-none c = λ n p w h. c.meeting-in-Less.ensures.none n p w
 
 pub returns-in-Equal-clause-none : goal.returns-in-Equal-clause-none
 returns-in-Equal-clause-none c =
-    let value : to_z w128 (of_z w128 c.turn-left.result) ≡ turn_of c.args.a.now c.args.b.now = search (rules, c.turn-left.ensures.value) in
-    let level = int_ranked (to_z w128 (of_z w128 c.turn-left.result)) (pos 0) Equal (sym c.in-Equal.is ∙ c.cmp.ensures) in
+    let value : to_z w64 (of_z w64 c.turn-left.result) ≡ turn_of c.args.a.now c.args.b.now = search (rules, c.turn-left.ensures.value) in
+    let level = int_ranked (to_z w64 (of_z w64 c.turn-left.result)) (pos 0) Equal (sym c.in-Equal.is ∙ c.cmp.ensures) in
     λ _. no_turn _ _ (omega (arith, ints, value, level))
 
 -- found by search alone: it stands here so that a wrong body is refused without working out what to write

@@ -1,5 +1,5 @@
 use Rattle.std.proofs.Common.{rules, arith, ap, ◌∙◌, ℤ, ◌+ℤ◌, ◌*ℤ◌, false, ◌<ℤ◌, ◌≡◌, ◌-ℤ◌, to_z, of_z}
-use Rattle.std.specs.Int.{w64, w128}
+use Rattle.std.specs.Int.{w64}
 use Rattle.std.proofs.lemmas.Int.{ints, to_z-of_z}
 use lib.Signed.{le_z}
 use Rattle.overlay_terms.specs.Column.{border}
@@ -15,7 +15,7 @@ above : (a b m n : ℤ) → le_z a b ≡ false → a ≡ m → b ≡ n → n <�
 above a b m n h ea eb = grind (arith, ints)
 
 at_border : (c : goal.After-part_way) → to_z w64 (of_z w64 c.border-border.result) ≡ border c.args.column
-at_border c = search (rules, to_z-of_z, c.border-border.ensures.value)
+at_border c = search (rules, c.border-border.ensures.value)
 
 at_left : (c : goal.After-part_way) → to_z w64 (of_z w64 c.x-left.result) ≡ c.args.seg.now.left.x
 at_left c = search (rules, to_z-of_z, c.x-left.ensures.value)
@@ -30,10 +30,10 @@ cut c = record {
   before_right = above _ _ _ _ c.if-right-border.false (at_right c) (at_border c);
 }
 
-from_left : (c : goal.After-part_way) → to_z w128 (of_z w128 c.minus.result) ≡ border c.args.column -ℤ c.args.seg.now.left.x
+from_left : (c : goal.After-part_way) → to_z w64 (of_z w64 c.minus.result) ≡ border c.args.column -ℤ c.args.seg.now.left.x
 from_left c = search (rules, to_z-of_z, c.minus.ensures.value, c.border-border.ensures.value)
 
-whole_way : (c : goal.After-part_way) → to_z w128 (of_z w128 c.minus-2.result) ≡ c.args.seg.now.right.x -ℤ c.args.seg.now.left.x
+whole_way : (c : goal.After-part_way) → to_z w64 (of_z w64 c.minus-2.result) ≡ c.args.seg.now.right.x -ℤ c.args.seg.now.left.x
 whole_way c = search (rules, to_z-of_z, c.minus-2.ensures.value)
 
 is_cut : (c : goal.After-part_way) → IsCutOf c.args.seg.now c.args.column (place c.part_way.result)

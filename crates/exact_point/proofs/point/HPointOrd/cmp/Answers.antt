@@ -10,6 +10,9 @@ use Rattle.exact_point.proofs.point.HPointOrd.cmp.Goals as goal
 pub product-requires-4-clause-a_small : goal.product-requires-4-clause-a_small
 product-requires-4-clause-a_small c = within_read _ _ (y_small c.args.other.now) (lit< tt)
 
+pub product-requires-4-clause-w_low : goal.product-requires-4-clause-w_low
+product-requires-4-clause-w_low c = let p = c.args.self.now in rw (read _ _ (w_small p) (lit< tt)) (omega (arith, ints))
+
 pub returns-then-self-other : goal.returns-then-self-other
 returns-then-self-other c =
     let p = c.args.self.now in
