@@ -6,16 +6,18 @@ use Rattle.std.specs.declared.cmp.Ordering.{Ordering}
 use Rattle.std.specs.declared.cmp.Ordering.TheVariants.{Less, Equal, Greater}
 use Rattle.std.proofs.lemmas.Bool.{cases_lt, and_parts, and_from, not_from_false, lt-ltb, false_from_ne_true, cond-true, cond-false}
 use Rattle.std.proofs.lemmas.List.{length-drop, drop-drop, take_all}
-use Rattle.overlay_terms.specs.Plane.{Segment, WholePoint, whole_cmp, point_cmp, is_on}
+use Rattle.overlay_terms.specs.Plane.{Segment, WholePoint, whole_cmp, same_whole, point_cmp, is_on}
 use Rattle.overlay_terms.specs.Column.{column_count, border}
 use Rattle.overlay_terms.specs.Tiles.{is_parallel}
 use Rattle.overlay_terms.proofs.InputNumbers.{lt_true, true_lt}
+use Rattle.overlay_terms.proofs.PointOrder.{same_points}
 use Rattle.exact_point.specs.NamedPiece.{NamedPiece}
 use Rattle.exact_point.specs.PlaceOf.{place_of, crossing_place}
 use Rattle.exact_point.specs.PointName.{HasPlace, IsPlaceOf}
 use Rattle.exact_point.specs.declared.point_name.PointName.{PointName}
 use Rattle.exact_point.specs.declared.point_name.PointName.TheVariants.{Vertex, Cross, Border}
 use Rattle.tile_build.specs.Piece.{IsBetween}
+use Rattle.tile_build.proofs.EndLemmas.{at_left, at_right, whole_ends}
 use Rattle.store_terms.specs.Fields.{◌>>=◌, Field, both}
 use Rattle.store_terms.specs.BaseRecord.{whole_point}
 use Rattle.store_terms.specs.TileRecord.{segment, point_name, has_place, is_piece, piece}
@@ -193,3 +195,12 @@ pub name_in_part : (m : ℕ) (bytes : List ℕ) (n : PointName)
 name_in_part m bytes n read =
     (λ i. point_name.read (sym (part_from m bytes) i)) ∙ read
     ∙ (λ i. Some (n, (ap (drop 9) (part_from m bytes) ∙ drop-drop 9 m bytes) i))
+
+-- the ends of a segment are those of a piece of it
+pub own_ends : (s : Segment) (f l t r : WholePoint) → whole_cmp s.left s.right ≡ Less → l ≡ s.left → r ≡ s.right
+    → same_whole f l ≡ true → same_whole t r ≡ true → IsBetween s (Vertex f) (Vertex t)
+own_ends s f l t r ahead left right from to =
+    let first : f ≡ s.left = same_points f l from ∙ left in
+    let last : t ≡ s.right = same_points t r to ∙ right in
+    (whole_ends s f t true (at_left s f l true ahead left (sym from) refl) (at_right s t r true ahead right (sym to) refl)
+    (sym ((λ i. is_lt (whole_cmp (first i) (last i))) ∙ ap is_lt ahead))).0 refl

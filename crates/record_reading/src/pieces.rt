@@ -1,5 +1,6 @@
 //! Pieces at the front of some bytes.
-ghost use Rattle.std.specs.Prelude.{◌≡◌, ℕ, List, Some, IfOk, IfErr};
+ghost use Rattle.std.specs.Prelude.{◌≡◌, ◌↔◌, ℕ, List, Some, IfOk, IfErr, IsTrue};
+ghost use Rattle.tile_build.specs.Piece.{IsBetween};
 ghost use Rattle.record_writing.specs.Answers.{Fails, Gives};
 ghost use Rattle.record_reading.specs.Added.{IsAdded};
 ghost use Rattle.store_terms.specs.Fields.{read_many};
@@ -7,7 +8,7 @@ ghost use Rattle.store_terms.specs.TileRecord.{piece as spelled, point_name, seg
 
 use crate::segments::{point_name_at, segment_at, segment_in, vertex_in};
 use exact_point::PointName;
-use plane_base::Seg;
+use plane_base::{Pt, Seg};
 use record_writing::fault::ReadFault;
 use std::alloc::Global;
 use tile_build::Piece;
@@ -43,7 +44,7 @@ fn push_piece<'a>(pieces: &mut Vec<Piece>, bytes: &'a [u8]) -> Result<&'a [u8], 
         Some(support) => match vertex_in(&bytes[16..]) {
             Some(from) => match vertex_in(&bytes[25..]) {
                 Some(to) => {
-                    if !are_whole_ends(&support, from, to) {
+                    if !are_piece_ends(&support, from, to) {
                         return Err(ReadFault::Form);
                     }
                     pieces.reserve(1)?;
@@ -115,4 +116,24 @@ fn push_from<'a>(
         }
         Err(fault) => Err(fault),
     }
+}
+
+/// Whether two whole points are the ends of a piece of a segment. Most are its own ends, which lie on it in order.
+fn are_piece_ends(support: &Seg, from: Pt, to: Pt) -> bool
+    ensures { IsTrue result ↔ IsBetween support.now (PointName.Vertex from) (PointName.Vertex to) }
+{
+    if are_own_ends(support, from, to) {
+        return true;
+    }
+    are_whole_ends(support, from, to)
+}
+
+/// Whether two whole points are the ends of a segment, the left one first.
+fn are_own_ends(support: &Seg, from: Pt, to: Pt) -> bool
+    ensures { IsTrue result → IsBetween support.now (PointName.Vertex from) (PointName.Vertex to) }
+{
+    if from != support.left() {
+        return false;
+    }
+    to == support.right()
 }

@@ -1,6 +1,6 @@
 //! Segments, and the names of places, at the front of some bytes.
 ghost use Rattle.record_reading.specs.Added.{before};
-ghost use Rattle.std.specs.Prelude.{◌≡◌, ◌≤◌, length, drop, Some, None, IfSome, if◌then◌else◌};
+ghost use Rattle.std.specs.Prelude.{◌≡◌, ◌≤◌, ◌∷◌, length, drop, Some, None, IfSome, if◌then◌else◌};
 ghost use Rattle.std.specs.Ordering.{is_lt};
 ghost use Rattle.overlay_terms.specs.Plane.{whole_cmp};
 ghost use Rattle.record_writing.specs.Answers.{Gives};
@@ -68,24 +68,45 @@ pub(crate) fn point_name_at(bytes: &[u8]) -> Result<(PointName, &[u8]), ReadFaul
 {
     let (kind, rest) = byte_at(bytes)?;
     match kind {
-        0 => match point_at(rest) {
-            Ok(vertex) => Ok((PointName::Vertex(vertex.0), vertex.1)),
-            Err(fault) => Err(fault),
-        },
-        1 => match segment_at(rest) {
-            Ok(first) => match segment_at(first.1) {
-                Ok(second) => Ok((PointName::Cross(first.0, second.0), second.1)),
-                Err(fault) => Err(fault),
-            },
-            Err(fault) => Err(fault),
-        },
-        2 => match segment_at(rest) {
-            Ok(cut) => match byte_at(cut.1) {
-                Ok(border) => Ok((PointName::Border(cut.0, border.0), border.1)),
-                Err(fault) => Err(fault),
-            },
-            Err(fault) => Err(fault),
-        },
+        0 => vertex_at(rest),
+        1 => crossing_at(rest),
+        2 => border_at(rest),
         _ => Err(ReadFault::Form),
+    }
+}
+
+/// The whole point that a name is of behind its kind, and what follows it.
+fn vertex_at(bytes: &[u8]) -> Result<(PointName, &[u8]), ReadFault>
+    ensures { Gives (λ x. (x.0, x.1.now)) result (point_name.read (0 ∷ bytes.now)) }
+{
+    match point_at(bytes) {
+        Ok(vertex) => Ok((PointName::Vertex(vertex.0), vertex.1)),
+        Err(fault) => Err(fault),
+    }
+}
+
+/// The crossing that a name is of behind its kind, and what follows it.
+fn crossing_at(bytes: &[u8]) -> Result<(PointName, &[u8]), ReadFault>
+    ensures { Gives (λ x. (x.0, x.1.now)) result (point_name.read (1 ∷ bytes.now)) }
+{
+    match segment_at(bytes) {
+        Ok(first) => match segment_at(first.1) {
+            Ok(second) => Ok((PointName::Cross(first.0, second.0), second.1)),
+            Err(fault) => Err(fault),
+        },
+        Err(fault) => Err(fault),
+    }
+}
+
+/// The place at a border that a name is of behind its kind, and what follows it.
+fn border_at(bytes: &[u8]) -> Result<(PointName, &[u8]), ReadFault>
+    ensures { Gives (λ x. (x.0, x.1.now)) result (point_name.read (2 ∷ bytes.now)) }
+{
+    match segment_at(bytes) {
+        Ok(cut) => match byte_at(cut.1) {
+            Ok(border) => Ok((PointName::Border(cut.0, border.0), border.1)),
+            Err(fault) => Err(fault),
+        },
+        Err(fault) => Err(fault),
     }
 }

@@ -6,15 +6,15 @@ use Rattle.exact_point.specs.declared.point_name.PointName.TheVariants.{Vertex}
 use Rattle.record_reading.proofs.NamedPieceLemmas.{is_one, is_none, piece_read, no_piece, part_from, name_in_part}
 use Rattle.record_reading.proofs.pieces.push_piece.Goals as goal
 
-pub returns-then-not-are_whole_ends-clause-err : goal.returns-then-not-are_whole_ends-clause-err
-returns-then-not-are_whole_ends-clause-err c =
+pub returns-then-not-are_piece_ends-clause-err : goal.returns-then-not-are_piece_ends-clause-err
+returns-then-not-are_piece_ends-clause-err c =
     let bytes = c.args.bytes.now in
     let s = c.in-Some.support in
     let f = Vertex c.in-Some-vertex_in.from in
     let t = Vertex c.in-Some-vertex_in-2.to in
     no_piece bytes (drop 16 bytes) (drop 25 bytes) (drop 34 bytes) s f t c.in-Some.ensures
     (name_in_part 16 bytes f c.in-Some-vertex_in.ensures) (name_in_part 25 bytes t c.in-Some-vertex_in-2.ensures)
-    (is_none s f t (λ between. false≢true (sym c.if-not-are_whole_ends.true ∙ c.are_whole_ends.ensures.1 between)))
+    (is_none s f t (λ between. false≢true (sym c.if-not-are_piece_ends.true ∙ c.are_piece_ends.ensures.1 between)))
 
 pub returns-in_ok-reserve-in-Some-vertex_in-2-clause-ok : goal.returns-in_ok-reserve-in-Some-vertex_in-2-clause-ok
 returns-in_ok-reserve-in-Some-vertex_in-2-clause-ok c =
@@ -25,7 +25,7 @@ returns-in_ok-reserve-in-Some-vertex_in-2-clause-ok c =
       c.between.result,
       piece_read bytes (drop 16 bytes) (drop 25 bytes) (drop 34 bytes) s f t c.in-Some.ensures
           (name_in_part 16 bytes f c.in-Some-vertex_in.ensures) (name_in_part 25 bytes t c.in-Some-vertex_in-2.ensures)
-          (is_one s f t (c.are_whole_ends.ensures.0 c.if-not-are_whole_ends.false) (
+          (is_one s f t (c.are_piece_ends.ensures.0 c.if-not-are_piece_ends.false) (
             same_self (whole c.in-Some-vertex_in.from),
             same_self (whole c.in-Some-vertex_in-2.to),
           ))
