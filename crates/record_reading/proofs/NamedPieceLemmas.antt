@@ -1,26 +1,30 @@
 -- Pieces by the names of their ends: their test, and how they are read.
-use Rattle.std.proofs.Common.{◌≡◌, ℕ, pos, ◌<ℤ◌, Bool, true, false, cond, not, ◌&&◌, List, Option, Some, None, refl, ap, ◌∙◌}
+use Rattle.std.proofs.Common.{◌≡◌, ℕ, pos, ◌<ℤ◌, Bool, true, false, cond, not, ◌&&◌, List, Option, Some, None, refl, ap, ◌∙◌, arith, inl, inr, ◌<◌, length, take, drop, ◌+◌, ◌-◌, sym}
 use Rattle.std.specs.Prelude.{int_lt, nat_lt}
 use Rattle.std.specs.Ordering.{is_lt}
 use Rattle.std.specs.declared.cmp.Ordering.{Ordering}
 use Rattle.std.specs.declared.cmp.Ordering.TheVariants.{Less, Equal, Greater}
-use Rattle.std.proofs.lemmas.Bool.{and_parts, and_from, not_from_false, lt-ltb, false_from_ne_true, cond-true, cond-false}
-use Rattle.std.proofs.lemmas.Option.{same_Some}
-use Rattle.overlay_terms.specs.Plane.{Segment, WholePoint, whole_cmp, point_cmp, is_on}
+use Rattle.std.proofs.lemmas.Bool.{cases_lt, and_parts, and_from, not_from_false, lt-ltb, false_from_ne_true, cond-true, cond-false}
+use Rattle.std.proofs.lemmas.List.{length-drop, drop-drop, take_all}
+use Rattle.overlay_terms.specs.Plane.{Segment, WholePoint, whole_cmp, same_whole, point_cmp, is_on}
 use Rattle.overlay_terms.specs.Column.{column_count, border}
 use Rattle.overlay_terms.specs.Tiles.{is_parallel}
 use Rattle.overlay_terms.proofs.InputNumbers.{lt_true, true_lt}
+use Rattle.overlay_terms.proofs.PointOrder.{same_points}
 use Rattle.exact_point.specs.NamedPiece.{NamedPiece}
 use Rattle.exact_point.specs.PlaceOf.{place_of, crossing_place}
 use Rattle.exact_point.specs.PointName.{HasPlace, IsPlaceOf}
 use Rattle.exact_point.specs.declared.point_name.PointName.{PointName}
 use Rattle.exact_point.specs.declared.point_name.PointName.TheVariants.{Vertex, Cross, Border}
 use Rattle.tile_build.specs.Piece.{IsBetween}
+use Rattle.tile_build.proofs.EndLemmas.{at_left, at_right, whole_ends}
 use Rattle.store_terms.specs.Fields.{◌>>=◌, Field, both}
 use Rattle.store_terms.specs.BaseRecord.{whole_point}
 use Rattle.store_terms.specs.TileRecord.{segment, point_name, has_place, is_piece, piece}
 use Rattle.store_terms.proofs.NameTests.{back}
 use Rattle.record_writing.proofs.PieceLemmas.{the_piece, passes}
+use Rattle.record_reading.specs.Added.{before}
+use Rattle.record_reading.proofs.PointLemmas.{point_short, point_cases}
 
 less_so : (o : Ordering) → is_lt o ≡ true → o ≡ Less
 less_so Less e = refl
@@ -144,28 +148,59 @@ module _ (bytes behind after rest : List ℕ) (s : Segment) (f t : PointName) (s
       read_parts bytes behind after rest s f t support from to
       ∙ cond-false (is_piece (the_piece s f t)) (Some (front (the_piece s f t) rest)) None none
 
-keeps : {A : Type 0} (b : Bool) (p q : A) (rest : List ℕ) → cond b (Some p) None ≡ Some q
-    → cond b (Some (front p rest)) None ≡ Some (front q rest)
-keeps {A} true p q rest e = ap (λ (x : A). Some (front x rest)) (same_Some p q e)
-keeps false p q rest e = absurd cc
-
-keeps_none : {A : Type 0} (b : Bool) (p : A) (rest : List ℕ) → cond b (Some p) None ≡ None
-    → cond b (Some (front p rest)) None ≡ None
-keeps_none true p rest e = absurd cc
-keeps_none false p rest e = refl
-
 -- the segment between two points, if the first is the left one
 abbrev pub if_segment : WholePoint → WholePoint → Option Segment
 if_segment l r = cond (is_lt (whole_cmp l r)) (Some (record { left = l; right = r })) None
 
-module _ (bytes behind rest : List ℕ) (l r : WholePoint) (left : whole_point.read bytes ≡ Some (l, behind))
-    (right : whole_point.read behind ≡ Some (r, rest)) where
-  pub ends_read : (s : Segment) → if_segment l r ≡ Some s → segment.read bytes ≡ Some (s, rest)
-  ends_read s made =
-      read_ends bytes behind rest l r left right
-      ∙ keeps (is_lt (whole_cmp l r)) (record { left = l; right = r }) s rest made
+before_rest : {A : Type 0} (b : Bool) (x : A) (rest : List ℕ)
+    → cond b (Some (front x rest)) None ≡ before rest (cond b (Some x) None)
+before_rest true x rest = refl
+before_rest false x rest = refl
 
-  pub ends_wrong : if_segment l r ≡ None → segment.read bytes ≡ None
-  ends_wrong none =
-      read_ends bytes behind rest l r left right
-      ∙ keeps_none (is_lt (whole_cmp l r)) (record { left = l; right = r }) rest none
+-- a segment is read from the points that are its ends
+pub ends_read : (bytes behind rest : List ℕ) (l r : WholePoint) → whole_point.read bytes ≡ Some (l, behind)
+    → whole_point.read behind ≡ Some (r, rest) → segment.read bytes ≡ before rest (if_segment l r)
+ends_read bytes behind rest l r left right =
+    read_ends bytes behind rest l r left right
+    ∙ before_rest (is_lt (whole_cmp l r)) (record { left = l; right = r }) rest
+
+no_left : (bytes : List ℕ) → whole_point.read bytes ≡ None → segment.read bytes ≡ None
+no_left bytes none = ap (λ (o : Option (WholePoint × List ℕ)). ((o >>= behind_left) >>= joining) >>= ordering) none
+
+no_right : (bytes behind : List ℕ) (l : WholePoint) → whole_point.read bytes ≡ Some (l, behind)
+    → whole_point.read behind ≡ None → segment.read bytes ≡ None
+no_right bytes behind l left none =
+    ap (λ (o : Option (WholePoint × List ℕ)). ((o >>= behind_left) >>= joining) >>= ordering) left
+    ∙ ap (λ (o : Option (WholePoint × List ℕ)). ((o >>= with_right l) >>= joining) >>= ordering) none
+
+pub segment_short : (bytes : List ℕ) → length bytes < 16 → segment.read bytes ≡ None
+segment_short bytes lt =
+    elim (cases_lt (length bytes) 8) [
+      | inl few ↦ no_left bytes (point_short bytes few)
+      | inr many ↦ elim (point_cases bytes many) [
+        | inl none ↦ no_left bytes none
+        | inr some ↦ no_right bytes (drop 8 bytes) some.0 some.1
+            (point_short (drop 8 bytes) (omega (arith, length-drop 8 bytes)))
+      ]
+    ]
+
+-- the part of some bytes from a place on
+pub part_from : (n : ℕ) (bytes : List ℕ) → take (length bytes - n) (drop n bytes) ≡ drop n bytes
+part_from n bytes = take_all (length bytes - n) (drop n bytes) (omega (arith, length-drop n bytes))
+
+-- a name of nine bytes that is read from such a part
+pub name_in_part : (m : ℕ) (bytes : List ℕ) (n : PointName)
+    → point_name.read (take (length bytes - m) (drop m bytes)) ≡ Some (n, drop 9 (take (length bytes - m) (drop m bytes)))
+    → point_name.read (drop m bytes) ≡ Some (n, drop (m + 9) bytes)
+name_in_part m bytes n read =
+    (λ i. point_name.read (sym (part_from m bytes) i)) ∙ read
+    ∙ (λ i. Some (n, (ap (drop 9) (part_from m bytes) ∙ drop-drop 9 m bytes) i))
+
+-- the ends of a segment are those of a piece of it
+pub own_ends : (s : Segment) (f l t r : WholePoint) → whole_cmp s.left s.right ≡ Less → l ≡ s.left → r ≡ s.right
+    → same_whole f l ≡ true → same_whole t r ≡ true → IsBetween s (Vertex f) (Vertex t)
+own_ends s f l t r ahead left right from to =
+    let first : f ≡ s.left = same_points f l from ∙ left in
+    let last : t ≡ s.right = same_points t r to ∙ right in
+    (whole_ends s f t true (at_left s f l true ahead left (sym from) refl) (at_right s t r true ahead right (sym to) refl)
+    (sym ((λ i. is_lt (whole_cmp (first i) (last i))) ∙ ap is_lt ahead))).0 refl

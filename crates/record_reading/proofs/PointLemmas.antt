@@ -1,17 +1,14 @@
 -- A point is read from eight bytes by one test of their length.
-use Rattle.std.proofs.Common.{◌≡◌, inl, inr, ℕ, ℤ, unsigned_abs, ◌<◌, ◌≤◌, Bool, true, false, cond, List, length, drop, Option, Some, None, refl, ap, ◌∙◌, arith}
-use Rattle.std.proofs.lemmas.Bool.{cases_lt, lt-ltb, le-ltb, le-leb, leb-true}
+use Rattle.std.proofs.Common.{◌≡◌, ◌⊎◌, inl, inr, ℕ, ℤ, unsigned_abs, ◌<◌, ◌≤◌, Bool, true, false, cond, List, length, drop, Option, Some, None, refl, ap, sym, ◌∙◌, arith}
+use Rattle.std.proofs.lemmas.Bool.{false≢true, cases_lt, lt-ltb, le-ltb, le-leb, leb-true}
 use Rattle.std.proofs.lemmas.List.{length-drop, drop-drop}
 use Rattle.std.specs.Int.{w32, cast_signed}
 use Rattle.byteorder.specs.Endian.{big_number}
 use Rattle.overlay_terms.specs.Plane.{WholePoint, InRange, coordinate_max}
 use Rattle.overlay_terms.proofs.Bounds.{abs_within, within_abs}
+use Rattle.record_reading.specs.Added.{number_in}
 use Rattle.store_terms.specs.Fields.{◌>>=◌}
 use Rattle.store_terms.specs.BaseRecord.{is_coordinate, coordinate, whole_point}
-
--- the signed number that the first four bytes spell
-abbrev pub number_in : List ℕ → ℤ
-number_in bytes = cast_signed w32 (big_number 4 bytes)
 
 abbrev passing : ℕ × List ℕ → Option (ℤ × List ℕ)
 passing n = cond (is_coordinate (cast_signed w32 n.0)) (Some (cast_signed w32 n.0, n.1)) None
@@ -93,3 +90,14 @@ module _ (bytes : List ℕ) (le : 8 ≤ length bytes) where
       ∙ out (is_coordinate (number_in bytes)) (is_coordinate (number_in (drop 4 bytes))) (number_in bytes)
       (number_in (drop 4 bytes)) (drop 4 bytes) (drop 4 (drop 4 bytes)) y_read
       (λ x y. never (in_range (number_in bytes) x, in_range (number_in (drop 4 bytes)) y))
+
+  -- a point, or none
+  pub point_cases : (whole_point.read bytes ≡ None) ⊎ ((p : WholePoint) × (whole_point.read bytes ≡ Some (p, drop 8 bytes)))
+  point_cases = by (is_coordinate (number_in bytes)) (is_coordinate (number_in (drop 4 bytes))) refl refl
+    where
+      by : (b c : Bool) → is_coordinate (number_in bytes) ≡ b → is_coordinate (number_in (drop 4 bytes)) ≡ c
+          → (whole_point.read bytes ≡ None) ⊎ ((p : WholePoint) × (whole_point.read bytes ≡ Some (p, drop 8 bytes)))
+      by true true x y =
+          inr (record { x = number_in bytes; y = number_in (drop 4 bytes) }, point_read (in_range (number_in bytes) x) (in_range (number_in (drop 4 bytes)) y))
+      by true false x y = inl (point_out (λ within. false≢true (sym y ∙ coordinate_is (number_in (drop 4 bytes)) within.1)))
+      by false c x y = inl (point_out (λ within. false≢true (sym x ∙ coordinate_is (number_in bytes) within.0)))

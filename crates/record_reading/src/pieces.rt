@@ -1,13 +1,14 @@
 //! Pieces at the front of some bytes.
-ghost use Rattle.std.specs.Prelude.{◌≡◌, ℕ, List, Some, IfOk, IfErr};
+ghost use Rattle.std.specs.Prelude.{◌≡◌, ◌↔◌, ℕ, List, Some, IfOk, IfErr, IsTrue};
+ghost use Rattle.tile_build.specs.Piece.{IsBetween};
 ghost use Rattle.record_writing.specs.Answers.{Fails, Gives};
 ghost use Rattle.record_reading.specs.Added.{IsAdded};
 ghost use Rattle.store_terms.specs.Fields.{read_many};
 ghost use Rattle.store_terms.specs.TileRecord.{piece as spelled, point_name, segment};
 
-use crate::segments::{point_name_at, segment_at, vertex_at};
+use crate::segments::{point_name_at, segment_at, segment_in, vertex_in};
 use exact_point::PointName;
-use plane_base::Seg;
+use plane_base::{Pt, Seg};
 use record_writing::fault::ReadFault;
 use std::alloc::Global;
 use tile_build::Piece;
@@ -36,25 +37,39 @@ fn push_piece<'a>(pieces: &mut Vec<Piece>, bytes: &'a [u8]) -> Result<&'a [u8], 
     ensures ok { IfOk result (λ rest. IsAdded spelled bytes.now rest.now pieces.old.items pieces.new.items) }
     ensures err { IfErr result (λ fault. Fails fault (spelled.read bytes.now)) }
 {
-    match segment_at(bytes) {
-        Ok(support) => match vertex_at(support.1) {
-            Some(from) => match vertex_at(from.1) {
+    if bytes.len() < 34 {
+        return push_any(pieces, bytes);
+    }
+    match segment_in(bytes) {
+        Some(support) => match vertex_in(&bytes[16..]) {
+            Some(from) => match vertex_in(&bytes[25..]) {
                 Some(to) => {
-                    if !are_whole_ends(&support.0, from.0, to.0) {
+                    if !are_piece_ends(&support, from, to) {
                         return Err(ReadFault::Form);
                     }
                     pieces.reserve(1)?;
                     pieces.push_reserved(Piece::between(
-                        support.0,
-                        PointName::Vertex(from.0),
-                        PointName::Vertex(to.0),
+                        support,
+                        PointName::Vertex(from),
+                        PointName::Vertex(to),
                     ));
-                    Ok(to.1)
+                    Ok(&bytes[34..])
                 }
-                None => push_from(pieces, support.0, PointName::Vertex(from.0), from.1),
+                None => push_from(pieces, support, PointName::Vertex(from), &bytes[25..]),
             },
-            None => push_named(pieces, support.0, support.1),
+            None => push_named(pieces, support, &bytes[16..]),
         },
+        None => Err(ReadFault::Form),
+    }
+}
+
+/// The same of any length and any names.
+fn push_any<'a>(pieces: &mut Vec<Piece>, bytes: &'a [u8]) -> Result<&'a [u8], ReadFault>
+    ensures ok { IfOk result (λ rest. IsAdded spelled bytes.now rest.now pieces.old.items pieces.new.items) }
+    ensures err { IfErr result (λ fault. Fails fault (spelled.read bytes.now)) }
+{
+    match segment_at(bytes) {
+        Ok(support) => push_named(pieces, support.0, support.1),
         Err(fault) => Err(fault),
     }
 }
@@ -101,4 +116,24 @@ fn push_from<'a>(
         }
         Err(fault) => Err(fault),
     }
+}
+
+/// Whether two whole points are the ends of a piece of a segment. Most are its own ends, which lie on it in order.
+fn are_piece_ends(support: &Seg, from: Pt, to: Pt) -> bool
+    ensures { IsTrue result ↔ IsBetween support.now (PointName.Vertex from) (PointName.Vertex to) }
+{
+    if are_own_ends(support, from, to) {
+        return true;
+    }
+    are_whole_ends(support, from, to)
+}
+
+/// Whether two whole points are the ends of a segment, the left one first.
+fn are_own_ends(support: &Seg, from: Pt, to: Pt) -> bool
+    ensures { IsTrue result → IsBetween support.now (PointName.Vertex from) (PointName.Vertex to) }
+{
+    if from != support.left() {
+        return false;
+    }
+    to == support.right()
 }

@@ -1,11 +1,12 @@
 //! Segments, and the names of places, at the front of some bytes.
-ghost use Rattle.std.specs.Prelude.{◌≡◌, Some, None, IfSome, if◌then◌else◌};
+ghost use Rattle.record_reading.specs.Added.{before};
+ghost use Rattle.std.specs.Prelude.{◌≡◌, ◌≤◌, ◌∷◌, length, drop, Some, None, IfSome, if◌then◌else◌};
 ghost use Rattle.std.specs.Ordering.{is_lt};
 ghost use Rattle.overlay_terms.specs.Plane.{whole_cmp};
 ghost use Rattle.record_writing.specs.Answers.{Gives};
 ghost use Rattle.store_terms.specs.TileRecord.{segment, point_name};
 
-use crate::points::point_at;
+use crate::points::{point_at, point_in};
 use exact_point::PointName;
 use plane_base::{Pt, Seg};
 use record_writing::bytes::byte_at;
@@ -17,15 +18,26 @@ use record_writing::fault::ReadFault;
 pub(crate) fn segment_at(bytes: &[u8]) -> Result<(Seg, &[u8]), ReadFault>
     ensures { Gives (λ x. (x.0, x.1.now)) result (segment.read bytes.now) }
 {
-    match point_at(bytes) {
-        Ok(left) => match point_at(left.1) {
-            Ok(right) => match segment_of(left.0, right.0) {
-                Some(seg) => Ok((seg, right.1)),
-                None => Err(ReadFault::Form),
-            },
-            Err(fault) => Err(fault),
+    if bytes.len() < 16 {
+        return Err(ReadFault::Form);
+    }
+    match segment_in(bytes) {
+        Some(seg) => Ok((seg, &bytes[16..])),
+        None => Err(ReadFault::Form),
+    }
+}
+
+/// The segment that the first 16 bytes spell.
+pub(crate) fn segment_in(bytes: &[u8]) -> Option<Seg>
+    requires { 16 ≤ length bytes.now }
+    ensures { segment.read bytes.now ≡ before (drop 16 bytes.now) result }
+{
+    match point_in(bytes) {
+        Some(left) => match point_in(&bytes[8..]) {
+            Some(right) => segment_of(left, right),
+            None => None,
         },
-        Err(fault) => Err(fault),
+        None => None,
     }
 }
 
@@ -39,22 +51,15 @@ fn segment_of(left: Pt, right: Pt) -> Option<Seg>
     Seg::of(left, right)
 }
 
-/// The whole point that a name is of, and what follows it; none where it is of another kind, or not spelled.
-pub(crate) fn vertex_at(bytes: &[u8]) -> Option<(Pt, &[u8])>
-    ensures { IfSome result (λ x. point_name.read bytes.now ≡ Some (PointName.Vertex x.0, x.1.now)) }
+/// The whole point that a name of nine bytes is of; none where it is of another kind, or not spelled.
+pub(crate) fn vertex_in(bytes: &[u8]) -> Option<Pt>
+    requires { 9 ≤ length bytes.now }
+    ensures { IfSome result (λ p. point_name.read bytes.now ≡ Some (PointName.Vertex p, drop 9 bytes.now)) }
 {
-    match byte_at(bytes) {
-        Ok(kind) => {
-            if kind.0 != 0 {
-                return None;
-            }
-            match point_at(kind.1) {
-                Ok(vertex) => Some(vertex),
-                Err(_) => None,
-            }
-        }
-        Err(_) => None,
+    if bytes[0] != 0 {
+        return None;
     }
+    point_in(&bytes[1..])
 }
 
 /// The name of a place, and what follows it. The name may stand for no place.
@@ -63,24 +68,45 @@ pub(crate) fn point_name_at(bytes: &[u8]) -> Result<(PointName, &[u8]), ReadFaul
 {
     let (kind, rest) = byte_at(bytes)?;
     match kind {
-        0 => match point_at(rest) {
-            Ok(vertex) => Ok((PointName::Vertex(vertex.0), vertex.1)),
-            Err(fault) => Err(fault),
-        },
-        1 => match segment_at(rest) {
-            Ok(first) => match segment_at(first.1) {
-                Ok(second) => Ok((PointName::Cross(first.0, second.0), second.1)),
-                Err(fault) => Err(fault),
-            },
-            Err(fault) => Err(fault),
-        },
-        2 => match segment_at(rest) {
-            Ok(cut) => match byte_at(cut.1) {
-                Ok(border) => Ok((PointName::Border(cut.0, border.0), border.1)),
-                Err(fault) => Err(fault),
-            },
-            Err(fault) => Err(fault),
-        },
+        0 => vertex_at(rest),
+        1 => crossing_at(rest),
+        2 => border_at(rest),
         _ => Err(ReadFault::Form),
+    }
+}
+
+/// The whole point that a name is of behind its kind, and what follows it.
+fn vertex_at(bytes: &[u8]) -> Result<(PointName, &[u8]), ReadFault>
+    ensures { Gives (λ x. (x.0, x.1.now)) result (point_name.read (0 ∷ bytes.now)) }
+{
+    match point_at(bytes) {
+        Ok(vertex) => Ok((PointName::Vertex(vertex.0), vertex.1)),
+        Err(fault) => Err(fault),
+    }
+}
+
+/// The crossing that a name is of behind its kind, and what follows it.
+fn crossing_at(bytes: &[u8]) -> Result<(PointName, &[u8]), ReadFault>
+    ensures { Gives (λ x. (x.0, x.1.now)) result (point_name.read (1 ∷ bytes.now)) }
+{
+    match segment_at(bytes) {
+        Ok(first) => match segment_at(first.1) {
+            Ok(second) => Ok((PointName::Cross(first.0, second.0), second.1)),
+            Err(fault) => Err(fault),
+        },
+        Err(fault) => Err(fault),
+    }
+}
+
+/// The place at a border that a name is of behind its kind, and what follows it.
+fn border_at(bytes: &[u8]) -> Result<(PointName, &[u8]), ReadFault>
+    ensures { Gives (λ x. (x.0, x.1.now)) result (point_name.read (2 ∷ bytes.now)) }
+{
+    match segment_at(bytes) {
+        Ok(cut) => match byte_at(cut.1) {
+            Ok(border) => Ok((PointName::Border(cut.0, border.0), border.1)),
+            Err(fault) => Err(fault),
+        },
+        Err(fault) => Err(fault),
     }
 }

@@ -1,15 +1,14 @@
-use Rattle.std.proofs.Common.{sym, ◌∙◌}
-use Rattle.record_reading.proofs.NamedPieceLemmas.{ends_read, ends_wrong}
+use Rattle.std.proofs.Common.{◌-◌, length, drop, Some, ap, arith, sym, ◌∙◌}
+use Rattle.std.proofs.lemmas.List.{take_all, length-drop}
+use Rattle.record_reading.specs.Added.{before}
+use Rattle.record_reading.proofs.NamedPieceLemmas.{segment_short}
 use Rattle.record_reading.proofs.segments.segment_at.Goals as goal
+
+pub returns-then-bytes-lt16 : goal.returns-then-bytes-lt16
+returns-then-bytes-lt16 c = segment_short c.args.bytes.now (omega arith)
 
 pub returns-in-Some : goal.returns-in-Some
 returns-in-Some c =
-    let l = c.in-Ok in
-    let r = c.in-Ok-point_at in
-    ends_read c.args.bytes.now l.left.1.now r.right.1.now l.left.0 r.right.0 l.ensures r.ensures c.in-Some.seg (sym c.segment_of.ensures ∙ c.in-Some.is)
-
-pub returns-in-None : goal.returns-in-None
-returns-in-None c =
-    let l = c.in-Ok in
-    let r = c.in-Ok-point_at in
-    ends_wrong c.args.bytes.now l.left.1.now r.right.1.now l.left.0 r.right.0 l.ensures r.ensures (sym c.segment_of.ensures ∙ c.in-None.is)
+    let bytes = c.args.bytes.now in
+    let rest = take_all (length bytes - 16) (drop 16 bytes) (omega (arith, length-drop 16 bytes)) in
+    c.segment_in.ensures ∙ ap (before (drop 16 bytes)) c.in-Some.is ∙ (λ i. Some (c.in-Some.seg, sym rest i))
