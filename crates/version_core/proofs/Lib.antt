@@ -7,4 +7,5 @@ pub mod LookLemmas
 pub mod NextBatch
 pub mod PendingLemmas
 pub mod EdgeLemmas
+pub mod LineLemmas
 pub mod VerdictLemmas

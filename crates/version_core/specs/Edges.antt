@@ -1,5 +1,5 @@
 -- The edges of a tile as text.
-use Rattle.std.specs.Prelude.{◌≡◌, ℕ, ◌<ℤ◌, pos, IsTrue, List, [], ◌∷◌, ◌++◌, length, flat_map, codes, decimal, Option, Some, None}
+use Rattle.std.specs.Prelude.{◌≡◌, ℕ, ◌+◌, ◌≤◌, ◌<ℤ◌, pos, IsTrue, List, [], ◌∷◌, ◌++◌, length, flat_map, codes, decimal, Option, Some, None}
 use Rattle.std.specs.Option.{option_map, option_or}
 use Rattle.std.specs.Fmt.{signed_decimal}
 use Rattle.overlay_terms.specs.Plane.{Point, same_place}
@@ -53,18 +53,19 @@ pub record IsLowestOf (p lowest : Point) : Type 0 where
   pub positive : pos 0 <ℤ lowest.w
   pub lowest_terms : IsLowest lowest
 
--- a text with one place more, in lowest terms
-pub record HasEndMore (before after : List ℕ) (p : Point) : Type 0 where
+-- a text with one place before it, in lowest terms
+pub record HasEndBefore (before after : List ℕ) (p : Point) : Type 0 where
   pub low : Point
   pub lowest : IsLowestOf p low
-  pub is : after ≡ before ++ point_text low
+  pub is : after ≡ point_text low ++ before
+  pub short : length after ≤ length before + 64
 
--- a text with the line of one piece more, each end in lowest terms
-pub record HasLineMore (before after : List ℕ) (ends : Point × Point) : Type 0 where
+-- the text is the line of one piece, each end in lowest terms
+pub record IsLineOf (ends : Point × Point) (text : List ℕ) : Type 0 where
   pub low : Point × Point
   pub from : IsLowestOf ends.0 low.0
   pub to : IsLowestOf ends.1 low.1
-  pub is : after ≡ before ++ edge_line low
+  pub is : text ≡ edge_line low
 
 -- the same ends in lowest terms, in order
 abbrev pub AreLowest : List (Point × Point) → List (Point × Point) → Type 0

@@ -1,26 +1,28 @@
 //! The edges of a tile as text.
-ghost use Rattle.std.specs.Prelude.{◌≡◌, ◌++◌, ◌∷◌, [], None, Some, codes, decimal, map, IfOk, IfErr, OnOk};
+ghost use Rattle.std.specs.Prelude.{◌≡◌, ◌++◌, ◌∷◌, ◌≤◌, [], None, Some, codes, decimal, length, map, IfOk, IfErr};
 ghost use Rattle.overlay_terms.specs.Column.{column_numbered};
 ghost use Rattle.overlay_terms.specs.Histories.{tile_at};
-ghost use Rattle.overlay_terms.specs.Plane.{whole};
 ghost use Rattle.exact_point.specs.NamedPiece.{ends_of};
 ghost use Rattle.exact_point.specs.PlaceOf.{place_of};
 ghost use Rattle.exact_point.specs.PointName.{HasPlace};
 ghost use Rattle.layer_book.specs.Fault.{RefusedBy};
 ghost use Rattle.tile_build.specs.Tile.{tile_of};
-ghost use Rattle.version_core.specs.Edges.{AreEdges, HasEndMore, HasLineMore, IsTextOf, edges_refusal, point_text, tile_absence};
+ghost use Rattle.version_core.specs.Edges.{AreEdges, HasEndBefore, IsLineOf, IsTextOf, edges_refusal, tile_absence};
 
 use crate::end_texts::{EndText, EndTexts, mark_of};
 use crate::fault::VersionFault;
-use crate::place_text::PlaceText;
+use crate::line_text::LineText;
 use crate::version::Version;
-use exact_point::{HPoint, PointName};
+use exact_point::PointName;
 use itoa::Buffer;
 use layer_book::fault::LayerFault;
 use layer_expr::name::Name;
-use plane_base::{Column, Pt};
+use plane_base::Column;
 use std::alloc::{AllocError, Global};
 use tile_build::{Piece, Tile};
+
+/// How many bytes there is room for at first for each line: that of two whole points has about as many.
+const LINE_SIZE: usize = 32;
 
 impl Version {
     /// The pieces of a tile, counted and then a line for each.
@@ -67,9 +69,13 @@ fn written(alloc: Global, pieces: &[Piece]) -> Result<Vec<u8>, AllocError>
     ensures { IfOk result (λ text. IsTextOf (map ends_of pieces.now) text.items) }
 {
     let mut text = head_line(alloc, pieces.len())?;
+    // Room for most lines. Where there is no memory for all of it, it is got as the lines need it.
+    let _ = text.reserve(pieces.len().saturating_mul(LINE_SIZE));
     let mut texts = EndTexts::new(alloc, pieces.len());
+    let mut line = LineText::new();
     for piece in pieces {
-        push_line(&mut text, &mut texts, piece)?;
+        put_line(&mut line, &mut texts, piece);
+        text.extend_from_slice(line.as_bytes())?;
     }
     Ok(text)
 }
@@ -85,57 +91,57 @@ fn head_line(alloc: Global, count: usize) -> Result<Vec<u8>, AllocError>
     Ok(text)
 }
 
-/// Adds the line of a piece.
-fn push_line(text: &mut Vec<u8>, texts: &mut EndTexts, piece: &Piece) -> Result<(), AllocError>
-    ensures { OnOk result (HasLineMore text.old.items text.new.items (ends_of piece.now)) }
+/// Makes the line of a piece, from its end to its start.
+fn put_line(line: &mut LineText, texts: &mut EndTexts, piece: &Piece)
+    ensures { IsLineOf (ends_of piece.now) line.new }
 {
     let (from, to) = piece.names();
-    push_end(text, texts, from)?;
-    text.push(b' ')?;
-    push_end(text, texts, to)?;
-    text.push(b'\n')?;
-    Ok(())
+    line.clear();
+    line.put_byte(b'\n');
+    put_end(line, texts, to, mark_of(to));
+    line.put_byte(b' ');
+    put_left(line, texts, from);
 }
 
-/// Adds the place that a name stands for. The text of a whole point is not kept: it is made as fast.
-fn push_end(text: &mut Vec<u8>, texts: &mut EndTexts, name: &PointName) -> Result<(), AllocError>
-    requires { HasPlace name.now }
-    ensures { OnOk result (HasEndMore text.old.items text.new.items (place_of name.now)) }
+/// Puts down the place of a left end. It is mostly that of the piece before.
+fn put_left(line: &mut LineText, texts: &mut EndTexts, name: &PointName)
+    requires named { HasPlace name.now }
+    requires room { length line.old ≤ 128 }
+    ensures { HasEndBefore line.old line.new (place_of name.now) }
 {
-    if let PointName::Vertex(point) = name {
-        push_whole(text, *point)?;
-        return Ok(());
+    if let Some(kept) = texts.find_left(name) {
+        line.put_text(&kept.text);
+        return;
     }
     let mark = mark_of(name);
-    if let Some(kept) = texts.find(name, mark) {
-        text.extend_from_slice(kept.text.as_bytes())?;
-        return Ok(());
-    }
-    push_made(text, texts, name, mark)?;
-    Ok(())
+    put_end(line, texts, name, mark);
+    texts.take_left(mark);
 }
 
-/// Adds the place of a name whose text is not kept, and keeps it.
-fn push_made(
-    text: &mut Vec<u8>,
-    texts: &mut EndTexts,
-    name: &PointName,
-    mark: u64,
-) -> Result<(), AllocError>
-    requires { HasPlace name.now }
-    ensures { OnOk result (HasEndMore text.old.items text.new.items (place_of name.now)) }
+/// Puts down the place that a name stands for. The text of a whole point is not kept: it is made as fast.
+fn put_end(line: &mut LineText, texts: &mut EndTexts, name: &PointName, mark: u64)
+    requires named { HasPlace name.now }
+    requires room { length line.old ≤ 128 }
+    ensures { HasEndBefore line.old line.new (place_of name.now) }
+{
+    if let PointName::Vertex(point) = name {
+        line.put_whole(*point);
+        return;
+    }
+    if let Some(kept) = texts.find(name, mark) {
+        line.put_text(&kept.text);
+        return;
+    }
+    put_made(line, texts, name, mark);
+}
+
+/// Puts down the place of a name whose text is not kept, and keeps it.
+fn put_made(line: &mut LineText, texts: &mut EndTexts, name: &PointName, mark: u64)
+    requires named { HasPlace name.now }
+    requires room { length line.old ≤ 128 }
+    ensures { HasEndBefore line.old line.new (place_of name.now) }
 {
     let made = EndText::new(name);
-    text.extend_from_slice(made.text.as_bytes())?;
+    line.put_text(&made.text);
     texts.keep(made, mark);
-    Ok(())
-}
-
-/// Adds a whole point, which is in lowest terms as it stands.
-fn push_whole(text: &mut Vec<u8>, point: Pt) -> Result<(), AllocError>
-    ensures { OnOk result (text.new.items ≡ text.old.items ++ point_text (whole point)) }
-{
-    let made = PlaceText::new(&HPoint::of(point));
-    text.extend_from_slice(made.as_bytes())?;
-    Ok(())
 }

@@ -13,8 +13,8 @@ use exact_point::{HPoint, PointName, reduced};
 use plane_base::Seg;
 use std::alloc::Global;
 
-/// How many texts are kept at once at most.
-const KEPT: usize = 4096;
+/// The last place that a text is put at: as many are kept at once at most, and one more.
+const LAST: usize = 2047;
 
 /// The place of a name in lowest terms, and its text.
 #[derive(Debug, Drop)]
@@ -43,20 +43,43 @@ impl EndText {
     }
 }
 
-/// The texts that are kept, each in the slot that its name has. There are no slots before the first text.
+/// Where a text is among those that are kept, and the mark of its name.
+#[derive(Clone, Copy, Debug)]
+struct Spot {
+    mark: u64,
+    place: usize,
+}
+
+/// A spot where no text is.
+const NOWHERE: Spot = Spot {
+    mark: 0,
+    place: usize::MAX,
+};
+
+/// The texts that are kept, of which the oldest gives way to a new one. Each mark has a spot, which tells where the last
+/// text of such a name is: a name without a text is known by it mostly, without a look at the texts.
 #[derive(Debug, Drop)]
 pub(crate) struct EndTexts {
-    slots: Vec<Option<EndText>>,
-    /// How many slots there will be: 0 where there was no memory for them.
-    wanted: usize,
+    kept: Vec<EndText>,
+    /// None before the first text, and where there was no memory for them.
+    spots: Vec<Spot>,
+    /// The last place that a text is put at.
+    last: usize,
+    /// The place of the next text.
+    next: usize,
+    /// The place of the text of the last left end.
+    left: usize,
 }
 
 impl EndTexts {
     /// For the ends of so many pieces. It takes no memory yet.
     pub(crate) fn new(alloc: Global, pieces: usize) -> EndTexts {
         EndTexts {
-            slots: Vec::new(alloc),
-            wanted: pieces.min(KEPT),
+            kept: Vec::new(alloc),
+            spots: Vec::new(alloc),
+            last: pieces.min(LAST),
+            next: 0,
+            left: 0,
         }
     }
 
@@ -64,44 +87,90 @@ impl EndTexts {
     pub(crate) fn find(&self, name: &PointName, mark: u64) -> Option<&EndText>
         ensures { IfSome result (λ kept. kept.now.name ≡ name.now) }
     {
-        match self.slots.get(self.slot_of(mark)) {
-            Some(Some(kept)) => {
+        let spot = self.spot(mark);
+        if spot.mark == mark {
+            self.named_at(spot.place, name)
+        } else {
+            None
+        }
+    }
+
+    /// The text of the last left end, if it has this name.
+    pub(crate) fn find_left(&self, name: &PointName) -> Option<&EndText>
+        ensures { IfSome result (λ kept. kept.now.name ≡ name.now) }
+    {
+        self.named_at(self.left, name)
+    }
+
+    /// Takes the last text of a mark as that of the last left end.
+    pub(crate) fn take_left(&mut self, mark: u64) {
+        self.left = self.spot(mark).place;
+    }
+
+    /// Keeps a text, where there is memory for it.
+    pub(crate) fn keep(&mut self, text: EndText, mark: u64) {
+        if self.spots.is_empty() {
+            self.make_room();
+        }
+        let place = self.next;
+        if self.put(place, text) {
+            self.next = if place < self.last { place + 1 } else { 0 };
+            self.point_to(place, mark);
+        }
+    }
+
+    /// The text at a place, if it has this name.
+    fn named_at(&self, place: usize, name: &PointName) -> Option<&EndText>
+        ensures { IfSome result (λ kept. kept.now.name ≡ name.now) }
+    {
+        match self.kept.get(place) {
+            Some(kept) => {
                 if is_same(&kept.name, name) {
                     Some(kept)
                 } else {
                     None
                 }
             }
-            _ => None,
+            None => None,
         }
     }
 
-    /// Keeps a text, in the place of another one in its slot, where there is memory for slots.
-    pub(crate) fn keep(&mut self, text: EndText, mark: u64) {
-        if self.slots.len() < self.wanted {
-            self.make_slots();
+    /// Puts a text at a place, in the place of the one there or behind all others, and tells whether it could.
+    fn put(&mut self, place: usize, text: EndText) -> bool {
+        if let Some(kept) = self.kept.get_mut(place) {
+            *kept = text;
+            return true;
         }
+        self.kept.push(text).is_ok()
+    }
+
+    /// The spot of a mark.
+    fn spot(&self, mark: u64) -> Spot {
+        match self.spots.get(self.slot_of(mark)) {
+            Some(spot) => *spot,
+            None => NOWHERE,
+        }
+    }
+
+    /// Has the spot of a mark tell of a place.
+    fn point_to(&mut self, place: usize, mark: u64) {
         let slot = self.slot_of(mark);
-        if let Some(kept) = self.slots.get_mut(slot) {
-            *kept = Some(text);
+        if let Some(spot) = self.spots.get_mut(slot) {
+            *spot = Spot { mark, place };
         }
     }
 
-    /// The slot of the names with a mark: as far among the slots as the mark among all marks.
+    /// Where the spot of a mark is: as far among the spots as the mark among all marks.
     fn slot_of(&self, mark: u64) -> usize {
-        (mark.wrapping_mul(self.slots.len() as u64) >> 32) as usize
+        (mark.wrapping_mul(self.spots.len() as u64) >> 32) as usize
     }
 
-    /// Makes the slots at once, or says that none are wanted any more.
-    fn make_slots(&mut self) {
-        if self.slots.reserve(self.wanted).is_err() {
-            self.wanted = 0;
-        }
-        for _ in self.slots.len()..self.wanted {
-            if self.slots.push(None).is_err() {
-                return;
-            }
-        }
+    /// Makes room for all texts and their spots at once. Without it no text is found again, or room is made in smaller
+    /// steps.
+    fn make_room(&mut self) {
+        let texts = self.last.saturating_add(1);
+        let _ = self.kept.reserve(texts);
+        let _ = self.spots.resize(texts.saturating_mul(2), NOWHERE);
     }
 }
 

@@ -6,6 +6,7 @@ pub mod edges_reply;
 mod end_texts;
 pub mod fault;
 pub mod finishing;
+mod line_text;
 pub mod locating;
 pub mod pending_tiles;
 mod place_text;

@@ -1,5 +1,5 @@
 //! A place as text.
-ghost use Rattle.std.specs.Prelude.{◌≡◌, ℕ, ◌+◌, ◌^◌, ◌≤◌, List, ◌++◌, drop, unsigned_abs};
+ghost use Rattle.std.specs.Prelude.{◌≡◌, ℕ, ◌+◌, ◌^◌, ◌≤◌, List, ◌++◌, drop, length, unsigned_abs};
 ghost use Rattle.std.specs.Fmt.{signed_decimal};
 ghost use Rattle.exact_point.specs.Place.{place};
 ghost use Rattle.version_core.specs.Edges.{point_text};
@@ -9,7 +9,7 @@ use itoa::write_digits;
 use std::marker::Model;
 
 /// How many bytes there are for a text: its three numbers have a sign and 19 digits at most, with a space between them.
-const TEXT_MAX: usize = 64;
+pub(crate) const TEXT_MAX: usize = 64;
 
 /// A text that ends with the last byte, as it is put down from its end to its start.
 #[derive(Debug, Drop)]
@@ -40,18 +40,20 @@ impl PlaceText {
         PlaceText { bytes, start }
     }
 
-    pub(crate) fn as_bytes(&self) -> &[u8]
-        ensures { result.now ≡ self.now }
+    /// All bytes, and where among them the text starts.
+    pub(crate) fn parts(&self) -> (&[u8; TEXT_MAX], usize)
+        ensures text { drop result.1 result.0.now ≡ self.now }
+        ensures within { result.1 ≤ TEXT_MAX }
     {
-        &self.bytes[self.start..]
+        (&self.bytes, self.start)
     }
 }
 
 /// Puts a number down before a place among the bytes, and tells where it starts.
-fn put_number(bytes: &mut [u8; TEXT_MAX], end: usize, n: i128) -> usize
+pub(crate) fn put_number(bytes: &mut [u8], end: usize, n: i128) -> usize
     requires small { unsigned_abs n ≤ 2 ^ 63 }
     requires room { 20 ≤ end }
-    requires within { end ≤ TEXT_MAX }
+    requires within { end ≤ length bytes.old }
     ensures before { result ≤ end }
     ensures short { end ≤ result + 20 }
     ensures written { drop result bytes.new ≡ signed_decimal n ++ drop end bytes.old }

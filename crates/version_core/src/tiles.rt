@@ -199,8 +199,11 @@ impl TileRow {
         requires { number < column_count }
         ensures { result ≡ (get_or marks.now number false && is_some (get_or self.now number None)) }
     {
+        if !marks[number] {
+            return false;
+        }
         match self.tile_at(number) {
-            Some(_) => marks[number],
+            Some(_) => true,
             None => false,
         }
     }
@@ -210,8 +213,11 @@ impl TileRow {
         requires { number < column_count }
         ensures { result ≡ (not (get_or marks.now number false) && is_some (get_or self.now number None)) }
     {
+        if marks[number] {
+            return false;
+        }
         match self.tile_at(number) {
-            Some(_) => !marks[number],
+            Some(_) => true,
             None => false,
         }
     }

@@ -1,4 +1,4 @@
-use Rattle.std.proofs.Common.{length, map, take_all, subst, sym, arith}
+use Rattle.std.proofs.Common.{◌++◌, length, map, take_all, subst, sym, ap, ◌∙◌, arith}
 use Rattle.std.proofs.lemmas.List.{length-map}
 use Rattle.overlay_terms.specs.Plane.{Point}
 use Rattle.exact_point.specs.NamedPiece.{ends_of}
@@ -7,15 +7,15 @@ use Rattle.version_core.proofs.EdgeLemmas.{IsBegun, begun, begun_step, text_of_a
 use Rattle.version_core.proofs.edges_reply.written.Goals as goal
 
 pub loop-piece-init : goal.loop-piece-init
-loop-piece-init c = begun (length c.args.pieces.now) c.in_ok-text.text.items c.in_ok-text.ensures
+loop-piece-init c = begun (length c.args.pieces.now) c.reserve.new.self.items (c.reserve.ensures.items ∙ c.in_ok-text.ensures)
 
 pub loop-piece-preserved : goal.loop-piece-preserved
 loop-piece-preserved c =
     let pieces = c.args.pieces.now in
     let a : Point × Point = ends_of c.piece-item.result in
-    begun_step (length pieces) (map ends_of pieces) c.loop-piece.piece-index a c.loop-piece.text.items c.push_line.new.text.items
+    begun_step (length pieces) (map ends_of pieces) c.loop-piece.piece-index a c.loop-piece.text.items c.extend_from_slice.new.self.items c.put_line.new.line
     (omega (arith, length-map pieces ends_of, c.loop-piece-test.true)) (mapped_at ends_of pieces c.loop-piece.piece-index c.piece-item.result c.piece-item.is) c.loop-piece.invariant
-    c.in_ok-push_line.ensures
+    c.put_line.ensures (c.in_ok-extend_from_slice.ensures.items ∙ ap (λ t. c.loop-piece.text.items ++ t) c.as_bytes.ensures)
 
 pub returns : goal.returns
 returns c =
