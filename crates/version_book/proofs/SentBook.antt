@@ -14,7 +14,7 @@ use Rattle.version_book.specs.contracts.turns.Turns as turns
 locked_send : (J R : RattleType) (g : naming.Ghosts J.Denot) → IsSend J → IsSend R → IsSend (locked.the_row J R g)
 locked_send J R g j s =
     let O = locked.the_type J R g in
-    recorded_send _ _ _ O.to_one (struct_send (shape O) (log_send J R g j s, (standing.the_field_send, tt)))
+    recorded_send _ _ _ O.to_one (struct_send (shape O) (log_send J R g j s, (standing.the_field_send, (search (sendable, crosses), tt))))
 
 turns_sync : (J R : RattleType) (g : naming.Ghosts J.Denot) → IsSend J → IsSend R → IsSync (Struct (shape (turns.the_type J R g)))
 turns_sync J R g j s = let h = locked_send J R g j s in search (sendable, crosses) depth 20

@@ -1,7 +1,7 @@
 -- Which tiles can be handed out.
-use Rattle.std.specs.Prelude.{◌≡◌, ◌<◌, ℕ, IsTrue, true, false, List, None}
+use Rattle.std.specs.Prelude.{◌≡◌, ◌<◌, ℕ, IsTrue, IfSome, slice_get, true, false, List, None}
 use Rattle.overlay_terms.specs.Column.{column_count}
-use Rattle.overlay_terms.specs.Layers.{Name}
+use Rattle.overlay_terms.specs.Layers.{Layer, Name}
 use Rattle.overlay_terms.specs.Commands.{stands_as_derived}
 use Rattle.overlay_terms.specs.Histories.{Version, tile_at}
 use Rattle.version_core.specs.Finish.{IsPending}
@@ -18,6 +18,11 @@ pub record IsFree (version : Version) (held : List HeldTile) (name : Name) (colu
 abbrev pub AreHeld : Version → List HeldTile → Name → Type 0
 AreHeld version held name =
     (column : ℕ) → column < column_count → tile_at version.tiles name column ≡ None → is_held name column held ≡ true
+
+-- the same of the layer at a place, counted from 0, where a derived one stands there
+abbrev pub AreHeldAt : Version → List HeldTile → ℕ → Type 0
+AreHeldAt version held place =
+    IfSome (slice_get version.layers place) (λ (layer : Layer). IsTrue (stands_as_derived version.layers layer.name) → AreHeld version held layer.name)
 
 -- no tile can be handed out: each pending one is handed out or marked
 abbrev pub AllAreHeld : Version → List HeldTile → Type 0

@@ -31,12 +31,18 @@ pub mod telling;
 pub struct LockedBook<J: Naming, R: Wait + Drop> {
     log: LockedLog<J, R>,
     standing: Standing,
+    /// Where the layer stood whose tile was handed out last: there the next one is looked for first.
+    near: usize,
 }
 
 impl<J: Naming, R: Wait + Drop> LockedBook<J, R> {
     /// A book that begins with a log.
     pub fn new(log: LockedLog<J, R>, standing: Standing) -> LockedBook<J, R> {
-        LockedBook { log, standing }
+        LockedBook {
+            log,
+            standing,
+            near: 0,
+        }
     }
 
     /// Accepts a command of a session: one entry, or none.

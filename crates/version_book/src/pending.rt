@@ -4,7 +4,7 @@ ghost use Rattle.overlay_terms.specs.Column.{column_count};
 ghost use Rattle.overlay_terms.specs.Commands.{stands_as_derived};
 ghost use Rattle.overlay_terms.specs.Histories.{tile_at};
 ghost use Rattle.overlay_terms.specs.Tiles.{input_of};
-ghost use Rattle.version_book.specs.Free.{AllAreHeld, AreHeld, IsFree};
+ghost use Rattle.version_book.specs.Free.{AllAreHeld, AreHeld, AreHeldAt, IsFree};
 ghost use Rattle.version_book.specs.HeldTiles.{is_held};
 
 use crate::held_tiles::HeldTiles;
@@ -14,18 +14,40 @@ use plane_base::{COLUMN_COUNT, Column};
 use std::alloc::{AllocError, Global};
 use version_core::version::Version;
 
-/// A pending tile of a version that is neither handed out nor marked.
-pub fn free<'a>(version: &'a Version, held: &HeldTiles) -> Option<(&'a Name, Column)>
+/// A pending tile of a version that is neither handed out nor marked. The layer at a place is looked at first.
+pub fn free<'a>(version: &'a Version, held: &HeldTiles, near: usize) -> Option<(&'a Name, Column)>
     ensures some { IfSome result (λ r. IsFree version.now held.now.list.items r.0.now r.1) }
     ensures none { IfNone result (AllAreHeld version.now held.now.list.items) }
 {
+    match free_at(version, held, near) {
+        Some(found) => Some(found),
+        None => free_of_all(version, held),
+    }
+}
+
+// The same among all layers, in their order.
+fn free_of_all<'a>(version: &'a Version, held: &HeldTiles) -> Option<(&'a Name, Column)>
+    ensures some { IfSome result (λ r. IsFree version.now held.now.list.items r.0.now r.1) }
+    ensures none { IfNone result (AllAreHeld version.now held.now.list.items) }
+{
+    for place in 0..version.layers().len() {
+        if let Some(found) = free_at(version, held, place) {
+            return Some(found);
+        }
+    }
+    None
+}
+
+// The same among the tiles of the layer at a place.
+fn free_at<'a>(version: &'a Version, held: &HeldTiles, place: usize) -> Option<(&'a Name, Column)>
+    ensures some { IfSome result (λ r. IsFree version.now held.now.list.items r.0.now r.1) }
+    ensures none { IfNone result (AreHeldAt version.now held.now.list.items place) }
+{
     let layers = version.layers();
-    for place in 0..layers.len() {
-        if let Some((name, _layer)) = layers.at(place) {
-            if layers.stands_as_derived(name) {
-                if let Some(column) = free_column(version, held, name) {
-                    return Some((name, column));
-                }
+    if let Some((name, _layer)) = layers.at(place) {
+        if layers.stands_as_derived(name) {
+            if let Some(column) = free_column(version, held, name) {
+                return Some((name, column));
             }
         }
     }

@@ -23,7 +23,7 @@ use crate::locked_book::telling::{
 };
 use crate::reporter::Reporter;
 use crate::standing::Standing;
-use crate::turns::Turns;
+use crate::turns::{Ended, Turns};
 use book_history::fault::{BookFault, ToldFault};
 use book_history::seen_log::{Head, Naming, SeenLog};
 use book_lock::locked_log::LockedLog;
@@ -32,7 +32,7 @@ use layer_book::batch::Batch;
 use layer_book::batch_fault::BatchFault;
 use layer_book::command::Command;
 use layer_expr::name::Name;
-use std::alloc::Global;
+use std::alloc::{AllocError, Global};
 use std::sync::{Arc, Wait};
 use tile_build::built::Built;
 use version_core::version::Version;
@@ -139,6 +139,7 @@ impl<J: Naming, R: Wait + Drop> Shared<J, R> {
         ensures err { IfErr result (λ fault. fault ≡ no_memory) }
     {
         let mut turn = self.turns.behind(rt, &Awaited::Tile);
+        turn.ended = Ended::Nothing;
         turn.book.take(alloc)
     }
 
@@ -159,10 +160,12 @@ impl<J: Naming, R: Wait + Drop> Shared<J, R> {
         ensures refused { IfErr result (λ e. (e.2 ≡ no_memory) ⊎ (e.2 ≡ BookFault.Gone)) }
     {
         let mut turn = self.turns.next(rt);
+        let name: Result<Name, AllocError> = job.name().clone();
         let kept = match turn.book.finish(alloc, job, built) {
             Ok(kept) => kept,
             Err(back) => return Err(back),
         };
+        turn.ended = Ended::by_tile(&turn.book, &name, kept);
         let log = turn.book.end();
         Ok((kept, log))
     }
@@ -174,6 +177,7 @@ impl<J: Naming, R: Wait + Drop> Shared<J, R> {
         requires { job.book ≡ J.book }
     {
         let mut turn = self.turns.next(rt);
+        turn.ended = Ended::Sessions;
         turn.book.give_back(job);
     }
 
@@ -196,7 +200,9 @@ impl<J: Naming, R: Wait + Drop> Shared<J, R> {
         // It has seen some version: the clauses rest on that.
         let _ = me.number();
         let mut turn = self.turns.behind(rt, &Awaited::Built(name));
-        tell_built(&mut turn.book, me, name)
+        let told = tell_built(&mut turn.book, me, name);
+        turn.ended = Ended::by_answer(&told);
+        told
     }
 
     /// Waits until the newest version that a session has seen is durable, and answers the durable number.
@@ -218,10 +224,12 @@ impl<J: Naming, R: Wait + Drop> Shared<J, R> {
         let _ = me.number();
         let number = me.newest();
         if !self.store {
-            let turn = self.turns.next(rt);
+            let mut turn = self.turns.next(rt);
+            turn.ended = Ended::Nothing;
             return tell_no_store(&turn.book, me);
         }
-        let turn = self.turns.behind(rt, &Awaited::Durable(number));
+        let mut turn = self.turns.behind(rt, &Awaited::Durable(number));
+        turn.ended = Ended::Nothing;
         tell_durable(&turn.book, me, number)
     }
 
@@ -244,7 +252,8 @@ impl<J: Naming, R: Wait + Drop> Shared<J, R> {
         ensures same { me.new.book ≡ me.old.book }
     {
         let given = me.given();
-        let turn = self.turns.behind(rt, &Awaited::News(given));
+        let mut turn = self.turns.behind(rt, &Awaited::News(given));
+        turn.ended = Ended::Nothing;
         tell_news(&turn.book, me)
     }
 
@@ -268,6 +277,7 @@ impl<J: Naming, R: Wait + Drop> Shared<J, R> {
         // What the reporter has seen is a log with a first entry: the clauses rest on that.
         let _ = me.given();
         let mut turn = self.turns.next(rt);
+        turn.ended = Ended::Sessions;
         report(&mut turn.book, alloc, me, number)
     }
 
@@ -279,6 +289,7 @@ impl<J: Naming, R: Wait + Drop> Shared<J, R> {
         // What the reporter has seen is a log with a first entry: the clauses rest on that.
         let _ = me.given();
         let mut turn = self.turns.next(rt);
+        turn.ended = Ended::Sessions;
         store_failed(&mut turn.book, fault);
     }
 

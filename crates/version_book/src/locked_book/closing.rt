@@ -50,6 +50,7 @@ pub(crate) fn into_closed<J: Naming, R: Wait + Drop>(locked: LockedBook<J, R>) -
     let LockedBook {
         log,
         standing: _standing,
+        near: _,
     } = locked;
     log.into_closed()
 }

@@ -52,6 +52,7 @@ impl<J: Naming, R: Wait + Drop> LockedBook<J, R> {
             job.end();
             return Err(NO_MEMORY);
         }
+        self.near = self.log.last().version.layers().index_of(job.name());
         Ok(Some(job))
     }
 
@@ -71,7 +72,7 @@ impl<J: Naming, R: Wait + Drop> LockedBook<J, R> {
             (λ r. IsFree (newest_in self.now.log) self.now.standing.held.list.items r.0.now r.1) }
         ensures none { IfNone result (AllAreHeld (newest_in self.now.log) self.now.standing.held.list.items) }
     {
-        free(&self.log.last().version, &self.standing.held)
+        free(&self.log.last().version, &self.standing.held, self.near)
     }
 
     // A copy of the name of a derived layer, and the input of its tile.
