@@ -26,6 +26,7 @@ pub mod LastNodeLemmas
 pub mod PassLemmas
 pub mod BeginLemmas
 pub mod AheadLemmas
+pub mod RankLemmas
 pub mod PutLemmas
 pub mod TakeLemmas
 pub mod KnownLemmas

@@ -8,8 +8,8 @@ use Rattle.std.specs.Ordering.{int_cmp, is_gt, is_ge, MatchOrdering}
 use Rattle.std.specs.declared.cmp.Ordering.{Ordering}
 use Rattle.std.specs.declared.cmp.Ordering.TheVariants.{Less, Equal, Greater}
 use Rattle.std.proofs.lemmas.Int.{ints, by_lt_z}
-use Rattle.std.proofs.lemmas.Bool.{false≢true, cases_eq}
-use Rattle.std.proofs.lemmas.List.{get_or-take, get_or-drop, length-take-le, length-drop, take-append-drop, drop-drop, map-append}
+use Rattle.std.proofs.lemmas.Bool.{false≢true, cases_eq, cases_lt}
+use Rattle.std.proofs.lemmas.List.{get_or-take, get_or-drop, get_or_read, length-take-le, length-drop, take-append-drop, drop-drop, map-append}
 use Rattle.std.proofs.lemmas.List.Elements.{All-take, All-map}
 use Rattle.std.proofs.lemmas.List.Sums.{prefix_len_passes, prefix_len_stops}
 use Rattle.overlay_terms.specs.Plane.{Point, height_over, side_of, is_on}
@@ -18,7 +18,7 @@ use Rattle.crossing_sweep.specs.Status.{SidesFallAlong}
 use Rattle.crossing_sweep.specs.Step.{IsSplitAt}
 use Rattle.crossing_sweep.specs.Member.{seg_of, segs_of}
 use Rattle.crossing_sweep.specs.declared.member.Member.{Member}
-use Rattle.crossing_sweep.proofs.Pairs.{all_second, pairs_second}
+use Rattle.crossing_sweep.proofs.Pairs.{all_first, all_second, pairs_first, pairs_second}
 use Rattle.crossing_sweep.proofs.StartLemmas.{unmap_pairs}
 
 -- ---- tests of a height
@@ -178,3 +178,81 @@ module _ (r : Point) (ms : List Member) (low count : ℕ) (falls : SidesFallAlon
         where
           size : (a b : ℕ) → b ≡ a + b - a
           size a b = omega arith
+
+-- ---- a range that holds the end of those under a place
+module _ (r : Point) (ms : List Member) (falls : SidesFallAlong r (segs_of ms)) (k : ℕ) (x : Member) (few : k < length ms) (is : x ≡ get_or ms k x) where
+  told_there : (b : Bool) → is_under r x ≡ b → (d : Member) → is_under r (get_or ms k d) ≡ b
+  told_there b e d = subst (λ m. is_under r m ≡ b) (get_or_read ms k x few is d) e
+
+  -- a member under the place, and those before it
+  pub under_up_to : is_under r x ≡ true → All (λ m. pos 0 <ℤ height_over m.unit.seg r) (take (k + 1) ms)
+  under_up_to under i d l =
+      let up : i < k + 1 = omega (arith, l, length-take-le (k + 1) ms (omega (arith, few))) in
+      subst (λ m. pos 0 <ℤ height_over m.unit.seg r) (sym (get_or-take (k + 1) ms i d up)) (under_height r (get_or ms i d) (under_falls r ms falls i k d (omega (arith, up)) few (told_there true under d)))
+
+  -- a member that is not under the place, and those after it
+  pub not_under_from : is_under r x ≡ false → All (λ m. height_over m.unit.seg r ≤ℤ pos 0) (drop k ms)
+  not_under_from over i d l =
+      let inside : k + i < length ms = omega (arith, l, length-drop k ms, few) in
+      subst (λ m. height_over m.unit.seg r ≤ℤ pos 0) (sym (get_or-drop k ms i d)) (not_under_height r (get_or ms (k + i) d) (by inside (told (is_under r (get_or ms (k + i) d)))))
+    where
+      by : k + i < length ms → Told (is_under r (get_or ms (k + i) d)) → is_under r (get_or ms (k + i) d) ≡ false
+      by inside (yes e) = absurd (false≢true (sym (told_there false over d) ∙ under_falls r ms falls k (k + i) d (omega arith) inside e))
+      by inside (no e) = e
+
+-- the first members of a status end where those under the place do, and so do the first of the others: together they end there, too
+module _ (r : Point) (ms : List Member) (low high count : ℕ) (order : low ≤ high) (few : high ≤ length ms) (part : count ≤ length (slice_range ms low high)) where
+  size : length (slice_range ms low high) ≡ high - low
+  size = length-take-le (high - low) (drop low ms) (omega (arith, few, order, length-drop low ms))
+
+  inner : (i : ℕ) (d : Member) → i < high - low → get_or (slice_range ms low high) i d ≡ get_or ms (low + i) d
+  inner i d l = get_or-take (high - low) (drop low ms) i d l ∙ get_or-drop low ms i d
+
+  module _ (P : Member → Type 0) where
+    pub joined_first : All P (take low ms) → All P (take count (slice_range ms low high)) → All P (take (low + count) ms)
+    joined_first first more i d l = by (cases_lt i low)
+      where
+        up : i < low + count
+        up = omega (arith, l, length-take-le (low + count) ms (omega (arith, part, size, few, order)))
+
+        by : (i < low) ⊎ (low ≤ i) → P (get_or (take (low + count) ms) i d)
+        by (inl h) = subst P (get_or-take low ms i d h ∙ sym (get_or-take (low + count) ms i d up)) (first i d (omega (arith, h, length-take-le low ms (omega (arith, few, order)))))
+        by (inr h) =
+            let k : ℕ = i - low in
+            let inside : k < count = omega (arith, h, up) in
+            let there : low + k ≡ i = omega (arith, h) in
+            subst P (get_or-take count (slice_range ms low high) k d inside ∙ inner k d (omega (arith, inside, part, size)) ∙ ap (λ n. get_or ms n d) there ∙ sym (get_or-take (low + count) ms i d up))
+            (more k d (omega (arith, inside, part, length-take-le count (slice_range ms low high) part)))
+
+    pub joined_last : All P (drop count (slice_range ms low high)) → All P (drop high ms) → All P (drop (low + count) ms)
+    joined_last more last i d l = by (cases_lt (low + count + i) high)
+      where
+        inside : low + count + i < length ms
+        inside = omega (arith, l, length-drop (low + count) ms, part, size, few, order)
+
+        by : (low + count + i < high) ⊎ (high ≤ low + count + i) → P (get_or (drop (low + count) ms) i d)
+        by (inl h) =
+            let there : low + (count + i) ≡ low + count + i = omega arith in
+            subst P (get_or-drop count (slice_range ms low high) i d ∙ inner (count + i) d (omega (arith, h)) ∙ ap (λ n. get_or ms n d) there ∙ sym (get_or-drop (low + count) ms i d))
+            (more i d (omega (arith, h, size, part, length-drop count (slice_range ms low high))))
+        by (inr h) =
+            let k : ℕ = low + count + i - high in
+            let there : high + k ≡ low + count + i = omega (arith, h) in
+            subst P (get_or-drop high ms k d ∙ ap (λ n. get_or ms n d) there ∙ sym (get_or-drop (low + count) ms i d)) (last k d (omega (arith, h, inside, length-drop high ms)))
+
+-- the members of a range fall along the place, too
+pub range_falls : (r : Point) (ms : List Member) (low high : ℕ) → SidesFallAlong r (segs_of ms) → SidesFallAlong r (segs_of (slice_range ms low high))
+range_falls r ms low high falls = record {
+  not_above = pairs_first (λ a b. height_over a r ≤ℤ pos 0 → height_over b r ≤ℤ pos 0) (segs_of (slice_range ms low high)) (segs_of later) all.not_above;
+  below = pairs_first (λ a b. height_over a r <ℤ pos 0 → height_over b r <ℤ pos 0) (segs_of (slice_range ms low high)) (segs_of later) all.below;
+  held = all_first (λ a. height_over a r ≡ pos 0 → IsTrue (is_on a r)) (segs_of (slice_range ms low high)) (segs_of later) all.held;
+}
+  where
+    rest : List Member
+    rest = drop low ms
+
+    later : List Member
+    later = drop (high - low) rest
+
+    all : SidesFallAlong r (segs_of (slice_range ms low high) ++ segs_of later)
+    all = subst (λ us. SidesFallAlong r us) (ap segs_of (sym (take-append-drop (high - low) rest)) ∙ map-append seg_of (take (high - low) rest) later) (rest_falls r ms low 0 falls)

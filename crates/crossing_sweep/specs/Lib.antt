@@ -13,6 +13,8 @@ pub mod LastNode
 pub mod Passing
 pub mod Beginning
 pub mod Ahead
+pub mod Rank
+pub mod RankedPlace
 pub mod Start
 pub mod Member
 pub mod Rows

@@ -1,7 +1,7 @@
 //! Where a status passes under a place, through it and over it.
 ghost use Rattle.std.specs.Prelude.{pos, ◌<ℤ◌, ◌≤ℤ◌, ◌≤◌, ◌≡◌, All, length, take, drop};
 ghost use Rattle.std.specs.List.{prefix_len, slice_range};
-ghost use Rattle.std.specs.Ordering.{is_ge};
+ghost use Rattle.std.specs.Ordering.{is_ge, is_gt};
 ghost use Rattle.overlay_terms.specs.Plane.{height_over, side_of};
 ghost use Rattle.exact_point.specs.Place.{place};
 ghost use Rattle.crossing_sweep.specs.Status.{SidesFallAlong};
@@ -12,25 +12,51 @@ use crate::member::Member;
 use exact_point::point::HPoint;
 use exact_point::side::side;
 
-/// Where the members of a status that hold a place begin and end.
-pub(crate) fn bundle_at(status: &[Member], at: &HPoint) -> (usize, usize)
+/// Where the members of a status that hold a place begin and end. It is looked for at a hint first: the nodes of
+/// a border come from the bottom to the top, so the next one mostly lies where the status changed last.
+pub(crate) fn bundle_at(status: &[Member], at: &HPoint, hint: usize) -> (usize, usize)
     ensures in_order { result.0 ≤ result.1 }
     ensures few { result.1 ≤ length status.now }
     ensures split { SidesFallAlong (place at.now) (segs_of status.now) →
         IsSplitAt (place at.now) (segs_of (take result.0 status.now)) (segs_of (slice_range status.now result.0 result.1)) (segs_of (drop result.1 status.now)) }
 {
-    let low = count_under(status, at);
+    let low = count_under(status, at, hint);
     let count = count_not_over(&status[low..], at);
     (low, low + count)
 }
 
 /// How many members of a status pass under a place.
-fn count_under(status: &[Member], at: &HPoint) -> usize
+fn count_under(status: &[Member], at: &HPoint, hint: usize) -> usize
     ensures few { result ≤ length status.now }
     ensures under { SidesFallAlong (place at.now) (segs_of status.now) → All (λ m. pos 0 <ℤ height_over m.unit.seg (place at.now)) (take result status.now) }
     ensures not_under { SidesFallAlong (place at.now) (segs_of status.now) → All (λ m. height_over m.unit.seg (place at.now) ≤ℤ pos 0) (drop result status.now) }
 {
-    status.partition_point(|member| side(&member.unit.seg, at).is_gt())
+    let (low, high) = narrowed(status, at, hint.min(status.len()));
+    low + status[low..high].partition_point(|member| is_under(member, at))
+}
+
+/// A range of a status that holds the end of those that pass under a place: an empty one if that is the hint.
+fn narrowed(status: &[Member], at: &HPoint, hint: usize) -> (usize, usize)
+    requires { hint ≤ length status.now }
+    ensures in_order { result.0 ≤ result.1 }
+    ensures few { result.1 ≤ length status.now }
+    ensures under { SidesFallAlong (place at.now) (segs_of status.now) → All (λ m. pos 0 <ℤ height_over m.unit.seg (place at.now)) (take result.0 status.now) }
+    ensures not_under { SidesFallAlong (place at.now) (segs_of status.now) → All (λ m. height_over m.unit.seg (place at.now) ≤ℤ pos 0) (drop result.1 status.now) }
+{
+    if hint > 0 && !is_under(&status[hint - 1], at) {
+        return (0, hint - 1);
+    }
+    if hint < status.len() && is_under(&status[hint], at) {
+        return (hint + 1, status.len());
+    }
+    (hint, hint)
+}
+
+/// Whether a member passes under a place.
+fn is_under(member: &Member, at: &HPoint) -> bool
+    ensures { result ≡ is_gt (side_of member.now.unit.seg (place at.now)) }
+{
+    side(&member.unit.seg, at).is_gt()
 }
 
 /// How many members of a status, from the lowest one on, do not pass over a place. They are looked at

@@ -6,8 +6,11 @@ ghost use Rattle.overlay_terms.specs.Plane.{whole};
 ghost use Rattle.arrange.specs.Arrangement.{is_in_closed_column};
 ghost use Rattle.arrange.specs.NamedPlaces.{own_names, named_cmp};
 ghost use Rattle.crossing_sweep.specs.Ahead.{AreKnownPlaces, AreOffered, known_entry};
+ghost use Rattle.crossing_sweep.specs.RankedPlace.{named_of, ranked_entry};
 
 use crate::ahead::Ahead;
+use crate::rank::rank;
+use crate::ranked_place::RankedPlace;
 use arrange::closed_column::is_within;
 use arrange::named_place::NamedPlace;
 use arrange::tile_input::TileInput;
@@ -37,12 +40,27 @@ fn places_in_order(alloc: Global, input: &TileInput) -> Result<Vec<NamedPlace>, 
     }
     places.sort_unstable();
     places.dedup();
-    Ok(places)
+    let list = named(alloc, &places)?;
+    Ok(list)
+}
+
+/// The places with their names alone.
+fn named(alloc: Global, places: &[RankedPlace]) -> Result<Vec<NamedPlace>, AllocError>
+    ensures { IfOk result (λ list. list.items ≡ map named_of places.now) }
+{
+    let mut list = Vec::with_capacity(alloc, places.len())?;
+    for place in places {
+        list.push(NamedPlace {
+            name: place.name,
+            at: place.at,
+        })?;
+    }
+    Ok(list)
 }
 
 /// Offers the ends of a segment and where the column's borders cut it.
-fn offer_own(places: &mut Vec<NamedPlace>, seg: &Seg, column: Column) -> Result<(), AllocError>
-    ensures { OnOk result ((names : List PointName) → AreOffered column names (map known_entry places.old.items) → AreOffered column (names ++ own_names seg.now column) (map known_entry places.new.items)) }
+fn offer_own(places: &mut Vec<RankedPlace>, seg: &Seg, column: Column) -> Result<(), AllocError>
+    ensures { OnOk result ((names : List PointName) → AreOffered column names (map ranked_entry places.old.items) → AreOffered column (names ++ own_names seg.now column) (map ranked_entry places.new.items)) }
 {
     offer_end(places, seg.left(), column)?;
     offer_end(places, seg.right(), column)?;
@@ -52,8 +70,8 @@ fn offer_own(places: &mut Vec<NamedPlace>, seg: &Seg, column: Column) -> Result<
 }
 
 /// Adds an end of a segment, if it lies in the closed column. Most do not, and no exact place is made of these.
-fn offer_end(places: &mut Vec<NamedPlace>, vertex: Pt, column: Column) -> Result<(), AllocError>
-    ensures { OnOk result ((names : List PointName) → AreOffered column names (map known_entry places.old.items) → AreOffered column (names ++ PointName.Vertex vertex ∷ []) (map known_entry places.new.items)) }
+fn offer_end(places: &mut Vec<RankedPlace>, vertex: Pt, column: Column) -> Result<(), AllocError>
+    ensures { OnOk result ((names : List PointName) → AreOffered column names (map ranked_entry places.old.items) → AreOffered column (names ++ PointName.Vertex vertex ∷ []) (map ranked_entry places.new.items)) }
 {
     if !is_end_within(column, vertex) {
         return Ok(());
@@ -72,12 +90,16 @@ fn is_end_within(column: Column, vertex: Pt) -> bool
 }
 
 /// Adds the place that a name stands for, if it lies in the closed column.
-fn offer(places: &mut Vec<NamedPlace>, name: PointName, column: Column) -> Result<(), AllocError>
-    ensures { OnOk result ((names : List PointName) → AreOffered column names (map known_entry places.old.items) → AreOffered column (names ++ name ∷ []) (map known_entry places.new.items)) }
+fn offer(places: &mut Vec<RankedPlace>, name: PointName, column: Column) -> Result<(), AllocError>
+    ensures { OnOk result ((names : List PointName) → AreOffered column names (map ranked_entry places.old.items) → AreOffered column (names ++ name ∷ []) (map ranked_entry places.new.items)) }
 {
     if let Some(at) = name.point() {
         if is_within(column, &at) {
-            places.push(NamedPlace { name, at })?;
+            places.push(RankedPlace {
+                name,
+                rank: rank(&at),
+                at,
+            })?;
         }
     }
     Ok(())

@@ -9,6 +9,8 @@ mod member;
 mod members_after;
 mod pass;
 mod progress;
+mod rank;
+mod ranked_place;
 mod row;
 mod search;
 mod start;

@@ -80,6 +80,7 @@ impl<'a> Pass<'a> {
             starts,
             entered: 0,
             status,
+            hint: 0,
             search: Search {
                 ahead,
                 listed,

@@ -21,6 +21,8 @@ pub(crate) struct Progress {
     pub starts: Vec<Start>,
     pub entered: usize,
     pub status: Vec<Member>,
+    /// So many members lie under the place where the status changed last, or hold it.
+    pub hint: usize,
     pub search: Search,
     pub rows: Vec<Row>,
     /// The names of the nodes that were passed, in their order.
@@ -46,7 +48,7 @@ impl Progress {
         ensures names { self.new.names ≡ self.old.names }
     {
         let coming = &self.starts[self.entered..];
-        let (low, high) = bundle_at(&self.status, at);
+        let (low, high) = bundle_at(&self.status, at, self.hint);
         close(&mut self.rows, &self.status[low..high], begin)?;
         let entered = count_entering(coming, at);
         let mut stay = turned(
@@ -64,6 +66,7 @@ impl Progress {
         self.search
             .test_new(within, input.column(), at, &self.status, low, top)?;
         self.entered += entered;
+        self.hint = top;
         Ok(())
     }
 }

@@ -2,18 +2,23 @@
 ghost use Rattle.std.specs.Prelude.{◌≡◌};
 ghost use Rattle.std.specs.declared.cmp.Ordering.TheVariants.{Less};
 ghost use Rattle.overlay_terms.specs.Plane.{whole_cmp};
+ghost use Rattle.exact_point.specs.Place.{place};
+ghost use Rattle.crossing_sweep.specs.Rank.{IsRank};
 
+use crate::rank::ranked_cmp;
 use arrange::unit::Unit;
 use exact_point::crossing::direction_cmp;
 use exact_point::point::HPoint;
 use std::cmp::Ordering;
 
-/// A unit and the first place of a closed column on it. The order is by that place, then by
+/// A unit and the first place of a closed column on it, with its rank. The order is by that place, then by
 /// direction, the vertical one first.
 #[derive(Clone, Copy, Debug)]
 pub(crate) struct Start {
     pub at: HPoint,
+    pub rank: i64,
     pub unit: Unit,
+    pub ghost ranked: { ∥ IsRank rank (place at) ∥₁ },
     pub ghost ahead: { whole_cmp unit.seg.left unit.seg.right ≡ Less },
 }
 
@@ -61,7 +66,7 @@ impl Ord for Start {
     ghost matches_eq = { λ p q. refl };
 
     fn cmp(&self, other: &Start) -> Ordering {
-        let by_place = self.at.cmp(&other.at);
+        let by_place = ranked_cmp(self.rank, &self.at, other.rank, &other.at);
         if by_place.is_ne() {
             return by_place;
         }

@@ -6,6 +6,7 @@ ghost use Rattle.exact_point.specs.Place.{place};
 ghost use Rattle.crossing_sweep.specs.Passing.{IsEntry};
 ghost use Rattle.crossing_sweep.specs.Start.{AreStarts, is_met};
 
+use crate::rank::rank;
 use crate::start::Start;
 use arrange::finding_units::units;
 use arrange::tile_input::TileInput;
@@ -24,7 +25,11 @@ pub(crate) fn starts(alloc: Global, input: &TileInput) -> Result<Vec<Start>, All
     for unit in &units {
         if is_met(&unit.seg, input.column()) {
             let at = first_place(&unit.seg, input.column());
-            list.push(Start { at, unit: *unit })?;
+            list.push(Start {
+                at,
+                rank: rank(&at),
+                unit: *unit,
+            })?;
         }
     }
     list.sort_unstable();

@@ -3,8 +3,9 @@ use Rattle.std.proofs.lemmas.Bool.{both_ways}
 use Rattle.std.proofs.lemmas.List.Elements.{Contains-push}
 use Rattle.exact_point.specs.Place.{place}
 use Rattle.arrange.specs.Arrangement.{is_in_closed_column}
-use Rattle.arrange.specs.declared.named_place.NamedPlace.{NamedPlace}
-use Rattle.crossing_sweep.specs.Ahead.{HasAdded, IsOffered, known_entry}
+use Rattle.crossing_sweep.specs.declared.ranked_place.RankedPlace.{RankedPlace}
+use Rattle.crossing_sweep.specs.Ahead.{HasAdded, IsOffered}
+use Rattle.crossing_sweep.specs.RankedPlace.{ranked_entry}
 use Rattle.crossing_sweep.proofs.PlacesInOrder.{pushed_added}
 use Rattle.crossing_sweep.proofs.AheadLemmas.{point_positive}
 use Rattle.crossing_sweep.proofs.KnownLemmas.{offered_added, offered_nowhere, has_place, within_alike}
@@ -19,22 +20,21 @@ returns-in_ok-push c = λ names h.
       in_column = sym c.is_within.ensures ∙ c.if-is_within.true;
       offered = Contains-push names c.args.name;
     } in
-    let z : NamedPlace = record { name = c.args.name; at = c.in-Some.at } in
-    let added : HasAdded (map known_entry c.args.places.now.items) c.in-Some.at c.args.name (map known_entry c.push.new.self.items) =
-    subst (λ (l : List NamedPlace). HasAdded (map known_entry c.args.places.now.items) c.in-Some.at c.args.name (map known_entry l)) (sym c.in_ok-push.ensures.items) (pushed_added c.args.places.now.items z) in
-    offered_added c.args.column names c.args.name (map known_entry c.args.places.now.items) h c.in-Some.at (map known_entry c.push.new.self.items) new c.in-Some.ensures.only added
+    let added : HasAdded (map ranked_entry c.args.places.now.items) c.in-Some.at c.args.name (map ranked_entry c.push.new.self.items) =
+    subst (λ (l : List RankedPlace). HasAdded (map ranked_entry c.args.places.now.items) c.in-Some.at c.args.name (map ranked_entry l)) (sym c.in_ok-push.ensures.items) (pushed_added c.args.places.now.items _) in
+    offered_added c.args.column names c.args.name (map ranked_entry c.args.places.now.items) h c.in-Some.at (map ranked_entry c.push.new.self.items) new c.in-Some.ensures.only added
 
 pub returns-else-is_within : goal.returns-else-is_within
 returns-else-is_within c = λ names h.
     let at = c.in-Some.at in
     let out : is_in_closed_column c.args.column (place at) ≡ false = sym c.is_within.ensures ∙ c.if-is_within.false in
-    offered_nowhere c.args.column names c.args.name (map known_entry c.args.places.now.items) h
+    offered_nowhere c.args.column names c.args.name (map ranked_entry c.args.places.now.items) h
     (λ p hp stands within.
     both_ways (is_in_closed_column c.args.column (place at)) out (within_alike c.args.column (place at) p (point_positive at) hp (c.in-Some.ensures.only p hp stands) ∙ within))
 
 pub returns-in_default : goal.returns-in_default
 returns-in_default c = λ names h.
-    offered_nowhere c.args.column names c.args.name (map known_entry c.args.places.now.items) h (λ p hp stands within. absurd (differ (c.in_default.ensures.known.1 (has_place c.args.name p hp stands))))
+    offered_nowhere c.args.column names c.args.name (map ranked_entry c.args.places.now.items) h (λ p hp stands within. absurd (differ (c.in_default.ensures.known.1 (has_place c.args.name p hp stands))))
   where
     differ : false ≡ true → ⊥
     differ e = cc

@@ -4,7 +4,7 @@ use Rattle.overlay_terms.specs.Plane.{whole}
 use Rattle.exact_point.proofs.PlaceOrder.{one_positive}
 use Rattle.exact_point.specs.declared.point_name.PointName.TheVariants.{Vertex}
 use Rattle.arrange.specs.Arrangement.{is_in_closed_column}
-use Rattle.crossing_sweep.specs.Ahead.{known_entry}
+use Rattle.crossing_sweep.specs.RankedPlace.{ranked_entry}
 use Rattle.crossing_sweep.proofs.KnownLemmas.{offered_nowhere, within_alike}
 use Rattle.crossing_sweep.proofs.known_places.offer_end.Goals as goal
 
@@ -13,5 +13,5 @@ returns-then-not-is_end_within c = λ names h.
     let v = c.args.vertex in
     let k = c.args.column in
     let out : is_in_closed_column k (whole v) ≡ false = search rules in
-    offered_nowhere k names (Vertex v) (map known_entry c.args.places.now.items) h
+    offered_nowhere k names (Vertex v) (map ranked_entry c.args.places.now.items) h
     (λ p hp stands within. both_ways (is_in_closed_column k (whole v)) out (within_alike k (whole v) p one_positive hp stands ∙ within))

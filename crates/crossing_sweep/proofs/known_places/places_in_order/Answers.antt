@@ -5,14 +5,16 @@ use Rattle.std.proofs.lemmas.List.Filters.{dedup_is}
 use Rattle.std.proofs.lemmas.Simd.{map-map}
 use Rattle.overlay_terms.specs.Plane.{Segment}
 use Rattle.overlay_terms.specs.Layers as terms
+use Rattle.exact_point.specs.declared.point.HPoint.{HPoint}
 use Rattle.exact_point.specs.declared.point_name.PointName.{PointName}
 use Rattle.arrange.specs.Marked.{marked_of}
-use Rattle.arrange.specs.NamedPlaces.{own_names, same_named}
+use Rattle.arrange.specs.NamedPlaces.{own_names}
 use Rattle.arrange.specs.declared.marked_seg.MarkedSeg.{MarkedSeg}
-use Rattle.arrange.specs.declared.named_place.NamedPlace.{NamedPlace}
-use Rattle.crossing_sweep.specs.Ahead.{AreOffered, known_entry}
+use Rattle.crossing_sweep.specs.declared.ranked_place.RankedPlace.{RankedPlace}
+use Rattle.crossing_sweep.specs.Ahead.{AreOffered, AreKnownPlaces}
+use Rattle.crossing_sweep.specs.RankedPlace.{ranked_entry, named_of, same_ranked}
 use Rattle.crossing_sweep.proofs.KnownLemmas.{own_more, known_places}
-use Rattle.crossing_sweep.proofs.PlacesInOrder.{in_order, offered_once}
+use Rattle.crossing_sweep.proofs.PlacesInOrder.{in_order, offered_once, same_entries, named_in_order}
 use Rattle.crossing_sweep.proofs.known_places.places_in_order.Goals as goal
 
 pub loop-m-preserved : goal.loop-m-preserved
@@ -21,10 +23,10 @@ loop-m-preserved c =
     let items : List MarkedSeg = c.marked-m-items.result.now in
     let i : ℕ = c.loop-m.m-index in
     let names : List PointName = flat_map (λ s. own_names s k) (map (λ (m : MarkedSeg). m.seg) (take i items)) in
-    let new : List NamedPlace = c.offer_own.new.places.items in
-    let Step : ℕ → Type 0 = λ j. (names : List PointName) → AreOffered j names (map known_entry c.loop-m.places.items) → AreOffered j (names ++ own_names c.m-item.result.seg j) (map known_entry new) in
+    let new : List RankedPlace = c.offer_own.new.places.items in
+    let Step : ℕ → Type 0 = λ j. (names : List PointName) → AreOffered j names (map ranked_entry c.loop-m.places.items) → AreOffered j (names ++ own_names c.m-item.result.seg j) (map ranked_entry new) in
     let step : Step k = subst Step c.column.ensures.value c.in_ok-offer_own.ensures in
-    subst (λ (names : List PointName). AreOffered k names (map known_entry new)) (own_more k items i c.m-item.result c.loop-m-test.true c.m-item.is) (step names c.loop-m.invariant)
+    subst (λ (names : List PointName). AreOffered k names (map ranked_entry new)) (own_more k items i c.m-item.result c.loop-m-test.true c.m-item.is) (step names c.loop-m.invariant)
 
 pub returns-clause-known : goal.returns-clause-known
 returns-clause-known c =
@@ -35,10 +37,13 @@ returns-clause-known c =
     ∙ sym (map-map (λ (m : terms.Marked). m.segment) marked_of items)
     ∙ ap (map (λ (m : terms.Marked). m.segment)) c.marked-m-items.ensures.value in
     let names : List PointName = flat_map (λ s. own_names s k) (map (λ (m : terms.Marked). m.segment) c.args.input.now.marked) in
-    let found : List NamedPlace = c.loop-m.places.items in
-    let offered : AreOffered k names (map known_entry found) = subst (λ (segs : List Segment). AreOffered k (flat_map (λ s. own_names s k) segs) (map known_entry found)) whole_list c.loop-m.invariant in
-    known_places c.args.input.now c.marked-m-items.ensures.valid (map known_entry c.dedup.new.self.items)
-    (offered_once k names found c.sort_unstable.new.self.items c.dedup.new.self.items c.sort_unstable.ensures.permutation c.sort_unstable.ensures.sorted (dedup_is same_named c.sort_unstable.new.self.items c.dedup.new.self.items c.dedup.ensures.filtered) offered)
+    let found : List RankedPlace = c.loop-m.places.items in
+    let offered : AreOffered k names (map ranked_entry found) = subst (λ (segs : List Segment). AreOffered k (flat_map (λ s. own_names s k) segs) (map ranked_entry found)) whole_list c.loop-m.invariant in
+    subst (λ (l : List (HPoint × PointName)). AreKnownPlaces c.args.input.now l) (sym (same_entries c.dedup.new.self.items c.in_ok-list.list.items (c.in_ok-list.ensures ∙ ap (map named_of) c.deref.ensures.value)))
+    (known_places c.args.input.now c.marked-m-items.ensures.valid (map ranked_entry c.dedup.new.self.items)
+    (offered_once k names found c.sort_unstable.new.self.items c.dedup.new.self.items c.sort_unstable.ensures.permutation c.sort_unstable.ensures.sorted (dedup_is same_ranked c.sort_unstable.new.self.items c.dedup.new.self.items c.dedup.ensures.filtered) offered))
 
 pub returns-clause-in_order : goal.returns-clause-in_order
-returns-clause-in_order c = in_order c.args.input.now.column [] c.loop-m.places.items c.sort_unstable.new.self.items c.dedup.new.self.items c.sort_unstable.ensures.permutation c.sort_unstable.ensures.sorted (dedup_is same_named c.sort_unstable.new.self.items c.dedup.new.self.items c.dedup.ensures.filtered)
+returns-clause-in_order c =
+    named_in_order c.dedup.new.self.items c.in_ok-list.list.items (c.in_ok-list.ensures ∙ ap (map named_of) c.deref.ensures.value)
+    (in_order c.args.input.now.column [] c.loop-m.places.items c.sort_unstable.new.self.items c.dedup.new.self.items c.sort_unstable.ensures.permutation c.sort_unstable.ensures.sorted (dedup_is same_ranked c.sort_unstable.new.self.items c.dedup.new.self.items c.dedup.ensures.filtered))

@@ -1,15 +1,23 @@
-use Rattle.std.proofs.Common.{◌≡◌, ℕ, List, take, filter, subst, sym, ap, ◌∙◌, refl, rules, Bool, true, false}
+use Rattle.std.proofs.Common.{◌≡◌, ℕ, List, take, filter, subst, sym, ap, ◌∙◌, refl, rules, arith, to_z, of_z, Bool, true, false}
+use Rattle.std.specs.Int.{w64}
+use Rattle.std.proofs.lemmas.Int.{ints, to_z-of_z}
 use Rattle.std.specs.Prelude.{All}
 use Rattle.std.proofs.lemmas.List.{take_all}
 use Rattle.std.proofs.lemmas.List.Elements.{All-push}
 use Rattle.exact_point.specs.Place.{place}
 use Rattle.arrange.specs.declared.unit.Unit.{Unit}
 use Rattle.crossing_sweep.specs.Passing.{IsEntry}
+use Rattle.crossing_sweep.specs.Rank.{IsRank}
 use Rattle.crossing_sweep.specs.Start.{is_met}
 use Rattle.crossing_sweep.specs.declared.start.Start.{Start}
 use Rattle.crossing_sweep.proofs.StartLemmas.{grown, left_out, starts_from}
 use Rattle.crossing_sweep.proofs.starts.starts.Goals as goal
 use Rattle.crossing_sweep.proofs.starts.starts.Goals.{then-is_met+in_ok-push, else-is_met}
+
+pub invariant_of-push : goal.invariant_of-push
+invariant_of-push c =
+    let there : to_z w64 (of_z w64 c.rank.result) ≡ c.rank.result = grind (arith, ints, to_z-of_z) in
+    record { ranked = subst (λ n. ∥ IsRank n (place c.first_place-at.result) ∥₁) (sym there) c.rank.ensures; ahead = search rules }
 
 pub loop-unit-preserved : goal.loop-unit-preserved
 loop-unit-preserved c =

@@ -1,0 +1,77 @@
+//! Whole numbers that tell the order of most places.
+ghost use Rattle.std.specs.Prelude.{◌≡◌, ◌^◌, ◌*◌, ◌≤◌, ◌+ℤ◌, ◌*ℤ◌, ◌≤ℤ◌, pos, neg_ℤ, unsigned_abs};
+ghost use Rattle.std.specs.Ordering.{int_eq};
+ghost use Rattle.overlay_terms.specs.Plane.{InRange, coordinate_max, denominator_max};
+ghost use Rattle.overlay_terms.specs.Within.{IsWithin};
+ghost use Rattle.exact_point.specs.Place.{place, hpoint_cmp};
+ghost use Rattle.crossing_sweep.specs.Rank.{IsFloor, IsRank};
+
+use exact_point::point::HPoint;
+use plane_base::COORD_MAX;
+use std::cmp::Ordering;
+
+/// The rank of a place: a place with a lower one comes before it. Those with a whole x, as on the borders of a
+/// column, are told apart by y, too.
+pub(crate) fn rank(p: &HPoint) -> i64
+    ensures { ∥ IsRank result (place p.now) ∥₁ }
+{
+    let across = floor(p.x, p.w);
+    if is_whole(across, p.x, p.w) {
+        return numbered(across, floor(p.y, p.w));
+    }
+    numbered(across, 2 * COORD_MAX)
+}
+
+/// Whether a coordinate over its denominator is a whole number.
+fn is_whole(number: i64, x: i128, w: i128) -> bool
+    requires number_small { InRange number }
+    requires w_small { IsWithin denominator_max w }
+    ensures { result ≡ int_eq (number *ℤ w) x }
+{
+    i128::from(number) * w == x
+}
+
+/// The number of a row over a whole x.
+fn numbered(across: i64, row: i64) -> i64
+    requires across_small { InRange across }
+    requires row_small { IsWithin (2 ^ 21) row }
+    ensures { result ≡ (pos (2 ^ 22) *ℤ across) +ℤ row }
+{
+    4 * COORD_MAX * across + row
+}
+
+/// The greatest whole number that is not above a coordinate over its denominator.
+fn floor(x: i128, w: i128) -> i64
+    requires w_low { pos 1 ≤ℤ w }
+    requires w_high { w ≤ℤ pos denominator_max }
+    requires low { neg_ℤ (pos coordinate_max *ℤ w) ≤ℤ x }
+    requires high { x ≤ℤ (pos coordinate_max *ℤ w) }
+    ensures value { IsFloor result x w }
+    ensures small { InRange result }
+{
+    (from_lowest(x, w) / w as u128) as i64 - COORD_MAX
+}
+
+/// How far a coordinate lies above the lowest one, over the same denominator.
+fn from_lowest(x: i128, w: i128) -> u128
+    requires w_low { pos 1 ≤ℤ w }
+    requires w_high { w ≤ℤ pos denominator_max }
+    requires low { neg_ℤ (pos coordinate_max *ℤ w) ≤ℤ x }
+    requires high { x ≤ℤ (pos coordinate_max *ℤ w) }
+    ensures value { pos result ≡ x +ℤ (pos coordinate_max *ℤ w) }
+    ensures small { result ≤ 2 ^ 21 * unsigned_abs w }
+{
+    (x + i128::from(COORD_MAX) * w) as u128
+}
+
+/// The order of two places, by their ranks where these differ.
+pub(crate) fn ranked_cmp(a: i64, p: &HPoint, b: i64, q: &HPoint) -> Ordering
+    requires first { ∥ IsRank a (place p.now) ∥₁ }
+    requires second { ∥ IsRank b (place q.now) ∥₁ }
+    ensures { result ≡ hpoint_cmp p.now q.now }
+{
+    if a != b {
+        return a.cmp(&b);
+    }
+    p.cmp(q)
+}
