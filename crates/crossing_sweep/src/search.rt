@@ -111,8 +111,9 @@ pub(crate) fn test_pair(
 fn is_ahead(column: Column, at: &HPoint, other: &HPoint) -> bool
     ensures { result ≡ (is_lt (point_cmp (place at.now) (place other.now)) && is_in_closed_column column (place other.now)) }
 {
-    let after = *at < *other;
-    let within = is_within(column, other);
-    // Eager, so that one equation says all: a place that comes after is nearly always within.
-    after & within
+    // A place beyond the borders is told by two products, the order of two places by up to four.
+    if !is_within(column, other) {
+        return false;
+    }
+    *at < *other
 }

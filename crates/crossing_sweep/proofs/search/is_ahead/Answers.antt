@@ -1,6 +1,0 @@
-use Rattle.std.proofs.Common.{rules}
-use Rattle.crossing_sweep.proofs.search.is_ahead.Goals as goal
-
--- found by search alone: it stands here so that a wrong body is refused without working out what to write
-pub returns : goal.returns
-returns c = search rules
