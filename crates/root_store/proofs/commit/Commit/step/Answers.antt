@@ -1,9 +1,13 @@
-use Rattle.std.proofs.Common.{◌≡◌, length, drop, List, [], ◌∷◌, ℕ, inl, Some, Ok, refl, sym, ◌∙◌, ap, subst, rules}
+use Rattle.std.proofs.Common.{◌≡◌, ◌+◌, length, drop, List, [], ◌∷◌, ℕ, inl, Some, Ok, refl, sym, ◌∙◌, ap, subst, rules}
 use Rattle.disk_model.specs.Disk.{Torn, Holds, OneStepOn}
 use Rattle.root_store.specs.declared.phase.Phase.{Phase}
 use Rattle.store_terms.specs.StandsFor.{gate_at}
 use Rattle.commit_plan.specs.Kept.{extents_in, other, Either, Rest, Shut, Ready}
-use Rattle.root_store.specs.Running.{Before}
+use Rattle.std.proofs.lemmas.Grind.{merely}
+use Rattle.root_store.specs.Content.{content_of, IsAtRest, IsBefore}
+use Rattle.root_store.specs.Running.{Before, is_busy}
+use Rattle.root_store.proofs.Known.{runs_known}
+use Rattle.root_store.proofs.Arms.{carried, closed, settled, put_next, all_put, opened, finished}
 use Rattle.root_reading.specs.Taking.{IsMapOf}
 use Rattle.commit_plan.specs.declared.live_records.LiveRecords.{LiveRecords}
 use Rattle.commit_plan.specs.declared.room.Room.{Room}
@@ -464,3 +468,117 @@ returns-in_ok-sync-in-Finish-clause-wrote g c honest =
     let w = c.sync-in-Finish.ensures in
     writes_none k s.disk new (λ f left. g.met.D.Disk.only_now s.disk f honest left) (w.time honest) _ s.phase phases.Finish c.in-Finish.is s.root (writes_left s)
     refl (w.seen honest) (w.crash honest)
+
+-- ---- what the type keeps
+
+pub invariant_of-self-in-Close : goal.invariant_of-self-in-Close
+invariant_of-self-in-Close g c = record {
+  keeps = λ honest.
+      let k = g.D.Disk in
+      let s = c.args.self.now in
+      let w = c.write_at.ensures in
+      let before = w.honest.0 honest in
+      let runs = runs_known k s before (ap is_busy c.in-Close.is) in
+      let x = content_of s.root s.live in
+      let y = content_of s.next_root s.next_live in
+      let b = subst (λ (p : Phase). IsBefore k p s.disk (writes_left s) x y) c.in-Close.is runs.before in
+      merely (carried k s.disk c.write_at.new.self x y s.phase phases.Settle s.root s.next_root s.next_live (writes_left s) (writes_left s)
+      runs honest
+      (closed k s.disk c.write_at.new.self x y s.root c.other_gate.result c.other_gate.ensures refl (w.crash before)
+      (writes_left s) (c.in_ok-write_at-in-Close.ensures.written before) b));
+}
+
+pub invariant_of-self-in-Settle : goal.invariant_of-self-in-Settle
+invariant_of-self-in-Settle g c = record {
+  keeps = λ honest.
+      let k = g.D.Disk in
+      let s = c.args.self.now in
+      let w = c.sync.ensures in
+      let before = w.honest.0 honest in
+      let runs = runs_known k s before (ap is_busy c.in-Settle.is) in
+      let x = content_of s.root s.live in
+      let y = content_of s.next_root s.next_live in
+      let b = subst (λ (p : Phase). IsBefore k p s.disk (writes_left s) x y) c.in-Settle.is runs.before in
+      merely (carried k s.disk c.sync.new.self x y s.phase phases.Put s.root s.next_root s.next_live (writes_left s) (writes_left s)
+      runs honest
+      (settled k s.disk c.sync.new.self x y (c.in_ok-sync-in-Settle.ensures.durable before)
+      (g.met.D.Disk.seen_may_stay s.disk before) (writes_left s) (w.seen before) b));
+}
+
+pub invariant_of-self-then-self-len : goal.invariant_of-self-then-self-len
+invariant_of-self-then-self-len g c = record {
+  keeps = λ honest.
+      let k = g.D.Disk in
+      let s = c.args.self.now in
+      let w = c.write_at-then-self-len.ensures in
+      let v = c.index-write.result.now in
+      let before = w.honest.0 honest in
+      let runs = runs_known k s before (ap is_busy c.in-Put.is) in
+      let x = content_of s.root s.live in
+      let y = content_of s.next_root s.next_live in
+      let b = subst (λ (p : Phase). IsBefore k p s.disk (writes_left s) x y) c.in-Put.is runs.before in
+      let same : c.deref.result.now ≡ v.bytes.items = search rules in
+      let rest = drop (s.next + 1) c.let_go.new.plan.items in
+      merely (carried k s.disk c.write_at-then-self-len.new.self x y s.phase phases.Put s.root s.next_root s.next_live (writes_left s) rest
+      runs honest
+      (put_next k s.disk c.write_at-then-self-len.new.self x y s.plan.items rest s.next v c.deref.result.now (search rules) (search rules)
+      same c.let_go.ensures.rest (w.crash before) (w.others before) (c.in_ok-write_at-in-Put.ensures.written before) b));
+}
+
+pub invariant_of-self-else-self-len : goal.invariant_of-self-else-self-len
+invariant_of-self-else-self-len g c = record {
+  keeps = λ honest.
+      let k = g.D.Disk in
+      let s = c.args.self.now in
+      let w = c.sync-else-self-len.ensures in
+      let before = w.honest.0 honest in
+      let runs = runs_known k s before (ap is_busy c.in-Put.is) in
+      let x = content_of s.root s.live in
+      let y = content_of s.next_root s.next_live in
+      let b = subst (λ (p : Phase). IsBefore k p s.disk (writes_left s) x y) c.in-Put.is runs.before in
+      merely (carried k s.disk c.sync-else-self-len.new.self x y s.phase phases.Open s.root s.next_root s.next_live (writes_left s) (writes_left s)
+      runs honest
+      (all_put k s.disk c.sync-else-self-len.new.self x y (c.in_ok-sync-in-Put.ensures.durable before)
+      (g.met.D.Disk.seen_may_stay s.disk before) s.plan.items s.next (search rules) b));
+}
+
+pub invariant_of-self-in-Open : goal.invariant_of-self-in-Open
+invariant_of-self-in-Open g c = record {
+  keeps = λ honest.
+      let k = g.D.Disk in
+      let s = c.args.self.now in
+      let w = c.write_at-in-Open.ensures in
+      let before = w.honest.0 honest in
+      let runs = runs_known k s before (ap is_busy c.in-Open.is) in
+      let x = content_of s.root s.live in
+      let y = content_of s.next_root s.next_live in
+      let b = subst (λ (p : Phase). IsBefore k p s.disk (writes_left s) x y) c.in-Open.is runs.before in
+      merely (carried k s.disk c.write_at-in-Open.new.self x y s.phase phases.Finish s.root s.next_root s.next_live (writes_left s) (writes_left s)
+      runs honest
+      (opened k s.disk c.write_at-in-Open.new.self x y s.root c.other_gate-in-Open.result c.other_gate-in-Open.ensures refl (w.crash before)
+      (writes_left s) (c.in_ok-write_at-in-Open.ensures.written before) b));
+}
+
+pub invariant_of-self-in-Finish : goal.invariant_of-self-in-Finish
+invariant_of-self-in-Finish g c = record {
+  keeps = λ honest.
+      let k = g.D.Disk in
+      let s = c.args.self.now in
+      let new = c.sync-in-Finish.new.self in
+      let before = c.sync-in-Finish.ensures.honest.0 honest in
+      let runs = runs_known k s before (ap is_busy c.in-Finish.is) in
+      let x = content_of s.root s.live in
+      let y = content_of s.next_root s.next_live in
+      let b = subst (λ (p : Phase). IsBefore k p s.disk (writes_left s) x y) c.in-Finish.is runs.before in
+      let all = finished k s.disk new x y (c.in_ok-sync-in-Finish.ensures.durable before) (g.met.D.Disk.seen_may_stay s.disk before) (writes_left s) b in
+      let rest : IsAtRest k new phases.Idle s.next_root s.next_live y = record {
+        honest = honest;
+        idle = refl;
+        root = refl;
+        holds = refl;
+        room = runs.next_room;
+        leaves = λ f left. inl (all f left);
+      } in
+      merely (subst (λ (live : LiveRecords). IsAtRest k new phases.Idle s.next_root live (content_of s.next_root live))
+      (sym c.swap.ensures.x_after) rest);
+}
