@@ -1,8 +1,8 @@
 -- What each device call of a commit makes of what is known before it.
-use Rattle.std.proofs.Common.{◌≡◌, length, drop, get_or, List, [], ◌∷◌, ℕ, ◌+◌, ◌<◌, ◌≤◌, inl, sym, ◌∙◌, ap, subst}
+use Rattle.std.proofs.Common.{◌≡◌, length, drop, get_or, List, [], ◌∷◌, ℕ, ◌+◌, ◌<◌, ◌≤◌, sym, ◌∙◌, ap, subst}
 use Rattle.disk_model.specs.declared.disk.Disk.{Ghosts}
 use Rattle.disk_model.specs.Disk.{Torn, Holds, OneStepOn, Only}
-use Rattle.store_terms.specs.StandsFor.{gate_at, open_gate}
+use Rattle.store_terms.specs.StandsFor.{gate_at}
 use Rattle.store_terms.specs.declared.root.Root.{Root}
 use Rattle.commit_plan.specs.declared.live_records.LiveRecords.{LiveRecords}
 use Rattle.commit_plan.specs.declared.write.Write.{Write}
@@ -11,8 +11,8 @@ use Rattle.commit_plan.specs.Planning.{Leads, Spare}
 use Rattle.commit_plan.proofs.Kept.{gate_written}
 use Rattle.commit_plan.proofs.Reading.{opened_rest}
 use Rattle.root_store.specs.declared.phase.Phase.{Phase}
-use Rattle.root_store.specs.declared.phase.Phase.TheVariants.{Idle, Close, Settle, Put, Open, Finish}
-use Rattle.root_store.specs.Content.{content_of, IsAtRest, IsBefore, IsUnderWay}
+use Rattle.root_store.specs.declared.phase.Phase.TheVariants.{Close, Settle, Put, Open, Finish}
+use Rattle.root_store.specs.Content.{IsBefore, IsUnderWay}
 use Rattle.root_store.proofs.Steps.{leaves_torn, leaves_synced, closing, opening, settles, next_leads, next_spares, led}
 
 module _ {D : Type 0} (g : Ghosts D) (old new : D) (x y : Kept) where

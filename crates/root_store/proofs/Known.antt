@@ -3,14 +3,12 @@ use Rattle.std.proofs.Common.{◌≡◌, ◌⊎◌, inl, inr, ⊎_elim, ℕ, ◌
 use Rattle.std.proofs.Math.Logic.{∥∥₁_elim, ∥∥₁_map, ∥∥₁_prop}
 use Rattle.std.proofs.lemmas.Bool.{cases_eq, cases_lt}
 use Rattle.std.specs.Prelude.{OnErr}
-use Rattle.std.specs.List.{AllByRecursion}
 use Rattle.std.specs.Coded.{coded_ℕ, coded_bool, coded_list}
 use Rattle.disk_model.specs.declared.disk.Disk.{Ghosts}
-use Rattle.disk_model.specs.Disk.{Torn, Holds}
 use Rattle.extent_map.specs.declared.extent.Extent as runs
 use Rattle.store_terms.specs.declared.root.RecordExtent.{RecordExtent}
 use Rattle.store_terms.specs.declared.root.Root.{Root}
-use Rattle.store_terms.specs.Places.{blocks, is_placed, block_size}
+use Rattle.store_terms.specs.Places.{blocks, block_size}
 use Rattle.store_terms.specs.Roots.{sequence_max}
 use Rattle.store_terms.specs.Image.{Held, listing_of, held_of}
 use Rattle.store_terms.specs.StandsFor.{gate, body}
