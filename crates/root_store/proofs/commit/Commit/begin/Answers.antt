@@ -43,7 +43,7 @@ returns-clause-laid g c =
     let other_one = body_at (other s.root) in
     let next = c.in_ok-next.next in
     let there = subst (λ (at : ℕ). laid at next.root next.plan.items) c.other_body-body.ensures c.in_ok-next.ensures.laid in
-    let after = subst (λ (plan : List Write). laid other_one next.root plan) (sym c.start.ensures.plan) there in
+    let after = subst (λ (plan : List Write). laid other_one next.root plan) (sym {A = List Write} c.start.ensures.plan) there in
     subst (λ (r : Root). laid other_one r c.start.new.self.plan.items) (sym c.start.ensures.root) after
 
 pub returns-clause-leads : goal.returns-clause-leads
