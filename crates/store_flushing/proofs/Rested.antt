@@ -11,7 +11,7 @@ use Rattle.store_flushing.specs.Among.{IsHeldIn}
 use Rattle.store_flushing.specs.Storing.{Rests, IsStoreAt}
 use Rattle.store_flushing.specs.Laws.{StoreIsKnown}
 
-held_or : Held → Result Held Damage → Held
+abbrev held_or : Held → Result Held Damage → Held
 held_or x (Ok y) = y
 held_or x (Err e) = x
 
