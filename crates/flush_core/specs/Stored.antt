@@ -2,6 +2,7 @@
 use Rattle.std.specs.Prelude.{◌≡◌, ℕ, ◌+◌, Result, Ok, Err}
 use Rattle.overlay_terms.specs.Layers.{Name}
 use Rattle.overlay_terms.specs.Histories.{Version, tile_at}
+use Rattle.disk_model.specs.declared.disk.Disk.{Ghosts}
 use Rattle.store_terms.specs.Image.{Held}
 use Rattle.record_writing.specs.declared.image.Image.{Image}
 use Rattle.record_writing.specs.ImageHeld.{image_held}
@@ -40,14 +41,14 @@ pub record IsOfSome (x : Held) (P : Image → Type 0) : Type 0 where
   pub is : P image
 
 -- a store has room for the new records of a version among the blocks that are free
-abbrev pub HasRoomFor : {D : Type 0} → Commit D → Version → Type 0
+abbrev pub HasRoomFor : {D : Type 0} {g : Ghosts D} → Commit D g → Version → Type 0
 HasRoomFor commit version = IsOfSome (version_held version) (HasRoom commit.live)
 
 -- it has none for some record
-abbrev pub HasNoRoomFor : {D : Type 0} → Commit D → Version → Type 0
+abbrev pub HasNoRoomFor : {D : Type 0} {g : Ghosts D} → Commit D g → Version → Type 0
 HasNoRoomFor commit version = IsOfSome (version_held version) (HasNoRoom commit.live)
 
 -- the device calls of the commit of a version: one for each record that the store does not hold already, one for the
 -- catalog, and six more
-abbrev pub calls_of : {D : Type 0} → Commit D → Version → ℕ
+abbrev pub calls_of : {D : Type 0} {g : Ghosts D} → Commit D g → Version → ℕ
 calls_of commit version = new_records (standing commit.live) (version_held version) + 7

@@ -21,11 +21,11 @@ use Rattle.overlay_engine.proofs.Following.{makes}
 
 module _ {D : Type 0} (g : Ghosts D) where
   -- a step that does not ask for the device leaves the store
-  stays : (x : Kept) (version : Version) (old new : Engine D) → new.flusher ≡ old.flusher → Commits g old.flusher x version → Commits g new.flusher x version
-  stays x version old new same commits = subst (λ (f : Flusher D). Commits g f x version) (sym same) commits
+  stays : (x : Kept) (version : Version) (old new : Engine D g) → new.flusher ≡ old.flusher → Commits g old.flusher x version → Commits g new.flusher x version
+  stays x version old new same commits = subst (λ (f : Flusher D g). Commits g f x version) (sym same) commits
 
   -- a step that does not end the commit of a version goes on with it
-  goes : (x : Kept) (version : Version) (step : Step) (old : Engine D) (reply : Reply) (new : Engine D) → (step ≡ Device → reply ≡ Going)
+  goes : (x : Kept) (version : Version) (step : Step) (old : Engine D g) (reply : Reply) (new : Engine D g) → (step ≡ Device → reply ≡ Going)
       → Acts g step old reply new → CommitsJust g old reply new → Commits g old.flusher x version → Commits g new.flusher x version
   goes x version Device old reply new goes_on acts just commits =
       subst (λ (r : Reply). Committed g x version r new.flusher) (goes_on refl) (just x version (inl commits)).1
@@ -36,12 +36,12 @@ module _ {D : Type 0} (g : Ghosts D) where
   goes x version Report old reply new goes_on acts just commits = stays x version old new ((makes g Report old reply new acts).1 refl) commits
 
   -- so do the steps between its first and its last one; and what the last one commits is told too
-  goes_between : (x : Kept) (version : Version) (run : List (Made D)) (last : Made D) (old : Engine D) → Leads g old run last.old
-      → EachCommits g (run ++ last ∷ []) → AllByRecursion (λ (made : Made D). made.step ≡ Device → made.reply ≡ Going) run
+  goes_between : (x : Kept) (version : Version) (run : List (Made D g)) (last : Made D g) (old : Engine D g) → Leads g old run last.old
+      → EachCommits g (run ++ last ∷ []) → AllByRecursion (λ (made : Made D g). made.step ≡ Device → made.reply ≡ Going) run
       → Commits g old.flusher x version → Commits g last.old.flusher x version × CommitsJust g last.old last.reply last.new
-  goes_between x version [] last old same each all commits = (subst (λ (e : Engine D). Commits g e.flusher x version) (sym same) commits, each.0)
+  goes_between x version [] last old same each all commits = (subst (λ (e : Engine D g). Commits g e.flusher x version) (sym same) commits, each.0)
   goes_between x version (made ∷ run) last old (joins, acts, leads) (just, each) (goes_on, all) commits =
-      let here : Commits g made.old.flusher x version = subst (λ (e : Engine D). Commits g e.flusher x version) (sym joins) commits in
+      let here : Commits g made.old.flusher x version = subst (λ (e : Engine D g). Commits g e.flusher x version) (sym joins) commits in
       goes_between x version run last made.new leads each all (goes x version made.step made.old made.reply made.new goes_on acts just here)
 
   pub commit_leaves : CommitLeaves g
@@ -50,13 +50,13 @@ module _ {D : Type 0} (g : Ghosts D) where
       let last = whole.last in
       let joins = whole.leads.0 in
       let all = subst (EachCommits g) whole.parts each in
-      let resting : Stands g first.old.flusher.commit x = subst (λ (e : Engine D). Stands g e.flusher.commit x) (sym joins) stands in
+      let resting : Stands g first.old.flusher.commit x = subst (λ (e : Engine D g). Stands g e.flusher.commit x) (sym joins) stands in
       let begun : Commits g first.new.flusher x old.version =
       subst (λ (r : Reply). Committed g x old.version r first.new.flusher) whole.begins.1
-      (all.0 x old.version (inr (resting, ap (λ (e : Engine D). e.version) (sym joins)))).1 in
+      (all.0 x old.version (inr (resting, ap (λ (e : Engine D g). e.version) (sym joins)))).1 in
       let parts = leads_between g whole.between last first.new new whole.leads.2 in
       let on = goes_between x old.version whole.between last first.new parts.0 all.1 whole.goes_on begun in
       let ended : Committed g x old.version (Done whole.number) last.new.flusher =
       subst (λ (r : Reply). Committed g x old.version r last.new.flusher) whole.ends.1 (on.1 x old.version (inl on.0)).1 in
-      subst (λ (e : Engine D). RestsWith g e.flusher old.version × Leaves g e.flusher.commit.disk (IsFileOf old.version))
+      subst (λ (e : Engine D g). RestsWith g e.flusher old.version × Leaves g e.flusher.commit.disk (IsFileOf old.version))
       (sym (leads_to g whole.between last first.new new whole.leads.2)) (ended.1, ended.2)

@@ -32,21 +32,21 @@ either_file x y version of c (inr is) = inr (record { held = y.held; image = of.
 
 module _ {D : Type 0} (g : Ghosts D) where
   -- a crash at any moment of a call leaves what was kept, or the version
-  pub carried : (f new : Flusher D) (x : kept.Kept) (version : Version) (result : Result Progress StoreFault)
+  pub carried : (f new : Flusher D g) (x : kept.Kept) (version : Version) (result : Result Progress StoreFault)
       → ((x y : kept.Kept) → Runs g f.commit x y → Stepped g f.commit new.commit result x y) → Commits g f x version
       → LeavesOnly g f.commit.disk new.commit.disk (IsFileOfEither x.held version)
   carried f new x version result steps commits =
       let stepped = steps x commits.y commits.runs in
       widened g f.commit.disk new.commit.disk (kept.Either x commits.y) (IsFileOfEither x.held version) (either_file x commits.y version commits.of) stepped.moments
 
-  pub commits_on : (f new : Flusher D) (x : kept.Kept) (version : Version) (result : Result Progress StoreFault) → result ≡ Ok progress.Going
+  pub commits_on : (f new : Flusher D g) (x : kept.Kept) (version : Version) (result : Result Progress StoreFault) → result ≡ Ok progress.Going
       → ((x y : kept.Kept) → Runs g f.commit x y → Stepped g f.commit new.commit result x y) → Commits g f x version → CarriesOn g x version f Going new
   commits_on f new x version result is steps commits =
       let stepped : Stepped g f.commit new.commit (Ok progress.Going) x commits.y =
       subst (λ (r : Result Progress StoreFault). Stepped g f.commit new.commit r x commits.y) is (steps x commits.y commits.runs) in
       (carried f new x version result steps commits, record { y = commits.y; of = commits.of; runs = stepped.ok })
 
-  pub committed : (f new : Flusher D) (x : kept.Kept) (version : Version) (result : Result Progress StoreFault) (number : ℕ) → result ≡ Ok (progress.Done number)
+  pub committed : (f new : Flusher D g) (x : kept.Kept) (version : Version) (result : Result Progress StoreFault) (number : ℕ) → result ≡ Ok (progress.Done number)
       → ((x y : kept.Kept) → Runs g f.commit x y → Stepped g f.commit new.commit result x y) → Commits g f x version → CarriesOn g x version f (Done number) new
   committed f new x version result number is steps commits =
       let stepped : Stepped g f.commit new.commit (Ok (progress.Done number)) x commits.y =
@@ -56,12 +56,12 @@ module _ {D : Type 0} (g : Ghosts D) where
       λ c left. record { held = commits.y.held; image = commits.of.image; stands = calm_stands commits.y c (stands.leaves c left) } in
       (carried f new x version result steps commits, (stepped.ok.1 ∙ commits.of.root, record { y = commits.y; of = commits.of; stands = stands }, left))
 
-  pub busy_commits : (e : Engine D) (x : kept.Kept) (version : Version) → is_busy e.flusher.commit.phase ≡ true → IsToCommit g e x version → Commits g e.flusher x version
+  pub busy_commits : (e : Engine D g) (x : kept.Kept) (version : Version) → is_busy e.flusher.commit.phase ≡ true → IsToCommit g e x version → Commits g e.flusher x version
   busy_commits e x version busy (inl commits) = commits
   busy_commits e x version busy (inr (stands, same)) = absurd (false≢true (sym (ap is_busy stands.idle) ∙ busy))
 
   -- where the store rests, the commit that begins is of the newest version
-  begun_commits : (e : Engine D) (mid : Flusher D) (x : kept.Kept) (version : Version) → e.flusher.commit.phase ≡ Idle
+  begun_commits : (e : Engine D g) (mid : Flusher D g) (x : kept.Kept) (version : Version) → e.flusher.commit.phase ≡ Idle
       → ((x : kept.Kept) → Stands g e.flusher.commit x → (y : kept.Kept) × IsCommitOf e.version y × Runs g mid.commit x y)
       → IsToCommit g e x version → Commits g mid x version
   begun_commits e mid x version idle begun (inl commits) =
@@ -71,7 +71,7 @@ module _ {D : Type 0} (g : Ghosts D) where
       record { y = run.0; of = subst (λ (v : Version). IsCommitOf v run.0) (sym same) run.1; runs = run.2 }
 
   -- what its first call does, the step does
-  pub begun_carries : (e : Engine D) (mid new : Flusher D) (reply : Reply) → e.flusher.commit.phase ≡ Idle → mid.commit.disk ≡ e.flusher.commit.disk
+  pub begun_carries : (e : Engine D g) (mid new : Flusher D g) (reply : Reply) → e.flusher.commit.phase ≡ Idle → mid.commit.disk ≡ e.flusher.commit.disk
       → ((x : kept.Kept) → Stands g e.flusher.commit x → (y : kept.Kept) × IsCommitOf e.version y × Runs g mid.commit x y)
       → ((x : kept.Kept) (version : Version) → Commits g mid x version → CarriesOn g x version mid reply new)
       → (x : kept.Kept) (version : Version) → IsToCommit g e x version → CarriesOn g x version e.flusher reply new
@@ -81,11 +81,11 @@ module _ {D : Type 0} (g : Ghosts D) where
 
   -- ---- steps that make no call
 
-  pub is_honest_store : (e : Engine D) (x : kept.Kept) (version : Version) → IsToCommit g e x version → g.is_honest e.flusher.commit.disk
+  pub is_honest_store : (e : Engine D g) (x : kept.Kept) (version : Version) → IsToCommit g e x version → g.is_honest e.flusher.commit.disk
   is_honest_store e x version (inl commits) = commits.runs.honest
   is_honest_store e x version (inr (stands, same)) = stands.honest
 
-  either_left : (e : Engine D) (x : kept.Kept) (version : Version) → IsToCommit g e x version → Leaves g e.flusher.commit.disk (IsFileOfEither x.held version)
+  either_left : (e : Engine D g) (x : kept.Kept) (version : Version) → IsToCommit g e x version → Leaves g e.flusher.commit.disk (IsFileOfEither x.held version)
   either_left e x version (inl commits) c left =
       let s = e.flusher.commit in
       either_file x commits.y version commits.of c (before_leaves g s.phase s x commits.y commits.runs.before c left)
@@ -95,14 +95,14 @@ module _ {D : Type 0} (g : Ghosts D) where
   OnlyNow disk = (c : List ℕ) → g.left_since disk (g.moment disk) c → g.may_leave disk c
 
   -- a crash leaves what was left before the step
-  pub nothing_moves : (e : Engine D) (new : Flusher D) (x : kept.Kept) (version : Version) → new ≡ e.flusher → OnlyNow e.flusher.commit.disk → IsToCommit g e x version
+  pub nothing_moves : (e : Engine D g) (new : Flusher D g) (x : kept.Kept) (version : Version) → new ≡ e.flusher → OnlyNow e.flusher.commit.disk → IsToCommit g e x version
       → LeavesOnly g e.flusher.commit.disk new.commit.disk (IsFileOfEither x.held version)
   nothing_moves e new x version same now is =
-      subst (λ (f : Flusher D). LeavesOnly g e.flusher.commit.disk f.commit.disk (IsFileOfEither x.held version)) (sym same)
+      subst (λ (f : Flusher D g). LeavesOnly g e.flusher.commit.disk f.commit.disk (IsFileOfEither x.held version)) (sym same)
       (started g e.flusher.commit.disk (IsFileOfEither x.held version) (λ c left. either_left e x version is c (now c left)))
 
   -- only a step that asks for a device call tells that a commit goes on, or that it is done
-  going_asks : (step : Step) (old new : Engine D) → Acts g step old Going new → calls_asked step ≡ 1
+  going_asks : (step : Step) (old new : Engine D g) → Acts g step old Going new → calls_asked step ≡ 1
   going_asks (Submit change) old new acts = absurd acts
   going_asks (SubmitAll batch) old new acts = absurd acts
   going_asks (Take name column) old new acts = absurd acts
@@ -110,7 +110,7 @@ module _ {D : Type 0} (g : Ghosts D) where
   going_asks Device old new acts = refl
   going_asks Report old new acts = absurd acts
 
-  done_asks : (step : Step) (old : Engine D) (number : ℕ) (new : Engine D) → Acts g step old (Done number) new → calls_asked step ≡ 1
+  done_asks : (step : Step) (old : Engine D g) (number : ℕ) (new : Engine D g) → Acts g step old (Done number) new → calls_asked step ≡ 1
   done_asks (Submit change) old number new acts = absurd acts
   done_asks (SubmitAll batch) old number new acts = absurd acts
   done_asks (Take name column) old number new acts = absurd acts
@@ -118,7 +118,7 @@ module _ {D : Type 0} (g : Ghosts D) where
   done_asks Device old number new acts = refl
   done_asks Report old number new acts = absurd acts
 
-  tells_none : (step : Step) (old : Engine D) (reply : Reply) (new : Engine D) (x : kept.Kept) (version : Version) → Acts g step old reply new → calls_asked step ≡ 0
+  tells_none : (step : Step) (old : Engine D g) (reply : Reply) (new : Engine D g) (x : kept.Kept) (version : Version) → Acts g step old reply new → calls_asked step ≡ 0
       → Committed g x version reply new.flusher
   tells_none step old Going new x version acts none = absurd (omega (arith, none, going_asks step old new acts))
   tells_none step old (Done number) new x version acts none = absurd (omega (arith, none, done_asks step old number new acts))
@@ -132,7 +132,7 @@ module _ {D : Type 0} (g : Ghosts D) where
   tells_none step old (Durable number) new x version acts none = tt
 
   -- a step of another kind commits nothing
-  pub none_commits : (step : Step) (old : Engine D) (reply : Reply) (new : Engine D) → Acts g step old reply new → calls_asked step ≡ 0
+  pub none_commits : (step : Step) (old : Engine D g) (reply : Reply) (new : Engine D g) → Acts g step old reply new → calls_asked step ≡ 0
       → (g.is_honest old.flusher.commit.disk → OnlyNow old.flusher.commit.disk) → CommitsJust g old reply new
   none_commits step old reply new acts none now x version is =
       (nothing_moves old new.flusher x version ((makes g step old reply new acts).1 none) (now (is_honest_store old x version is)) is, tells_none step old reply new x version acts none)

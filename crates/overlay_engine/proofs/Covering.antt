@@ -55,7 +55,7 @@ exact_after old new event follows exact =
 
 module _ {D : Type 0} (g : Ghosts D) where
   -- while a commit is under way a crash leaves the one end of it or the other
-  pub before_leaves : (p : Phase) (s : Commit D) (x y : Kept) → Before g p s x y → Leaves g s.disk (Either x y)
+  pub before_leaves : (p : Phase) (s : Commit D g) (x y : Kept) → Before g p s x y → Leaves g s.disk (Either x y)
   before_leaves Idle s x y before = absurd before
   before_leaves Close s x y before = rest_either g x y s.disk before.0
   before_leaves Settle s x y before = rest_either g x y s.disk before.0
@@ -67,14 +67,14 @@ module _ {D : Type 0} (g : Ghosts D) where
 module _ {D : Type 0} (g : Ghosts D) (start : Start) where
   -- ---- what a crash leaves
 
-  pub way_either : (f : Flusher D) (batches : List Batch) (way : UnderWay g start f batches) (c : List ℕ) → Either way.x way.y c → Covered start f.commit.root.version batches c
+  pub way_either : (f : Flusher D g) (batches : List Batch) (way : UnderWay g start f batches) (c : List ℕ) → Either way.x way.y c → Covered start f.commit.root.version batches c
   way_either f batches way c either = either_covered start f.commit.root.version batches way.x way.y c (omega (arith, way.number)) way.later way.stored way.storing either
 
-  pub way_covered : (f : Flusher D) (batches : List Batch) → UnderWay g start f batches → Leaves g f.commit.disk (Covered start f.commit.root.version batches)
+  pub way_covered : (f : Flusher D g) (batches : List Batch) → UnderWay g start f batches → Leaves g f.commit.disk (Covered start f.commit.root.version batches)
   way_covered f batches way c left = way_either f batches way c (before_leaves g f.commit.phase f.commit way.x way.y way.runs.before c left)
 
   -- whatever the phase, each outcome is covered
-  in_covered : (p : Phase) (f : Flusher D) (batches : List Batch) → In g start p f batches → Leaves g f.commit.disk (Covered start f.commit.root.version batches)
+  in_covered : (p : Phase) (f : Flusher D g) (batches : List Batch) → In g start p f batches → Leaves g f.commit.disk (Covered start f.commit.root.version batches)
   in_covered Idle f batches rest c left = record { held = rest.x.held; no_less = omega (arith, rest.number); stored = rest.stored; stands = calm_stands rest.x c (rest.stands.leaves c left) }
   in_covered Failed f batches store c left = store c left
   in_covered Close f batches way c left = way_covered f batches way c left
@@ -83,15 +83,15 @@ module _ {D : Type 0} (g : Ghosts D) (start : Start) where
   in_covered Open f batches way c left = way_covered f batches way c left
   in_covered Finish f batches way c left = way_covered f batches way c left
 
-  pub stored_leaves : (f : Flusher D) (version : Version) (batches : List Batch) → Covers g start f version batches → Leaves g f.commit.disk (Covered start f.commit.root.version batches)
+  pub stored_leaves : (f : Flusher D g) (version : Version) (batches : List Batch) → Covers g start f version batches → Leaves g f.commit.disk (Covered start f.commit.root.version batches)
   stored_leaves f version batches covers = in_covered f.commit.phase f batches covers.store
 
-  pub reported_leaves : (f : Flusher D) (version : Version) (batches : List Batch) → Covers g start f version batches → Leaves g f.commit.disk (Covered start version.durable batches)
+  pub reported_leaves : (f : Flusher D g) (version : Version) (batches : List Batch) → Covers g start f version batches → Leaves g f.commit.disk (Covered start version.durable batches)
   reported_leaves f version batches covers c left = covered_less start version.durable f.commit.root.version batches c covers.reported (stored_leaves f version batches covers c left)
 
   -- ---- events
 
-  way_more : (f : Flusher D) (batches more : List Batch) → UnderWay g start f batches → UnderWay g start f (batches ++ more)
+  way_more : (f : Flusher D g) (batches more : List Batch) → UnderWay g start f batches → UnderWay g start f (batches ++ more)
   way_more f batches more way = record {
     x = way.x;
     y = way.y;
@@ -103,7 +103,7 @@ module _ {D : Type 0} (g : Ghosts D) (start : Start) where
     runs = way.runs;
   }
 
-  in_more : (p : Phase) (f : Flusher D) (batches more : List Batch) → In g start p f batches → In g start p f (batches ++ more)
+  in_more : (p : Phase) (f : Flusher D g) (batches more : List Batch) → In g start p f batches → In g start p f (batches ++ more)
   in_more Idle f batches more rest = record { x = rest.x; number = rest.number; stored = stored_more start batches more rest.x.held rest.stored; stands = rest.stands }
   in_more Failed f batches more store = λ c left. covered_more start f.commit.root.version batches more c (store c left)
   in_more Close f batches more way = way_more f batches more way
@@ -112,7 +112,7 @@ module _ {D : Type 0} (g : Ghosts D) (start : Start) where
   in_more Open f batches more way = way_more f batches more way
   in_more Finish f batches more way = way_more f batches more way
 
-  event_covers : (f : Flusher D) (old new : Version) (event : Event) (batches : List Batch) → Covers g start f old batches → Follows old event new → ReportsStored f event
+  event_covers : (f : Flusher D g) (old new : Version) (event : Event) (batches : List Batch) → Covers g start f old batches → Follows old event new → ReportsStored f event
       → Covers g start f new (batches ++ added event)
   event_covers f old new (accepted session batch) batches covers follows reported = record {
     honest = covers.honest;

@@ -21,7 +21,7 @@ use Rattle.overlay_engine.specs.Covers.{Covered, CoveredExactly, UnderWay, In, C
 use Rattle.overlay_engine.proofs.Covering.{covered_less, way_either, way_covered}
 
 module _ {D : Type 0} (g : Ghosts D) (start : Start) where
-  way_of : (p : Phase) (f : Flusher D) (batches : List Batch) → is_busy p ≡ true → In g start p f batches → UnderWay g start f batches
+  way_of : (p : Phase) (f : Flusher D g) (batches : List Batch) → is_busy p ≡ true → In g start p f batches → UnderWay g start f batches
   way_of Idle f batches busy store = absurd (false≢true busy)
   way_of Failed f batches busy store = absurd (false≢true busy)
   way_of Close f batches busy store = store
@@ -30,7 +30,7 @@ module _ {D : Type 0} (g : Ghosts D) (start : Start) where
   way_of Open f batches busy store = store
   way_of Finish f batches busy store = store
 
-  way_in : (p : Phase) (f : Flusher D) (batches : List Batch) → f.commit.phase ≡ p → UnderWay g start f batches → In g start p f batches
+  way_in : (p : Phase) (f : Flusher D g) (batches : List Batch) → f.commit.phase ≡ p → UnderWay g start f batches → In g start p f batches
   way_in Idle f batches is way = absurd (subst (λ (q : Phase). Before g q f.commit way.x way.y) is way.runs.before)
   way_in Failed f batches is way = way_covered g start f batches way
   way_in Close f batches is way = way
@@ -39,7 +39,7 @@ module _ {D : Type 0} (g : Ghosts D) (start : Start) where
   way_in Open f batches is way = way
   way_in Finish f batches is way = way
 
-  module _ (f new : Flusher D) (version : Version) (batches : List Batch) (covers : Covers g start f version batches) (way : UnderWay g start f batches) where
+  module _ (f new : Flusher D g) (version : Version) (batches : List Batch) (covers : Covers g start f version batches) (way : UnderWay g start f batches) where
     reported : (c : List ℕ) → Either way.x way.y c → Covered start version.durable batches c
     reported c either = covered_less start version.durable f.commit.root.version batches c covers.reported (way_either g start f batches way c either)
 
@@ -97,7 +97,7 @@ module _ {D : Type 0} (g : Ghosts D) (start : Start) where
     }
 
   -- a call keeps the store covering, and a crash at any moment of it leaves what is no older than what was durable
-  pub called : (f new : Flusher D) (version : Version) (batches : List Batch) (result : Result Progress StoreFault) → is_busy f.commit.phase ≡ true → new.commit.root.version ≡ stored_after result f.commit.root.version
+  pub called : (f new : Flusher D g) (version : Version) (batches : List Batch) (result : Result Progress StoreFault) → is_busy f.commit.phase ≡ true → new.commit.root.version ≡ stored_after result f.commit.root.version
       → (g.is_honest f.commit.disk → g.is_honest new.commit.disk) → ((x y : Kept) → Runs g f.commit x y → Stepped g f.commit new.commit result x y)
       → Covers g start f version batches → Moves g start f new version batches
   called f new version batches result busy stored honest steps covers =
@@ -105,7 +105,7 @@ module _ {D : Type 0} (g : Ghosts D) (start : Start) where
       moved f new version batches covers way result stored honest (steps way.x way.y way.runs)
 
   -- after the last call a crash leaves what the commit began with
-  pub ended : (f new : Flusher D) (version : Version) (batches : List Batch) (result : Result Progress StoreFault) (number : ℕ) → is_busy f.commit.phase ≡ true → result ≡ Ok (progress.Done number)
+  pub ended : (f new : Flusher D g) (version : Version) (batches : List Batch) (result : Result Progress StoreFault) (number : ℕ) → is_busy f.commit.phase ≡ true → result ≡ Ok (progress.Done number)
       → ((x y : Kept) → Runs g f.commit x y → Stepped g f.commit new.commit result x y) → Covers g start f version batches
       → Leaves g new.commit.disk (CoveredExactly start number batches)
   ended f new version batches result number busy is steps covers c left =

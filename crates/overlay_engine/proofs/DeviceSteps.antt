@@ -35,7 +35,7 @@ resting Finish busy well = absurd (false≢true (sym busy))
 
 module _ {D : Type 0} (g : Ghosts D) (start : Start) where
   -- what the first call of a commit that begins does, the step does
-  pub begun_moves : (f mid new : Flusher D) (version : Version) (batches : List Batch) → f.commit.phase ≡ Idle → mid.commit.disk ≡ f.commit.disk
+  pub begun_moves : (f mid new : Flusher D g) (version : Version) (batches : List Batch) → f.commit.phase ≡ Idle → mid.commit.disk ≡ f.commit.disk
       → IsBegun g f mid version → (Covers g start mid version batches → Moves g start mid new version batches)
       → Covers g start f version batches → Moves g start f new version batches
   begun_moves f mid new version batches idle disk begun call covers =
@@ -46,9 +46,9 @@ module _ {D : Type 0} (g : Ghosts D) (start : Start) where
       }
 
   -- a step that makes no call moves nothing
-  pub stays : (f new : Flusher D) (version : Version) (batches : List Batch) → new ≡ f
+  pub stays : (f new : Flusher D g) (version : Version) (batches : List Batch) → new ≡ f
       → ((c : List ℕ) → g.left_since f.commit.disk (g.moment f.commit.disk) c → g.may_leave f.commit.disk c)
       → Covers g start f version batches → Moves g start f new version batches
   stays f new version batches is now covers =
-      subst (λ (n : Flusher D). Moves g start f n version batches) (sym is)
+      subst (λ (n : Flusher D g). Moves g start f n version batches) (sym is)
       (record { covers = covers; moments = stays_covered g start f version batches f.commit.disk refl now covers })

@@ -22,15 +22,15 @@ abbrev pub GoesOn : Version → Version → Type 0
 GoesOn old new = (new ≡ old) ⊎ ((event : Event) × Follows old event new)
 
 -- and the store stays, but for a device step
-abbrev pub Makes : {D : Type 0} → Step → Engine D → Engine D → Type 0
+abbrev pub Makes : {D : Type 0} {g : Ghosts D} → Step → Engine D g → Engine D g → Type 0
 Makes step old new = GoesOn old.version new.version × (calls_asked step ≡ 0 → new.flusher ≡ old.flusher)
 
 module _ {D : Type 0} (g : Ghosts D) where
-  all_same : (step : Step) (old new : Engine D) → new ≡ old → Makes step old new
-  all_same step old new same = (inl (ap (λ (e : Engine D). e.version) same), λ none. ap (λ (e : Engine D). e.flusher) same)
+  all_same : (step : Step) (old new : Engine D g) → new ≡ old → Makes step old new
+  all_same step old new same = (inl (ap (λ (e : Engine D g). e.version) same), λ none. ap (λ (e : Engine D g). e.flusher) same)
 
-  pub makes : (step : Step) (old : Engine D) (reply : Reply) (new : Engine D) → Acts g step old reply new → Makes step old new
-  makes (Submit change) old (Accepted number) new acts = (inr (accepted 0 (command change ∷ []), (one_follows_alike old.version new.version (command change)).1 acts.0), λ none. ap (λ (e : Engine D). e.flusher) acts.2)
+  pub makes : (step : Step) (old : Engine D g) (reply : Reply) (new : Engine D g) → Acts g step old reply new → Makes step old new
+  makes (Submit change) old (Accepted number) new acts = (inr (accepted 0 (command change ∷ []), (one_follows_alike old.version new.version (command change)).1 acts.0), λ none. ap (λ (e : Engine D g). e.flusher) acts.2)
   makes (Submit change) old (Refused code) new acts = all_same (Submit change) old new acts.1
   makes (Submit change) old (Taken number) new acts = absurd acts
   makes (Submit change) old NoJob new acts = absurd acts
@@ -40,7 +40,7 @@ module _ {D : Type 0} (g : Ghosts D) where
   makes (Submit change) old Going new acts = absurd acts
   makes (Submit change) old (Done number) new acts = absurd acts
   makes (Submit change) old (Durable number) new acts = absurd acts
-  makes (SubmitAll batch) old (Accepted number) new acts = (inr (accepted 0 batch, acts.0), λ none. ap (λ (e : Engine D). e.flusher) acts.2)
+  makes (SubmitAll batch) old (Accepted number) new acts = (inr (accepted 0 batch, acts.0), λ none. ap (λ (e : Engine D g). e.flusher) acts.2)
   makes (SubmitAll batch) old (Refused code) new acts = all_same (SubmitAll batch) old new acts.1
   makes (SubmitAll batch) old (RefusedAt place code) new acts = all_same (SubmitAll batch) old new acts.1
   makes (SubmitAll batch) old (Taken number) new acts = absurd acts
@@ -71,8 +71,8 @@ module _ {D : Type 0} (g : Ghosts D) where
   makes (Finish job) old (Done number) new acts = absurd acts
   makes (Finish job) old (Durable number) new acts = absurd acts
   makes Device old reply new acts = (inl (device_version g old reply new acts), λ none. absurd (omega (arith, none)))
-  makes Report old (Durable number) new (inl follows, told, same) = (inr (durable_to old.flusher.commit.root.version, follows), λ none. ap (λ (e : Engine D). e.flusher) same)
-  makes Report old (Durable number) new (inr stays, told, same) = (inl stays.same, λ none. ap (λ (e : Engine D). e.flusher) same)
+  makes Report old (Durable number) new (inl follows, told, same) = (inr (durable_to old.flusher.commit.root.version, follows), λ none. ap (λ (e : Engine D g). e.flusher) same)
+  makes Report old (Durable number) new (inr stays, told, same) = (inl stays.same, λ none. ap (λ (e : Engine D g). e.flusher) same)
   makes Report old (Refused code) new acts = all_same Report old new acts.1
   makes Report old (Accepted number) new acts = absurd acts
   makes Report old (Taken number) new acts = absurd acts
@@ -84,18 +84,18 @@ module _ {D : Type 0} (g : Ghosts D) where
   makes Report old (Done number) new acts = absurd acts
 
   -- right tiles stay right
-  pub acts_exact : (step : Step) (old : Engine D) (reply : Reply) (new : Engine D) → Acts g step old reply new → IsExact old.version → IsExact new.version
+  pub acts_exact : (step : Step) (old : Engine D g) (reply : Reply) (new : Engine D g) → Acts g step old reply new → IsExact old.version → IsExact new.version
   acts_exact step old reply new acts exact = kept_exact (makes step old reply new acts).0 where
     kept_exact : GoesOn old.version new.version → IsExact new.version
     kept_exact (inl same) = subst IsExact (sym same) exact
     kept_exact (inr (event, follows)) = exact_after old.version new.version event follows exact
 
   -- a step that asks for no device call keeps the store, and so the blocks that its file may have
-  pub acts_keep : (step : Step) (old : Engine D) (reply : Reply) (new : Engine D) → Acts g step old reply new → calls_asked step ≡ 0 → (limit : ℕ) → KeepsTo limit old.flusher.commit → KeepsTo limit new.flusher.commit
-  acts_keep step old reply new acts none limit keeps = subst (λ (f : Flusher D). KeepsTo limit f.commit) (sym ((makes step old reply new acts).1 none)) keeps
+  pub acts_keep : (step : Step) (old : Engine D g) (reply : Reply) (new : Engine D g) → Acts g step old reply new → calls_asked step ≡ 0 → (limit : ℕ) → KeepsTo limit old.flusher.commit → KeepsTo limit new.flusher.commit
+  acts_keep step old reply new acts none limit keeps = subst (λ (f : Flusher D g). KeepsTo limit f.commit) (sym ((makes step old reply new acts).1 none)) keeps
 
   -- the durable number never falls
-  pub durable_rises : (step : Step) (old : Engine D) (reply : Reply) (new : Engine D) → Acts g step old reply new → old.version.durable ≤ new.version.durable
+  pub durable_rises : (step : Step) (old : Engine D g) (reply : Reply) (new : Engine D g) → Acts g step old reply new → old.version.durable ≤ new.version.durable
   durable_rises step old reply new acts = risen (makes step old reply new acts).0 where
     risen : GoesOn old.version new.version → old.version.durable ≤ new.version.durable
     risen (inl same) = omega (arith, ap (λ (v : Version). v.durable) same)

@@ -43,7 +43,7 @@ module _ {D : Type 0} (g : Ghosts D) (start : Start) (disk : D) (least : ℕ) (b
   covered : (c : List ℕ) → Opened g disk c → Covered start least batches c
   covered c opened = opening_is_covered g start disk least batches all stays c opened
 
-  recovered : (e : Engine D) (k : Kept) (x : Held) → reading (g.seen disk) ≡ Ok x → k.held ≡ x → Stands g e.flusher.commit k → e.flusher.commit.root.version ≡ x.number → e.version ≡ version_of x
+  recovered : (e : Engine D g) (k : Kept) (x : Held) → reading (g.seen disk) ≡ Ok x → k.held ≡ x → Stands g e.flusher.commit k → e.flusher.commit.root.version ≡ x.number → e.version ≡ version_of x
       → LeavesOnly g disk e.flusher.commit.disk (Opened g disk) → InPhases g disk e.flusher.commit.disk → Recovered g start disk e least batches
   recovered e k x reads same stands stored version moments phases =
       let is : e.version ≡ version_of k.held = version ∙ ap version_of (sym same) in
@@ -58,13 +58,13 @@ module _ {D : Type 0} (g : Ghosts D) (start : Start) (disk : D) (least : ℕ) (b
         phases = phases;
       }
 
-  pub recovered_with : (e : Engine D) (s : Commit D) (k : Kept) (x : Held) → e.flusher ≡ record { commit = s } → s.root.version ≡ e.version.number → e.version ≡ version_of x
+  pub recovered_with : (e : Engine D g) (s : Commit D g) (k : Kept) (x : Held) → e.flusher ≡ record { commit = s } → s.root.version ≡ e.version.number → e.version ≡ version_of x
       → reading (g.seen disk) ≡ Ok x → k.held ≡ x → Stands g s k → LeavesOnly g disk s.disk (Opened g disk) → InPhases g disk s.disk → Recovered g start disk e least batches
   recovered_with e s k x flusher number version reads same stands moments phases =
-      recovered e k x reads same (subst (λ (f : Flusher D). Stands g f.commit k) (sym flusher) stands)
-      (ap (λ (f : Flusher D). f.commit.root.version) flusher ∙ number ∙ ap (λ (v : Version). v.number) version) version
-      (subst (λ (f : Flusher D). LeavesOnly g disk f.commit.disk (Opened g disk)) (sym flusher) moments)
-      (subst (λ (f : Flusher D). InPhases g disk f.commit.disk) (sym flusher) phases)
+      recovered e k x reads same (subst (λ (f : Flusher D g). Stands g f.commit k) (sym flusher) stands)
+      (ap (λ (f : Flusher D g). f.commit.root.version) flusher ∙ number ∙ ap (λ (v : Version). v.number) version) version
+      (subst (λ (f : Flusher D g). LeavesOnly g disk f.commit.disk (Opened g disk)) (sym flusher) moments)
+      (subst (λ (f : Flusher D g). InPhases g disk f.commit.disk) (sym flusher) phases)
 
   pub refused_as : (refused : OpenFault D) → Tells refused.fault (reading (g.seen disk)) → g.is_honest refused.disk → Leaves g refused.disk (Opened g disk)
       → LeavesOnly g disk refused.disk (Opened g disk) → Stops g disk (refused.fault ≡ Device) refused.disk → Refused g start disk refused least batches
@@ -77,7 +77,7 @@ module _ {D : Type 0} (g : Ghosts D) (start : Start) (disk : D) (least : ℕ) (b
   }
 
   -- memory runs out once the store is opened
-  pub given_up : (s : Commit D) (k : Kept) (x : Held) → reading (g.seen disk) ≡ Ok x → k.held ≡ x → Stands g s k → LeavesOnly g disk s.disk (Opened g disk)
+  pub given_up : (s : Commit D g) (k : Kept) (x : Held) → reading (g.seen disk) ≡ Ok x → k.held ≡ x → Stands g s k → LeavesOnly g disk s.disk (Opened g disk)
       → InPhases g disk s.disk → Refused g start disk (record { fault = OutOfMemory; disk = s.disk }) least batches
   given_up s k x reads same stands moments phases = record {
     honest = stands.honest;
@@ -88,21 +88,21 @@ module _ {D : Type 0} (g : Ghosts D) (start : Start) (disk : D) (least : ℕ) (b
   }
 
 -- a store that stands for what a version is made of stands for just that version
-pub rests_as : {D : Type 0} (g : Ghosts D) (version : Version) (f : Flusher D) (s : Commit D) (k : Kept) (x : Held) → f ≡ record { commit = s } → s.root.version ≡ version.number
+pub rests_as : {D : Type 0} (g : Ghosts D) (version : Version) (f : Flusher D g) (s : Commit D g) (k : Kept) (x : Held) → f ≡ record { commit = s } → s.root.version ≡ version.number
     → version ≡ version_of x → k.held ≡ x → Stands g s k → IsNewStore g version f
 rests_as g version f s k x flusher number is same stands =
     let image : IsImageOf (version_of x) x = record { number = refl; layers = refl; tiles = λ name column. refl } in
-    let stored : f.commit.root.version ≡ version.number = ap (λ (h : Flusher _). h.commit.root.version) flusher ∙ number in
+    let stored : f.commit.root.version ≡ version.number = ap (λ (h : Flusher _ _). h.commit.root.version) flusher ∙ number in
     record {
       x = k;
-      stands = subst (λ (h : Flusher _). Stands g h.commit k) (sym flusher) stands;
+      stands = subst (λ (h : Flusher _ _). Stands g h.commit k) (sym flusher) stands;
       image = subst (λ (h : Held). IsImageOf version h) (sym same) (subst (λ (v : Version). IsImageOf v x) (sym is) image);
       stored = stored;
       reported = omega (arith, stored, ap (λ (v : Version). v.durable) is, ap (λ (v : Version). v.number) is);
     }
 
 -- a store that holds nothing covers no command
-pub new_covers : {D : Type 0} (g : Ghosts D) (version : Version) (f : Flusher D) (s : Commit D) → f ≡ record { commit = s } → version ≡ empty_version → Stands g s nothing_kept
+pub new_covers : {D : Type 0} (g : Ghosts D) (version : Version) (f : Flusher D g) (s : Commit D g) → f ≡ record { commit = s } → version ≡ empty_version → Stands g s nothing_kept
     → Covers g from_nothing f version []
 new_covers g version f s flusher empty stands =
     let exact : IsExact empty_version = search rules in
@@ -119,7 +119,7 @@ new_covers g version f s flusher empty stands =
       stored = omega (arith, number);
       store = subst (λ (q : Phase). In g from_nothing q (record { commit = s }) []) (sym stands.idle) rests;
     } in
-    subst (λ (h : Flusher _). Covers g from_nothing h version []) (sym flusher)
+    subst (λ (h : Flusher _ _). Covers g from_nothing h version []) (sym flusher)
     (subst (λ (v : Version). Covers g from_nothing (record { commit = s }) v []) (sym empty) covers)
 
 -- a file that is read has a root
@@ -133,8 +133,8 @@ root_read file x is = found (root_of file) refl
         absurd (cc (none, is))
 
 -- the disk of a store that was opened, as an engine or a refusal hands it on
-pub writes_of : {D : Type 0} (g : Ghosts D) (old : List ℕ) (f : Flusher D) (s : Commit D) → f ≡ record { commit = s } → Writes old (g.seen s.disk) → Writes old (g.seen f.commit.disk)
-writes_of g old f s is writes = subst (λ (h : Flusher _). Writes old (g.seen h.commit.disk)) (sym is) writes
+pub writes_of : {D : Type 0} (g : Ghosts D) (old : List ℕ) (f : Flusher D g) (s : Commit D g) → f ≡ record { commit = s } → Writes old (g.seen s.disk) → Writes old (g.seen f.commit.disk)
+writes_of g old f s is writes = subst (λ (h : Flusher _ _). Writes old (g.seen h.commit.disk)) (sym is) writes
 
 pub recovered_answers : {D : Type 0} (g : Ghosts D) → RecoveredAnswers g
 recovered_answers g start disk e least batches recovered name query told tells =

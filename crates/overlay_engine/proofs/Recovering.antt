@@ -93,7 +93,7 @@ module _ {D : Type 0} (g : Ghosts D) where
       }
 
   -- a step that makes no call leaves what was covered
-  pub stays_covered : (start : Start) (f : Flusher D) (version : Version) (batches : List Batch) → (disk : D) → f.commit.disk ≡ disk
+  pub stays_covered : (start : Start) (f : Flusher D g) (version : Version) (batches : List Batch) → (disk : D) → f.commit.disk ≡ disk
       → ((c : List ℕ) → g.left_since disk (g.moment disk) c → g.may_leave disk c) → Covers g start f version batches
       → LeavesOnly g disk disk (Covered start version.durable batches)
   stays_covered start f version batches disk is now covers =

@@ -13,19 +13,19 @@ use Rattle.overlay_engine.specs.Committing.{CommitsJust}
 use Rattle.overlay_engine.specs.Acts.{Acts, Survives, accepted_by}
 use Rattle.overlay_engine.specs.Runs.{Made, Leads, EachSurvives, EachCommits, Drives, CrashesIn, accepted_in}
 
-accepted_push : {D : Type 0} (run : List (Made D)) (made : Made D) → accepted_in (run ++ made ∷ []) ≡ accepted_in run ++ accepted_by made.step made.reply
+accepted_push : {D : Type 0} {g : Ghosts D} (run : List (Made D g)) (made : Made D g) → accepted_in (run ++ made ∷ []) ≡ accepted_in run ++ accepted_by made.step made.reply
 accepted_push [] made = append-nil (accepted_by made.step made.reply)
 accepted_push (first ∷ run) made =
     let own = accepted_by first.step first.reply in
     ap (λ (more : List Batch). own ++ more) (accepted_push run made) ∙ sym (append_assoc own (accepted_in run) (accepted_by made.step made.reply))
 
 module _ {D : Type 0} (g : Ghosts D) where
-  leads_on : (old mid : Engine D) (run : List (Made D)) (made : Made D) → Leads g old run mid → made.old ≡ mid → Acts g made.step made.old made.reply made.new
+  leads_on : (old mid : Engine D g) (run : List (Made D g)) (made : Made D g) → Leads g old run mid → made.old ≡ mid → Acts g made.step made.old made.reply made.new
       → Leads g old (run ++ made ∷ []) made.new
   leads_on old mid [] made same joins acts = (joins ∙ same, acts, refl)
   leads_on old mid (first ∷ run) made (first_joins, acted, leads) joins acts = (first_joins, acted, leads_on first.new mid run made leads joins acts)
 
-  survive_on : (start : Start) (batches : List Batch) (run : List (Made D)) (made : Made D) → EachSurvives g start batches run
+  survive_on : (start : Start) (batches : List Batch) (run : List (Made D g)) (made : Made D g) → EachSurvives g start batches run
       → Survives g start (batches ++ accepted_in run) made.step made.old made.reply made.new → EachSurvives g start batches (run ++ made ∷ [])
   survive_on start batches [] made each last =
       (subst (λ (cs : List Batch). Survives g start cs made.step made.old made.reply made.new) (append-nil batches) last, tt)
@@ -36,12 +36,12 @@ module _ {D : Type 0} (g : Ghosts D) where
         (sym (append_assoc batches (accepted_by first.step first.reply) (accepted_in run))) last),
   )
 
-  commit_on : (run : List (Made D)) (made : Made D) → EachCommits g run → CommitsJust g made.old made.reply made.new → EachCommits g (run ++ made ∷ [])
+  commit_on : (run : List (Made D g)) (made : Made D g) → EachCommits g run → CommitsJust g made.old made.reply made.new → EachCommits g (run ++ made ∷ [])
   commit_on [] made each last = (last, tt)
   commit_on (first ∷ run) made (commits, each) last = (commits, commit_on run made each last)
 
   -- before the first step
-  pub not_driven : (old : Engine D) → Drives g [] old [] old
+  pub not_driven : (old : Engine D g) → Drives g [] old [] old
   not_driven old = record {
     run = [];
     is = record { asked = refl; answered = refl; leads = refl };
@@ -49,17 +49,17 @@ module _ {D : Type 0} (g : Ghosts D) where
     survives = λ start batches covers. (tt, subst (Covers g start old.flusher old.version) (sym (append-nil batches)) covers);
   }
 
-  pub driven_on : (steps : List Step) (old : Engine D) (replies : List Reply) (mid : Engine D) (step : Step) (reply : Reply) (new : Engine D) → Drives g steps old replies mid
+  pub driven_on : (steps : List Step) (old : Engine D g) (replies : List Reply) (mid : Engine D g) (step : Step) (reply : Reply) (new : Engine D g) → Drives g steps old replies mid
       → Acts g step mid reply new → CommitsJust g mid reply new → ((start : Start) (batches : List Batch) → Covers g start mid.flusher mid.version batches → Survives g start batches step mid reply new)
       → Drives g (steps ++ step ∷ []) old (replies ++ reply ∷ []) new
   driven_on steps old replies mid step reply new drives acts commits survives =
-      let made : Made D = record { step = step; old = mid; reply = reply; new = new } in
+      let made : Made D g = record { step = step; old = mid; reply = reply; new = new } in
       let run = drives.run in
       record {
         run = run ++ made ∷ [];
         is = record {
-          asked = map-append (λ (m : Made D). m.step) run (made ∷ []) ∙ ap (λ (l : List Step). l ++ step ∷ []) drives.is.asked;
-          answered = map-append (λ (m : Made D). m.reply) run (made ∷ []) ∙ ap (λ (l : List Reply). l ++ reply ∷ []) drives.is.answered;
+          asked = map-append (λ (m : Made D g). m.step) run (made ∷ []) ∙ ap (λ (l : List Step). l ++ step ∷ []) drives.is.asked;
+          answered = map-append (λ (m : Made D g). m.reply) run (made ∷ []) ∙ ap (λ (l : List Reply). l ++ reply ∷ []) drives.is.answered;
           leads = leads_on old mid run made drives.is.leads refl acts;
         };
         commits = commit_on run made drives.commits commits;
@@ -71,7 +71,7 @@ module _ {D : Type 0} (g : Ghosts D) where
             (survive_on start batches run made so_far.0 last, subst (Covers g start new.flusher new.version) all last.covers);
       }
 
-  pub survives_at : (start : Start) (batches : List Batch) (before after : List (Made D)) (made : Made D) → EachSurvives g start batches (before ++ made ∷ after)
+  pub survives_at : (start : Start) (batches : List Batch) (before after : List (Made D g)) (made : Made D g) → EachSurvives g start batches (before ++ made ∷ after)
       → Survives g start (batches ++ accepted_in before) made.step made.old made.reply made.new
   survives_at start batches [] after made each =
       subst (λ (cs : List Batch). Survives g start cs made.step made.old made.reply made.new) (sym (append-nil batches)) each.0
@@ -81,7 +81,7 @@ module _ {D : Type 0} (g : Ghosts D) where
       (survives_at start (batches ++ accepted_by first.step first.reply) before after made each.1)
 
   -- what a crash within a step of a run leaves is covered, no older than what was durable as the step began
-  pub crash_covered : (start : Start) (batches : List Batch) (run : List (Made D)) (disk : D) (crash : CrashesIn g run disk) → EachSurvives g start batches run
+  pub crash_covered : (start : Start) (batches : List Batch) (run : List (Made D g)) (disk : D) (crash : CrashesIn g run disk) → EachSurvives g start batches run
       → Leaves g disk (Covered start crash.made.old.version.durable (batches ++ accepted_in crash.before))
   crash_covered start batches run disk crash each c left =
       let survives = survives_at start batches crash.before crash.after crash.made (subst (EachSurvives g start batches) crash.among each) in

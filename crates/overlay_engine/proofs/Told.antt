@@ -17,25 +17,25 @@ abbrev Tells : ℕ → ℕ → Reply → ℕ → ℕ → Type 0
 Tells job durable reply next now = HasNumber job reply × (next ≡ next_after job reply) × (now ≡ told_after durable reply)
 
 module _ {D : Type 0} (g : Ghosts D) where
-  abbrev TellsOf : Engine D → Reply → Engine D → Type 0
+  abbrev TellsOf : Engine D g → Reply → Engine D g → Type 0
   TellsOf old reply new = Tells old.next_job old.version.durable reply new.next_job new.version.durable
 
-  job_of : (old new : Engine D) → new ≡ old → new.next_job ≡ old.next_job
-  job_of old new same = ap (λ (e : Engine D). e.next_job) same
+  job_of : (old new : Engine D g) → new ≡ old → new.next_job ≡ old.next_job
+  job_of old new same = ap (λ (e : Engine D g). e.next_job) same
 
-  durable_of : (old new : Engine D) → new ≡ old → new.version.durable ≡ old.version.durable
-  durable_of old new same = ap (λ (e : Engine D). e.version.durable) same
+  durable_of : (old new : Engine D g) → new ≡ old → new.version.durable ≡ old.version.durable
+  durable_of old new same = ap (λ (e : Engine D g). e.version.durable) same
 
   -- engines with the same numbers
-  from : (old mid new : Engine D) (reply : Reply) → mid.next_job ≡ old.next_job → mid.version.durable ≡ old.version.durable → TellsOf mid reply new → TellsOf old reply new
+  from : (old mid new : Engine D g) (reply : Reply) → mid.next_job ≡ old.next_job → mid.version.durable ≡ old.version.durable → TellsOf mid reply new → TellsOf old reply new
   from old mid new reply job durable tells =
       subst (λ (d : ℕ). Tells old.next_job d reply new.next_job new.version.durable) durable
       (subst (λ (j : ℕ). Tells j mid.version.durable reply new.next_job new.version.durable) job tells)
 
-  called_tells : (old : Engine D) (reply : Reply) (new : Engine D) → Calls g old reply new → TellsOf old reply new
-  called_tells old Going new calls = (tt, ap (λ (e : Engine D). e.next_job) calls.2, ap (λ (e : Engine D). e.version.durable) calls.2)
-  called_tells old (Done number) new calls = (tt, ap (λ (e : Engine D). e.next_job) calls.2, ap (λ (e : Engine D). e.version.durable) calls.2)
-  called_tells old (Refused code) new calls = (tt, ap (λ (e : Engine D). e.next_job) calls.4, ap (λ (e : Engine D). e.version.durable) calls.4)
+  called_tells : (old : Engine D g) (reply : Reply) (new : Engine D g) → Calls g old reply new → TellsOf old reply new
+  called_tells old Going new calls = (tt, ap (λ (e : Engine D g). e.next_job) calls.2, ap (λ (e : Engine D g). e.version.durable) calls.2)
+  called_tells old (Done number) new calls = (tt, ap (λ (e : Engine D g). e.next_job) calls.2, ap (λ (e : Engine D g). e.version.durable) calls.2)
+  called_tells old (Refused code) new calls = (tt, ap (λ (e : Engine D g). e.next_job) calls.4, ap (λ (e : Engine D g). e.version.durable) calls.4)
   called_tells old (Accepted number) new calls = absurd calls
   called_tells old (Taken number) new calls = absurd calls
   called_tells old NoJob new calls = absurd calls
@@ -44,15 +44,15 @@ module _ {D : Type 0} (g : Ghosts D) where
   called_tells old (RefusedAt place code) new calls = absurd calls
   called_tells old (Durable number) new calls = absurd calls
 
-  device_tells : (old : Engine D) (reply : Reply) (new : Engine D) → Devices g old reply new → TellsOf old reply new
+  device_tells : (old : Engine D g) (reply : Reply) (new : Engine D g) → Devices g old reply new → TellsOf old reply new
   device_tells old reply new (inl (busy, calls)) = called_tells old reply new calls
   device_tells old reply new (inr (inl (idle, mid, begins, calls))) =
-      from old mid new reply (ap (λ (e : Engine D). e.next_job) begins.rest) (ap (λ (e : Engine D). e.version.durable) begins.rest) (called_tells mid reply new calls)
+      from old mid new reply (ap (λ (e : Engine D g). e.next_job) begins.rest) (ap (λ (e : Engine D g). e.version.durable) begins.rest) (called_tells mid reply new calls)
   device_tells old reply new (inr (inr (idle, not_begun))) =
       subst (λ (r : Reply). TellsOf old r new) (sym not_begun.told) (tt, job_of old new not_begun.same, durable_of old new not_begun.same)
 
-  acts_tell : (step : Step) (old : Engine D) (reply : Reply) (new : Engine D) → Acts g step old reply new → TellsOf old reply new
-  acts_tell (Submit change) old (Accepted number) new acts = (tt, ap (λ (e : Engine D). e.next_job) acts.2, acts.0.durable)
+  acts_tell : (step : Step) (old : Engine D g) (reply : Reply) (new : Engine D g) → Acts g step old reply new → TellsOf old reply new
+  acts_tell (Submit change) old (Accepted number) new acts = (tt, ap (λ (e : Engine D g). e.next_job) acts.2, acts.0.durable)
   acts_tell (Submit change) old (Refused code) new acts = (tt, job_of old new acts.1, durable_of old new acts.1)
   acts_tell (Submit change) old (Taken number) new acts = absurd acts
   acts_tell (Submit change) old NoJob new acts = absurd acts
@@ -62,7 +62,7 @@ module _ {D : Type 0} (g : Ghosts D) where
   acts_tell (Submit change) old Going new acts = absurd acts
   acts_tell (Submit change) old (Done number) new acts = absurd acts
   acts_tell (Submit change) old (Durable number) new acts = absurd acts
-  acts_tell (SubmitAll batch) old (Accepted number) new acts = (tt, ap (λ (e : Engine D). e.next_job) acts.2, acts.0.durable)
+  acts_tell (SubmitAll batch) old (Accepted number) new acts = (tt, ap (λ (e : Engine D g). e.next_job) acts.2, acts.0.durable)
   acts_tell (SubmitAll batch) old (Refused code) new acts = (tt, job_of old new acts.1, durable_of old new acts.1)
   acts_tell (SubmitAll batch) old (RefusedAt place code) new acts = (tt, job_of old new acts.1, durable_of old new acts.1)
   acts_tell (SubmitAll batch) old (Taken number) new acts = absurd acts
@@ -93,7 +93,7 @@ module _ {D : Type 0} (g : Ghosts D) where
   acts_tell (Finish job) old (Done number) new acts = absurd acts
   acts_tell (Finish job) old (Durable number) new acts = absurd acts
   acts_tell Device old reply new acts = device_tells old reply new acts
-  acts_tell Report old (Durable number) new (reported, told, same) = (tt, ap (λ (e : Engine D). e.next_job) same, sym told)
+  acts_tell Report old (Durable number) new (reported, told, same) = (tt, ap (λ (e : Engine D g). e.next_job) same, sym told)
   acts_tell Report old (Refused code) new acts = (tt, job_of old new acts.1, durable_of old new acts.1)
   acts_tell Report old (Accepted number) new acts = absurd acts
   acts_tell Report old (Taken number) new acts = absurd acts
@@ -105,7 +105,7 @@ module _ {D : Type 0} (g : Ghosts D) where
   acts_tell Report old (Done number) new acts = absurd acts
 
   -- of the engine that the step before left
-  joined : (made : Made D) (old : Engine D) → made.old ≡ old → Acts g made.step made.old made.reply made.new → TellsOf old made.reply made.new
+  joined : (made : Made D g) (old : Engine D g) → made.old ≡ old → Acts g made.step made.old made.reply made.new → TellsOf old made.reply made.new
   joined made old joins acts = from old made.old made.new made.reply (job_of old made.old joins) (durable_of old made.old joins) (acts_tell made.step made.old made.reply made.new acts)
 
   pub jobs_are_numbered : JobsAreNumbered g
@@ -121,11 +121,11 @@ module _ {D : Type 0} (g : Ghosts D) where
       durable_is_told made.new run new leads ∙ ap (λ (n : ℕ). told_in n run) t.2
 
   -- the first steps of a run
-  first_steps : (before after : List (Made D)) (made : Made D) (old new : Engine D) → Leads g old (before ++ made ∷ after) new → Leads g old before made.old
+  first_steps : (before after : List (Made D g)) (made : Made D g) (old new : Engine D g) → Leads g old (before ++ made ∷ after) new → Leads g old before made.old
   first_steps [] after made old new (joins, acts, leads) = joins
   first_steps (one ∷ before) after made old new (joins, acts, leads) = (joins, acts, first_steps before after made one.new new leads)
 
   pub crash_keeps_told : CrashKeepsTold g
   crash_keeps_told old run new disk leads crash =
       durable_is_told old crash.before crash.made.old
-      (first_steps crash.before crash.after crash.made old new (subst (λ (r : List (Made D)). Leads g old r new) crash.among leads))
+      (first_steps crash.before crash.after crash.made old new (subst (λ (r : List (Made D g)). Leads g old r new) crash.among leads))

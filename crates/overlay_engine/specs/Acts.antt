@@ -15,7 +15,7 @@ use Rattle.overlay_engine.specs.Steps.{Submits, SubmitsAll, Takes, Finishes, Rep
 use Rattle.overlay_engine.specs.Devices.{Devices}
 
 -- a step is made and answered: what becomes of the engine
-abbrev pub Acts : {D : Type 0} → Ghosts D → Step → Engine D → Reply → Engine D → Type 0
+abbrev pub Acts : {D : Type 0} (g : Ghosts D) → Step → Engine D g → Reply → Engine D g → Type 0
 Acts g (Submit change) old reply new = Submits (command change) old reply new
 Acts g (SubmitAll batch) old reply new = SubmitsAll batch old reply new
 Acts g (Take name column) old reply new = Takes name column old reply new
@@ -30,6 +30,6 @@ accepted_by (SubmitAll batch) (Accepted number) = batch ∷ []
 accepted_by step reply = []
 
 -- a step of an engine that has accepted these batches: the store covers them, with the step's, as it ends; and a crash at any moment of the step leaves a version of them that is no older than what was durable as it began
-pub record Survives {D : Type 0} (g : Ghosts D) (start : Start) (batches : List Batch) (step : Step) (old : Engine D) (reply : Reply) (new : Engine D) : Type 0 where
+pub record Survives {D : Type 0} (g : Ghosts D) (start : Start) (batches : List Batch) (step : Step) (old : Engine D g) (reply : Reply) (new : Engine D g) : Type 0 where
   pub covers : Covers g start new.flusher new.version (batches ++ accepted_by step reply)
   pub moments : LeavesOnly g old.flusher.commit.disk new.flusher.commit.disk (Covered start old.version.durable batches)

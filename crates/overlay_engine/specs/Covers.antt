@@ -41,14 +41,14 @@ pub record CoveredExactly (start : Start) (number : ℕ) (batches : List Batch) 
 
 module _ {D : Type 0} (g : Ghosts D) (start : Start) where
   -- no commit is under way: the file stands for the version that is stored
-  pub record AtRest (f : Flusher D) (batches : List Batch) : Type 0 where
+  pub record AtRest (f : Flusher D g) (batches : List Batch) : Type 0 where
     pub x : Kept
     pub number : x.held.number ≡ f.commit.root.version
     pub stored : IsStored start batches x.held
     pub stands : Stands g f.commit x
 
   -- a commit is under way, from the version that is stored to one that is no older
-  pub record UnderWay (f : Flusher D) (batches : List Batch) : Type 0 where
+  pub record UnderWay (f : Flusher D g) (batches : List Batch) : Type 0 where
     pub x : Kept
     pub y : Kept
     pub number : x.held.number ≡ f.commit.root.version
@@ -59,7 +59,7 @@ module _ {D : Type 0} (g : Ghosts D) (start : Start) where
     pub runs : Runs g f.commit x y
 
   -- what is known of a store, by where its commit stands
-  abbrev pub In : Phase → Flusher D → List Batch → Type 0
+  abbrev pub In : Phase → Flusher D g → List Batch → Type 0
   In Idle f batches = AtRest f batches
   In Failed f batches = Leaves g f.commit.disk (Covered start f.commit.root.version batches)
   In Close f batches = UnderWay f batches
@@ -69,7 +69,7 @@ module _ {D : Type 0} (g : Ghosts D) (start : Start) where
   In Finish f batches = UnderWay f batches
 
   -- the version is the one after all the batches, its tiles are right, what is reported is stored, and the store holds a version of these batches whatever happens
-  pub record Covers (f : Flusher D) (version : Version) (batches : List Batch) : Type 0 where
+  pub record Covers (f : Flusher D g) (version : Version) (batches : List Batch) : Type 0 where
     pub honest : g.is_honest f.commit.disk
     pub number : version.number ≡ start.number + length batches
     pub layers : version.layers ≡ layers_from start batches
@@ -79,7 +79,7 @@ module _ {D : Type 0} (g : Ghosts D) (start : Start) where
     pub store : In f.commit.phase f batches
 
   -- a device call: the store covers the same version, and a crash at any moment of the call leaves one that is no older than what was reported as it began
-  pub record Moves (old new : Flusher D) (version : Version) (batches : List Batch) : Type 0 where
+  pub record Moves (old new : Flusher D g) (version : Version) (batches : List Batch) : Type 0 where
     pub covers : Covers new version batches
     pub moments : LeavesOnly g old.commit.disk new.commit.disk (Covered start version.durable batches)
 
@@ -90,7 +90,7 @@ added (kept name column tile) = []
 added (durable_to number) = []
 
 -- what an event reports durable is stored
-abbrev pub ReportsStored : {D : Type 0} → Flusher D → Event → Type 0
+abbrev pub ReportsStored : {D : Type 0} {g : Ghosts D} → Flusher D g → Event → Type 0
 ReportsStored f (accepted session batch) = Unit {0}
 ReportsStored f (kept name column tile) = Unit {0}
 ReportsStored f (durable_to number) = number ≤ f.commit.root.version

@@ -17,37 +17,37 @@ module _ {D : Type 0} (g : Ghosts D) where
   -- a version that follows by an event is covered, for the batches with those that the event adds
   abbrev pub EventsCover : Type 0
   EventsCover =
-      (start : Start) (f : Flusher D) (old new : Version) (event : Event) (batches : List Batch)
+      (start : Start) (f : Flusher D g) (old new : Version) (event : Event) (batches : List Batch)
       → Covers g start f old batches → Follows old event new → ReportsStored f event → Covers g start f new (batches ++ added event)
 
   -- between two steps a crash leaves a version that is no older than the stored one
   abbrev pub CoveredStays : Type 0
   CoveredStays =
-      (start : Start) (f : Flusher D) (version : Version) (batches : List Batch)
+      (start : Start) (f : Flusher D g) (version : Version) (batches : List Batch)
       → Covers g start f version batches → Leaves g f.commit.disk (Covered start f.commit.root.version batches)
 
   -- and it stands for something, where no commit is under way and no call has failed
   abbrev pub CoveredRests : Type 0
   CoveredRests =
-      (start : Start) (f : Flusher D) (version : Version) (batches : List Batch)
+      (start : Start) (f : Flusher D g) (version : Version) (batches : List Batch)
       → Covers g start f version batches → f.commit.phase ≡ Idle → (x : Kept) × Stands g f.commit x
 
   -- a store that was opened on this disk, with what its file holds
-  pub record IsOpened (disk : D) (f : Flusher D) (x : Kept) : Type 0 where
+  pub record IsOpened (disk : D) (f : Flusher D g) (x : Kept) : Type 0 where
     pub stays : g.may_leave disk (g.seen disk)
     pub reads : reading (g.seen disk) ≡ Ok x.held
     pub stands : Stands g f.commit x
     pub stored : f.commit.root.version ≡ x.held.number
 
   -- what a file holds is the version after the first batches, no older than the least, and the store covers it, all of it durable
-  pub record Recovers (start : Start) (f : Flusher D) (x : Kept) (least : ℕ) (batches : List Batch) : Type 0 where
+  pub record Recovers (start : Start) (f : Flusher D g) (x : Kept) (least : ℕ) (batches : List Batch) : Type 0 where
     pub no_less : least ≤ x.held.number
     pub no_more : x.held.number ≤ start.number + length batches
     pub covers : Covers g start f (version_of x.held) (up_to start x.held.number batches)
 
   abbrev pub OpenedRecovers : Type 0
   OpenedRecovers =
-      (start : Start) (disk : D) (f : Flusher D) (x : Kept) (least : ℕ) (batches : List Batch)
+      (start : Start) (disk : D) (f : Flusher D g) (x : Kept) (least : ℕ) (batches : List Batch)
       → Leaves g disk (Covered start least batches) → IsOpened disk f x → Recovers start f x least batches
 
   -- while the file is opened a crash leaves what was there, or what stands for the same
@@ -57,7 +57,7 @@ module _ {D : Type 0} (g : Ghosts D) where
       → (c : List ℕ) → g.may_leave disk c ⊎ (reading c ≡ reading (g.seen disk)) → Covered start least batches c
 
   -- a commit of a version begins: it leads from what the store stands for to that version, under its number
-  pub record IsBegun (old new : Flusher D) (version : Version) : Type 0 where
+  pub record IsBegun (old new : Flusher D g) (version : Version) : Type 0 where
     pub began : new.commit.phase ≡ Close
     pub honest : g.is_honest old.commit.disk → g.is_honest new.commit.disk
     pub runs : (x : Kept) → Stands g old.commit x → (y : Kept) × IsCommitOf version y × Runs g new.commit x y
@@ -65,5 +65,5 @@ module _ {D : Type 0} (g : Ghosts D) where
 
   abbrev pub BegunCovers : Type 0
   BegunCovers =
-      (start : Start) (old new : Flusher D) (version : Version) (batches : List Batch)
+      (start : Start) (old new : Flusher D g) (version : Version) (batches : List Batch)
       → old.commit.phase ≡ Idle → Covers g start old version batches → IsBegun old new version → Covers g start new version batches

@@ -13,16 +13,16 @@ use Rattle.overlay_engine.specs.Acts.{Acts, Survives, accepted_by}
 use Rattle.overlay_engine.specs.Recovery.{Recovered}
 
 -- an engine, and the batches that it has accepted since the start
-pub record Stage (D : Type 0) : Type 0 where
-  pub engine : Engine D
+pub record Stage (D : Type 0) (g : Ghosts D) : Type 0 where
+  pub engine : Engine D g
   pub batches : List Batch
 
 module _ {D : Type 0} (g : Ghosts D) (start : Start) where
-  abbrev pub IsCovered : Stage D → Type 0
+  abbrev pub IsCovered : Stage D g → Type 0
   IsCovered stage = Covers g start stage.engine.flusher stage.engine.version stage.batches
 
   -- a step is made: what `act` tells of it
-  pub record StepsTo (old new : Stage D) : Type 0 where
+  pub record StepsTo (old new : Stage D g) : Type 0 where
     pub step : Step
     pub reply : Reply
     pub acts : Acts g step old.engine reply new.engine
@@ -41,10 +41,10 @@ module _ {D : Type 0} (g : Ghosts D) (start : Start) where
   TriesTo disk (next ∷ more) last = Tries disk next × TriesTo next more last
 
   -- the machine crashes within a step, and what that leaves is recovered in the end, after so many recoveries that were stopped or refused
-  pub record CrashesTo (old new : Stage D) : Type 0 where
+  pub record CrashesTo (old new : Stage D g) : Type 0 where
     pub step : Step
     pub reply : Reply
-    pub end : Engine D
+    pub end : Engine D g
     pub survives : IsCovered old → Survives g start old.batches step old.engine reply end
     pub disk : D
     pub leaves : (c : List ℕ) → g.may_leave disk c → g.left_since end.flusher.commit.disk (g.moment old.engine.flusher.commit.disk) c
@@ -55,16 +55,16 @@ module _ {D : Type 0} (g : Ghosts D) (start : Start) where
     pub batches : new.batches ≡ up_to start new.engine.version.number old.batches
 
   -- each stage is had from the one before it, by a step or over a crash
-  abbrev pub Lives : Stage D → List (Stage D) → Type 0
+  abbrev pub Lives : Stage D g → List (Stage D g) → Type 0
   Lives stage [] = Unit {0}
   Lives stage (next ∷ more) = (StepsTo stage next ⊎ CrashesTo stage next) × Lives next more
 
   -- what was durable at one stage stands at a later one: its version is that of batches which begin with the same ones
-  pub record Keeps (old new : Stage D) : Type 0 where
+  pub record Keeps (old new : Stage D g) : Type 0 where
     pub covered : IsCovered new
     pub durable : old.engine.version.durable ≤ new.engine.version.durable
     pub same : up_to start old.engine.version.durable new.batches ≡ up_to start old.engine.version.durable old.batches
 
   -- through any steps, crashes and recoveries nothing is lost that was durable at some moment
   abbrev pub NothingIsLost : Type 0
-  NothingIsLost = (stage : Stage D) (later : List (Stage D)) → IsCovered stage → Lives stage later → AllByRecursion (Keeps stage) later
+  NothingIsLost = (stage : Stage D g) (later : List (Stage D g)) → IsCovered stage → Lives stage later → AllByRecursion (Keeps stage) later

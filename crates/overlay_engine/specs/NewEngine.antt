@@ -9,7 +9,7 @@ use Rattle.flush_core.specs.Stored.{IsImageOf}
 use Rattle.overlay_engine.specs.declared.engine.Engine.{Engine}
 
 -- a store that was made or opened with a version: no commit is under way and no call has failed; whatever a crash leaves stands for the version's number, its layers, each of its finished tiles and no other; and the version is the one that is stored, durable no further than that
-pub record IsNewStore {D : Type 0} (g : Ghosts D) (version : Version) (f : Flusher D) : Type 0 where
+pub record IsNewStore {D : Type 0} (g : Ghosts D) (version : Version) (f : Flusher D g) : Type 0 where
   pub x : Kept
   pub stands : Stands g f.commit x
   pub image : IsImageOf version x.held
@@ -17,5 +17,5 @@ pub record IsNewStore {D : Type 0} (g : Ghosts D) (version : Version) (f : Flush
   pub reported : version.durable ≤ f.commit.root.version
 
 -- an engine with such a store
-abbrev pub IsNewEngine : {D : Type 0} → Ghosts D → Engine D → Type 0
+abbrev pub IsNewEngine : {D : Type 0} (g : Ghosts D) → Engine D g → Type 0
 IsNewEngine g e = IsNewStore g e.version e.flusher

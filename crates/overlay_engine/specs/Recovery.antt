@@ -16,7 +16,7 @@ use Rattle.overlay_engine.specs.Covers.{Covered, Covers}
 
 module _ {D : Type 0} (g : Ghosts D) (start : Start) (disk : D) where
   -- an engine is recovered: its version is the one after the first batches, no older than the least, and durable; a crash meanwhile leaves what recovers as well
-  pub record Recovered (e : Engine D) (least : ℕ) (batches : List Batch) : Type 0 where
+  pub record Recovered (e : Engine D g) (least : ℕ) (batches : List Batch) : Type 0 where
     pub no_less : least ≤ e.version.number
     pub no_more : e.version.number ≤ start.number + length batches
     pub durable : e.version.durable ≡ e.version.number
@@ -37,6 +37,6 @@ module _ {D : Type 0} (g : Ghosts D) (start : Start) (disk : D) where
 -- where a point lies for a layer of a recovered version: what `locate` tells of it is right for the layers after the commands
 abbrev pub RecoveredAnswers : {D : Type 0} → Ghosts D → Type 0
 RecoveredAnswers {D = D} g =
-    (start : Start) (disk : D) (e : Engine D) (least : ℕ) (batches : List Batch) → Recovered g start disk e least batches
+    (start : Start) (disk : D) (e : Engine D g) (least : ℕ) (batches : List Batch) → Recovered g start disk e least batches
     → (name : Name) (query : Point) (told : Place) → location told ≡ answer_at e.version.layers name query
     → location told ≡ answer_at (layers_from start (up_to start e.version.number batches)) name query

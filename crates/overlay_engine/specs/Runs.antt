@@ -12,50 +12,50 @@ use Rattle.overlay_engine.specs.Committing.{CommitsJust}
 use Rattle.overlay_engine.specs.Acts.{Acts, Survives, accepted_by}
 
 -- a step that was made: what was asked, of which engine, what was answered, and which engine it left
-pub record Made (D : Type 0) : Type 0 where
+pub record Made (D : Type 0) (g : Ghosts D) : Type 0 where
   pub step : Step
-  pub old : Engine D
+  pub old : Engine D g
   pub reply : Reply
-  pub new : Engine D
+  pub new : Engine D g
 
 -- the batches that were accepted in a run
-abbrev pub accepted_in : {D : Type 0} → List (Made D) → List Batch
-accepted_in {D = D} run = flat_map (λ (made : Made D). accepted_by made.step made.reply) run
+abbrev pub accepted_in : {D : Type 0} {g : Ghosts D} → List (Made D g) → List Batch
+accepted_in {D = D} {g = g} run = flat_map (λ (made : Made D g). accepted_by made.step made.reply) run
 
 module _ {D : Type 0} (g : Ghosts D) where
   -- each step is made of the engine that the one before it left
-  abbrev pub Leads : Engine D → List (Made D) → Engine D → Type 0
+  abbrev pub Leads : Engine D g → List (Made D g) → Engine D g → Type 0
   Leads old [] new = new ≡ old
   Leads old (made ∷ run) new = (made.old ≡ old) × Acts g made.step made.old made.reply made.new × Leads made.new run new
 
   -- a run of these steps, with these answers
-  pub record IsRun (steps : List Step) (old : Engine D) (replies : List Reply) (new : Engine D) (run : List (Made D)) : Type 0 where
-    pub asked : map (λ (made : Made D). made.step) run ≡ steps
-    pub answered : map (λ (made : Made D). made.reply) run ≡ replies
+  pub record IsRun (steps : List Step) (old : Engine D g) (replies : List Reply) (new : Engine D g) (run : List (Made D g)) : Type 0 where
+    pub asked : map (λ (made : Made D g). made.step) run ≡ steps
+    pub answered : map (λ (made : Made D g). made.reply) run ≡ replies
     pub leads : Leads old run new
 
   -- a crash within any step of a run leaves a version of the batches that were accepted before the step, no older than what was durable as the step began
-  abbrev pub EachSurvives : Start → List Batch → List (Made D) → Type 0
+  abbrev pub EachSurvives : Start → List Batch → List (Made D g) → Type 0
   EachSurvives start batches [] = Unit {0}
   EachSurvives start batches (made ∷ run) =
       Survives g start batches made.step made.old made.reply made.new × EachSurvives start (batches ++ accepted_by made.step made.reply) run
 
   -- each step of a run commits just what it is to commit
-  abbrev pub EachCommits : List (Made D) → Type 0
-  EachCommits run = AllByRecursion (λ (made : Made D). CommitsJust g made.old made.reply made.new) run
+  abbrev pub EachCommits : List (Made D g) → Type 0
+  EachCommits run = AllByRecursion (λ (made : Made D g). CommitsJust g made.old made.reply made.new) run
 
   -- steps are made one after the other, by a run of which each step commits just what it is to commit, and that a crash within any of its steps survives; in the end the store covers the batches, with those that were accepted
-  pub record Drives (steps : List Step) (old : Engine D) (replies : List Reply) (new : Engine D) : Type 0 where
-    pub run : List (Made D)
+  pub record Drives (steps : List Step) (old : Engine D g) (replies : List Reply) (new : Engine D g) : Type 0 where
+    pub run : List (Made D g)
     pub is : IsRun steps old replies new run
     pub commits : EachCommits run
     pub survives : (start : Start) (batches : List Batch) → Covers g start old.flusher old.version batches
         → EachSurvives start batches run × Covers g start new.flusher new.version (batches ++ accepted_in run)
 
   -- a machine crashes within a step of a run: a disk may leave only what a crash at some moment of that step may have left
-  pub record CrashesIn (run : List (Made D)) (disk : D) : Type 0 where
-    pub before : List (Made D)
-    pub made : Made D
-    pub after : List (Made D)
+  pub record CrashesIn (run : List (Made D g)) (disk : D) : Type 0 where
+    pub before : List (Made D g)
+    pub made : Made D g
+    pub after : List (Made D g)
     pub among : run ≡ before ++ made ∷ after
     pub leaves : (c : List ℕ) → g.may_leave disk c → g.left_since made.new.flusher.commit.disk (g.moment made.old.flusher.commit.disk) c

@@ -8,6 +8,7 @@ use Rattle.overlay_terms.specs.Commands.{Command, refusal_at}
 use Rattle.overlay_terms.specs.Batches.{Batch, batch_refusal_at}
 use Rattle.overlay_terms.specs.Histories.{Version, Tile, tile_at, FollowsCommand, FollowsBatch, FollowsTile, IsReported}
 use Rattle.overlay_terms.specs.Column.{column_numbered}
+use Rattle.disk_model.specs.declared.disk.Disk.{Ghosts}
 use Rattle.layer_book.specs.declared.fault.LayerFault.{LayerFault}
 use Rattle.layer_book.specs.Fault.{code_of, fault_of}
 use Rattle.layer_book.specs.BatchFault.{RefusedAllBy}
@@ -45,16 +46,16 @@ IsResult version job (finish.Kept next) =
     IsAwaited version job.name job.input × (tile : Tile) × FollowsTile version job.name job.input.column tile next
 IsResult version job finish.Stale = ¬ (IsAwaited version job.name job.input)
 
-module _ {D : Type 0} where
+module _ {D : Type 0} {g : Ghosts D} where
   -- nothing changes but where the jobs lie in memory
-  pub record Stays (old new : Engine D) : Type 0 where
+  pub record Stays (old new : Engine D g) : Type 0 where
     pub version : new.version ≡ old.version
     pub flusher : new.flusher ≡ old.flusher
     pub jobs : new.jobs.items ≡ old.jobs.items
     pub next_job : new.next_job ≡ old.next_job
 
   -- an engine makes a command: it is accepted, and the version follows; or it is refused for the first reason
-  abbrev pub Submits : Command → Engine D → Reply → Engine D → Type 0
+  abbrev pub Submits : Command → Engine D g → Reply → Engine D g → Type 0
   Submits command old (Accepted number) new =
       FollowsCommand old.version command new.version × (number ≡ new.version.number) × (new ≡ record old { version = new.version })
   Submits command old (Refused code) new =
@@ -63,7 +64,7 @@ module _ {D : Type 0} where
 
   -- an engine makes a batch: it is accepted as one version; or it is refused for the first reason, with the place of the
   -- command where it is one's; or memory runs out
-  abbrev pub SubmitsAll : Batch → Engine D → Reply → Engine D → Type 0
+  abbrev pub SubmitsAll : Batch → Engine D g → Reply → Engine D g → Type 0
   SubmitsAll batch old (Accepted number) new =
       FollowsBatch old.version batch new.version × (number ≡ new.version.number) × (new ≡ record old { version = new.version })
   SubmitsAll batch old (RefusedAt place code) new =
@@ -73,7 +74,7 @@ module _ {D : Type 0} where
   SubmitsAll batch old reply new = ⊥
 
   -- a job more is held, under the next number: of the present input of a tile
-  pub record Holds (name : Name) (column : ℕ) (old : Engine D) (number : ℕ) (new : Engine D) : Type 0 where
+  pub record Holds (name : Name) (column : ℕ) (old : Engine D g) (number : ℕ) (new : Engine D g) : Type 0 where
     pub next : number ≡ old.next_job
     pub risen : new.next_job ≡ number + 1
     pub jobs : new.jobs.items ≡ old.jobs.items ++ record { number = number; name = name; input = input_of old.version.layers name column } ∷ []
@@ -81,11 +82,11 @@ module _ {D : Type 0} where
     pub flusher : new.flusher ≡ old.flusher
 
   -- no job can be had of a tile: it is finished, or all numbers are used
-  abbrev pub HasNoJob : Name → ℕ → Engine D → Type 0
+  abbrev pub HasNoJob : Name → ℕ → Engine D g → Type 0
   HasNoJob name column e = IsTrue (is_some (tile_at e.version.tiles name column)) ⊎ (e.next_job ≡ jobs_max)
 
   -- an engine hands out the input of a tile: there is no such tile, or no job can be had of it, or it is pending and its job is held
-  abbrev pub Takes : Name → ℕ → Engine D → Reply → Engine D → Type 0
+  abbrev pub Takes : Name → ℕ → Engine D g → Reply → Engine D g → Type 0
   Takes name column old (Taken number) new =
       (tile_refusal old.version.layers name (column_numbered column) ≡ None) × ¬ (HasNoJob name column old) × Holds name column old number new
   Takes name column old NoJob new =
@@ -95,7 +96,7 @@ module _ {D : Type 0} where
   Takes name column old reply new = ⊥
 
   -- a job that is held is given up, and nothing else changes but the version
-  pub record GivesUp (number : ℕ) (old : Engine D) (job : HeldJob) (new : Engine D) : Type 0 where
+  pub record GivesUp (number : ℕ) (old : Engine D g) (job : HeldJob) (new : Engine D g) : Type 0 where
     pub index : ℕ
     pub there : job_at number old.jobs.items ≡ Some index
     pub held : slice_get old.jobs.items index ≡ Some job
@@ -104,7 +105,7 @@ module _ {D : Type 0} where
     pub flusher : new.flusher ≡ old.flusher
 
   -- an engine builds the tile of a job: none has the number; or the job is given up, and its tile is kept or stale; or memory runs out, and the job is held on
-  abbrev pub Finishes : ℕ → Engine D → Reply → Engine D → Type 0
+  abbrev pub Finishes : ℕ → Engine D g → Reply → Engine D g → Type 0
   Finishes number old Kept new = (job : HeldJob) × GivesUp number old job new × IsResult old.version job (finish.Kept new.version)
   Finishes number old Stale new = (job : HeldJob) × GivesUp number old job new × IsResult old.version job finish.Stale × (new.version ≡ old.version)
   Finishes number old NoJob new = (job_at number old.jobs.items ≡ None) × (new ≡ old)
@@ -112,7 +113,7 @@ module _ {D : Type 0} where
   Finishes number old reply new = ⊥
 
   -- an engine reports what is stored, and tells what is durable now
-  abbrev pub Reports : Engine D → Reply → Engine D → Type 0
+  abbrev pub Reports : Engine D g → Reply → Engine D g → Type 0
   Reports old (Durable number) new =
       IsReported old.version old.flusher.commit.root.version new.version × (number ≡ new.version.durable) × (new ≡ record old { version = new.version })
   Reports old (Refused code) new = (code ≡ 40) × (new ≡ old)

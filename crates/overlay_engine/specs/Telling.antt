@@ -17,7 +17,7 @@ next_after next (Taken number) = number + 1
 next_after next reply = next
 
 -- the jobs that a run hands out have the numbers from this one on, each of them once
-abbrev pub Numbered : {D : Type 0} → ℕ → List (Made D) → Type 0
+abbrev pub Numbered : {D : Type 0} {g : Ghosts D} → ℕ → List (Made D g) → Type 0
 Numbered next [] = Unit {0}
 Numbered next (made ∷ run) = HasNumber next made.reply × Numbered (next_after next made.reply) run
 
@@ -26,19 +26,19 @@ abbrev pub told_after : ℕ → Reply → ℕ
 told_after number (Durable told) = told
 told_after number reply = number
 
-abbrev pub told_in : {D : Type 0} → ℕ → List (Made D) → ℕ
+abbrev pub told_in : {D : Type 0} {g : Ghosts D} → ℕ → List (Made D g) → ℕ
 told_in number [] = number
 told_in number (made ∷ run) = told_in (told_after number made.reply) run
 
 module _ {D : Type 0} (g : Ghosts D) where
   -- no job number is used twice
   abbrev pub JobsAreNumbered : Type 0
-  JobsAreNumbered = (old : Engine D) (run : List (Made D)) (new : Engine D) → Leads g old run new → Numbered old.next_job run
+  JobsAreNumbered = (old : Engine D g) (run : List (Made D g)) (new : Engine D g) → Leads g old run new → Numbered old.next_job run
 
   -- the durable number that was told last is the version's, in the end and as a crash comes
   abbrev pub DurableIsTold : Type 0
-  DurableIsTold = (old : Engine D) (run : List (Made D)) (new : Engine D) → Leads g old run new → new.version.durable ≡ told_in old.version.durable run
+  DurableIsTold = (old : Engine D g) (run : List (Made D g)) (new : Engine D g) → Leads g old run new → new.version.durable ≡ told_in old.version.durable run
 
   abbrev pub CrashKeepsTold : Type 0
-  CrashKeepsTold = (old : Engine D) (run : List (Made D)) (new : Engine D) (disk : D) → Leads g old run new
+  CrashKeepsTold = (old : Engine D g) (run : List (Made D g)) (new : Engine D g) (disk : D) → Leads g old run new
       → (crash : CrashesIn g run disk) → crash.made.old.version.durable ≡ told_in old.version.durable crash.before

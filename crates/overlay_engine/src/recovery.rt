@@ -38,7 +38,7 @@ impl<D: Disk> Engine<D> {
         ensures err { D.is_honest disk → IfErr result (λ refused. (start : Start) (least : ℕ) (batches : List Batch)
             → Leaves D.Disk disk (Covered start least batches) → Refused D.Disk start disk refused least batches) }
         // So it is after a crash within any step of a run of an engine: at least what was durable as that step began.
-        ensures crashed { D.is_honest disk → (start : Start) (batches : List Batch) (run : List (Made D))
+        ensures crashed { D.is_honest disk → (start : Start) (batches : List Batch) (run : List (Made D D.Disk))
             → EachSurvives D.Disk start batches run → (crash : CrashesIn D.Disk run disk)
             → MatchResult result (λ e. Recovered D.Disk start disk e crash.made.old.version.durable (batches ++ accepted_in crash.before))
             (λ refused. Refused D.Disk start disk refused crash.made.old.version.durable (batches ++ accepted_in crash.before)) }

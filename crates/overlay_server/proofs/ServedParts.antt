@@ -23,26 +23,26 @@ use Rattle.overlay_server.proofs.Parts.{AreSeated, are_served, begins_first}
 use Rattle.overlay_server.proofs.Stores.{Closes, left_by}
 
 -- a server began so: its store's log, and the scripts with their sessions
-pub record Began {R D : Type 0} (book : Book) (start : Version) (readers : List R) (store : Store D) (scripts : List (Script R)) : Type 0 where
+pub record Began {R D : Type 0} (book : Book) (start : Version) (readers : List R) (store : Store D g) (scripts : List (Script R)) : Type 0 where
   pub log : store.reporter.log ≡ first_log start
   pub some : 0 < length readers
   pub seated : AreSeated book start readers scripts
 
 -- its threads have returned
-pub record Ran {R D : Type 0} (g : Ghosts D) (book : Book) (stored : Bool) (remaining : R → Option (List ℕ)) (store after : Store D) (scripts : List (Script R)) (ended : List (Ended R)) : Type 0 where
+pub record Ran {R D : Type 0} (g : Ghosts D) (book : Book) (stored : Bool) (remaining : R → Option (List ℕ)) (store after : Store D g) (scripts : List (Script R)) (ended : List (Ended R)) : Type 0 where
   pub sessions : AllZip (IsRunOf book stored remaining) scripts ended
   pub kept : IsStoreKept book g store after
   pub stored_is : stored ≡ is_some store.flusher
 
 -- its book is closed
-pub record IsClosed {R D : Type 0} (g : Ghosts D) (after : Store D) (ended : List (Ended R)) (served : Served D) : Type 0 where
+pub record IsClosed {R D : Type 0} (g : Ghosts D) (after : Store D g) (ended : List (Ended R)) (served : Served D) : Type 0 where
   pub version : arc_value served.closed.version ≡ newest_in served.closed.seen_log.log
   pub log : IsLog served.closed.seen_log.log
   pub sessions : All (HasAllOf served.closed.seen_log.log) (map ended_session ended)
   pub outcomes : served.sessions.items ≡ map outcome_of ended
   pub store : Closes g after.reporter after.flusher served.closed
 
-pub served_from : {R D : Type 0} (g : Ghosts D) (book : Book) (stored : Bool) (remaining : R → Option (List ℕ)) (start : Version) (readers : List R) (store after : Store D)
+pub served_from : {R D : Type 0} (g : Ghosts D) (book : Book) (stored : Bool) (remaining : R → Option (List ℕ)) (start : Version) (readers : List R) (store after : Store D g)
     (scripts : List (Script R)) (ended : List (Ended R)) (served : Served D) → Began book start readers store scripts → Ran g book stored remaining store after scripts ended
     → IsClosed g after ended served → IsServedFrom remaining g start store.flusher readers served
 served_from g book stored remaining start readers store after scripts ended served began ran closed = record {

@@ -35,7 +35,7 @@ at_rest Failed rests = inr refl
 module _ {D : Type 0} (g : Ghosts D) where
   -- ---- two runs in a row
 
-  flushed_twice : (a b c : Heard) (f h k : Option (Flusher D)) → AreFlushed g a f b h → AreFlushed g b h c k → AreFlushed g a f c k
+  flushed_twice : (a b c : Heard) (f h k : Option (Flusher D g)) → AreFlushed g a f b h → AreFlushed g b h c k → AreFlushed g a f c k
   flushed_twice a b c None None None first second = second ∙ first
   flushed_twice a b c None None (Some w) first second = absurd second
   flushed_twice a b c None (Some v) k first second = absurd first
@@ -47,7 +47,7 @@ module _ {D : Type 0} (g : Ghosts D) where
     rests = second.rests;
   }
 
-  pub kept_twice : (book : Book) (a b c : Store D) → IsStoreKept book g a b → IsStoreKept book g b c → IsStoreKept book g a c
+  pub kept_twice : (book : Book) (a b c : Store D g) → IsStoreKept book g a b → IsStoreKept book g b c → IsStoreKept book g a c
   kept_twice book a b c first second = record {
     of = second.of;
     valid = second.valid;
@@ -69,17 +69,17 @@ module _ {D : Type 0} (g : Ghosts D) where
       subst (λ (n : ℕ). Leaves g disk (P n)) same (subst (λ (o : Option D). IfSome o (λ (d : D). Leaves g d (P stored))) is left)
 
   -- what `close` tells of a store, where the log goes on from what its reporter has seen
-  pub record Closes (now : Heard) (store : Option (Flusher D)) (closed : Closed D) : Type 0 where
+  pub record Closes (now : Heard) (store : Option (Flusher D g)) (closed : Closed D) : Type 0 where
     pub on : BeginsWith (history_of closed.seen_log.log) (history_of now.log)
     pub none : IfNone store ((closed.stored ≡ 0) × (closed.disk ≡ None))
-    pub disk : IfSome store (λ (f : Flusher D). (closed.stored ≡ f.commit.root.version) × (closed.disk ≡ Some f.commit.disk))
-    pub reported : IfSome store (λ (f : Flusher D). (newest_in now.log).durable ≤ f.commit.root.version → All (λ (e : Entry). e.version.durable ≤ closed.stored) closed.seen_log.log)
-    pub files : IfSome store (λ (f : Flusher D). Leaves g f.commit.disk (IsFileIn (history_of now.log) f.commit.root.version)
+    pub disk : IfSome store (λ (f : Flusher D g). (closed.stored ≡ f.commit.root.version) × (closed.disk ≡ Some f.commit.disk))
+    pub reported : IfSome store (λ (f : Flusher D g). (newest_in now.log).durable ≤ f.commit.root.version → All (λ (e : Entry). e.version.durable ≤ closed.stored) closed.seen_log.log)
+    pub files : IfSome store (λ (f : Flusher D g). Leaves g f.commit.disk (IsFileIn (history_of now.log) f.commit.root.version)
         → IfSome closed.disk (λ (d : D). Leaves g d (IsFileIn (history_of closed.seen_log.log) closed.stored)))
-    pub exactly : IfSome store (λ (f : Flusher D). IsStoreOf g (history_of now.log) f → f.commit.phase ≡ Idle
+    pub exactly : IfSome store (λ (f : Flusher D g). IsStoreOf g (history_of now.log) f → f.commit.phase ≡ Idle
         → IfSome closed.disk (λ (d : D). Leaves g d (IsFileExactlyIn (history_of closed.seen_log.log) closed.stored)))
 
-  pub left_by : (start : Version) (was now : Heard) (old new : Option (Flusher D)) (closed : Closed D) → was.log ≡ first_log start
+  pub left_by : (start : Version) (was now : Heard) (old new : Option (Flusher D g)) (closed : Closed D) → was.log ≡ first_log start
       → AreFlushed g was old now new → Closes now new closed → IsLeftOfStore g start old closed
   left_by start was now None None closed first flushed closes = closes.none
   left_by start was now None (Some l) closed first flushed closes = absurd flushed
@@ -108,8 +108,8 @@ module _ {D : Type 0} (g : Ghosts D) where
 
   -- ---- where a server could not run
 
-  pub stopped_by : (start : Version) (was now : Heard) (old new : Option (Flusher D)) (back : Option D) → was.log ≡ first_log start → IsLog now.log
-      → AreFlushed g was old now new → MatchOption new (back ≡ None) (λ (f : Flusher D). back ≡ Some f.commit.disk) → StoreComesBack g start old back
+  pub stopped_by : (start : Version) (was now : Heard) (old new : Option (Flusher D g)) (back : Option D) → was.log ≡ first_log start → IsLog now.log
+      → AreFlushed g was old now new → MatchOption new (back ≡ None) (λ (f : Flusher D g). back ≡ Some f.commit.disk) → StoreComesBack g start old back
   stopped_by start was now None None back first valid flushed is = is
   stopped_by start was now None (Some l) back first valid flushed is = absurd flushed
   stopped_by start was now (Some f) None back first valid flushed is = absurd flushed
@@ -127,8 +127,8 @@ module _ {D : Type 0} (g : Ghosts D) where
   }
 
   -- before any thread ran
-  pub stopped_at_once : (start : Version) (old : Option (Flusher D)) (back : Option D) → HasOnlyNow g
-      → MatchOption old (back ≡ None) (λ (f : Flusher D). back ≡ Some f.commit.disk) → StoreComesBack g start old back
+  pub stopped_at_once : (start : Version) (old : Option (Flusher D g)) (back : Option D) → HasOnlyNow g
+      → MatchOption old (back ≡ None) (λ (f : Flusher D g). back ≡ Some f.commit.disk) → StoreComesBack g start old back
   stopped_at_once start None back now is = is
   stopped_at_once start (Some f) back now is = record {
     disk = f.commit.disk;

@@ -15,7 +15,7 @@ use Rattle.overlay_server.specs.Serving.{first_log}
 
 -- what a server asks of its store is what an engine has that was just made or recovered
 abbrev pub NewEnginesAreStores : {D : Type 0} → Ghosts D → Type 0
-NewEnginesAreStores {D = D} g = (e : Engine D) → IsNewEngine g e → IsStoreOf g (history_of (first_log e.version)) e.flusher
+NewEnginesAreStores {D = D} g = (e : Engine D g) → IsNewEngine g e → IsStoreOf g (history_of (first_log e.version)) e.flusher
 
 -- where the batches of a history begin
 abbrev pub start_of_batches : Version → Start

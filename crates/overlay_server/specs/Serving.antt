@@ -23,12 +23,12 @@ use Rattle.overlay_server.specs.declared.outcome.Served.{Served}
 use Rattle.overlay_server.specs.declared.outcome.ServerFault.{ServerFault}
 
 -- the version that a server begins with
-abbrev pub start_of : {D : Type 0} → Option (Engine D) → Version
+abbrev pub start_of : {D : Type 0} {g : Ghosts D} → Option (Engine D g) → Version
 start_of None = empty_version
 start_of (Some engine) = engine.version
 
 -- the store that it commits to
-abbrev pub flusher_of : {D : Type 0} → Option (Engine D) → Option (Flusher D)
+abbrev pub flusher_of : {D : Type 0} {g : Ghosts D} → Option (Engine D g) → Option (Flusher D g)
 flusher_of None = None
 flusher_of (Some engine) = Some engine.flusher
 
@@ -69,7 +69,7 @@ module _ {D : Type 0} (g : Ghosts D) where
   -- what a run leaves of a store: a crash at any moment of it leaves a file that stands for a version of the log that the
   -- run ended with, no older than what was stored at first, and from then on no older than what is stored; that is no
   -- older than what was reported durable; and just it, unless a device call failed, before the run or within it
-  pub record IsLeftBy (log : List Entry) (old last : Flusher D) : Type 0 where
+  pub record IsLeftBy (log : List Entry) (old last : Flusher D g) : Type 0 where
     pub no_less : old.commit.root.version ≤ last.commit.root.version
     pub moments : LeavesOnly g old.commit.disk last.commit.disk (IsFileIn (history_of log) old.commit.root.version)
     pub reported : All (λ (e : Entry). e.version.durable ≤ last.commit.root.version) log
@@ -78,41 +78,41 @@ module _ {D : Type 0} (g : Ghosts D) where
         ⊎ Leaves g last.commit.disk (IsFileExactlyIn (history_of log) last.commit.root.version))
 
   -- what is left of a store of the first version: its disk, with no commit under way
-  pub record IsLeft (start : Version) (old : Flusher D) (closed : Closed D) : Type 0 where
-    pub last : Flusher D
+  pub record IsLeft (start : Version) (old : Flusher D g) (closed : Closed D) : Type 0 where
+    pub last : Flusher D g
     pub disk : closed.disk ≡ Some last.commit.disk
     pub stored : closed.stored ≡ last.commit.root.version
     pub rests : is_busy last.commit.phase ≡ false
     pub left : IsStoreOf g (history_of (first_log start)) old → IsLeftBy closed.seen_log.log old last
 
   -- the same where there was one
-  abbrev pub IsLeftOfStore : Version → Option (Flusher D) → Closed D → Type 0
+  abbrev pub IsLeftOfStore : Version → Option (Flusher D g) → Closed D → Type 0
   IsLeftOfStore start None closed = (closed.stored ≡ 0) × (closed.disk ≡ None)
   IsLeftOfStore start (Some old) closed = IsLeft start old closed
 
   -- a server that could not run left a store: a crash at any moment left a file that stands for a version of a log that
   -- begins with the first version
-  pub record IsStoppedBy (start : Version) (old : Flusher D) (disk : D) : Type 0 where
+  pub record IsStoppedBy (start : Version) (old : Flusher D g) (disk : D) : Type 0 where
     pub log : List Entry
     pub valid : IsLog log
     pub begins : (history_of log).start ≡ start
     pub moments : LeavesOnly g old.commit.disk disk (IsFileIn (history_of log) old.commit.root.version)
 
   -- the disk comes back
-  pub record ComesBack (start : Version) (old : Flusher D) (back : Option D) : Type 0 where
+  pub record ComesBack (start : Version) (old : Flusher D g) (back : Option D) : Type 0 where
     pub disk : D
     pub there : back ≡ Some disk
     pub stopped : IsStoreOf g (history_of (first_log start)) old → IsStoppedBy start old disk
 
   -- the same where there was one
-  abbrev pub StoreComesBack : Version → Option (Flusher D) → Option D → Type 0
+  abbrev pub StoreComesBack : Version → Option (Flusher D g) → Option D → Type 0
   StoreComesBack start None back = back ≡ None
   StoreComesBack start (Some old) back = ComesBack start old back
 
 -- ---- the server
 
 -- a server ran: from a version and its store to the end of its book
-pub record IsServedFrom {R D : Type 0} (remaining : R → Option (List ℕ)) (g : Ghosts D) (start : Version) (store : Option (Flusher D)) (readers : List R) (served : Served D) : Type 0 where
+pub record IsServedFrom {R D : Type 0} (remaining : R → Option (List ℕ)) (g : Ghosts D) (start : Version) (store : Option (Flusher D g)) (readers : List R) (served : Served D) : Type 0 where
   pub version : arc_value served.closed.version ≡ newest_in served.closed.seen_log.log
   pub log : IsLog served.closed.seen_log.log
   pub begins : (history_of served.closed.seen_log.log).start ≡ start
@@ -120,6 +120,6 @@ pub record IsServedFrom {R D : Type 0} (remaining : R → Option (List ℕ)) (g 
   pub kept : IsLeftOfStore g start store served.closed
 
 -- a server could not run: for want of memory or of a thread, or of places in the book; the disk comes back
-pub record IsRefusedFrom {D : Type 0} (g : Ghosts D) (start : Version) (store : Option (Flusher D)) (fault : ServerFault D) : Type 0 where
+pub record IsRefusedFrom {D : Type 0} (g : Ghosts D) (start : Version) (store : Option (Flusher D g)) (fault : ServerFault D) : Type 0 where
   pub code : (fault.code ≡ 40) ⊎ (fault.code ≡ 44)
   pub back : StoreComesBack g start store fault.disk

@@ -9,3 +9,6 @@ mod WritingLemmas
 pub mod Reasons
 mod OpeningLemmas
 mod CreatingLemmas
+mod Stable
+pub mod Known
+mod Arms

@@ -109,7 +109,7 @@ module _ {D : Type 0} (g : Ghosts D) where
         subst (λ (ws : List Write). Leads P ws file) (at_drop_all (λ (ws : List Write). ws) plan i past) leads
 
   -- a step whose call failed
-  pub failed : (old new : Commit D) (result : Result Progress StoreFault) (x y : Kept) → IsErr result
+  pub failed : (old new : Commit D g) (result : Result Progress StoreFault) (x y : Kept) → IsErr result
       → new.phase ≡ Failed → LeavesOnly g old.disk new.disk (Either x y) → Leaves g new.disk (Either x y)
       → Stepped g old new result x y
   failed old new (Ok p) x y is phase moments all = absurd (cc is)

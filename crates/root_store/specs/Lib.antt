@@ -1,3 +1,4 @@
+pub mod Content
 pub mod Finding
 pub mod Running
 pub mod Healing

@@ -13,7 +13,7 @@ use Rattle.root_store.specs.declared.commit.Commit.{Commit}
 use Rattle.root_store.specs.Opening.{Untouched}
 
 -- the writes of the plan that are not made yet
-abbrev pub writes_left : {D : Type 0} → Commit D → List Write
+abbrev pub writes_left : {D : Type 0} {g : Ghosts D} → Commit D g → List Write
 writes_left s = drop s.next s.plan.items
 
 -- the first of some writes: where its bytes go, and the bytes

@@ -5,7 +5,7 @@ ghost use Rattle.store_terms.specs.Image.{Held};
 ghost use Rattle.store_terms.specs.Roots.{sequence_max};
 ghost use Rattle.record_writing.specs.ImageHeld.{image_held};
 ghost use Rattle.commit_plan.specs.Kept.{Kept};
-ghost use Rattle.root_store.specs.Running.{Stands, Runs, KeepsTo, calls_left, is_busy};
+ghost use Rattle.root_store.specs.Running.{Stands, Runs, LeadsTo, KeepsTo, calls_left, is_busy};
 ghost use Rattle.commit_plan.specs.Drafting.{IsNext};
 ghost use Rattle.commit_plan.specs.Fitting.{HasRoom, HasNoRoom};
 ghost use Rattle.commit_plan.specs.Live.{standing};
@@ -27,6 +27,10 @@ use std::alloc::Global;
 impl<D: Disk> Commit<D> {
     /// Begins the commit that leads to what comes next. It makes no device call.
     pub(crate) fn start(&mut self, next: Next)
+        requires idle { self.old.phase ≡ Phase.Idle }
+        requires below { self.old.root.sequence < sequence_max }
+        requires follows { (x : Kept) → Stands D.Disk self.old x
+            → (held : Held) × IsNext x held next × (held.number ≡ next.root.version) }
         ensures begun { (x : Kept) (held : Held) → Stands D.Disk self.old x → x.root.sequence < sequence_max
             → IsNext x held next → (y : Kept) × (y.held ≡ held) × Runs D.Disk self.new x y }
         ensures disk { self.new.disk ≡ self.old.disk }
@@ -73,6 +77,9 @@ impl<D: Disk> Commit<D> {
         // From the content that the store stands for to that of the image.
         ensures begun { (x : Kept) → Stands D.Disk self.old x
             → OnOk result ((y : Kept) × (y.held ≡ image_held image) × Runs D.Disk self.new x y) }
+        // On an honest disk, with no premise: from the content of the live root to just the image.
+        ensures leads { D.is_honest self.old.disk → OnOk result
+            (LeadsTo D.Disk self.old self.new (image_held image)) }
         // One begins only where none is under way, the device did not fail, and there is a number for it.
         ensures idle { OnOk result (self.old.phase ≡ Phase.Idle) }
         ensures below { OnOk result (self.old.root.sequence < sequence_max) }

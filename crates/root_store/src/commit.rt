@@ -2,8 +2,7 @@
 ghost use Rattle.std.specs.Prelude.{◌≡◌, ◌↔◌, ℕ, ◌+◌, ◌<◌, true, length, drop, slice_get, vec_capacity, IfSome, IfOk, OnOk, OnErr, IsErrOf, IfErr};
 ghost use Rattle.disk_model.specs.Disk.{Failed, CountsCall};
 ghost use Rattle.commit_plan.specs.Kept.{Kept};
-ghost use Rattle.root_store.specs.Running.{Runs, KeepsTo, Stepped, FailsByDevice, Counts, Turns, KeepsRoots, calls_left, is_busy, fault_in};
-ghost use Rattle.root_store.specs.Writing.{WritesOnly, writes_left, write_in, left_after};
+ghost use Rattle.root_store.specs.Content.{Keeps};
 
 use crate::finding::GATE_OPEN;
 use crate::phase::{Phase, Progress};
@@ -33,6 +32,8 @@ pub struct Commit<D: Disk> {
     pub(crate) plan: Vec<Write>,
     /// How many of them are made.
     pub(crate) next: usize,
+    pub ghost keeps: { D.is_honest disk
+        → ∥ Keeps D.Disk disk root live next_root next_live (drop next plan.items) phase ∥₁ },
 }
 
 /// Lets go of the bytes of a write that is made.
@@ -50,6 +51,9 @@ fn let_go(plan: &mut Vec<Write>, made: usize)
 }
 
 impl<D: Disk> Commit<D> {
+    ghost use Rattle.root_store.specs.Running.{Runs, KeepsTo, Stepped, FailsByDevice, Counts, Turns, KeepsRoots, calls_left, is_busy, fault_in};
+    ghost use Rattle.root_store.specs.Writing.{WritesOnly, writes_left, write_in, left_after};
+
     /// Whether a commit is under way: from the `begin` that was taken to the step that answers `Done` or fails.
     pub fn busy(&self) -> bool
         ensures { result ≡ is_busy self.now.phase }

@@ -14,11 +14,11 @@ use Rattle.store_flushing.specs.Storing.{IsStoreAt, IsStoreOf}
 use Rattle.store_flushing.proofs.Histories.{among_more, file_more}
 
 -- the number that is stored, and the disk, of a store if there is one
-abbrev pub IsLeftOf : {D : Type 0} → Option (Flusher D) → ℕ → Option D → Type 0
+abbrev pub IsLeftOf : {D : Type 0} {g : Ghosts D} → Option (Flusher D g) → ℕ → Option D → Type 0
 IsLeftOf o stored disk = IfSome o (λ f. (stored ≡ f.commit.root.version) × (disk ≡ Some f.commit.disk))
 
 -- all that is reported is stored
-pub reported_left : {D : Type 0} (o : Option (Flusher D)) (stored : ℕ) (disk : Option D) → IsLeftOf o stored disk → (reporter : Heard) (log : List Entry) → HasHeard log reporter
+pub reported_left : {D : Type 0} {g : Ghosts D} (o : Option (Flusher D g)) (stored : ℕ) (disk : Option D) → IsLeftOf o stored disk → (reporter : Heard) (log : List Entry) → HasHeard log reporter
     → All (λ (entry : Entry). entry.version.durable ≤ (newest_in log).durable) log
     → IfSome o (λ f. (newest_in reporter.log).durable ≤ f.commit.root.version → All (λ (entry : Entry). entry.version.durable ≤ stored) log)
 reported_left None stored disk is reporter log heard all = tt
@@ -26,7 +26,7 @@ reported_left (Some f) stored disk is reporter log heard all = λ less k d at. o
 
 module _ {D : Type 0} (g : Ghosts D) (was now : History) (on : BeginsWith now was) where
   -- a store at rest: each file stands for the version that is stored
-  exactly_on : (f : Flusher D) → IsStoreOf g was f → f.commit.phase ≡ Idle → Leaves g f.commit.disk (IsFileExactlyIn now f.commit.root.version)
+  exactly_on : (f : Flusher D g) → IsStoreOf g was f → f.commit.phase ≡ Idle → Leaves g f.commit.disk (IsFileExactlyIn now f.commit.root.version)
   exactly_on f store idle c left =
       let rest = subst (λ (p : Phase). IsStoreAt g was p f) idle store.store in
       record {
@@ -37,17 +37,17 @@ module _ {D : Type 0} (g : Ghosts D) (was now : History) (on : BeginsWith now wa
       }
 
   -- what is said of files for the number of the store holds for the number and the disk that are left
-  left : (P : ℕ → List ℕ → Type 0) (f : Flusher D) (stored : ℕ) (disk : Option D) → stored ≡ f.commit.root.version → disk ≡ Some f.commit.disk → Leaves g f.commit.disk (P f.commit.root.version)
+  left : (P : ℕ → List ℕ → Type 0) (f : Flusher D g) (stored : ℕ) (disk : Option D) → stored ≡ f.commit.root.version → disk ≡ Some f.commit.disk → Leaves g f.commit.disk (P f.commit.root.version)
       → IfSome disk (λ d. Leaves g d (P stored))
   left P f stored disk number is all =
       subst (λ (q : Option D). IfSome q (λ d. Leaves g d (P stored))) (sym is) (subst (λ (n : ℕ). Leaves g f.commit.disk (P n)) (sym number) all)
 
-  pub files_left : (o : Option (Flusher D)) (stored : ℕ) (disk : Option D) → IsLeftOf o stored disk
+  pub files_left : (o : Option (Flusher D g)) (stored : ℕ) (disk : Option D) → IsLeftOf o stored disk
       → IfSome o (λ f. Leaves g f.commit.disk (IsFileIn was f.commit.root.version) → IfSome disk (λ d. Leaves g d (IsFileIn now stored)))
   files_left None stored disk is = tt
   files_left (Some f) stored disk is = λ all. left (IsFileIn now) f stored disk is.0 is.1 (λ c at. file_more was now f.commit.root.version f.commit.root.version c on (omega arith) (all c at))
 
-  pub exactly_left : (o : Option (Flusher D)) (stored : ℕ) (disk : Option D) → IsLeftOf o stored disk
+  pub exactly_left : (o : Option (Flusher D g)) (stored : ℕ) (disk : Option D) → IsLeftOf o stored disk
       → IfSome o (λ f. IsStoreOf g was f → f.commit.phase ≡ Idle → IfSome disk (λ d. Leaves g d (IsFileExactlyIn now stored)))
   exactly_left None stored disk is = tt
   exactly_left (Some f) stored disk is = λ store idle. left (IsFileExactlyIn now) f stored disk is.0 is.1 (exactly_on f store idle)

@@ -41,12 +41,12 @@ none_left Failed n i none = refl
 
 module _ {D : Type 0} (g : Ghosts D) where
   -- since this moment there is no other
-  abbrev pub OnlyNow : Flusher D → Type 0
+  abbrev pub OnlyNow : Flusher D g → Type 0
   OnlyNow s = (c : List ℕ) → g.left_since s.commit.disk (g.moment s.commit.disk) c → g.may_leave s.commit.disk c
 
   -- ---- what a crash leaves
 
-  before_leaves : (p : Phase) (s : Commit D) (x y : Kept) → Before g p s x y → Leaves g s.disk (Either x y)
+  before_leaves : (p : Phase) (s : Commit D g) (x y : Kept) → Before g p s x y → Leaves g s.disk (Either x y)
   before_leaves Idle s x y before = absurd before
   before_leaves Close s x y before = rest_either g x y s.disk before.0
   before_leaves Settle s x y before = rest_either g x y s.disk before.0
@@ -55,14 +55,14 @@ module _ {D : Type 0} (g : Ghosts D) where
   before_leaves Finish s x y before = both_either g x y s.disk before.0
   before_leaves Failed s x y before = before
 
-  either_among : (h : History) (s : Flusher D) (way : Goes g h s) (c : List ℕ) → Either way.x way.y c → IsFileIn h s.commit.root.version c
+  either_among : (h : History) (s : Flusher D g) (way : Goes g h s) (c : List ℕ) → Either way.x way.y c → IsFileIn h s.commit.root.version c
   either_among h s way c (inl old) = record { held = way.x.held; among = way.held; no_less = omega (arith, way.number); stands = old }
   either_among h s way c (inr new) = record { held = way.y.held; among = way.next; no_less = way.later; stands = new }
 
-  way_leaves : (h : History) (s : Flusher D) → Goes g h s → Leaves g s.commit.disk (IsFileIn h s.commit.root.version)
+  way_leaves : (h : History) (s : Flusher D g) → Goes g h s → Leaves g s.commit.disk (IsFileIn h s.commit.root.version)
   way_leaves h s way c left = either_among h s way c (before_leaves s.commit.phase s.commit way.x way.y way.runs.before c left)
 
-  in_leaves : (h : History) (p : Phase) (s : Flusher D) → IsStoreAt g h p s → Leaves g s.commit.disk (IsFileIn h s.commit.root.version)
+  in_leaves : (h : History) (p : Phase) (s : Flusher D g) → IsStoreAt g h p s → Leaves g s.commit.disk (IsFileIn h s.commit.root.version)
   in_leaves h Idle s rest c left = record { held = rest.x.held; among = rest.held; no_less = omega (arith, rest.number); stands = calm_stands rest.x c (rest.stands.leaves c left) }
   in_leaves h Close s way c left = way_leaves h s way c left
   in_leaves h Settle s way c left = way_leaves h s way c left
@@ -72,11 +72,11 @@ module _ {D : Type 0} (g : Ghosts D) where
   in_leaves h Failed s store c left = store c left
 
   -- whatever the phase, each outcome stands for a version of the history
-  pub store_leaves : (h : History) (s : Flusher D) → IsStoreOf g h s → Leaves g s.commit.disk (IsFileIn h s.commit.root.version)
+  pub store_leaves : (h : History) (s : Flusher D g) → IsStoreOf g h s → Leaves g s.commit.disk (IsFileIn h s.commit.root.version)
   store_leaves h s is = in_leaves h s.commit.phase s is.store
 
   -- a store that stands for a version is one of the history that begins with it
-  pub store_begins : (version : Version) (f : Flusher D) (x : Kept) → Stands g f.commit x → IsImageOf version x.held → f.commit.root.version ≡ version.number
+  pub store_begins : (version : Version) (f : Flusher D g) (x : Kept) → Stands g f.commit x → IsImageOf version x.held → f.commit.root.version ≡ version.number
       → version.durable ≤ f.commit.root.version → IsStoreOf g (record { start = version; entries = [] }) f
   store_begins version f x stands image stored reported = record {
     honest = stands.honest;
@@ -92,7 +92,7 @@ module _ {D : Type 0} (g : Ghosts D) where
 
   -- ---- a longer history
 
-  way_more : (was now : History) (s : Flusher D) → BeginsWith now was → Goes g was s → Goes g now s
+  way_more : (was now : History) (s : Flusher D g) → BeginsWith now was → Goes g was s → Goes g now s
   way_more was now s longer way = record {
     x = way.x;
     y = way.y;
@@ -104,7 +104,7 @@ module _ {D : Type 0} (g : Ghosts D) where
     runs = way.runs;
   }
 
-  in_more : (was now : History) (p : Phase) (s : Flusher D) → BeginsWith now was → IsStoreAt g was p s → IsStoreAt g now p s
+  in_more : (was now : History) (p : Phase) (s : Flusher D g) → BeginsWith now was → IsStoreAt g was p s → IsStoreAt g now p s
   in_more was now Idle s longer rest = record { x = rest.x; held = among_more was now rest.x.held longer rest.held; number = rest.number; stands = rest.stands }
   in_more was now Close s longer way = way_more was now s longer way
   in_more was now Settle s longer way = way_more was now s longer way
@@ -113,12 +113,12 @@ module _ {D : Type 0} (g : Ghosts D) where
   in_more was now Finish s longer way = way_more was now s longer way
   in_more was now Failed s longer store = λ c left. file_more was now s.commit.root.version s.commit.root.version c longer (omega arith) (store c left)
 
-  pub store_more : (was now : History) (s : Flusher D) → BeginsWith now was → (newest now).durable ≤ s.commit.root.version → IsStoreOf g was s → IsStoreOf g now s
+  pub store_more : (was now : History) (s : Flusher D g) → BeginsWith now was → (newest now).durable ≤ s.commit.root.version → IsStoreOf g was s → IsStoreOf g now s
   store_more was now s longer reported is = record { honest = is.honest; reported = reported; store = in_more was now s.commit.phase s longer is.store }
 
   -- ---- a store fails by its device alone
 
-  fails_not : (s : Commit D) → FailsByDevice g s s
+  fails_not : (s : Commit D g) → FailsByDevice g s s
   fails_not s = record { no_less = omega arith; failed = inl }
 
   rose_before : (a b c : ℕ) → device.Failed a b → b ≤ c → device.Failed a c
@@ -127,7 +127,7 @@ module _ {D : Type 0} (g : Ghosts D) where
   rose_after : (a b c : ℕ) → a ≤ b → device.Failed b c → device.Failed a c
   rose_after a b c on rose = omega (arith, on, rose)
 
-  fails_twice : (s t u : Commit D) → FailsByDevice g s t → FailsByDevice g t u → FailsByDevice g s u
+  fails_twice : (s t u : Commit D g) → FailsByDevice g s t → FailsByDevice g t u → FailsByDevice g s u
   fails_twice s t u first second = record {
     no_less = omega (arith, first.no_less, second.no_less);
     failed = λ at. ⊎_elim
@@ -137,7 +137,7 @@ module _ {D : Type 0} (g : Ghosts D) where
   }
 
   -- no device call was made, and a commit begins
-  fails_begun : (s new : Commit D) → new.disk ≡ s.disk → new.phase ≡ Close → FailsByDevice g s new
+  fails_begun : (s new : Commit D g) → new.disk ≡ s.disk → new.phase ≡ Close → FailsByDevice g s new
   fails_begun s new disk busy = record {
     no_less = omega (arith, ap g.faults disk);
     failed = λ at. absurd (false≢true (ap is_busy (sym at ∙ busy)));
@@ -145,7 +145,7 @@ module _ {D : Type 0} (g : Ghosts D) where
 
   -- ---- stretches of a run
 
-  pub begun : (h : History) (s : Flusher D) → OnlyNow s → IsStoreOf g h s → Flushes g h s h s
+  pub begun : (h : History) (s : Flusher D g) → OnlyNow s → IsStoreOf g h s → Flushes g h s h s
   begun h s now is = record {
     goes_on = begins_self h;
     store = is;
@@ -155,7 +155,7 @@ module _ {D : Type 0} (g : Ghosts D) where
     by_device = fails_not s.commit;
   }
 
-  pub then : (a b c : History) (s t u : Flusher D) → Flushes g a s b t → Flushes g b t c u → Flushes g a s c u
+  pub then : (a b c : History) (s t u : Flusher D g) → Flushes g a s b t → Flushes g b t c u → Flushes g a s c u
   then a b c s t u first second = record {
     goes_on = begins_trans a b c first.goes_on second.goes_on;
     store = second.store;
@@ -169,7 +169,7 @@ module _ {D : Type 0} (g : Ghosts D) where
   }
 
   -- the history goes on where as much is durable, and the store stays
-  pub longer : (was now : History) (s : Flusher D) → OnlyNow s
+  pub longer : (was now : History) (s : Flusher D g) → OnlyNow s
       → BeginsWith now was → (newest now).durable ≡ (newest was).durable → IsStoreOf g was s → Flushes g was s now s
   longer was now s at on same is =
       let store = store_more was now s on (omega (arith, same, is.reported)) is in
@@ -184,7 +184,7 @@ module _ {D : Type 0} (g : Ghosts D) where
 
   -- ---- begin
 
-  begin_in : (h : History) (p : Phase) (s new : Flusher D) (v : Version) → p ≡ s.commit.phase → is_busy p ≡ false → (s.commit.phase ≡ Failed → ⊥) → IsHistory h → v ≡ newest h
+  begin_in : (h : History) (p : Phase) (s new : Flusher D g) (v : Version) → p ≡ s.commit.phase → is_busy p ≡ false → (s.commit.phase ≡ Failed → ⊥) → IsHistory h → v ≡ newest h
       → ((x : Kept) → Stands g s.commit x → (y : Kept) × IsCommitOf v y × Runs g new.commit x y) → new.commit.root.version ≡ s.commit.root.version → new.commit.phase ≡ Close
       → IsStoreAt g h p s → IsStoreAt g h new.commit.phase new
   begin_in h Idle s new v at idle well history latest begins stored busy rest =
@@ -210,7 +210,7 @@ module _ {D : Type 0} (g : Ghosts D) where
   begin_in h Failed s new v at idle well history latest begins stored busy store = absurd (well (sym at))
 
   -- a commit of the newest version begins
-  pub commit_begins : (h : History) (s new : Flusher D) (v : Version) → is_busy s.commit.phase ≡ false → (s.commit.phase ≡ Failed → ⊥) → IsHistory h → v ≡ newest h
+  pub commit_begins : (h : History) (s new : Flusher D g) (v : Version) → is_busy s.commit.phase ≡ false → (s.commit.phase ≡ Failed → ⊥) → IsHistory h → v ≡ newest h
       → ((x : Kept) → Stands g s.commit x → (y : Kept) × IsCommitOf v y × Runs g new.commit x y) → new.commit.root.version ≡ s.commit.root.version → new.commit.phase ≡ Close → new.commit.disk ≡ s.commit.disk
       → OnlyNow s
       → IsStoreOf g h s → Flushes g h s h new
@@ -228,7 +228,7 @@ module _ {D : Type 0} (g : Ghosts D) where
   -- ---- step
 
   -- no commit is under way, and the device did not fail or did; or one is under way
-  ways : (h : History) (p : Phase) (s : Flusher D) → s.commit.phase ≡ p → IsStoreAt g h p s → (s.commit.phase ≡ Idle) ⊎ ((s.commit.phase ≡ Failed) ⊎ Goes g h s)
+  ways : (h : History) (p : Phase) (s : Flusher D g) → s.commit.phase ≡ p → IsStoreAt g h p s → (s.commit.phase ≡ Idle) ⊎ ((s.commit.phase ≡ Failed) ⊎ Goes g h s)
   ways h Idle s at rest = inl at
   ways h Close s at way = inr (inr way)
   ways h Settle s at way = inr (inr way)
@@ -237,7 +237,7 @@ module _ {D : Type 0} (g : Ghosts D) where
   ways h Finish s at way = inr (inr way)
   ways h Failed s at store = inr (inl at)
 
-  way_in : (h : History) (p : Phase) (f : Flusher D) → f.commit.phase ≡ p → Goes g h f → IsStoreAt g h p f
+  way_in : (h : History) (p : Phase) (f : Flusher D g) → f.commit.phase ≡ p → Goes g h f → IsStoreAt g h p f
   way_in h Idle f is way = absurd (subst (λ (q : Phase). Before g q f.commit way.x way.y) is way.runs.before)
   way_in h Failed f is way = way_leaves h f way
   way_in h Close f is way = way
@@ -247,12 +247,12 @@ module _ {D : Type 0} (g : Ghosts D) where
   way_in h Finish f is way = way
 
   -- a device call: the store stays one of the history, and a crash within the call leaves a version of it
-  pub record Moves (h : History) (s new : Flusher D) : Type 0 where
+  pub record Moves (h : History) (s new : Flusher D g) : Type 0 where
     pub store : IsStoreOf g h new
     pub no_less : s.commit.root.version ≤ new.commit.root.version
     pub moments : LeavesOnly g s.commit.disk new.commit.disk (IsFileIn h s.commit.root.version)
 
-  module _ (h : History) (s new : Flusher D) (is : IsStoreOf g h s) (honest : g.is_honest s.commit.disk → g.is_honest new.commit.disk) where
+  module _ (h : History) (s new : Flusher D g) (is : IsStoreOf g h s) (honest : g.is_honest s.commit.disk → g.is_honest new.commit.disk) where
     module _ (way : Goes g h s) where
       moments_of : LeavesOnly g s.commit.disk new.commit.disk (Either way.x way.y) → LeavesOnly g s.commit.disk new.commit.disk (IsFileIn h s.commit.root.version)
       moments_of run = widened g s.commit.disk new.commit.disk (Either way.x way.y) (IsFileIn h s.commit.root.version) (either_among h s way) run
@@ -309,7 +309,7 @@ module _ {D : Type 0} (g : Ghosts D) where
       stepped (Ok (progress.Done number)) stored step = is_done number stored step
       stepped (Err why) stored step = fails why stored step
 
-  module _ (h : History) (s new : Flusher D) (r : Result Progress StoreFault) (now : OnlyNow s)
+  module _ (h : History) (s new : Flusher D g) (r : Result Progress StoreFault) (now : OnlyNow s)
       (moves : (x y : Kept) → Runs g s.commit x y → Stepped g s.commit new.commit r x y) (stored : new.commit.root.version ≡ stored_after r s.commit.root.version) (honest : g.is_honest s.commit.disk → g.is_honest new.commit.disk)
       (idle : s.commit.phase ≡ Idle → (r ≡ Ok progress.Idle) × (new ≡ s)) (stuck : s.commit.phase ≡ Failed → (r ≡ Err fault.Failed) × (new ≡ s)) (is : IsStoreOf g h s) where
     stays : new ≡ s → Moves h s new
@@ -347,7 +347,7 @@ module _ {D : Type 0} (g : Ghosts D) where
         (ways h s.commit.phase s refl is.store)
 
   -- a commit that is done, and is reported
-  pub reported : (h n : History) (s new : Flusher D) (number : ℕ) → Moves h s new → FailsByDevice g s.commit new.commit → new.commit.root.version ≡ number → number ≤ (newest h).number → BeginsWith n h
+  pub reported : (h n : History) (s new : Flusher D g) (number : ℕ) → Moves h s new → FailsByDevice g s.commit new.commit → new.commit.root.version ≡ number → number ≤ (newest h).number → BeginsWith n h
       → (number ≤ (newest h).number → number ≤ (newest n).durable) → ((newest n).durable ≡ number) ⊎ ((newest n).durable ≡ (newest h).durable) → Flushes g h s n new
   reported h n s new number moved fails done level on reached told =
       let less : (newest n).durable ≤ new.commit.root.version = ⊎_elim (λ to. omega (arith, to, done)) (λ stays. omega (arith, stays, moved.store.reported)) told in

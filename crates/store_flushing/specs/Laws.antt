@@ -2,8 +2,9 @@
 use Rattle.std.specs.Prelude.{◌≡◌, ◌≤◌, []}
 use Rattle.disk_model.specs.declared.disk.Disk.{Ghosts}
 use Rattle.disk_model.specs.Moments.{Leaves}
-use Rattle.overlay_terms.specs.Histories.{Version, History}
+use Rattle.overlay_terms.specs.Histories.{Version, History, newest}
 use Rattle.commit_plan.specs.Kept.{Kept}
+use Rattle.root_store.specs.declared.phase.Phase.TheVariants.{Idle}
 use Rattle.root_store.specs.Running.{Stands}
 use Rattle.flush_core.specs.declared.flusher.Flusher.{Flusher}
 use Rattle.flush_core.specs.Stored.{IsImageOf}
@@ -14,11 +15,19 @@ use Rattle.store_flushing.specs.Storing.{IsStoreOf}
 -- it
 abbrev pub StoreBegins : {D : Type 0} → Ghosts D → Type 0
 StoreBegins {D = D} g =
-    (version : Version) (f : Flusher D) (x : Kept) → Stands g f.commit x → IsImageOf version x.held
+    (version : Version) (f : Flusher D g) (x : Kept) → Stands g f.commit x → IsImageOf version x.held
     → f.commit.root.version ≡ version.number → version.durable ≤ f.commit.root.version → IsStoreOf g (record { start = version; entries = [] }) f
 
 -- every file that a crash may leave of a store of a history stands for one of its versions, no older than what is
 -- stored
 abbrev pub StoreLeaves : {D : Type 0} → Ghosts D → Type 0
 StoreLeaves {D = D} g =
-    (history : History) (f : Flusher D) → IsStoreOf g history f → Leaves g f.commit.disk (IsFileIn history f.commit.root.version)
+    (history : History) (f : Flusher D g) → IsStoreOf g history f → Leaves g f.commit.disk (IsFileIn history f.commit.root.version)
+
+-- a store at rest on an honest disk is one of a history where every file that a crash may leave of it stands for one of
+-- its versions
+abbrev pub StoreIsKnown : {D : Type 0} → Ghosts D → Type 0
+StoreIsKnown {D = D} g =
+    (history : History) (f : Flusher D g) → g.is_honest f.commit.disk → f.commit.phase ≡ Idle
+    → (newest history).durable ≤ f.commit.root.version
+    → Leaves g f.commit.disk (IsFileIn history f.commit.root.version) → IsStoreOf g history f

@@ -13,14 +13,14 @@ use Rattle.store_flushing.specs.Among.{IsHeldIn, IsFileIn}
 
 module _ {D : Type 0} (g : Ghosts D) (history : History) where
   -- no commit is under way: the file stands for the version that is stored
-  pub record Rests (f : Flusher D) : Type 0 where
+  pub record Rests (f : Flusher D g) : Type 0 where
     pub x : Kept
     pub held : IsHeldIn history x.held
     pub number : x.held.number ≡ f.commit.root.version
     pub stands : Stands g f.commit x
 
   -- a commit is under way, from the version that is stored to one that is no older
-  pub record Goes (f : Flusher D) : Type 0 where
+  pub record Goes (f : Flusher D g) : Type 0 where
     pub x : Kept
     pub y : Kept
     pub held : IsHeldIn history x.held
@@ -31,7 +31,7 @@ module _ {D : Type 0} (g : Ghosts D) (history : History) where
     pub runs : Runs g f.commit x y
 
   -- what is known of a store, by where its commit stands
-  abbrev pub IsStoreAt : Phase → Flusher D → Type 0
+  abbrev pub IsStoreAt : Phase → Flusher D g → Type 0
   IsStoreAt Idle f = Rests f
   IsStoreAt Failed f = Leaves g f.commit.disk (IsFileIn history f.commit.root.version)
   IsStoreAt Close f = Goes f
@@ -42,19 +42,19 @@ module _ {D : Type 0} (g : Ghosts D) (history : History) where
 
   -- a store of this history: what is reported is stored, and every file that a crash may leave stands for one of its
   -- versions
-  pub record IsStoreOf (f : Flusher D) : Type 0 where
+  pub record IsStoreOf (f : Flusher D g) : Type 0 where
     pub honest : g.is_honest f.commit.disk
     pub reported : (newest history).durable ≤ f.commit.root.version
     pub store : IsStoreAt f.commit.phase f
 
 -- what is stored is reported durable
-abbrev pub AllReported : {D : Type 0} → History → Flusher D → Type 0
+abbrev pub AllReported : {D : Type 0} {g : Ghosts D} → History → Flusher D g → Type 0
 AllReported history f = (newest history).durable ≡ f.commit.root.version
 
 -- a run of the flusher: the history goes on, the store is one of it, what it stores it reports, and a crash at any
 -- moment leaves a version of the history that is no older than what was stored as the run began; it fails by its device
 -- alone
-pub record Flushes {D : Type 0} (g : Ghosts D) (was : History) (old : Flusher D) (now : History) (new : Flusher D)
+pub record Flushes {D : Type 0} (g : Ghosts D) (was : History) (old : Flusher D g) (now : History) (new : Flusher D g)
     : Type 0 where
   pub goes_on : BeginsWith now was
   pub store : IsStoreOf g now new

@@ -1,5 +1,5 @@
 //! Laws over the definitions: each function does nothing, and its contract is the law.
-ghost use Rattle.store_flushing.specs.Laws.{StoreBegins, StoreLeaves};
+ghost use Rattle.store_flushing.specs.Laws.{StoreBegins, StoreLeaves, StoreIsKnown};
 
 use disk_model::disk::Disk;
 
@@ -11,4 +11,9 @@ pub fn store_begins<D: Disk>()
 /// Every file that a crash may leave of a store of a history stands for one of its versions.
 pub fn store_leaves<D: Disk>()
     ensures { StoreLeaves D.Disk }
+{}
+
+/// A store at rest is one of a history where every file that a crash may leave of it stands for one of its versions.
+pub fn store_is_known<D: Disk>()
+    ensures { StoreIsKnown D.Disk }
 {}

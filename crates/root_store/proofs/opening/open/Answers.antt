@@ -1,7 +1,12 @@
-use Rattle.std.proofs.Common.{refl, sym, ◌∙◌, ap, Ok}
+use Rattle.std.proofs.Common.{refl, sym, ◌∙◌, ap, subst, Ok}
 use Rattle.store_terms.specs.StandsFor.{reading}
 use Rattle.store_terms.specs.Image.{Held}
 use Rattle.root_store.proofs.OpeningLemmas.{stops_told, tells_of, failed_of, memory_of}
+use Rattle.std.proofs.lemmas.Grind.{merely}
+use Rattle.commit_plan.specs.Kept.{Kept}
+use Rattle.root_store.specs.declared.phase.Phase.TheVariants as phases
+use Rattle.root_store.specs.Content.{IsAtRest}
+use Rattle.root_store.proofs.Known.{content_is}
 use Rattle.commit_plan.specs.Loading.{kept_in}
 use Rattle.commit_plan.specs.Fault.{fault_told}
 use Rattle.root_store.proofs.opening.open.Goals as goal
@@ -66,3 +71,21 @@ pub returns-in-Err-clause-stops : goal.returns-in-Err-clause-stops
 returns-in-Err-clause-stops g c honest =
     stops_told g.D.Disk c.args.disk c.load.new.disk c.in-Err.fault c.told.result c.told.ensures
     (c.in-Err.ensures.stops honest)
+
+pub invariant_of-commit : goal.invariant_of-commit
+invariant_of-commit g c = record {
+  keeps = λ honest.
+      let k = g.D.Disk in
+      let loaded = c.in-Ok.loaded in
+      let ok = (c.in-Ok.ensures.loads (c.load.ensures.honest.0 honest)).ok in
+      let rests : IsAtRest k c.load.new.disk phases.Idle loaded.root loaded.live (kept_in loaded) = record {
+        honest = honest;
+        idle = refl;
+        root = refl;
+        holds = c.in-Ok.ensures.stands;
+        room = ok.0;
+        leaves = ok.1;
+      } in
+      merely (subst (λ (x : Kept). IsAtRest k c.load.new.disk phases.Idle loaded.root loaded.live x)
+      (sym (content_is loaded.root loaded.live (kept_in loaded) refl c.in-Ok.ensures.stands refl)) rests);
+}

@@ -26,4 +26,4 @@ returns-in-Err-clause-flushes g c is =
     let s = c.args.flusher.now in
     let here = begun d h s (λ k left. g.met.D.Disk.only_now s.commit.disk k is.honest left) is in
     subst (λ (k : History). Flushes d h s k c.begin.new.self) (ap (λ (k : Heard). history_of k.log) (sym c.tell.ensures.nothing))
-    (subst (λ (f : Flusher g.row.D.Denot). Flushes d h s h f) (sym c.in-Err.ensures.err) here)
+    (subst (λ (f : Flusher g.row.D.Denot g.D.Disk). Flushes d h s h f) (sym c.in-Err.ensures.err) here)

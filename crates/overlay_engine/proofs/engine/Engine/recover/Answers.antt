@@ -58,7 +58,7 @@ returns-in-Err-clause-crashed g c honest start batches run each crash =
 
 pub returns-in-Ok-restored-clause-stored : goal.returns-in-Ok-restored-clause-stored
 returns-in-Ok-restored-clause-stored g c =
-    ap (λ (f : Flusher g.row.D.Denot). f.commit.root.version) c.new.ensures
+    ap (λ (f : Flusher g.row.D.Denot g.D.Disk). f.commit.root.version) c.new.ensures
     ∙ sym c.in-Ok.ensures.number ∙ sym (ap (λ (v : Version). v.number) c.in-Ok-restored.ensures)
 
 pub returns-in-Ok-restored-clause-writes : goal.returns-in-Ok-restored-clause-writes
@@ -67,7 +67,7 @@ returns-in-Ok-restored-clause-writes g c honest =
 
 pub returns-in-Ok-restored-clause-completed : goal.returns-in-Ok-restored-clause-completed
 returns-in-Ok-restored-clause-completed g c honest =
-    subst (λ (f : Flusher g.row.D.Denot). Leaves g.D.Disk f.commit.disk (IsCompleted (g.D.Disk.seen c.args.disk))) (sym c.new.ensures)
+    subst (λ (f : Flusher g.row.D.Denot g.D.Disk). Leaves g.D.Disk f.commit.disk (IsCompleted (g.D.Disk.seen c.args.disk))) (sym c.new.ensures)
     (c.in-Ok.ensures.completed honest)
 
 pub returns-in-Err-restored-clause-writes : goal.returns-in-Err-restored-clause-writes

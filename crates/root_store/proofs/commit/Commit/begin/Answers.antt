@@ -1,4 +1,4 @@
-use Rattle.std.proofs.Common.{rules, List, ℕ, sym, ◌∙◌, subst}
+use Rattle.std.proofs.Common.{rules, List, ℕ, refl, ap, sym, ◌∙◌, subst}
 use Rattle.extent_map.specs.Taken.{taken_of}
 use Rattle.store_terms.specs.StandsFor.{body_at}
 use Rattle.store_terms.specs.declared.root.Root.{Root}
@@ -12,6 +12,8 @@ use Rattle.commit_plan.specs.declared.write.Write.{Write}
 use Rattle.root_store.specs.Beginning.{IsReason}
 use Rattle.commit_plan.specs.declared.next.Next.{Next}
 use Rattle.root_store.proofs.Reasons.{refused_so, passed_on, no_room_or_memory}
+use Rattle.root_store.specs.Content.{content_of}
+use Rattle.root_store.proofs.Known.{stands_known, leads_to, put_back}
 use Rattle.root_store.proofs.commit.Commit.begin.Goals as goal
 
 pub returns-in-Some-clause-errors : goal.returns-in-Some-clause-errors
@@ -41,5 +43,17 @@ returns-clause-laid g c =
     let other_one = body_at (other s.root) in
     let next = c.in_ok-next.next in
     let there = subst (λ (at : ℕ). laid at next.root next.plan.items) c.other_body-body.ensures c.in_ok-next.ensures.laid in
-    let after = subst (λ (plan : List Write). laid other_one next.root plan) (sym c.start.ensures.plan) there in
+    let after = subst (λ (plan : List Write). laid other_one next.root plan) (sym {A = List Write} c.start.ensures.plan) there in
     subst (λ (r : Root). laid other_one r c.start.new.self.plan.items) (sym c.start.ensures.root) after
+
+pub returns-clause-leads : goal.returns-clause-leads
+returns-clause-leads g c honest =
+    let s = c.args.self.now in
+    let held = image_held c.args.image in
+    let stands = stands_known g.D.Disk s honest (search rules) in
+    let run = c.start.ensures.begun (content_of s.root s.live) held stands (search rules)
+    (c.in_ok-next.ensures.ok (content_of s.root s.live) refl c.other_body-body.ensures refl stands.room) in
+    leads_to g.D.Disk s c.start.new.self held run (sym c.in_ok-next.ensures.number ∙ ap (λ (r : Root). r.version) (sym c.start.ensures.root))
+
+pub returns-in_err-next-clause-err : goal.returns-in_err-next-clause-err
+returns-in_err-next-clause-err g c = put_back g.D.Disk c.from_residual.result c.args.self.now _

@@ -1,20 +1,21 @@
-use Rattle.std.proofs.Common.{◌≡◌, length, drop, List, [], ◌∷◌, ℕ, inl, Some, Ok, refl, sym, ◌∙◌, ap, subst, rules}
+use Rattle.std.proofs.Common.{◌≡◌, ◌+◌, length, drop, List, [], ◌∷◌, ℕ, inl, Some, Ok, refl, sym, ◌∙◌, ap, subst, rules}
 use Rattle.disk_model.specs.Disk.{Torn, Holds, OneStepOn}
 use Rattle.root_store.specs.declared.phase.Phase.{Phase}
 use Rattle.store_terms.specs.StandsFor.{gate_at}
 use Rattle.commit_plan.specs.Kept.{extents_in, other, Either, Rest, Shut, Ready}
-use Rattle.root_store.specs.Running.{Before}
+use Rattle.std.proofs.lemmas.Grind.{merely}
+use Rattle.root_store.specs.Content.{content_of, IsAtRest, IsBefore}
+use Rattle.root_store.specs.Running.{Before, is_busy}
+use Rattle.root_store.proofs.Known.{runs_known}
+use Rattle.root_store.proofs.Arms.{carried, closed, settled, put_next, all_put, opened, finished}
 use Rattle.root_reading.specs.Taking.{IsMapOf}
 use Rattle.commit_plan.specs.declared.live_records.LiveRecords.{LiveRecords}
 use Rattle.commit_plan.specs.declared.room.Room.{Room}
 use Rattle.commit_plan.specs.Live.{standing}
 use Rattle.extent_map.specs.Taken.{taken_of, limit_of}
-use Rattle.commit_plan.specs.Planning.{Leads, Spare}
-use Rattle.commit_plan.specs.declared.write.Write.{Write}
 use Rattle.store_terms.specs.declared.root.Root.{Root}
-use Rattle.commit_plan.proofs.Kept.{gate_written}
 use Rattle.commit_plan.proofs.Reading.{opened_rest}
-use Rattle.root_store.proofs.Steps.{one_call, leaves_torn, leaves_fewer, leaves_synced, rest_either, shut_either, both_either, closing, opening, settles, next_leads, next_spares, led, failed}
+use Rattle.root_store.proofs.Steps.{one_call, leaves_torn, leaves_fewer, leaves_synced, rest_either, shut_either, both_either, closing, opening, next_spares, failed}
 use Rattle.root_store.specs.declared.phase.Phase.TheVariants as phases
 use Rattle.root_store.specs.declared.phase.Progress.TheVariants as prog
 use Rattle.root_store.specs.Writing.{writes_left}
@@ -136,32 +137,15 @@ returns-in_ok-write_at-in-Close-clause-moves g c x y runs =
     let new = c.write_at.new.self in
     let w = c.write_at.ensures in
     let b = subst (λ (p : Phase). Before k p s x y) c.in-Close.is runs.before in
-    let time = w.time runs.honest in
-    let stop = w.crash runs.honest in
     let now : (f : List ℕ) → k.left_since s.disk (k.moment s.disk) f → k.may_leave s.disk f =
     λ f left. g.met.D.Disk.only_now s.disk f runs.honest left in
-    let torn : OneStepOn (Torn (gate_at (other x.root)) 1) (k.may_leave s.disk) (k.may_leave new) =
-    subst (λ (a : ℕ). OneStepOn (Torn a 1) (k.may_leave s.disk) (k.may_leave new))
-    (c.other_gate.ensures ∙ ap (λ (r : Root). gate_at (other r)) runs.root) stop in
-    let held : Holds (k.seen new) (gate_at (other x.root)) (0 ∷ []) =
-    subst (λ (a : ℕ). Holds (k.seen new) a (0 ∷ []))
-    (c.other_gate.ensures ∙ ap (λ (r : Root). gate_at (other r)) runs.root)
-    (c.in_ok-write_at-in-Close.ensures.written runs.honest) in
-    let shown = gate_written (k.seen new) (other x.root) 0 held in
-    let all = closing k x y s.disk new b.0 torn in
-    let early = rest_either k x y s.disk b.0 in
-    let late = rest_either k x y new all in
+    let next = closed k s.disk new x y s.root c.other_gate.result c.other_gate.ensures runs.root (w.crash runs.honest)
+    (writes_left s) (c.in_ok-write_at-in-Close.ensures.written runs.honest) b in
     record {
-      moments = one_call k s.disk new (Either x y) now early time late;
+      moments = one_call k s.disk new (Either x y) now (rest_either k x y s.disk b.0) (w.time runs.honest) (rest_either k x y new next.0);
       ok =
-          record {
-            honest = w.honest.1 runs.honest;
-            root = runs.root;
-            next_root = runs.next_root;
-            next_holds = runs.next_holds;
-            next_room = runs.next_room;
-            before = (all, shown, b.1, b.2);
-          };
+          carried k s.disk new x y s.phase phases.Settle s.root s.next_root s.next_live (writes_left s) (writes_left s) runs
+          (w.honest.1 runs.honest) next;
       err = tt;
     }
 
@@ -172,28 +156,15 @@ returns-in_ok-sync-in-Settle-clause-moves g c x y runs =
     let new = c.sync.new.self in
     let w = c.sync.ensures in
     let b = subst (λ (p : Phase). Before k p s x y) c.in-Settle.is runs.before in
-    let time = w.time runs.honest in
-    let stop = w.crash runs.honest in
     let now : (f : List ℕ) → k.left_since s.disk (k.moment s.disk) f → k.may_leave s.disk f =
     λ f left. g.met.D.Disk.only_now s.disk f runs.honest left in
-    let here = settles k x y (k.seen s.disk)
-    (b.0 (k.seen s.disk) (g.met.D.Disk.seen_may_stay s.disk runs.honest)) b.1 in
-    let all = leaves_synced k new (k.seen s.disk) (Shut x) (c.in_ok-sync-in-Settle.ensures.durable runs.honest) here in
-    let leads = subst (Leads (Ready x y) (drop s.next s.plan.items)) (sym (w.seen runs.honest))
-    (b.2 (k.seen s.disk) here) in
-    let early = rest_either k x y s.disk b.0 in
-    let late = shut_either k x y new all in
+    let next = settled k s.disk new x y (c.in_ok-sync-in-Settle.ensures.durable runs.honest)
+    (g.met.D.Disk.seen_may_stay s.disk runs.honest) (writes_left s) (w.seen runs.honest) b in
     record {
-      moments = one_call k s.disk new (Either x y) now early time late;
+      moments = one_call k s.disk new (Either x y) now (rest_either k x y s.disk b.0) (w.time runs.honest) (shut_either k x y new next.0);
       ok =
-          record {
-            honest = w.honest.1 runs.honest;
-            root = runs.root;
-            next_root = runs.next_root;
-            next_holds = runs.next_holds;
-            next_room = runs.next_room;
-            before = (all, leads, b.3);
-          };
+          carried k s.disk new x y s.phase phases.Put s.root s.next_root s.next_live (writes_left s) (writes_left s) runs
+          (w.honest.1 runs.honest) next;
       err = tt;
     }
 
@@ -204,39 +175,19 @@ returns-in_ok-write_at-in-Put-clause-moves g c x y runs =
     let new = c.write_at-then-self-len.new.self in
     let w = c.write_at-then-self-len.ensures in
     let b = subst (λ (p : Phase). Before k p s x y) c.in-Put.is runs.before in
-    let time = w.time runs.honest in
-    let stop = w.crash runs.honest in
     let now : (f : List ℕ) → k.left_since s.disk (k.moment s.disk) f → k.may_leave s.disk f =
     λ f left. g.met.D.Disk.only_now s.disk f runs.honest left in
     let v = c.index-write.result.now in
-    let spares = next_spares k x y (Shut x) s.plan.items s.next v (search rules) (search rules) b.2 in
     let same : c.deref.result.now ≡ v.bytes.items = search rules in
-    let torn : OneStepOn (Torn v.at (length v.bytes.items)) (k.may_leave s.disk) (k.may_leave new) =
-    subst (λ (bytes : List ℕ). OneStepOn (Torn v.at (length bytes)) (k.may_leave s.disk)
-    (k.may_leave new)) same stop in
-    let shut = leaves_torn k s.disk new (Shut x) v.at (length v.bytes.items) b.0 torn spares.0 in
-    let others : Torn v.at (length v.bytes.items) (k.seen s.disk) (k.seen new) =
-    subst (λ (bytes : List ℕ). Torn v.at (length bytes) (k.seen s.disk) (k.seen new)) same (w.others runs.honest) in
-    let held : Holds (k.seen new) v.at v.bytes.items =
-    subst (Holds (k.seen new) v.at) same (c.in_ok-write_at-in-Put.ensures.written runs.honest) in
-    let leads = next_leads k x y (Ready x y) s.plan.items s.next v (k.seen s.disk) (k.seen new) (search rules)
-    (search rules) b.1 others held in
-    -- the plan behind the write is as it was
-    let led_on = subst (λ (ws : List Write). Leads (Ready x y) ws (k.seen new)) (sym c.let_go.ensures.rest) leads in
-    let spared_on = subst (λ (ws : List Write). Spare (Shut x) ws) (sym c.let_go.ensures.rest) spares.1 in
-    let early = shut_either k x y s.disk b.0 in
-    let late = shut_either k x y new shut in
+    let rest = drop (s.next + 1) c.let_go.new.plan.items in
+    let next = put_next k s.disk new x y s.plan.items rest s.next v c.deref.result.now (search rules) (search rules) same
+    c.let_go.ensures.rest (w.crash runs.honest) (w.others runs.honest)
+    (c.in_ok-write_at-in-Put.ensures.written runs.honest) b in
     record {
-      moments = one_call k s.disk new (Either x y) now early time late;
+      moments = one_call k s.disk new (Either x y) now (shut_either k x y s.disk b.0) (w.time runs.honest) (shut_either k x y new next.0);
       ok =
-          record {
-            honest = w.honest.1 runs.honest;
-            root = runs.root;
-            next_root = runs.next_root;
-            next_holds = runs.next_holds;
-            next_room = runs.next_room;
-            before = (shut, led_on, spared_on);
-          };
+          carried k s.disk new x y s.phase phases.Put s.root s.next_root s.next_live (writes_left s) rest runs
+          (w.honest.1 runs.honest) next;
       err = tt;
     }
 
@@ -247,25 +198,15 @@ returns-in_ok-sync-in-Put-clause-moves g c x y runs =
     let new = c.sync-else-self-len.new.self in
     let w = c.sync-else-self-len.ensures in
     let b = subst (λ (p : Phase). Before k p s x y) c.in-Put.is runs.before in
-    let time = w.time runs.honest in
-    let stop = w.crash runs.honest in
     let now : (f : List ℕ) → k.left_since s.disk (k.moment s.disk) f → k.may_leave s.disk f =
     λ f left. g.met.D.Disk.only_now s.disk f runs.honest left in
-    let here = led k x y (Ready x y) s.plan.items s.next (k.seen s.disk) (search rules) b.1 in
-    let all = leaves_synced k new (k.seen s.disk) (Ready x y) (c.in_ok-sync-in-Put.ensures.durable runs.honest) here in
-    let early = shut_either k x y s.disk b.0 in
-    let late = both_either k x y new all in
+    let next = all_put k s.disk new x y (c.in_ok-sync-in-Put.ensures.durable runs.honest)
+    (g.met.D.Disk.seen_may_stay s.disk runs.honest) s.plan.items s.next (search rules) b in
     record {
-      moments = one_call k s.disk new (Either x y) now early time late;
+      moments = one_call k s.disk new (Either x y) now (shut_either k x y s.disk b.0) (w.time runs.honest) (both_either k x y new next);
       ok =
-          record {
-            honest = w.honest.1 runs.honest;
-            root = runs.root;
-            next_root = runs.next_root;
-            next_holds = runs.next_holds;
-            next_room = runs.next_room;
-            before = all;
-          };
+          carried k s.disk new x y s.phase phases.Open s.root s.next_root s.next_live (writes_left s) (writes_left s) runs
+          (w.honest.1 runs.honest) next;
       err = tt;
     }
 
@@ -276,32 +217,15 @@ returns-in_ok-write_at-in-Open-clause-moves g c x y runs =
     let new = c.write_at-in-Open.new.self in
     let w = c.write_at-in-Open.ensures in
     let b = subst (λ (p : Phase). Before k p s x y) c.in-Open.is runs.before in
-    let time = w.time runs.honest in
-    let stop = w.crash runs.honest in
     let now : (f : List ℕ) → k.left_since s.disk (k.moment s.disk) f → k.may_leave s.disk f =
     λ f left. g.met.D.Disk.only_now s.disk f runs.honest left in
-    let torn : OneStepOn (Torn (gate_at (other x.root)) 1) (k.may_leave s.disk) (k.may_leave new) =
-    subst (λ (a : ℕ). OneStepOn (Torn a 1) (k.may_leave s.disk) (k.may_leave new))
-    (c.other_gate-in-Open.ensures ∙ ap (λ (r : Root). gate_at (other r)) runs.root) stop in
-    let held : Holds (k.seen new) (gate_at (other x.root)) (167 ∷ []) =
-    subst (λ (a : ℕ). Holds (k.seen new) a (167 ∷ []))
-    (c.other_gate-in-Open.ensures ∙ ap (λ (r : Root). gate_at (other r)) runs.root)
-    (c.in_ok-write_at-in-Open.ensures.written runs.honest) in
-    let shown = gate_written (k.seen new) (other x.root) 167 held in
-    let all = opening k x y s.disk new b torn in
-    let early = both_either k x y s.disk b in
-    let late = both_either k x y new all in
+    let next = opened k s.disk new x y s.root c.other_gate-in-Open.result c.other_gate-in-Open.ensures runs.root
+    (w.crash runs.honest) (writes_left s) (c.in_ok-write_at-in-Open.ensures.written runs.honest) b in
     record {
-      moments = one_call k s.disk new (Either x y) now early time late;
+      moments = one_call k s.disk new (Either x y) now (both_either k x y s.disk b) (w.time runs.honest) (both_either k x y new next.0);
       ok =
-          record {
-            honest = w.honest.1 runs.honest;
-            root = runs.root;
-            next_root = runs.next_root;
-            next_holds = runs.next_holds;
-            next_room = runs.next_room;
-            before = (all, shown);
-          };
+          carried k s.disk new x y s.phase phases.Finish s.root s.next_root s.next_live (writes_left s) (writes_left s) runs
+          (w.honest.1 runs.honest) next;
       err = tt;
     }
 
@@ -464,3 +388,117 @@ returns-in_ok-sync-in-Finish-clause-wrote g c honest =
     let w = c.sync-in-Finish.ensures in
     writes_none k s.disk new (λ f left. g.met.D.Disk.only_now s.disk f honest left) (w.time honest) _ s.phase phases.Finish c.in-Finish.is s.root (writes_left s)
     refl (w.seen honest) (w.crash honest)
+
+-- ---- what the type keeps
+
+pub invariant_of-self-in-Close : goal.invariant_of-self-in-Close
+invariant_of-self-in-Close g c = record {
+  keeps = λ honest.
+      let k = g.D.Disk in
+      let s = c.args.self.now in
+      let w = c.write_at.ensures in
+      let before = w.honest.0 honest in
+      let runs = runs_known k s before (ap is_busy c.in-Close.is) in
+      let x = content_of s.root s.live in
+      let y = content_of s.next_root s.next_live in
+      let b = subst (λ (p : Phase). IsBefore k p s.disk (writes_left s) x y) c.in-Close.is runs.before in
+      merely (carried k s.disk c.write_at.new.self x y s.phase phases.Settle s.root s.next_root s.next_live (writes_left s) (writes_left s)
+      runs honest
+      (closed k s.disk c.write_at.new.self x y s.root c.other_gate.result c.other_gate.ensures refl (w.crash before)
+      (writes_left s) (c.in_ok-write_at-in-Close.ensures.written before) b));
+}
+
+pub invariant_of-self-in-Settle : goal.invariant_of-self-in-Settle
+invariant_of-self-in-Settle g c = record {
+  keeps = λ honest.
+      let k = g.D.Disk in
+      let s = c.args.self.now in
+      let w = c.sync.ensures in
+      let before = w.honest.0 honest in
+      let runs = runs_known k s before (ap is_busy c.in-Settle.is) in
+      let x = content_of s.root s.live in
+      let y = content_of s.next_root s.next_live in
+      let b = subst (λ (p : Phase). IsBefore k p s.disk (writes_left s) x y) c.in-Settle.is runs.before in
+      merely (carried k s.disk c.sync.new.self x y s.phase phases.Put s.root s.next_root s.next_live (writes_left s) (writes_left s)
+      runs honest
+      (settled k s.disk c.sync.new.self x y (c.in_ok-sync-in-Settle.ensures.durable before)
+      (g.met.D.Disk.seen_may_stay s.disk before) (writes_left s) (w.seen before) b));
+}
+
+pub invariant_of-self-then-self-len : goal.invariant_of-self-then-self-len
+invariant_of-self-then-self-len g c = record {
+  keeps = λ honest.
+      let k = g.D.Disk in
+      let s = c.args.self.now in
+      let w = c.write_at-then-self-len.ensures in
+      let v = c.index-write.result.now in
+      let before = w.honest.0 honest in
+      let runs = runs_known k s before (ap is_busy c.in-Put.is) in
+      let x = content_of s.root s.live in
+      let y = content_of s.next_root s.next_live in
+      let b = subst (λ (p : Phase). IsBefore k p s.disk (writes_left s) x y) c.in-Put.is runs.before in
+      let same : c.deref.result.now ≡ v.bytes.items = search rules in
+      let rest = drop (s.next + 1) c.let_go.new.plan.items in
+      merely (carried k s.disk c.write_at-then-self-len.new.self x y s.phase phases.Put s.root s.next_root s.next_live (writes_left s) rest
+      runs honest
+      (put_next k s.disk c.write_at-then-self-len.new.self x y s.plan.items rest s.next v c.deref.result.now (search rules) (search rules)
+      same c.let_go.ensures.rest (w.crash before) (w.others before) (c.in_ok-write_at-in-Put.ensures.written before) b));
+}
+
+pub invariant_of-self-else-self-len : goal.invariant_of-self-else-self-len
+invariant_of-self-else-self-len g c = record {
+  keeps = λ honest.
+      let k = g.D.Disk in
+      let s = c.args.self.now in
+      let w = c.sync-else-self-len.ensures in
+      let before = w.honest.0 honest in
+      let runs = runs_known k s before (ap is_busy c.in-Put.is) in
+      let x = content_of s.root s.live in
+      let y = content_of s.next_root s.next_live in
+      let b = subst (λ (p : Phase). IsBefore k p s.disk (writes_left s) x y) c.in-Put.is runs.before in
+      merely (carried k s.disk c.sync-else-self-len.new.self x y s.phase phases.Open s.root s.next_root s.next_live (writes_left s) (writes_left s)
+      runs honest
+      (all_put k s.disk c.sync-else-self-len.new.self x y (c.in_ok-sync-in-Put.ensures.durable before)
+      (g.met.D.Disk.seen_may_stay s.disk before) s.plan.items s.next (search rules) b));
+}
+
+pub invariant_of-self-in-Open : goal.invariant_of-self-in-Open
+invariant_of-self-in-Open g c = record {
+  keeps = λ honest.
+      let k = g.D.Disk in
+      let s = c.args.self.now in
+      let w = c.write_at-in-Open.ensures in
+      let before = w.honest.0 honest in
+      let runs = runs_known k s before (ap is_busy c.in-Open.is) in
+      let x = content_of s.root s.live in
+      let y = content_of s.next_root s.next_live in
+      let b = subst (λ (p : Phase). IsBefore k p s.disk (writes_left s) x y) c.in-Open.is runs.before in
+      merely (carried k s.disk c.write_at-in-Open.new.self x y s.phase phases.Finish s.root s.next_root s.next_live (writes_left s) (writes_left s)
+      runs honest
+      (opened k s.disk c.write_at-in-Open.new.self x y s.root c.other_gate-in-Open.result c.other_gate-in-Open.ensures refl (w.crash before)
+      (writes_left s) (c.in_ok-write_at-in-Open.ensures.written before) b));
+}
+
+pub invariant_of-self-in-Finish : goal.invariant_of-self-in-Finish
+invariant_of-self-in-Finish g c = record {
+  keeps = λ honest.
+      let k = g.D.Disk in
+      let s = c.args.self.now in
+      let new = c.sync-in-Finish.new.self in
+      let before = c.sync-in-Finish.ensures.honest.0 honest in
+      let runs = runs_known k s before (ap is_busy c.in-Finish.is) in
+      let x = content_of s.root s.live in
+      let y = content_of s.next_root s.next_live in
+      let b = subst (λ (p : Phase). IsBefore k p s.disk (writes_left s) x y) c.in-Finish.is runs.before in
+      let all = finished k s.disk new x y (c.in_ok-sync-in-Finish.ensures.durable before) (g.met.D.Disk.seen_may_stay s.disk before) (writes_left s) b in
+      let rest : IsAtRest k new phases.Idle s.next_root s.next_live y = record {
+        honest = honest;
+        idle = refl;
+        root = refl;
+        holds = refl;
+        room = runs.next_room;
+        leaves = λ f left. inl (all f left);
+      } in
+      merely (subst (λ (live : LiveRecords). IsAtRest k new phases.Idle s.next_root live (content_of s.next_root live))
+      (sym c.swap.ensures.x_after) rest);
+}
