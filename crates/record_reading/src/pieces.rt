@@ -37,6 +37,7 @@ fn push_piece<'a>(pieces: &mut Vec<Piece>, bytes: &'a [u8]) -> Result<&'a [u8], 
     ensures ok { IfOk result (λ rest. IsAdded spelled bytes.now rest.now pieces.old.items pieces.new.items) }
     ensures err { IfErr result (λ fault. Fails fault (spelled.read bytes.now)) }
 {
+    // A segment has 16 bytes, the name of a whole point 9.
     if bytes.len() < 34 {
         return push_any(pieces, bytes);
     }
@@ -63,7 +64,7 @@ fn push_piece<'a>(pieces: &mut Vec<Piece>, bytes: &'a [u8]) -> Result<&'a [u8], 
     }
 }
 
-/// The same of any length and any names.
+/// The same of fewer bytes, too few for any piece, whichever names it has.
 fn push_any<'a>(pieces: &mut Vec<Piece>, bytes: &'a [u8]) -> Result<&'a [u8], ReadFault>
     ensures ok { IfOk result (λ rest. IsAdded spelled bytes.now rest.now pieces.old.items pieces.new.items) }
     ensures err { IfErr result (λ fault. Fails fault (spelled.read bytes.now)) }

@@ -53,7 +53,7 @@ pub record IsLowestOf (p lowest : Point) : Type 0 where
   pub positive : pos 0 <ℤ lowest.w
   pub lowest_terms : IsLowest lowest
 
--- a text with one place before it, in lowest terms
+-- a text with one place before it, in lowest terms, of at most 64 bytes
 pub record HasEndBefore (before after : List ℕ) (p : Point) : Type 0 where
   pub low : Point
   pub lowest : IsLowestOf p low

@@ -112,6 +112,10 @@ impl EndTexts {
         if self.spots.is_empty() {
             self.make_room();
         }
+        // A text without a spot is never found.
+        if self.spots.is_empty() {
+            return;
+        }
         let place = self.next;
         if self.put(place, text) {
             self.next = if place < self.last { place + 1 } else { 0 };

@@ -8,8 +8,8 @@ use crate::place_text::{PlaceText, TEXT_MAX, put_number};
 use plane_base::Pt;
 use std::marker::Model;
 
-/// How many bytes there are for a line: two texts of places and two bytes more, and a whole text before them, as a text
-/// is put down with all of its bytes.
+/// How many bytes there are for a line: two texts of places, a space and a line feed, and more, as a text is put down
+/// with all of its bytes.
 const LINE_MAX: usize = 192;
 
 /// A text that ends with the last byte, as it is put down from its end to its start.
