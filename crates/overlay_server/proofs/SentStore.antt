@@ -3,6 +3,7 @@ use denote.RattleType.{RattleType}
 use denote.Struct.Declared.{shape}
 use denote.Param.Send.{IsSend, recorded_send, struct_send, plain_send, sendable}
 use Rattle.std.proofs.Crossing.{crosses}
+use Rattle.disk_model.specs.declared.disk.Disk.{Ghosts}
 use Rattle.book_history.proofs.Sent.{layers_send}
 use Rattle.tile_build.proofs.stored_tile.StoredTile.TheSendSync as tiles
 use Rattle.record_writing.proofs.catalog.Listed.TheSendSync as entries
@@ -22,8 +23,8 @@ live_send = struct_send (shape live.the_type) (
   (rooms.the_field_send, (layers_send, (search (sendable, crosses, tiles.the_send) depth 20, tt))),
 )
 
-commit_send : (D : RattleType) → IsSend D → IsSend (commit.the_field D).row
-commit_send D d = struct_send (shape (commit.the_type D)) (
+commit_send : (D : RattleType) (g : Ghosts D.Denot) → IsSend D → IsSend (commit.the_field D g).row
+commit_send D g d = struct_send (shape (commit.the_type D g)) (
   d,
   (
     roots.the_field_send,
@@ -40,14 +41,14 @@ commit_send D d = struct_send (shape (commit.the_type D)) (
   ),
 )
 
-flusher_send : (D : RattleType) → IsSend D → IsSend (flusher.the_row D)
-flusher_send D d =
-    let O = flusher.the_type D in
-    recorded_send _ _ _ O.to_one (struct_send (shape O) (commit_send D d, tt))
+flusher_send : (D : RattleType) (g : Ghosts D.Denot) → IsSend D → IsSend (flusher.the_row D g)
+flusher_send D g d =
+    let O = flusher.the_type D g in
+    recorded_send _ _ _ O.to_one (struct_send (shape O) (commit_send D g d, tt))
 
-pub store_send : (D : RattleType) → IsSend D → IsSend (store.the_row D)
-store_send D d =
-    let O = store.the_type D in
-    let one = flusher_send D d in
+pub store_send : (D : RattleType) (g : Ghosts D.Denot) → IsSend D → IsSend (store.the_row D g)
+store_send D g d =
+    let O = store.the_type D g in
+    let one = flusher_send D g d in
     recorded_send _ _ _ O.to_one
     (struct_send (shape O) (reporters.the_send, (search (sendable, crosses, one) depth 20, tt)))

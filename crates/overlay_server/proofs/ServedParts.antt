@@ -23,7 +23,7 @@ use Rattle.overlay_server.proofs.Parts.{AreSeated, are_served, begins_first}
 use Rattle.overlay_server.proofs.Stores.{Closes, left_by}
 
 -- a server began so: its store's log, and the scripts with their sessions
-pub record Began {R D : Type 0} (book : Book) (start : Version) (readers : List R) (store : Store D g) (scripts : List (Script R)) : Type 0 where
+pub record Began {R D : Type 0} {g : Ghosts D} (book : Book) (start : Version) (readers : List R) (store : Store D g) (scripts : List (Script R)) : Type 0 where
   pub log : store.reporter.log ≡ first_log start
   pub some : 0 < length readers
   pub seated : AreSeated book start readers scripts

@@ -112,7 +112,7 @@ abbrev pub StoresStand : {D : Type 0} → Ghosts D → Type 0
 StoresStand {D = D} g =
     (s : Commit D g) → g.is_honest s.disk → s.phase ≡ Idle → Stands g s (content_of s.root s.live)
 
--- a commit that is under way goes from there to the content of the next root
+-- a commit that is under way on an honest disk goes from the content of the live root to that of the next root
 abbrev pub CommitsRun : {D : Type 0} → Ghosts D → Type 0
 CommitsRun {D = D} g =
     (s : Commit D g) → g.is_honest s.disk → is_busy s.phase ≡ true

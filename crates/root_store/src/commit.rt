@@ -32,6 +32,7 @@ pub struct Commit<D: Disk> {
     pub(crate) plan: Vec<Write>,
     /// How many of them are made.
     pub(crate) next: usize,
+    /// On an honest disk: what the file stands for at rest, or whence and whither the commit goes.
     pub ghost keeps: { D.is_honest disk
         → ∥ Keeps D.Disk disk root live next_root next_live (drop next plan.items) phase ∥₁ },
 }

@@ -24,8 +24,8 @@ abbrev pub StoreLeaves : {D : Type 0} → Ghosts D → Type 0
 StoreLeaves {D = D} g =
     (history : History) (f : Flusher D g) → IsStoreOf g history f → Leaves g f.commit.disk (IsFileIn history f.commit.root.version)
 
--- a store at rest on an honest disk is one of a history where every file that a crash may leave of it stands for one of
--- its versions
+-- a store at rest on an honest disk is one of a history, where all that is reported is stored, and every file that a
+-- crash may leave stands for one of its versions, no older than what is stored
 abbrev pub StoreIsKnown : {D : Type 0} → Ghosts D → Type 0
 StoreIsKnown {D = D} g =
     (history : History) (f : Flusher D g) → g.is_honest f.commit.disk → f.commit.phase ≡ Idle

@@ -13,7 +13,8 @@ pub fn store_leaves<D: Disk>()
     ensures { StoreLeaves D.Disk }
 {}
 
-/// A store at rest is one of a history where every file that a crash may leave of it stands for one of its versions.
+/// A store at rest is one of a history where all that is reported is stored, and every file that a crash may leave of it
+/// stands for one of its versions, no older than what is stored.
 pub fn store_is_known<D: Disk>()
     ensures { StoreIsKnown D.Disk }
 {}

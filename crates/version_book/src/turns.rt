@@ -17,12 +17,12 @@ pub(crate) struct Turns<J: Naming, R: Wait + Drop> {
     waiting: Waiting,
 }
 
-/// Those who wait, by what they wait for.
+/// Those who wait: workers for a tile, sessions until tiles are built or a number is durable, the reporter for news.
 #[derive(Drop)]
 struct Waiting {
-    for_tile: Condvar,
-    for_built_or_durable: Condvar,
-    for_news: Condvar,
+    workers: Condvar,
+    sessions: Condvar,
+    reporter: Condvar,
 }
 
 /// Whose waits a turn may have ended.
@@ -33,7 +33,7 @@ pub(crate) enum Ended {
     /// Those of sessions: a tile was marked, a number is durable, or the store told a fault.
     Sessions,
     /// The reporter's alone: a tile was kept, and others of its layer are pending.
-    News,
+    Reporter,
     /// None: nothing changed, or a tile was handed out.
     Nothing,
 }
@@ -48,7 +48,7 @@ impl Ended {
         match name {
             Ok(name) => {
                 if kept && waits(locked, &Awaited::Built(name)) {
-                    Ended::News
+                    Ended::Reporter
                 } else {
                     Ended::All
                 }
@@ -80,9 +80,9 @@ impl<J: Naming, R: Wait + Drop> Turns<J, R> {
         Turns {
             book: Mutex::new(book),
             waiting: Waiting {
-                for_tile: Condvar::new(),
-                for_built_or_durable: Condvar::new(),
-                for_news: Condvar::new(),
+                workers: Condvar::new(),
+                sessions: Condvar::new(),
+                reporter: Condvar::new(),
             },
         }
     }
@@ -122,26 +122,26 @@ impl<J: Naming, R: Wait + Drop> Turns<J, R> {
 }
 
 impl Waiting {
-    // Where a call waits.
+    /// Where a call waits.
     fn place(&self, awaited: &Awaited<'_>) -> &Condvar {
         match awaited {
-            Awaited::Tile => &self.for_tile,
-            Awaited::Built(_) => &self.for_built_or_durable,
-            Awaited::Durable(_) => &self.for_built_or_durable,
-            Awaited::News(_) => &self.for_news,
+            Awaited::Tile => &self.workers,
+            Awaited::Built(_) => &self.sessions,
+            Awaited::Durable(_) => &self.sessions,
+            Awaited::News(_) => &self.reporter,
         }
     }
 
-    // Wakes those whose wait may have ended.
+    /// Wakes those whose wait may have ended.
     fn wake(&self, ended: Ended) {
         match ended {
             Ended::All => {
-                self.for_tile.notify_all();
-                self.for_built_or_durable.notify_all();
-                self.for_news.notify_all();
+                self.workers.notify_all();
+                self.sessions.notify_all();
+                self.reporter.notify_all();
             }
-            Ended::Sessions => self.for_built_or_durable.notify_all(),
-            Ended::News => self.for_news.notify_all(),
+            Ended::Sessions => self.sessions.notify_all(),
+            Ended::Reporter => self.reporter.notify_all(),
             Ended::Nothing => {}
         }
     }
