@@ -180,6 +180,20 @@ fn a_report_a_fault_and_closing_each_end_a_wait(rt: HostRuntime) {
     play(&rt, rt.alloc(), true, ENDED, 3);
 }
 
+const NEWS: &[&[Row]] = &[
+    OVERLAP,
+    &[
+        Row::Calls(Call::NextVersion, Ok(Some(3))),
+        // others of its layer are still pending then
+        Row::NewsBeside(Ok(Some(3))),
+    ],
+];
+
+#[test]
+fn a_kept_tile_is_news(rt: HostRuntime) {
+    play(&rt, rt.alloc(), true, NEWS, 3);
+}
+
 const WITHOUT_STORE: &[&[Row]] = &[&[Row::Calls(Call::WaitDurable, Err(BookFault::NoStore))]];
 
 #[test]

@@ -5,7 +5,7 @@ ghost use Rattle.version_book.specs.Rules.{head_of};
 
 use crate::tests::rows::check;
 use crate::tests::testing::{Change, batch, command, name_of};
-use crate::tests::threads::{Work, beside, submit_beside, wait_beside};
+use crate::tests::threads::{Work, beside, news_beside, submit_beside, wait_beside};
 use exact_point::QueryPoint;
 use layer_book::batch_fault::BatchFault;
 use layer_book::direct_answer::Place;
@@ -68,6 +68,9 @@ pub enum Row {
     BuildsBeside(&'static str, Answer),
     /// The first session waits in a thread of its own, until a call ends that: what the wait answers.
     WaitsBeside(WaitFor, Call, Answer),
+    /// The reporter waits for news in a thread of its own, until a tile is kept: the number of the version that it is
+    /// given.
+    NewsBeside(Answer),
     /// Two sessions submit a command each, 1,500 times in a thread of its own, and the reporter reports in a third what
     /// it is given. The book closes then, with the last version reported.
     SubmitBeside(Change, Change),
@@ -233,6 +236,11 @@ fn play_row<J: Naming + Send + Sync, R: Threads + Wait + Clock + Abort + Sync>(
             check(rt, at, &last_of(done), want);
             None
         }
+        Row::NewsBeside(want) => {
+            let told = news_beside(rt, alloc, shared, reporter, me, &Work::BuildsLate);
+            check(rt, at, &told, want);
+            None
+        }
         Row::SubmitBeside(first, second) => {
             let (first, second) = (command(rt, alloc, first), command(rt, alloc, second));
             let (last, reported) = submit_beside(
@@ -296,10 +304,7 @@ pub fn answer<J: Naming, R: Wait + Abort>(
             told(shared.wait_built(rt, me, &name))
         }
         Call::WaitDurable => told(shared.wait_durable(rt, me)),
-        Call::NextVersion => match shared.next_version(rt, reporter)? {
-            Some(version) => Ok(Some(version.number())),
-            None => Ok(None),
-        },
+        Call::NextVersion => news(rt, shared, reporter),
         Call::Report(number) => told(shared.report(rt, alloc, reporter, *number)),
         Call::StoreFailed(fault) => {
             shared.store_failed(rt, reporter, *fault);
@@ -318,6 +323,17 @@ pub fn answer<J: Naming, R: Wait + Abort>(
             shared.begin_close(rt);
             Ok(None)
         }
+    }
+}
+
+/// The number of the version that the reporter is given next.
+pub fn news<J: Naming, R: Wait>(rt: &R, shared: &Shared<J, &R>, reporter: &mut Reporter) -> Answer
+    requires { reporter.old.book ≡ J.book }
+    ensures { reporter.new.book ≡ reporter.old.book }
+{
+    match shared.next_version(rt, reporter)? {
+        Some(version) => Ok(Some(version.number())),
+        None => Ok(None),
     }
 }
 

@@ -1,7 +1,7 @@
 //! What two sessions do in threads of their own, for the tests.
 ghost use Rattle.std.specs.Prelude.{◌≡◌};
 
-use crate::tests::books::{Answer, Call, answer, finish, take};
+use crate::tests::books::{Answer, Call, answer, finish, news, take};
 use layer_book::command::Command;
 use layer_expr::name::Name;
 use std::alloc::Global;
@@ -22,6 +22,8 @@ pub enum Work {
     Submits(Command),
     /// Asks for a tile and builds it, which is to be kept.
     Builds,
+    /// The same, a tenth of a second late.
+    BuildsLate,
     /// Waits for the tiles of the layer of this name, a tenth of a second late.
     WaitsLate(Name),
     /// Waits for the tiles of the layer of this name.
@@ -54,9 +56,10 @@ fn carry_out<J: Naming, R: Wait + Clock + Abort>(
                 list.push(number).expect(rt, "memory");
             }
         }
-        Work::Builds => {
-            let job = take(rt, alloc, shared).expect(rt, "no tile");
-            assert!(rt; finish(rt, alloc, shared, job));
+        Work::Builds => build(rt, alloc, shared),
+        Work::BuildsLate => {
+            sleep(rt, Duration::from_millis(100));
+            build(rt, alloc, shared);
         }
         Work::WaitsLate(name) => {
             sleep(rt, Duration::from_millis(100));
@@ -69,6 +72,34 @@ fn carry_out<J: Naming, R: Wait + Clock + Abort>(
         Work::WaitsDurable => list.push(shared.wait_durable(rt, me)?).expect(rt, "memory"),
     }
     Ok(list)
+}
+
+/// Takes a tile and builds it, which is to be kept.
+fn build<J: Naming, R: Wait + Abort>(rt: &R, alloc: Global, shared: &Shared<J, &R>) {
+    let job = take(rt, alloc, shared).expect(rt, "no tile");
+    assert!(rt; finish(rt, alloc, shared, job));
+}
+
+/// The number of the version that the reporter is given, who waits for news in a thread of its own while a session does
+/// a work.
+// Where there is no memory for a thread, the work comes first.
+pub fn news_beside<J: Naming + Send + Sync, R: Threads + Wait + Clock + Abort + Sync>(
+    rt: &R,
+    alloc: Global,
+    shared: &Shared<J, &R>,
+    reporter: &mut Reporter,
+    me: &mut Session,
+    work: &Work,
+) -> Answer
+    requires { (reporter.old.book ≡ J.book) × (me.old.book ≡ J.book) }
+    ensures { (reporter.new.book ≡ reporter.old.book) × (me.new.book ≡ me.old.book) }
+{
+    let (told, _) = join_mut(
+        rt,
+        &mut || news(rt, shared, reporter),
+        &mut || carry_out(rt, alloc, shared, me, work),
+    );
+    told
 }
 
 /// What two sessions do in threads of their own, and the numbers that each tells.
