@@ -4,18 +4,21 @@
 python3 bench/workers.py PROGRAM..
 
 Cases: layers over a triangle across all columns, which is put anew so many times and waited for each time (small tiles);
-layers over two circles of so many steps. Where several programs are given they run in turns, five times each. By the
-clock, the least time of each, less that of the same script without the waiting; so the machine should have 4 idle
-processors. What of processors a tile takes is that of the same run.
+layers over two circles of so many steps. All runs of a case, of each number of workers and of each program, take turns.
+By the clock, the least time of each, less that of the same script without the waiting; so the machine should have 4
+idle processors. What of processors a tile takes is that of the same run. Beside it stands what the machine allows: how
+many times as much as one of them four programs with one worker each do at once.
 """
 
 import argparse
 import pathlib
+import subprocess
 import tempfile
+import time
 
 import serving
 
-LAYERS, COLUMNS, ROUNDS = 30, 17, 5
+LAYERS, COLUMNS, ROUNDS, WORKERS = 30, 17, 12, (1, 2, 4)
 
 
 def waited(names):
@@ -38,14 +41,32 @@ def circles(steps):
     return head + waited(names), head
 
 
-def least(programs, folder, script, workers):
-    """The least clock time of each program, in turns, with the processor time of that run."""
-    best = {}
+def at_once(program, folder, script, count):
+    """Seconds by the clock of so many programs at once, one worker each, on one script."""
+    path = folder / "together.txt"
+    path.write_text("\n".join(script) + "\n")
+    start = time.monotonic()
+    words = [program, "--workers", "1", path]
+    running = [subprocess.Popen(words, stdin=subprocess.DEVNULL, stdout=subprocess.DEVNULL) for _ in range(count)]
+    for one in running:
+        one.wait()
+    return time.monotonic() - start
+
+
+def least(programs, folder, scripts):
+    """The least clock time by program, number of workers and script, in turns, with the processor time of that run; and
+    those of one program and of four at once."""
+    best, together = {}, {}
     for _ in range(ROUNDS):
         for at, program in enumerate(programs):
-            took = serving.Runs(program, folder).once([script], workers, False)[:2]
-            best[at] = min(took, best.get(at, took))
-    return best
+            for which, script in enumerate(scripts):
+                for workers in WORKERS:
+                    took = serving.Runs(program, folder).once([script], workers, False)[:2]
+                    best[at, workers, which] = min(took, best.get((at, workers, which), took))
+            for count in (1, 4):
+                took = at_once(program, folder, scripts[0], count)
+                together[at, count] = min(took, together.get((at, count), took))
+    return best, together
 
 
 def main():
@@ -54,16 +75,20 @@ def main():
     programs = [program.resolve() for program in parser.parse_args().programs]
     cases = [("a triangle put 20 times", 20, small(20)), ("two circles of 64 steps", 1, circles(64)), ("two circles of 1,024 steps", 1, circles(1024))]
     with tempfile.TemporaryDirectory() as place:
-        for name, times, (whole, without) in cases:
+        for name, times, scripts in cases:
+            best, together = least(programs, pathlib.Path(place), scripts)
             first = {}
-            for workers in (1, 2, 4):
-                long, short = (least(programs, pathlib.Path(place), script, workers) for script in (whole, without))
+            for workers in WORKERS:
                 rows = []
                 for at in range(len(programs)):
-                    clock, used = ((long[at][i] - short[at][i]) / times / LAYERS / COLUMNS for i in (0, 1))
+                    long, short = (best[at, workers, which] for which in (0, 1))
+                    clock, used = ((long[i] - short[i]) / times / LAYERS / COLUMNS for i in (0, 1))
                     first.setdefault(at, clock)
                     rows.append(f"{1e3 * clock:.3f} ms a tile, {1e3 * used:.3f} of processors, {first[at] / clock:.2f} times as fast as one")
                 print(f"{name}, {workers} workers: " + "; ".join(rows), flush=True)
+            allowed = "; ".join(f"{4 * together[at, 1] / together[at, 4]:.2f} times" for at in range(len(programs)))
+            print(f"{name}, four programs at once: {allowed} what one does", flush=True)
 
 
-main()
+if __name__ == "__main__":
+    main()
