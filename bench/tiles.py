@@ -1,10 +1,10 @@
 """Builds tiles by the pass from node to node and by all pairs: side by side on drawn inputs, and timed in one run.
 
 python3 bench/tiles.py inputs [PROGRAM]
-python3 bench/tiles.py times [PROGRAM]
+python3 bench/tiles.py times [PROGRAM..]
 
-Builds the program of bench/tiles over tile_build and layer_book (bench/proved.py); PROGRAM is such a program that was
-built before.
+Builds the program of bench/tiles over tile_build and layer_book, for `inputs` proved (bench/proved.py), for `times`
+unproved and without checks (bench/unproved.py; minutes); PROGRAM is such a program that was built before.
 
 inputs: 2,000 inputs from fixed seeds, a quarter of them at full coordinates, most with edges that touch, overlap, stand
 upright or are cut by a border of the column. Of each the tiles of `build` and `build_counted` are compared by their ends
@@ -23,6 +23,7 @@ import sys
 import tempfile
 
 import proved
+import unproved
 
 HERE = pathlib.Path(__file__).resolve().parent
 COORDINATE_MAX = 2**20
@@ -35,7 +36,7 @@ CRATES = ["wkt_form", "layer_expr", "arrange", "tile_build", "layer_book"]
 # The program
 
 
-def built(folder):
+def proved_program(folder):
     return proved.built(HERE / "tiles", CRATES, folder, ["compare", "/dev/null", "0", "0"])
 
 
@@ -293,17 +294,17 @@ def run(program, word, path, cap, times):
     return processor() - start, int(size), int(peak) / 1024
 
 
-def in_turns(program, pairs):
-    """The time of one whole tile for each word and path, and its size: of five runs each, which take turns."""
+def in_turns(runs):
+    """The time of one whole tile for each program, word and path, and its size: of five runs each, which take turns."""
     whole = 2**64 - 1
-    first = [run(program, word, path, whole, 1) for word, path in pairs]
-    reading = [min(run(program, word, path, whole, 0)[0] for _ in range(5)) for word, path in pairs]
+    first = [run(*one, whole, 1) for one in runs]
+    reading = [min(run(*one, whole, 0)[0] for _ in range(5)) for one in runs]
     times = [math.ceil(0.1 / max(once - read, 0.0001)) for (once, _, _), read in zip(first, reading)]
     best = [once - read for (once, _, _), read in zip(first, reading)]
     for _ in range(5):
-        for i, (word, path) in enumerate(pairs):
+        for i, one in enumerate(runs):
             if first[i][0] <= 2:
-                spent = run(program, word, path, whole, times[i])[0] - reading[i]
+                spent = run(*one, whole, times[i])[0] - reading[i]
                 best[i] = min(best[i], spent / times[i])
     return [(time, size) for time, (_, size, _) in zip(best, first)]
 
@@ -314,24 +315,28 @@ def written(folder, name, layers):
     return path
 
 
-def by_both(program, folder):
+def milliseconds(times):
+    return "; ".join(f"{1000 * time:.2f} ms" for time in times)
+
+
+def by_both(programs, folder):
     for name, family in FAMILIES.items():
         for edges in [64, 128, 256, 512, 1024, 2048]:
             path = written(folder, "input", even(family(edges)))
-            (swept, size), (paired, _) = in_turns(program, [("pass", path), ("pairs", path)])
+            *swept, (paired, size) = in_turns([(one, "pass", path) for one in programs] + [(programs[0], "pairs", path)])
             print(
-                f"{name} {edges}, {size} pieces: by the pass {1000 * swept:.2f} ms, by all pairs {1000 * paired:.2f} ms,"
-                f" {paired / swept:.1f} times as long",
+                f"{name} {edges}, {size} pieces: by the pass {milliseconds(time for time, _ in swept)}; by all pairs"
+                f" {1000 * paired:.2f} ms, {paired / swept[0][0]:.1f} times as long",
                 flush=True,
             )
 
 
-def with_more_edges(program, folder):
+def with_more_edges(programs, folder):
     for name, family in {**FAMILIES, "circle": circles}.items():
         for edges in [64, 256, 1024]:
             layers = even(family(edges))
             paths = [written(folder, "input", layers), written(folder, "halved", halved(layers))]
-            (one, size), (two, more) = in_turns(program, [("pass", path) for path in paths])
+            (one, size), (two, more) = in_turns([(programs[0], "pass", path) for path in paths])
             print(
                 f"{name} {edges}, {size} pieces: {1000 * one:.2f} ms;"
                 f" with twice as many edges, {more} pieces: {1000 * two:.2f} ms, {two / one:.2f} times as long",
@@ -339,28 +344,33 @@ def with_more_edges(program, folder):
             )
 
 
-def to_the_cap(program, folder):
+def to_the_cap(programs, folder):
     path = written(folder, "input", combs(512))
-    for word, name in [("pass", "the pass"), ("pairs", "all pairs")]:
-        runs = [run(program, word, path, 65536, 1) for _ in range(5)]
+    cases = [(one, "pass") for one in programs] + [(programs[0], "pairs")]
+    runs = [[run(one, word, path, 65536, 1) for one, word in cases] for _ in range(5)]
+    for i, (_, word) in enumerate(cases):
         print(
-            f"two combs of 512 to the cap of 65,536 by {name}, with reading the input:"
-            f" {1000 * min(r[0] for r in runs):.0f} ms, {max(r[2] for r in runs):.0f} MB"
+            f"two combs of 512 to the cap of 65,536 by {'the pass' if word == 'pass' else 'all pairs'}, with reading the"
+            f" input: {1000 * min(each[i][0] for each in runs):.0f} ms, {max(each[i][2] for each in runs):.1f} MB",
+            flush=True,
         )
 
 
-def measure(program, folder):
-    to_the_cap(program, folder)
-    by_both(program, folder)
-    with_more_edges(program, folder)
+def measure(programs, folder):
+    to_the_cap(programs, folder)
+    by_both(programs, folder)
+    with_more_edges(programs, folder)
 
 
 def main():
-    word = sys.argv[1]
+    word, *given = sys.argv[1:]
     with tempfile.TemporaryDirectory() as name:
         folder = pathlib.Path(name)
-        program = pathlib.Path(sys.argv[2]).resolve() if len(sys.argv) > 2 else built(folder)
-        {"inputs": compare, "times": measure}[word](program, folder)
+        programs = [pathlib.Path(one).resolve() for one in given]
+        if word == "inputs":
+            compare(programs[0] if programs else proved_program(folder), folder)
+        else:
+            measure(programs or [unproved.built(HERE / "tiles", CRATES, folder, checked=False)], folder)
 
 
 if __name__ == "__main__":
