@@ -3,31 +3,38 @@ ghost use Rattle.std.specs.Prelude.{◌≡◌, ◌↔◌, ℕ, List, Some, IfOk,
 ghost use Rattle.tile_build.specs.Piece.{IsBetween};
 ghost use Rattle.record_writing.specs.Answers.{Fails, Gives};
 ghost use Rattle.record_reading.specs.Added.{IsAdded};
+ghost use Rattle.record_reading.specs.Standing.{stand_in};
 ghost use Rattle.store_terms.specs.Fields.{read_many};
 ghost use Rattle.store_terms.specs.TileRecord.{piece as spelled, point_name, segment};
 
 use crate::segments::{point_name_at, segment_at, segment_in, vertex_in};
+use crate::standing::is_last_placed;
 use exact_point::PointName;
-use plane_base::{Pt, Seg};
+use plane_base::{Column, Pt, Seg};
 use record_writing::fault::ReadFault;
 use std::alloc::Global;
 use tile_build::Piece;
 use tile_build::ends::{are_ends, are_whole_ends};
 
-/// So many pieces, one behind another, and what follows them.
+/// So many pieces, one behind another, whether they begin in a column and rise, and what follows them. Each is asked
+/// while it is at hand: to go over all of them again would take longer than to read them.
 pub(crate) fn pieces_at(
     alloc: Global,
+    column: Column,
     count: u32,
     bytes: &[u8],
-) -> Result<(Vec<Piece>, &[u8]), ReadFault>
-    ensures { Gives (λ x. (x.0.items, x.1.now)) result (read_many spelled.read count bytes.now) }
+) -> Result<(Vec<Piece>, bool, &[u8]), ReadFault>
+    ensures pieces { Gives (λ x. (x.0.items, x.2.now)) result (read_many spelled.read count bytes.now) }
+    ensures stand { IfOk result (λ x. x.1 ≡ stand_in column x.0.items) }
 {
     let mut pieces = Vec::new(alloc);
+    let mut stand = true;
     let mut rest = bytes;
     for _ in 0..count {
         rest = push_piece(&mut pieces, rest)?;
+        stand = stand & is_last_placed(&pieces, column);
     }
-    Ok((pieces, rest))
+    Ok((pieces, stand, rest))
 }
 
 /// Adds the piece at the front of some bytes, and gives what follows it. It is made in its place in the vector: what
