@@ -1,3 +1,4 @@
 mod DefinitionLemmas
 mod NamedPieceLemmas
 mod PointLemmas
+mod StandingLemmas

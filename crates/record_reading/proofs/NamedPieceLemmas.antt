@@ -1,6 +1,6 @@
 -- Pieces by the names of their ends: their test, and how they are read.
-use Rattle.std.proofs.Common.{◌≡◌, ℕ, pos, ◌<ℤ◌, Bool, true, false, cond, not, ◌&&◌, List, Option, Some, None, refl, ap, ◌∙◌, arith, inl, inr, ◌<◌, length, take, drop, ◌+◌, ◌-◌, sym}
-use Rattle.std.specs.Prelude.{int_lt, nat_lt}
+use Rattle.std.proofs.Common.{◌≡◌, ◌≤◌, ℕ, pos, ◌<ℤ◌, Bool, true, false, cond, not, ◌&&◌, ◌⊎◌, List, [], ◌∷◌, Option, Some, None, refl, ap, ◌∙◌, arith, inl, inr, ◌<◌, length, take, drop, ◌+◌, ◌-◌, sym}
+use Rattle.std.specs.Prelude.{int_lt, nat_lt, slice_index}
 use Rattle.std.specs.Ordering.{is_lt}
 use Rattle.std.specs.declared.cmp.Ordering.{Ordering}
 use Rattle.std.specs.declared.cmp.Ordering.TheVariants.{Less, Equal, Greater}
@@ -12,6 +12,7 @@ use Rattle.overlay_terms.specs.Tiles.{is_parallel}
 use Rattle.overlay_terms.proofs.InputNumbers.{lt_true, true_lt}
 use Rattle.overlay_terms.proofs.PointOrder.{same_points}
 use Rattle.exact_point.specs.NamedPiece.{NamedPiece}
+use Rattle.exact_point.specs.NameCode.{name_from}
 use Rattle.exact_point.specs.PlaceOf.{place_of, crossing_place}
 use Rattle.exact_point.specs.PointName.{HasPlace, IsPlaceOf}
 use Rattle.exact_point.specs.declared.point_name.PointName.{PointName}
@@ -195,6 +196,38 @@ pub name_in_part : (m : ℕ) (bytes : List ℕ) (n : PointName)
 name_in_part m bytes n read =
     (λ i. point_name.read (sym (part_from m bytes) i)) ∙ read
     ∙ (λ i. Some (n, (ap (drop 9) (part_from m bytes) ∙ drop-drop 9 m bytes) i))
+
+-- a segment that is read from such a part
+segment_in_part : (m : ℕ) (bytes : List ℕ) (s : Segment)
+    → segment.read (take (length bytes - m) (drop m bytes)) ≡ Some (s, drop 16 (take (length bytes - m) (drop m bytes)))
+    → segment.read (drop m bytes) ≡ Some (s, drop (m + 16) bytes)
+segment_in_part m bytes s read =
+    (λ i. segment.read (sym (part_from m bytes) i)) ∙ read
+    ∙ (λ i. Some (s, (ap (drop 16) (part_from m bytes) ∙ drop-drop 16 m bytes) i))
+
+abbrev with_other : Segment → Segment × List ℕ → Option ((Segment × Segment) × List ℕ)
+with_other s b = Some ((s, b.0), b.1)
+
+abbrev behind_one : Segment × List ℕ → Option ((Segment × Segment) × List ℕ)
+behind_one a = segment.read a.1 >>= with_other a.0
+
+abbrev crossed : (Segment × Segment) × List ℕ → Option ((WholePoint ⊎ (Segment × Segment ⊎ Segment × ℕ)) × List ℕ)
+crossed b = Some (inr (inl b.0), b.1)
+
+abbrev naming : (WholePoint ⊎ (Segment × Segment ⊎ Segment × ℕ)) × List ℕ → Option (PointName × List ℕ)
+naming a = Some (name_from a.0, a.1)
+
+-- the name of a crossing is its kind and two segments
+pub crossing_read : (bytes : List ℕ) (a b : Segment) → 33 ≤ length bytes → slice_index bytes 0 ≡ 1
+    → segment.read (take (length bytes - 1) (drop 1 bytes)) ≡ Some (a, drop 16 (take (length bytes - 1) (drop 1 bytes)))
+    → segment.read (take (length bytes - 17) (drop 17 bytes)) ≡ Some (b, drop 16 (take (length bytes - 17) (drop 17 bytes)))
+    → point_name.read bytes ≡ Some (Cross a b, drop 33 bytes)
+crossing_read [] a b long one first second = absurd (omega (arith, long))
+crossing_read (kind ∷ rest) a b long one first second =
+    ap (λ (n : ℕ). point_name.read (n ∷ rest)) one
+    ∙ ap (λ (o : Option (Segment × List ℕ)). ((o >>= behind_one) >>= crossed) >>= naming) (segment_in_part 1 (kind ∷ rest) a first)
+    ∙ ap (λ (o : Option (Segment × List ℕ)). ((o >>= with_other a) >>= crossed) >>= naming)
+    (segment_in_part 17 (kind ∷ rest) b second)
 
 -- the ends of a segment are those of a piece of it
 pub own_ends : (s : Segment) (f l t r : WholePoint) → whole_cmp s.left s.right ≡ Less → l ≡ s.left → r ≡ s.right

@@ -6,4 +6,5 @@ pub mod definition_record;
 mod pieces;
 mod points;
 mod segments;
+mod standing;
 pub mod tile_record;

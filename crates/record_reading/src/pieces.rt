@@ -3,31 +3,38 @@ ghost use Rattle.std.specs.Prelude.{◌≡◌, ◌↔◌, ℕ, List, Some, IfOk,
 ghost use Rattle.tile_build.specs.Piece.{IsBetween};
 ghost use Rattle.record_writing.specs.Answers.{Fails, Gives};
 ghost use Rattle.record_reading.specs.Added.{IsAdded};
+ghost use Rattle.record_reading.specs.Standing.{stand_in};
 ghost use Rattle.store_terms.specs.Fields.{read_many};
 ghost use Rattle.store_terms.specs.TileRecord.{piece as spelled, point_name, segment};
 
-use crate::segments::{point_name_at, segment_at, segment_in, vertex_in};
+use crate::segments::{crossing_in, point_name_at, segment_at, segment_in, vertex_in};
+use crate::standing::is_last_placed;
 use exact_point::PointName;
-use plane_base::{Pt, Seg};
+use plane_base::{Column, Pt, Seg};
 use record_writing::fault::ReadFault;
 use std::alloc::Global;
 use tile_build::Piece;
 use tile_build::ends::{are_ends, are_whole_ends};
 
-/// So many pieces, one behind another, and what follows them.
+/// So many pieces, one behind another, whether they begin in a column and rise, and what follows them. Each is asked
+/// while it is at hand: to go over all of them again would take longer than to read them.
 pub(crate) fn pieces_at(
     alloc: Global,
+    column: Column,
     count: u32,
     bytes: &[u8],
-) -> Result<(Vec<Piece>, &[u8]), ReadFault>
-    ensures { Gives (λ x. (x.0.items, x.1.now)) result (read_many spelled.read count bytes.now) }
+) -> Result<(Vec<Piece>, bool, &[u8]), ReadFault>
+    ensures pieces { Gives (λ x. (x.0.items, x.2.now)) result (read_many spelled.read count bytes.now) }
+    ensures stand { IfOk result (λ x. x.1 ≡ stand_in column x.0.items) }
 {
     let mut pieces = Vec::new(alloc);
+    let mut stand = true;
     let mut rest = bytes;
     for _ in 0..count {
         rest = push_piece(&mut pieces, rest)?;
+        stand = stand & is_last_placed(&pieces, column);
     }
-    Ok((pieces, rest))
+    Ok((pieces, stand, rest))
 }
 
 /// Adds the piece at the front of some bytes, and gives what follows it. It is made in its place in the vector: what
@@ -41,22 +48,22 @@ fn push_piece<'a>(pieces: &mut Vec<Piece>, bytes: &'a [u8]) -> Result<&'a [u8], 
     if bytes.len() < 34 {
         return push_any(pieces, bytes);
     }
-    match segment_in(bytes) {
+    match &segment_in(bytes) {
         Some(support) => match vertex_in(&bytes[16..]) {
             Some(from) => match vertex_in(&bytes[25..]) {
                 Some(to) => {
-                    if !are_piece_ends(&support, from, to) {
+                    if !are_piece_ends(support, from, to) {
                         return Err(ReadFault::Form);
                     }
                     pieces.reserve(1)?;
                     pieces.push_reserved(Piece::between(
-                        support,
+                        *support,
                         PointName::Vertex(from),
                         PointName::Vertex(to),
                     ));
                     Ok(&bytes[34..])
                 }
-                None => push_from(pieces, support, PointName::Vertex(from), &bytes[25..]),
+                None => push_from(pieces, support, &PointName::Vertex(from), &bytes[25..]),
             },
             None => push_named(pieces, support, &bytes[16..]),
         },
@@ -70,7 +77,7 @@ fn push_any<'a>(pieces: &mut Vec<Piece>, bytes: &'a [u8]) -> Result<&'a [u8], Re
     ensures err { IfErr result (λ fault. Fails fault (spelled.read bytes.now)) }
 {
     match segment_at(bytes) {
-        Ok(support) => push_named(pieces, support.0, support.1),
+        Ok(support) => push_named(pieces, &support.0, support.1),
         Err(fault) => Err(fault),
     }
 }
@@ -78,45 +85,72 @@ fn push_any<'a>(pieces: &mut Vec<Piece>, bytes: &'a [u8]) -> Result<&'a [u8], Re
 /// The same behind its segment, whatever names its ends have.
 fn push_named<'a>(
     pieces: &mut Vec<Piece>,
-    support: Seg,
+    support: &Seg,
     bytes: &'a [u8],
 ) -> Result<&'a [u8], ReadFault>
-    ensures ok { (all : List ℕ) → segment.read all ≡ Some (support, bytes.now)
+    ensures ok { (all : List ℕ) → segment.read all ≡ Some (support.now, bytes.now)
         → IfOk result (λ rest. IsAdded spelled all rest.now pieces.old.items pieces.new.items) }
-    ensures err { (all : List ℕ) → segment.read all ≡ Some (support, bytes.now)
+    ensures err { (all : List ℕ) → segment.read all ≡ Some (support.now, bytes.now)
         → IfErr result (λ fault. Fails fault (spelled.read all)) }
 {
-    match point_name_at(bytes) {
-        Ok(from) => push_from(pieces, support, from.0, from.1),
-        Err(fault) => Err(fault),
+    match &crossing_in(bytes) {
+        Some(from) => push_from(pieces, support, from, &bytes[33..]),
+        None => match point_name_at(bytes) {
+            Ok(from) => push_from(pieces, support, &from.0, from.1),
+            Err(fault) => Err(fault),
+        },
     }
 }
 
 /// The same behind the name of its left end.
 fn push_from<'a>(
     pieces: &mut Vec<Piece>,
-    support: Seg,
-    from: PointName,
+    support: &Seg,
+    from: &PointName,
     bytes: &'a [u8],
 ) -> Result<&'a [u8], ReadFault>
-    ensures ok { (all behind : List ℕ) → segment.read all ≡ Some (support, behind)
-        → point_name.read behind ≡ Some (from, bytes.now)
+    ensures ok { (all behind : List ℕ) → segment.read all ≡ Some (support.now, behind)
+        → point_name.read behind ≡ Some (from.now, bytes.now)
         → IfOk result (λ rest. IsAdded spelled all rest.now pieces.old.items pieces.new.items) }
-    ensures err { (all behind : List ℕ) → segment.read all ≡ Some (support, behind)
-        → point_name.read behind ≡ Some (from, bytes.now)
+    ensures err { (all behind : List ℕ) → segment.read all ≡ Some (support.now, behind)
+        → point_name.read behind ≡ Some (from.now, bytes.now)
         → IfErr result (λ fault. Fails fault (spelled.read all)) }
 {
-    match point_name_at(bytes) {
-        Ok(to) => {
-            if !are_ends(&support, &from, &to.0) {
-                return Err(ReadFault::Form);
-            }
-            pieces.reserve(1)?;
-            pieces.push_reserved(Piece::between(support, from, to.0));
-            Ok(to.1)
-        }
-        Err(fault) => Err(fault),
+    match &crossing_in(bytes) {
+        Some(to) => match push_between(pieces, support, from, to) {
+            Ok(_) => Ok(&bytes[33..]),
+            Err(fault) => Err(fault),
+        },
+        None => match point_name_at(bytes) {
+            Ok(to) => match push_between(pieces, support, from, &to.0) {
+                Ok(_) => Ok(to.1),
+                Err(fault) => Err(fault),
+            },
+            Err(fault) => Err(fault),
+        },
     }
+}
+
+/// The same behind the names of both ends.
+fn push_between(
+    pieces: &mut Vec<Piece>,
+    support: &Seg,
+    from: &PointName,
+    to: &PointName,
+) -> Result<(), ReadFault>
+    ensures ok { (all behind after rest : List ℕ) → segment.read all ≡ Some (support.now, behind)
+        → point_name.read behind ≡ Some (from.now, after) → point_name.read after ≡ Some (to.now, rest)
+        → IfOk result (λ done. IsAdded spelled all rest pieces.old.items pieces.new.items) }
+    ensures err { (all behind after rest : List ℕ) → segment.read all ≡ Some (support.now, behind)
+        → point_name.read behind ≡ Some (from.now, after) → point_name.read after ≡ Some (to.now, rest)
+        → IfErr result (λ fault. Fails fault (spelled.read all)) }
+{
+    if !are_ends(support, from, to) {
+        return Err(ReadFault::Form);
+    }
+    pieces.reserve(1)?;
+    pieces.push_reserved(Piece::between(*support, *from, *to));
+    Ok(())
 }
 
 /// Whether two whole points are the ends of a piece of a segment. Most are its own ends, which lie on it in order.

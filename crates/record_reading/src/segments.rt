@@ -1,6 +1,6 @@
 //! Segments, and the names of places, at the front of some bytes.
 ghost use Rattle.record_reading.specs.Added.{before};
-ghost use Rattle.std.specs.Prelude.{◌≡◌, ◌≤◌, ◌∷◌, length, drop, Some, None, IfSome, if◌then◌else◌};
+ghost use Rattle.std.specs.Prelude.{◌≡◌, ◌≤◌, ◌∷◌, length, drop, Some, None, IfSome, IsSome, if◌then◌else◌};
 ghost use Rattle.std.specs.Ordering.{is_lt};
 ghost use Rattle.overlay_terms.specs.Plane.{whole_cmp};
 ghost use Rattle.record_writing.specs.Answers.{Gives};
@@ -60,6 +60,27 @@ pub(crate) fn vertex_in(bytes: &[u8]) -> Option<Pt>
         return None;
     }
     point_in(&bytes[1..])
+}
+
+/// The crossing that a name of 33 bytes is of; none where it is of another kind, or not spelled. It is made where it
+/// stays: with what follows it beside it, as below, it would be copied several times.
+pub(crate) fn crossing_in(bytes: &[u8]) -> Option<PointName>
+    ensures value { IfSome result (λ name. point_name.read bytes.now ≡ Some (name, drop 33 bytes.now)) }
+    ensures long { IsSome result → 33 ≤ length bytes.now }
+{
+    if bytes.len() < 33 {
+        return None;
+    }
+    if bytes[0] != 1 {
+        return None;
+    }
+    match &segment_in(&bytes[1..]) {
+        Some(first) => match &segment_in(&bytes[17..]) {
+            Some(second) => Some(PointName::Cross(*first, *second)),
+            None => None,
+        },
+        None => None,
+    }
 }
 
 /// The name of a place, and what follows it. The name may stand for no place.

@@ -1,4 +1,6 @@
 //! The records of finished tiles: the column, and the pieces by the names of their ends, or that they are too many.
+ghost use Rattle.std.specs.Prelude.{◌≡◌, IfOk};
+ghost use Rattle.overlay_terms.specs.Histories.{is_formed};
 ghost use Rattle.record_writing.specs.Answers.{Gives, Reads};
 ghost use Rattle.record_writing.specs.Tiles.{named_by, unsieved};
 ghost use Rattle.store_terms.specs.Image.{or_fault};
@@ -10,10 +12,9 @@ use crate::pieces::pieces_at;
 use plane_base::Column;
 use record_writing::bytes::{byte_at, four_bytes_at};
 use record_writing::fault::{ReadFault, RecordFault};
-use record_writing::tile_form::is_formed;
 use std::alloc::Global;
 use store_terms::damage::Damage;
-use tile_build::Tile;
+use tile_build::{PIECES_MAX, Tile};
 
 /// The tile that the record of a tile of this column spells.
 pub fn read_tile(alloc: Global, column: Column, bytes: &[u8]) -> Result<Tile, RecordFault>
@@ -29,37 +30,40 @@ pub fn read_tile(alloc: Global, column: Column, bytes: &[u8]) -> Result<Tile, Re
 fn tile_in(alloc: Global, column: Column, bytes: &[u8]) -> Result<Tile, ReadFault>
     ensures { Gives (λ tile. tile_of tile) result (tile_of_record column bytes.now) }
 {
-    let (found, tile, rest) = parts_at(alloc, bytes)?;
-    let Some(known) = Column::new(u64::from(found)) else {
+    let (found, tile, formed, rest) = parts_at(alloc, column, bytes)?;
+    if found != column.number() {
         return Err(ReadFault::Form);
-    };
-    if !is_formed(&tile, known) {
+    }
+    if !formed {
         return Err(ReadFault::Form);
     }
     if !rest.is_empty() {
         return Err(ReadFault::Form);
     }
-    if found != column.number() {
-        return Err(ReadFault::Form);
-    }
     Ok(tile)
 }
 
-/// A column and what may be a tile of it, and what follows them.
-fn parts_at(alloc: Global, bytes: &[u8]) -> Result<(u8, Tile, &[u8]), ReadFault>
-    ensures { Gives (λ x. (named_by x.0 x.1, x.2.now)) result (unsieved.read bytes.now) }
+/// A column and what may be a tile of it, whether that has the form of a tile of the column given, and what follows them.
+fn parts_at(
+    alloc: Global,
+    column: Column,
+    bytes: &[u8],
+) -> Result<(u8, Tile, bool, &[u8]), ReadFault>
+    ensures parts { Gives (λ x. (named_by x.0 x.1, x.3.now)) result (unsieved.read bytes.now) }
+    ensures formed { IfOk result (λ x. x.2 ≡ is_formed (tile_of x.1) column) }
 {
     let (form, rest) = byte_at(bytes)?;
     match form {
         0 => {
-            let (column, rest) = byte_at(rest)?;
+            let (found, rest) = byte_at(rest)?;
             let (count, rest) = four_bytes_at(rest)?;
-            let (pieces, rest) = pieces_at(alloc, count, rest)?;
-            Ok((column, Tile::Pieces(pieces), rest))
+            let (pieces, stand, rest) = pieces_at(alloc, column, count, rest)?;
+            let few = pieces.len() <= PIECES_MAX;
+            Ok((found, Tile::Pieces(pieces), few & stand, rest))
         }
         1 => {
-            let (column, rest) = byte_at(rest)?;
-            Ok((column, Tile::Oversize, rest))
+            let (found, rest) = byte_at(rest)?;
+            Ok((found, Tile::Oversize, true, rest))
         }
         _ => Err(ReadFault::Form),
     }

@@ -1,27 +1,25 @@
+use Rattle.std.proofs.Common.{◌≡◌, ◌&&◌, rules, ap, sym, ◌∙◌}
 use Rattle.std.proofs.lemmas.Result.{err_from_is_err_and}
 use Rattle.store_terms.specs.Fields.{read_many}
 use Rattle.store_terms.specs.TileRecord.{piece}
-use Rattle.store_terms.proofs.Loops.{goes_on, is_done}
-use Rattle.record_writing.proofs.Failing.{fails, starts}
+use Rattle.store_terms.proofs.Loops.{goes_on}
+use Rattle.record_writing.proofs.Failing.{fails}
+use Rattle.record_reading.specs.Standing.{stand_in}
 use Rattle.record_reading.proofs.pieces.pieces_at.Goals as goal
 
-pub returns-in_err-rest : goal.returns-in_err-rest
-returns-in_err-rest c =
+pub returns-in_err-rest-clause-pieces : goal.returns-in_err-rest-clause-pieces
+returns-in_err-rest-clause-pieces c =
     let p = err_from_is_err_and c.from_residual.result c.from_residual.ensures.1 in
     rw (p.1, p.2)
     (fails piece.read c.in_err-rest.field-0.0 c.loop.pieces.items c.args.count c.loop.counter c.loop.rest.now
-    (read_many piece.read c.args.count c.args.bytes.now) c.loop-test.true c.in_err-rest.ensures.err c.loop.invariant)
+    (read_many piece.read c.args.count c.args.bytes.now) c.loop-test.true c.in_err-rest.ensures.err c.loop.invariant.0)
 
 pub loop-preserved : goal.loop-preserved
 loop-preserved c =
     let read = c.in_ok-rest.ensures.ok in
-    rw read.2
-    (goes_on piece.read c.loop.pieces.items c.args.count c.loop.counter c.loop.rest.now read.0 c.in_ok-rest.rest.now (read_many piece.read c.args.count c.args.bytes.now) c.loop-test.true read.1 c.loop.invariant)
-
-pub loop-init : goal.loop-init
-loop-init c = starts piece.read c.new-pieces.result.items c.args.count c.args.bytes.now c.new-pieces.ensures.items
-
-pub returns : goal.returns
-returns c =
-    is_done piece.read c.loop.pieces.items c.args.count c.loop.counter c.loop.rest.now
-    (read_many piece.read c.args.count c.args.bytes.now) c.loop-test.false c.loop.invariant
+    let seen : c.deref.result.now ≡ c.push_piece.new.pieces.items = search rules in
+    let placed = c.is_last_placed-stand.ensures c.loop.pieces.items read.0 (seen ∙ read.2) in (
+      rw read.2
+          (goes_on piece.read c.loop.pieces.items c.args.count c.loop.counter c.loop.rest.now read.0 c.in_ok-rest.rest.now (read_many piece.read c.args.count c.args.bytes.now) c.loop-test.true read.1 c.loop.invariant.0),
+      ap (λ stand. stand && c.is_last_placed-stand.result) c.loop.invariant.1 ∙ sym placed ∙ ap (stand_in c.args.column) seen,
+    )

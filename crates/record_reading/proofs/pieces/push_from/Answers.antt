@@ -1,25 +1,28 @@
-use Rattle.std.proofs.Common.{rules, Some, sym, ◌∙◌}
-use Rattle.std.proofs.lemmas.Bool.{false≢true}
-use Rattle.record_reading.proofs.NamedPieceLemmas.{is_one, is_none, piece_read, no_piece}
+use Rattle.std.proofs.Common.{◌≡◌, ◌-◌, length, take, drop, Some, subst, sym, ◌∙◌}
+use Rattle.std.specs.Prelude.{IfSome}
+use Rattle.store_terms.specs.TileRecord.{point_name}
+use Rattle.record_reading.proofs.NamedPieceLemmas.{part_from}
 use Rattle.record_reading.proofs.pieces.push_from.Goals as goal
 
-pub returns-then-not-are_ends-clause-err : goal.returns-then-not-are_ends-clause-err
-returns-then-not-are_ends-clause-err c all behind support from =
-    let s = c.args.support in
-    let f = c.args.from in
-    let t = c.in-Ok.to in
-    no_piece all behind c.args.bytes.now t.1.now s f t.0 support from c.in-Ok.ensures
-    (is_none s f t.0 (λ between. false≢true (sym c.if-not-are_ends.true ∙ c.are_ends.ensures.between.1 between)))
+pub returns-in-Ok-clause-ok : goal.returns-in-Ok-clause-ok
+returns-in-Ok-clause-ok c all behind support from =
+    let bytes = c.args.bytes.now in
+    let named = subst (λ n. IfSome n (λ name. point_name.read bytes ≡ Some (name, drop 33 bytes))) c.in-Some.is c.crossing_in.ensures.value in
+    c.in-Ok.ensures.ok all behind bytes (take (length bytes - 33) (drop 33 bytes)) support from
+    (named ∙ (λ i. Some (c.in-Some.to, sym (part_from 33 bytes) i)))
 
-pub returns-in_ok-reserve-in-Ok-clause-ok : goal.returns-in_ok-reserve-in-Ok-clause-ok
-returns-in_ok-reserve-in-Ok-clause-ok c all behind support from =
-    let s = c.args.support in
-    let f = c.args.from in
-    let t = c.in-Ok.to in
-    let yes = c.if-not-are_ends.false in (
-      c.between.result,
-      piece_read all behind c.args.bytes.now t.1.now s f t.0 support from c.in-Ok.ensures
-          (is_one s f t.0 (c.are_ends.ensures.between.0 yes) (c.are_ends.ensures.placed yes))
-          ∙ (λ i. Some (sym c.between.ensures i, t.1.now)),
-      search (rules, c.push_reserved.ensures.items, c.reserve.ensures.items),
-    )
+pub returns-in-Err-clause-err : goal.returns-in-Err-clause-err
+returns-in-Err-clause-err c all behind support from =
+    let bytes = c.args.bytes.now in
+    let named = subst (λ n. IfSome n (λ name. point_name.read bytes ≡ Some (name, drop 33 bytes))) c.in-Some.is c.crossing_in.ensures.value in
+    c.in-Err.ensures.err all behind bytes (drop 33 bytes) support from named
+
+pub returns-in-Ok-push_between-clause-ok : goal.returns-in-Ok-push_between-clause-ok
+returns-in-Ok-push_between-clause-ok c all behind support from =
+    c.in-Ok-push_between.ensures.ok all behind c.args.bytes.now c.in-Ok-point_name_at.to.1.now support from
+    c.in-Ok-point_name_at.ensures
+
+pub returns-in-Err-push_between-clause-err : goal.returns-in-Err-push_between-clause-err
+returns-in-Err-push_between-clause-err c all behind support from =
+    c.in-Err-push_between.ensures.err all behind c.args.bytes.now c.in-Ok-point_name_at.to.1.now support from
+    c.in-Ok-point_name_at.ensures
