@@ -6,7 +6,7 @@ ghost use Rattle.store_terms.specs.Image.{Held};
 ghost use Rattle.store_terms.specs.StandsFor.{reading};
 ghost use Rattle.record_writing.specs.ImageHeld.{image_held};
 ghost use Rattle.store_terms.specs.declared.damage.Damage.{Damage};
-ghost use Rattle.root_store.specs.Opening.{Tells, FailedBy, Untouched, Writes, HasRoot, IsCompleted};
+ghost use Rattle.root_store.specs.Opening.{Tells, FailedBy, Untouched, Writes, HasRoot, IsCompleted, Completes};
 ghost use Rattle.root_store.specs.Running.{KeepsTo};
 ghost use Rattle.overlay_engine.specs.Start.{Start};
 ghost use Rattle.overlay_engine.specs.Covers.{version_of, Covered};
@@ -56,6 +56,8 @@ impl<D: Disk> Engine<D> {
             (λ refused. Writes (D.seen disk) (D.seen refused.disk)) }
         // Where that gate was shut and a number is left, the body is the root's own under the next number, and synced.
         ensures completed { D.is_honest disk → IfOk result (λ e. Leaves D.Disk e.flusher.commit.disk (IsCompleted (D.seen disk))) }
+        // That is done by the last two device calls, a write and a sync, and no other behind the reads.
+        ensures completes { D.is_honest disk → IfOk result (λ e. Completes D.Disk disk e.flusher.commit.disk) }
         ensures untouched { D.is_honest disk → IfErr result (λ refused. (damage : Damage)
             → refused.fault ≡ StoreFault.Damaged damage → Untouched D.Disk disk refused.disk) }
         // Memory is asked for only where the slots name a root: what is wrong with them is told as such.

@@ -25,7 +25,7 @@ blank_is_at_rest file blank opened =
         opened = opened;
         named = record {
           long = omega (arith, blank.size);
-          spelt = ap body_in blank.first
+          spelt = ap body_in (part_written_front file 16 40 (body_text first_root) (omega arith) blank.first)
               ∙ body_again first_root (omega arith) (omega arith) (omega arith) (omega arith);
           bounded = omega arith;
           numbered = omega arith;
@@ -39,7 +39,7 @@ blank_is_at_rest file blank opened =
       };
       harmless = record {
         root = second_root;
-        spelt = ap body_in blank.second
+        spelt = ap body_in (part_written_front file 4112 40 (body_text second_root) (omega arith) blank.second)
             ∙ body_again second_root (omega arith) (omega arith) (omega arith) (omega arith);
         bounded = omega arith;
         numbered = omega arith;
@@ -51,6 +51,19 @@ blank_is_at_rest file blank opened =
 apart : (at n i : ℕ) → (i < at) ⊎ (at + n ≤ i) → Apart at n i 1
 apart at n i (inl below) = inr (omega arith)
 apart at n i (inr above) = inl above
+
+-- bytes that stand apart from what is written
+holds_kept : (old new : List ℕ) (at n from : ℕ) (bytes : List ℕ) → Torn at n old new → Apart at n from (length bytes)
+    → Holds old from bytes → Holds new from bytes
+holds_kept old new at n from bytes torn apart held = record {
+  within = omega (arith, held.within, torn.no_shorter);
+  each = λ i h. byte_kept old new at n (from + i) torn (omega (arith, h, held.within)) (each_apart apart i h)
+      ∙ held.each i h;
+}
+  where
+    each_apart : Apart at n from (length bytes) → (i : ℕ) → i < length bytes → Apart at n (from + i) 1
+    each_apart (inl before) i h = inl (omega (arith, before))
+    each_apart (inr behind) i h = inr (omega (arith, behind, h))
 
 -- both bodies and the catalog, put into so many zeros
 pub blank_made : (zero one two three : List ℕ) → zero ≡ replicate 12288 0 → Torn 16 48 zero one
@@ -70,11 +83,9 @@ blank_made zero one two three zeros torn1 held1 torn2 held2 torn3 held3 =
     ∙ byte_kept zero one 16 48 i torn1 (omega (arith, h, size)) (apart 16 48 i first) ∙ at_zero i h in
     let blank : IsBlank three = record {
       size = omega (arith, torn3.no_shorter, torn3.no_longer, s2);
-      first = part_kept two three 8192 2 16 40 torn3 (omega (arith, s2)) (inr (omega arith))
-          ∙ part_kept one two 4112 48 16 40 torn2 (omega (arith, s1)) (inr (omega arith))
-          ∙ part_written_front one 16 40 (body_text first_root) (omega arith) held1;
-      second = part_kept two three 8192 2 4112 40 torn3 (omega (arith, s2)) (inr (omega arith))
-          ∙ part_written_front two 4112 40 (body_text second_root) (omega arith) held2;
+      first = holds_kept two three 8192 2 16 (body_text first_root) torn3 (inr (omega arith))
+          (holds_kept one two 4112 48 16 (body_text first_root) torn2 (inr (omega arith)) held1);
+      second = holds_kept two three 8192 2 4112 (body_text second_root) torn3 (inr (omega arith)) held2;
       catalog = part_written three 8192 (0 ∷ 0 ∷ []) held3;
       unused = λ i at. still i at.within at.first at.second at.catalog;
     } in
@@ -106,12 +117,15 @@ blank_put old new bytes empty blank torn held =
     let size : length new ≡ 12288 = omega (arith, torn.no_longer, held.within, empty, blank.size) in
     let same : (k : ℕ) → k < 12288 → get_or new k 0 ≡ get_or bytes k 0 = λ k h.
     let e : k ≡ 0 + k = omega arith in ap (λ (n : ℕ). get_or new n 0) e ∙ held.each k (omega (arith, blank.size)) in
+    let moved : (from : ℕ) (body : List ℕ) → Holds bytes from body → Holds new from body = λ from body there.
+    record {
+      within = omega (arith, there.within, blank.size, size);
+      each = λ i h. same (from + i) (omega (arith, h, there.within, blank.size)) ∙ there.each i h;
+    } in
     record {
       size = size;
-      first = part_same bytes new 16 40 (omega (arith, blank.size)) (omega (arith, size))
-          (λ i h. same (16 + i) (omega arith)) ∙ blank.first;
-      second = part_same bytes new 4112 40 (omega (arith, blank.size)) (omega (arith, size))
-          (λ i h. same (4112 + i) (omega arith)) ∙ blank.second;
+      first = moved 16 (body_text first_root) blank.first;
+      second = moved 4112 (body_text second_root) blank.second;
       catalog = part_same bytes new 8192 2 (omega (arith, blank.size)) (omega (arith, size))
           (λ i h. same (8192 + i) (omega arith)) ∙ blank.catalog;
       unused = λ i at. same i at.within ∙ blank.unused i at;
@@ -132,8 +146,8 @@ first_put old new bytes empty first torn held =
 pub blank_kept : (old new : List ℕ) → IsBlank old → Torn 0 1 old new → IsBlank new
 blank_kept old new blank torn = record {
   size = omega (arith, torn.no_shorter, torn.no_longer, blank.size);
-  first = part_kept old new 0 1 16 40 torn (omega (arith, blank.size)) (inl (omega arith)) ∙ blank.first;
-  second = part_kept old new 0 1 4112 40 torn (omega (arith, blank.size)) (inl (omega arith)) ∙ blank.second;
+  first = holds_kept old new 0 1 16 (body_text first_root) torn (inl (omega arith)) blank.first;
+  second = holds_kept old new 0 1 4112 (body_text second_root) torn (inl (omega arith)) blank.second;
   catalog = part_kept old new 0 1 8192 2 torn (omega (arith, blank.size)) (inl (omega arith)) ∙ blank.catalog;
   unused = λ i at. byte_kept old new 0 1 i torn (omega (arith, at.within, blank.size)) (inl (omega (arith, at.gate)))
       ∙ blank.unused i at;

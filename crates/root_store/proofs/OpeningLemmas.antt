@@ -1,5 +1,5 @@
 -- What opening knows once all is read, and what it leaves.
-use Rattle.std.proofs.Common.{◌≡◌, ◌≢◌, inl, inr, ⊎_elim, ℕ, ◌<◌, ◌≤◌, Bool, true, false, List, Result, Ok, Err, refl, sym, ◌∙◌, ap, subst}
+use Rattle.std.proofs.Common.{◌≡◌, ◌≢◌, inl, inr, ⊎_elim, arith, ℕ, ◌+◌, ◌<◌, ◌≤◌, Bool, true, false, List, Result, Ok, Err, refl, sym, ◌∙◌, ap, subst}
 use Rattle.std.specs.Prelude.{IsErrAnd, IfErr}
 use Rattle.std.proofs.lemmas.Result.{err_from_is_err_and}
 use Rattle.disk_model.specs.declared.disk.Disk.{Ghosts}
@@ -18,7 +18,7 @@ use Rattle.commit_plan.specs.Kept.{Kept, other, Live, Rest, Shut, Calm}
 use Rattle.commit_plan.specs.Loading.{held_in, kept_in}
 use Rattle.root_reading.specs.Looking.{Looks, Refuses, Causes}
 use Rattle.commit_plan.specs.Fault.{fault_told}
-use Rattle.root_store.specs.Opening.{Heals, IsRead, Opened, Loads, InPhases, Stops, Untouched, StandsStill, Writes, IsCompleted, Tells, FailedBy}
+use Rattle.root_store.specs.Opening.{Heals, IsRead, Opened, Loads, IsSettled, InPhases, Stops, Untouched, StandsStill, Writes, IsCompleted, Completes, Tells, FailedBy}
 use Rattle.root_store.specs.Healing.{HoldsTwin}
 use Rattle.commit_plan.specs.declared.fault.StoreFault.{StoreFault}
 use Rattle.commit_plan.specs.declared.fault.StoreFault.TheVariants as stores
@@ -151,38 +151,56 @@ both_left g old new P Q one two = record {
 }
 
 -- after the first sync all is only read
-pub phases_read : {D : Type 0} (g : Ghosts D) (old mid new : D) → Looks g old mid
-    → Only (g.seen old) (g.may_leave mid) → Looks g mid new → InPhases g old new
-phases_read g old mid new first only rest = record {
+pub only_read : {D : Type 0} (g : Ghosts D) (old mid new : D) → Looks g old mid → g.calls mid ≡ g.calls old + 1
+    → Only (g.seen old) (g.may_leave mid) → Looks g mid new → IsSettled g old new
+only_read g old mid new first one only rest = record {
   synced = mid;
+  first = one;
   before = first.run;
   only = only;
-  after = widened g mid new (g.may_leave mid) (StandsStill (g.seen old))
-      (λ c left. (ap reading (only c left), inl (only c left))) rest.run;
+  seen = rest.seen ∙ first.seen;
+  after = widened g mid new (g.may_leave mid) (λ file. file ≡ g.seen old) only rest.run;
+}
+
+-- what was seen stands for itself
+still_read : {D : Type 0} (g : Ghosts D) (old new : D) (settled : IsSettled g old new)
+    → LeavesOnly g settled.synced new (StandsStill (g.seen old))
+still_read g old new settled =
+    widened g settled.synced new (λ file. file ≡ g.seen old) (StandsStill (g.seen old))
+    (λ c same. (ap reading same, inl same)) settled.after
+
+-- so it may end
+pub phases_read : {D : Type 0} (g : Ghosts D) (old new : D) → IsSettled g old new → InPhases g old new
+phases_read g old new settled = record {
+  read = new;
+  settled = settled;
+  last = omega arith;
+  after = still_read g old new settled;
 }
 
 -- and then a body is made whole
 pub phases_healed : {D : Type 0} (g : Ghosts D) (old mid new : D) (x : Kept)
     → reading (g.seen old) ≡ Ok x.held → root_of (g.seen old) ≡ Ok x.root → has_shut_gate (g.seen old) ≡ true
-    → x.root.sequence < sequence_max → InPhases g old mid → LeavesOnly g mid new (Shut x)
-    → LeavesOnly g mid new (Torn (body_at (other x.root)) 48 (g.seen old)) → InPhases g old new
-phases_healed g old mid new x reads root alone below phases run elsewhere = record {
-  synced = phases.synced;
-  before = phases.before;
-  only = phases.only;
-  after = joined g phases.synced mid new (StandsStill (g.seen old))
+    → x.root.sequence < sequence_max → IsSettled g old mid → g.calls new ≤ g.calls mid + 2
+    → LeavesOnly g mid new (Shut x) → LeavesOnly g mid new (Torn (body_at (other x.root)) 48 (g.seen old))
+    → InPhases g old new
+phases_healed g old mid new x reads root alone below settled few run elsewhere = record {
+  read = mid;
+  settled = settled;
+  last = few;
+  after = joined g settled.synced mid new (StandsStill (g.seen old))
       (λ file. Shut x file × Torn (body_at (other x.root)) 48 (g.seen old) file)
       (λ c made. (
         shut_stands x c made.0 ∙ sym reads,
         body_writes (g.seen old) (g.seen old) c x.root root alone refl below made.1,
       ))
-      phases.after (both_left g mid new (Shut x) (Torn (body_at (other x.root)) 48 (g.seen old)) run elsewhere);
+      (still_read g old mid settled) (both_left g mid new (Shut x) (Torn (body_at (other x.root)) 48 (g.seen old)) run elsewhere);
 }
 
 -- why opening ended early, as the store tells it
 pub stops_told : {D : Type 0} (g : Ghosts D) (old new : D) (fault : LoadFault) (told : StoreFault)
     → told ≡ fault_told fault → Stops g old (fault ≡ Device) new → Stops g old (told ≡ stores.Device) new
-stops_told g old new fault told is (inl (failed, run)) = inl (is ∙ ap fault_told failed, run)
+stops_told g old new fault told is (inl (failed, one, run)) = inl (is ∙ ap fault_told failed, one, run)
 stops_told g old new fault told is (inr phases) = inr phases
 
 -- the body that opening leaves in the other slot, in each of its ends
@@ -195,6 +213,17 @@ module _ {D : Type 0} (g : Ghosts D) (new : D) (file : List ℕ) (r : Root) (is 
 
   pub twin_completed : Leaves g new (HoldsTwin r) → Leaves g new (IsCompleted file)
   twin_completed put c left = record { root = r; is = is; twin = inr (inr (put c left)) }
+
+-- where nothing is to be completed
+pub none_completes : {D : Type 0} (g : Ghosts D) (old new : D) → has_shut_gate (g.seen old) ≡ false
+    → Completes g old new
+none_completes g old new none to = absurd (to.shut (other_open (g.seen old) to.root none))
+
+pub last_completes : {D : Type 0} (g : Ghosts D) (old new : D) (r : Root) → root_of (g.seen old) ≡ Ok r
+    → sequence_max ≤ r.sequence → Completes g old new
+last_completes g old new r is last to =
+    let same : to.root ≡ r = cc (to.is, is) in
+    absurd (omega (arith, last, to.below, ap (λ (q : Root). q.sequence) same))
 
 -- a fault of a file that was only read
 pub untouched_err : {D : Type 0} (g : Ghosts D) (old new : D) (fault : LoadFault) (answer : Result Loaded LoadFault)

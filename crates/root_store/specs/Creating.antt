@@ -1,7 +1,7 @@
 -- A new file.
-use Rattle.std.specs.Prelude.{◌≡◌, ◌⊎◌, ℕ, ◌+◌, ◌<◌, ◌≤◌, slice_index, List, [], ◌∷◌, length, take, ◌==◌, nat_lt, not, if◌then◌else◌, Option, Some, None}
+use Rattle.std.specs.Prelude.{◌≡◌, ◌⊎◌, ℕ, ◌+◌, ◌<◌, ◌≤◌, slice_index, List, [], ◌∷◌, length, ◌==◌, nat_lt, not, if◌then◌else◌, Option, Some, None}
 use Rattle.disk_model.specs.declared.disk.Disk.{Ghosts}
-use Rattle.disk_model.specs.Disk.{part, Torn}
+use Rattle.disk_model.specs.Disk.{part, Holds, Torn}
 use Rattle.disk_model.specs.Moments.{Leaves, LeavesOnly}
 use Rattle.store_terms.specs.declared.root.Root.{Root}
 use Rattle.store_terms.specs.Roots.{body_text}
@@ -32,11 +32,11 @@ pub record IsUnused (i : ℕ) : Type 0 where
   pub second : (i < 4112) ⊎ (4160 ≤ i)
   pub catalog : (i < 8192) ⊎ (8194 ≤ i)
 
--- three blocks with both bodies and an empty catalog, and zeros elsewhere, whatever the first gate
+-- three blocks with both bodies, each whole, and an empty catalog, and zeros elsewhere, whatever the first gate
 pub record IsBlank (file : List ℕ) : Type 0 where
   pub size : length file ≡ 12288
-  pub first : part file (body_at 0) 40 ≡ take 40 (body_text first_root)
-  pub second : part file (body_at 1) 40 ≡ take 40 (body_text second_root)
+  pub first : Holds file (body_at 0) (body_text first_root)
+  pub second : Holds file (body_at 1) (body_text second_root)
   pub catalog : part file 8192 2 ≡ 0 ∷ 0 ∷ []
   pub unused : (i : ℕ) → IsUnused i → slice_index file i ≡ 0
 

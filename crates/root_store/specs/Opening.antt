@@ -1,7 +1,7 @@
 -- What opening makes of a disk.
-use Rattle.std.specs.Prelude.{◌≡◌, ◌≢◌, ◌⊎◌, ◌<◌, Bool, List, ℕ, ◌≤◌, Result, Ok, Err, IfOk, OnOk, OnErr}
+use Rattle.std.specs.Prelude.{◌≡◌, ◌≢◌, ◌⊎◌, ◌+◌, ◌<◌, Bool, List, ℕ, ◌≤◌, Result, Ok, Err, IfOk, OnOk, OnErr}
 use Rattle.disk_model.specs.declared.disk.Disk.{Ghosts}
-use Rattle.disk_model.specs.Disk.{Only, Failed, Fewer, Torn}
+use Rattle.disk_model.specs.Disk.{Only, Failed, FailedCall, Fewer, Torn}
 use Rattle.disk_model.specs.Moments.{Leaves, LeavesOnly}
 use Rattle.extent_map.specs.Taken.{taken_of}
 use Rattle.store_terms.specs.Image.{Held, listing_of}
@@ -74,18 +74,50 @@ Writes old new = (new ≡ old) ⊎ WritesBody old new
 abbrev pub StandsStill : List ℕ → List ℕ → Type 0
 StandsStill old new = (reading new ≡ reading old) × Writes old new
 
--- a file is opened in two phases: until the first sync has succeeded, a crash leaves what it might have left before;
--- from then on, what stands for the same, and differs from what was seen in that body alone
-pub record InPhases {D : Type 0} (g : Ghosts D) (old new : D) : Type 0 where
+-- a file is only read behind its first sync, which is the first call: until it has succeeded, a crash leaves what it
+-- might have left before; from then on, what was seen, and that alone. How many calls these reads are is free, and a
+-- further sync among them does to a disk nothing that a read might not do, so that it is not told apart from one
+pub record IsSettled {D : Type 0} (g : Ghosts D) (old new : D) : Type 0 where
   -- the disk as that sync left it
   pub synced : D
+  pub first : g.calls synced ≡ g.calls old + 1
   pub before : LeavesOnly g old synced (g.may_leave old)
   pub only : Only (g.seen old) (g.may_leave synced)
-  pub after : LeavesOnly g synced new (StandsStill (g.seen old))
+  pub seen : g.seen new ≡ g.seen old
+  pub after : LeavesOnly g synced new (λ file. file ≡ g.seen old)
 
--- opening ends early: that sync failed, or it ends in the second phase
+-- a file is opened in two phases: until the first sync has succeeded, a crash leaves what it might have left before;
+-- from then on, what stands for the same, and differs from what was seen in that body alone. Behind the reads there are
+-- two calls at most
+pub record InPhases {D : Type 0} (g : Ghosts D) (old new : D) : Type 0 where
+  -- the disk as the reads left it
+  pub read : D
+  pub settled : IsSettled g old read
+  pub last : g.calls new ≤ g.calls read + 2
+  pub after : LeavesOnly g settled.synced new (StandsStill (g.seen old))
+
+-- opening ends early: that sync failed, and no other call was made, or it ends in the second phase
 abbrev pub Stops : {D : Type 0} → Ghosts D → D → Type 0 → D → Type 0
-Stops g old failed new = (failed × LeavesOnly g old new (g.may_leave old)) ⊎ InPhases g old new
+Stops g old failed new =
+    (failed × FailedCall (g.calls old) (g.calls new) × LeavesOnly g old new (g.may_leave old)) ⊎ InPhases g old new
+
+-- the gate of the slot that the root is not in is shut, and a number is left
+pub record IsIncomplete (file : List ℕ) : Type 0 where
+  pub root : Root
+  pub is : root_of file ≡ Ok root
+  pub shut : gate file (other root) ≢ open_gate
+  pub below : root.sequence < sequence_max
+
+-- a file is only read until two calls before the end: the completing write and its sync, and no other behind the reads
+pub record EndsInTwo {D : Type 0} (g : Ghosts D) (old new : D) : Type 0 where
+  -- the disk as the reads left it
+  pub read : D
+  pub settled : IsSettled g old read
+  pub two : g.calls new ≡ g.calls read + 2
+
+-- so it is where there is something to complete
+abbrev pub Completes : {D : Type 0} → Ghosts D → D → D → Type 0
+Completes g old new = IsIncomplete (g.seen old) → EndsInTwo g old new
 
 -- where the gate of the slot that the root is not in was shut, and a number is left, that slot has the body of the
 -- root's twin

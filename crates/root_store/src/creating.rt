@@ -165,7 +165,8 @@ pub fn create<D: Disk>(
     max_blocks: u32,
 ) -> Result<Commit<D>, OpenFault<D>>
     ensures ok { D.is_honest disk → IfOk result (λ store. Stands D.Disk store nothing_kept) }
-    // Three blocks that are zero but for the bodies, the catalog and the first gate, which alone is open.
+    // Three blocks that are zero but for the bodies, each of which is whole, the catalog and the first gate, which alone is
+    // open.
     ensures file { D.is_honest disk → IfOk result (λ store. Leaves D.Disk store.disk IsNewFile) }
     // What is written first has both gates shut, and is synced before the first gate opens: from then on a crash leaves
     // those three blocks, whatever that gate.

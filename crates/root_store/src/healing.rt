@@ -1,5 +1,5 @@
 //! The completing write of opening a store.
-ghost use Rattle.std.specs.Prelude.{◌≡◌, ◌↔◌, ◌<◌, List, ℕ, IfErr};
+ghost use Rattle.std.specs.Prelude.{◌≡◌, ◌↔◌, ◌+◌, ◌<◌, ◌≤◌, List, ℕ, IfErr, MatchResult};
 ghost use Rattle.disk_model.specs.Disk.{Torn, Only};
 ghost use Rattle.disk_model.specs.Moments.{Leaves, LeavesOnly};
 ghost use Rattle.store_terms.specs.Roots.{sequence_max};
@@ -23,6 +23,9 @@ pub(crate) fn heal<D: Disk>(disk: &mut D, root: Root) -> Result<(), LoadFault>
     ensures cause { D.is_honest disk.old → Causes result (D.faults disk.old) (D.faults disk.new) }
     ensures heals { D.is_honest disk.old → (x : Kept) → x.root ≡ root → Leaves D.Disk disk.old (Shut x)
         → Heals D.Disk disk.old disk.new result x }
+    // One write and one sync.
+    ensures calls { D.is_honest disk.old → MatchResult result (λ _. D.calls disk.new ≡ D.calls disk.old + 2)
+        (λ _. D.calls disk.new ≤ D.calls disk.old + 2) }
     // Nothing else is written, at no moment of the call.
     ensures torn { D.is_honest disk.old
         → Torn (body_at (other root)) 48 (D.seen disk.old) (D.seen disk.new) }

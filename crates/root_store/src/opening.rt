@@ -1,6 +1,6 @@
 //! Opening a store.
 ghost use Rattle.std.specs.Prelude.{◌≡◌, ◌≢◌, ◌↔◌, ◌≤◌, map, Ok, IfOk, IfErr, OnOk, MatchResult};
-ghost use Rattle.disk_model.specs.Disk.{Fewer, Only};
+ghost use Rattle.disk_model.specs.Disk.{Fewer, Only, CountsCall};
 ghost use Rattle.disk_model.specs.Moments.{Leaves, LeavesOnly};
 ghost use Rattle.overlay_terms.specs.Commands.{version_max};
 ghost use Rattle.overlay_terms.specs.StoredTiles.{AreStored};
@@ -14,7 +14,7 @@ ghost use Rattle.commit_plan.specs.Staying.{standing_of};
 ghost use Rattle.commit_plan.specs.Live.{standing};
 ghost use Rattle.root_store.specs.Running.{Stands, KeepsTo};
 ghost use Rattle.root_reading.specs.Looking.{Gives, Looks, Causes};
-ghost use Rattle.root_store.specs.Opening.{IsRead, Loads, Opened, Untouched, Writes, HasRoot, Tells, FailedBy, InPhases, Stops, IsCompleted};
+ghost use Rattle.root_store.specs.Opening.{IsRead, Loads, Opened, Untouched, Writes, HasRoot, Tells, FailedBy, IsSettled, InPhases, Stops, IsCompleted, Completes};
 
 use crate::commit::Commit;
 use crate::finding::{NUMBER_MAX, find_root};
@@ -35,6 +35,8 @@ fn settle<D: Disk>(disk: &mut D) -> Result<(), LoadFault>
     ensures only { D.is_honest disk.old → OnOk result (Only (D.seen disk.old) (D.may_leave disk.new)) }
     ensures err { IfErr result (λ e. e ≡ LoadFault.Device) }
     ensures cause { D.is_honest disk.old → Causes result (D.faults disk.old) (D.faults disk.new) }
+    // One sync.
+    ensures calls { D.is_honest disk.old → CountsCall result (D.calls disk.old) (D.calls disk.new) }
 {
     disk.sync()?;
     Ok(())
@@ -49,7 +51,7 @@ fn read_store<D: Disk>(
     ensures honest { D.is_honest disk.new ↔ D.is_honest disk.old }
     ensures fewer { D.is_honest disk.old → Fewer (D.may_leave disk.old) (D.may_leave disk.new) }
     ensures run { D.is_honest disk.old → LeavesOnly D.Disk disk.old disk.new (D.may_leave disk.old) }
-    ensures phases { D.is_honest disk.old → OnOk result (InPhases D.Disk disk.old disk.new) }
+    ensures settled { D.is_honest disk.old → OnOk result (IsSettled D.Disk disk.old disk.new) }
     ensures stops { D.is_honest disk.old
         → IfErr result (λ fault. Stops D.Disk disk.old (fault ≡ LoadFault.Device) disk.new) }
     ensures gives { D.is_honest disk.old → Gives (λ x. held_in x.0) result (reading (D.seen disk.old)) }
@@ -89,6 +91,7 @@ pub(crate) fn load<D: Disk>(
     ensures writes { D.is_honest disk.old → Writes (D.seen disk.old) (D.seen disk.new) }
     ensures completed { D.is_honest disk.old
         → OnOk result (Leaves D.Disk disk.new (IsCompleted (D.seen disk.old))) }
+    ensures completes { D.is_honest disk.old → OnOk result (Completes D.Disk disk.old disk.new) }
     ensures untouched { D.is_honest disk.old
         → IfErr result (λ fault. fault ≢ LoadFault.Device → Untouched D.Disk disk.old disk.new) }
     ensures memory { D.is_honest disk.old
@@ -126,7 +129,8 @@ pub fn open<D: Disk>(
         (λ refused. D.is_honest refused.disk × Leaves D.Disk refused.disk (Opened D.Disk disk)
         × LeavesOnly D.Disk disk refused.disk (Opened D.Disk disk)) }
     // What might have been left before is left until the first sync has succeeded, and no longer; from then on the file
-    // as it was seen, but for the body behind a shut gate.
+    // as it was seen, but for the body behind a shut gate. That sync is the first call, and behind the reads there are two
+    // at most.
     ensures phases { D.is_honest disk → IfOk result (λ x. InPhases D.Disk disk x.0.disk) }
     ensures stops { D.is_honest disk
         → IfErr result (λ refused. Stops D.Disk disk (refused.fault ≡ StoreFault.Device) refused.disk) }
@@ -139,6 +143,8 @@ pub fn open<D: Disk>(
     // Where that gate was shut and a number is left, the body is the root's own under the next number, and synced.
     ensures completed { D.is_honest disk
         → IfOk result (λ x. Leaves D.Disk x.0.disk (IsCompleted (D.seen disk))) }
+    // That is done by the last two calls, a write and a sync, and no other behind the reads.
+    ensures completes { D.is_honest disk → IfOk result (λ x. Completes D.Disk disk x.0.disk) }
     ensures untouched { D.is_honest disk
         → IfErr result (λ refused. refused.fault ≢ StoreFault.Device → Untouched D.Disk disk refused.disk) }
     // Memory is asked for only where the slots name a root: what is wrong with them is told as such.

@@ -1,4 +1,4 @@
-use Rattle.std.proofs.Common.{◌≡◌, ◌<◌, true, false, inl, inr, refl, sym, ◌∙◌, rules, arith}
+use Rattle.std.proofs.Common.{◌≡◌, ◌+◌, ◌<◌, ◌≤◌, true, false, inl, inr, refl, sym, ◌∙◌, rules, arith}
 use Rattle.store_terms.specs.StandsFor.{reading}
 use Rattle.store_terms.specs.Roots.{sequence_max}
 use Rattle.commit_plan.specs.Loading.{kept_in}
@@ -6,7 +6,7 @@ use Rattle.root_reading.specs.declared.load_fault.LoadFault.{LoadFault}
 use Rattle.root_reading.specs.declared.load_fault.LoadFault.TheVariants.{Device, OutOfMemory}
 use Rattle.root_store.specs.Opening.{HasRoot, Stops, Untouched}
 use Rattle.root_reading.proofs.Looked.{refuses_device, if_err}
-use Rattle.root_store.proofs.OpeningLemmas.{phases_healed, shuts, both_loads, last_loads, healed_loads, failed_loads, unread_loads, body_writes, none_completed, last_completed, twin_completed, untouched_err, device_err, device_or_memory}
+use Rattle.root_store.proofs.OpeningLemmas.{phases_read, phases_healed, shuts, both_loads, last_loads, healed_loads, failed_loads, unread_loads, body_writes, none_completed, last_completed, twin_completed, none_completes, last_completes, untouched_err, device_err, device_or_memory}
 use Rattle.root_store.proofs.opening.load.Goals as goal
 
 pub returns-in_err-loaded-clause-loads : goal.returns-in_err-loaded-clause-loads
@@ -154,10 +154,11 @@ returns-in_err-heal-clause-stops g c honest =
     let below : c.in_ok-loaded.loaded.root.sequence < sequence_max = omega arith in
     let settled = shuts k old mid x c.in_ok-loaded.is_alone (r.run honest) (r.read honest) (r.gives honest) alone in
     let heals = c.heal.ensures.heals (r.honest.1 honest) (kept_in x) refl settled in
+    let few = c.in_err-heal.ensures.calls (r.honest.1 honest) in
     if_err c.from_residual-in_err-heal.result c.in_err-heal.field-0.0
     (λ (e : LoadFault). Stops k old (e ≡ Device) new) c.from_residual-in_err-heal.ensures.1
     (inr (phases_healed k old mid new (kept_in x) (r.gives honest) read.root (sym read.alone ∙ alone) below
-    (r.phases honest) heals.run (c.heal.ensures.elsewhere (r.honest.1 honest) (k.seen old) read.only)))
+    (r.settled honest) few heals.run (c.heal.ensures.elsewhere (r.honest.1 honest) (k.seen old) read.only)))
 
 pub returns-clause-phases : goal.returns-clause-phases
 returns-clause-phases g c honest =
@@ -171,5 +172,35 @@ returns-clause-phases g c honest =
     let below : c.in_ok-loaded.loaded.root.sequence < sequence_max = omega arith in
     let settled = shuts k old mid x c.in_ok-loaded.is_alone (r.run honest) (r.read honest) (r.gives honest) alone in
     let heals = c.heal.ensures.heals (r.honest.1 honest) (kept_in x) refl settled in
+    let few : k.calls c.heal.new.disk ≤ k.calls mid + 2 =
+    omega (arith, c.in_ok-heal.ensures.calls (r.honest.1 honest)) in
     phases_healed k old mid c.heal.new.disk (kept_in x) (r.gives honest) read.root (sym read.alone ∙ alone) below
-    (r.phases honest) heals.run (c.heal.ensures.elsewhere (r.honest.1 honest) (k.seen old) read.only)
+    (r.settled honest) few heals.run (c.heal.ensures.elsewhere (r.honest.1 honest) (k.seen old) read.only)
+
+pub returns-then-not-is_alone-clause-phases : goal.returns-then-not-is_alone-clause-phases
+returns-then-not-is_alone-clause-phases g c honest =
+    phases_read g.D.Disk c.args.disk.now c.read_store.new.disk (c.in_ok-loaded.ensures.settled honest)
+
+pub returns-then-loaded-ge-NUMBER_MAX-clause-phases : goal.returns-then-loaded-ge-NUMBER_MAX-clause-phases
+returns-then-loaded-ge-NUMBER_MAX-clause-phases g c honest =
+    phases_read g.D.Disk c.args.disk.now c.read_store.new.disk (c.in_ok-loaded.ensures.settled honest)
+
+pub returns-then-not-is_alone-clause-completes : goal.returns-then-not-is_alone-clause-completes
+returns-then-not-is_alone-clause-completes g c honest =
+    let both : c.in_ok-loaded.is_alone ≡ false = search rules in
+    none_completes g.D.Disk c.args.disk.now c.read_store.new.disk
+    (sym (c.in_ok-loaded.ensures.read honest).alone ∙ both)
+
+pub returns-then-loaded-ge-NUMBER_MAX-clause-completes : goal.returns-then-loaded-ge-NUMBER_MAX-clause-completes
+returns-then-loaded-ge-NUMBER_MAX-clause-completes g c honest =
+    last_completes g.D.Disk c.args.disk.now c.read_store.new.disk c.in_ok-loaded.loaded.root
+    (c.in_ok-loaded.ensures.read honest).root (omega arith)
+
+pub returns-clause-completes : goal.returns-clause-completes
+returns-clause-completes g c honest to =
+    let r = c.in_ok-loaded.ensures in
+    record {
+      read = c.read_store.new.disk;
+      settled = r.settled honest;
+      two = c.in_ok-heal.ensures.calls (r.honest.1 honest);
+    }

@@ -61,6 +61,9 @@ returns-in-Err-clause-writes g c honest = c.load.ensures.writes honest
 pub returns-in-Ok-clause-completed : goal.returns-in-Ok-clause-completed
 returns-in-Ok-clause-completed g c honest = c.in-Ok.ensures.completed honest
 
+pub returns-in-Ok-clause-completes : goal.returns-in-Ok-clause-completes
+returns-in-Ok-clause-completes g c honest = c.in-Ok.ensures.completes honest
+
 pub returns-in-Ok-clause-number : goal.returns-in-Ok-clause-number
 returns-in-Ok-clause-number g c = ap (λ (h : Held). h.number) c.of_shared-image.ensures.held
 

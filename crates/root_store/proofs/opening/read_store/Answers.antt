@@ -8,7 +8,7 @@ use Rattle.root_reading.specs.declared.load_fault.LoadFault.TheVariants.{Device,
 use Rattle.root_store.specs.Opening.{HasRoot, Stops}
 use Rattle.root_reading.proofs.Looked.{gives_err, refuses_bound, refuses_device, looks_on, if_err, size_stays}
 use Rattle.commit_plan.specs.Loading.{held_in, kept_in}
-use Rattle.root_store.proofs.OpeningLemmas.{reading_root, phases_read}
+use Rattle.root_store.proofs.OpeningLemmas.{reading_root, only_read, phases_read}
 use Rattle.root_store.proofs.opening.read_store.Goals as goal
 
 pub returns-in_err-settle-clause-gives : goal.returns-in_err-settle-clause-gives
@@ -165,7 +165,7 @@ returns-in_err-settle-clause-stops g c honest =
     let old = c.args.disk.now in
     let mid = c.settle.new.disk in
     if_err c.from_residual.result c.in_err-settle.field-0.0 (λ (e : LoadFault). Stops k old (e ≡ Device) mid)
-    c.from_residual.ensures.1 (inl (c.in_err-settle.ensures.err, (c.settle.ensures.looks honest).run))
+    c.from_residual.ensures.1 (inl (c.in_err-settle.ensures.err, c.in_err-settle.ensures.calls honest, (c.settle.ensures.looks honest).run))
 
 pub returns-in_err-root-clause-stops : goal.returns-in_err-root-clause-stops
 returns-in_err-root-clause-stops g c honest =
@@ -175,8 +175,8 @@ returns-in_err-root-clause-stops g c honest =
     let looks1 = c.settle.ensures.looks honest in
     if_err c.from_residual-in_err-root.result c.in_err-root.field-0.0 (λ (e : LoadFault). Stops k old (e ≡ Device) new)
     c.from_residual-in_err-root.ensures.1
-    (inr (phases_read k old c.settle.new.disk new looks1 (c.in_ok-settle.ensures.only honest)
-    (c.find_root.ensures.looks looks1.honest)))
+    (inr (phases_read k old new (only_read k old c.settle.new.disk new looks1 (c.in_ok-settle.ensures.calls honest)
+    (c.in_ok-settle.ensures.only honest) (c.find_root.ensures.looks looks1.honest))))
 
 pub returns-in_err-loaded-clause-stops : goal.returns-in_err-loaded-clause-stops
 returns-in_err-loaded-clause-stops g c honest =
@@ -188,16 +188,18 @@ returns-in_err-loaded-clause-stops g c honest =
     let looks2 = c.find_root.ensures.looks looks1.honest in
     if_err c.from_residual-in_err-loaded.result c.in_err-loaded.field-0.0
     (λ (e : LoadFault). Stops k old (e ≡ Device) new) c.from_residual-in_err-loaded.ensures.1
-    (inr (phases_read k old mid new looks1 (c.in_ok-settle.ensures.only honest)
-    (looks_on k mid c.find_root.new.disk new looks2 (c.read_root.ensures.looks looks2.honest))))
+    (inr (phases_read k old new (only_read k old mid new looks1 (c.in_ok-settle.ensures.calls honest)
+    (c.in_ok-settle.ensures.only honest)
+    (looks_on k mid c.find_root.new.disk new looks2 (c.read_root.ensures.looks looks2.honest)))))
 
-pub returns-clause-phases : goal.returns-clause-phases
-returns-clause-phases g c honest =
+pub returns-clause-settled : goal.returns-clause-settled
+returns-clause-settled g c honest =
     let k = g.D.Disk in
     let mid = c.settle.new.disk in
     let looks1 = c.settle.ensures.looks honest in
     let looks2 = c.find_root.ensures.looks looks1.honest in
-    phases_read k c.args.disk.now mid c.read_root.new.disk looks1 (c.in_ok-settle.ensures.only honest)
+    only_read k c.args.disk.now mid c.read_root.new.disk looks1 (c.in_ok-settle.ensures.calls honest)
+    (c.in_ok-settle.ensures.only honest)
     (looks_on k mid c.find_root.new.disk c.read_root.new.disk looks2 (c.read_root.ensures.looks looks2.honest))
 
 pub read_root-requires : goal.read_root-requires
