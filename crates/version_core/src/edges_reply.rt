@@ -13,7 +13,7 @@ use crate::end_texts::{EndText, EndTexts, mark_of};
 use crate::fault::VersionFault;
 use crate::line_text::LineText;
 use crate::version::Version;
-use exact_point::PointName;
+use exact_point::{PointName, reduced};
 use itoa::Buffer;
 use layer_book::fault::LayerFault;
 use layer_expr::name::Name;
@@ -21,8 +21,11 @@ use plane_base::Column;
 use std::alloc::{AllocError, Global};
 use tile_build::{Piece, Tile};
 
-/// How many bytes there is room for at first for each line: that of two whole points has about as many.
-const LINE_SIZE: usize = 32;
+/// How many bytes there is room for at first for the line with the count.
+const HEAD_SIZE: usize = 32;
+
+/// How many for each other line: that of two places with small fractions has about as many.
+const LINE_SIZE: usize = 64;
 
 impl Version {
     /// The pieces of a tile, counted and then a line for each.
@@ -69,8 +72,6 @@ fn written(alloc: Global, pieces: &[Piece]) -> Result<Vec<u8>, AllocError>
     ensures { IfOk result (λ text. IsTextOf (map ends_of pieces.now) text.items) }
 {
     let mut text = head_line(alloc, pieces.len())?;
-    // Room for most lines. Where there is no memory for all of it, it is got as the lines need it.
-    let _ = text.reserve(pieces.len().saturating_mul(LINE_SIZE));
     let mut texts = EndTexts::new(alloc, pieces.len());
     let mut line = LineText::new();
     for piece in pieces {
@@ -80,12 +81,15 @@ fn written(alloc: Global, pieces: &[Piece]) -> Result<Vec<u8>, AllocError>
     Ok(text)
 }
 
-/// The line that says how many pieces there are.
+/// The line that says how many pieces there are, with room for most of the others. Where there is no memory for all of
+/// it, it is got as the lines need it.
 fn head_line(alloc: Global, count: usize) -> Result<Vec<u8>, AllocError>
     ensures { IfOk result (λ text. text.items ≡ codes "edges " ++ (decimal count ++ (10 ∷ []))) }
 {
     let mut digits = Buffer::new();
-    let mut text = Vec::from_slice(alloc, b"edges ")?;
+    let mut text = Vec::new(alloc);
+    let _ = text.reserve(HEAD_SIZE.saturating_add(count.saturating_mul(LINE_SIZE)));
+    text.extend_from_slice(b"edges ")?;
     text.extend_from_slice(digits.format(count).as_bytes())?;
     text.push(b'\n')?;
     Ok(text)
@@ -119,7 +123,7 @@ fn put_left(line: &mut LineText, texts: &mut EndTexts, name: &PointName)
 }
 
 /// Puts down the place that a name stands for. The text of a whole point is not kept: it is made as fast.
-fn put_end(line: &mut LineText, texts: &mut EndTexts, name: &PointName, mark: u64)
+fn put_end(line: &mut LineText, texts: &mut EndTexts, name: &PointName, mark: u32)
     requires named { HasPlace name.now }
     requires room { length line.old ≤ 128 }
     ensures { HasEndBefore line.old line.new (place_of name.now) }
@@ -136,12 +140,12 @@ fn put_end(line: &mut LineText, texts: &mut EndTexts, name: &PointName, mark: u6
 }
 
 /// Puts down the place of a name whose text is not kept, and keeps it.
-fn put_made(line: &mut LineText, texts: &mut EndTexts, name: &PointName, mark: u64)
+fn put_made(line: &mut LineText, texts: &mut EndTexts, name: &PointName, mark: u32)
     requires named { HasPlace name.now }
     requires room { length line.old ≤ 128 }
     ensures { HasEndBefore line.old line.new (place_of name.now) }
 {
-    let made = EndText::new(name);
-    line.put_text(&made.text);
-    texts.keep(made, mark);
+    let low = reduced(&name.known_point());
+    let text = line.put_place(&low);
+    texts.keep(EndText::new(name, low, text), mark);
 }

@@ -4,17 +4,16 @@ ghost use Rattle.std.specs.Prelude.{◌≡◌, IfSome, IsTrue};
 ghost use Rattle.overlay_terms.specs.Plane.{same_place};
 ghost use Rattle.exact_point.specs.Place.{place};
 ghost use Rattle.exact_point.specs.PlaceOf.{place_of};
-ghost use Rattle.exact_point.specs.PointName.{HasPlace};
 ghost use Rattle.exact_point.specs.Reduced.{IsLowest};
 ghost use Rattle.version_core.specs.Edges.{point_text};
 
 use crate::place_text::PlaceText;
-use exact_point::{HPoint, PointName, reduced};
+use exact_point::{HPoint, PointName};
 use plane_base::Seg;
 use std::alloc::Global;
 
 /// The last place that a text is put at: as many are kept at once at most, and one more.
-const LAST: usize = 2047;
+const LAST: u32 = 2047;
 
 /// The place of a name in lowest terms, and its text.
 #[derive(Debug, Drop)]
@@ -29,12 +28,11 @@ pub(crate) struct EndText {
 
 impl EndText {
     /// The text of the place that a name stands for.
-    pub(crate) fn new(name: &PointName) -> EndText
-        requires { HasPlace name.now }
-        ensures { result.name ≡ name.now }
+    pub(crate) fn new(name: &PointName, low: HPoint, text: PlaceText) -> EndText
+        requires same { IsTrue (same_place (place low) (place_of name.now)) }
+        requires lowest { IsLowest (place low) }
+        requires is_text { text ≡ point_text (place low) }
     {
-        let low = reduced(&name.known_point());
-        let text = PlaceText::new(&low);
         EndText {
             name: *name,
             low,
@@ -46,14 +44,14 @@ impl EndText {
 /// Where a text is among those that are kept, and the mark of its name.
 #[derive(Clone, Copy, Debug)]
 struct Spot {
-    mark: u64,
-    place: usize,
+    mark: u32,
+    place: u32,
 }
 
 /// A spot where no text is.
 const NOWHERE: Spot = Spot {
     mark: 0,
-    place: usize::MAX,
+    place: u32::MAX,
 };
 
 /// The texts that are kept, of which the oldest gives way to a new one. Each mark has a spot, which tells where the last
@@ -64,11 +62,11 @@ pub(crate) struct EndTexts {
     /// None before the first text, and where there was no memory for them.
     spots: Vec<Spot>,
     /// The last place that a text is put at.
-    last: usize,
+    last: u32,
     /// The place of the next text.
-    next: usize,
+    next: u32,
     /// The place of the text of the last left end.
-    left: usize,
+    left: u32,
 }
 
 impl EndTexts {
@@ -77,14 +75,14 @@ impl EndTexts {
         EndTexts {
             kept: Vec::new(alloc),
             spots: Vec::new(alloc),
-            last: pieces.min(LAST),
+            last: u32::try_from(pieces).unwrap_or(LAST).min(LAST),
             next: 0,
             left: 0,
         }
     }
 
     /// The text of the place that has a name, if it is kept.
-    pub(crate) fn find(&self, name: &PointName, mark: u64) -> Option<&EndText>
+    pub(crate) fn find(&self, name: &PointName, mark: u32) -> Option<&EndText>
         ensures { IfSome result (λ kept. kept.now.name ≡ name.now) }
     {
         let spot = self.spot(mark);
@@ -103,12 +101,12 @@ impl EndTexts {
     }
 
     /// Takes the last text of a mark as that of the last left end.
-    pub(crate) fn take_left(&mut self, mark: u64) {
+    pub(crate) fn take_left(&mut self, mark: u32) {
         self.left = self.spot(mark).place;
     }
 
     /// Keeps a text, where there is memory for it.
-    pub(crate) fn keep(&mut self, text: EndText, mark: u64) {
+    pub(crate) fn keep(&mut self, text: EndText, mark: u32) {
         if self.spots.is_empty() {
             self.make_room();
         }
@@ -124,10 +122,10 @@ impl EndTexts {
     }
 
     /// The text at a place, if it has this name.
-    fn named_at(&self, place: usize, name: &PointName) -> Option<&EndText>
+    fn named_at(&self, place: u32, name: &PointName) -> Option<&EndText>
         ensures { IfSome result (λ kept. kept.now.name ≡ name.now) }
     {
-        match self.kept.get(place) {
+        match self.kept.get(place as usize) {
             Some(kept) => {
                 if is_same(&kept.name, name) {
                     Some(kept)
@@ -140,8 +138,8 @@ impl EndTexts {
     }
 
     /// Puts a text at a place, in the place of the one there or behind all others, and tells whether it could.
-    fn put(&mut self, place: usize, text: EndText) -> bool {
-        if let Some(kept) = self.kept.get_mut(place) {
+    fn put(&mut self, place: u32, text: EndText) -> bool {
+        if let Some(kept) = self.kept.get_mut(place as usize) {
             *kept = text;
             return true;
         }
@@ -149,7 +147,7 @@ impl EndTexts {
     }
 
     /// The spot of a mark.
-    fn spot(&self, mark: u64) -> Spot {
+    fn spot(&self, mark: u32) -> Spot {
         match self.spots.get(self.slot_of(mark)) {
             Some(spot) => *spot,
             None => NOWHERE,
@@ -157,7 +155,7 @@ impl EndTexts {
     }
 
     /// Has the spot of a mark tell of a place.
-    fn point_to(&mut self, place: usize, mark: u64) {
+    fn point_to(&mut self, place: u32, mark: u32) {
         let slot = self.slot_of(mark);
         if let Some(spot) = self.spots.get_mut(slot) {
             *spot = Spot { mark, place };
@@ -165,16 +163,16 @@ impl EndTexts {
     }
 
     /// Where the spot of a mark is: as far among the spots as the mark among all marks.
-    fn slot_of(&self, mark: u64) -> usize {
-        (mark.wrapping_mul(self.spots.len() as u64) >> 32) as usize
+    fn slot_of(&self, mark: u32) -> usize {
+        (u64::from(mark).wrapping_mul(self.spots.len() as u64) >> 31) as usize
     }
 
     /// Makes room for all texts and their spots at once. Without it no text is found again, or room is made in smaller
     /// steps.
     fn make_room(&mut self) {
-        let texts = self.last.saturating_add(1);
+        let texts = (self.last as usize).saturating_add(1);
         let _ = self.kept.reserve(texts);
-        let _ = self.spots.resize(texts.saturating_mul(2), NOWHERE);
+        let _ = self.spots.resize(texts.saturating_mul(4), NOWHERE);
     }
 }
 
@@ -189,27 +187,23 @@ fn is_same(name: &PointName, other: &PointName) -> bool
     }
 }
 
-/// A number of at most 2^32 for a name. Two names seldom have the same one.
-pub(crate) fn mark_of(name: &PointName) -> u64 {
+/// A number for a name. Two names seldom have the same one: any odd numbers would do.
+pub(crate) fn mark_of(name: &PointName) -> u32 {
     let mixed = match name {
         PointName::Vertex(_) => 0,
-        PointName::Cross(a, b) => mixed(a).wrapping_mul(31).wrapping_add(mixed(b)),
-        PointName::Border(seg, _) => mixed(seg),
+        PointName::Cross(a, b) => mixed(a)
+            .wrapping_mul(0x1E3779B97F4A7C15)
+            .wrapping_add(mixed(b).wrapping_mul(0x42B2AE3D27D4EB4F)),
+        PointName::Border(seg, _) => mixed(seg).wrapping_mul(0x1E3779B97F4A7C15),
     };
-    mixed.unsigned_abs() >> 31
+    (mixed.unsigned_abs() >> 32) as u32
 }
 
-/// The coordinates of a segment as one number: each times a large odd number, so that segments differ in its upper bits
-/// too. Any odd numbers would do.
+/// The coordinates of a segment as one number: three of them side by side, the fourth times a large odd number.
 fn mixed(seg: &Seg) -> i64 {
     let (left, right) = (seg.left(), seg.right());
-    let from = left
-        .x()
-        .wrapping_mul(0x1E3779B97F4A7C15)
-        .wrapping_add(left.y().wrapping_mul(0x42B2AE3D27D4EB4F));
-    let to = right
-        .x()
-        .wrapping_mul(0x165667B19E3779F9)
-        .wrapping_add(right.y().wrapping_mul(0x56E8FEB86659FD93));
-    from.wrapping_add(to)
+    left.x()
+        .wrapping_add(left.y().wrapping_mul(0x200000))
+        .wrapping_add(right.x().wrapping_mul(0x40000000000))
+        .wrapping_add(right.y().wrapping_mul(0x56E8FEB86659FD93))
 }

@@ -2,9 +2,11 @@
 ghost use Rattle.std.specs.Prelude.{◌≡◌, ℕ, ◌+◌, ◌^◌, ◌<◌, ◌≤◌, List, [], ◌∷◌, ◌++◌, drop, length, unsigned_abs};
 ghost use Rattle.std.specs.Fmt.{signed_decimal};
 ghost use Rattle.overlay_terms.specs.Plane.{whole};
+ghost use Rattle.exact_point.specs.Place.{place};
 ghost use Rattle.version_core.specs.Edges.{point_text};
 
-use crate::place_text::{PlaceText, TEXT_MAX, put_number};
+use crate::place_text::{PlaceText, TEXT_MAX, put_number, put_place};
+use exact_point::HPoint;
 use plane_base::Pt;
 use std::marker::Model;
 
@@ -62,6 +64,19 @@ impl LineText {
         let from = self.start - TEXT_MAX;
         self.bytes[from..self.start].copy_from_slice(bytes);
         self.start = from + start;
+    }
+
+    /// Puts a place before the text, and gives the text of it alone.
+    pub(crate) fn put_place(&mut self, point: &HPoint) -> PlaceText
+        requires { length self.old ≤ 128 }
+        ensures alone { result ≡ point_text (place point.now) }
+        ensures text { self.new ≡ point_text (place point.now) ++ self.old }
+        ensures short { length self.new ≤ length self.old + 64 }
+    {
+        let end = self.start;
+        let from = end - TEXT_MAX;
+        self.start = put_place(&mut self.bytes, end, point);
+        PlaceText::of(&self.bytes[from..end], self.start - from)
     }
 
     /// Puts a whole point before the text. It is in lowest terms as it stands.

@@ -27,17 +27,18 @@ impl Model for PlaceText {
 }
 
 impl PlaceText {
-    /// A place as `x y w`.
-    pub(crate) fn new(point: &HPoint) -> PlaceText
-        ensures { result ≡ point_text (place point.now) }
+    /// The text that starts at a place among so many bytes.
+    pub(crate) fn of(bytes: &[u8], start: usize) -> PlaceText
+        requires whole { length bytes.now ≡ 64 }
+        requires within { start ≤ 64 }
+        ensures { result ≡ drop start bytes.now }
     {
-        let mut bytes = [0; TEXT_MAX];
-        let w = put_number(&mut bytes, TEXT_MAX, point.w);
-        bytes[w - 1] = b' ';
-        let y = put_number(&mut bytes, w - 1, point.y);
-        bytes[y - 1] = b' ';
-        let start = put_number(&mut bytes, y - 1, point.x);
-        PlaceText { bytes, start }
+        let mut copied = [0; TEXT_MAX];
+        copied.copy_from_slice(bytes);
+        PlaceText {
+            bytes: copied,
+            start,
+        }
     }
 
     /// All bytes, and where among them the text starts.
@@ -47,6 +48,21 @@ impl PlaceText {
     {
         (&self.bytes, self.start)
     }
+}
+
+/// Puts a place down as `x y w` before a place among the bytes, and tells where it starts.
+pub(crate) fn put_place(bytes: &mut [u8], end: usize, point: &HPoint) -> usize
+    requires room { 64 ≤ end }
+    requires within { end ≤ length bytes.old }
+    ensures before { result ≤ end }
+    ensures short { end ≤ result + 64 }
+    ensures written { drop result bytes.new ≡ point_text (place point.now) ++ drop end bytes.old }
+{
+    let w = put_number(bytes, end, point.w);
+    bytes[w - 1] = b' ';
+    let y = put_number(bytes, w - 1, point.y);
+    bytes[y - 1] = b' ';
+    put_number(bytes, y - 1, point.x)
 }
 
 /// Puts a number down before a place among the bytes, and tells where it starts.

@@ -1,7 +1,13 @@
+use Rattle.std.proofs.Common.{IsTrue, refl, subst}
+use Rattle.overlay_terms.specs.Plane.{same_place}
+use Rattle.exact_point.specs.Place.{place}
+use Rattle.version_core.specs.Edges.{point_text}
 use Rattle.version_core.proofs.EdgeLemmas.{end_before}
 use Rattle.version_core.proofs.edges_reply.put_made.Goals as goal
 
 pub returns : goal.returns
 returns c =
-    let made = c.new-made.result in
-    end_before made.name c.args.name.now made.low c.args.line.now _ made.text c.new-made.ensures made.same made.lowest made.is_text c.put_text.ensures.text c.put_text.ensures.short
+    let low = c.reduced-low.result in
+    let put = c.put_place-text in
+    end_before c.args.name.now c.args.name.now low c.args.line.now put.new.self (point_text (place low)) refl (subst (λ p. IsTrue (same_place (place low) p)) c.known_point.ensures.value c.reduced-low.ensures.same)
+    c.reduced-low.ensures.lowest refl put.ensures.text put.ensures.short

@@ -7,7 +7,7 @@ use Rattle.version_core.proofs.EdgeLemmas.{IsBegun, begun, begun_step, text_of_a
 use Rattle.version_core.proofs.edges_reply.written.Goals as goal
 
 pub loop-piece-init : goal.loop-piece-init
-loop-piece-init c = begun (length c.args.pieces.now) c.reserve.new.self.items (c.reserve.ensures.items ∙ c.in_ok-text.ensures)
+loop-piece-init c = begun (length c.args.pieces.now) _ c.in_ok-text.ensures
 
 pub loop-piece-preserved : goal.loop-piece-preserved
 loop-piece-preserved c =
