@@ -50,3 +50,4 @@ pub mod SeamLemmas
 pub mod NodeCount
 pub mod Settled
 pub mod UnderWay
+pub mod Leaving

@@ -23,3 +23,4 @@ pub mod Testing
 pub mod Stepping
 pub mod Standing
 pub mod Crossed
+pub mod Amid

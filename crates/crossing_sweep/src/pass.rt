@@ -42,7 +42,7 @@ impl<'a> Model for Pass<'a> {
 
     ghost coded = { standing_code };
 
-    ghost use Rattle.crossing_sweep.specs.Crossed.{IsPassing};
+    ghost use Rattle.crossing_sweep.specs.Amid.{IsPassing};
 
     ghost view = { λ p. record { input = p.input.now; listed = p.progress.search.listed; ahead = length p.progress.search.ahead; rows = length p.progress.rows.items; nodes = length p.progress.names.items; settled = count_settled (length p.progress.names.items) p.progress.rows.items } };
 

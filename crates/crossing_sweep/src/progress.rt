@@ -1,7 +1,10 @@
 //! What a pass over a column has, and one step of it: crossings are found from neighbours alone, and
 //! the boundary is carried along.
-ghost use Rattle.std.specs.Prelude.{◌≡◌, ◌≤◌, ◌++◌, length, take, drop, OnOk};
+ghost use Rattle.std.specs.Prelude.{◌≡◌, ◌≤◌, ◌++◌, true, false, length, take, drop, OnOk};
+ghost use Rattle.overlay_terms.specs.Column.{is_in_column};
+ghost use Rattle.exact_point.specs.Place.{place};
 ghost use Rattle.crossing_sweep.specs.Stepping.{IsStepped};
+ghost use Rattle.crossing_sweep.specs.Amid.{IsClosedAt};
 
 use crate::bundle::bundle_at;
 use crate::member::Member;
@@ -41,15 +44,24 @@ impl Progress {
     ) -> Result<(), AllocError>
         requires { self.old.entered ≤ length self.old.starts.items }
         ensures few { OnOk result (self.new.entered ≤ length self.new.starts.items) }
-        ensures stepped { OnOk result
-            (IsStepped input.now at.now begin self.old.status.items self.new.status.items
+        ensures stepped { OnOk result (is_in_column input.now.column (place at.now) ≡ true →
+            IsStepped input.now at.now begin self.old.status.items self.new.status.items
             (drop self.old.entered self.old.starts.items) (drop self.new.entered self.new.starts.items)
             self.old.search self.new.search self.old.rows.items self.new.rows.items) }
+        ensures closed { OnOk result (is_in_column input.now.column (place at.now) ≡ false →
+            IsClosedAt at.now begin self.old.status.items self.new.status.items self.old.rows.items self.new.rows.items) }
+        ensures searched { OnOk result (is_in_column input.now.column (place at.now) ≡ false → self.new.search ≡ self.old.search) }
         ensures names { self.new.names ≡ self.old.names }
     {
-        let coming = &self.starts[self.entered..];
         let (low, high) = bundle_at(&self.status, at, self.hint);
         close(&mut self.rows, &self.status[low..high], begin)?;
+        let within = is_in(input.column(), at);
+        if !within {
+            replace(&mut self.status, low, high, Vec::new(alloc))?;
+            self.hint = low;
+            return Ok(());
+        }
+        let coming = &self.starts[self.entered..];
         let entered = count_entering(coming, at);
         let mut stay = turned(
             alloc,
@@ -59,7 +71,6 @@ impl Progress {
             begin,
         )?;
         let under = mask_over(&self.status[..low]);
-        let within = is_in(input.column(), at);
         label(input, &mut stay, under, begin, within);
         let top = low + stay.len();
         replace(&mut self.status, low, high, stay)?;

@@ -1,29 +1,44 @@
-use Rattle.std.proofs.Common.{◌≡◌, ◌+◌, List, [], ◌∷◌, ◌++◌, drop, length, refl, sym, subst, ap, ◌∙◌, rules}
+use Rattle.std.proofs.Common.{◌≡◌, ◌+◌, true, List, [], ◌∷◌, ◌++◌, drop, length, refl, sym, subst, ap, ◌∙◌, rules}
+use Rattle.std.specs.Prelude.{Contains}
 use Rattle.std.proofs.Math.ListN.{length-append}
+use Rattle.overlay_terms.proofs.Lists.{contains_first}
+use Rattle.overlay_terms.specs.Column.{is_in_column}
 use Rattle.overlay_terms.specs.Tiles.{Input}
+use Rattle.exact_point.specs.Place.{place}
 use Rattle.exact_point.specs.declared.point.HPoint.{HPoint}
 use Rattle.exact_point.specs.declared.point_name.PointName.{PointName}
 use Rattle.crossing_sweep.specs.Crossed.{IsUnderWay}
+use Rattle.crossing_sweep.specs.Amid.{IsAmid}
 use Rattle.crossing_sweep.specs.Rows.{count_settled}
 use Rattle.crossing_sweep.specs.Standing.{Standing}
 use Rattle.crossing_sweep.specs.declared.progress.Progress.{Progress}
 use Rattle.crossing_sweep.specs.declared.start.Start.{Start}
 use Rattle.crossing_sweep.specs.declared.search.Search.{Search}
 use Rattle.crossing_sweep.proofs.Settled.{settled_after}
-use Rattle.crossing_sweep.proofs.UnderWay.{goes_way, count_most}
+use Rattle.crossing_sweep.proofs.UnderWay.{count_most}
+use Rattle.crossing_sweep.proofs.Leaving.{goes_on, closes, still_listed}
 use Rattle.crossing_sweep.proofs.pass.Pass.go_on.Goals as goal
 
 pub invariant_of-result : goal.invariant_of-result
 invariant_of-result c =
     let progress : Progress = c.self.inside.progress in
     let same : progress.search.ahead ≡ c.take_first.new.self = c.in_default.ensures.none refl ∙ sym (c.in_default.ensures.left refl) in
+    let amid = c.self.invariant.amid in
+    let input : Input = c.self.inside.input.now in
+    let rest : List Start = drop progress.entered progress.starts.items in
     record {
-      way = subst (λ (l : List (HPoint × PointName)). IsUnderWay c.self.inside.input.now progress.search.listed progress.status.items (drop progress.entered progress.starts.items) l progress.search.tests.items progress.rows.items progress.names.items) same c.self.invariant.way;
+      amid = record {
+        full = amid.full;
+        all_coming = amid.all_coming;
+        way = subst (λ (l : List (HPoint × PointName)). IsUnderWay input progress.search.listed amid.full amid.all_coming l progress.search.tests.items progress.rows.items progress.names.items) same amid.way;
+        members = amid.members;
+        to_come = subst (λ (l : List (HPoint × PointName)). (z : HPoint × PointName) → Contains l z → is_in_column input.column (place z.0) ≡ true → amid.all_coming ≡ rest) same amid.to_come;
+      };
       known = c.self.invariant.known;
     }
 
 pub returns-in_default-clause-few : goal.returns-in_default-clause-few
-returns-in_default-clause-few c = count_most c.self.inside.input.now c.self.inside.progress.names.items c.self.invariant.way
+returns-in_default-clause-few c = count_most c.self.inside.input.now c.self.inside.progress.names.items c.self.invariant.amid.way
 
 pub invariant_of-result-2 : goal.invariant_of-result-2
 invariant_of-result-2 c =
@@ -34,33 +49,43 @@ invariant_of-result-2 c =
     let rest : List Start = drop after.entered after.starts.items in
     let old : Search = record { ahead = c.take_first.new.self; listed = progress.search.listed; tests = progress.search.tests } in
     let names : List PointName = progress.names.items in
-    let Q : List (HPoint × PointName) → Type 0 = λ l. IsUnderWay input progress.search.listed progress.status.items coming l progress.search.tests.items progress.rows.items names in
-    let way : IsUnderWay input progress.search.listed progress.status.items coming ((c.in-Some.at, c.in-Some.name) ∷ c.take_first.new.self) progress.search.tests.items progress.rows.items names =
-    subst Q c.in-Some.ensures.first c.self.invariant.way in
-    let Done : List PointName → Type 0 = λ l. IsUnderWay input after.search.listed after.status.items rest after.search.ahead after.search.tests.items after.rows.items l in
+    let amid = c.self.invariant.amid in
+    let Q : List (HPoint × PointName) → Type 0 = λ l. IsUnderWay input progress.search.listed amid.full amid.all_coming l progress.search.tests.items progress.rows.items names in
+    let way : IsUnderWay input progress.search.listed amid.full amid.all_coming ((c.in-Some.at, c.in-Some.name) ∷ c.take_first.new.self) progress.search.tests.items progress.rows.items names =
+    subst Q c.in-Some.ensures.first amid.way in
+    let Done : List PointName → Type 0 = λ l. IsAmid input after.search after.status.items rest after.rows.items l in
     let named : names ++ c.in-Some.name ∷ [] ≡ after.names.items = sym (ap (λ v. v.items) c.in_ok-step.ensures.names ∙ c.in_ok-push.ensures.items) in
     let numbered : c.len-number.result ≡ length names = search rules in
+    let head : Contains progress.search.ahead (c.in-Some.at, c.in-Some.name) =
+    subst (λ (l : List (HPoint × PointName)). Contains l (c.in-Some.at, c.in-Some.name)) (sym c.in-Some.ensures.first) (contains_first (c.in-Some.at, c.in-Some.name) c.take_first.new.self) in
     record {
-      way =
+      amid =
           subst Done named
-          (goes_way input c.self.invariant.way.valid progress.status.items after.status.items coming rest c.in-Some.at c.in-Some.name c.len-number.result old after.search progress.rows.items after.rows.items names way c.in-Some.ensures.least numbered
-          c.in_ok-step.ensures.stepped);
+          (goes_on input old after.search progress.status.items after.status.items coming rest c.in-Some.at c.in-Some.name c.len-number.result progress.rows.items after.rows.items names amid.full amid.all_coming way c.in-Some.ensures.least numbered
+          amid.members (amid.to_come (c.in-Some.at, c.in-Some.name) head) c.in_ok-step.ensures.stepped c.in_ok-step.ensures.closed c.in_ok-step.ensures.searched);
       known = c.in_ok-step.ensures.few;
     }
 
 pub returns-clause-few : goal.returns-clause-few
-returns-clause-few c = count_most c.self.inside.input.now c.step.new.self.names.items (invariant_of-result-2 c).way
+returns-clause-few c = count_most c.self.inside.input.now c.step.new.self.names.items (invariant_of-result-2 c).amid.way
 
 pub returns-clause-settled : goal.returns-clause-settled
 returns-clause-settled c some =
     let progress : Progress = c.self.inside.progress in
+    let input : Input = c.self.inside.input.now in
     let names : List PointName = progress.names.items in
     let after : Progress = c.step.new.self in
     let named : names ++ c.in-Some.name ∷ [] ≡ after.names.items = sym (ap (λ v. v.items) c.in_ok-step.ensures.names ∙ c.in_ok-push.ensures.items) in
     let numbered : c.len-number.result ≡ length names = search rules in
-    let stepped = c.in_ok-step.ensures.stepped in
-    let way = c.self.invariant.way in
+    let closed = closes c.in-Some.at c.len-number.result progress.rows.items after.rows.items c.in_ok-step.ensures.stepped c.in_ok-step.ensures.closed in
+    let way = c.self.invariant.amid.way in
     let settled : count_settled (length names + 1) after.rows.items ≡ length progress.rows.items =
-    settled_after c.self.inside.input.now way.q names progress.rows.items after.rows.items stepped.bundle c.len-number.result way.carries.are_rows numbered stepped.closed in
+    settled_after c.self.inside.input.now way.q names progress.rows.items after.rows.items closed.0 c.len-number.result way.carries.are_rows numbered closed.1 in
     let longer : length after.names.items ≡ length names + 1 = ap length (sym named) ∙ length-append names (c.in-Some.name ∷ []) in
     ap (λ n. count_settled n after.rows.items) longer ∙ settled ∙ ap (λ (s : Standing). s.rows) c.self.view_is
+
+pub returns-clause-listed : goal.returns-clause-listed
+returns-clause-listed c =
+    let progress : Progress = c.self.inside.progress in
+    let after : Progress = c.step.new.self in
+    still_listed c.in-Some.at c.len-number.result progress.rows.items after.rows.items c.in_ok-step.ensures.stepped c.in_ok-step.ensures.searched ∙ ap (λ (s : Standing). s.listed) c.self.view_is
