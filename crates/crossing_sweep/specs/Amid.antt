@@ -1,5 +1,6 @@
 -- Where a pass stands: its members are those of a full status that begin in the column.
-use Rattle.std.specs.Prelude.{◌≡◌, ℕ, ◌++◌, ◌≤◌, true, Bool, List, map, length, drop, filter, Contains}
+use Rattle.std.specs.Prelude.{◌≡◌, ℕ, pos, ◌++◌, ◌≤◌, ◌<ℤ◌, true, Bool, All, List, map, length, drop, filter, Contains}
+use Rattle.overlay_terms.specs.Plane.{height_over}
 use Rattle.overlay_terms.specs.Column.{is_in_column}
 use Rattle.overlay_terms.specs.Tiles.{Input}
 use Rattle.exact_point.specs.Place.{place}
@@ -17,13 +18,13 @@ use Rattle.crossing_sweep.specs.declared.row.Row.{Row}
 use Rattle.crossing_sweep.specs.declared.search.Search.{Search}
 use Rattle.crossing_sweep.specs.declared.progress.Progress.{Progress}
 
--- a place on the right border of the column: the pieces of the members that hold it are closed, and these members are dropped
+-- a place on the right border of the column: the pieces of the members that hold it are closed, and nothing else is done
 pub record IsClosedAt (at : HPoint) (begin : ℕ) (status after : List Member) (rows more_rows : List Row) : Type 0 where
   pub under : List Member
   pub bundle : List Member
   pub over : List Member
   pub was : status ≡ under ++ bundle ++ over
-  pub is : after ≡ under ++ over
+  pub is : after ≡ status
   pub closed : more_rows ≡ rows ++ rows_of begin bundle
   pub split : SidesFallAlong (place at) (segs_of status) → IsSplitAt (place at) (segs_of under) (segs_of bundle) (segs_of over)
 
@@ -31,13 +32,24 @@ pub record IsClosedAt (at : HPoint) (begin : ℕ) (status after : List Member) (
 abbrev pub begins_within : Input → List PointName → Member → Bool
 begins_within input names m = is_in_column input.column (place_at (map place_of names) m.begin)
 
--- a pass with some members, units to come, places found ahead, tests, rows and names: its members are those of a full status that begin in the column,
--- and the units to come are those of the pass as long as a place ahead lies there. On the right border, where nothing enters any more, they are fewer
+-- a member passes under some places
+abbrev pub PassesUnder : List (HPoint × PointName) → Member → Type 0
+PassesUnder ahead m = All (λ e. pos 0 <ℤ height_over m.unit.seg (place e.0)) ahead
+
+-- a pass with some members, units to come, places found ahead, tests, rows and names: but for what passes under all places ahead its members are
+-- those of a full status that begin in the column. As long as a place ahead lies there, they are just these, and so are the units to come
 pub record IsAmid (input : Input) (search : Search) (status : List Member) (coming : List Start) (rows : List Row) (names : List PointName) : Type 0 where
   pub full : List Member
   pub all_coming : List Start
   pub way : IsUnderWay input search.listed full all_coming search.ahead search.tests.items rows names
-  pub members : status ≡ filter (begins_within input names) full
+  pub gone : List Member
+  pub some : List Member
+  pub kept : List Member
+  pub is : status ≡ gone ++ kept
+  pub full_is : filter (begins_within input names) full ≡ some ++ kept
+  pub gone_under : All (PassesUnder search.ahead) gone
+  pub some_under : All (PassesUnder search.ahead) some
+  pub same_status : (z : HPoint × PointName) → Contains search.ahead z → is_in_column input.column (place z.0) ≡ true → status ≡ filter (begins_within input names) full
   pub to_come : (z : HPoint × PointName) → Contains search.ahead z → is_in_column input.column (place z.0) ≡ true → all_coming ≡ coming
 
 -- so is the code's, which counts the units that have entered

@@ -33,8 +33,9 @@ pub(crate) struct Progress {
 }
 
 impl Progress {
-    /// Passes a node: the pieces of the members that hold it are closed, these give way to those that
-    /// go on or enter there, and the new neighbours are tested.
+    /// Passes a node: the pieces of the members that hold it are closed. In the column these give way to
+    /// those that go on or enter there, and the new neighbours are tested; on its right border, where no
+    /// piece of it begins, nothing else is done.
     pub(crate) fn step(
         &mut self,
         alloc: Global,
@@ -57,8 +58,7 @@ impl Progress {
         close(&mut self.rows, &self.status[low..high], begin)?;
         let within = is_in(input.column(), at);
         if !within {
-            replace(&mut self.status, low, high, Vec::new(alloc))?;
-            self.hint = low;
+            self.hint = high;
             return Ok(());
         }
         let coming = &self.starts[self.entered..];

@@ -1,5 +1,5 @@
 use Rattle.std.proofs.Common.{◌≡◌, ◌+◌, true, List, [], ◌∷◌, ◌++◌, drop, length, refl, sym, subst, ap, ◌∙◌, rules}
-use Rattle.std.specs.Prelude.{Contains}
+use Rattle.std.specs.Prelude.{All, Contains, filter}
 use Rattle.std.proofs.Math.ListN.{length-append}
 use Rattle.overlay_terms.proofs.Lists.{contains_first}
 use Rattle.overlay_terms.specs.Column.{is_in_column}
@@ -8,7 +8,7 @@ use Rattle.exact_point.specs.Place.{place}
 use Rattle.exact_point.specs.declared.point.HPoint.{HPoint}
 use Rattle.exact_point.specs.declared.point_name.PointName.{PointName}
 use Rattle.crossing_sweep.specs.Crossed.{IsUnderWay}
-use Rattle.crossing_sweep.specs.Amid.{IsAmid}
+use Rattle.crossing_sweep.specs.Amid.{IsAmid, PassesUnder, begins_within}
 use Rattle.crossing_sweep.specs.Rows.{count_settled}
 use Rattle.crossing_sweep.specs.Standing.{Standing}
 use Rattle.crossing_sweep.specs.declared.progress.Progress.{Progress}
@@ -31,7 +31,14 @@ invariant_of-result c =
         full = amid.full;
         all_coming = amid.all_coming;
         way = subst (λ (l : List (HPoint × PointName)). IsUnderWay input progress.search.listed amid.full amid.all_coming l progress.search.tests.items progress.rows.items progress.names.items) same amid.way;
-        members = amid.members;
+        gone = amid.gone;
+        some = amid.some;
+        kept = amid.kept;
+        is = amid.is;
+        full_is = amid.full_is;
+        gone_under = subst (λ (l : List (HPoint × PointName)). All (PassesUnder l) amid.gone) same amid.gone_under;
+        some_under = subst (λ (l : List (HPoint × PointName)). All (PassesUnder l) amid.some) same amid.some_under;
+        same_status = subst (λ (l : List (HPoint × PointName)). (z : HPoint × PointName) → Contains l z → is_in_column input.column (place z.0) ≡ true → progress.status.items ≡ filter (begins_within input progress.names.items) amid.full) same amid.same_status;
         to_come = subst (λ (l : List (HPoint × PointName)). (z : HPoint × PointName) → Contains l z → is_in_column input.column (place z.0) ≡ true → amid.all_coming ≡ rest) same amid.to_come;
       };
       known = c.self.invariant.known;
@@ -62,7 +69,8 @@ invariant_of-result-2 c =
       amid =
           subst Done named
           (goes_on input old after.search progress.status.items after.status.items coming rest c.in-Some.at c.in-Some.name c.len-number.result progress.rows.items after.rows.items names amid.full amid.all_coming way c.in-Some.ensures.least numbered
-          amid.members (amid.to_come (c.in-Some.at, c.in-Some.name) head) c.in_ok-step.ensures.stepped c.in_ok-step.ensures.closed c.in_ok-step.ensures.searched);
+          amid.gone amid.some amid.kept amid.is amid.full_is (subst (λ (l : List (HPoint × PointName)). All (PassesUnder l) amid.gone) c.in-Some.ensures.first amid.gone_under)
+          (subst (λ (l : List (HPoint × PointName)). All (PassesUnder l) amid.some) c.in-Some.ensures.first amid.some_under) (amid.same_status (c.in-Some.at, c.in-Some.name) head) (amid.to_come (c.in-Some.at, c.in-Some.name) head) c.in_ok-step.ensures.stepped c.in_ok-step.ensures.closed c.in_ok-step.ensures.searched);
       known = c.in_ok-step.ensures.few;
     }
 

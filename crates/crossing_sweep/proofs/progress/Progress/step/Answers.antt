@@ -1,4 +1,4 @@
-use Rattle.std.proofs.Common.{rules, ◌≡◌, ℕ, ◌+◌, ◌-◌, ◌≤◌, Bool, List, ◌++◌, map, length, take, drop, subst, ap, ◌∙◌, arith}
+use Rattle.std.proofs.Common.{rules, ◌≡◌, ℕ, ◌+◌, ◌-◌, ◌≤◌, Bool, List, ◌++◌, map, length, take, drop, subst, ap, refl, ◌∙◌, arith}
 use Rattle.std.proofs.Math.Seq.{take-append_seam}
 use Rattle.std.proofs.lemmas.List.{drop-drop, take_rest}
 use Rattle.std.specs.Prelude.{filter}
@@ -49,7 +49,7 @@ returns-clause-stepped c = λ inside.
     let r : Point = place c.args.at.now in
     let k : ℕ = c.args.input.now.column in
     let ms : List Member = self.status.items in
-    let after : List Member = c.replace-2.new.status.items in
+    let after : List Member = c.replace.new.status.items in
     let turned : List Member = c.in_ok-stay.stay.items in
     let stay : List Member = c.label.new.stay in
     let coming : List Start = take (length items - self.entered) (drop self.entered items) in
@@ -73,7 +73,7 @@ returns-clause-stepped c = λ inside.
     (subst (λ (xs : List Member). AreSeamsTested c.column-2.result r (segs_of xs) (seams_at c.is_in-within.result low (low + len)) self.search c.test_new.new.self) c.deref-6.ensures.value c.in_ok-test_new.ensures)) in
     let size : c.in_ok-stay.stay.len ≡ length stay = search rules in
     let whole : take c.in_ok-stay.stay.len (stay ++ drop (length stay) turned) ≡ stay = ap (λ j. take j (stay ++ drop (length stay) turned)) size ∙ take-append_seam stay (drop (length stay) turned) in
-    let put = c.in_ok-replace-2.ensures ∙ ap (λ (xs : List Member). take low ms ++ xs ++ drop high ms) whole in
+    let put = c.in_ok-replace.ensures ∙ ap (λ (xs : List Member). take low ms ++ xs ++ drop high ms) whole in
     let done = stepped c.args.input.now c.args.at.now c.args.begin ms after turned stay low high len entered coming self.search c.test_new.new.self rows c.close.new.rows.items c.bundle_at-low.ensures.in_order few
     (subst Splits c.deref.ensures.value c.bundle_at-low.ensures.split) c.count_entering-entered.ensures (subst Moved c.deref-4.ensures.value c.in_ok-stay.ensures.moved) c.in_ok-stay.ensures.turned labelled begun
     (subst Closed c.deref-2.ensures.value c.in_ok-close.ensures) put long tested in
@@ -88,5 +88,5 @@ returns-then-not-within-clause-closed c = λ out.
     let rows : List Row = c.args.self.now.rows.items in
     let Splits : List Member → Type 0 = λ xs. SidesFallAlong (place c.args.at.now) (segs_of xs) → IsSplitAt (place c.args.at.now) (segs_of (take low xs)) (segs_of (slice_range xs low high)) (segs_of (drop high xs)) in
     let Closed : List Member → Type 0 = λ xs. c.close.new.rows.items ≡ rows ++ rows_of c.args.begin (slice_range xs low high) in
-    closed_at c.args.at.now c.args.begin ms _ low high rows c.close.new.rows.items c.bundle_at-low.ensures.in_order (subst Splits c.deref.ensures.value c.bundle_at-low.ensures.split)
-    (subst Closed c.deref-2.ensures.value c.in_ok-close.ensures) (c.in_ok-replace.ensures ∙ ap (λ (xs : List Member). take low ms ++ xs ++ drop high ms) c.new.ensures.items)
+    closed_at c.args.at.now c.args.begin ms ms low high rows c.close.new.rows.items c.bundle_at-low.ensures.in_order (subst Splits c.deref.ensures.value c.bundle_at-low.ensures.split)
+    (subst Closed c.deref-2.ensures.value c.in_ok-close.ensures) refl
