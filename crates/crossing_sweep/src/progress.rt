@@ -55,13 +55,7 @@ impl Progress {
         let (low, high) = bundle_at(&self.status, at, self.hint);
         close(&mut self.rows, &self.status[low..high], begin)?;
         let entered = count_entering(coming, at);
-        turned(
-            stay,
-            &self.status[low..high],
-            &coming[..entered],
-            at,
-            begin,
-        )?;
+        turned(stay, &self.status[low..high], &coming[..entered], at, begin)?;
         let under = mask_over(&self.status[..low]);
         let within = is_in(input.column(), at);
         label(input, values, stay, under, begin, within);
