@@ -39,6 +39,7 @@ pub mod Passed
 pub mod RowLemmas
 pub mod RowOrder
 pub mod RowCode
+pub mod ValueLemmas
 pub mod SplitLemmas
 pub mod TestLemmas
 pub mod ComingLemmas

@@ -18,6 +18,7 @@ pub mod RankedPlace
 pub mod Start
 pub mod Member
 pub mod Rows
+pub mod Values
 pub mod RowLaws
 pub mod Testing
 pub mod Stepping

@@ -50,7 +50,7 @@ returns-clause-stepped c = λ inside.
     let k : ℕ = c.args.input.now.column in
     let ms : List Member = self.status.items in
     let after : List Member = c.replace.new.status.items in
-    let turned : List Member = c.in_ok-stay.stay.items in
+    let turned : List Member = c.turned.new.stay.items in
     let stay : List Member = c.label.new.stay in
     let coming : List Start = take (length items - self.entered) (drop self.entered items) in
     let low : ℕ = c.bundle_at-low.result.0 in
@@ -70,12 +70,12 @@ returns-clause-stepped c = λ inside.
     let tested : AreSeamsTested k r (segs_of after) (seams_at (is_in_column k r) low (low + len)) self.search c.test_new.new.self =
     subst (λ b. AreSeamsTested k r (segs_of after) (seams_at b low (low + len)) self.search c.test_new.new.self) within
     (subst (λ j. AreSeamsTested j r (segs_of after) (seams_at c.is_in-within.result low (low + len)) self.search c.test_new.new.self) c.column-2.ensures.value
-    (subst (λ (xs : List Member). AreSeamsTested c.column-2.result r (segs_of xs) (seams_at c.is_in-within.result low (low + len)) self.search c.test_new.new.self) c.deref-6.ensures.value c.in_ok-test_new.ensures)) in
-    let size : c.in_ok-stay.stay.len ≡ length stay = search rules in
-    let whole : take c.in_ok-stay.stay.len (stay ++ drop (length stay) turned) ≡ stay = ap (λ j. take j (stay ++ drop (length stay) turned)) size ∙ take-append_seam stay (drop (length stay) turned) in
-    let put = c.in_ok-replace.ensures ∙ ap (λ (xs : List Member). take low ms ++ xs ++ drop high ms) whole in
+    (subst (λ (xs : List Member). AreSeamsTested c.column-2.result r (segs_of xs) (seams_at c.is_in-within.result low (low + len)) self.search c.test_new.new.self) c.deref-7.ensures.value c.in_ok-test_new.ensures)) in
+    let size : c.turned.new.stay.len ≡ length stay = search rules in
+    let whole : take c.turned.new.stay.len (stay ++ drop (length stay) turned) ≡ stay = ap (λ j. take j (stay ++ drop (length stay) turned)) size ∙ take-append_seam stay (drop (length stay) turned) in
+    let put = c.in_ok-replace.ensures ∙ ap (λ (xs : List Member). take low ms ++ xs ++ drop high ms) (c.deref-6.ensures.value ∙ whole) in
     let done = stepped c.args.input.now c.args.at.now c.args.begin ms after turned stay low high len entered coming self.search c.test_new.new.self rows c.close.new.rows.items c.bundle_at-low.ensures.in_order few
-    (subst Splits c.deref.ensures.value c.bundle_at-low.ensures.split) c.count_entering-entered.ensures (subst Moved c.deref-4.ensures.value c.in_ok-stay.ensures.moved) c.in_ok-stay.ensures.turned labelled begun
+    (subst Splits c.deref.ensures.value c.bundle_at-low.ensures.split) c.count_entering-entered.ensures (subst Moved c.deref-4.ensures.value c.in_ok-turned.ensures.moved) c.in_ok-turned.ensures.turned labelled begun
     (subst Closed c.deref-2.ensures.value c.in_ok-close.ensures) put long tested in
     let Stepped : List Start → List Start → Type 0 = λ l m. IsStepped c.args.input.now c.args.at.now c.args.begin ms after l m self.search c.test_new.new.self rows c.close.new.rows.items in
     subst (Stepped (drop self.entered self.starts.items)) onward (subst (λ (l : List Start). Stepped l (drop entered l)) behind done)

@@ -10,21 +10,20 @@ use Rattle.exact_point.specs.declared.point_name.PointName.{PointName}
 use Rattle.crossing_sweep.specs.Crossed.{IsUnderWay}
 use Rattle.crossing_sweep.specs.Amid.{IsAmid, PassesUnder, begins_within}
 use Rattle.crossing_sweep.specs.Rows.{count_settled}
-use Rattle.crossing_sweep.specs.Standing.{Standing}
 use Rattle.crossing_sweep.specs.declared.progress.Progress.{Progress}
 use Rattle.crossing_sweep.specs.declared.start.Start.{Start}
 use Rattle.crossing_sweep.specs.declared.search.Search.{Search}
 use Rattle.crossing_sweep.proofs.Settled.{settled_after}
 use Rattle.crossing_sweep.proofs.UnderWay.{count_most}
 use Rattle.crossing_sweep.proofs.Leaving.{goes_on, closes, still_listed}
-use Rattle.crossing_sweep.proofs.pass.Pass.go_on.Goals as goal
+use Rattle.crossing_sweep.proofs.pass.go_on.Goals as goal
 
-pub invariant_of-result : goal.invariant_of-result
-invariant_of-result c =
-    let progress : Progress = c.self.inside.progress in
+pub returns-in_default-clause-passing : goal.returns-in_default-clause-passing
+returns-in_default-clause-passing c =
+    let progress : Progress = c.args.progress.now in
     let same : progress.search.ahead ≡ c.take_first.new.self = c.in_default.ensures.none refl ∙ sym (c.in_default.ensures.left refl) in
-    let amid = c.self.invariant.amid in
-    let input : Input = c.self.inside.input.now in
+    let amid = c.requires.passing.amid in
+    let input : Input = c.args.input.now in
     let rest : List Start = drop progress.entered progress.starts.items in
     record {
       amid = record {
@@ -41,22 +40,22 @@ invariant_of-result c =
         same_status = subst (λ (l : List (HPoint × PointName)). (z : HPoint × PointName) → Contains l z → is_in_column input.column (place z.0) ≡ true → progress.status.items ≡ filter (begins_within input progress.names.items) amid.full) same amid.same_status;
         to_come = subst (λ (l : List (HPoint × PointName)). (z : HPoint × PointName) → Contains l z → is_in_column input.column (place z.0) ≡ true → amid.all_coming ≡ rest) same amid.to_come;
       };
-      known = c.self.invariant.known;
+      known = c.requires.passing.known;
     }
 
 pub returns-in_default-clause-few : goal.returns-in_default-clause-few
-returns-in_default-clause-few c = count_most c.self.inside.input.now c.self.inside.progress.names.items c.self.invariant.amid.way
+returns-in_default-clause-few c = count_most c.args.input.now c.args.progress.now.names.items c.requires.passing.amid.way
 
-pub invariant_of-result-2 : goal.invariant_of-result-2
-invariant_of-result-2 c =
-    let progress : Progress = c.self.inside.progress in
-    let input : Input = c.self.inside.input.now in
+pub returns-clause-passing : goal.returns-clause-passing
+returns-clause-passing c =
+    let progress : Progress = c.args.progress.now in
+    let input : Input = c.args.input.now in
     let after : Progress = c.step.new.self in
     let coming : List Start = drop progress.entered progress.starts.items in
     let rest : List Start = drop after.entered after.starts.items in
     let old : Search = record { ahead = c.take_first.new.self; listed = progress.search.listed; tests = progress.search.tests } in
     let names : List PointName = progress.names.items in
-    let amid = c.self.invariant.amid in
+    let amid = c.requires.passing.amid in
     let Q : List (HPoint × PointName) → Type 0 = λ l. IsUnderWay input progress.search.listed amid.full amid.all_coming l progress.search.tests.items progress.rows.items names in
     let way : IsUnderWay input progress.search.listed amid.full amid.all_coming ((c.in-Some.at, c.in-Some.name) ∷ c.take_first.new.self) progress.search.tests.items progress.rows.items names =
     subst Q c.in-Some.ensures.first amid.way in
@@ -75,25 +74,25 @@ invariant_of-result-2 c =
     }
 
 pub returns-clause-few : goal.returns-clause-few
-returns-clause-few c = count_most c.self.inside.input.now c.step.new.self.names.items (invariant_of-result-2 c).amid.way
+returns-clause-few c = count_most c.args.input.now c.step.new.self.names.items (returns-clause-passing c).amid.way
 
 pub returns-clause-settled : goal.returns-clause-settled
 returns-clause-settled c some =
-    let progress : Progress = c.self.inside.progress in
-    let input : Input = c.self.inside.input.now in
+    let progress : Progress = c.args.progress.now in
+    let input : Input = c.args.input.now in
     let names : List PointName = progress.names.items in
     let after : Progress = c.step.new.self in
     let named : names ++ c.in-Some.name ∷ [] ≡ after.names.items = sym (ap (λ v. v.items) c.in_ok-step.ensures.names ∙ c.in_ok-push.ensures.items) in
     let numbered : c.len-number.result ≡ length names = search rules in
     let closed = closes c.in-Some.at c.len-number.result progress.rows.items after.rows.items c.in_ok-step.ensures.stepped c.in_ok-step.ensures.closed in
-    let way = c.self.invariant.amid.way in
+    let way = c.requires.passing.amid.way in
     let settled : count_settled (length names + 1) after.rows.items ≡ length progress.rows.items =
-    settled_after c.self.inside.input.now way.q names progress.rows.items after.rows.items closed.0 c.len-number.result way.carries.are_rows numbered closed.1 in
+    settled_after c.args.input.now way.q names progress.rows.items after.rows.items closed.0 c.len-number.result way.carries.are_rows numbered closed.1 in
     let longer : length after.names.items ≡ length names + 1 = ap length (sym named) ∙ length-append names (c.in-Some.name ∷ []) in
-    ap (λ n. count_settled n after.rows.items) longer ∙ settled ∙ ap (λ (s : Standing). s.rows) c.self.view_is
+    ap (λ n. count_settled n after.rows.items) longer ∙ settled
 
 pub returns-clause-listed : goal.returns-clause-listed
 returns-clause-listed c =
-    let progress : Progress = c.self.inside.progress in
+    let progress : Progress = c.args.progress.now in
     let after : Progress = c.step.new.self in
-    still_listed c.in-Some.at c.len-number.result progress.rows.items after.rows.items c.in_ok-step.ensures.stepped c.in_ok-step.ensures.searched ∙ ap (λ (s : Standing). s.listed) c.self.view_is
+    still_listed c.in-Some.at c.len-number.result progress.rows.items after.rows.items c.in_ok-step.ensures.stepped c.in_ok-step.ensures.searched
