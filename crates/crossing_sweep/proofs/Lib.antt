@@ -39,6 +39,7 @@ pub mod Passed
 pub mod RowLemmas
 pub mod RowOrder
 pub mod RowCode
+pub mod ValueLemmas
 pub mod SplitLemmas
 pub mod TestLemmas
 pub mod ComingLemmas
@@ -50,3 +51,4 @@ pub mod SeamLemmas
 pub mod NodeCount
 pub mod Settled
 pub mod UnderWay
+pub mod Leaving

@@ -1,6 +1,8 @@
 -- Offered places in their order, each once.
 use Rattle.std.proofs.Common.{◌≡◌, ℕ, pos, ◌<ℤ◌, ◌++◌, true, ◌⊎◌, inl, inr, List, [], ◌∷◌, map, refl, ap, sym, subst, ◌∙◌}
 use Rattle.std.specs.Prelude.{AllPairs, Any, Contains, IsTrue}
+use Rattle.std.specs.Cmp.{eq_by_cmp_equiv}
+use Rattle.std.proofs.lemmas.Cmp.{on_total}
 use Rattle.std.specs.List.{dedup}
 use Rattle.std.specs.List.Sorted.{IsPermutation, IsSorted}
 use Rattle.std.specs.declared.cmp.Ordering.TheVariants.{Less}
@@ -21,7 +23,7 @@ use Rattle.arrange.specs.NamedPlaces.{named_cmp}
 use Rattle.arrange.specs.declared.named_place.NamedPlace.{NamedPlace}
 use Rattle.arrange.proofs.SortedPlaces.{strict_pairs, same_spots}
 use Rattle.crossing_sweep.specs.Ahead.{HasAdded, IsOffered, AreOffered, known_entry}
-use Rattle.crossing_sweep.specs.RankedPlace.{ranked_cmp, ranked_total, same_ranked, same_ranked_equiv, named_of, ranked_entry}
+use Rattle.crossing_sweep.specs.RankedPlace.{ranked_cmp, ranked_total, same_ranked, named_of, ranked_entry}
 use Rattle.crossing_sweep.specs.declared.ranked_place.RankedPlace.{RankedPlace}
 use Rattle.crossing_sweep.proofs.AheadLemmas.{point_positive}
 use Rattle.crossing_sweep.proofs.MaskLemmas.{from_map}
@@ -46,40 +48,41 @@ pushed_added places z =
     only e (inl c) = inl c
     only e (inr c) = inr (last e (Contains-cons_cases (ranked_entry z) [] e c))
 
-module _ (column : ℕ) (names : List PointName) (places sorted list : List RankedPlace) (moved : IsPermutation places sorted) (up : IsSorted ranked_cmp sorted) (is : list ≡ dedup same_ranked sorted) where
-  pub in_order : AllPairs (λ a b. ranked_cmp a b ≡ Less) list
+-- how a place stands among others is told by a function of what is sorted
+module _ {T : Type 0} (now : T → RankedPlace) (column : ℕ) (names : List PointName) (places sorted list : List T) (moved : IsPermutation places sorted) (up : IsSorted (λ a b. ranked_cmp (now a) (now b)) sorted) (is : list ≡ dedup (λ a b. same_ranked (now a) (now b)) sorted) where
+  pub in_order : AllPairs (λ a b. ranked_cmp (now a) (now b) ≡ Less) list
   in_order =
-      let P : List RankedPlace → Type 0 = λ l. AllPairs (λ a b. ranked_cmp a b ≡ Less) l in
-      subst P (sym is) (strict_pairs ranked_cmp (dedup same_ranked sorted) (IsStrictlySortedBy-dedup ranked_total (λ x y. refl) sorted up))
+      let P : List T → Type 0 = λ l. AllPairs (λ a b. ranked_cmp (now a) (now b) ≡ Less) l in
+      subst P (sym is) (strict_pairs (λ a b. ranked_cmp (now a) (now b)) (dedup (λ a b. same_ranked (now a) (now b)) sorted) (IsStrictlySortedBy-dedup (on_total now ranked_total) (λ x y. refl) sorted up))
 
   -- they are offered all the same
-  pub offered_once : AreOffered column names (map ranked_entry places) → AreOffered column names (map ranked_entry list)
+  pub offered_once : AreOffered column names (map (λ t. ranked_entry (now t)) places) → AreOffered column names (map (λ t. ranked_entry (now t)) list)
   offered_once are =
-      let P : List RankedPlace → Type 0 = λ l. AreOffered column names (map ranked_entry l) in
-      subst P (sym is) (record { sound = all_of (IsOffered column names) (map ranked_entry (dedup same_ranked sorted)) sound; complete = complete })
+      let P : List T → Type 0 = λ l. AreOffered column names (map (λ t. ranked_entry (now t)) l) in
+      subst P (sym is) (record { sound = all_of (IsOffered column names) (map (λ t. ranked_entry (now t)) (dedup (λ a b. same_ranked (now a) (now b)) sorted)) sound; complete = complete })
     where
-      sound : (e : HPoint × PointName) → Contains (map ranked_entry (dedup same_ranked sorted)) e → IsOffered column names e
+      sound : (e : HPoint × PointName) → Contains (map (λ t. ranked_entry (now t)) (dedup (λ a b. same_ranked (now a) (now b)) sorted)) e → IsOffered column names e
       sound e c =
-          let z = from_map ranked_entry (dedup same_ranked sorted) e c in
-          let there : Contains places z.0 = Contains-permutation sorted places z.0 (IsPermutation-sym places sorted moved) (Contains-from_dedup same_ranked sorted z.0 z.1) in
+          let z = from_map (λ t. ranked_entry (now t)) (dedup (λ a b. same_ranked (now a) (now b)) sorted) e c in
+          let there : Contains places z.0 = Contains-permutation sorted places z.0 (IsPermutation-sym places sorted moved) (Contains-from_dedup (λ a b. same_ranked (now a) (now b)) sorted z.0 z.1) in
           let Q : HPoint × PointName → Type 0 = λ e. IsOffered column names e in
-          subst Q z.2 (All-contains (IsOffered column names) (map ranked_entry places) (ranked_entry z.0) are.sound (contains_map ranked_entry places z.0 there))
+          subst Q z.2 (All-contains (IsOffered column names) (map (λ t. ranked_entry (now t)) places) (ranked_entry (now z.0)) are.sound (contains_map (λ t. ranked_entry (now t)) places z.0 there))
 
-      complete : (name : PointName) (p : Point) → Contains names name → pos 0 <ℤ p.w → IsPlaceOf name p → IsTrue (is_in_closed_column column p) → Any (λ e. IsTrue (same_place p (place e.0))) (map ranked_entry (dedup same_ranked sorted))
+      complete : (name : PointName) (p : Point) → Contains names name → pos 0 <ℤ p.w → IsPlaceOf name p → IsTrue (is_in_closed_column column p) → Any (λ e. IsTrue (same_place p (place e.0))) (map (λ t. ranked_entry (now t)) (dedup (λ a b. same_ranked (now a) (now b)) sorted))
       complete name p c hp stands within =
           let IsAt : HPoint × PointName → Type 0 = λ e. IsTrue (same_place p (place e.0)) in
           let a = are.complete name p c hp stands within in
-          let z = from_map ranked_entry places a.1 (any_contains (λ (e : HPoint × PointName). IsTrue (same_place p (place e.0))) (map ranked_entry places) a) in
-          let at : IsTrue (same_place p (place z.0.at)) = subst IsAt (sym z.2) a.4 in
-          let b = Any-dedup same_ranked_equiv sorted z.0 (Contains-permutation places sorted z.0 moved z.1) in
-          let kept : Contains (dedup same_ranked sorted) b.1 = any_contains (λ y. same_ranked z.0 y ≡ true) (dedup same_ranked sorted) b in
-          any_from (λ (e : HPoint × PointName). IsTrue (same_place p (place e.0))) (map ranked_entry (dedup same_ranked sorted)) (ranked_entry b.1) (contains_map ranked_entry (dedup same_ranked sorted) b.1 kept)
-          (same_through p (place z.0.at) (place b.1.at) hp (point_positive z.0.at) (point_positive b.1.at) at (same_spots (named_of z.0) (named_of b.1) b.4))
+          let z = from_map (λ t. ranked_entry (now t)) places a.1 (any_contains (λ (e : HPoint × PointName). IsTrue (same_place p (place e.0))) (map (λ t. ranked_entry (now t)) places) a) in
+          let at : IsTrue (same_place p (place (now z.0).at)) = subst IsAt (sym z.2) a.4 in
+          let b = Any-dedup (eq_by_cmp_equiv (on_total now ranked_total)) sorted z.0 (Contains-permutation places sorted z.0 moved z.1) in
+          let kept : Contains (dedup (λ a b. same_ranked (now a) (now b)) sorted) b.1 = any_contains (λ y. same_ranked (now z.0) (now y) ≡ true) (dedup (λ a b. same_ranked (now a) (now b)) sorted) b in
+          any_from (λ (e : HPoint × PointName). IsTrue (same_place p (place e.0))) (map (λ t. ranked_entry (now t)) (dedup (λ a b. same_ranked (now a) (now b)) sorted)) (ranked_entry (now b.1)) (contains_map (λ t. ranked_entry (now t)) (dedup (λ a b. same_ranked (now a) (now b)) sorted) b.1 kept)
+          (same_through p (place (now z.0).at) (place (now b.1).at) hp (point_positive (now z.0).at) (point_positive (now b.1).at) at (same_spots (named_of (now z.0)) (named_of (now b.1)) b.4))
 
 -- without their ranks they are the same entries
-pub same_entries : (list : List RankedPlace) (places : List NamedPlace) → places ≡ map named_of list → map known_entry places ≡ map ranked_entry list
-same_entries list places e = ap (map known_entry) e ∙ map-map known_entry named_of list
+pub same_entries : {T : Type 0} (now : T → RankedPlace) (list : List T) (places : List NamedPlace) → places ≡ map (λ t. named_of (now t)) list → map known_entry places ≡ map (λ t. ranked_entry (now t)) list
+same_entries now list places e = ap (map known_entry) e ∙ map-map known_entry (λ t. named_of (now t)) list
 
 -- and in the same order
-pub named_in_order : (list : List RankedPlace) (places : List NamedPlace) → places ≡ map named_of list → AllPairs (λ a b. ranked_cmp a b ≡ Less) list → AllPairs (λ a b. named_cmp a b ≡ Less) places
-named_in_order list places e ordered = subst (λ (l : List NamedPlace). AllPairs (λ a b. named_cmp a b ≡ Less) l) (sym e) (map_pairs named_of (λ a b. named_cmp a b ≡ Less) list ordered)
+pub named_in_order : {T : Type 0} (now : T → RankedPlace) (list : List T) (places : List NamedPlace) → places ≡ map (λ t. named_of (now t)) list → AllPairs (λ a b. ranked_cmp (now a) (now b) ≡ Less) list → AllPairs (λ a b. named_cmp a b ≡ Less) places
+named_in_order now list places e ordered = subst (λ (l : List NamedPlace). AllPairs (λ a b. named_cmp a b ≡ Less) l) (sym e) (map_pairs (λ t. named_of (now t)) (λ a b. named_cmp a b ≡ Less) list ordered)

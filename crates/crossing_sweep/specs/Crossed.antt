@@ -1,5 +1,5 @@
 -- What one pass over a column finds: the tile or that it has too many pieces, the nodes, and the pairs of neighbours that it has tested.
-use Rattle.std.specs.Prelude.{◌≡◌, ℕ, ℤ, pos, ◌+◌, ◌*◌, ◌<◌, ◌≤◌, ◌<ℤ◌, ◌*ℤ◌, ◌≤ℤ◌, [], true, false, Bool, ◌⊎◌, ◌||◌, IsTrue, List, map, length, get_or, drop, All, AllPairs, Any, Contains}
+use Rattle.std.specs.Prelude.{◌≡◌, ℕ, ℤ, pos, ◌+◌, ◌*◌, ◌<◌, ◌≤◌, ◌<ℤ◌, ◌*ℤ◌, ◌≤ℤ◌, [], true, false, Bool, ◌⊎◌, ◌||◌, IsTrue, List, map, length, get_or, All, AllPairs, Any, Contains}
 use Rattle.std.specs.declared.cmp.Ordering.TheVariants.{Less}
 use Rattle.overlay_terms.specs.Plane.{Point, Segment, point_cmp, is_on}
 use Rattle.overlay_terms.specs.Column.{border}
@@ -28,7 +28,6 @@ use Rattle.crossing_sweep.specs.declared.member.Member.{Member}
 use Rattle.crossing_sweep.specs.declared.start.Start.{Start}
 use Rattle.crossing_sweep.specs.declared.row.Row.{Row}
 use Rattle.crossing_sweep.specs.declared.pass.Crossed.{Crossed}
-use Rattle.crossing_sweep.specs.declared.progress.Progress.{Progress}
 
 -- a node of the closed column
 pub record IsNodeIn (input : Input) (p : Point) : Type 0 where
@@ -130,8 +129,3 @@ pub record IsUnderWay (input : Input) (listed : Bool) (status : List Member) (co
   pub unlisted : listed ≡ false → tests ≡ []
   pub keys : All (IsKey input listed tests) ahead
   pub causes : All (IsCaused input listed tests) (map place_of names)
-
--- so is the code's, which counts the units that have entered
-pub record IsPassing (input : Input) (progress : Progress) : Type 0 where
-  pub way : IsUnderWay input progress.search.listed progress.status.items (drop progress.entered progress.starts.items) progress.search.ahead progress.search.tests.items progress.rows.items progress.names.items
-  pub known : progress.entered ≤ length progress.starts.items

@@ -18,8 +18,10 @@ pub mod RankedPlace
 pub mod Start
 pub mod Member
 pub mod Rows
+pub mod Values
 pub mod RowLaws
 pub mod Testing
 pub mod Stepping
 pub mod Standing
 pub mod Crossed
+pub mod Amid

@@ -38,15 +38,31 @@ fn places_in_order(alloc: Global, input: &TileInput) -> Result<Vec<NamedPlace>, 
     for m in input.marked() {
         offer_own(&mut places, &m.seg, input.column())?;
     }
-    places.sort_unstable();
-    places.dedup();
-    let list = named(alloc, &places)?;
+    // A place is large: what is moved to and fro is where it stands.
+    let mut order = standing(alloc, &places)?;
+    order.sort_unstable();
+    order.dedup();
+    let list = named(alloc, &order)?;
     Ok(list)
 }
 
+/// Where each of some places stands.
+fn standing<'a>(
+    alloc: Global,
+    places: &'a [RankedPlace],
+) -> Result<Vec<&'a RankedPlace>, AllocError>
+    ensures { IfOk result (λ order. map (λ z. z.now) order.items ≡ places.now) }
+{
+    let mut order = Vec::with_capacity(alloc, places.len())?;
+    for place in places {
+        order.push(place)?;
+    }
+    Ok(order)
+}
+
 /// The places with their names alone.
-fn named(alloc: Global, places: &[RankedPlace]) -> Result<Vec<NamedPlace>, AllocError>
-    ensures { IfOk result (λ list. list.items ≡ map named_of places.now) }
+fn named(alloc: Global, places: &[&RankedPlace]) -> Result<Vec<NamedPlace>, AllocError>
+    ensures { IfOk result (λ list. list.items ≡ map (λ z. named_of z.now) places.now) }
 {
     let mut list = Vec::with_capacity(alloc, places.len())?;
     for place in places {

@@ -15,6 +15,7 @@ mod row;
 mod search;
 mod start;
 mod starts;
+mod values;
 
 pub use pass::{Crossed, cross};
 pub use row::Row;

@@ -1,5 +1,5 @@
 //! The members that go on after a place, with those that enter there.
-ghost use Rattle.std.specs.Prelude.{pos, ◌≤ℤ◌, AllPairs, ◌≡◌, ◌++◌, map, filter, IfOk, OnOk};
+ghost use Rattle.std.specs.Prelude.{pos, ◌≤ℤ◌, AllPairs, ◌≡◌, ◌++◌, map, filter, OnOk};
 ghost use Rattle.std.specs.List.{prefix_len};
 ghost use Rattle.std.specs.List.Sorted.{IsPermutation};
 ghost use Rattle.exact_point.specs.Crossing.{turn_of};
@@ -10,7 +10,7 @@ use crate::member::Member;
 use crate::start::Start;
 use exact_point::point::HPoint;
 use plane_base::point::Seg;
-use std::alloc::{AllocError, Global};
+use std::alloc::AllocError;
 
 /// Whether a segment ends after a place.
 fn ends_after(seg: &Seg, at: &HPoint) -> bool
@@ -19,35 +19,35 @@ fn ends_after(seg: &Seg, at: &HPoint) -> bool
     *at < HPoint::of(seg.right())
 }
 
-/// The members of a bundle that go on after a place, with the units that enter there and go on, in
-/// the order of their directions.
+/// Makes a list of the members of a bundle that go on after a place, with the units that enter there
+/// and go on, in the order of their directions. The list's memory serves again.
 pub(crate) fn turned(
-    alloc: Global,
+    stay: &mut Vec<Member>,
     bundle: &[Member],
     entering: &[Start],
     at: &HPoint,
     begin: usize,
-) -> Result<Vec<Member>, AllocError>
-    ensures moved { IfOk result (λ stay. IsPermutation (filter (λ u. ends_after (place at.now) u.seg) (units_of bundle.now ++ map (λ s. s.unit) entering.now)) (units_of stay.items)) }
-    ensures turned { IfOk result (λ stay. AllPairs (λ a b. pos 0 ≤ℤ turn_of a b) (segs_of stay.items)) }
+) -> Result<(), AllocError>
+    ensures moved { OnOk result (IsPermutation (filter (λ u. ends_after (place at.now) u.seg) (units_of bundle.now ++ map (λ s. s.unit) entering.now)) (units_of stay.new.items)) }
+    ensures turned { OnOk result (AllPairs (λ a b. pos 0 ≤ℤ turn_of a b) (segs_of stay.new.items)) }
 {
-    let mut stay = staying(alloc, bundle, at)?;
-    enter(&mut stay, entering, at, begin)?;
+    staying(stay, bundle, at)?;
+    enter(stay, entering, at, begin)?;
     stay.sort_unstable();
-    Ok(stay)
+    Ok(())
 }
 
-/// The members that go on after a place that they hold.
-fn staying(alloc: Global, bundle: &[Member], at: &HPoint) -> Result<Vec<Member>, AllocError>
-    ensures { IfOk result (λ stay. stay.items ≡ filter (λ m. ends_after (place at.now) m.unit.seg) bundle.now) }
+/// Makes a list of the members that go on after a place that they hold.
+fn staying(stay: &mut Vec<Member>, bundle: &[Member], at: &HPoint) -> Result<(), AllocError>
+    ensures { OnOk result (stay.new.items ≡ filter (λ m. ends_after (place at.now) m.unit.seg) bundle.now) }
 {
-    let mut stay = Vec::new(alloc);
+    stay.clear();
     for member in bundle {
         if ends_after(&member.unit.seg, at) {
             stay.push(*member)?;
         }
     }
-    Ok(stay)
+    Ok(())
 }
 
 /// How many of the units to come enter at a place: the first ones.

@@ -1,13 +1,18 @@
 //! One pass over a column from node to node.
-ghost use Rattle.std.specs.Prelude.{◌≡◌, ◌<◌, ◌≤◌, ◌+◌, ℕ, ◌⊎◌, true, false, IfOk};
+ghost use Rattle.std.specs.Prelude.{◌≡◌, ◌<◌, ◌≤◌, ◌+◌, ℕ, ◌⊎◌, true, false, length, IfOk, OnOk};
+ghost use Rattle.crossing_sweep.specs.Amid.{IsPassing};
 ghost use Rattle.crossing_sweep.specs.Crossed.{IsCrossed};
+ghost use Rattle.crossing_sweep.specs.Rows.{count_settled};
 ghost use Rattle.crossing_sweep.specs.Standing.{nodes_max};
+ghost use Rattle.crossing_sweep.specs.Values.{AreValues};
 
 use crate::known_places::known_places;
+use crate::member::Member;
 use crate::progress::Progress;
 use crate::row::{Row, sort};
 use crate::search::Search;
 use crate::starts::starts;
+use crate::values::first_values;
 use arrange::tile_input::TileInput;
 use exact_point::point_name::PointName;
 use plane_base::point::Seg;
@@ -42,7 +47,7 @@ impl<'a> Model for Pass<'a> {
 
     ghost coded = { standing_code };
 
-    ghost use Rattle.crossing_sweep.specs.Crossed.{IsPassing};
+    ghost use Rattle.crossing_sweep.specs.Amid.{IsPassing};
 
     ghost view = { λ p. record { input = p.input.now; listed = p.progress.search.listed; ahead = length p.progress.search.ahead; rows = length p.progress.rows.items; nodes = length p.progress.names.items; settled = count_settled (length p.progress.names.items) p.progress.rows.items } };
 
@@ -76,6 +81,7 @@ impl<'a> Pass<'a> {
         let ahead = known_places(alloc, input)?;
         let status = Vec::with_capacity(alloc, starts.len())?;
         let names = Vec::with_capacity(alloc, 2 * starts.len())?;
+        let rows = Vec::with_capacity(alloc, 2 * starts.len())?;
         let progress = Progress {
             starts,
             entered: 0,
@@ -86,7 +92,7 @@ impl<'a> Pass<'a> {
                 listed,
                 tests: Vec::new(alloc),
             },
-            rows: Vec::new(alloc),
+            rows,
             names,
         };
         Ok(Pass { input, progress })
@@ -99,39 +105,15 @@ impl<'a> Pass<'a> {
         ensures ended { IfOk result (λ pass. (pass.ahead ≡ 0) ⊎ (cap < pass.rows)) }
         ensures settled { IfOk result (λ pass. self.entry.settled ≤ cap → pass.settled ≤ cap) }
     {
-        let mut pass = self;
-        while pass.is_under_way(cap) {
-            pass = pass.go_on(alloc)?;
-        }
-        Ok(pass)
-    }
-
-    /// Whether a place is ahead, and there are no more rows than a cap.
-    fn is_under_way(&self, cap: usize) -> bool
-        ensures way { result ≡ true → (¬ (self.now.ahead ≡ 0)) × (self.now.rows ≤ cap) }
-        ensures ended { result ≡ false → (self.now.ahead ≡ 0) ⊎ (cap < self.now.rows) }
-    {
-        !self.progress.search.ahead.is_empty() && self.progress.rows.len() <= cap
-    }
-
-    /// Passes the next node, if there is one ahead.
-    fn go_on(self, alloc: Global) -> Result<Pass<'a>, AllocError>
-        ensures input { IfOk result (λ pass. pass.input ≡ self.entry.input) }
-        ensures listed { IfOk result (λ pass. pass.listed ≡ self.entry.listed) }
-        ensures more { IfOk result (λ pass. ¬ (self.entry.ahead ≡ 0) → pass.nodes ≡ self.entry.nodes + 1) }
-        ensures settled { IfOk result (λ pass. ¬ (self.entry.ahead ≡ 0) → pass.settled ≡ self.entry.rows) }
-        ensures few { IfOk result (λ pass. pass.nodes ≤ nodes_max pass.input) }
-    {
         let Pass {
             input,
             mut progress,
         } = self;
-        let Some((at, name)) = progress.search.ahead.take_first() else {
-            return Ok(Pass { input, progress });
-        };
-        let number = progress.names.len();
-        progress.names.push(name)?;
-        progress.step(alloc, input, &at, number)?;
+        let values = first_values(alloc, input)?;
+        let mut stay = Vec::new(alloc);
+        while is_under_way(&progress, cap) {
+            go_on(alloc, input, &values, &mut stay, &mut progress)?;
+        }
         Ok(Pass { input, progress })
     }
 
@@ -152,4 +134,38 @@ impl<'a> Pass<'a> {
             tests: search.tests,
         }
     }
+}
+
+/// Whether a place is ahead of a pass, and there are no more rows than a cap.
+fn is_under_way(progress: &Progress, cap: usize) -> bool
+    ensures way { result ≡ true → (¬ (length progress.now.search.ahead ≡ 0)) × (length progress.now.rows.items ≤ cap) }
+    ensures ended { result ≡ false → (length progress.now.search.ahead ≡ 0) ⊎ (cap < length progress.now.rows.items) }
+{
+    !progress.search.ahead.is_empty() && progress.rows.len() <= cap
+}
+
+/// Passes the next node, if there is one ahead. What a pass has stays where it is, since it is large; and a list serves
+/// all nodes for the members that go on.
+fn go_on(
+    alloc: Global,
+    input: &TileInput,
+    values: &[bool],
+    stay: &mut Vec<Member>,
+    progress: &mut Progress,
+) -> Result<(), AllocError>
+    requires passing { IsPassing input.now progress.old }
+    requires known { AreValues input.now.steps values.now }
+    ensures passing { OnOk result (IsPassing input.now progress.new) }
+    ensures listed { OnOk result (progress.new.search.listed ≡ progress.old.search.listed) }
+    ensures more { OnOk result (¬ (length progress.old.search.ahead ≡ 0) → length progress.new.names.items ≡ length progress.old.names.items + 1) }
+    ensures settled { OnOk result (¬ (length progress.old.search.ahead ≡ 0) → count_settled (length progress.new.names.items) progress.new.rows.items ≡ length progress.old.rows.items) }
+    ensures few { OnOk result (length progress.new.names.items ≤ nodes_max input.now) }
+{
+    let Some((at, name)) = progress.search.ahead.take_first() else {
+        return Ok(());
+    };
+    let number = progress.names.len();
+    progress.names.push(name)?;
+    progress.step(alloc, input, values, stay, &at, number)?;
+    Ok(())
 }

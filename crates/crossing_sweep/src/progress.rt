@@ -1,7 +1,11 @@
 //! What a pass over a column has, and one step of it: crossings are found from neighbours alone, and
 //! the boundary is carried along.
-ghost use Rattle.std.specs.Prelude.{◌≡◌, ◌≤◌, ◌++◌, length, take, drop, OnOk};
+ghost use Rattle.std.specs.Prelude.{◌≡◌, ◌≤◌, ◌++◌, true, false, length, take, drop, IfOk, OnOk};
+ghost use Rattle.overlay_terms.specs.Column.{is_in_column};
+ghost use Rattle.exact_point.specs.Place.{place};
 ghost use Rattle.crossing_sweep.specs.Stepping.{IsStepped};
+ghost use Rattle.crossing_sweep.specs.Amid.{IsClosedAt};
+ghost use Rattle.crossing_sweep.specs.Values.{AreValues};
 
 use crate::bundle::bundle_at;
 use crate::member::Member;
@@ -30,39 +34,44 @@ pub(crate) struct Progress {
 }
 
 impl Progress {
-    /// Passes a node: the pieces of the members that hold it are closed, these give way to those that
-    /// go on or enter there, and the new neighbours are tested.
+    /// Passes a node: the pieces of the members that hold it are closed. In the column these give way to
+    /// those that go on or enter there, which a list is lent for, and the new neighbours are tested; on its right border, where no
+    /// piece of it begins, nothing else is done.
     pub(crate) fn step(
         &mut self,
         alloc: Global,
         input: &TileInput,
+        values: &[bool],
+        stay: &mut Vec<Member>,
         at: &HPoint,
         begin: usize,
     ) -> Result<(), AllocError>
-        requires { self.old.entered ≤ length self.old.starts.items }
+        requires few { self.old.entered ≤ length self.old.starts.items }
+        requires known { AreValues input.now.steps values.now }
         ensures few { OnOk result (self.new.entered ≤ length self.new.starts.items) }
-        ensures stepped { OnOk result
-            (IsStepped input.now at.now begin self.old.status.items self.new.status.items
+        ensures stepped { OnOk result (is_in_column input.now.column (place at.now) ≡ true →
+            IsStepped input.now at.now begin self.old.status.items self.new.status.items
             (drop self.old.entered self.old.starts.items) (drop self.new.entered self.new.starts.items)
             self.old.search self.new.search self.old.rows.items self.new.rows.items) }
+        ensures closed { OnOk result (is_in_column input.now.column (place at.now) ≡ false →
+            IsClosedAt at.now begin self.old.status.items self.new.status.items self.old.rows.items self.new.rows.items) }
+        ensures searched { OnOk result (is_in_column input.now.column (place at.now) ≡ false → self.new.search ≡ self.old.search) }
         ensures names { self.new.names ≡ self.old.names }
     {
-        let coming = &self.starts[self.entered..];
         let (low, high) = bundle_at(&self.status, at, self.hint);
         close(&mut self.rows, &self.status[low..high], begin)?;
-        let entered = count_entering(coming, at);
-        let mut stay = turned(
-            alloc,
-            &self.status[low..high],
-            &coming[..entered],
-            at,
-            begin,
-        )?;
-        let under = mask_over(&self.status[..low]);
         let within = is_in(input.column(), at);
-        label(input, &mut stay, under, begin, within);
+        if !within {
+            self.hint = high;
+            return Ok(());
+        }
+        let coming = &self.starts[self.entered..];
+        let entered = count_entering(coming, at);
+        turned(stay, &self.status[low..high], &coming[..entered], at, begin)?;
+        let under = mask_over(&self.status[..low]);
+        label(input, values, stay, under, begin, within);
         let top = low + stay.len();
-        replace(&mut self.status, low, high, stay)?;
+        replace(alloc, &mut self.status, low, high, stay)?;
         self.search
             .test_new(within, input.column(), at, &self.status, low, top)?;
         self.entered += entered;
@@ -74,14 +83,15 @@ impl Progress {
 /// Puts members in the place of those of a range. Mostly as many come as go, or one comes, or one goes:
 /// for these the others are moved where they stand, and no memory is taken but for the status.
 fn replace(
+    alloc: Global,
     status: &mut Vec<Member>,
     low: usize,
     high: usize,
-    stay: Vec<Member>,
+    stay: &[Member],
 ) -> Result<(), AllocError>
     requires in_order { low ≤ high }
     requires few { high ≤ length status.old.items }
-    ensures { OnOk result (status.new.items ≡ take low status.old.items ++ stay.items ++ drop high status.old.items) }
+    ensures { OnOk result (status.new.items ≡ take low status.old.items ++ stay.now ++ drop high status.old.items) }
 {
     match (high - low, stay.len()) {
         (0, 1) => {
@@ -90,10 +100,22 @@ fn replace(
         (1, 0) => {
             status.remove(low);
         }
-        (gone, come) if gone == come => status[low..high].copy_from_slice(&stay),
+        (gone, come) if gone == come => status[low..high].copy_from_slice(stay),
         _ => {
-            status.splice(low..high, stay)?;
+            let come = copied(alloc, stay)?;
+            status.splice(low..high, come)?;
         }
     }
     Ok(())
+}
+
+/// The same members in memory of their own.
+fn copied(alloc: Global, members: &[Member]) -> Result<Vec<Member>, AllocError>
+    ensures { IfOk result (λ copies. copies.items ≡ members.now) }
+{
+    let mut copies = Vec::with_capacity(alloc, members.len())?;
+    for member in members {
+        copies.push(*member)?;
+    }
+    Ok(copies)
 }

@@ -49,7 +49,19 @@ fn floor(x: i128, w: i128) -> i64
     ensures value { IsFloor result x w }
     ensures small { InRange result }
 {
+    // Many places are whole, and no division is made for these.
+    if w == 1 {
+        return whole(x);
+    }
     (from_lowest(x, w) / w as u128) as i64 - COORD_MAX
+}
+
+/// A coordinate over the denominator 1.
+fn whole(x: i128) -> i64
+    requires { InRange x }
+    ensures { result ≡ x }
+{
+    x as i64
 }
 
 /// How far a coordinate lies above the lowest one, over the same denominator.

@@ -1,8 +1,10 @@
 //! Rows of a pass: the pieces of the boundary, made where they end, and what the members carry up to there.
 ghost use Rattle.std.specs.Prelude.{◌≡◌, ◌++◌, map, OnOk};
 ghost use Rattle.crossing_sweep.specs.Rows.{mask_over as highest_mask, row_to as row_of_member, rows_of, AreBegun, AreSorted, HasValue, IsBegun};
+ghost use Rattle.crossing_sweep.specs.Values.{AreValues};
 
 use crate::member::Member;
+use crate::values::value_over;
 use arrange::tile_input::TileInput;
 use plane_base::point::Seg;
 use std::alloc::AllocError;
@@ -49,14 +51,22 @@ pub(crate) fn mask_over(members: &[Member]) -> u32
 }
 
 /// Begins the pieces of a bundle at a place: each stands on what holds over the one below it.
-pub(crate) fn label(input: &TileInput, stay: &mut [Member], under: u32, begin: usize, within: bool)
+pub(crate) fn label(
+    input: &TileInput,
+    values: &[bool],
+    stay: &mut [Member],
+    under: u32,
+    begin: usize,
+    within: bool,
+)
+    requires { AreValues input.now.steps values.now }
     ensures units { map (λ m. m.unit) stay.new ≡ map (λ m. m.unit) stay.old }
     ensures begun { AreBegun input.now.steps under begin within stay.new }
 {
     let mut mask = under;
-    let mut value = input.steps().value(under);
+    let mut value = value_over(input, values, under);
     for member in stay.iter_mut() {
-        value = begin_over(input, member, mask, value, begin, within);
+        value = begin_over(input, values, member, mask, value, begin, within);
         mask = member.over;
     }
 }
@@ -65,19 +75,21 @@ pub(crate) fn label(input: &TileInput, stay: &mut [Member], under: u32, begin: u
 /// says the value over the member.
 fn begin_over(
     input: &TileInput,
+    values: &[bool],
     member: &mut Member,
     mask: u32,
     value: bool,
     begin: usize,
     within: bool,
 ) -> bool
-    requires { HasValue input.now.steps mask value }
+    requires values { AreValues input.now.steps values.now }
+    requires known { HasValue input.now.steps mask value }
     ensures unit { member.new.unit ≡ member.old.unit }
     ensures begun { IsBegun input.now.steps mask begin within member.new }
     ensures value { HasValue input.now.steps member.new.over result }
 {
     let over = mask ^ member.unit.mask;
-    let next = input.steps().value(over);
+    let next = value_over(input, values, over);
     member.begin = begin;
     member.over = over;
     // Eager, so that one equation says all: both values are known by then.

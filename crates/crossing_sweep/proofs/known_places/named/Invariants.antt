@@ -4,4 +4,4 @@ use Rattle.crossing_sweep.proofs.known_places.named.Given as goal
 
 -- the first places are listed
 abbrev pub invariant-loop-place : goal.invariant-loop-place
-invariant-loop-place l = l.list.items ≡ map named_of (take l.place-index l.places)
+invariant-loop-place l = l.list.items ≡ map (λ z. named_of z.now) (take l.place-index l.places)

@@ -1,5 +1,6 @@
 use Rattle.std.proofs.Common.{◌≡◌, ℕ, List, [], ◌++◌, map, take, subst, sym, ap, ◌∙◌}
 use Rattle.std.specs.Prelude.{flat_map}
+use Rattle.std.specs.Borrow.{Bor}
 use Rattle.std.proofs.lemmas.List.{take_all}
 use Rattle.std.proofs.lemmas.List.Filters.{dedup_is}
 use Rattle.std.proofs.lemmas.Simd.{map-map}
@@ -39,11 +40,17 @@ returns-clause-known c =
     let names : List PointName = flat_map (λ s. own_names s k) (map (λ (m : terms.Marked). m.segment) c.args.input.now.marked) in
     let found : List RankedPlace = c.loop-m.places.items in
     let offered : AreOffered k names (map ranked_entry found) = subst (λ (segs : List Segment). AreOffered k (flat_map (λ s. own_names s k) segs) (map ranked_entry found)) whole_list c.loop-m.invariant in
-    subst (λ (l : List (HPoint × PointName)). AreKnownPlaces c.args.input.now l) (sym (same_entries c.dedup.new.self.items c.in_ok-list.list.items (c.in_ok-list.ensures ∙ ap (map named_of) c.deref.ensures.value)))
-    (known_places c.args.input.now c.marked-m-items.ensures.valid (map ranked_entry c.dedup.new.self.items)
-    (offered_once k names found c.sort_unstable.new.self.items c.dedup.new.self.items c.sort_unstable.ensures.permutation c.sort_unstable.ensures.sorted (dedup_is same_ranked c.sort_unstable.new.self.items c.dedup.new.self.items c.dedup.ensures.filtered) offered))
+    let order : List (Bor RankedPlace) = c.in_ok-order.order.items in
+    let now : Bor RankedPlace → RankedPlace = λ z. z.now in
+    let standing : map ranked_entry found ≡ map (λ z. ranked_entry (now z)) order =
+    ap (map ranked_entry) (sym (c.in_ok-order.ensures ∙ c.deref.ensures.value)) ∙ map-map ranked_entry now order in
+    let stand : AreOffered k names (map (λ z. ranked_entry (now z)) order) = subst (λ (l : List (HPoint × PointName)). AreOffered k names l) standing offered in
+    subst (λ (l : List (HPoint × PointName)). AreKnownPlaces c.args.input.now l) (sym (same_entries now c.dedup.new.self.items c.in_ok-list.list.items (c.in_ok-list.ensures ∙ ap (map (λ z. named_of (now z))) c.deref-2.ensures.value)))
+    (known_places c.args.input.now c.marked-m-items.ensures.valid (map (λ z. ranked_entry (now z)) c.dedup.new.self.items)
+    (offered_once now k names order c.sort_unstable.new.self.items c.dedup.new.self.items c.sort_unstable.ensures.permutation c.sort_unstable.ensures.sorted (dedup_is (λ a b. same_ranked (now a) (now b)) c.sort_unstable.new.self.items c.dedup.new.self.items c.dedup.ensures.filtered) stand))
 
 pub returns-clause-in_order : goal.returns-clause-in_order
 returns-clause-in_order c =
-    named_in_order c.dedup.new.self.items c.in_ok-list.list.items (c.in_ok-list.ensures ∙ ap (map named_of) c.deref.ensures.value)
-    (in_order c.args.input.now.column [] c.loop-m.places.items c.sort_unstable.new.self.items c.dedup.new.self.items c.sort_unstable.ensures.permutation c.sort_unstable.ensures.sorted (dedup_is same_ranked c.sort_unstable.new.self.items c.dedup.new.self.items c.dedup.ensures.filtered))
+    let now : Bor RankedPlace → RankedPlace = λ z. z.now in
+    named_in_order now c.dedup.new.self.items c.in_ok-list.list.items (c.in_ok-list.ensures ∙ ap (map (λ z. named_of (now z))) c.deref-2.ensures.value)
+    (in_order now c.args.input.now.column [] c.in_ok-order.order.items c.sort_unstable.new.self.items c.dedup.new.self.items c.sort_unstable.ensures.permutation c.sort_unstable.ensures.sorted (dedup_is (λ a b. same_ranked (now a) (now b)) c.sort_unstable.new.self.items c.dedup.new.self.items c.dedup.ensures.filtered))

@@ -9,16 +9,17 @@ use Rattle.crossing_sweep.proofs.progress.replace.Goals as goal
 pub returns-in_ok-splice-in_default-2 : goal.returns-in_ok-splice-in_default-2
 returns-in_ok-splice-in_default-2 c =
     let it = c.in_ok-splice-in_default-2.ensures.items in
-    let stay : List Member = c.args.stay.items in
+    let stay : List Member = c.in_ok-come-in_default-2.come.items in
     let fits : into_iter_len it.0 ≡ length stay = search rules in
     let drained = items_from_drains {v = λ (y : Member). y} it.1 (it.3.1.0, it.3.1.1, λ w. (it.3.0, it.3.1.2)) (YieldsList-from_vec stay it.2.0 fits) in
     let same : it.1 ≡ stay = sym (map-id it.1) ∙ drained in
     it.4 ∙ ap (λ xs. take c.args.low c.args.status.now.items ++ (xs ++ drop c.args.high c.args.status.now.items)) same
     ∙ sym (append_assoc (take c.args.low c.args.status.now.items) stay (drop c.args.high c.args.status.now.items))
+    ∙ ap (λ (xs : List Member). take c.args.low c.args.status.now.items ++ xs ++ drop c.args.high c.args.status.now.items) c.in_ok-come-in_default-2.ensures
 
 pub returns-in-1-eq0 : goal.returns-in-1-eq0
 returns-in-1-eq0 c =
-    let stay : List Member = c.args.stay.items in
+    let stay : List Member = c.args.stay.now in
     let status : List Member = c.args.status.now.items in
     let none : stay ≡ [] = nil_from_length stay (search rules) in
     let next : c.args.low + 1 ≡ c.args.high = omega arith in

@@ -1,4 +1,4 @@
-use Rattle.std.proofs.Common.{rules, ◌≡◌, ℕ, ◌+◌, ◌-◌, ◌≤◌, Bool, List, ◌++◌, map, length, take, drop, subst, ap, ◌∙◌}
+use Rattle.std.proofs.Common.{rules, ◌≡◌, ℕ, ◌+◌, ◌-◌, ◌≤◌, Bool, List, ◌++◌, map, length, take, drop, subst, ap, refl, ◌∙◌, arith}
 use Rattle.std.proofs.Math.Seq.{take-append_seam}
 use Rattle.std.proofs.lemmas.List.{drop-drop, take_rest}
 use Rattle.std.specs.Prelude.{filter}
@@ -6,7 +6,7 @@ use Rattle.std.specs.List.{slice_range}
 use Rattle.std.specs.List.Sorted.{IsPermutation}
 use Rattle.overlay_terms.specs.Plane.{Point}
 use Rattle.overlay_terms.specs.Column.{is_in_column}
-use Rattle.exact_point.specs.Place.{place}
+use Rattle.exact_point.specs.Place.{place, same_hpoint}
 use Rattle.crossing_sweep.specs.Status.{SidesFallAlong}
 use Rattle.crossing_sweep.specs.Step.{IsSplitAt}
 use Rattle.crossing_sweep.specs.Member.{units_of, segs_of}
@@ -18,13 +18,31 @@ use Rattle.crossing_sweep.specs.declared.row.Row.{Row}
 use Rattle.crossing_sweep.specs.declared.start.Start.{Start}
 use Rattle.crossing_sweep.proofs.TurnedLemmas.{unit_after}
 use Rattle.crossing_sweep.proofs.TakenLemmas.{stepped}
+use Rattle.crossing_sweep.proofs.Leaving.{still_few, closed_at}
 use Rattle.crossing_sweep.proofs.progress.Progress.step.Goals as goal
 
-pub returns-clause-stepped : goal.returns-clause-stepped
-returns-clause-stepped c =
+pub overflow_add-self : goal.overflow_add-self
+overflow_add-self c =
     let self = c.args.self.now in
-    let items : List Start = c.deref.result.now in
-    let value : items ≡ self.starts.items = c.deref.ensures.value in
+    let items : List Start = c.deref-3.result.now in
+    let value : items ≡ self.starts.items = c.deref-3.ensures.value in
+    let behind : take (length items - self.entered) (drop self.entered items) ≡ drop self.entered self.starts.items = take_rest items self.entered ∙ ap (λ (l : List Start). drop self.entered l) value in
+    let few = still_few (λ s. same_hpoint s.at c.args.at.now) self.starts.items items (take (length items - self.entered) (drop self.entered items)) self.entered c.count_entering-entered.result behind c.count_entering-entered.ensures c.requires in
+    omega (arith, few)
+
+pub returns-clause-few : goal.returns-clause-few
+returns-clause-few c =
+    let self = c.args.self.now in
+    let items : List Start = c.deref-3.result.now in
+    let value : items ≡ self.starts.items = c.deref-3.ensures.value in
+    let behind : take (length items - self.entered) (drop self.entered items) ≡ drop self.entered self.starts.items = take_rest items self.entered ∙ ap (λ (l : List Start). drop self.entered l) value in
+    still_few (λ s. same_hpoint s.at c.args.at.now) self.starts.items items (take (length items - self.entered) (drop self.entered items)) self.entered c.count_entering-entered.result behind c.count_entering-entered.ensures c.requires
+
+pub returns-clause-stepped : goal.returns-clause-stepped
+returns-clause-stepped c = λ inside.
+    let self = c.args.self.now in
+    let items : List Start = c.deref-3.result.now in
+    let value : items ≡ self.starts.items = c.deref-3.ensures.value in
     let behind : take (length items - self.entered) (drop self.entered items) ≡ drop self.entered self.starts.items = take_rest items self.entered ∙ ap (λ (l : List Start). drop self.entered l) value in
     let entered : ℕ = c.count_entering-entered.result in
     let onward : drop entered (drop self.entered self.starts.items) ≡ drop (self.entered + entered) self.starts.items = drop-drop entered self.entered self.starts.items in
@@ -32,7 +50,7 @@ returns-clause-stepped c =
     let k : ℕ = c.args.input.now.column in
     let ms : List Member = self.status.items in
     let after : List Member = c.replace.new.status.items in
-    let turned : List Member = c.in_ok-stay.stay.items in
+    let turned : List Member = c.turned.new.stay.items in
     let stay : List Member = c.label.new.stay in
     let coming : List Start = take (length items - self.entered) (drop self.entered items) in
     let low : ℕ = c.bundle_at-low.result.0 in
@@ -44,7 +62,7 @@ returns-clause-stepped c =
     let Begun : ℕ → Bool → Type 0 = λ mask within. AreBegun c.args.input.now.steps mask c.args.begin within stay in
     let Closed : List Member → Type 0 = λ xs. c.close.new.rows.items ≡ rows ++ rows_of c.args.begin (slice_range xs low high) in
     let long : len ≡ length stay = search rules in
-    let few = subst (λ (xs : List Member). high ≤ length xs) c.deref-2.ensures.value c.bundle_at-low.ensures.few in
+    let few = subst (λ (xs : List Member). high ≤ length xs) c.deref.ensures.value c.bundle_at-low.ensures.few in
     let labelled : units_of stay ≡ units_of turned = search rules in
     let under : c.mask_over-under.result ≡ mask_over 0 (take low ms) = search rules in
     let within : c.is_in-within.result ≡ is_in_column k r = c.is_in-within.ensures ∙ ap (λ j. is_in_column j r) c.column.ensures.value in
@@ -52,12 +70,23 @@ returns-clause-stepped c =
     let tested : AreSeamsTested k r (segs_of after) (seams_at (is_in_column k r) low (low + len)) self.search c.test_new.new.self =
     subst (λ b. AreSeamsTested k r (segs_of after) (seams_at b low (low + len)) self.search c.test_new.new.self) within
     (subst (λ j. AreSeamsTested j r (segs_of after) (seams_at c.is_in-within.result low (low + len)) self.search c.test_new.new.self) c.column-2.ensures.value
-    (subst (λ (xs : List Member). AreSeamsTested c.column-2.result r (segs_of xs) (seams_at c.is_in-within.result low (low + len)) self.search c.test_new.new.self) c.deref-6.ensures.value c.in_ok-test_new.ensures)) in
-    let size : c.in_ok-stay.stay.len ≡ length stay = search rules in
-    let whole : take c.in_ok-stay.stay.len (stay ++ drop (length stay) turned) ≡ stay = ap (λ j. take j (stay ++ drop (length stay) turned)) size ∙ take-append_seam stay (drop (length stay) turned) in
-    let put = c.in_ok-replace.ensures ∙ ap (λ (xs : List Member). take low ms ++ xs ++ drop high ms) whole in
+    (subst (λ (xs : List Member). AreSeamsTested c.column-2.result r (segs_of xs) (seams_at c.is_in-within.result low (low + len)) self.search c.test_new.new.self) c.deref-7.ensures.value c.in_ok-test_new.ensures)) in
+    let size : c.turned.new.stay.len ≡ length stay = search rules in
+    let whole : take c.turned.new.stay.len (stay ++ drop (length stay) turned) ≡ stay = ap (λ j. take j (stay ++ drop (length stay) turned)) size ∙ take-append_seam stay (drop (length stay) turned) in
+    let put = c.in_ok-replace.ensures ∙ ap (λ (xs : List Member). take low ms ++ xs ++ drop high ms) (c.deref-6.ensures.value ∙ whole) in
     let done = stepped c.args.input.now c.args.at.now c.args.begin ms after turned stay low high len entered coming self.search c.test_new.new.self rows c.close.new.rows.items c.bundle_at-low.ensures.in_order few
-    (subst Splits c.deref-2.ensures.value c.bundle_at-low.ensures.split) c.count_entering-entered.ensures (subst Moved c.deref-4.ensures.value c.in_ok-stay.ensures.moved) c.in_ok-stay.ensures.turned labelled begun
-    (subst Closed c.deref-3.ensures.value c.in_ok-close.ensures) put long tested in
+    (subst Splits c.deref.ensures.value c.bundle_at-low.ensures.split) c.count_entering-entered.ensures (subst Moved c.deref-4.ensures.value c.in_ok-turned.ensures.moved) c.in_ok-turned.ensures.turned labelled begun
+    (subst Closed c.deref-2.ensures.value c.in_ok-close.ensures) put long tested in
     let Stepped : List Start → List Start → Type 0 = λ l m. IsStepped c.args.input.now c.args.at.now c.args.begin ms after l m self.search c.test_new.new.self rows c.close.new.rows.items in
     subst (Stepped (drop self.entered self.starts.items)) onward (subst (λ (l : List Start). Stepped l (drop entered l)) behind done)
+
+pub returns-then-not-within-clause-closed : goal.returns-then-not-within-clause-closed
+returns-then-not-within-clause-closed c = λ out.
+    let ms : List Member = c.args.self.now.status.items in
+    let low : ℕ = c.bundle_at-low.result.0 in
+    let high : ℕ = c.bundle_at-low.result.1 in
+    let rows : List Row = c.args.self.now.rows.items in
+    let Splits : List Member → Type 0 = λ xs. SidesFallAlong (place c.args.at.now) (segs_of xs) → IsSplitAt (place c.args.at.now) (segs_of (take low xs)) (segs_of (slice_range xs low high)) (segs_of (drop high xs)) in
+    let Closed : List Member → Type 0 = λ xs. c.close.new.rows.items ≡ rows ++ rows_of c.args.begin (slice_range xs low high) in
+    closed_at c.args.at.now c.args.begin ms ms low high rows c.close.new.rows.items c.bundle_at-low.ensures.in_order (subst Splits c.deref.ensures.value c.bundle_at-low.ensures.split)
+    (subst Closed c.deref-2.ensures.value c.in_ok-close.ensures) refl

@@ -1,0 +1,16 @@
+use Rattle.std.proofs.Common.{◌≡◌, ◌≤◌, length, ◌∙◌, rules, arith}
+use Rattle.crossing_sweep.specs.Rows.{count_settled}
+use Rattle.crossing_sweep.specs.declared.progress.Progress.{Progress}
+use Rattle.crossing_sweep.proofs.pass.Pass.run.Goals as goal
+
+pub loop-alloc-preserved : goal.loop-alloc-preserved
+loop-alloc-preserved c =
+    let before : Progress = c.loop-alloc.progress in
+    let after : Progress = c.go_on.new.progress in
+    let way : (¬ (length before.search.ahead ≡ 0)) × (length before.rows.items ≤ c.args.cap) = search rules in
+    let settled : count_settled (length after.names.items) after.rows.items ≡ length before.rows.items = c.in_ok-go_on.ensures.settled way.0 in
+    record {
+      passing = c.in_ok-go_on.ensures.passing;
+      listed = c.in_ok-go_on.ensures.listed ∙ c.loop-alloc.invariant.listed;
+      settled = λ _. omega (arith, settled, way.1);
+    }
