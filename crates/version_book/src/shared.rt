@@ -23,7 +23,7 @@ use crate::locked_book::telling::{
 };
 use crate::reporter::Reporter;
 use crate::standing::Standing;
-use crate::turns::{Ended, Turns};
+use crate::turns::{TurnKind, Turns};
 use book_history::fault::{BookFault, ToldFault};
 use book_history::seen_log::{Head, Naming, SeenLog};
 use book_lock::locked_log::LockedLog;
@@ -32,7 +32,7 @@ use layer_book::batch::Batch;
 use layer_book::batch_fault::BatchFault;
 use layer_book::command::Command;
 use layer_expr::name::Name;
-use std::alloc::{AllocError, Global};
+use std::alloc::Global;
 use std::sync::{Arc, Wait};
 use tile_build::built::Built;
 use version_core::version::Version;
@@ -102,7 +102,7 @@ impl<J: Naming, R: Wait + Drop> Shared<J, R> {
     {
         // It has seen some version: the clauses rest on that.
         let _ = me.number();
-        let mut turn = self.turns.next(rt);
+        let mut turn = self.turns.next(rt, TurnKind::Commanded);
         turn.book.submit(alloc, me, change)
     }
 
@@ -128,7 +128,7 @@ impl<J: Naming, R: Wait + Drop> Shared<J, R> {
     {
         // It has seen some version: the clauses rest on that.
         let _ = me.number();
-        let mut turn = self.turns.next(rt);
+        let mut turn = self.turns.next(rt, TurnKind::Commanded);
         turn.book.submit_all(alloc, me, batch)
     }
 
@@ -138,8 +138,7 @@ impl<J: Naming, R: Wait + Drop> Shared<J, R> {
         ensures job { IfOk result (λ o. IfSome o (λ job. IsJob job)) }
         ensures err { IfErr result (λ fault. fault ≡ no_memory) }
     {
-        let mut turn = self.turns.behind(rt, &Awaited::Tile);
-        turn.ended = Ended::Nothing;
+        let mut turn = self.turns.behind(rt, &Awaited::Tile, TurnKind::HandedOut);
         turn.book.take(alloc)
     }
 
@@ -159,13 +158,13 @@ impl<J: Naming, R: Wait + Drop> Shared<J, R> {
         ensures err { IfErr result (λ e. (e.0 ≡ job) × (e.1 ≡ built)) }
         ensures refused { IfErr result (λ e. (e.2 ≡ no_memory) ⊎ (e.2 ≡ BookFault.Gone)) }
     {
-        let mut turn = self.turns.next(rt);
-        let name: Result<Name, AllocError> = job.name().clone();
+        let mut turn = self.turns.next(rt, TurnKind::Unsaid);
+        let layer = job.name().clone().ok();
         let kept = match turn.book.finish(alloc, job, built) {
             Ok(kept) => kept,
             Err(back) => return Err(back),
         };
-        turn.ended = Ended::by_tile(&turn.book, &name, kept);
+        turn.kind = TurnKind::Finished { layer, kept };
         let log = turn.book.end();
         Ok((kept, log))
     }
@@ -176,8 +175,7 @@ impl<J: Naming, R: Wait + Drop> Shared<J, R> {
     pub fn give_back<W: Wait>(&self, rt: &W, job: Job)
         requires { job.book ≡ J.book }
     {
-        let mut turn = self.turns.next(rt);
-        turn.ended = Ended::Sessions;
+        let mut turn = self.turns.next(rt, TurnKind::GivenBack);
         turn.book.give_back(job);
     }
 
@@ -199,9 +197,13 @@ impl<J: Naming, R: Wait + Drop> Shared<J, R> {
     {
         // It has seen some version: the clauses rest on that.
         let _ = me.number();
-        let mut turn = self.turns.behind(rt, &Awaited::Built(name));
+        let mut turn = self
+            .turns
+            .behind(rt, &Awaited::Built(name), TurnKind::Unsaid);
         let told = tell_built(&mut turn.book, me, name);
-        turn.ended = Ended::by_answer(&told);
+        turn.kind = TurnKind::Told {
+            fault: told.is_err(),
+        };
         told
     }
 
@@ -224,12 +226,12 @@ impl<J: Naming, R: Wait + Drop> Shared<J, R> {
         let _ = me.number();
         let number = me.newest();
         if !self.store {
-            let mut turn = self.turns.next(rt);
-            turn.ended = Ended::Nothing;
+            let turn = self.turns.next(rt, TurnKind::Looked);
             return tell_no_store(&turn.book, me);
         }
-        let mut turn = self.turns.behind(rt, &Awaited::Durable(number));
-        turn.ended = Ended::Nothing;
+        let turn = self
+            .turns
+            .behind(rt, &Awaited::Durable(number), TurnKind::Looked);
         tell_durable(&turn.book, me, number)
     }
 
@@ -252,8 +254,9 @@ impl<J: Naming, R: Wait + Drop> Shared<J, R> {
         ensures same { me.new.book ≡ me.old.book }
     {
         let given = me.given();
-        let mut turn = self.turns.behind(rt, &Awaited::News(given));
-        turn.ended = Ended::Nothing;
+        let turn = self
+            .turns
+            .behind(rt, &Awaited::News(given), TurnKind::Looked);
         tell_news(&turn.book, me)
     }
 
@@ -276,8 +279,7 @@ impl<J: Naming, R: Wait + Drop> Shared<J, R> {
     {
         // What the reporter has seen is a log with a first entry: the clauses rest on that.
         let _ = me.given();
-        let mut turn = self.turns.next(rt);
-        turn.ended = Ended::Sessions;
+        let mut turn = self.turns.next(rt, TurnKind::Reported);
         report(&mut turn.book, alloc, me, number)
     }
 
@@ -288,15 +290,14 @@ impl<J: Naming, R: Wait + Drop> Shared<J, R> {
     {
         // What the reporter has seen is a log with a first entry: the clauses rest on that.
         let _ = me.given();
-        let mut turn = self.turns.next(rt);
-        turn.ended = Ended::Sessions;
+        let mut turn = self.turns.next(rt, TurnKind::StoreFailed);
         store_failed(&mut turn.book, fault);
     }
 
     /// From now on commands are refused, no job is handed out, and no call waits for long.
     // It has no clause: it gives nothing, and that the book closes is said under the lock, by `begin_close` there.
     pub fn begin_close<W: Wait>(&self, rt: &W) {
-        let mut turn = self.turns.next(rt);
+        let mut turn = self.turns.next(rt, TurnKind::Closed);
         begin_close(&mut turn.book);
     }
 

@@ -5,10 +5,8 @@ ghost use Rattle.version_book.specs.Waits.{Waits};
 
 use crate::locked_book::LockedBook;
 use crate::locked_book::telling::{Awaited, waits};
-use book_history::fault::BookFault;
 use book_history::seen_log::Naming;
 use layer_expr::name::Name;
-use std::alloc::AllocError;
 use std::sync::{Condvar, Mutex, MutexGuard, Wait};
 
 /// The book under its lock, and those who wait for what lies there. It is reached by turns alone.
@@ -25,43 +23,68 @@ struct Waiting {
     reporter: Condvar,
 }
 
+/// What a turn did.
+#[derive(Drop)]
+pub(crate) enum TurnKind {
+    /// It did not say.
+    Unsaid,
+    /// A command or a batch was accepted or refused.
+    Commanded,
+    /// A tile was handed out, or none could be.
+    HandedOut,
+    /// A tile of a layer was finished, and kept or not. No layer is named where memory for its name was refused.
+    Finished { layer: Option<Name>, kept: bool },
+    /// A tile was given back, and is marked.
+    GivenBack,
+    /// A session was told how a wait for a layer's tiles ends, by a fault or by their number.
+    Told { fault: bool },
+    /// A session or the reporter looked, and changed nothing.
+    Looked,
+    /// A number was reported durable.
+    Reported,
+    /// The store told a fault.
+    StoreFailed,
+    /// The book began to close.
+    Closed,
+}
+
 /// Whose waits a turn may have ended.
 #[derive(Clone, Copy)]
-pub(crate) enum Ended {
-    /// Each wait, for all that the turn knows.
+enum Ended {
+    /// Each wait, for all that is known.
     All,
-    /// Those of sessions: a tile was marked, a number is durable, or the store told a fault.
+    /// Those of sessions.
     Sessions,
-    /// The reporter's alone: a tile was kept, and others of its layer are pending.
+    /// The reporter's alone.
     Reporter,
-    /// None: nothing changed, or a tile was handed out.
+    /// None.
     Nothing,
 }
 
-impl Ended {
-    /// By a tile that was finished. One that was not kept may be handed out again.
-    pub fn by_tile<J: Naming, R: Wait + Drop>(
-        locked: &LockedBook<J, R>,
-        name: &Result<Name, AllocError>,
-        kept: bool,
-    ) -> Ended {
-        match name {
-            Ok(name) => {
-                if kept && waits(locked, &Awaited::Built(name)) {
+impl TurnKind {
+    /// The rule of waking: whose waits a turn of this kind may have ended, where it leaves the book so.
+    fn ended<J: Naming, R: Wait + Drop>(&self, left: &LockedBook<J, R>) -> Ended {
+        match self {
+            TurnKind::Unsaid | TurnKind::Commanded | TurnKind::Closed => Ended::All,
+            // A tile that was not kept may be handed out again. One that was kept is news, and no more while others of
+            // its layer are pending.
+            TurnKind::Finished {
+                layer: Some(name),
+                kept: true,
+            } => {
+                if waits(left, &Awaited::Built(name)) {
                     Ended::Reporter
                 } else {
                     Ended::All
                 }
             }
-            Err(_) => Ended::All,
-        }
-    }
-
-    /// By the answer to a wait for a layer's tiles. Where it tells a fault, the layer's marks may have gone.
-    pub fn by_answer(answer: &Result<u64, BookFault>) -> Ended {
-        match answer {
-            Ok(_) => Ended::Nothing,
-            Err(_) => Ended::All,
+            TurnKind::Finished { .. } => Ended::All,
+            // The layer's marks may have gone with a fault.
+            TurnKind::Told { fault: true } => Ended::All,
+            TurnKind::GivenBack | TurnKind::Reported | TurnKind::StoreFailed => Ended::Sessions,
+            TurnKind::HandedOut | TurnKind::Looked | TurnKind::Told { fault: false } => {
+                Ended::Nothing
+            }
         }
     }
 }
@@ -69,8 +92,7 @@ impl Ended {
 /// A turn at the book. Once it is over, those whose wait it may have ended look again whether it is.
 pub(crate) struct Turn<'a, J: Naming, R: Wait + Drop> {
     pub book: MutexGuard<'a, LockedBook<J, R>>,
-    /// All, unless the turn says less.
-    pub ended: Ended,
+    pub kind: TurnKind,
     waiting: &'a Waiting,
 }
 
@@ -88,16 +110,16 @@ impl<J: Naming, R: Wait + Drop> Turns<J, R> {
     }
 
     /// The next turn.
-    pub fn next<W: Wait>(&self, rt: &W) -> Turn<'_, J, R> {
+    pub fn next<W: Wait>(&self, rt: &W, kind: TurnKind) -> Turn<'_, J, R> {
         Turn {
             book: self.book.lock(rt),
-            ended: Ended::All,
+            kind,
             waiting: &self.waiting,
         }
     }
 
     /// A turn behind a wait.
-    pub fn behind<W: Wait>(&self, rt: &W, awaited: &Awaited<'_>) -> Turn<'_, J, R>
+    pub fn behind<W: Wait>(&self, rt: &W, awaited: &Awaited<'_>, kind: TurnKind) -> Turn<'_, J, R>
         ensures { ¬ (Waits (newest_in (mutex_guard_value result.book).log) (mutex_guard_value result.book).standing awaited.now) }
     {
         let book = self
@@ -106,7 +128,7 @@ impl<J: Naming, R: Wait + Drop> Turns<J, R> {
             .wait_while(rt, self.book.lock(rt), |book| waits(book, awaited));
         Turn {
             book,
-            ended: Ended::All,
+            kind,
             waiting: &self.waiting,
         }
     }
@@ -152,9 +174,10 @@ impl<J: Naming, R: Wait + Drop> Drop for Turn<'_, J, R> {
     fn drop(self) {
         let Self {
             book,
-            ended,
+            kind,
             waiting,
         } = self;
+        let ended = kind.ended(&book);
         drop(book);
         waiting.wake(ended);
     }
