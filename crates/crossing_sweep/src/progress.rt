@@ -35,8 +35,8 @@ pub(crate) struct Progress {
 
 impl Progress {
     /// Passes a node: the pieces of the members that hold it are closed. In the column these give way to
-    /// those that go on or enter there, which a list is lent for, and the new neighbours are tested; on its right border, where no
-    /// piece of it begins, nothing else is done.
+    /// those that go on or enter there, which a list is lent for, and the new neighbours are tested; on its
+    /// right border, where no piece of it begins, nothing else is done.
     pub(crate) fn step(
         &mut self,
         alloc: Global,
