@@ -1,4 +1,4 @@
-use Rattle.std.proofs.Common.{◌≡◌, ◌≤◌, length, ◌∙◌, rules, arith}
+use Rattle.std.proofs.Common.{◌≡◌, ◌+◌, ◌≤◌, length, ◌∙◌, rules, arith}
 use Rattle.crossing_sweep.specs.Rows.{count_settled}
 use Rattle.crossing_sweep.specs.declared.progress.Progress.{Progress}
 use Rattle.crossing_sweep.proofs.pass.Pass.run.Goals as goal
@@ -14,3 +14,11 @@ loop-alloc-preserved c =
       listed = c.in_ok-go_on.ensures.listed ∙ c.loop-alloc.invariant.listed;
       settled = λ _. omega (arith, settled, way.1);
     }
+
+pub loop-alloc-smaller : goal.loop-alloc-smaller
+loop-alloc-smaller c =
+    let before : Progress = c.loop-alloc.progress in
+    let after : Progress = c.go_on.new.progress in
+    let way : (¬ (length before.search.ahead ≡ 0)) × (length before.rows.items ≤ c.args.cap) = search rules in
+    let more : length after.names.items ≡ length before.names.items + 1 = c.in_ok-go_on.ensures.more way.0 in
+    omega (arith, more, c.in_ok-go_on.ensures.few)

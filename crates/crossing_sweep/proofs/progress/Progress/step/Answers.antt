@@ -27,7 +27,7 @@ overflow_add-self c =
     let items : List Start = c.deref-3.result.now in
     let value : items ≡ self.starts.items = c.deref-3.ensures.value in
     let behind : take (length items - self.entered) (drop self.entered items) ≡ drop self.entered self.starts.items = take_rest items self.entered ∙ ap (λ (l : List Start). drop self.entered l) value in
-    let few = still_few (λ s. same_hpoint s.at c.args.at.now) self.starts.items items (take (length items - self.entered) (drop self.entered items)) self.entered c.count_entering-entered.result behind c.count_entering-entered.ensures c.requires in
+    let few = still_few (λ s. same_hpoint s.at c.args.at.now) self.starts.items items (take (length items - self.entered) (drop self.entered items)) self.entered c.count_entering-entered.result behind c.count_entering-entered.ensures c.requires.few in
     omega (arith, few)
 
 pub returns-clause-few : goal.returns-clause-few
@@ -36,7 +36,7 @@ returns-clause-few c =
     let items : List Start = c.deref-3.result.now in
     let value : items ≡ self.starts.items = c.deref-3.ensures.value in
     let behind : take (length items - self.entered) (drop self.entered items) ≡ drop self.entered self.starts.items = take_rest items self.entered ∙ ap (λ (l : List Start). drop self.entered l) value in
-    still_few (λ s. same_hpoint s.at c.args.at.now) self.starts.items items (take (length items - self.entered) (drop self.entered items)) self.entered c.count_entering-entered.result behind c.count_entering-entered.ensures c.requires
+    still_few (λ s. same_hpoint s.at c.args.at.now) self.starts.items items (take (length items - self.entered) (drop self.entered items)) self.entered c.count_entering-entered.result behind c.count_entering-entered.ensures c.requires.few
 
 pub returns-clause-stepped : goal.returns-clause-stepped
 returns-clause-stepped c = λ inside.
