@@ -187,27 +187,23 @@ fn is_same(name: &PointName, other: &PointName) -> bool
     }
 }
 
-/// A number for a name. Two names seldom have the same one.
+/// A number for a name. Two names seldom have the same one: any odd numbers would do.
 pub(crate) fn mark_of(name: &PointName) -> u32 {
     let mixed = match name {
         PointName::Vertex(_) => 0,
-        PointName::Cross(a, b) => mixed(a).wrapping_mul(31).wrapping_add(mixed(b)),
-        PointName::Border(seg, _) => mixed(seg),
+        PointName::Cross(a, b) => mixed(a)
+            .wrapping_mul(0x1E3779B97F4A7C15)
+            .wrapping_add(mixed(b).wrapping_mul(0x42B2AE3D27D4EB4F)),
+        PointName::Border(seg, _) => mixed(seg).wrapping_mul(0x1E3779B97F4A7C15),
     };
     (mixed.unsigned_abs() >> 32) as u32
 }
 
-/// The coordinates of a segment as one number: each times a large odd number, so that segments differ in its upper bits
-/// too. Any odd numbers would do.
+/// The coordinates of a segment as one number: three of them side by side, the fourth times a large odd number.
 fn mixed(seg: &Seg) -> i64 {
     let (left, right) = (seg.left(), seg.right());
-    let from = left
-        .x()
-        .wrapping_mul(0x1E3779B97F4A7C15)
-        .wrapping_add(left.y().wrapping_mul(0x42B2AE3D27D4EB4F));
-    let to = right
-        .x()
-        .wrapping_mul(0x165667B19E3779F9)
-        .wrapping_add(right.y().wrapping_mul(0x56E8FEB86659FD93));
-    from.wrapping_add(to)
+    left.x()
+        .wrapping_add(left.y().wrapping_mul(0x200000))
+        .wrapping_add(right.x().wrapping_mul(0x40000000000))
+        .wrapping_add(right.y().wrapping_mul(0x56E8FEB86659FD93))
 }
