@@ -1,7 +1,7 @@
 //! What a book answers: a snapshot, commands of two threads, tiles that are taken, finished and given back, durable
 //! numbers, and how it closes.
 use crate::tests::books::{Call, Row, WaitFor, play};
-use crate::tests::testing::{Change, Corners, SHIFTED, SQUARE};
+use crate::tests::testing::{Change, Corners, LEFT_HALF, SHIFTED, SQUARE};
 use layer_book::batch_fault::BatchFault;
 use layer_book::fault::LayerFault;
 use version_book::fault::{BookFault, ToldFault};
@@ -144,6 +144,40 @@ const UNKNOWN_LAYER: BookFault = BookFault::Version(VersionFault::Layer(LayerFau
 #[test]
 fn the_last_tile_a_command_and_a_batch_each_end_a_wait(rt: HostRuntime) {
     play(&rt, rt.alloc(), false, BUILT, 8);
+}
+
+/// The square and its left half lie in column 8 alone. So a command that puts one in the place of the other makes the tile
+/// of that column pending, and no other.
+const WOKEN: &[&[Row]] = &[
+    OVERLAP,
+    &[BUILDS; 17],
+    &[
+        Row::WaitsBeside(WaitFor::Tile, PUT_HALF, Ok(Some(8))),
+        Row::Calls(PUT_A, Ok(Some(5))),
+        Row::StaleBeside(PUT_HALF, Ok(Some(8))),
+        Row::WaitsBeside(WaitFor::Tile, Call::BeginClose, Ok(None)),
+    ],
+];
+
+const PUT_HALF: Call = Call::Submit(Change::Put("A", LEFT_HALF));
+
+#[test]
+fn a_command_a_tile_that_is_not_kept_and_closing_each_wake_a_worker(rt: HostRuntime) {
+    play(&rt, rt.alloc(), false, WOKEN, 6);
+}
+
+const CLOSED_BESIDE: &[&[Row]] = &[
+    OVERLAP,
+    &[Row::WaitsBeside(
+        WaitFor::Built("I"),
+        Call::BeginClose,
+        Err(BookFault::Closing),
+    )],
+];
+
+#[test]
+fn closing_ends_a_wait_for_tiles(rt: HostRuntime) {
+    play(&rt, rt.alloc(), false, CLOSED_BESIDE, 3);
 }
 
 const DURABLE: &[&[Row]] = &[&[

@@ -5,7 +5,7 @@ ghost use Rattle.version_book.specs.Rules.{head_of};
 
 use crate::tests::rows::check;
 use crate::tests::testing::{Change, batch, command, name_of};
-use crate::tests::threads::{Work, beside, news_beside, submit_beside, wait_beside};
+use crate::tests::threads::{Work, ask_beside, beside, news_beside, submit_beside, wait_beside};
 use exact_point::QueryPoint;
 use layer_book::batch_fault::BatchFault;
 use layer_book::direct_answer::Place;
@@ -43,8 +43,10 @@ pub enum Call {
     BeginClose,
 }
 
-/// What a session waits for.
+/// What a worker or a session waits for.
 pub enum WaitFor {
+    /// A tile, which is built: its column is told.
+    Tile,
     /// The tiles of a layer.
     Built(&'static str),
     /// That the newest version that it has seen is durable.
@@ -66,8 +68,11 @@ pub enum Row {
     GivesBack(bool),
     /// A tile is asked for and built in a thread of its own, beside a wait for a layer's tiles: what the wait answers.
     BuildsBeside(&'static str, Answer),
-    /// The first session waits in a thread of its own, until a call ends that: what the wait answers.
+    /// A worker or the first session waits in a thread of its own, until a call ends that: what the wait answers.
     WaitsBeside(WaitFor, Call, Answer),
+    /// A tile is taken, and a call makes it stale. A worker waits for a tile in a thread of its own then, until the stale
+    /// one is finished, which is not kept: what the wait answers.
+    StaleBeside(Call, Answer),
     /// The reporter waits for news in a thread of its own, until a tile is kept: the number of the version that it is
     /// given.
     NewsBeside(Answer),
@@ -229,11 +234,17 @@ fn play_row<J: Naming + Send + Sync, R: Threads + Wait + Clock + Abort + Sync>(
         }
         Row::WaitsBeside(awaited, asked, want) => {
             let wait = match awaited {
+                WaitFor::Tile => Work::Asks,
                 WaitFor::Built(name) => Work::Waits(name_of(rt, alloc, name)),
                 WaitFor::Durable => Work::WaitsDurable,
             };
             let (done, _) = wait_beside(rt, alloc, shared, reporter, me, other, &wait, asked);
             check(rt, at, &last_of(done), want);
+            None
+        }
+        Row::StaleBeside(asked, want) => {
+            let told = ask_beside_stale(rt, alloc, shared, reporter, me, asked);
+            check(rt, at, &told, want);
             None
         }
         Row::NewsBeside(want) => {
@@ -250,6 +261,26 @@ fn play_row<J: Naming + Send + Sync, R: Threads + Wait + Clock + Abort + Sync>(
             None
         }
     }
+}
+
+/// What a worker's wait for a tile answers that ends by a tile which is not kept. It was taken before, and a call makes
+/// it stale.
+fn ask_beside_stale<J: Naming + Send + Sync, R: Threads + Wait + Clock + Abort + Sync>(
+    rt: &R,
+    alloc: Global,
+    shared: &Shared<J, &R>,
+    reporter: &mut Reporter,
+    me: &mut Session,
+    asked: &Call,
+) -> Answer
+    requires { (reporter.old.book ≡ J.book) × (me.old.book ≡ J.book) }
+    ensures { (reporter.new.book ≡ reporter.old.book) × (me.new.book ≡ me.old.book) }
+{
+    let job = take(rt, alloc, shared).expect(rt, "no tile");
+    answer(rt, alloc, shared, reporter, me, asked).expect(rt, "a refusal");
+    let (column, is_kept) = ask_beside(rt, alloc, shared, job);
+    assert!(rt; !is_kept);
+    Ok(column)
 }
 
 /// The last number of a list.

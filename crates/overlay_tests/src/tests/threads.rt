@@ -1,5 +1,5 @@
 //! What two sessions do in threads of their own, for the tests.
-ghost use Rattle.std.specs.Prelude.{◌≡◌};
+ghost use Rattle.std.specs.Prelude.{◌≡◌, IfSome};
 
 use crate::tests::books::{Answer, Call, answer, finish, news, take};
 use layer_book::command::Command;
@@ -10,6 +10,7 @@ use std::sync::Wait;
 use std::thread::{Threads, join_mut, sleep};
 use std::time::{Clock, Duration};
 use version_book::fault::BookFault;
+use version_book::job::Job;
 use version_book::reporter::Reporter;
 use version_book::seen_log::Naming;
 use version_book::session::Session;
@@ -20,7 +21,9 @@ use version_book::shared::Shared;
 pub enum Work {
     /// Submits the command 1,500 times, and looks at each version.
     Submits(Command),
-    /// Asks for a tile and builds it, which is to be kept.
+    /// Asks for a tile, and builds it where there is one, which is to be kept.
+    Asks,
+    /// The same, where there is to be one.
     Builds,
     /// The same, a tenth of a second late.
     BuildsLate,
@@ -32,7 +35,8 @@ pub enum Work {
     WaitsDurable,
 }
 
-/// Does a work, and tells the numbers of its versions, each above the one before. A tile that is built tells none.
+/// Does a work, and tells the numbers of its versions, each above the one before. What asks for a tile tells its column,
+/// where there is one, and what builds a tile tells nothing.
 fn carry_out<J: Naming, R: Wait + Clock + Abort>(
     rt: &R,
     alloc: Global,
@@ -56,6 +60,11 @@ fn carry_out<J: Naming, R: Wait + Clock + Abort>(
                 list.push(number).expect(rt, "memory");
             }
         }
+        Work::Asks => {
+            if let Some(column) = ask(rt, alloc, shared) {
+                list.push(column).expect(rt, "memory");
+            }
+        }
         Work::Builds => build(rt, alloc, shared),
         Work::BuildsLate => {
             sleep(rt, Duration::from_millis(100));
@@ -74,10 +83,56 @@ fn carry_out<J: Naming, R: Wait + Clock + Abort>(
     Ok(list)
 }
 
+/// Takes a tile and builds it, which is to be kept, and tells its column. None comes where there is none, at closing.
+fn ask<J: Naming, R: Wait + Abort>(rt: &R, alloc: Global, shared: &Shared<J, &R>) -> Option<u64> {
+    let job = take(rt, alloc, shared)?;
+    let column = u64::from(job.input().column().number());
+    assert!(rt; finish(rt, alloc, shared, job));
+    Some(column)
+}
+
 /// Takes a tile and builds it, which is to be kept.
 fn build<J: Naming, R: Wait + Abort>(rt: &R, alloc: Global, shared: &Shared<J, &R>) {
-    let job = take(rt, alloc, shared).expect(rt, "no tile");
-    assert!(rt; finish(rt, alloc, shared, job));
+    ask(rt, alloc, shared).expect(rt, "no tile");
+}
+
+/// The column of a tile that is asked for and built in a thread of its own, while one that was taken is finished a tenth
+/// of a second late; and whether that one was kept.
+// Where there is no memory for a thread, the tile that was taken is finished first.
+pub fn ask_beside<J: Naming + Send + Sync, R: Threads + Wait + Clock + Abort + Sync>(
+    rt: &R,
+    alloc: Global,
+    shared: &Shared<J, &R>,
+    job: Job,
+) -> (Option<u64>, bool)
+    requires { job.book ≡ J.book }
+{
+    // A closure may not hold a job.
+    let mut hand = Some(job);
+    let done = join_mut(
+        rt,
+        &mut || ask(rt, alloc, shared),
+        &mut || finish_late(rt, alloc, shared, &mut hand),
+    );
+    if let Some(job) = hand {
+        shared.give_back(rt, job);
+    }
+    done
+}
+
+/// Builds the tile of a job in hand a tenth of a second late, and says whether it was kept.
+fn finish_late<J: Naming, R: Wait + Clock + Abort>(
+    rt: &R,
+    alloc: Global,
+    shared: &Shared<J, &R>,
+    hand: &mut Option<Job>,
+) -> bool
+    requires { IfSome hand.old (λ job. job.book ≡ J.book) }
+    ensures { IfSome hand.new (λ job. job.book ≡ J.book) }
+{
+    sleep(rt, Duration::from_millis(100));
+    let job = hand.take().expect(rt, "no tile in hand");
+    finish(rt, alloc, shared, job)
 }
 
 /// The number of the version that the reporter is given, who waits for news in a thread of its own while a session does

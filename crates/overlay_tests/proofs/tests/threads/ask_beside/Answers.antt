@@ -1,0 +1,29 @@
+use mathlib.Core.List.{[], ◌∷◌}
+use mir.Syntax.{Lifetime, Sym}
+use base.Fml.{Lft}
+use denote.RattleType.{RattleType}
+use denote.Ref.{ShrRef}
+use denote.Struct.Declared.{shape}
+use denote.Struct.Tuple.{TupleAt, type_at}
+use Rattle.std.proofs.Crossing.{sync}
+use Rattle.std.specs.contracts.alloc.Global as global
+use Rattle.version_book.proofs.SentBook.{shared_sync}
+use Rattle.version_book.specs.contracts.shared.Shared as shared
+use Rattle.version_book.specs.declared.seen_log.Naming as naming
+use denote.Exit.{no}
+use denote.Param.{param}
+use denote.Param.Send.{IsSend, IsSync, arg_send, param_send, recorded_send, shr_send, struct_send}
+use Rattle.overlay_tests.proofs.tests.threads.ask_beside.Goals as goal
+
+module _ (J R : RattleType) (g : naming.Ghosts J.Denot) (j : IsSend J) (s : IsSync R) where
+  -- what the closure captures in which a worker asks for a tile: the runtime, the allocator and the book
+  captures_send : (ν : Sym) (a b c d : Lifetime) (a' b' c' d' : Lft)
+      → IsSend (TupleAt ν (ShrRef a a' R ∷ ShrRef b b' global.the_row ∷ ShrRef c c' (shared.the_row J (ShrRef d d' R) g) ∷ []))
+  captures_send ν a b c d a' b' c' d' =
+      let O = type_at ν (ShrRef a a' R ∷ ShrRef b b' global.the_row ∷ ShrRef c c' (shared.the_row J (ShrRef d d' R) g) ∷ []) in
+      let book = shared_sync J (ShrRef d d' R) g j (shr_send d d' R s) in
+      recorded_send _ _ _ O.to_one (struct_send (shape O) (shr_send a a' R s, (shr_send b b' global.the_row sync, (shr_send c c' _ book, tt))))
+
+pub join_mut-done-requires-send-F : goal.join_mut-done-requires-send-F
+join_mut-done-requires-send-F g c κs within =
+    param_send 1 _ (arg_send _ no _ (captures_send (param 0 g.row.J) (param 1 g.row.R) g.J.Naming c.type_bounds.send-J c.type_bounds.sync-R _ _ _ _ _ _ _ _ _))
