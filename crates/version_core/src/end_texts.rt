@@ -172,7 +172,7 @@ impl EndTexts {
     fn make_room(&mut self) {
         let texts = (self.last as usize).saturating_add(1);
         let _ = self.kept.reserve(texts);
-        let _ = self.spots.resize(texts.saturating_mul(4), NOWHERE);
+        let _ = self.spots.resize(texts.saturating_mul(2), NOWHERE);
     }
 }
 
