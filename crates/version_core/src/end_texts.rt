@@ -187,7 +187,7 @@ fn is_same(name: &PointName, other: &PointName) -> bool
     }
 }
 
-/// A number for a name. Two names seldom have the same one: any odd numbers would do.
+/// A number of at most 2^31 for a name. Two names seldom have the same one; for the factors any odd numbers would do.
 pub(crate) fn mark_of(name: &PointName) -> u32 {
     let mixed = match name {
         PointName::Vertex(_) => 0,
