@@ -12,5 +12,4 @@ pub mod image;
 pub mod laws;
 mod piece_writing;
 pub mod root_body;
-pub mod tile_form;
 pub mod tile_writing;
