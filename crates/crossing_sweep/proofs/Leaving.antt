@@ -1,4 +1,4 @@
--- On the right border of a column the members that hold a node are dropped: those that a pass has are those of a full status that begin in the column, which goes on as at any node.
+-- On the right border of a column a pass only closes pieces: its members are those of a full status that begin in the column, which goes on as at any node, but for members that pass under all places ahead.
 use Rattle.std.proofs.Common.{◌≡◌, ℕ, ℤ, pos, ◌+◌, ◌-ℤ◌, ◌+ℤ◌, ◌*ℤ◌, ◌<◌, ◌≤◌, ◌<ℤ◌, ◌≤ℤ◌, int_lt, int_le, append_assoc, inl, inr, ◌⊎◌, Bool, true, false, cond, List, [], ◌∷◌, ◌++◌, map, take, drop, length, get_or, refl, ap, sym, subst, ◌∙◌, arith}
 use Rattle.std.specs.Prelude.{IsTrue, All, Contains, filter, not}
 use Rattle.std.specs.Int.RustNames.{bit_xor}
@@ -795,7 +795,7 @@ still_listed {input} {old} {new} at begin rows more_rows inner outer = by (told 
     by (yes e) = (inner e).tested.listed
     by (no e) = ap (λ (s : Search). s.listed) (outer e)
 
--- ---- a range of members is dropped
+-- ---- the pieces of a range of members are closed
 pub closed_at : (at : HPoint) (begin : ℕ) (ms after : List Member) (low high : ℕ) (rows more_rows : List Row) → low ≤ high
     → (SidesFallAlong (place at) (segs_of ms) → IsSplitAt (place at) (segs_of (take low ms)) (segs_of (slice_range ms low high)) (segs_of (drop high ms)))
     → more_rows ≡ rows ++ rows_of begin (slice_range ms low high) → after ≡ ms → IsClosedAt at begin ms after rows more_rows

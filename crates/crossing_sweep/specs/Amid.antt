@@ -42,6 +42,7 @@ pub record IsAmid (input : Input) (search : Search) (status : List Member) (comi
   pub full : List Member
   pub all_coming : List Start
   pub way : IsUnderWay input search.listed full all_coming search.ahead search.tests.items rows names
+  -- members that the pass alone has, those that the full status alone has, and those of both
   pub gone : List Member
   pub some : List Member
   pub kept : List Member

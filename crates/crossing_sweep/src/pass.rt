@@ -49,7 +49,7 @@ impl<'a> Model for Pass<'a> {
 
     ghost use Rattle.crossing_sweep.specs.Amid.{IsPassing};
 
-    ghost view = { λ p. record { input = p.input.now; listed = p.progress.search.listed; ahead = length p.progress.search.ahead; rows = length p.progress.rows.items; nodes = length p.progress.names.items; settled = count_settled (length p.progress.names.items) p.progress.rows.items } };
+    ghost view = { λ p. record { input = p.input.now; listed = p.progress.search.listed; ahead = length p.progress.search.ahead; rows = length p.progress.rows.items; settled = count_settled (length p.progress.names.items) p.progress.rows.items } };
 
     ghost invariant = { λ p. IsPassing p.input.now p.progress };
 }

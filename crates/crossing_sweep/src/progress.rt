@@ -69,11 +69,11 @@ impl Progress {
         let entered = count_entering(coming, at);
         turned(stay, &self.status[low..high], &coming[..entered], at, begin)?;
         let under = mask_over(&self.status[..low]);
-        label(input, values, stay, under, begin, within);
+        label(input, values, stay, under, begin);
         let top = low + stay.len();
         replace(alloc, &mut self.status, low, high, stay)?;
         self.search
-            .test_new(within, input.column(), at, &self.status, low, top)?;
+            .test_new(input.column(), at, &self.status, low, top)?;
         self.entered += entered;
         self.hint = top;
         Ok(())

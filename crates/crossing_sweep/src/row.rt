@@ -1,5 +1,5 @@
 //! Rows of a pass: the pieces of the boundary, made where they end, and what the members carry up to there.
-ghost use Rattle.std.specs.Prelude.{◌≡◌, ◌++◌, map, OnOk};
+ghost use Rattle.std.specs.Prelude.{◌≡◌, ◌++◌, true, map, OnOk};
 ghost use Rattle.crossing_sweep.specs.Rows.{mask_over as highest_mask, row_to as row_of_member, rows_of, AreBegun, AreSorted, HasValue, IsBegun};
 ghost use Rattle.crossing_sweep.specs.Values.{AreValues};
 
@@ -57,16 +57,15 @@ pub(crate) fn label(
     stay: &mut [Member],
     under: u32,
     begin: usize,
-    within: bool,
 )
     requires { AreValues input.now.steps values.now }
     ensures units { map (λ m. m.unit) stay.new ≡ map (λ m. m.unit) stay.old }
-    ensures begun { AreBegun input.now.steps under begin within stay.new }
+    ensures begun { AreBegun input.now.steps under begin true stay.new }
 {
     let mut mask = under;
     let mut value = value_over(input, values, under);
     for member in stay.iter_mut() {
-        value = begin_over(input, values, member, mask, value, begin, within);
+        value = begin_over(input, values, member, mask, value, begin);
         mask = member.over;
     }
 }
@@ -80,20 +79,18 @@ fn begin_over(
     mask: u32,
     value: bool,
     begin: usize,
-    within: bool,
 ) -> bool
     requires values { AreValues input.now.steps values.now }
     requires known { HasValue input.now.steps mask value }
     ensures unit { member.new.unit ≡ member.old.unit }
-    ensures begun { IsBegun input.now.steps mask begin within member.new }
+    ensures begun { IsBegun input.now.steps mask begin true member.new }
     ensures value { HasValue input.now.steps member.new.over result }
 {
     let over = mask ^ member.unit.mask;
     let next = value_over(input, values, over);
     member.begin = begin;
     member.over = over;
-    // Eager, so that one equation says all: both values are known by then.
-    member.differs = within & (value ^ next);
+    member.differs = value ^ next;
     next
 }
 

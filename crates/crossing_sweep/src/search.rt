@@ -64,11 +64,9 @@ impl Search {
         Ok(())
     }
 
-    /// Tests the neighbours at the two seams of a node in the column, which may be one. On its right
-    /// border there are no neighbours to test: all nodes there are known.
+    /// Tests the neighbours at the two seams of a node in the column, which may be one.
     pub(crate) fn test_new(
         &mut self,
-        within: bool,
         column: Column,
         at: &HPoint,
         status: &[Member],
@@ -76,11 +74,8 @@ impl Search {
         high: usize,
     ) -> Result<(), AllocError>
         requires in_order { low ≤ high }
-        ensures { OnOk result (AreSeamsTested column (place at.now) (segs_of status.now) (seams_at within low high) self.old self.new) }
+        ensures { OnOk result (AreSeamsTested column (place at.now) (segs_of status.now) (seams_at true low high) self.old self.new) }
     {
-        if !within {
-            return Ok(());
-        }
         self.test_at(column, at, status, low)?;
         if low < high {
             self.test_at(column, at, status, high)?;

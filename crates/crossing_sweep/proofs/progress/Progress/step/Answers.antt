@@ -1,4 +1,4 @@
-use Rattle.std.proofs.Common.{rules, ◌≡◌, ℕ, ◌+◌, ◌-◌, ◌≤◌, Bool, List, ◌++◌, map, length, take, drop, subst, ap, refl, ◌∙◌, arith}
+use Rattle.std.proofs.Common.{rules, ◌≡◌, ℕ, ◌+◌, ◌-◌, ◌≤◌, Bool, true, List, ◌++◌, map, length, take, drop, sym, subst, ap, refl, ◌∙◌, arith}
 use Rattle.std.proofs.Math.Seq.{take-append_seam}
 use Rattle.std.proofs.lemmas.List.{drop-drop, take_rest}
 use Rattle.std.specs.Prelude.{filter}
@@ -59,18 +59,17 @@ returns-clause-stepped c = λ inside.
     let rows : List Row = self.rows.items in
     let Splits : List Member → Type 0 = λ xs. SidesFallAlong r (segs_of xs) → IsSplitAt r (segs_of (take low xs)) (segs_of (slice_range xs low high)) (segs_of (drop high xs)) in
     let Moved : List Member → Type 0 = λ xs. IsPermutation (filter (unit_after r) (units_of (slice_range xs low high) ++ map (λ (s : Start). s.unit) (take entered coming))) (units_of turned) in
-    let Begun : ℕ → Bool → Type 0 = λ mask within. AreBegun c.args.input.now.steps mask c.args.begin within stay in
+    let Begun : ℕ → Bool → Type 0 = λ mask b. AreBegun c.args.input.now.steps mask c.args.begin b stay in
     let Closed : List Member → Type 0 = λ xs. c.close.new.rows.items ≡ rows ++ rows_of c.args.begin (slice_range xs low high) in
     let long : len ≡ length stay = search rules in
     let few = subst (λ (xs : List Member). high ≤ length xs) c.deref.ensures.value c.bundle_at-low.ensures.few in
     let labelled : units_of stay ≡ units_of turned = search rules in
     let under : c.mask_over-under.result ≡ mask_over 0 (take low ms) = search rules in
-    let within : c.is_in-within.result ≡ is_in_column k r = c.is_in-within.ensures ∙ ap (λ j. is_in_column j r) c.column.ensures.value in
-    let begun : Begun (mask_over 0 (take low ms)) (is_in_column k r) = subst (Begun (mask_over 0 (take low ms))) within (subst (λ m. Begun m c.is_in-within.result) under c.label.ensures.begun) in
+    let begun : Begun (mask_over 0 (take low ms)) (is_in_column k r) = subst (Begun (mask_over 0 (take low ms))) (sym inside) (subst (λ m. Begun m true) under c.label.ensures.begun) in
     let tested : AreSeamsTested k r (segs_of after) (seams_at (is_in_column k r) low (low + len)) self.search c.test_new.new.self =
-    subst (λ b. AreSeamsTested k r (segs_of after) (seams_at b low (low + len)) self.search c.test_new.new.self) within
-    (subst (λ j. AreSeamsTested j r (segs_of after) (seams_at c.is_in-within.result low (low + len)) self.search c.test_new.new.self) c.column-2.ensures.value
-    (subst (λ (xs : List Member). AreSeamsTested c.column-2.result r (segs_of xs) (seams_at c.is_in-within.result low (low + len)) self.search c.test_new.new.self) c.deref-7.ensures.value c.in_ok-test_new.ensures)) in
+    subst (λ b. AreSeamsTested k r (segs_of after) (seams_at b low (low + len)) self.search c.test_new.new.self) (sym inside)
+    (subst (λ j. AreSeamsTested j r (segs_of after) (seams_at true low (low + len)) self.search c.test_new.new.self) c.column-2.ensures.value
+    (subst (λ (xs : List Member). AreSeamsTested c.column-2.result r (segs_of xs) (seams_at true low (low + len)) self.search c.test_new.new.self) c.deref-7.ensures.value c.in_ok-test_new.ensures)) in
     let size : c.turned.new.stay.len ≡ length stay = search rules in
     let whole : take c.turned.new.stay.len (stay ++ drop (length stay) turned) ≡ stay = ap (λ j. take j (stay ++ drop (length stay) turned)) size ∙ take-append_seam stay (drop (length stay) turned) in
     let put = c.in_ok-replace.ensures ∙ ap (λ (xs : List Member). take low ms ++ xs ++ drop high ms) (c.deref-6.ensures.value ∙ whole) in
