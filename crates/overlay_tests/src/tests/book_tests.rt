@@ -1,6 +1,6 @@
 //! What a book answers: a snapshot, commands of two threads, tiles that are taken, finished and given back, durable
 //! numbers, and how it closes.
-use crate::tests::books::{Call, Row, WaitFor, play};
+use crate::tests::books::{Call, Late, Row, WaitFor, play};
 use crate::tests::testing::{Change, Corners, LEFT_HALF, SHIFTED, SQUARE};
 use layer_book::batch_fault::BatchFault;
 use layer_book::fault::LayerFault;
@@ -219,13 +219,15 @@ const NEWS: &[&[Row]] = &[
     &[
         Row::Calls(Call::NextVersion, Ok(Some(3))),
         // others of its layer are still pending then
-        Row::NewsBeside(Ok(Some(3))),
+        Row::NewsBeside(Late::Builds, Ok(Some(3))),
+        Row::NewsBeside(Late::Submits(Change::Put("A", SQUARE)), Ok(Some(4))),
+        Row::NewsBeside(Late::BeginsToClose, Ok(None)),
     ],
 ];
 
 #[test]
-fn a_kept_tile_is_news(rt: HostRuntime) {
-    play(&rt, rt.alloc(), true, NEWS, 3);
+fn a_kept_tile_a_command_and_closing_each_end_the_wait_of_the_reporter(rt: HostRuntime) {
+    play(&rt, rt.alloc(), true, NEWS, 4);
 }
 
 const WITHOUT_STORE: &[&[Row]] = &[&[Row::Calls(Call::WaitDurable, Err(BookFault::NoStore))]];

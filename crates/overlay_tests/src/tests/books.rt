@@ -53,6 +53,14 @@ pub enum WaitFor {
     Durable,
 }
 
+/// What a session does a tenth of a second late, by which a wait of the reporter ends.
+pub enum Late {
+    /// It takes a tile and builds it, which is kept.
+    Builds,
+    Submits(Change),
+    BeginsToClose,
+}
+
 /// The number that a call answers, where it answers one, or its fault.
 pub type Answer = Result<Option<u64>, BookFault>;
 
@@ -73,9 +81,9 @@ pub enum Row {
     /// A tile is taken, and a call makes it stale. A worker waits for a tile in a thread of its own then, until the stale
     /// one is finished, which is not kept: what the wait answers.
     StaleBeside(Call, Answer),
-    /// The reporter waits for news in a thread of its own, until a tile is kept: the number of the version that it is
-    /// given.
-    NewsBeside(Answer),
+    /// The reporter waits for news in a thread of its own, until the first session ends that: the number of the version
+    /// that it is given, where it is given one.
+    NewsBeside(Late, Answer),
     /// Two sessions submit a command each, 1,500 times in a thread of its own, and the reporter reports in a third what
     /// it is given. The book closes then, with the last version reported.
     SubmitBeside(Change, Change),
@@ -247,8 +255,13 @@ fn play_row<J: Naming + Send + Sync, R: Threads + Wait + Clock + Abort + Sync>(
             check(rt, at, &told, want);
             None
         }
-        Row::NewsBeside(want) => {
-            let told = news_beside(rt, alloc, shared, reporter, me, &Work::BuildsLate);
+        Row::NewsBeside(late, want) => {
+            let work = match late {
+                Late::Builds => Work::BuildsLate,
+                Late::Submits(change) => Work::SubmitsLate(command(rt, alloc, change)),
+                Late::BeginsToClose => Work::ClosesLate,
+            };
+            let told = news_beside(rt, alloc, shared, reporter, me, &work);
             check(rt, at, &told, want);
             None
         }

@@ -21,6 +21,8 @@ use version_book::shared::Shared;
 pub enum Work {
     /// Submits the command 1,500 times, and looks at each version.
     Submits(Command),
+    /// Submits the command, a tenth of a second late.
+    SubmitsLate(Command),
     /// Asks for a tile, and builds it where there is one, which is to be kept.
     Asks,
     /// The same, where there is to be one.
@@ -33,10 +35,12 @@ pub enum Work {
     Waits(Name),
     /// Waits until the newest version that it has seen is durable.
     WaitsDurable,
+    /// Begins to close the book, a tenth of a second late.
+    ClosesLate,
 }
 
 /// Does a work, and tells the numbers of its versions, each above the one before. What asks for a tile tells its column,
-/// where there is one, and what builds a tile tells nothing.
+/// where there is one; what builds a tile tells nothing, and neither does what closes the book.
 fn carry_out<J: Naming, R: Wait + Clock + Abort>(
     rt: &R,
     alloc: Global,
@@ -52,13 +56,18 @@ fn carry_out<J: Naming, R: Wait + Clock + Abort>(
         Work::Submits(change) => {
             let mut last = 0;
             'puts: for _ in 0..1500 {
-                let number = shared.submit(rt, alloc, me, change)?;
+                let number = submit(rt, alloc, shared, me, change)?;
                 assert!(rt; number > last);
                 let seen = me.snapshot()?.number();
                 assert!(rt; seen >= number);
                 last = number;
                 list.push(number).expect(rt, "memory");
             }
+        }
+        Work::SubmitsLate(change) => {
+            sleep(rt, Duration::from_millis(100));
+            list.push(submit(rt, alloc, shared, me, change)?)
+                .expect(rt, "memory");
         }
         Work::Asks => {
             if let Some(column) = ask(rt, alloc, shared) {
@@ -79,8 +88,26 @@ fn carry_out<J: Naming, R: Wait + Clock + Abort>(
             .push(shared.wait_built(rt, me, name)?)
             .expect(rt, "memory"),
         Work::WaitsDurable => list.push(shared.wait_durable(rt, me)?).expect(rt, "memory"),
+        Work::ClosesLate => {
+            sleep(rt, Duration::from_millis(100));
+            shared.begin_close(rt);
+        }
     }
     Ok(list)
+}
+
+/// Submits a command, and tells the number of its version.
+fn submit<J: Naming, R: Wait>(
+    rt: &R,
+    alloc: Global,
+    shared: &Shared<J, &R>,
+    me: &mut Session,
+    change: &Command,
+) -> Result<u64, BookFault>
+    requires { me.old.book ≡ J.book }
+    ensures { me.new.book ≡ me.old.book }
+{
+    shared.submit(rt, alloc, me, change)
 }
 
 /// Takes a tile and builds it, which is to be kept, and tells its column. None comes where there is none, at closing.
