@@ -1,3 +1,4 @@
+#!/usr/bin/env python3
 """Makes each call of the libraries while its growths are refused in turn, and prints a table.
 
 python3 bench/calls.py [PROGRAM]
@@ -25,6 +26,7 @@ answered 40, 30, met it inside a list, gave the call's own answer, and answered 
 with status 1 where it is not.
 """
 
+import argparse
 import pathlib
 import subprocess
 import sys
@@ -47,11 +49,11 @@ def are_told(line):
 
 
 def main():
+    parser = argparse.ArgumentParser(description=__doc__, formatter_class=argparse.RawDescriptionHelpFormatter)
+    parser.add_argument("program", type=pathlib.Path, nargs="?")
+    words = parser.parse_args()
     with tempfile.TemporaryDirectory() as folder:
-        if len(sys.argv) > 1:
-            program = pathlib.Path(sys.argv[1]).resolve()
-        else:
-            program = unproved.built(HERE / "calls", CRATES, folder)
+        program = words.program.resolve() if words.program else unproved.built(HERE / "calls", CRATES, folder)
         done = subprocess.run([program], stdout=subprocess.PIPE, text=True)
     *table, call, spoiled = done.stdout.splitlines()
     print("\n".join(table))
@@ -64,4 +66,5 @@ def main():
     return 1 if other or done.returncode or not is_told else 0
 
 
-sys.exit(main())
+if __name__ == "__main__":
+    sys.exit(main())

@@ -1,3 +1,4 @@
+#!/usr/bin/env python3
 """Crashes at each device call of lists of steps, recovers from each, and goes on from one of them.
 
 python3 bench/crashes.py [PROGRAM] [--first SEED] [--lists N] [--steps N] [--lives N]
@@ -29,17 +30,18 @@ CRATES = [
 
 
 def main():
-    words = argparse.ArgumentParser()
-    words.add_argument("program", nargs="?")
-    words.add_argument("--first", type=int, default=0)
-    words.add_argument("--lists", type=int, default=200)
-    words.add_argument("--steps", type=int, default=60)
-    words.add_argument("--lives", type=int, default=2)
-    given = words.parse_args()
+    parser = argparse.ArgumentParser(description=__doc__, formatter_class=argparse.RawDescriptionHelpFormatter)
+    parser.add_argument("program", nargs="?")
+    parser.add_argument("--first", type=int, default=0, metavar="SEED")
+    parser.add_argument("--lists", type=int, default=200, metavar="N")
+    parser.add_argument("--steps", type=int, default=60, metavar="N")
+    parser.add_argument("--lives", type=int, default=2, metavar="N")
+    words = parser.parse_args()
     with tempfile.TemporaryDirectory() as folder:
-        program = given.program or unproved.built(HERE / "crashes", CRATES, folder)
-        numbers = [str(one) for one in (given.first, given.lists, given.steps, given.lives)]
+        program = words.program or unproved.built(HERE / "crashes", CRATES, folder)
+        numbers = [str(one) for one in (words.first, words.lists, words.steps, words.lives)]
         return subprocess.run([program, *numbers], stdin=subprocess.DEVNULL).returncode
 
 
-sys.exit(main())
+if __name__ == "__main__":
+    sys.exit(main())

@@ -1,3 +1,4 @@
+#!/usr/bin/env python3
 """Stops, failing calls and damaged files: what a store is recovered as after each.
 
 python3 bench/damages.py [PROGRAM SESSIONS]
@@ -18,6 +19,7 @@ reader fails behind each byte of a script, whose writer fails at each write, and
 Ends with status 1 where anything is wrong.
 """
 
+import argparse
 import collections
 import pathlib
 import struct
@@ -195,7 +197,7 @@ def turned(byte):
 def programs(folder, given):
     """The two programs, from the words or built."""
     if given:
-        return [pathlib.Path(word).resolve() for word in given]
+        return [one.resolve() for one in given]
     built = []
     for name, crates in (("damages", CRATES), ("sessions", SESSION_CRATES)):
         place = folder / f"made_{name}"
@@ -219,9 +221,16 @@ def lists(program, files):
 
 
 def main():
+    parser = argparse.ArgumentParser(description=__doc__, formatter_class=argparse.RawDescriptionHelpFormatter)
+    parser.add_argument("program", type=pathlib.Path, nargs="?")
+    parser.add_argument("sessions", type=pathlib.Path, nargs="?")
+    words = parser.parse_args()
+    given = [one for one in (words.program, words.sessions) if one]
+    if len(given) == 1:
+        parser.error("a program without sessions")
     with tempfile.TemporaryDirectory() as place:
         folder, files = pathlib.Path(place), {}
-        program, sessions = programs(folder, sys.argv[1:])
+        program, sessions = programs(folder, given)
         wrong = lists(program, files)
         wrong += cuts(program, folder, files["one"])
         wrong += alterations(program, folder, [files[name] for name in ("one", "two", "tiled")])
@@ -233,4 +242,5 @@ def main():
     return 1 if wrong else 0
 
 
-sys.exit(main())
+if __name__ == "__main__":
+    sys.exit(main())

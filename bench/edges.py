@@ -72,7 +72,8 @@ def main():
             rows = []
             for at in range(len(programs)):
                 waited, written = least[at, case, "WAIT"], least[at, case, "EDGES"]
-                rows.append(f"WAIT {waited / 1000:.2f} ms, EDGES {written / 1000:.3f} ms, {100 * written / waited:.1f} %")
+                share = 100 * written / waited
+                rows.append(f"WAIT {waited / 1000:.2f} ms, EDGES {written / 1000:.3f} ms, {share:.1f} %")
             print(f"{case}, {pieces} pieces, {size} bytes: " + "; ".join(rows), flush=True)
 
 

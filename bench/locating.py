@@ -76,7 +76,7 @@ def lines(programs, folder):
 
 
 def main():
-    parser = argparse.ArgumentParser()
+    parser = argparse.ArgumentParser(description=__doc__, formatter_class=argparse.RawDescriptionHelpFormatter)
     parser.add_argument("--program", type=pathlib.Path, action="append", default=[])
     parser.add_argument("--built", type=pathlib.Path, action="append", default=[])
     words = parser.parse_args()
@@ -89,4 +89,5 @@ def main():
         calls(built or [unproved.built(HERE / "locating", CRATES, folder / "built", checked=False)], folder)
 
 
-main()
+if __name__ == "__main__":
+    main()

@@ -31,7 +31,6 @@ STEPS_MAX = 2048
 TOKENS_MAX = 64
 PIECES_MAX = 65536
 LINE_MAX = 65536
-SCRIPT_MAX = 2**24
 WEIGHT_MAX = 1024
 BATCH_MAX = 64
 GRID_MAX = 256
@@ -41,10 +40,10 @@ TEXTS = {
     1: "wkt syntax at #", 2: "not whole at #", 3: "coordinate out of range at #", 4: "ring # open", 5: "ring # short",
     6: "too many segments", 7: "expression syntax at #", 8: "expression too long", 9: "bad name", 10: "unknown layer",
     11: "not a base layer", 12: "not a derived layer", 13: "later layer", 14: "in use", 15: "too many layers",
-    16: "version limit", 17: "batch size", 20: "point out of range", 21: "pending", 22: "oversize", 23: "bad column", 30: "device",
-    31: "full", 32: "not a store", 33: "damaged #", 34: "not empty", 35: "store failed", 36: "sequence limit",
-    40: "out of memory", 41: "command syntax", 42: "line too long", 43: "closing", 44: "gone", 45: "grid size",
-    46: "no store", 47: "read limit", 48: "read", 49: "write", 50: "words",
+    16: "version limit", 17: "batch size", 20: "point out of range", 21: "pending", 22: "oversize", 23: "bad column",
+    30: "device", 31: "full", 32: "not a store", 33: "damaged #", 34: "not empty", 35: "store failed",
+    36: "sequence limit", 40: "out of memory", 41: "command syntax", 42: "line too long", 43: "closing", 44: "gone",
+    45: "grid size", 46: "no store", 47: "read limit", 48: "read", 49: "write", 50: "words",
 }
 
 Put = collections.namedtuple("Put", "name rings")

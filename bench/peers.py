@@ -8,8 +8,9 @@ those of Debian that are there (libcgal-dev libgmp-dev libmpfr-dev, libboost-dev
 bench/peers are compiled by g++ -O2; one that cannot be compiled is left out.
 
 - The symmetric difference of two layers of so many edges each (the families of bench/tiles.py, laid over all columns):
-  WAIT of the derived layer and EDGES of its 17 columns, with one worker; beside them CGAL's exact arrangement of the same
-  segments, and Boost.Geometry's sym_difference over floating point where no ring crosses itself or another of its layer.
+  WAIT of the derived layer and EDGES of its 17 columns, with one worker; beside them CGAL's exact arrangement of the
+  same segments, and Boost.Geometry's sym_difference over floating point where no ring crosses itself or another of its
+  layer.
 - WAIT alone, and EDGES alone, of the same layers.
 - A line of LOCATE with its text over one layer, beside GEOS (IndexedPointInAreaLocator, floating point, no text).
 
@@ -47,7 +48,8 @@ def peers(folder):
 
 def told(program, *words):
     """What a peer found, and its seconds."""
-    found, seconds = subprocess.run([program, *map(str, words)], stdout=subprocess.PIPE, check=True, text=True).stdout.split()
+    done = subprocess.run([program, *map(str, words)], stdout=subprocess.PIPE, check=True, text=True)
+    found, seconds = done.stdout.split()
     return int(found), float(seconds)
 
 
@@ -86,7 +88,8 @@ def overlays(programs, built, folder, sizes, names):
             layers = over_all_columns(tiles.even(family(edges)))
             path = folder / "map"
             path.write_text("\n".join(map(tiles.text_of, layers)) + "\n")
-            best, wrote = least(programs, folder, [script(layers, n, m) for n, m in ((0, 0), (1, 0), (LAYERS, 0), (LAYERS, 5))])
+            scripts = [script(layers, n, m) for n, m in ((0, 0), (1, 0), (LAYERS, 0), (LAYERS, 5))]
+            best, wrote = least(programs, folder, scripts)
             rows = []
             for at in range(len(programs)):
                 wait = (best[at, 2] - best[at, 1]) / (LAYERS - 1)
@@ -94,7 +97,10 @@ def overlays(programs, built, folder, sizes, names):
                 rows.append((wait, text))
             cgal = told(built["cgal"], path)[1] if "cgal" in built else None
             boost = told(built["boost"], path)[1] if "boost" in built and name in SIMPLE else None
-            cells = [f"WAIT {1000 * wait:.2f} ms, EDGES {1000 * text:.2f} ms ({100 * text / wait:.0f} %)" for wait, text in rows]
+            cells = [
+                f"WAIT {1000 * wait:.2f} ms, EDGES {1000 * text:.2f} ms ({100 * text / wait:.0f} %)"
+                for wait, text in rows
+            ]
             beside = f"CGAL {1000 * cgal:.2f} ms" if cgal else "no CGAL"
             beside += f", Boost {1000 * boost:.2f} ms" if boost else ""
             ratios = ", ".join(f"{(wait + text) / cgal:.2f}" for wait, text in rows) if cgal else "-"
@@ -116,7 +122,7 @@ def locates(programs, built, folder):
 
 
 def main():
-    parser = argparse.ArgumentParser()
+    parser = argparse.ArgumentParser(description=__doc__, formatter_class=argparse.RawDescriptionHelpFormatter)
     parser.add_argument("programs", type=pathlib.Path, nargs="+")
     parser.add_argument("--edges", type=int, action="append")
     parser.add_argument("--only", action="append", help="star, parcels, self-crossing, comb, sliver, points")

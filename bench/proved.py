@@ -1,4 +1,4 @@
-"""Builds a small program over the libraries of this repository by `rt run`, for scripts of bench/.
+"""A module for tiles.py: builds a small program over the libraries of this repository by `rt run`.
 
 The sources stand in a folder of bench/ as NAME.rattle. They are copied, with the sources of the crates that they use
 and of all below these, into a folder of their own, where `rt run` proves what has no proof yet on this machine: all of

@@ -1,4 +1,4 @@
-"""Runs of the program in which something is refused, and what may come of them: for growths.py and faults.py."""
+"""A module for growths.py and faults.py: runs in which something is refused, and what may come of them."""
 
 import concurrent.futures
 import os
@@ -20,7 +20,7 @@ SQUARE = "POLYGON ((0 0, 10 0, 10 10, 0 10, 0 0))"
 OTHER = "POLYGON ((5 5, 15 5, 15 15, 5 15, 5 5))"
 WORDS = [
     f"PUT A {SQUARE}", f"PUT B {OTHER}", "DEFINE I = A & B", "LOCATE I 7 7", "LAYERS", "WAIT I", "EDGES I 8",
-    "VERIFY I 8", "GRID I 4 4 2 4 4", "HELLO", "LOCATE Z 1 1", f"PUT A POLYGON ((0 0, 9 0, 9 9, 0 9, 0 0))", "SYNC",
+    "VERIFY I 8", "GRID I 4 4 2 4 4", "HELLO", "LOCATE Z 1 1", "PUT A POLYGON ((0 0, 9 0, 9 9, 0 9, 0 0))", "SYNC",
     "DEFINE J = I ^ B", "WAIT J", "DROP J", "SYNC", "LOCATE A 9 1",
 ]
 FIRST = [f"PUT A {SQUARE}", "DEFINE I = A", "WAIT I", "EDGES I 8", "SYNC", "GRID A 0 0 5 3 3", "LAYERS"]

@@ -1,3 +1,4 @@
+#!/usr/bin/env python3
 """Times a snapshot of a book, beside what it costs to take a counted value from behind a lock in C.
 
 python3 bench/snapshots.py [PROGRAM]
@@ -8,6 +9,7 @@ built before. It has a book of 32 layers and takes a million snapshots of it, by
 mutex is taken, a count raised, the mutex given back and the count lowered again.
 """
 
+import argparse
 import pathlib
 import subprocess
 import sys
@@ -25,9 +27,12 @@ def best(words):
 
 
 def main():
+    parser = argparse.ArgumentParser(description=__doc__, formatter_class=argparse.RawDescriptionHelpFormatter)
+    parser.add_argument("program", type=pathlib.Path, nargs="?")
+    words = parser.parse_args()
     with tempfile.TemporaryDirectory() as folder:
-        if len(sys.argv) > 1:
-            program = pathlib.Path(sys.argv[1]).resolve()
+        if words.program:
+            program = words.program.resolve()
         else:
             program = unproved.built(HERE / "snapshots", ["server_session"], folder, checked=False)
         lock = pathlib.Path(folder) / "lock"
@@ -39,4 +44,5 @@ def main():
     return 0
 
 
-sys.exit(main())
+if __name__ == "__main__":
+    sys.exit(main())

@@ -1,24 +1,28 @@
+#!/usr/bin/env python3
 """Measures the store: records to bytes and back, what a commit writes, and opening a big file.
 
 python3 bench/store.py [PROGRAM]..
 
 Builds the program of bench/store over the store's crates, unproved (bench/unproved.py; minutes); PROGRAM is one that
-was built before. Of several the reading and writing of records is told side by side, all else of the first. The files and records that it is given are written here, byte by byte, as docs/FORMAT.md
-has them. Processor times, the best of five runs less those without the work, each on a disk in memory.
+was built before. Of several the reading and writing of records is told side by side, all else of the first. The files
+and records that it is given are written here, byte by byte, as docs/FORMAT.md has them. Processor times, the best of
+five runs less those without the work, each on a disk in memory.
 """
 
+import argparse
 import pathlib
 import resource
 import struct
 import subprocess
-import sys
 import tempfile
 
 import unproved
 
 HERE = pathlib.Path(__file__).resolve().parent
-CRATES = ["plane_base", "wkt_form", "layer_expr", "layer_book", "tile_build", "version_core", "disk_model", "extent_map"]
-CRATES += ["record_writing", "record_reading", "root_store", "flush_core"]
+CRATES = [
+    "plane_base", "wkt_form", "layer_expr", "layer_book", "tile_build", "version_core", "disk_model", "extent_map",
+    "record_writing", "record_reading", "root_store", "flush_core",
+]
 BLOCK = 4096
 
 
@@ -69,7 +73,10 @@ def body(sequence, version, block, size):
 
 def store(layers):
     # layers: name, base record or definition record, and tiles by column (None of a base layer)
-    entries = [14 + len(name) + sum(13 if c in tiles else 1 for c in range(17) if tiles is not None) for name, _, tiles in layers]
+    entries = [
+        14 + len(name) + sum(13 if c in tiles else 1 for c in range(17) if tiles is not None)
+        for name, _, tiles in layers
+    ]
     records, catalog = [], struct.pack(">H", len(layers))
     block = 2 + -(-(2 + sum(entries)) // BLOCK)
 
@@ -139,10 +146,11 @@ def records(programs, folder):
 def files(program, folder):
     base, small = zigzag(2048), zigzag(4)
     tile = {c: tile_record(c, 60000, whole_piece) for c in range(16)}
+    oversize = {c: bytes([1, c]) for c in range(17)}
     kinds = {
         "one layer of 4 steps": [(b"A", small, None)],
         "32 layers of 2,048 steps": [(b"A%d" % i, base, None) for i in range(32)],
-        "a derived layer with 17 oversize tiles": [(b"A", small, None), (b"I", b"A", {c: bytes([1, c]) for c in range(17)})],
+        "a derived layer with 17 oversize tiles": [(b"A", small, None), (b"I", b"A", oversize)],
         "a tile of 60,000 pieces": [(b"A", small, None), (b"I", b"A", {8: tile[8]})],
         "128 tiles of 60,000 pieces": [(b"A", small, None)] + [(b"I%d" % i, b"A", tile) for i in range(8)],
     }
@@ -188,15 +196,20 @@ def beginnings(program, folder):
     small, path = zigzag(4), folder / "tiled"
     tile = {c: tile_record(c, 100, short_piece) for c in range(17)}
     path.write_bytes(store([(b"A", small, None)] + [(b"I%d" % i, b"A", tile) for i in range(30)]))
-    least = int(subprocess.run([program, "begin", path, "200"], stdout=subprocess.PIPE, check=True, text=True).stdout.split()[0])
-    print(f"the beginning of a commit behind a PUT, beside 30 layers with 510 tiles of 100 pieces: {least / 1e6:.3f} ms")
+    words = [program, "begin", path, "200"]
+    least = int(subprocess.run(words, stdout=subprocess.PIPE, check=True, text=True).stdout.split()[0])
+    print("the beginning of a commit behind a PUT, beside 30 layers with 510 tiles of 100 pieces:"
+          f" {least / 1e6:.3f} ms")
     mapping, placing = each(program, "map", path, 5000), each(program, "place", path, 50000)
     print(f"560 extents: a map of them takes {1000 * mapping:.3f} ms, a copy of it and a place {1000 * placing:.4f} ms")
 
 
 def main():
+    parser = argparse.ArgumentParser(description=__doc__, formatter_class=argparse.RawDescriptionHelpFormatter)
+    parser.add_argument("programs", type=pathlib.Path, nargs="*")
+    words = parser.parse_args()
     with tempfile.TemporaryDirectory() as folder:
-        programs = [pathlib.Path(word).resolve() for word in sys.argv[1:]] or [built(folder)]
+        programs = [program.resolve() for program in words.programs] or [built(folder)]
         program = programs[0]
         records(programs, pathlib.Path(folder))
         files(program, pathlib.Path(folder))
@@ -204,4 +217,5 @@ def main():
         beginnings(program, pathlib.Path(folder))
 
 
-main()
+if __name__ == "__main__":
+    main()

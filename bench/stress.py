@@ -286,7 +286,8 @@ def stress(words, folder):
     store = folder / "store.db"
     output, took = run(words.program, store, scripts, folder, words.workers, "--create")
     (folder / "output.txt").write_text(output)
-    print(f"ran {words.commands} commands, {words.sessions} sessions, {words.workers} workers: {took:.0f} s", flush=True)
+    counts = f"{words.commands} commands, {words.sessions} sessions, {words.workers} workers"
+    print(f"ran {counts}: {took:.0f} s", flush=True)
     start = time.time()
     judged = judging.judge(scripts, output)
     count = sum(judged.replies.values())

@@ -1,3 +1,4 @@
+#!/usr/bin/env python3
 """Builds tiles by the pass from node to node and by all pairs: side by side on drawn inputs, and timed in one run.
 
 python3 bench/tiles.py inputs [PROGRAM]
@@ -7,19 +8,19 @@ Builds the program of bench/tiles over tile_build and layer_book, for `inputs` p
 unproved and without checks (bench/unproved.py; minutes); PROGRAM is such a program that was built before.
 
 inputs: 2,000 inputs from fixed seeds, a quarter of them at full coordinates, most with edges that touch, overlap, stand
-upright or are cut by a border of the column. Of each the tiles of `build` and `build_counted` are compared by their ends
-with that of `build_by_pairs`, where the cap is 0, one below the size of the tile, and its size.
+upright or are cut by a border of the column. Of each the tiles of `build` and `build_counted` are compared by their
+ends with that of `build_by_pairs`, where the cap is 0, one below the size of the tile, and its size.
 times: tiles of two layers of so many edges each, by `build` and by `build_by_pairs`, both whole; the same layers with a
 point in the middle of each edge, by `build`; and two combs to the cap of 65,536. Processor times less those without the
-building, the best of five runs that take a tenth of a second or more, two sides in turns, or one run where it takes more
-than two seconds.
+building, the best of five runs that take a tenth of a second or more, two sides in turns, or one run where it takes
+more than two seconds.
 """
 
+import argparse
 import math
 import pathlib
 import resource
 import subprocess
-import sys
 import tempfile
 
 import proved
@@ -84,7 +85,8 @@ def through_one_point(draws):
 
     def ring():
         a, b = [(draws.below(2 * width + 1), draws.below(2 * width + 1)) for _ in range(2)]
-        return closed([a, (2 * width - a[0], 2 * width - a[1]), b, (2 * width - b[0], 2 * width - b[1])][: 3 + draws.below(2)])
+        points = [a, (2 * width - a[0], 2 * width - a[1]), b, (2 * width - b[0], 2 * width - b[1])]
+        return closed(points[: 3 + draws.below(2)])
 
     return [[ring() for _ in range(1 + draws.below(3))] for _ in range(2)]
 
@@ -92,7 +94,10 @@ def through_one_point(draws):
 def on_few_lines(draws):
     width = draws.among([4, 6])
     places = range(width + 1)
-    lines = [[(t, 0) for t in places], [(width // 2, t) for t in places], [(t, t) for t in places], [(t, width - t) for t in places]]
+    lines = [
+        [(t, 0) for t in places], [(width // 2, t) for t in places], [(t, t) for t in places],
+        [(t, width - t) for t in places],
+    ]
     points = draws.among(lines) + draws.among(lines)
 
     def ring():
@@ -208,10 +213,15 @@ def compare(program, folder):
             counts[feature] = counts.get(feature, 0) + 1
     path = folder / "inputs"
     path.write_text("".join(text))
-    print("2000 inputs drawn, 500 of them at full coordinates; " + ", ".join(f"{counts[f]} with {f}" for f in sorted(counts)))
+    counted = ", ".join(f"{counts[f]} with {f}" for f in sorted(counts))
+    print(f"2000 inputs drawn, 500 of them at full coordinates; {counted}")
     words = [program, "compare", path, "0", "0"]
-    inputs, tiles, pieces, differences = subprocess.run(words, stdout=subprocess.PIPE, check=True, text=True).stdout.split()
-    print(f"{inputs} inputs, whose tiles have {pieces} pieces; {tiles} tiles by the pass, differences from all pairs: {differences}")
+    done = subprocess.run(words, stdout=subprocess.PIPE, check=True, text=True)
+    inputs, tiles, pieces, differences = done.stdout.split()
+    print(
+        f"{inputs} inputs, whose tiles have {pieces} pieces; {tiles} tiles by the pass,"
+        f" differences from all pairs: {differences}"
+    )
 
 
 # Families for times: two layers of so many edges each in column 8, on even coordinates
@@ -220,7 +230,8 @@ def compare(program, folder):
 def round_about(x, y, step, radii):
     """A ring round a centre that goes on by `step` parts of a turn from point to point."""
     turns = [(2 * math.pi * step * i / len(radii), radius) for i, radius in enumerate(radii)]
-    return [closed([(x + round(radius * math.cos(turn)), y + round(radius * math.sin(turn))) for turn, radius in turns])]
+    points = [(x + round(radius * math.cos(turn)), y + round(radius * math.sin(turn))) for turn, radius in turns]
+    return [closed(points)]
 
 
 def stars(edges):
@@ -323,7 +334,8 @@ def by_both(programs, folder):
     for name, family in FAMILIES.items():
         for edges in [64, 128, 256, 512, 1024, 2048]:
             path = written(folder, "input", even(family(edges)))
-            *swept, (paired, size) = in_turns([(one, "pass", path) for one in programs] + [(programs[0], "pairs", path)])
+            runs = [(one, "pass", path) for one in programs] + [(programs[0], "pairs", path)]
+            *swept, (paired, size) = in_turns(runs)
             print(
                 f"{name} {edges}, {size} pieces: by the pass {milliseconds(time for time, _ in swept)}; by all pairs"
                 f" {1000 * paired:.2f} ms, {paired / swept[0][0]:.1f} times as long",
@@ -349,8 +361,9 @@ def to_the_cap(programs, folder):
     cases = [(one, "pass") for one in programs] + [(programs[0], "pairs")]
     runs = [[run(one, word, path, 65536, 1) for one, word in cases] for _ in range(5)]
     for i, (_, word) in enumerate(cases):
+        way = "the pass" if word == "pass" else "all pairs"
         print(
-            f"two combs of 512 to the cap of 65,536 by {'the pass' if word == 'pass' else 'all pairs'}, with reading the"
+            f"two combs of 512 to the cap of 65,536 by {way}, with reading the"
             f" input: {1000 * min(each[i][0] for each in runs):.0f} ms, {max(each[i][2] for each in runs):.1f} MB",
             flush=True,
         )
@@ -363,11 +376,14 @@ def measure(programs, folder):
 
 
 def main():
-    word, *given = sys.argv[1:]
+    parser = argparse.ArgumentParser(description=__doc__, formatter_class=argparse.RawDescriptionHelpFormatter)
+    parser.add_argument("what", choices=["inputs", "times"])
+    parser.add_argument("programs", type=pathlib.Path, nargs="*", default=[])
+    words = parser.parse_args()
     with tempfile.TemporaryDirectory() as name:
         folder = pathlib.Path(name)
-        programs = [pathlib.Path(one).resolve() for one in given]
-        if word == "inputs":
+        programs = [program.resolve() for program in words.programs]
+        if words.what == "inputs":
             compare(programs[0] if programs else proved_program(folder), folder)
         else:
             measure(programs or [unproved.built(HERE / "tiles", CRATES, folder, checked=False)], folder)

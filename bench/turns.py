@@ -1,4 +1,7 @@
-"""Several programs over one file of cases, in turns: the least time of each, where all have to answer the same."""
+"""A module for edges.py, locating.py and versions.py: several programs over one file of cases, in turns.
+
+It gives the least time of each; all have to answer the same.
+"""
 
 import subprocess
 

@@ -71,4 +71,5 @@ def main():
             print(f"{case}: {', '.join(rows)} ({pending} pending)")
 
 
-main()
+if __name__ == "__main__":
+    main()

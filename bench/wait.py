@@ -1,3 +1,4 @@
+#!/usr/bin/env python3
 """Writes a script that puts two layers and builds their symmetric difference.
 
 python3 bench/wait.py circles 256 | crates/overlayd/out/overlayd
@@ -6,8 +7,8 @@ circles: two polygons of so many edges round two centres, in one column.
 combs: so many edges in thin rectangles, those of one layer across those of the other.
 """
 
+import argparse
 import math
-import sys
 
 
 def circle(edges, x, y, radius):
@@ -30,14 +31,20 @@ def comb(edges, upright):
     return "MULTIPOLYGON (" + ", ".join(rings) + ")"
 
 
-kind, edges = sys.argv[1], int(sys.argv[2])
-if kind == "circles":
-    first, second = circle(edges, 65536, 65536, 60000), circle(edges, 75536, 70536, 50000)
-elif kind == "combs":
-    first, second = comb(edges, False), comb(edges, True)
-else:
-    sys.exit(f"{kind}: neither circles nor combs")
-print("PUT A " + first)
-print("PUT B " + second)
-print("DEFINE I = A ^ B")
-print("WAIT I")
+def main():
+    parser = argparse.ArgumentParser(description=__doc__, formatter_class=argparse.RawDescriptionHelpFormatter)
+    parser.add_argument("kind", choices=["circles", "combs"])
+    parser.add_argument("edges", type=int)
+    words = parser.parse_args()
+    if words.kind == "circles":
+        first, second = circle(words.edges, 65536, 65536, 60000), circle(words.edges, 75536, 70536, 50000)
+    else:
+        first, second = comb(words.edges, False), comb(words.edges, True)
+    print("PUT A " + first)
+    print("PUT B " + second)
+    print("DEFINE I = A ^ B")
+    print("WAIT I")
+
+
+if __name__ == "__main__":
+    main()

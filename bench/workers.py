@@ -3,11 +3,11 @@
 
 python3 bench/workers.py PROGRAM..
 
-Cases: layers over a triangle across all columns, which is put anew so many times and waited for each time (small tiles);
-layers over two circles of so many steps. All runs of a case, of each number of workers and of each program, take turns.
-By the clock, the least time of each, less that of the same script without the waiting; so the machine should have 4
-idle processors. What of processors a tile takes is that of the same run. Beside it stands what the machine allows: how
-many times as much as one of them four programs with one worker each do at once.
+Cases: layers over a triangle across all columns, which is put anew so many times and waited for each time (small
+tiles); layers over two circles of so many steps. All runs of a case, of each number of workers and of each program,
+take turns. By the clock, the least time of each, less that of the same script without the waiting; so the machine
+should have 4 idle processors. What of processors a tile takes is that of the same run. Beside it stands what the
+machine allows: how many times as much as one of them four programs with one worker each do at once.
 """
 
 import argparse
@@ -73,7 +73,10 @@ def main():
     parser = argparse.ArgumentParser(description=__doc__, formatter_class=argparse.RawDescriptionHelpFormatter)
     parser.add_argument("programs", type=pathlib.Path, nargs="+")
     programs = [program.resolve() for program in parser.parse_args().programs]
-    cases = [("a triangle put 20 times", 20, small(20)), ("two circles of 64 steps", 1, circles(64)), ("two circles of 1,024 steps", 1, circles(1024))]
+    cases = [
+        ("a triangle put 20 times", 20, small(20)), ("two circles of 64 steps", 1, circles(64)),
+        ("two circles of 1,024 steps", 1, circles(1024)),
+    ]
     with tempfile.TemporaryDirectory() as place:
         for name, times, scripts in cases:
             best, together = least(programs, pathlib.Path(place), scripts)
@@ -84,7 +87,8 @@ def main():
                     long, short = (best[at, workers, which] for which in (0, 1))
                     clock, used = ((long[i] - short[i]) / times / LAYERS / COLUMNS for i in (0, 1))
                     first.setdefault(at, clock)
-                    rows.append(f"{1e3 * clock:.3f} ms a tile, {1e3 * used:.3f} of processors, {first[at] / clock:.2f} times as fast as one")
+                    speed = f"{first[at] / clock:.2f} times as fast as one"
+                    rows.append(f"{1e3 * clock:.3f} ms a tile, {1e3 * used:.3f} of processors, {speed}")
                 print(f"{name}, {workers} workers: " + "; ".join(rows), flush=True)
             allowed = "; ".join(f"{4 * together[at, 1] / together[at, 4]:.2f} times" for at in range(len(programs)))
             print(f"{name}, four programs at once: {allowed} what one does", flush=True)

@@ -1,6 +1,6 @@
-"""Scripts of overlayd and their replies: which layers stand, and what EDGES and GRID answered.
+"""A module for to_svg.py and to_rings.py: reads scripts of overlayd and their replies.
 
-No tool of its own: to_svg.py and to_rings.py read through it.
+It gives which layers stand, and what EDGES and GRID answered.
 """
 
 import re

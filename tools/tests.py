@@ -450,8 +450,8 @@ class Sessions(unittest.TestCase):
 
     def test_a_batch_has_one_reply(self):
         lines = [b"BATCH 3", b"PUT A " + SQUARE.encode(), b"", b"# PUT B", b"PUT B " + SQUARE.encode(),
-                 b"DEFINE I = A & B", b" BATCH\t+2 \r", b"DROP I", b"DROP Z", b"LAYERS", b"BATCH 2", b"DROP I", b"#" * 65537, b"BATCH 1",
-                 b"BATCH 1", b"EDGES I 8"]
+                 b"DEFINE I = A & B", b" BATCH\t+2 \r", b"DROP I", b"DROP Z", b"LAYERS", b"BATCH 2", b"DROP I",
+                 b"#" * 65537, b"BATCH 1", b"BATCH 1", b"EDGES I 8"]
         replies = ["ok 1", "refused 1 error 10 unknown layer", "layers 3", "A MULTI" + SQUARE, "B MULTI" + SQUARE,
                    "I = A & B", "refused 1 error 42 line too long", "refused 0 error 41 command syntax", "edges 0"]
         session = sessions.read(b"\n".join(lines), "\n".join(replies).encode())

@@ -1,4 +1,7 @@
-"""Reads and writes Well-Known Text: any geometry is read, with fractions, exponents, Z and M."""
+"""A module for to_script.py, to_rings.py and sessions.py: reads and writes Well-Known Text.
+
+Any geometry is read, with fractions, exponents, Z and M.
+"""
 
 import re
 from decimal import Decimal, InvalidOperation
