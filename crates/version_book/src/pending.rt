@@ -4,6 +4,7 @@ ghost use Rattle.overlay_terms.specs.Column.{column_count};
 ghost use Rattle.overlay_terms.specs.Commands.{stands_as_derived};
 ghost use Rattle.overlay_terms.specs.Histories.{tile_at};
 ghost use Rattle.overlay_terms.specs.Tiles.{input_of};
+ghost use Rattle.version_core.specs.Table.{row_by};
 ghost use Rattle.version_book.specs.Free.{AllAreHeld, AreHeld, AreHeldAt, IsFree};
 ghost use Rattle.version_book.specs.HeldTiles.{is_held};
 
@@ -12,6 +13,7 @@ use arrange::tile_input::TileInput;
 use layer_expr::name::Name;
 use plane_base::{COLUMN_COUNT, Column};
 use std::alloc::{AllocError, Global};
+use version_core::tiles::TileRow;
 use version_core::version::Version;
 
 /// A pending tile of a version that is neither handed out nor marked. The layer at a place is looked at first.
@@ -43,10 +45,9 @@ fn free_at<'a>(version: &'a Version, held: &HeldTiles, place: usize) -> Option<(
     ensures some { IfSome result (λ r. IsFree version.now held.now.list.items r.0.now r.1) }
     ensures none { IfNone result (AreHeldAt version.now held.now.list.items place) }
 {
-    let layers = version.layers();
-    if let Some((name, _layer)) = layers.at(place) {
-        if layers.stands_as_derived(name) {
-            if let Some(column) = free_column(version, held, name) {
+    if let Some((name, _layer, row)) = version.at(place) {
+        if version.layers().stands_as_derived(name) {
+            if let Some(column) = free_column(version, held, name, row) {
                 return Some((name, column));
             }
         }
@@ -54,8 +55,14 @@ fn free_at<'a>(version: &'a Version, held: &HeldTiles, place: usize) -> Option<(
     None
 }
 
-// The same among the columns of a layer.
-fn free_column(version: &Version, held: &HeldTiles, name: &Name) -> Option<Column>
+// The same among the columns of a layer. Its row says which tiles are pending.
+fn free_column(
+    version: &Version,
+    held: &HeldTiles,
+    name: &Name,
+    row: &TileRow,
+) -> Option<Column>
+    requires { row.now ≡ row_by (tile_at version.now.tiles name.now) }
     ensures pending { IfSome result (λ column. tile_at version.now.tiles name.now column ≡ None) }
     ensures column { IfSome result (λ column. column < column_count) }
     ensures free { IfSome result (λ column. is_held name.now column held.now.list.items ≡ false) }
@@ -68,7 +75,7 @@ fn free_column(version: &Version, held: &HeldTiles, name: &Name) -> Option<Colum
         let Some(column) = Column::new(u64::from(number)) else {
             unreachable!()
         };
-        if version.shared_tile(name, column).is_none() && !held.has(name, column) {
+        if !row.has(column) && !held.has(name, column) {
             return Some(column);
         }
     }

@@ -124,6 +124,13 @@ impl TileRow {
         }
     }
 
+    /// Whether a column has its tile.
+    pub fn has(&self, column: Column) -> bool
+        ensures { result ≡ is_some (get_or self.now column None) }
+    {
+        self.tile_at(usize::from(column.number())).is_some()
+    }
+
     /// Whether each column has its tile.
     pub(crate) fn is_full(&self) -> bool
         ensures { result ≡ list_all is_some self.now }
