@@ -14,7 +14,7 @@ use Rattle.store_terms.specs.Places.{bytes_of, is_placed, all_apart, extents_lis
 use Rattle.store_terms.specs.Image.{◌>>=◌, or_fault, placed_bytes, may_stand, with_layer, tiles_of, layer_of, layers_of, Held, listing_of, held_by}
 use Rattle.store_terms.specs.Spelled.{Spells, TilesAre, LayerIs, LayersAre, HeldIsSpelled}
 
-ok_bound : {A B : Type 0} (o : Result A Damage) (f : A → Result B Damage) (y : B) → (o >>= f) ≡ Ok y
+pub ok_bound : {A B : Type 0} (o : Result A Damage) (f : A → Result B Damage) (y : B) → (o >>= f) ≡ Ok y
     → (x : A) × (o ≡ Ok x) × (f x ≡ Ok y)
 ok_bound (Ok x) f y e = (x, refl, e)
 ok_bound (Err d) f y e = absurd cc
@@ -23,13 +23,13 @@ no_fault : {A : Type 0} (fault : Damage) (o : Option A) (x : A) → or_fault fau
 no_fault {A} fault None x e = absurd cc
 no_fault {A} fault (Some y) x e = let same : y ≡ x = cc in ap (λ (z : A). Some z) same
 
-abbrev found : {A : Type 0} → A → Result A Damage
+abbrev pub found : {A : Type 0} → A → Result A Damage
 found x = Ok x
 
-same_ok : {A : Type 0} (x y : A) → found x ≡ found y → x ≡ y
+pub same_ok : {A : Type 0} (x y : A) → found x ≡ found y → x ≡ y
 same_ok x y e = cc
 
-tested_ok : {A : Type 0} (b : Bool) (fault : Damage) (x y : A) → cond b (found x) (Err fault) ≡ found y
+pub tested_ok : {A : Type 0} (b : Bool) (fault : Damage) (x y : A) → cond b (found x) (Err fault) ≡ found y
     → (b ≡ true) × (x ≡ y)
 tested_ok true fault x y e = (refl, same_ok x y e)
 tested_ok false fault x y e = absurd cc

@@ -5,6 +5,7 @@ pub mod Loops
 pub mod Accepting
 pub mod SpelledLemmas
 pub mod HeldLemmas
+pub mod OrderlyHeld
 pub mod RecordLemmas
 pub mod BaseLemmas
 pub mod NameTests

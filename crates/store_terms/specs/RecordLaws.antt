@@ -6,6 +6,7 @@ use Rattle.plane_base.specs.BaseLayer.{rings_fault}
 use Rattle.std.specs.List.{AllByRecursion}
 use Rattle.overlay_terms.specs.Trees.{Tree}
 use Rattle.overlay_terms.specs.Layers.{Name}
+use Rattle.overlay_terms.specs.Orderly.{IsOrderly}
 use Rattle.overlay_terms.specs.Histories.{Tile}
 use Rattle.layer_expr.specs.Spelling.{expression_text, IsExpression}
 use Rattle.store_terms.specs.Fields.{AreBytes}
@@ -37,3 +38,7 @@ BaseReadsBack = (rs : List (List WholePoint)) → rings_fault rs ≡ None → Al
 -- a body that is written is read again
 abbrev pub BodyReadsBack : Type 0
 BodyReadsBack = (r : Root) → r.sequence < 256 ^ 8 → r.version < 256 ^ 8 → r.catalog.block < 256 ^ 8 → r.catalog.size < 256 ^ 4 → body_in (take 40 (body_text r)) ≡ ours r
+
+-- what a root holds are layers in order: no name twice, and each definition over earlier layers
+abbrev pub HeldIsOrderly : Type 0
+HeldIsOrderly = (file : List ℕ) (r : Root) (x : Held) → held_of file r ≡ Ok x → IsOrderly x.layers

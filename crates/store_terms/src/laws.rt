@@ -6,7 +6,7 @@ ghost use Rattle.store_terms.specs.BaseRecord.{rings};
 ghost use Rattle.store_terms.specs.TileRecord.{named_tile};
 ghost use Rattle.store_terms.specs.Catalog.{catalog};
 ghost use Rattle.store_terms.specs.Frame.{ElsewhereHasNoMeaning};
-ghost use Rattle.store_terms.specs.RecordLaws.{BaseReadsBack, BodyReadsBack, DefinitionIsItsText, HeldIsPlaced, TileIsNamed};
+ghost use Rattle.store_terms.specs.RecordLaws.{BaseReadsBack, BodyReadsBack, DefinitionIsItsText, HeldIsOrderly, HeldIsPlaced, TileIsNamed};
 ghost use Rattle.store_terms.specs.Spelled.{SpelledIsHeld, HeldIsSpelled};
 
 /// What is read as a base record is spelled so, and what is spelled so is read.
@@ -62,4 +62,9 @@ pub fn base_reads_back()
 /// The body of a root is read again.
 pub fn body_reads_back()
     ensures { BodyReadsBack }
+{}
+
+/// The layers that a root holds are in order.
+pub fn held_is_orderly()
+    ensures { HeldIsOrderly }
 {}
