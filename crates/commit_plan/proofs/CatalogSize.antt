@@ -77,7 +77,7 @@ layer_long live (a_base name f) layer own spelled columns =
     length-append named (0 ∷ extent.text (extent_of f)) ∙ omega arith in
     omega (arith, is, both, name_long name, extent_long (extent_of f), ap length spelled.2)
 layer_long live (a_definition name f ts) layer own spelled columns =
-    let is : entry_size layer ≡ 14 + length name + 17 = ap entry_size spelled.1 in
+    let is : entry_size layer ≡ 14 + length name + column_count = ap entry_size spelled.1 in
     let named = (counted 1 (number 1)).text name in
     let entries = flat_map (optional extent).text (map (option_map extent_of) ts) in
     let both : length (named ++ 1 ∷ (extent.text (extent_of f) ++ entries))

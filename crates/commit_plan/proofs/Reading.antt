@@ -8,7 +8,7 @@ use Rattle.store_terms.specs.Image.{◌>>=◌, listing_of, held_of}
 use Rattle.store_terms.specs.declared.root.Root.{Root}
 use Rattle.store_terms.specs.StandsFor.{gate, body, fits_slot, is_foreign, slot, newer_root, root_of, StandsFor}
 use Rattle.store_terms.specs.declared.root.Body.{Body}
-use Rattle.store_terms.specs.Roots.{ours}
+use Rattle.store_terms.specs.Roots.{format_number, ours}
 use Rattle.commit_plan.specs.Kept.{Kept, own, other, Named, Live, Rest, Shut, Calm, Ready, Either}
 
 fits : (k : ℕ) (r : Root) → r.sequence ≤ 2 ^ 62 → r.version ≤ 2 ^ 62 → r.sequence % 2 ≡ k → fits_slot k r ≡ true
@@ -20,10 +20,10 @@ slot_open file k r opened spelt bounded numbered parity =
     let o : (gate file k == 167) ≡ true = grind (arith, nat_tests) in
     let f : fits_slot k r ≡ true = fits k r bounded numbered parity in
     ap (λ b. cond b
-    (cond ((body file k).format == 1)
+    (cond ((body file k).format == format_number)
     (cond (fits_slot k (body file k).root) (Ok (Some (body file k).root)) (Err Numbers)) (Err Format))
     (Ok None)) o
-    ∙ ap (λ (q : Body). cond (q.format == 1) (cond (fits_slot k q.root) (Ok (Some q.root)) (Err Numbers))
+    ∙ ap (λ (q : Body). cond (q.format == format_number) (cond (fits_slot k q.root) (Ok (Some q.root)) (Err Numbers))
     (Err Format)) spelt
     ∙ ap (λ b. cond b (Ok (Some r)) (Err Numbers)) f
 
@@ -31,7 +31,7 @@ pub slot_shut : (file : List ℕ) (k : ℕ) → gate file k ≢ 167 → slot fil
 slot_shut file k shut =
     let o : (gate file k == 167) ≡ false = grind (arith, nat_tests) in
     ap (λ b. cond b
-    (cond ((body file k).format == 1)
+    (cond ((body file k).format == format_number)
     (cond (fits_slot k (body file k).root) (Ok (Some (body file k).root)) (Err Numbers)) (Err Format))
     (Ok None)) o
 

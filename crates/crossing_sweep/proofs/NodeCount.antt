@@ -6,7 +6,7 @@ use Rattle.std.proofs.lemmas.List.Elements.{All-head, All-tail, All-map, All-con
 use Rattle.std.proofs.Math.ListN.{length-append}
 use Rattle.std.specs.declared.cmp.Ordering.TheVariants.{Less}
 use Rattle.overlay_terms.specs.Plane.{Point, Segment, point_cmp}
-use Rattle.overlay_terms.specs.Column.{columns}
+use Rattle.overlay_terms.specs.Column.{columns, column_count}
 use Rattle.overlay_terms.specs.Tiles.{is_node}
 use Rattle.overlay_terms.specs.TileLaws.{IsProper}
 use Rattle.exact_point.specs.PlaceOf.{cut_place}
@@ -29,15 +29,15 @@ all_long f m each (x ∷ xs) = length-append (f x) (flat_map f xs) ∙ sum (leng
     sum a b n m e f = omega (arith, e, f)
 
 -- how many candidates for nodes there are
-candidate_count : (segments : List Segment) (s : Segment) → length (candidates segments s) ≡ length segments * 3 + 17
+candidate_count : (segments : List Segment) (s : Segment) → length (candidates segments s) ≡ length segments * 3 + column_count
 candidate_count segments s =
     length-append (flat_map (candidates_with s) segments) (map (cut_place s) columns)
     ∙ ap (λ n. n + length (map (cut_place s) columns)) (all_long (candidates_with s) 3 (λ t. search arith) segments)
     ∙ ap (λ n. length segments * 3 + n) (length-map columns (cut_place s))
 
 module _ (segments : List Segment) (proper : All IsProper segments) where
-  place_count : length (places segments proper) ≡ length segments * (length segments * 3 + 17)
-  place_count = all_long (candidates segments) (length segments * 3 + 17) (candidate_count segments) segments
+  place_count : length (places segments proper) ≡ length segments * (length segments * 3 + column_count)
+  place_count = all_long (candidates segments) (length segments * 3 + column_count) (candidate_count segments) segments
 
   -- nodes in order after a place
   ordered_few : (z : Point) (zs : List Point) → pos 0 <ℤ z.w → All (λ y. point_cmp z y ≡ Less) zs → AllPairs (λ a b. point_cmp a b ≡ Less) zs → All (λ y. pos 0 <ℤ y.w) zs → All (λ y. IsTrue (is_node segments y)) zs
@@ -61,9 +61,9 @@ nodes_are_few input q passed valid is =
     after_foot input.column on.segment y (All-contains IsProper (segments_in input) on.segment proper on.among) (positive i d l) on.on (is.from i d l) in
     let few : length passed ≤ rest_of (segments_in input) proper (foot input.column) = ordered_few (segments_in input) proper (foot input.column) passed one_positive later is.ordered positive is.nodes in
     let all : rest_of (segments_in input) proper (foot input.column) ≤ length (places (segments_in input) proper) = few_rest (segments_in input) proper (foot input.column) in
-    let count : length (places (segments_in input) proper) ≡ length (segments_in input) * (length (segments_in input) * 3 + 17) = place_count (segments_in input) proper in
+    let count : length (places (segments_in input) proper) ≡ length (segments_in input) * (length (segments_in input) * 3 + column_count) = place_count (segments_in input) proper in
     let long : length (segments_in input) ≡ length input.marked = length-map input.marked (λ m. m.segment) in
     at_most (length passed) _ _ (length (segments_in input)) (length input.marked) few all count long
   where
-    at_most : (p r l m n : ℕ) → p ≤ r → r ≤ l → l ≡ m * (m * 3 + 17) → m ≡ n → p ≤ n * (n * 3 + 17)
+    at_most : (p r l m n : ℕ) → p ≤ r → r ≤ l → l ≡ m * (m * 3 + column_count) → m ≡ n → p ≤ n * (n * 3 + column_count)
     at_most p r l m n h k e f = rw (sym f) (omega (arith, h, k, e))

@@ -1,5 +1,5 @@
 -- At the right border of a column all nodes are known: each is an end or a border place.
-use Rattle.std.proofs.Common.{◌≡◌, ℕ, ℤ, pos, ◌+◌, ◌<◌, ◌*ℤ◌, ◌<ℤ◌, ◌≤ℤ◌, inl, inr, ◌⊎◌, false, subst, arith}
+use Rattle.std.proofs.Common.{◌≡◌, ℕ, ℤ, pos, ◌+◌, ◌-◌, ◌<◌, ◌*ℤ◌, ◌<ℤ◌, ◌≤ℤ◌, inl, inr, ◌⊎◌, false, subst, arith}
 use Rattle.std.specs.Prelude.{int_le, int_lt, ◌≢◌}
 use Rattle.std.proofs.lemmas.Int.{ints, by_lt_z}
 use Rattle.std.proofs.lemmas.Bool.{both_ways, and_from, cases_eq}
@@ -18,16 +18,16 @@ not_left k p from out =
 
 -- there the column is not the last one: no coordinate lies beyond it
 pub not_last : (k : ℕ) (at : HPoint) → k < column_count → (border (k + 1) *ℤ at.w) ≤ℤ at.x → k + 1 < column_count
-not_last k at few over = by (cases_eq k 16)
+not_last k at few over = by (cases_eq k (column_count - 1))
   where
-    beyond : (x w : ℤ) → pos 1 ≤ℤ w → x ≤ℤ (pos 1048576 *ℤ w) → (pos 1179648 *ℤ w) ≤ℤ x → ⊥
+    beyond : (x w : ℤ) → pos 1 ≤ℤ w → x ≤ℤ (pos 1048576 *ℤ w) → (border column_count *ℤ w) ≤ℤ x → ⊥
     beyond x w hw h l = omega (arith, ints, hw, h, l)
 
-    by : (k ≡ 16) ⊎ (k ≢ 16) → k + 1 < column_count
+    by : (k ≡ column_count - 1) ⊎ (k ≢ column_count - 1) → k + 1 < column_count
     by (inl e) = absurd (beyond at.x at.w at.w_low at.x_high (subst (λ j. (border (j + 1) *ℤ at.w) ≤ℤ at.x) e over))
     by (inr ne) = few_more k ne few
       where
-        few_more : (k : ℕ) → k ≢ 16 → k < 17 → k + 1 < 17
+        few_more : (k : ℕ) → k ≢ column_count - 1 → k < column_count → k + 1 < column_count
         few_more k ne l = omega (arith, ne, l)
 
 -- a later place of the closed column is on the right border, too

@@ -171,8 +171,8 @@ touches_at k s x w positive left right low high =
 -- a border's number is among those of the columns
 pub border_found : (k : ℕ) (p : Point) → k < column_count → p.x ≡ border k *ℤ p.w → list_any (λ j. int_eq p.x (border j *ℤ p.w)) columns ≡ true
 border_found k p few e =
-    list_any_at (λ j. int_eq p.x (border j *ℤ p.w)) columns k 0 (rw (length-range_with_len 0 17) few)
-    (rw (get_or-range_with_len 0 17 k 0 few) ((Decides-int_eq p.x (border (0 + k) *ℤ p.w)).1 (e ∙ ap (λ j. border j *ℤ p.w) (omega arith))))
+    list_any_at (λ j. int_eq p.x (border j *ℤ p.w)) columns k 0 (rw (length-range_with_len 0 column_count) few)
+    (rw (get_or-range_with_len 0 column_count k 0 few) ((Decides-int_eq p.x (border (0 + k) *ℤ p.w)).1 (e ∙ ap (λ j. border j *ℤ p.w) (omega arith))))
 
 -- a point that is not right of another is not right of a line that the other is not right of
 pub most_through : (p q : Point) (c : ℤ) → pos 0 <ℤ p.w → pos 0 <ℤ q.w → (p.x *ℤ q.w) ≤ℤ (q.x *ℤ p.w) → q.x ≤ℤ (c *ℤ q.w) → p.x ≤ℤ (c *ℤ p.w)

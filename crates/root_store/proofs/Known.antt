@@ -9,7 +9,7 @@ use Rattle.extent_map.specs.declared.extent.Extent as runs
 use Rattle.store_terms.specs.declared.root.RecordExtent.{RecordExtent}
 use Rattle.store_terms.specs.declared.root.Root.{Root}
 use Rattle.store_terms.specs.Places.{blocks, block_size}
-use Rattle.store_terms.specs.Roots.{sequence_max}
+use Rattle.store_terms.specs.Roots.{ours, sequence_max}
 use Rattle.store_terms.specs.Image.{Held, listing_of, held_of}
 use Rattle.store_terms.specs.StandsFor.{gate, body}
 use Rattle.root_reading.specs.Taking.{IsMapOf}
@@ -66,7 +66,7 @@ module _ (file : List ℕ) where
         root = q;
         spelt =
             same body_code _ _
-            (∥∥₁_map there (λ h. h.spelt ∙ ap (λ (s : Root). record { is_ours = true; format = 1; root = s }) (own_root h)));
+            (∥∥₁_map there (λ h. h.spelt ∙ ap ours (own_root h)));
         bounded =
             less _ _ (∥∥₁_map there (λ h. subst (λ (s : Root). s.sequence ≤ sequence_max) (own_root h) h.bounded));
         numbered =

@@ -1,4 +1,5 @@
 use Rattle.std.proofs.lemmas.List.{get_or_default}
+use Rattle.overlay_terms.specs.Column.{column_count}
 use Rattle.store_terms.specs.Choices.{optional}
 use Rattle.store_terms.specs.Catalog.{extent}
 use Rattle.record_writing.proofs.PutLemmas.{put_nothing, put_more, put_all, put_repeated}
@@ -14,5 +15,5 @@ loop-tile-preserved c =
 
 pub returns : goal.returns
 returns c =
-    put_repeated (optional extent) 17 c.args.tiles.now c.args.out.now.items c.loop-tile.out.items c.requires
+    put_repeated (optional extent) column_count c.args.tiles.now c.args.out.now.items c.loop-tile.out.items c.requires
     (put_all (optional extent) c.args.tiles.now c.loop-tile.tile-index c.args.out.now.items c.loop-tile.out.items c.loop-tile-test.false c.loop-tile.invariant)
