@@ -5,11 +5,11 @@ use Rattle.overlay_terms.specs.Plane.{Point, Segment, coordinate_max}
 
 -- how many columns there are; the last has of the coordinates the line x = 2^20 alone
 abbrev pub column_count : ℕ
-column_count = 17
+column_count = 33
 
--- how wide a column is, 2^17
+-- how wide a column is, 2^16
 abbrev pub column_width : ℕ
-column_width = 131072
+column_width = 65536
 
 -- the numbers of the columns
 abbrev pub columns : List ℕ

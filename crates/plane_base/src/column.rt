@@ -7,10 +7,10 @@ use crate::point::COORD_MAX;
 use std::marker::Model;
 
 /// How many columns there are.
-pub const COLUMN_COUNT: u8 = 17;
+pub const COLUMN_COUNT: u8 = 33;
 
 /// How wide a column is.
-const COLUMN_WIDTH: i64 = 131072;
+const COLUMN_WIDTH: i64 = 65536;
 
 /// A column, by its number from 0 on.
 #[derive(Clone, Copy, Debug, PartialEq, Eq, PartialOrd, Ord)]

@@ -9,7 +9,7 @@ use store_terms::root::{Body, RecordExtent, Root};
 const MAGIC: &[u8] = b"OVLSTORE";
 
 /// The number of the file's format.
-pub const FORMAT: u32 = 1;
+pub const FORMAT: u32 = 2;
 
 /// What the first 40 bytes of a body say, whether it is ours or not.
 pub fn read_body(bytes: &[u8]) -> Body

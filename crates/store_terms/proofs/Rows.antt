@@ -30,7 +30,7 @@ the_square_is_44_bytes = refl
 and_reads_back : base_of_record square_bytes ≡ Some square
 and_reads_back = refl
 
-no_layers_are_two_bytes : (catalog 17).text [] ≡ 0 ∷ 0 ∷ []
+no_layers_are_two_bytes : (catalog 33).text [] ≡ 0 ∷ 0 ∷ []
 no_layers_are_two_bytes = refl
 
 and_are_read : catalog_of_record (0 ∷ 0 ∷ []) ≡ Some []
@@ -39,7 +39,7 @@ and_are_read = refl
 abbrev one_layer : List Listed
 one_layer = record { name = codes "A"; records = inl (record { block = 3; size = 44 }) } ∷ []
 
-a_base_layer_alone_takes_17_bytes : (catalog 17).text one_layer ≡ 0 ∷ 1 ∷ 1 ∷ 65 ∷ 0 ∷ 0 ∷ 0 ∷ 0 ∷ 0 ∷ 0 ∷ 0 ∷ 0 ∷ 3 ∷ 0 ∷ 0 ∷ 0 ∷ 44 ∷ []
+a_base_layer_alone_takes_17_bytes : (catalog 33).text one_layer ≡ 0 ∷ 1 ∷ 1 ∷ 65 ∷ 0 ∷ 0 ∷ 0 ∷ 0 ∷ 0 ∷ 0 ∷ 0 ∷ 0 ∷ 3 ∷ 0 ∷ 0 ∷ 0 ∷ 44 ∷ []
 a_base_layer_alone_takes_17_bytes = refl
 
 and_is_read : catalog_of_record (0 ∷ 1 ∷ 1 ∷ 65 ∷ 0 ∷ 0 ∷ 0 ∷ 0 ∷ 0 ∷ 0 ∷ 0 ∷ 0 ∷ 3 ∷ 0 ∷ 0 ∷ 0 ∷ 44 ∷ []) ≡ Some one_layer
@@ -63,16 +63,16 @@ corner_piece = record {
 
 abbrev corner_bytes : List ℕ
 corner_bytes =
-    0 ∷ 16 ∷ 0 ∷ 0 ∷ 0 ∷ 1 ∷ 0 ∷ 16 ∷ 0 ∷ 0 ∷ 0 ∷ 15 ∷ 255 ∷ 255 ∷ 0 ∷ 16 ∷ 0 ∷ 0 ∷ 0 ∷ 16 ∷ 0 ∷ 0
+    0 ∷ 32 ∷ 0 ∷ 0 ∷ 0 ∷ 1 ∷ 0 ∷ 16 ∷ 0 ∷ 0 ∷ 0 ∷ 15 ∷ 255 ∷ 255 ∷ 0 ∷ 16 ∷ 0 ∷ 0 ∷ 0 ∷ 16 ∷ 0 ∷ 0
     ∷ 0 ∷ 0 ∷ 16 ∷ 0 ∷ 0 ∷ 0 ∷ 15 ∷ 255 ∷ 255 ∷ 0 ∷ 0 ∷ 16 ∷ 0 ∷ 0 ∷ 0 ∷ 16 ∷ 0 ∷ 0 ∷ []
 
-the_far_corner_is_40_bytes : named_tile.text (inl (16, corner_piece ∷ [])) ≡ corner_bytes
+the_far_corner_is_40_bytes : named_tile.text (inl (32, corner_piece ∷ [])) ≡ corner_bytes
 the_far_corner_is_40_bytes = refl
 
-and_is_the_tile_of_column_16 : tile_of_record 16 corner_bytes ≡ Some (pieces ((record { x = pos 1048576; y = pos 1048575; w = pos 1 }, record { x = pos 1048576; y = pos 1048576; w = pos 1 }) ∷ []))
-and_is_the_tile_of_column_16 = refl
+and_is_the_tile_of_column_32 : tile_of_record 32 corner_bytes ≡ Some (pieces ((record { x = pos 1048576; y = pos 1048575; w = pos 1 }, record { x = pos 1048576; y = pos 1048576; w = pos 1 }) ∷ []))
+and_is_the_tile_of_column_32 = refl
 
-and_of_no_other_column : tile_of_record 15 corner_bytes ≡ None
+and_of_no_other_column : tile_of_record 31 corner_bytes ≡ None
 and_of_no_other_column = refl
 
 -- slot 0 of a new store: sequence 0, version 0, a catalog of 2 bytes in block 2
@@ -80,7 +80,7 @@ abbrev first_root : Root
 first_root = record { sequence = 0; version = 0; catalog = record { block = 2; size = 2 } }
 
 abbrev first_bytes : List ℕ
-first_bytes = 79 ∷ 86 ∷ 76 ∷ 83 ∷ 84 ∷ 79 ∷ 82 ∷ 69 ∷ 0 ∷ 0 ∷ 0 ∷ 1 ∷ 0 ∷ 0 ∷ 0 ∷ 0 ∷ 0 ∷ 0 ∷ 0 ∷ 0 ∷ 0 ∷ 0 ∷ 0 ∷ 0 ∷ 0 ∷ 0 ∷ 0 ∷ 0 ∷ 0 ∷ 0 ∷ 0 ∷ 0 ∷ 0 ∷ 0 ∷ 0 ∷ 2 ∷ 0 ∷ 0 ∷ 0 ∷ 2 ∷ 0 ∷ 0 ∷ 0 ∷ 0 ∷ 0 ∷ 0 ∷ 0 ∷ 0 ∷ []
+first_bytes = 79 ∷ 86 ∷ 76 ∷ 83 ∷ 84 ∷ 79 ∷ 82 ∷ 69 ∷ 0 ∷ 0 ∷ 0 ∷ 2 ∷ 0 ∷ 0 ∷ 0 ∷ 0 ∷ 0 ∷ 0 ∷ 0 ∷ 0 ∷ 0 ∷ 0 ∷ 0 ∷ 0 ∷ 0 ∷ 0 ∷ 0 ∷ 0 ∷ 0 ∷ 0 ∷ 0 ∷ 0 ∷ 0 ∷ 0 ∷ 0 ∷ 2 ∷ 0 ∷ 0 ∷ 0 ∷ 2 ∷ 0 ∷ 0 ∷ 0 ∷ 0 ∷ 0 ∷ 0 ∷ 0 ∷ 0 ∷ []
 
 the_first_body_is_48_bytes : body_text first_root ≡ first_bytes
 the_first_body_is_48_bytes = refl
@@ -94,7 +94,7 @@ abbrev second_root : Root
 second_root = record { sequence = 1; version = 1; catalog = record { block = 4; size = 17 } }
 
 abbrev second_bytes : List ℕ
-second_bytes = 79 ∷ 86 ∷ 76 ∷ 83 ∷ 84 ∷ 79 ∷ 82 ∷ 69 ∷ 0 ∷ 0 ∷ 0 ∷ 1 ∷ 0 ∷ 0 ∷ 0 ∷ 0 ∷ 0 ∷ 0 ∷ 0 ∷ 1 ∷ 0 ∷ 0 ∷ 0 ∷ 0 ∷ 0 ∷ 0 ∷ 0 ∷ 1 ∷ 0 ∷ 0 ∷ 0 ∷ 0 ∷ 0 ∷ 0 ∷ 0 ∷ 4 ∷ 0 ∷ 0 ∷ 0 ∷ 17 ∷ 0 ∷ 0 ∷ 0 ∷ 0 ∷ 0 ∷ 0 ∷ 0 ∷ 0 ∷ []
+second_bytes = 79 ∷ 86 ∷ 76 ∷ 83 ∷ 84 ∷ 79 ∷ 82 ∷ 69 ∷ 0 ∷ 0 ∷ 0 ∷ 2 ∷ 0 ∷ 0 ∷ 0 ∷ 0 ∷ 0 ∷ 0 ∷ 0 ∷ 1 ∷ 0 ∷ 0 ∷ 0 ∷ 0 ∷ 0 ∷ 0 ∷ 0 ∷ 1 ∷ 0 ∷ 0 ∷ 0 ∷ 0 ∷ 0 ∷ 0 ∷ 0 ∷ 4 ∷ 0 ∷ 0 ∷ 0 ∷ 17 ∷ 0 ∷ 0 ∷ 0 ∷ 0 ∷ 0 ∷ 0 ∷ 0 ∷ 0 ∷ []
 
 the_second_body_is_48_bytes : body_text second_root ≡ second_bytes
 the_second_body_is_48_bytes = refl

@@ -10,7 +10,7 @@ magic = codes "OVLSTORE"
 
 -- the number of the file's format
 abbrev pub format_number : ℕ
-format_number = 1
+format_number = 2
 
 -- the body of a slot: magic, format, the numbers of the root, and zeros that are not read
 abbrev pub body_text : Root → List ℕ

@@ -26,17 +26,17 @@ const CALLS: &[Shape] = &[
 
 /// The bodies of both slots of a new store: sequences 0 and 1, version 0, the catalog of 2 bytes in block 2.
 const FIRST: &[u8] =
-    b"OVLSTORE\0\0\0\x01\0\0\0\0\0\0\0\0\0\0\0\0\0\0\0\0\0\0\0\0\0\0\0\x02\0\0\0\x02\0\0\0\0\0\0\0\0";
+    b"OVLSTORE\0\0\0\x02\0\0\0\0\0\0\0\0\0\0\0\0\0\0\0\0\0\0\0\0\0\0\0\x02\0\0\0\x02\0\0\0\0\0\0\0\0";
 
 const TWIN: &[u8] =
-    b"OVLSTORE\0\0\0\x01\0\0\0\0\0\0\0\x01\0\0\0\0\0\0\0\0\0\0\0\0\0\0\0\x02\0\0\0\x02\0\0\0\0\0\0\0\0";
+    b"OVLSTORE\0\0\0\x02\0\0\0\0\0\0\0\x01\0\0\0\0\0\0\0\0\0\0\0\0\0\0\0\x02\0\0\0\x02\0\0\0\0\0\0\0\0";
 
 /// The root's body of version 1 in slot 1, and the one that completes slot 0.
 const ROOT: &[u8] =
-    b"OVLSTORE\0\0\0\x01\0\0\0\0\0\0\0\x01\0\0\0\0\0\0\0\x01\0\0\0\0\0\0\0\x04\0\0\0\x11\0\0\0\0\0\0\0\0";
+    b"OVLSTORE\0\0\0\x02\0\0\0\0\0\0\0\x01\0\0\0\0\0\0\0\x01\0\0\0\0\0\0\0\x04\0\0\0\x11\0\0\0\0\0\0\0\0";
 
 const NEXT: &[u8] =
-    b"OVLSTORE\0\0\0\x01\0\0\0\0\0\0\0\x02\0\0\0\0\0\0\0\x01\0\0\0\0\0\0\0\x04\0\0\0\x11\0\0\0\0\0\0\0\0";
+    b"OVLSTORE\0\0\0\x02\0\0\0\0\0\0\0\x02\0\0\0\0\0\0\0\x01\0\0\0\0\0\0\0\x04\0\0\0\x11\0\0\0\0\0\0\0\0";
 
 fn shape(call: &Call) -> Shape {
     match call {
@@ -118,7 +118,7 @@ fn askers(calls: &[Call]) -> usize {
 
 /// The ends of the catalog, of the three records and of the tile.
 const ENDS: &[usize] = &[
-    24576, 24651, 12288, 12331, 16384, 16427, 20480, 20484, 28672, 28711,
+    24576, 24667, 12288, 12331, 16384, 16427, 20480, 20484, 28672, 28711,
 ];
 
 #[test]

@@ -25,7 +25,7 @@ const CASES: &[Case] = &[
     (16, b"X", 32, 0),
     (SLOT + 23, b"X", 32, 0),
     // Another format.
-    (27, &[2], 33, 1),
+    (27, &[3], 33, 1),
     (SLOT + 24, &[1], 33, 1),
     // A sequence above 2^62, one of the other slot, and a version above 2^62.
     (28, &[64, 0, 0, 0, 0, 0, 0, 2], 33, 2),
@@ -41,13 +41,13 @@ const CASES: &[Case] = &[
     (CATALOG, &[0, 4], 33, 4),
     (CATALOG + 4, &[2], 33, 4),
     (CATALOG + 47, &[2], 33, 4),
-    (SLOT + 55, &[75], 33, 4),
-    (SLOT + 55, &[77], 33, 4),
+    (SLOT + 55, &[91], 33, 4),
+    (SLOT + 55, &[93], 33, 4),
     // A record in a slot, one behind the file, one over its end, and a tile behind it.
     (CATALOG + 12, &[1], 33, 5),
     (CATALOG + 42, &[8], 33, 5),
     (CATALOG + 13, &[255; 4], 33, 5),
-    (CATALOG + 71, &[8], 33, 5),
+    (CATALOG + 87, &[8], 33, 5),
     // A ring too many, a coordinate out of range, an open ring, a length that is not used up.
     (RECORD, &[0, 2], 33, 6),
     (RECORD + 12, &[0, 16, 0, 1], 33, 6),
@@ -63,10 +63,10 @@ const CASES: &[Case] = &[
     (DEFINITION, b"Z & B", 33, 7),
     // Another form, another column, a piece too many, one that goes back, a length that is not used up.
     (TILE, &[2], 33, 8),
-    (TILE + 1, &[15], 33, 8),
+    (TILE + 1, &[31], 33, 8),
     (TILE + 5, &[2], 33, 8),
     (TILE + 28, &[16, 0, 0], 33, 8),
-    (CATALOG + 75, &[41], 33, 8),
+    (CATALOG + 91, &[41], 33, 8),
     // Two records in one block.
     (CATALOG + 27, &[3], 33, 9),
 ];
@@ -75,7 +75,7 @@ const CASES: &[Case] = &[
 const GROWING: &[Case] = &[
     (CATALOG + 27, &[3], 33, 9),
     (TILE, &[2], 33, 8),
-    (CATALOG + 71, &[8], 33, 5),
+    (CATALOG + 87, &[8], 33, 5),
     (CATALOG + 33, b"A", 33, 7),
     (DEFINITION, b"(A&B)", 33, 6),
     (CATALOG + 42, &[8], 33, 5),
@@ -85,9 +85,9 @@ const GROWING: &[Case] = &[
     (CATALOG + 4, &[2], 33, 4),
     (SLOT + 51, &[1], 33, 3),
     (SLOT + 35, &[2], 33, 2),
-    (SLOT + 27, &[2], 33, 1),
+    (SLOT + 27, &[3], 33, 1),
     (35, &[1], 33, 2),
-    (27, &[2], 33, 1),
+    (27, &[3], 33, 1),
     (SLOT + 16, b"X", 32, 0),
 ];
 

@@ -24,12 +24,12 @@ pub const CREATED: usize = 5;
 /// How many more commit one layer.
 pub const COMMITTED: usize = 8;
 
-/// The entry of a tile of column 16 in a catalog: its record of 40 bytes is in block 7.
+/// The entry of a tile of column 32 in a catalog: its record of 40 bytes is in block 7.
 const ENTRY: [u8; 13] = [1, 0, 0, 0, 0, 0, 0, 0, 7, 0, 0, 0, 40];
 
 /// The record of that tile: one vertical piece, both ends as whole points.
 const TILE: [u8; 40] = [
-    0, 16, 0, 0, 0, 1, 0, 16, 0, 0, 0, 15, 255, 255, 0, 16, 0, 0, 0, 16, 0, 0, 0, 0, 16, 0, 0, 0,
+    0, 32, 0, 0, 0, 1, 0, 16, 0, 0, 0, 15, 255, 255, 0, 16, 0, 0, 0, 16, 0, 0, 0, 0, 16, 0, 0, 0,
     15, 255, 255, 0, 0, 16, 0, 0, 0, 16, 0, 0,
 ];
 
@@ -166,8 +166,8 @@ pub fn stored(rt: &impl Abort, alloc: Global) -> Vec<u8> {
     let disk = disk_with(rt, alloc, 100, image_of_three(rt, alloc), 10);
     let mut file = disk.bytes().to_vec(alloc).expect(rt, "memory");
     file.resize(32768, 0).expect(rt, "memory");
-    put(&mut file, 24639, &ENTRY);
-    put(&mut file, 4151, &[76]);
+    put(&mut file, 24655, &ENTRY);
+    put(&mut file, 4151, &[92]);
     put(&mut file, 28672, &TILE);
     file
 }

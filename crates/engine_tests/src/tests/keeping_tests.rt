@@ -56,7 +56,7 @@ const LISTS: &[Lines] = &[
                 Words::Put("A", SQUARE),
                 Words::Put("B", SHIFTED),
                 Words::Define("I", "A & B"),
-                Words::Take("I", 8),
+                Words::Take("I", 16),
                 Words::Finish(0),
             ],
             11,
@@ -66,7 +66,7 @@ const LISTS: &[Lines] = &[
             &[
                 Words::Put("A", SMALLER),
                 Words::Put("A", SQUARE),
-                Words::Take("I", 8),
+                Words::Take("I", 16),
                 Words::Finish(1),
             ],
             7,
@@ -75,7 +75,7 @@ const LISTS: &[Lines] = &[
         (
             &[
                 Words::Put("A", SMALLER),
-                Words::Take("I", 8),
+                Words::Take("I", 16),
                 Words::Finish(2),
             ],
             9,
@@ -127,10 +127,10 @@ fn are_written(alloc: Global, lines: &[Line], calls: &[Call]) -> Result<bool, Fa
     Ok(calls.len() == from)
 }
 
-/// The layers of an engine, and whether it has the tile of I in column 8: the one that the lists build.
+/// The layers of an engine, and whether it has the tile of I in column 16: the one that the lists build.
 fn held(alloc: Global, engine: &Engine<MemDisk>) -> Result<(Vec<u8>, bool), Fail> {
     let version = engine.version();
-    let tile = version.tile(&Name::new(alloc, b"I")?, 8);
+    let tile = version.tile(&Name::new(alloc, b"I")?, 16);
     Ok((version.layers().list(alloc)?, tile.is_some()))
 }
 
@@ -147,7 +147,7 @@ fn is_recovered(
         return Ok(false);
     }
     let name = Name::new(alloc, b"I")?;
-    Ok(!has_tile || engine.version().verify(alloc, &name, 8)? == Verdict::Same)
+    Ok(!has_tile || engine.version().verify(alloc, &name, 16)? == Verdict::Same)
 }
 
 /// Whether the commits of some lines write so, and what they write and keep is recovered.

@@ -8,10 +8,10 @@ const OVERTAKEN: &[Words] = &[
     Words::Put("A", SQUARE),
     Words::Put("B", SHIFTED),
     Words::Define("I", "A & B"),
-    Words::Take("I", 8),
+    Words::Take("I", 16),
     Words::Put("A", SMALLER),
     Words::Finish(0),
-    Words::Take("I", 8),
+    Words::Take("I", 16),
     Words::Finish(1),
     Words::Finish(1),
 ];

@@ -20,16 +20,16 @@ shared = (place 0 0, place 0 10) ∷ (place 0 0, place 5 0) ∷ (place 0 10, pla
 abbrev single : List (Point × Point)
 single = (place 5 0, place 5 10) ∷ (place 5 0, place 10 0) ∷ (place 5 10, place 10 10) ∷ (place 10 0, place 10 10) ∷ []
 
-the_shared_half_has_four_pieces : boundary_among corners layers (codes "Y") 8 ≡ shared
+the_shared_half_has_four_pieces : boundary_among corners layers (codes "Y") 16 ≡ shared
 the_shared_half_has_four_pieces = refl
 
-so_has_the_other_half : boundary_among corners layers (codes "Z") 8 ≡ single
+so_has_the_other_half : boundary_among corners layers (codes "Z") 16 ≡ single
 so_has_the_other_half = refl
 
-each_input_alone_gives_its_tile : map (λ name. tile_among corners layers name 8) (codes "Y" ∷ codes "Z" ∷ []) ≡ shared ∷ single ∷ []
+each_input_alone_gives_its_tile : map (λ name. tile_among corners layers name 16) (codes "Y" ∷ codes "Z" ∷ []) ≡ shared ∷ single ∷ []
 each_input_alone_gives_its_tile = refl
 
-the_input_has_six_nodes : length (nodes_of_input corners (input_of layers (codes "Y") 8)) ≡ 6
+the_input_has_six_nodes : length (nodes_of_input corners (input_of layers (codes "Y") 16)) ≡ 6
 the_input_has_six_nodes = refl
 
 an_end_of_g_cuts_the_edge_of_a : filter (is_on (record { left = at (pos 0) (pos 0); right = at (pos 10) (pos 0) })) (nodes_among corners layers (codes "Y")) ≡ place 0 0 ∷ place 5 0 ∷ place 10 0 ∷ []

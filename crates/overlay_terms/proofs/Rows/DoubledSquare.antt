@@ -32,8 +32,8 @@ the_nodes_are_its_corners = refl
 each_piece_is_there_once : pieces_among corners layers (codes "O") ≡ (place 0 0, place 0 10) ∷ (place 0 0, place 10 0) ∷ (place 0 10, place 10 10) ∷ (place 10 0, place 10 10) ∷ []
 each_piece_is_there_once = refl
 
-no_piece_is_boundary : boundary_among corners layers (codes "O") 8 ≡ []
+no_piece_is_boundary : boundary_among corners layers (codes "O") 16 ≡ []
 no_piece_is_boundary = refl
 
-the_input_alone_gives_none : tile_among corners layers (codes "O") 8 ≡ []
+the_input_alone_gives_none : tile_among corners layers (codes "O") 16 ≡ []
 the_input_alone_gives_none = refl

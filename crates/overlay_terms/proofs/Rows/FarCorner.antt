@@ -24,19 +24,19 @@ last_tile = (place far near, place far far) ∷ []
 abbrev tile_before : List (Point × Point)
 tile_before = (place near near, place near far) ∷ (place near near, place far near) ∷ (place near far, place far far) ∷ []
 
-one_piece_begins_in_the_last_column : boundary_among corners layers (codes "R") 16 ≡ last_tile
+one_piece_begins_in_the_last_column : boundary_among corners layers (codes "R") 32 ≡ last_tile
 one_piece_begins_in_the_last_column = refl
 
-three_pieces_begin_in_the_column_before : boundary_among corners layers (codes "R") 15 ≡ tile_before
+three_pieces_begin_in_the_column_before : boundary_among corners layers (codes "R") 31 ≡ tile_before
 three_pieces_begin_in_the_column_before = refl
 
-each_input_alone_gives_its_tile : map (tile_among corners layers (codes "R")) (14 ∷ 15 ∷ 16 ∷ []) ≡ [] ∷ tile_before ∷ last_tile ∷ []
+each_input_alone_gives_its_tile : map (tile_among corners layers (codes "R")) (30 ∷ 31 ∷ 32 ∷ []) ≡ [] ∷ tile_before ∷ last_tile ∷ []
 each_input_alone_gives_its_tile = refl
 
-the_last_input_has_the_edges_that_reach_the_border : length (unmarked (input_of layers (codes "R") 16).marked) ≡ 3
+the_last_input_has_the_edges_that_reach_the_border : length (unmarked (input_of layers (codes "R") 32).marked) ≡ 3
 the_last_input_has_the_edges_that_reach_the_border = refl
 
-the_input_before_lacks_the_right_edge : length (unmarked (input_of layers (codes "R") 15).marked) ≡ 3
+the_input_before_lacks_the_right_edge : length (unmarked (input_of layers (codes "R") 31).marked) ≡ 3
 the_input_before_lacks_the_right_edge = refl
 
 the_corner_is_edge : answer_at layers (codes "R") (place far far) ≡ edge
@@ -48,16 +48,16 @@ beside_the_square_is_out = refl
 the_corner_is_on_the_last_border : is_on_border (reached layers (codes "R")) (place far far) ≡ true
 the_corner_is_on_the_last_border = refl
 
-there_are_seventeen_columns : length columns ≡ column_count
-there_are_seventeen_columns = refl
+there_are_thirty_three_columns : length columns ≡ column_count
+there_are_thirty_three_columns = refl
 
-the_last_begins_at_the_largest_coordinate : border 16 ≡ pos coordinate_max
+the_last_begins_at_the_largest_coordinate : border 32 ≡ pos coordinate_max
 the_last_begins_at_the_largest_coordinate = refl
 
 the_first_begins_at_the_smallest : border 0 ≡ minus coordinate_max
 the_first_begins_at_the_smallest = refl
 
-a_point_lies_in_one_column : map (λ p. filter (λ k. is_in_column k p) columns) (place far 0 ∷ point (minus 1) (pos 0) 3 ∷ place 131071 0 ∷ place 131072 0 ∷ point (minus far) (pos 0) 1 ∷ []) ≡ (16 ∷ []) ∷ (7 ∷ []) ∷ (8 ∷ []) ∷ (9 ∷ []) ∷ (0 ∷ []) ∷ []
+a_point_lies_in_one_column : map (λ p. filter (λ k. is_in_column k p) columns) (place far 0 ∷ point (minus 1) (pos 0) 3 ∷ place 65535 0 ∷ place 65536 0 ∷ point (minus far) (pos 0) 1 ∷ []) ≡ (32 ∷ []) ∷ (15 ∷ []) ∷ (16 ∷ []) ∷ (17 ∷ []) ∷ (0 ∷ []) ∷ []
 a_point_lies_in_one_column = refl
 
 a_segment_across_the_plane_touches_all : filter (λ k. touches k (record { left = at (minus far) (pos 0); right = at (pos far) (pos 1) })) columns ≡ columns

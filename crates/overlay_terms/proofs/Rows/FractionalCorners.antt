@@ -23,10 +23,10 @@ abbrev boundary : List (Point × Point)
 boundary =
     (part 3 1 3, part 3 5 3) ∷ (part 3 1 3, part 6 2 3) ∷ (part 3 5 3, part 6 4 3) ∷ (part 6 2 3, part 6 4 3) ∷ []
 
-four_pieces_have_fractional_corners : boundary_among corners layers (codes "F") 8 ≡ boundary
+four_pieces_have_fractional_corners : boundary_among corners layers (codes "F") 16 ≡ boundary
 four_pieces_have_fractional_corners = refl
 
-the_input_alone_gives_them : tile_among corners layers (codes "F") 8 ≡ boundary
+the_input_alone_gives_them : tile_among corners layers (codes "F") 16 ≡ boundary
 the_input_alone_gives_them = refl
 
 eleven_of_the_points_are_nodes : length (nodes_among corners layers (codes "F")) ≡ 11

@@ -28,10 +28,10 @@ the_definition_is_followed = record { accepted_there = refl; number = refl; laye
 both_are_followed_as_one : FollowsBatch empty (put_a ∷ define_i ∷ []) with_both
 both_are_followed_as_one = record { accepted_there = refl; number = refl; layers = refl; tiles = λ name k. nothing_either_way _; durable = refl }
 
-the_last_column_of_i_is_empty : IsTileAt pieces_max (input_of with_i.layers (codes "I") 16) (pieces [])
-the_last_column_of_i_is_empty = (omega arith, a_column_without_segments_has_the_empty_tile _ 16)
+the_last_column_of_i_is_empty : IsTileAt pieces_max (input_of with_i.layers (codes "I") 32) (pieces [])
+the_last_column_of_i_is_empty = (omega arith, a_column_without_segments_has_the_empty_tile _ 32)
 
-the_tile_is_followed : FollowsTile with_i (codes "I") 16 (pieces []) with_tile
+the_tile_is_followed : FollowsTile with_i (codes "I") 32 (pieces []) with_tile
 the_tile_is_followed = record {
   derived_layer = refl;
   known_column = omega arith;

@@ -10,8 +10,8 @@ use Rattle.overlay_terms.specs.Laws.{is_on_any}
 use Rattle.overlay_terms.proofs.Rows.Shared.{minus, place, square, base_layer, same_layer}
 use Rattle.overlay_terms.proofs.Rows.FirstRun.{first_run}
 
-a_column_is_131072_wide : column_width ≡ 131072
-a_column_is_131072_wide = refl
+a_column_is_65536_wide : column_width ≡ 65536
+a_column_is_65536_wide = refl
 
 at_most_32_layers_stand : layers_max ≡ 32
 at_most_32_layers_stand = refl
@@ -22,7 +22,7 @@ the_largest_coordinate_is_in_range = ((omega arith, omega arith), (omega arith, 
 half_of_it_is_in_the_plane : IsInPlane (pos coordinate_max) (pos 2)
 half_of_it_is_in_the_plane = (omega arith, omega arith)
 
-minus_a_third_is_in_the_column_left_of_zero : IsInColumn 7 (minus 1) (pos 3)
+minus_a_third_is_in_the_column_left_of_zero : IsInColumn 15 (minus 1) (pos 3)
 minus_a_third_is_in_the_column_left_of_zero = (omega arith, omega arith)
 
 a_name_finds_what_stands_beside_it : map {B = ℕ} (named 0 ((codes "A", 1) ∷ (codes "B", 2) ∷ (codes "A", 3) ∷ [])) (codes "A" ∷ codes "B" ∷ codes "C" ∷ codes "AA" ∷ []) ≡ 1 ∷ 2 ∷ 0 ∷ 0 ∷ []

@@ -23,7 +23,7 @@ abbrev inputs : List Layer → List ℕ → List Input
 inputs layers columns = map (input_of layers (codes "N")) columns
 
 abbrev other_columns : List ℕ
-other_columns = range_with_len 0 7 ++ range_with_len 8 9
+other_columns = range_with_len 0 15 ++ range_with_len 16 17
 
 the_other_sixteen_inputs_are_the_same : inputs widened other_columns ≡ inputs layers other_columns
 the_other_sixteen_inputs_are_the_same = refl
@@ -31,10 +31,10 @@ the_other_sixteen_inputs_are_the_same = refl
 abbrev left_ends : Input → List ℤ
 left_ends input = map (λ (m : Marked). m.segment.left.x) input.marked
 
-one_input_had_the_left_square : left_ends (input_of layers (codes "N") 7) ≡ minus 20 ∷ minus 10 ∷ minus 20 ∷ minus 20 ∷ []
+one_input_had_the_left_square : left_ends (input_of layers (codes "N") 15) ≡ minus 20 ∷ minus 10 ∷ minus 20 ∷ minus 20 ∷ []
 one_input_had_the_left_square = refl
 
-it_has_the_wider_one_now : left_ends (input_of widened (codes "N") 7) ≡ minus 21 ∷ minus 10 ∷ minus 21 ∷ minus 21 ∷ []
+it_has_the_wider_one_now : left_ends (input_of widened (codes "N") 15) ≡ minus 21 ∷ minus 10 ∷ minus 21 ∷ minus 21 ∷ []
 it_has_the_wider_one_now = refl
 
 the_same_definition_leaves_every_input : inputs (applied layers (define (codes "N") (leaf (codes "M")))) columns ≡ inputs layers columns
@@ -46,7 +46,7 @@ another_one_changes_the_steps_of_all = refl
 each_input_has_the_steps : map (λ (i : Input). i.steps) (inputs layers columns) ≡ map (λ _. record { bases = 1; definitions = leaf (base_bit 0) ∷ [] }) columns
 each_input_has_the_steps = refl
 
-the_put_touches_that_tile_alone : touched_tiles layers (put (codes "M") (squares 21)) ≡ (codes "N", 7) ∷ []
+the_put_touches_that_tile_alone : touched_tiles layers (put (codes "M") (squares 21)) ≡ (codes "N", 15) ∷ []
 the_put_touches_that_tile_alone = refl
 
 the_same_definition_touches_nothing : touched_tiles widened (define (codes "N") (leaf (codes "M"))) ≡ []

@@ -35,16 +35,16 @@ the_ring_crosses_itself = refl
 the_crossing_is_no_end : is_end (segments_of (bow ∷ [])) (place 2 2) ≡ false
 the_crossing_is_no_end = refl
 
-six_pieces_are_boundary : boundary_among corners layers (codes "V") 8 ≡ boundary
+six_pieces_are_boundary : boundary_among corners layers (codes "V") 16 ≡ boundary
 six_pieces_are_boundary = refl
 
-the_input_alone_gives_them : tile_among corners layers (codes "V") 8 ≡ boundary
+the_input_alone_gives_them : tile_among corners layers (codes "V") 16 ≡ boundary
 the_input_alone_gives_them = refl
 
 they_are_all_pieces : pieces_among corners layers (codes "V") ≡ boundary
 they_are_all_pieces = refl
 
-the_input_has_five_nodes : length (nodes_of_input corners (input_of layers (codes "V") 8)) ≡ 5
+the_input_has_five_nodes : length (nodes_of_input corners (input_of layers (codes "V") 16)) ≡ 5
 the_input_has_five_nodes = refl
 
 five_of_the_points_are_nodes : length (nodes_among corners layers (codes "V")) ≡ 5

@@ -19,10 +19,10 @@ boundary =
     (place 0 0, place 0 10) ∷ (place 0 0, place 10 0) ∷ (place 0 10, place 10 10) ∷ (place 10 0, place 20 0) ∷ (place 10 10, place 20 10)
     ∷ (place 20 0, place 20 10) ∷ []
 
-six_pieces_go_round_both : boundary_among corners layers (codes "U") 8 ≡ boundary
+six_pieces_go_round_both : boundary_among corners layers (codes "U") 16 ≡ boundary
 six_pieces_go_round_both = refl
 
-the_input_alone_gives_them : tile_among corners layers (codes "U") 8 ≡ boundary
+the_input_alone_gives_them : tile_among corners layers (codes "U") 16 ≡ boundary
 the_input_alone_gives_them = refl
 
 six_of_the_points_are_nodes : length (nodes_among corners layers (codes "U")) ≡ 6

@@ -69,16 +69,16 @@ parities tile points = map (λ q. count_by (is_pair_below q) tile % 2 == 1) poin
 abbrev above : List Point
 above = place 5 2 ∷ place 7 7 ∷ place 6 9 ∷ place 10 12 ∷ part 19 19 2 ∷ place 12 7 ∷ place 7 20 ∷ part 3 2 2 ∷ part 5 4 3 ∷ part 1 4 2 ∷ place 2 3 ∷ part 41 11 40 ∷ []
 
-of_the_two_squares_by_parity : parities (boundary_among squares.corners first_run (codes "I") 8) above ≡ map (value_of first_run (codes "I")) above
+of_the_two_squares_by_parity : parities (boundary_among squares.corners first_run (codes "I") 16) above ≡ map (value_of first_run (codes "I")) above
 of_the_two_squares_by_parity = refl
 
-of_fractional_corners_by_parity : parities (boundary_among fractional.corners fractional.layers (codes "F") 8) above ≡ map (value_of fractional.layers (codes "F")) above
+of_fractional_corners_by_parity : parities (boundary_among fractional.corners fractional.layers (codes "F") 16) above ≡ map (value_of fractional.layers (codes "F")) above
 of_fractional_corners_by_parity = refl
 
-of_both_squares_by_parity : parities (boundary_among side_by_side.corners side_by_side.layers (codes "U") 8) above ≡ map (value_of side_by_side.layers (codes "U")) above
+of_both_squares_by_parity : parities (boundary_among side_by_side.corners side_by_side.layers (codes "U") 16) above ≡ map (value_of side_by_side.layers (codes "U")) above
 of_both_squares_by_parity = refl
 
-of_the_bow_by_parity : parities (boundary_among bow.corners bow.layers (codes "V") 8) above ≡ map (value_of bow.layers (codes "V")) above
+of_the_bow_by_parity : parities (boundary_among bow.corners bow.layers (codes "V") 16) above ≡ map (value_of bow.layers (codes "V")) above
 of_the_bow_by_parity = refl
 
 ten_five_is_on_an_edge_and_the_others_are_off : map (is_off (segments_in_reach side_by_side.layers (codes "U"))) (place 10 5 ∷ place 10 12 ∷ place 7 7 ∷ []) ≡ false ∷ true ∷ true ∷ []

@@ -20,7 +20,7 @@ abbrev one : Command → Batch
 one command = command ∷ []
 
 abbrev finished : Finished
-finished = record { name = codes "I"; column = 16; tile = pieces [] }
+finished = record { name = codes "I"; column = 32; tile = pieces [] }
 
 abbrev pub with_a : Version
 with_a = record { number = 1; layers = applied [] put_a; tiles = []; durable = 0 }
@@ -43,7 +43,7 @@ small_history = record {
   start = empty;
   entries =
       record { event = accepted 0 (one put_a); version = with_a } ∷ record { event = accepted 1 (one define_i); version = with_i }
-      ∷ record { event = kept (codes "I") 16 (pieces []); version = with_tile } ∷ record { event = durable_to 2; version = all_durable } ∷ [];
+      ∷ record { event = kept (codes "I") 32 (pieces []); version = with_tile } ∷ record { event = durable_to 2; version = all_durable } ∷ [];
 }
 
 the_newest_version_is_durable : newest small_history ≡ all_durable
@@ -58,17 +58,17 @@ each_session_made_one_batch = refl
 a_batch_of_two_is_one_entry : map (λ session. commands_of session (record { event = accepted 1 (put_a ∷ define_i ∷ []); version = with_both } ∷ [])) (0 ∷ 1 ∷ []) ≡ [] ∷ ((put_a ∷ define_i ∷ []) ∷ []) ∷ []
 a_batch_of_two_is_one_entry = refl
 
-a_tile_is_nobodys_batch : map (own_command 0) (accepted 0 (one put_a) ∷ accepted 1 (one put_a) ∷ kept (codes "I") 16 (pieces []) ∷ durable_to 2 ∷ []) ≡ Some (one put_a) ∷ None ∷ None ∷ None ∷ []
+a_tile_is_nobodys_batch : map (own_command 0) (accepted 0 (one put_a) ∷ accepted 1 (one put_a) ∷ kept (codes "I") 32 (pieces []) ∷ durable_to 2 ∷ []) ≡ Some (one put_a) ∷ None ∷ None ∷ None ∷ []
 a_tile_is_nobodys_batch = refl
 
-one_tile_is_finished : map (tile_at all_durable.tiles (codes "I")) (15 ∷ 16 ∷ []) ≡ None ∷ Some (pieces []) ∷ []
+one_tile_is_finished : map (tile_at all_durable.tiles (codes "I")) (31 ∷ 32 ∷ []) ≡ None ∷ Some (pieces []) ∷ []
 one_tile_is_finished = refl
 
-a_layer_of_another_name_has_none : tile_at all_durable.tiles (codes "J") 16 ≡ None
+a_layer_of_another_name_has_none : tile_at all_durable.tiles (codes "J") 32 ≡ None
 a_layer_of_another_name_has_none = refl
 
-the_first_of_two_tiles_counts : tile_at (finished ∷ record { name = codes "I"; column = 16; tile = oversize } ∷ []) (codes "I") 16 ≡ Some (pieces [])
+the_first_of_two_tiles_counts : tile_at (finished ∷ record { name = codes "I"; column = 32; tile = oversize } ∷ []) (codes "I") 32 ≡ Some (pieces [])
 the_first_of_two_tiles_counts = refl
 
 it_begins_with_its_first_entry : BeginsWith small_history (record { start = empty; entries = record { event = accepted 0 (one put_a); version = with_a } ∷ [] })
-it_begins_with_its_first_entry = (record { event = accepted 1 (one define_i); version = with_i } ∷ record { event = kept (codes "I") 16 (pieces []); version = with_tile } ∷ record { event = durable_to 2; version = all_durable } ∷ [], refl)
+it_begins_with_its_first_entry = (record { event = accepted 1 (one define_i); version = with_i } ∷ record { event = kept (codes "I") 32 (pieces []); version = with_tile } ∷ record { event = durable_to 2; version = all_durable } ∷ [], refl)

@@ -1,4 +1,4 @@
--- Which tiles a command touches, under definitions that name one another. All segments lie in column 8.
+-- Which tiles a command touches, under definitions that name one another. All segments lie in column 16.
 use Rattle.std.proofs.Common.{◌≡◌, ℕ, true, false, List, [], ◌∷◌, ◌++◌, refl, map, reverse, codes}
 use Rattle.overlay_terms.specs.Column.{columns}
 use Rattle.overlay_terms.specs.Trees.{leaf, combine, intersection, union, difference, base_bit, definition}
@@ -40,13 +40,13 @@ segments_carry_these_numbers = refl
 abbrev in_all : Name → List (Name × ℕ)
 in_all name = map (λ k. (name, k)) columns
 
-a_put_touches_what_stands_over_it_where_segments_change : map (λ name. touched_tiles layers (put name [])) (codes "A" ∷ codes "B" ∷ codes "C" ∷ []) ≡ ((codes "I", 8) ∷ (codes "J", 8) ∷ []) ∷ ((codes "I", 8) ∷ (codes "J", 8) ∷ (codes "L", 8) ∷ []) ∷ ((codes "J", 8) ∷ []) ∷ []
+a_put_touches_what_stands_over_it_where_segments_change : map (λ name. touched_tiles layers (put name [])) (codes "A" ∷ codes "B" ∷ codes "C" ∷ []) ≡ ((codes "I", 16) ∷ (codes "J", 16) ∷ []) ∷ ((codes "I", 16) ∷ (codes "J", 16) ∷ (codes "L", 16) ∷ []) ∷ ((codes "J", 16) ∷ []) ∷ []
 a_put_touches_what_stands_over_it_where_segments_change = refl
 
 the_same_rings_touch_nothing : touched_tiles layers (put (codes "B") (square 5 15 ∷ [])) ≡ []
 the_same_rings_touch_nothing = refl
 
-the_order_of_segments_counts : touched_tiles layers (put (codes "C") (reverse (square 20 30) ∷ [])) ≡ (codes "J", 8) ∷ []
+the_order_of_segments_counts : touched_tiles layers (put (codes "C") (reverse (square 20 30) ∷ [])) ≡ (codes "J", 16) ∷ []
 the_order_of_segments_counts = refl
 
 a_new_base_layer_touches_nothing : touched_tiles layers (put (codes "X") (square 0 10 ∷ [])) ≡ []
@@ -58,7 +58,7 @@ another_operation_touches_all_tiles_of_what_stands_over_it = refl
 a_definition_that_changes_nothing_touches_nothing : touched_tiles layers (define (codes "I") (combine intersection (leaf (codes "A")) (leaf (codes "B")))) ≡ []
 a_definition_that_changes_nothing_touches_nothing = refl
 
-another_base_layer_in_the_same_part_touches_where_segments_differ : touched_tiles layers (define (codes "L") (leaf (codes "A"))) ≡ (codes "L", 8) ∷ []
+another_base_layer_in_the_same_part_touches_where_segments_differ : touched_tiles layers (define (codes "L") (leaf (codes "A"))) ≡ (codes "L", 16) ∷ []
 another_base_layer_in_the_same_part_touches_where_segments_differ = refl
 
 a_new_definition_touches_nothing : touched_tiles layers (define (codes "X") (leaf (codes "J"))) ≡ []

@@ -27,22 +27,22 @@ the_top_edge_of_a_holds_three_nodes = refl
 twelve_pieces_join_them : length (pieces_among corners first_run (codes "I")) ≡ 12
 twelve_pieces_join_them = refl
 
-four_pieces_are_boundary : boundary_among corners first_run (codes "I") 8 ≡ boundary
+four_pieces_are_boundary : boundary_among corners first_run (codes "I") 16 ≡ boundary
 four_pieces_are_boundary = refl
 
-the_input_alone_gives_them : tile_among corners first_run (codes "I") 8 ≡ boundary
+the_input_alone_gives_them : tile_among corners first_run (codes "I") 16 ≡ boundary
 the_input_alone_gives_them = refl
 
-the_input_has_ten_nodes : length (nodes_of_input corners (input_of first_run (codes "I") 8)) ≡ 10
+the_input_has_ten_nodes : length (nodes_of_input corners (input_of first_run (codes "I") 16)) ≡ 10
 the_input_has_ten_nodes = refl
 
-all_eight_segments_touch_the_column : (input_of first_run (codes "I") 8).marked ≡ segments_in_reach first_run (codes "I")
+all_eight_segments_touch_the_column : (input_of first_run (codes "I") 16).marked ≡ segments_in_reach first_run (codes "I")
 all_eight_segments_touch_the_column = refl
 
 four_are_of_each_square : map (λ (m : Marked). m.layer) (segments_in_reach first_run (codes "I")) ≡ 0 ∷ 0 ∷ 0 ∷ 0 ∷ 1 ∷ 1 ∷ 1 ∷ 1 ∷ []
 four_are_of_each_square = refl
 
-the_last_column_has_no_input : input_of first_run (codes "I") 16 ≡ record { column = 16; marked = []; steps = steps_in_reach first_run (codes "I") }
+the_last_column_has_no_input : input_of first_run (codes "I") 32 ≡ record { column = 32; marked = []; steps = steps_in_reach first_run (codes "I") }
 the_last_column_has_no_input = refl
 
 the_next_column_has_no_piece : boundary_among corners first_run (codes "I") 9 ≡ []

@@ -19,14 +19,14 @@ const LEFT: Corners = &[&[(-10, 5), (0, 5), (0, 15), (-10, 15), (-10, 5)]];
 
 /// How many segments have a point in the column.
 const INPUTS: &[(Corners, u8, usize)] = &[
-    (SQUARE, 8, 4),
-    (SQUARE, 7, 0),
-    (LEFT, 8, 3),
-    (SQUARE, 9, 0),
-    (ACROSS, 7, 3),
-    (ACROSS, 8, 3),
-    (CORNER, 15, 3),
-    (CORNER, 16, 3),
+    (SQUARE, 16, 4),
+    (SQUARE, 15, 0),
+    (LEFT, 16, 3),
+    (SQUARE, 17, 0),
+    (ACROSS, 15, 3),
+    (ACROSS, 16, 3),
+    (CORNER, 31, 3),
+    (CORNER, 32, 3),
 ];
 
 #[test]
@@ -40,24 +40,24 @@ fn an_input_has_the_segments_with_a_point_in_its_column(rt: HostRuntime) {
 
 #[test]
 fn a_copy_is_equal_and_another_column_is_not(rt: HostRuntime) {
-    let input = input_of(&rt, rt.alloc(), SQUARE, SHIFTED, "A & B", 8);
+    let input = input_of(&rt, rt.alloc(), SQUARE, SHIFTED, "A & B", 16);
     let copy = input.try_copy(rt.alloc()).expect(&rt, "memory");
-    let other = input_of(&rt, rt.alloc(), SQUARE, SHIFTED, "A & B", 9);
+    let other = input_of(&rt, rt.alloc(), SQUARE, SHIFTED, "A & B", 17);
     assert!(rt; copy == input);
     assert!(rt; other != input);
 }
 
 /// How many units have each of four masks.
 const UNITS: &[(Corners, Corners, u8, [usize; 4])] = &[
-    (SQUARE, SHIFTED, 8, [0, 4, 4, 0]),
-    (SQUARE, LEFT_HALF, 8, [0, 3, 1, 3]),
-    (SQUARE, SQUARE, 8, [0, 0, 0, 4]),
-    (TWICE, NOTHING, 8, [4, 0, 0, 0]),
+    (SQUARE, SHIFTED, 16, [0, 4, 4, 0]),
+    (SQUARE, LEFT_HALF, 16, [0, 3, 1, 3]),
+    (SQUARE, SQUARE, 16, [0, 0, 0, 4]),
+    (TWICE, NOTHING, 16, [4, 0, 0, 0]),
     // ends of the second cut a side of the first
-    (SQUARE, BESIDE, 8, [0, 5, 3, 1]),
+    (SQUARE, BESIDE, 16, [0, 5, 3, 1]),
     // a corner that touches a side does not cut it
-    (SQUARE, TOUCHING, 8, [0, 4, 3, 0]),
-    (SQUARE, SHIFTED, 9, [0, 0, 0, 0]),
+    (SQUARE, TOUCHING, 16, [0, 4, 3, 0]),
+    (SQUARE, SHIFTED, 17, [0, 0, 0, 0]),
 ];
 
 /// Counts one more where there is a place for it.
@@ -81,7 +81,7 @@ fn units_end_at_the_ends_of_collinear_segments(rt: HostRuntime) {
 
 #[test]
 fn the_nodes_of_two_crossing_squares_are_counted_by_unit(rt: HostRuntime) {
-    let input = input_of(&rt, rt.alloc(), SQUARE, SHIFTED, "A & B", 8);
+    let input = input_of(&rt, rt.alloc(), SQUARE, SHIFTED, "A & B", 16);
     let mut counts = [0; 4];
     for unit in &units(rt.alloc(), &input).expect(&rt, "memory") {
         let nodes = nodes_on(rt.alloc(), &unit.seg, &input).expect(&rt, "memory");
@@ -93,16 +93,16 @@ fn the_nodes_of_two_crossing_squares_are_counted_by_unit(rt: HostRuntime) {
 
 /// How many pieces begin in the column.
 const PIECES: &[(Corners, Corners, u8, usize)] = &[
-    (SQUARE, SHIFTED, 8, 12),
-    (ACROSS, NOTHING, 7, 3),
-    (ACROSS, NOTHING, 8, 3),
-    (BOW_TIE, NOTHING, 8, 6),
-    (SQUARE, LEFT_HALF, 8, 7),
-    (TWICE, NOTHING, 8, 4),
-    (CORNER, NOTHING, 15, 3),
-    (CORNER, NOTHING, 16, 1),
-    (TRIANGLE, STRIP, 8, 15),
-    (SQUARE, SHIFTED, 9, 0),
+    (SQUARE, SHIFTED, 16, 12),
+    (ACROSS, NOTHING, 15, 3),
+    (ACROSS, NOTHING, 16, 3),
+    (BOW_TIE, NOTHING, 16, 6),
+    (SQUARE, LEFT_HALF, 16, 7),
+    (TWICE, NOTHING, 16, 4),
+    (CORNER, NOTHING, 31, 3),
+    (CORNER, NOTHING, 32, 1),
+    (TRIANGLE, STRIP, 16, 15),
+    (SQUARE, SHIFTED, 17, 0),
 ];
 
 #[test]
@@ -179,8 +179,8 @@ fn check_both(rt: &impl Abort, alloc: Global, input: &TileInput, rows: &[Row]) {
 
 #[test]
 fn pieces_stand_in_order_with_the_layers_on_both_sides(rt: HostRuntime) {
-    let squares = input_of(&rt, rt.alloc(), SQUARE, SHIFTED, "A & B", 8);
+    let squares = input_of(&rt, rt.alloc(), SQUARE, SHIFTED, "A & B", 16);
     check_both(&rt, rt.alloc(), &squares, SQUARES);
-    let triangle = input_of(&rt, rt.alloc(), TRIANGLE, STRIP, "A & B", 8);
+    let triangle = input_of(&rt, rt.alloc(), TRIANGLE, STRIP, "A & B", 16);
     check_both(&rt, rt.alloc(), &triangle, CUT_TRIANGLE);
 }

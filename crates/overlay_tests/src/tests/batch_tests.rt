@@ -75,9 +75,9 @@ fn a_batch_has_one_to_64_commands(rt: HostRuntime) {
     }
 }
 
-/// The version that keeps the tile of I in column 8.
+/// The version that keeps the tile of I in column 16.
 fn with_tile(rt: &impl Abort, alloc: Global, version: &Version) -> Version {
-    let input = input_in(rt, alloc, version.layers(), "I", 8);
+    let input = input_in(rt, alloc, version.layers(), "I", 16);
     let tile = Built::new(alloc, input).expect(rt, "memory");
     match version
         .finish(alloc, &name_of(rt, alloc, "I"), tile)
@@ -91,8 +91,8 @@ fn with_tile(rt: &impl Abort, alloc: Global, version: &Version) -> Version {
 /// Batches on two squares and where both are, with one tile built, and how many tiles of I are pending then.
 const TOUCHING: &[(&[Change], usize)] = &[
     (&[Change::Put("C", SQUARE), Change::Define("J", "C")], 33),
-    (&[Change::Remove("I"), Change::Define("I", "A & B")], 17),
-    (&[Change::Put("A", SHIFTED), Change::Put("A", SQUARE)], 17),
+    (&[Change::Remove("I"), Change::Define("I", "A & B")], 33),
+    (&[Change::Put("A", SHIFTED), Change::Put("A", SQUARE)], 33),
 ];
 
 #[test]

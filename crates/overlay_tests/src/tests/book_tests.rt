@@ -86,7 +86,7 @@ const WIDE: Corners = &[&[
 const IN_TIME_AND_LATE: &[&[Row]] = &[
     OVERLAP,
     // a tile that was kept is not kept once more, so that each of these is another
-    &[BUILDS; 17],
+    &[BUILDS; 33],
     &[
         Row::Calls(Call::WaitBuilt("I"), Ok(Some(3))),
         Row::Calls(Call::Submit(Change::Put("A", WIDE)), Ok(Some(4))),
@@ -102,7 +102,7 @@ fn each_tile_is_handed_out_once_and_a_late_one_is_not_kept(rt: HostRuntime) {
 
 const GIVEN_BACK: &[&[Row]] = &[
     OVERLAP,
-    &[BUILDS; 16],
+    &[BUILDS; 32],
     &[
         Row::WaitsBeside(WaitFor::Built("I"), Call::GiveBack, Err(NO_MEMORY)),
         Row::GivesBack(true),
@@ -120,7 +120,7 @@ fn a_wait_tells_of_a_tile_that_was_given_back(rt: HostRuntime) {
 
 const BUILT: &[&[Row]] = &[
     OVERLAP,
-    &[BUILDS; 16],
+    &[BUILDS; 32],
     &[
         Row::WaitsBeside(WaitFor::Built("I"), Call::Build, Ok(Some(3))),
         Row::Calls(PUT_A, Ok(Some(4))),
@@ -146,15 +146,15 @@ fn the_last_tile_a_command_and_a_batch_each_end_a_wait(rt: HostRuntime) {
     play(&rt, rt.alloc(), false, BUILT, 8);
 }
 
-/// The square and its left half lie in column 8 alone. So a command that puts one in the place of the other makes the tile
+/// The square and its left half lie in column 16 alone. So a command that puts one in the place of the other makes the tile
 /// of that column pending, and no other.
 const WOKEN: &[&[Row]] = &[
     OVERLAP,
-    &[BUILDS; 17],
+    &[BUILDS; 33],
     &[
-        Row::WaitsBeside(WaitFor::Tile, PUT_HALF, Ok(Some(8))),
+        Row::WaitsBeside(WaitFor::Tile, PUT_HALF, Ok(Some(16))),
         Row::Calls(PUT_A, Ok(Some(5))),
-        Row::StaleBeside(PUT_HALF, Ok(Some(8))),
+        Row::StaleBeside(PUT_HALF, Ok(Some(16))),
         Row::WaitsBeside(WaitFor::Tile, Call::BeginClose, Ok(None)),
     ],
 ];

@@ -95,17 +95,17 @@ fn segments_cross_at_one_exact_place(rt: HostRuntime) {
 }
 
 const BORDERS: &[(Ends, u8, Option<Place>)] = &[
-    ((-10, -10, 10, -10), 8, Some((0, -10, 1))),
-    ((0, 0, 10, 0), 8, None),
-    ((-10, 0, 0, 0), 8, None),
-    ((0, -5, 0, 5), 8, None),
-    ((1, 0, 10, 0), 8, None),
-    ((-1, 0, 2, 1), 8, Some((0, 1, 3))),
+    ((-10, -10, 10, -10), 16, Some((0, -10, 1))),
+    ((0, 0, 10, 0), 16, None),
+    ((-10, 0, 0, 0), 16, None),
+    ((0, -5, 0, 5), 16, None),
+    ((1, 0, 10, 0), 16, None),
+    ((-1, 0, 2, 1), 16, Some((0, 1, 3))),
     (RISING, 0, None),
-    (RISING, 1, Some((-917504, -917504, 1))),
-    (RISING, 15, Some((917504, 917504, 1))),
-    (RISING, 16, None),
-    (RISING, 17, None),
+    (RISING, 1, Some((-983040, -983040, 1))),
+    (RISING, 31, Some((983040, 983040, 1))),
+    (RISING, 32, None),
+    (RISING, 33, None),
     (RISING, 255, None),
 ];
 

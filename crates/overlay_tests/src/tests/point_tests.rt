@@ -57,16 +57,16 @@ fn a_segment_has_its_left_end_first(rt: HostRuntime) {
 
 /// The column of the places with x / w.
 const COLUMNS: &[(i128, i128, Option<u8>)] = &[
-    (1048576, 1, Some(16)),
-    (-1, 3, Some(7)),
+    (1048576, 1, Some(32)),
+    (-1, 3, Some(15)),
     (1048577, 1, None),
     (-1048577, 1, None),
     (-1048576, 1, Some(0)),
-    (131071, 1, Some(8)),
-    (131072, 1, Some(9)),
-    (393215, 3, Some(8)),
-    (9223372036854775808, 8796093022208, Some(16)),
-    (9223372036854775807, 8796093022208, Some(15)),
+    (65535, 1, Some(16)),
+    (65536, 1, Some(17)),
+    (196607, 3, Some(16)),
+    (9223372036854775808, 8796093022208, Some(32)),
+    (9223372036854775807, 8796093022208, Some(31)),
 ];
 
 #[test]
@@ -78,10 +78,10 @@ fn columns_are_counted_from_the_left(rt: HostRuntime) {
 
 const BORDERS: &[(u64, Option<i64>)] = &[
     (0, Some(-1048576)),
-    (7, Some(-131072)),
-    (8, Some(0)),
-    (16, Some(1048576)),
-    (17, None),
+    (15, Some(-65536)),
+    (16, Some(0)),
+    (32, Some(1048576)),
+    (33, None),
     (u64::MAX, None),
 ];
 

@@ -90,9 +90,9 @@ pub fn scattered(rt: &impl Abort, alloc: Global, seed: u64, low: i64, column: u8
     input_over(rt, alloc, first, second, column)
 }
 
-/// The input of column 8 over two combs of so many rectangles that end at `end`, one across the other.
+/// The input of column 16 over two combs of so many rectangles that end at `end`, one across the other.
 pub fn combs(rt: &impl Abort, alloc: Global, teeth: u8, end: i64) -> TileInput {
     let level = comb(rt, alloc, teeth, end, false);
     let upright = comb(rt, alloc, teeth, end, true);
-    input_over(rt, alloc, level, upright, 8)
+    input_over(rt, alloc, level, upright, 16)
 }

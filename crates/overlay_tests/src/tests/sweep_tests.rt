@@ -33,18 +33,18 @@ fn both_agree(rt: &impl Abort, alloc: Global, input: &TileInput) -> bool {
 
 /// The layers A and B, and a column.
 const WORKED: &[(Corners, Corners, u8)] = &[
-    (SQUARE, SHIFTED, 8),
-    (ACROSS, NOTHING, 7),
-    (ACROSS, NOTHING, 8),
-    (TRIANGLE, STRIP, 8),
-    (SQUARE, NEXT_TO_IT, 8),
-    (BOW_TIE, NOTHING, 8),
-    (TWICE, NOTHING, 8),
-    (CORNER, NOTHING, 15),
-    (CORNER, NOTHING, 16),
-    (DIAMOND, NOTHING, 7),
-    (DIAMOND, NOTHING, 8),
-    (SQUARE, LEFT_HALF, 8),
+    (SQUARE, SHIFTED, 16),
+    (ACROSS, NOTHING, 15),
+    (ACROSS, NOTHING, 16),
+    (TRIANGLE, STRIP, 16),
+    (SQUARE, NEXT_TO_IT, 16),
+    (BOW_TIE, NOTHING, 16),
+    (TWICE, NOTHING, 16),
+    (CORNER, NOTHING, 31),
+    (CORNER, NOTHING, 32),
+    (DIAMOND, NOTHING, 15),
+    (DIAMOND, NOTHING, 16),
+    (SQUARE, LEFT_HALF, 16),
 ];
 
 #[test]
@@ -66,7 +66,7 @@ fn the_sweep_agrees_with_counting_on_500_scattered_inputs(rt: HostRuntime) {
     let mut seed = 1;
     for _ in 0..500 {
         seed = next(seed);
-        let input = scattered(&rt, rt.alloc(), seed, 0, 8);
+        let input = scattered(&rt, rt.alloc(), seed, 0, 16);
         assert!(rt; both_agree(&rt, rt.alloc(), &input), "seed {seed}");
     }
 }

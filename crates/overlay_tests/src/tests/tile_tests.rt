@@ -14,9 +14,9 @@ const TRIANGLES: Corners = &[
 
 const NARROW: Corners = &[&[(0, 0), (9, 0), (9, 10), (0, 10), (0, 0)]];
 
-/// The tile of one base layer in column 8.
+/// The tile of one base layer in column 16.
 fn tile_of(rt: &impl Abort, alloc: Global, corners: Corners, cap: usize) -> Tile {
-    let input = input_of(rt, alloc, corners, NOTHING, "A", 8);
+    let input = input_of(rt, alloc, corners, NOTHING, "A", 16);
     build(alloc, &input, cap).expect(rt, "memory")
 }
 
@@ -27,7 +27,7 @@ fn query(rt: &impl Abort, x: i64, y: i64, w: i64) -> QueryPoint {
 
 #[test]
 fn four_pieces_fit_a_cap_of_four_and_not_of_three(rt: HostRuntime) {
-    let input = input_of(&rt, rt.alloc(), SQUARE, SHIFTED, "A & B", 8);
+    let input = input_of(&rt, rt.alloc(), SQUARE, SHIFTED, "A & B", 16);
     for &(cap, want) in &[(3, None), (4, Some(4))] {
         let got = match build(rt.alloc(), &input, cap).expect(&rt, "memory") {
             Tile::Oversize => None,

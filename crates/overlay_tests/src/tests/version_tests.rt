@@ -95,20 +95,20 @@ fn check_columns(rt: &impl Abort, list: &[(Name, u8)]) {
 fn a_new_layer_has_all_tiles_pending(rt: HostRuntime) {
     let version = overlap(&rt, rt.alloc());
     let list = version.pending(rt.alloc()).expect(&rt, "memory");
-    assert!(rt; list.len() == 17);
+    assert!(rt; list.len() == 33);
     check_columns(&rt, &list);
 }
 
-/// Whether the tile of I in column 8 from the present layers is kept.
+/// Whether the tile of I in column 16 from the present layers is kept.
 fn is_fresh_kept(rt: &impl Abort, alloc: Global, version: &Version) -> bool {
-    let fresh = built(rt, alloc, version, "I", 8);
+    let fresh = built(rt, alloc, version, "I", 16);
     with_tile(rt, alloc, version, "I", fresh).is_some()
 }
 
-/// The tile of I in column 8, and a version in which A has changed since.
+/// The tile of I in column 16, and a version in which A has changed since.
 fn late_tile(rt: &impl Abort, alloc: Global) -> (Built, Version) {
     let version = overlap(rt, alloc);
-    let late = built(rt, alloc, &version, "I", 8);
+    let late = built(rt, alloc, &version, "I", 16);
     (late, with_base(rt, alloc, version, "A", SMALLER))
 }
 
@@ -146,7 +146,7 @@ fn two_squares(rt: &impl Abort, alloc: Global) -> Version {
 /// The same with all tiles of N.
 fn two_squares_built(rt: &impl Abort, alloc: Global) -> Version {
     let mut version = two_squares(rt, alloc);
-    for column in 0..17 {
+    for column in 0..33 {
         version = with_column(rt, alloc, &version, column);
     }
     version
@@ -167,11 +167,11 @@ fn check_pending(rt: &impl Abort, alloc: Global, version: &Version, row: usize, 
     check(rt, row, &(list.len(), first_column(&list)), want);
 }
 
-/// Changes after which all tiles of N, or that of column 7, are pending, one after another.
+/// Changes after which all tiles of N, or that of column 15, are pending, one after another.
 const CHANGES: &[(Change, Pending)] = &[
-    (Change::Put("M", LEFT_ONE_MOVED), (1, Some(7))),
-    (Change::Define("N", "M"), (1, Some(7))),
-    (Change::Define("N", "M & M"), (17, Some(0))),
+    (Change::Put("M", LEFT_ONE_MOVED), (1, Some(15))),
+    (Change::Define("N", "M"), (1, Some(15))),
+    (Change::Define("N", "M & M"), (33, Some(0))),
 ];
 
 #[test]
@@ -206,16 +206,16 @@ fn kept_with(rt: &impl Abort, alloc: Global, version: &Version, tile: &Built) ->
     }
 }
 
-/// Checks that a version has the tile of I in column 8, and does not keep it once more.
+/// Checks that a version has the tile of I in column 16, and does not keep it once more.
 fn check_kept(rt: &impl Abort, alloc: Global, version: &Version, tile: &Built) {
-    assert!(rt; version.tile(&name_of(rt, alloc, "I"), 8).is_some());
+    assert!(rt; version.tile(&name_of(rt, alloc, "I"), 16).is_some());
     assert!(rt; kept_with(rt, alloc, version, tile).is_none());
 }
 
 #[test]
 fn a_tile_is_kept_once_while_the_caller_has_it(rt: HostRuntime) {
     let version = overlap(&rt, rt.alloc());
-    let tile = built(&rt, rt.alloc(), &version, "I", 8);
+    let tile = built(&rt, rt.alloc(), &version, "I", 16);
     let kept = kept_with(&rt, rt.alloc(), &version, &tile).expect(&rt, "kept");
     check_kept(&rt, rt.alloc(), &kept, &tile);
 }
@@ -228,5 +228,5 @@ fn a_restored_version_has_its_number_and_layers_and_is_durable(rt: HostRuntime) 
     let restored = version.expect(&rt, "restored");
     assert!(rt; restored.number() == 5 && restored.durable() == 5);
     assert!(rt; restored.layers().list(rt.alloc()).expect(&rt, "memory") == listed);
-    check_pending(&rt, rt.alloc(), &restored, 0, &(17, Some(0)));
+    check_pending(&rt, rt.alloc(), &restored, 0, &(33, Some(0)));
 }

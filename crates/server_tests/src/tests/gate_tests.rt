@@ -114,7 +114,7 @@ fn a_tile_that_is_finished_after_the_last_commit_is_in_the_file(
     let closed = served.closed;
     let engine = recovered(alloc, closed.disk)?;
     let mut has_tiles = false;
-    for column in 0..17 {
+    for column in 0..33 {
         let is_finished = closed.version.tile(&name, column).is_some();
         let in_file = engine.version().tile(&name, column).is_some();
         assert_eq!(rt; in_file, is_finished, "in column {column}");

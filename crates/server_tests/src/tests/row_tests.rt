@@ -13,8 +13,8 @@ LOCATE I 2 2
 LOCATE I 10 2
 LOCATE I 14 14 2
 WAIT I
-EDGES I 8
-VERIFY I 8
+EDGES I 16
+VERIFY I 16
 LAYERS
 GRID I 4 4 2 4 4
 SYNC
@@ -49,8 +49,8 @@ error 46 no store
 const BORDER: &[u8] = b"PUT D POLYGON ((-10 -10, 10 -10, 10 10, -10 10, -10 -10))
 DEFINE E = D
 WAIT E
-EDGES E 7
-EDGES E 8
+EDGES E 15
+EDGES E 16
 ";
 
 const BORDER_ANSWERED: &str = "ok 1
@@ -70,7 +70,7 @@ const FRACTIONS: &[u8] = b"PUT T POLYGON ((0 0, 3 1, 0 2, 0 0))
 PUT S POLYGON ((1 -1, 2 -1, 2 3, 1 3, 1 -1))
 DEFINE F = T & S
 WAIT F
-EDGES F 8
+EDGES F 16
 ";
 
 const FRACTIONS_ANSWERED: &str = "ok 1
