@@ -1,5 +1,6 @@
 use Rattle.std.proofs.Common.{arith, refl, ap, sym, ◌∙◌, bytes_eq}
 use Rattle.std.specs.List.{list_any}
+use Rattle.std.proofs.lemmas.Result.{err_from_is_err_and}
 use Rattle.overlay_terms.specs.Touched.{derived_over}
 use Rattle.layer_book.specs.Command.{command}
 use Rattle.layer_book.specs.Layer.{content}
@@ -40,3 +41,9 @@ touched_columns-requires-clause-accepted c = c.requires.accepted
 
 pub touched_columns-requires-clause-made : goal.touched_columns-requires-clause-made
 touched_columns-requires-clause-made c = c.requires.made
+
+-- written out: of a row of 33 the search does not find it
+pub returns-in_err-push : goal.returns-in_err-push
+returns-in_err-push c =
+    let p = err_from_is_err_and c.from_residual-in_err-push.result c.from_residual-in_err-push.ensures.1 in
+    rw p.1 tt
