@@ -1,5 +1,5 @@
 -- A draft with its catalog and the body that names it.
-use Rattle.std.proofs.Common.{◌≡◌, ◌⊎◌, inl, inr, Ok, Err, ℕ, ◌+◌, ◌^◌, ◌<◌, ◌≤◌, true, List, [], ◌∷◌, ◌++◌, map, Some, refl, sym, ◌∙◌, ap, subst, arith}
+use Rattle.std.proofs.Common.{false, ◌≡◌, ◌⊎◌, inl, inr, Ok, Err, ℕ, ◌+◌, ◌^◌, ◌<◌, ◌≤◌, true, List, [], ◌∷◌, ◌++◌, map, Some, refl, sym, ◌∙◌, ap, subst, arith}
 use Rattle.std.specs.List.{flat_map}
 use Rattle.std.proofs.lemmas.Bool.{cond-true}
 use Rattle.overlay_terms.specs.Commands.{version_max}
@@ -37,7 +37,7 @@ use Rattle.commit_plan.proofs.Apart.{records_apart, records_near}
 -- what is known of the root, its records and the body
 pub record IsCompleted (x : Kept) (held : Held) (listing : List Listed) (catalog : Filed) (b : Write) (d : Draft)
     (next : Next) : Type 0 where
-  pub read : catalog_of_record catalog.bytes ≡ Some listing
+  pub read : catalog_of_record next.root.is_old catalog.bytes ≡ Some listing
   pub after : next.root.sequence ≡ x.root.sequence + 1
   pub below : x.root.sequence < sequence_max
   pub version : next.root.version ≡ held.number
@@ -106,15 +106,16 @@ module _ (x : Kept) (given : List runs.Extent) (limit : ℕ) (layers : List File
 
 -- the writes of a draft with its catalog, and the body behind them
 pub laid_out : (live : Standing) (given : List runs.Extent) (limit : ℕ) (layers : List FiledLayer) (held : Held) (sizes : List ℕ) (listing : List Listed) (catalog : Filed) (b : Write) (body : ℕ) (d : Draft) (root : Root)
-    (plan : List Write) → IsPlanned given limit sizes d.runs.items → IsDraft given limit (flat_map filed_of layers ++ catalog ∷ []) d → Spell live layers listing held → catalog_of_record catalog.bytes ≡ Some listing
+    (plan : List Write) → IsPlanned given limit sizes d.runs.items → IsDraft given limit (flat_map filed_of layers ++ catalog ∷ []) d → Spell live layers listing held → root.is_old ≡ false → catalog_of_record false catalog.bytes ≡ Some listing
     → root.catalog ≡ catalog.extent → b.at ≡ body → b.bytes.items ≡ body_text root → plan ≡ d.writes.items ++ b ∷ [] → IsLaidOut live given limit held sizes body root plan
-laid_out live given limit layers held sizes listing catalog b body d root plan sized draft spell read named there spelled order = record {
+laid_out live given limit layers held sizes listing catalog b body d root plan sized draft spell present read named there spelled order = record {
   layers = layers;
   catalog = catalog;
   places = d.runs.items;
   records = d.writes.items;
   last = b;
   spelled = spell.spelled;
+  present = present;
   lists = read ∙ ap Some (sym spell.listed);
   names = named;
   planned = draft.placed.planned;

@@ -137,9 +137,9 @@ filing_makes x y layers listing ws file shut files writes puts =
     let filed = all_filed file (flat_map filed_of layers ++ listing ∷ []) ws writes puts in
     let records = front_filed (IsFiled file) (flat_map filed_of layers) (listing ∷ []) filed in
     let last = back_filed (IsFiled file) (flat_map filed_of layers) (listing ∷ []) filed in
-    let catalog_spells : Spells file y.root.catalog catalog_of_record (map listed_of layers) =
-    subst (λ (e : RecordExtent). Spells file e catalog_of_record (map listed_of layers)) (sym files.there)
-    (filed_spells file listing catalog_of_record (map listed_of layers) last.0 files.catalog) in
+    let catalog_spells : Spells file y.root.catalog (catalog_of_record y.root.is_old) (map listed_of layers) =
+    subst (λ (e : RecordExtent). Spells file e (catalog_of_record y.root.is_old) (map listed_of layers)) (sym files.there)
+    (filed_spells file listing (catalog_of_record y.root.is_old) (map listed_of layers) last.0 files.catalog) in
     let holds : held_of file y.root ≡ Ok y.held = spelled_is_held file y.root y.held files.stored (record {
       listing = map listed_of layers;
       catalog = catalog_spells;

@@ -8,7 +8,7 @@ use Rattle.store_terms.specs.Image.{◌>>=◌, listing_of, held_of}
 use Rattle.store_terms.specs.declared.root.Root.{Root}
 use Rattle.store_terms.specs.StandsFor.{gate, body, fits_slot, is_foreign, slot, newer_root, root_of, StandsFor}
 use Rattle.store_terms.specs.declared.root.Body.{Body}
-use Rattle.store_terms.specs.Roots.{format_number, ours}
+use Rattle.store_terms.specs.Roots.{format_of, ours}
 use Rattle.commit_plan.specs.Kept.{Kept, own, other, Named, Live, Rest, Shut, Calm, Ready, Either}
 
 fits : (k : ℕ) (r : Root) → r.sequence ≤ 2 ^ 62 → r.version ≤ 2 ^ 62 → r.sequence % 2 ≡ k → fits_slot k r ≡ true
@@ -20,18 +20,22 @@ slot_open file k r opened spelt bounded numbered parity =
     let o : (gate file k == 167) ≡ true = grind (arith, nat_tests) in
     let f : fits_slot k r ≡ true = fits k r bounded numbered parity in
     ap (λ b. cond b
-    (cond ((body file k).format == format_number)
+    (cond ((body file k).format == format_of (body file k).root)
     (cond (fits_slot k (body file k).root) (Ok (Some (body file k).root)) (Err Numbers)) (Err Format))
     (Ok None)) o
-    ∙ ap (λ (q : Body). cond (q.format == format_number) (cond (fits_slot k q.root) (Ok (Some q.root)) (Err Numbers))
+    ∙ ap (λ (q : Body). cond (q.format == format_of q.root) (cond (fits_slot k q.root) (Ok (Some q.root)) (Err Numbers))
     (Err Format)) spelt
+    ∙ ap (λ b. cond b (cond (fits_slot k r) (Ok (Some r)) (Err Numbers)) (Err Format)) (same (format_of r))
     ∙ ap (λ b. cond b (Ok (Some r)) (Err Numbers)) f
+  where
+    same : (n : ℕ) → (n == n) ≡ true
+    same n = grind (arith, nat_tests)
 
 pub slot_shut : (file : List ℕ) (k : ℕ) → gate file k ≢ 167 → slot file k ≡ Ok None
 slot_shut file k shut =
     let o : (gate file k == 167) ≡ false = grind (arith, nat_tests) in
     ap (λ b. cond b
-    (cond ((body file k).format == format_number)
+    (cond ((body file k).format == format_of (body file k).root)
     (cond (fits_slot k (body file k).root) (Ok (Some (body file k).root)) (Err Numbers)) (Err Format))
     (Ok None)) o
 
@@ -97,17 +101,17 @@ other_is r = omega arith
 pub own_from : (r : Root) → own r ≡ 1 - other r
 own_from r = omega arith
 
--- what a root holds rests on its number and its catalog
-same_names : (file : List ℕ) (q r : Root) → q.version ≡ r.version → q.catalog ≡ r.catalog
+-- what a root holds rests on its number, its catalog and its format
+same_names : (file : List ℕ) (q r : Root) → q.version ≡ r.version → q.catalog ≡ r.catalog → q.is_old ≡ r.is_old
     → held_of file q ≡ held_of file r
 unfolding listing_of
-same_names file q r version catalog =
-    λ i. held_of file (record { sequence = q.sequence; version = version i; catalog = catalog i })
+same_names file q r version catalog format =
+    λ i. held_of file (record { is_old = format i; sequence = q.sequence; version = version i; catalog = catalog i })
 
 pub stands : (file : List ℕ) (q : Root) (x : Kept) (k : ℕ) → root_of file ≡ Ok q → q.version ≡ x.root.version
-    → q.catalog ≡ x.root.catalog → Named k x file → StandsFor x.held file
-stands file q x k root version catalog named =
-    ap (λ (o : Result Root Damage). o >>= λ r. held_of file r) root ∙ same_names file q x.root version catalog
+    → q.catalog ≡ x.root.catalog → q.is_old ≡ x.root.is_old → Named k x file → StandsFor x.held file
+stands file q x k root version catalog format named =
+    ap (λ (o : Result Root Damage). o >>= λ r. held_of file r) root ∙ same_names file q x.root version catalog format
     ∙ named.holds
 
 live_slot : (x : Kept) (file : List ℕ) → Live x file → slot file (own x.root) ≡ Ok (Some x.root)
@@ -127,7 +131,7 @@ shut_stands x file shut =
     (shut_not_foreign file (other x.root) shut.closed) in
     stands file x.root x (own x.root)
     (root_is file x.root (own x.root) shut.live.named.long (own_is x.root) (live_ours x file shut.live) beside
-    (live_slot x file shut.live) (inl closed)) refl refl shut.live.named
+    (live_slot x file shut.live) (inl closed)) refl refl refl shut.live.named
 
 -- beside an open root that is older
 older_stands : (x : Kept) (q : Root) (file : List ℕ) → Live x file → is_foreign file (other x.root) ≡ false
@@ -139,7 +143,7 @@ older_stands x q file live foreign beside less =
     subst (λ (k : ℕ). is_foreign file k ≡ false) (other_is x.root) foreign in
     stands file x.root x (own x.root)
     (root_is file x.root (own x.root) live.named.long (own_is x.root) (live_ours x file live) no_foreign
-    (live_slot x file live) (inr (q, open_slot, less))) refl refl live.named
+    (live_slot x file live) (inr (q, open_slot, less))) refl refl refl live.named
 
 pub rest_stands : (x : Kept) (file : List ℕ) → Rest x file → StandsFor x.held file
 rest_stands x file rest = elim (cases_eq (gate file (other x.root)) 167) [
@@ -160,7 +164,7 @@ rest_stands x file rest = elim (cases_eq (gate file (other x.root)) 167) [
       subst (λ (k : ℕ). is_foreign file k ≡ false) (own_from x.root) (live_ours x file rest.live) in
       stands file q x (own x.root)
       (root_is file q (other x.root) rest.live.named.long (other_01 x.root) foreign mine_ours beside
-      (inr (x.root, mine, more))) same.0 same.1 rest.live.named)
+      (inr (x.root, mine, more))) same.0 same.1 same.2 rest.live.named)
       (apart q x.root h.parity))
       h.older
   | inr shut ↦ shut_stands x file (record { live = rest.live; closed = shut })

@@ -202,7 +202,7 @@ abbrev name_text : List ℕ → List ℕ
 name_text name = (counted 1 (number 1)).text name
 
 records_long : (name : List ℕ) (r : Records) → length name < 256 → HasColumns r
-    → length (name_text name ++ spelled_records.text (records_of r)) ≤ 490
+    → length (name_text name ++ (spelled_records column_count).text (records_of r)) ≤ 490
 records_long name (Base e) short has =
     omega (arith, short, name_long name, extent_long e, length-append (name_text name) (0 ∷ extent.text e))
 records_long name (Derived e entries) short has =

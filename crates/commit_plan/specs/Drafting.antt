@@ -1,5 +1,5 @@
 -- The records of a commit that have their places.
-use Rattle.std.specs.Prelude.{◌≡◌, ℕ, ◌≤◌, List, [], ◌∷◌, ◌++◌, length, map, flat_map, Some}
+use Rattle.std.specs.Prelude.{false, ◌≡◌, ℕ, ◌≤◌, List, [], ◌∷◌, ◌++◌, length, map, flat_map, Some}
 use Rattle.extent_map.specs.declared.extent.Extent as runs
 use Rattle.extent_map.specs.Extents.{AreAlike}
 use Rattle.extent_map.specs.FirstFit.{IsPlanned, taken_with}
@@ -50,7 +50,7 @@ pub record Spell (live : Standing) (layers : List FiledLayer) (listing : List Li
   pub small : x.number ≤ version_max
   pub listed : map listed_of layers ≡ listing
 
--- how the writes of a commit lie, whose records are to have these sizes: first each new record, layer by layer, in the lowest run that is free, in whole blocks of which the rest is zero; behind them the catalog that lists them, likewise; and last the body of the root, where it is to be put
+-- how the writes of a commit lie, whose records are to have these sizes, and whose root is of the present format: first each new record, layer by layer, in the lowest run that is free, in whole blocks of which the rest is zero; behind them the catalog that lists them, likewise; and last the body of the root, where it is to be put
 pub record IsLaidOut (live : Standing) (given : List runs.Extent) (limit : ℕ) (held : Held) (sizes : List ℕ) (body : ℕ)
     (root : Root) (plan : List Write) : Type 0 where
   pub layers : List FiledLayer
@@ -59,7 +59,8 @@ pub record IsLaidOut (live : Standing) (given : List runs.Extent) (limit : ℕ) 
   pub records : List Write
   pub last : Write
   pub spelled : SpellLayers live layers held.layers held.tiles
-  pub lists : catalog_of_record catalog.bytes ≡ Some (map listed_of layers)
+  pub present : root.is_old ≡ false
+  pub lists : catalog_of_record false catalog.bytes ≡ Some (map listed_of layers)
   pub names : root.catalog ≡ catalog.extent
   pub planned : IsPlanned given limit (lengths_of (flat_map filed_of layers ++ catalog ∷ [])) places
   pub sized : IsPlanned given limit sizes places

@@ -117,7 +117,7 @@ AreWritesOf (f ∷ fs) (w ∷ ws) = IsWriteOf f w × AreWritesOf fs ws
 pub record Files (x y : Kept) (layers : List FiledLayer) (listing : Filed) : Type 0 where
   pub spelled : SpellLayers (standing_of x) layers y.held.layers y.held.tiles
   pub stored : MayBeStored y.held.layers
-  pub catalog : catalog_of_record listing.bytes ≡ Some (map listed_of layers)
+  pub catalog : catalog_of_record y.root.is_old listing.bytes ≡ Some (map listed_of layers)
   pub there : y.root.catalog ≡ listing.extent
   pub number : y.root.version ≡ y.held.number
   pub lists : y.listing ≡ map listed_of layers

@@ -45,7 +45,7 @@ pub record Harmless (k : ℕ) (r : Root) (file : List ℕ) : Type 0 where
   pub bounded : root.sequence ≤ sequence_max
   pub numbered : root.version ≤ version_max
   pub parity : root.sequence % 2 ≡ k
-  pub older : (root.sequence < r.sequence) ⊎ ((root.version ≡ r.version) × (root.catalog ≡ r.catalog))
+  pub older : (root.sequence < r.sequence) ⊎ ((root.version ≡ r.version) × (root.catalog ≡ r.catalog) × (root.is_old ≡ r.is_old))
 
 -- the root is open and whole
 pub record Live (x : Kept) (file : List ℕ) : Type 0 where

@@ -73,6 +73,7 @@ pub(crate) fn completed(
     let catalog = draft.file(bytes)?;
     let (number, layers, tiles) = image.into_shared();
     let next = Root {
+        is_old: false,
         sequence: root.sequence + 1,
         version: number,
         catalog,

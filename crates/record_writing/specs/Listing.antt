@@ -1,5 +1,5 @@
 -- Entries of the catalog in code as those of the definitions.
-use Rattle.std.specs.Prelude.{◌≡◌, ◌<◌, List, length, map}
+use Rattle.std.specs.Prelude.{◌≡◌, ◌<◌, ℕ, List, length, map}
 use Rattle.std.proofs.Common.{inl, inr}
 use Rattle.overlay_terms.specs.Column.{column_count}
 use Rattle.store_terms.specs.Fields.{Field, both, repeated}
@@ -10,9 +10,9 @@ use Rattle.record_writing.specs.declared.catalog.Listed.{Listed}
 use Rattle.record_writing.specs.declared.catalog.Records.{Records}
 use Rattle.record_writing.specs.declared.catalog.Records.TheVariants.{Base, Derived}
 
--- how the records of a layer are spelled
-abbrev pub spelled_records : Field terms.Records
-spelled_records = either extent (both extent (repeated column_count (optional extent)))
+-- how the records of a layer are spelled, where there are n columns
+abbrev pub spelled_records : ℕ → Field terms.Records
+spelled_records n = either extent (both extent (repeated n (optional extent)))
 
 abbrev pub records_of : Records → terms.Records
 records_of (Base extent) = inl extent

@@ -1,19 +1,23 @@
 //! The catalog: the layers in order, each with its name and where its records lie.
-ghost use Rattle.overlay_terms.specs.Column.{column_count};
+ghost use Rattle.std.specs.Prelude.{◌≡◌, map, true, IfOk};
 ghost use Rattle.record_writing.specs.Answers.{Gives, Reads};
 ghost use Rattle.record_writing.specs.Listing.{entry_of, entries_of, records_of, spelled_records};
-ghost use Rattle.store_terms.specs.Fields.{number, read_many, counted};
+ghost use Rattle.store_terms.specs.Fields.{number, read_many, counted, whole};
 ghost use Rattle.store_terms.specs.Choices.{optional};
-ghost use Rattle.store_terms.specs.Catalog.{extent, listed, catalog_of_record};
+ghost use Rattle.store_terms.specs.Catalog as terms;
+ghost use Rattle.store_terms.specs.Catalog.{extent, listed, catalog, catalog_of_record};
 ghost use Rattle.store_terms.specs.Image.{or_fault};
 ghost use Rattle.store_terms.specs.declared.damage.Damage.TheVariants.{CatalogForm};
 
 use crate::bytes::{byte_at, eight_bytes_at, four_bytes_at, two_bytes_at};
 use crate::fault::{ReadFault, RecordFault};
 use plane_base::COLUMN_COUNT;
-use std::alloc::Global;
+use std::alloc::{AllocError, Global};
 use store_terms::damage::Damage;
 use store_terms::root::RecordExtent;
+
+/// How many columns files of format 1 have.
+const OLD_COLUMN_COUNT: u8 = 17;
 
 /// Where the records of a layer lie: that of a base layer; or that of a definition, and by column
 /// those of its finished tiles.
@@ -30,22 +34,74 @@ pub struct Listed {
     pub records: Records,
 }
 
-/// The layers that a catalog lists. Their names may be no names.
-pub fn read_catalog(alloc: Global, bytes: &[u8]) -> Result<Vec<Listed>, RecordFault>
-    ensures { Reads (λ v. entries_of v.items) result (or_fault CatalogForm (catalog_of_record bytes.now)) }
+/// The layers that a catalog lists. Their names may be no names. In an old one, of format 1, tiles are those of other
+/// columns: their entries are asked for their form alone, and each tile counts as pending.
+pub fn read_catalog(
+    alloc: Global,
+    is_old: bool,
+    bytes: &[u8],
+) -> Result<Vec<Listed>, RecordFault>
+    ensures { Reads (λ v. entries_of v.items) result (or_fault CatalogForm (catalog_of_record is_old bytes.now)) }
 {
-    match catalog_in(alloc, bytes) {
+    if is_old {
+        return read_old(alloc, bytes);
+    }
+    match catalog_in(alloc, COLUMN_COUNT, bytes) {
         Ok(listing) => Ok(listing),
         Err(fault) => Err(fault.told(Damage::CatalogForm)),
     }
 }
 
+fn read_old(alloc: Global, bytes: &[u8]) -> Result<Vec<Listed>, RecordFault>
+    ensures { Reads (λ v. entries_of v.items) result (or_fault CatalogForm (catalog_of_record true bytes.now)) }
+{
+    match catalog_in(alloc, OLD_COLUMN_COUNT, bytes) {
+        Ok(listing) => match without_tiles(alloc, &listing) {
+            Ok(pending) => Ok(pending),
+            Err(_) => Err(RecordFault::OutOfMemory),
+        },
+        Err(fault) => Err(fault.told(Damage::CatalogForm)),
+    }
+}
+
+/// The same layers, each tile of them pending.
+fn without_tiles(alloc: Global, listing: &[Listed]) -> Result<Vec<Listed>, AllocError>
+    ensures { IfOk result (λ v. entries_of v.items ≡ map terms.without_tiles (entries_of listing.now)) }
+{
+    let mut pending = Vec::with_capacity(alloc, listing.len())?;
+    for layer in listing {
+        let after = without_its_tiles(alloc, layer)?;
+        pending.push(after)?;
+    }
+    Ok(pending)
+}
+
+fn without_its_tiles(alloc: Global, layer: &Listed) -> Result<Listed, AllocError>
+    ensures { IfOk result (λ after. entry_of after ≡ terms.without_tiles (entry_of layer.now)) }
+{
+    let name = Vec::from_slice(alloc, &layer.name)?;
+    let records = pending_records(alloc, &layer.records)?;
+    Ok(Listed { name, records })
+}
+
+fn pending_records(alloc: Global, records: &Records) -> Result<Records, AllocError>
+    ensures { IfOk result (λ after. records_of after ≡ terms.pending_records (records_of records.now)) }
+{
+    match records {
+        Records::Base(extent) => Ok(Records::Base(*extent)),
+        Records::Derived(extent, _) => {
+            let entries = vec![in alloc; None; usize::from(COLUMN_COUNT)]?;
+            Ok(Records::Derived(*extent, entries))
+        }
+    }
+}
+
 /// The layers that all of the bytes list.
-fn catalog_in(alloc: Global, bytes: &[u8]) -> Result<Vec<Listed>, ReadFault>
-    ensures { Gives (λ v. entries_of v.items) result (catalog_of_record bytes.now) }
+fn catalog_in(alloc: Global, columns: u8, bytes: &[u8]) -> Result<Vec<Listed>, ReadFault>
+    ensures { Gives (λ v. entries_of v.items) result (whole (catalog columns) bytes.now) }
 {
     let (count, rest) = two_bytes_at(bytes)?;
-    let (listing, rest) = listing_at(alloc, count, rest)?;
+    let (listing, rest) = listing_at(alloc, columns, count, rest)?;
     if !rest.is_empty() {
         return Err(ReadFault::Form);
     }
@@ -53,25 +109,25 @@ fn catalog_in(alloc: Global, bytes: &[u8]) -> Result<Vec<Listed>, ReadFault>
 }
 
 /// So many layers, one behind another, and what follows them.
-fn listing_at(alloc: Global, count: u16, bytes: &[u8]) -> Result<(Vec<Listed>, &[u8]), ReadFault>
+fn listing_at(alloc: Global, columns: u8, count: u16, bytes: &[u8]) -> Result<(Vec<Listed>, &[u8]), ReadFault>
     ensures { Gives (λ x. (entries_of x.0.items, x.1.now)) result
-        (read_many (listed column_count).read count bytes.now) }
+        (read_many (listed columns).read count bytes.now) }
 {
     let mut listing = Vec::new(alloc);
     let mut rest = bytes;
     for _ in 0..count {
-        let (layer, after) = layer_at(alloc, rest)?;
+        let (layer, after) = layer_at(alloc, columns, rest)?;
         listing.push(layer)?;
         rest = after;
     }
     Ok((listing, rest))
 }
 
-fn layer_at(alloc: Global, bytes: &[u8]) -> Result<(Listed, &[u8]), ReadFault>
-    ensures { Gives (λ x. (entry_of x.0, x.1.now)) result ((listed column_count).read bytes.now) }
+fn layer_at(alloc: Global, columns: u8, bytes: &[u8]) -> Result<(Listed, &[u8]), ReadFault>
+    ensures { Gives (λ x. (entry_of x.0, x.1.now)) result ((listed columns).read bytes.now) }
 {
     let (name, rest) = name_at(alloc, bytes)?;
-    let (records, rest) = records_at(alloc, rest)?;
+    let (records, rest) = records_at(alloc, columns, rest)?;
     Ok((Listed { name, records }, rest))
 }
 
@@ -88,8 +144,8 @@ fn name_at(alloc: Global, bytes: &[u8]) -> Result<(Vec<u8>, &[u8]), ReadFault>
     Ok((name, &rest[size..]))
 }
 
-fn records_at(alloc: Global, bytes: &[u8]) -> Result<(Records, &[u8]), ReadFault>
-    ensures { Gives (λ x. (records_of x.0, x.1.now)) result (spelled_records.read bytes.now) }
+fn records_at(alloc: Global, columns: u8, bytes: &[u8]) -> Result<(Records, &[u8]), ReadFault>
+    ensures { Gives (λ x. (records_of x.0, x.1.now)) result ((spelled_records columns).read bytes.now) }
 {
     let (kind, rest) = byte_at(bytes)?;
     match kind {
@@ -99,7 +155,7 @@ fn records_at(alloc: Global, bytes: &[u8]) -> Result<(Records, &[u8]), ReadFault
         }
         1 => {
             let (extent, rest) = extent_at(rest)?;
-            let (tiles, rest) = tiles_at(alloc, rest)?;
+            let (tiles, rest) = tiles_at(alloc, columns, rest)?;
             Ok((Records::Derived(extent, tiles), rest))
         }
         _ => Err(ReadFault::Form),
@@ -107,12 +163,12 @@ fn records_at(alloc: Global, bytes: &[u8]) -> Result<(Records, &[u8]), ReadFault
 }
 
 /// A tile entry for each column, and what follows them.
-fn tiles_at(alloc: Global, bytes: &[u8]) -> Result<(Vec<Option<RecordExtent>>, &[u8]), ReadFault>
-    ensures { Gives (λ x. (x.0.items, x.1.now)) result (read_many (optional extent).read column_count bytes.now) }
+fn tiles_at(alloc: Global, columns: u8, bytes: &[u8]) -> Result<(Vec<Option<RecordExtent>>, &[u8]), ReadFault>
+    ensures { Gives (λ x. (x.0.items, x.1.now)) result (read_many (optional extent).read columns bytes.now) }
 {
     let mut tiles = Vec::new(alloc);
     let mut rest = bytes;
-    for _ in 0..COLUMN_COUNT {
+    for _ in 0..columns {
         let (tile, after) = tile_at(rest)?;
         tiles.push(tile)?;
         rest = after;

@@ -1,5 +1,5 @@
 //! The catalog is written.
-ghost use Rattle.std.specs.Prelude.{◌≡◌, ◌<◌, ◌^◌, length, Some, IfOk, OnOk, All};
+ghost use Rattle.std.specs.Prelude.{false, ◌≡◌, ◌<◌, ◌^◌, length, Some, IfOk, OnOk, All};
 ghost use Rattle.overlay_terms.specs.Column.{column_count};
 ghost use Rattle.record_writing.specs.Listing.{entry_of, entries_of, records_of, spelled_records, HasColumns, IsListable};
 ghost use Rattle.record_writing.specs.Putting.{IsPut};
@@ -17,7 +17,7 @@ pub fn write_catalog(alloc: Global, listing: &[Listed]) -> Result<Vec<u8>, Alloc
     requires few { length listing.now < 2 ^ 16 }
     requires listable { All IsListable listing.now }
     ensures spelled { IfOk result (λ v. v.items ≡ (catalog column_count).text (entries_of listing.now)) }
-    ensures reads_back { IfOk result (λ v. catalog_of_record v.items ≡ Some (entries_of listing.now)) }
+    ensures reads_back { IfOk result (λ v. catalog_of_record false v.items ≡ Some (entries_of listing.now)) }
 {
     let mut out = Vec::new(alloc);
     put_two_bytes(&mut out, listing.len() as u16)?;
@@ -49,7 +49,7 @@ fn put_layer_name(out: &mut Vec<u8>, name: &[u8]) -> Result<(), AllocError>
 
 fn put_records(out: &mut Vec<u8>, records: &Records) -> Result<(), AllocError>
     requires { HasColumns records.now }
-    ensures { OnOk result (IsPut spelled_records (records_of records.now) out.old.items out.new.items) }
+    ensures { OnOk result (IsPut (spelled_records column_count) (records_of records.now) out.old.items out.new.items) }
 {
     match records {
         Records::Base(extent) => {

@@ -1,6 +1,6 @@
 //! The bodies of root slots.
 ghost use Rattle.std.specs.Prelude.{◌≡◌, ◌≤◌, length, take};
-ghost use Rattle.store_terms.specs.Roots.{body_in, body_text, ours};
+ghost use Rattle.store_terms.specs.Roots.{body_in, body_text, format_of, ours};
 
 use byteorder::{BigEndian, ByteOrder};
 use store_terms::root::{Body, RecordExtent, Root};
@@ -9,17 +9,29 @@ use store_terms::root::{Body, RecordExtent, Root};
 const MAGIC: &[u8] = b"OVLSTORE";
 
 /// The number of the file's format.
-pub const FORMAT: u32 = 2;
+const FORMAT: u32 = 2;
+
+/// That of files whose columns are twice as wide.
+const OLD_FORMAT: u32 = 1;
+
+/// The number of a root's format.
+pub fn format_of(root: Root) -> u32
+    ensures { result ≡ format_of root }
+{
+    if root.is_old { OLD_FORMAT } else { FORMAT }
+}
 
 /// What the first 40 bytes of a body say, whether it is ours or not.
 pub fn read_body(bytes: &[u8]) -> Body
     requires { 40 ≤ length bytes.now }
     ensures { result ≡ body_in bytes.now }
 {
+    let format = BigEndian::read_u32(&bytes[8..]);
     Body {
         is_ours: &bytes[..8] == MAGIC,
-        format: BigEndian::read_u32(&bytes[8..]),
+        format,
         root: Root {
+            is_old: format == OLD_FORMAT,
             sequence: BigEndian::read_u64(&bytes[12..]),
             version: BigEndian::read_u64(&bytes[20..]),
             catalog: RecordExtent {
@@ -37,7 +49,7 @@ pub fn write_body(root: Root) -> [u8; 48]
 {
     let mut body = [0; 48];
     body[..8].copy_from_slice(MAGIC);
-    BigEndian::write_u32(&mut body[8..], FORMAT);
+    BigEndian::write_u32(&mut body[8..], format_of(root));
     BigEndian::write_u64(&mut body[12..], root.sequence);
     BigEndian::write_u64(&mut body[20..], root.version);
     BigEndian::write_u64(&mut body[28..], root.catalog.block);

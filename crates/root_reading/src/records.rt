@@ -33,7 +33,7 @@ pub fn listing_at<D: Disk>(
     ensures cause { D.is_honest disk.old → Causes result (D.faults disk.old) (D.faults disk.new) }
 {
     let bytes = fetch(alloc, disk, size, root.catalog, Damage::CatalogPlace)?;
-    let listing = read_catalog(alloc, &bytes)?;
+    let listing = read_catalog(alloc, root.is_old, &bytes)?;
     Ok(listing)
 }
 

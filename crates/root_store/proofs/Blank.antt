@@ -17,8 +17,8 @@ pub blank_is_at_rest : BlankIsAtRest
 blank_is_at_rest file blank opened =
     let place : is_placed file first_root.catalog ≡ true =
     ap (λ (n : ℕ). nat_le 2 2 && nat_le (2 + blocks 2) (n / 4096)) blank.size in
-    let spells : Spells file first_root.catalog (catalog_of_record) [] =
-    record { placed = place; is = ap (catalog_of_record) blank.catalog } in
+    let spells : Spells file first_root.catalog (catalog_of_record false) [] =
+    record { placed = place; is = ap (catalog_of_record false) blank.catalog } in
     let read : listing_of file first_root ≡ Ok [] = listing_spelled file first_root [] spells in
     record {
       live = record {
@@ -44,7 +44,7 @@ blank_is_at_rest file blank opened =
         bounded = omega arith;
         numbered = omega arith;
         parity = refl;
-        older = inr (refl, refl);
+        older = inr (refl, refl, refl);
       };
     }
 

@@ -46,6 +46,6 @@ twin_heals x old new below low small shut torn held =
         bounded = omega (arith, below);
         numbered = numbered;
         parity = refl;
-        older = inr (refl, refl);
+        older = inr (refl, refl, refl);
       };
     }

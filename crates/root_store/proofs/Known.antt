@@ -78,9 +78,10 @@ module _ (file : List ℕ) where
             (λ both. (
               same coded_ℕ _ _ (∥∥₁_map both (λ p. p.0)),
               same extent_code _ _ (∥∥₁_map both (λ p. p.1)),
+              same coded_bool _ _ (∥∥₁_map both (λ p. p.2)),
             ))
             (∥∥₁_map there (λ h. subst
-            (λ (s : Root). (s.sequence < r.sequence) ⊎ ((s.version ≡ r.version) × (s.catalog ≡ r.catalog))) (own_root h)
+            (λ (s : Root). (s.sequence < r.sequence) ⊎ ((s.version ≡ r.version) × (s.catalog ≡ r.catalog) × (s.is_old ≡ r.is_old))) (own_root h)
             h.older));
       }
 

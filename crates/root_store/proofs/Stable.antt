@@ -59,7 +59,7 @@ extent_code = code_by (ℕ × ℕ) (coded× coded_ℕ coded_ℕ) (λ e. (e.block
 
 abbrev pub root_code : Coded Root
 root_code =
-    code_by (ℕ × (ℕ × RecordExtent)) (coded× coded_ℕ (coded× coded_ℕ extent_code)) (λ r. (r.sequence, (r.version, r.catalog))) (λ p. record { sequence = p.0; version = p.1.0; catalog = p.1.1 }) (λ _. refl)
+    code_by (Bool × (ℕ × (ℕ × RecordExtent))) (coded× coded_bool (coded× coded_ℕ (coded× coded_ℕ extent_code))) (λ r. (r.is_old, (r.sequence, (r.version, r.catalog)))) (λ p. record { is_old = p.0; sequence = p.1.0; version = p.1.1.0; catalog = p.1.1.1 }) (λ _. refl)
 
 abbrev pub body_code : Coded Body
 body_code =

@@ -8,7 +8,7 @@ use Rattle.store_terms.specs.declared.root.Root.{Root}
 use Rattle.store_terms.specs.declared.root.Body.{Body}
 use Rattle.store_terms.specs.Image.{◌>>=◌}
 use Rattle.store_terms.specs.Places.{block_size}
-use Rattle.store_terms.specs.Roots.{format_number, ours, sequence_max}
+use Rattle.store_terms.specs.Roots.{format_of, ours, sequence_max}
 use Rattle.store_terms.specs.StandsFor.{gate, body, open_gate, fits_slot, is_foreign, slot, newer_root, root_of}
 use Rattle.overlay_terms.specs.Commands.{version_max}
 use Rattle.commit_plan.specs.Kept.{other, Harmless}
@@ -49,12 +49,13 @@ record IsOpen (file : List ℕ) (k : ℕ) (r : Root) : Type 0 where
 is_open : (file : List ℕ) (k : ℕ) (r : Root) → is_foreign file k ≡ false → slot file k ≡ Ok (Some r) → IsOpen file k r
 is_open file k r mine is =
     let b : Body = body file k in
-    let t = slot_tests (gate file k == open_gate) (b.format == format_number) (fits_slot k b.root) b.root r is in
+    let t = slot_tests (gate file k == open_gate) (b.format == format_of b.root) (fits_slot k b.root) b.root r is in
     let own_magic : b.is_ours ≡ true = magic (gate file k == open_gate) b.is_ours t.0 mine in
     let fits : fits_slot k r ≡ true = ap (fits_slot k) (sym t.3) ∙ t.2 in
     let p = and_parts (nat_le r.sequence sequence_max && nat_le r.version version_max) (r.sequence % 2 == k) fits in
     let q = and_parts (nat_le r.sequence sequence_max) (nat_le r.version version_max) p.0 in
-    let format : b.format ≡ format_number = grind (arith, nat_tests) in
+    let own_format : b.format ≡ format_of b.root = grind (arith, nat_tests) in
+    let format : b.format ≡ format_of r = own_format ∙ ap format_of t.3 in
     record {
       opened = grind (arith, nat_tests);
       spelt = λ i. record { is_ours = own_magic i; format = format i; root = t.3 i };
@@ -71,7 +72,7 @@ is_open file k r mine is =
 is_shut : (file : List ℕ) (k : ℕ) → slot file k ≡ Ok None → gate file k ≢ open_gate
 is_shut file k is opened =
     let shut : (gate file k == open_gate) ≡ false =
-    slot_none (gate file k == open_gate) ((body file k).format == format_number) (fits_slot k (body file k).root)
+    slot_none (gate file k == open_gate) ((body file k).format == format_of (body file k).root) (fits_slot k (body file k).root)
     (body file k).root is in
     grind (arith, nat_tests)
 

@@ -1,5 +1,5 @@
 -- A new file.
-use Rattle.std.specs.Prelude.{◌≡◌, ◌⊎◌, ℕ, ◌+◌, ◌<◌, ◌≤◌, slice_index, List, [], ◌∷◌, length, ◌==◌, nat_lt, not, if◌then◌else◌, Option, Some, None}
+use Rattle.std.specs.Prelude.{false, ◌≡◌, ◌⊎◌, ℕ, ◌+◌, ◌<◌, ◌≤◌, slice_index, List, [], ◌∷◌, length, ◌==◌, nat_lt, not, if◌then◌else◌, Option, Some, None}
 use Rattle.disk_model.specs.declared.disk.Disk.{Ghosts}
 use Rattle.disk_model.specs.Disk.{part, Holds, Torn}
 use Rattle.disk_model.specs.Moments.{Leaves, LeavesOnly}
@@ -12,10 +12,10 @@ use Rattle.commit_plan.specs.Kept.{Kept, Rest}
 
 -- the root of a store that holds nothing, and the body that stands beside it
 abbrev pub first_root : Root
-first_root = record { sequence = 0; version = 0; catalog = record { block = 2; size = 2 } }
+first_root = record { is_old = false; sequence = 0; version = 0; catalog = record { block = 2; size = 2 } }
 
 abbrev pub second_root : Root
-second_root = record { sequence = 1; version = 0; catalog = record { block = 2; size = 2 } }
+second_root = record { is_old = false; sequence = 1; version = 0; catalog = record { block = 2; size = 2 } }
 
 abbrev pub nothing_kept : Kept
 nothing_kept = record {

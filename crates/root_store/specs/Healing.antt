@@ -27,9 +27,9 @@ abbrev pub TakenIsLive : Type 0
 TakenIsLive = (file : List ℕ) (x : Kept) → IsTakenRoot file x.root → listing_of file x.root ≡ Ok x.listing
     → held_of file x.root ≡ Ok x.held → Live x file
 
--- the twin of a root: the next sequence, and the same version and catalog
+-- the twin of a root: the next sequence, and the same version, catalog and format
 abbrev pub twin : Root → Root
-twin r = record { sequence = r.sequence + 1; version = r.version; catalog = r.catalog }
+twin r = record { is_old = r.is_old; sequence = r.sequence + 1; version = r.version; catalog = r.catalog }
 
 -- the slot that a root is not in has the body of its twin
 abbrev pub HoldsTwin : Root → List ℕ → Type 0

@@ -29,6 +29,7 @@ const CATALOG: RecordExtent = RecordExtent { block: 2, size: 2 };
 
 /// The root of a new store.
 const FIRST: Root = Root {
+    is_old: false,
     sequence: 0,
     version: 0,
     catalog: CATALOG,
@@ -36,6 +37,7 @@ const FIRST: Root = Root {
 
 /// The root that stands beside it, behind a gate that is shut.
 const TWIN: Root = Root {
+    is_old: false,
     sequence: 1,
     version: 0,
     catalog: CATALOG,

@@ -9,7 +9,7 @@ ghost use Rattle.root_store.specs.Finding.{IsSlot, has_shut_gate};
 use disk_model::disk::Disk;
 use extent_map::BLOCK;
 use overlay_terms::limits::VERSION_MAX;
-use record_writing::root_body::{FORMAT, read_body};
+use record_writing::root_body::{format_of, read_body};
 use root_reading::load_fault::LoadFault;
 use store_terms::damage::Damage;
 use store_terms::root::{Body, Root};
@@ -52,10 +52,10 @@ impl RootSlot {
         if !self.is_open() {
             return Ok(None);
         }
-        if self.body.format != FORMAT {
+        let root = self.body.root;
+        if self.body.format != format_of(root) {
             return Err(Damage::Format);
         }
-        let root = self.body.root;
         if root.sequence > NUMBER_MAX || root.version > NUMBER_MAX || root.sequence % 2 != number {
             return Err(Damage::Numbers);
         }

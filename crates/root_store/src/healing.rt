@@ -33,6 +33,7 @@ pub(crate) fn heal<D: Disk>(disk: &mut D, root: Root) -> Result<(), LoadFault>
         → LeavesOnly D.Disk disk.old disk.new (Torn (body_at (other root)) 48 file) }
 {
     let twin = Root {
+        is_old: root.is_old,
         sequence: root.sequence + 1,
         version: root.version,
         catalog: root.catalog,

@@ -53,7 +53,7 @@ same_layers old new known (l ∷ ls) same =
 
 pub same_listing : (old new : List ℕ) (r : Root) → IsSameAt old new r.catalog → listing_of new r ≡ listing_of old r
 unfolding listing_of
-same_listing old new r same = ap (λ (b : Result (List ℕ) Damage). b >>= λ bytes. or_fault CatalogForm (catalog_of_record bytes)) (same_bytes CatalogPlace old new r.catalog same)
+same_listing old new r same = ap (λ (b : Result (List ℕ) Damage). b >>= λ bytes. or_fault CatalogForm (catalog_of_record r.is_old bytes)) (same_bytes CatalogPlace old new r.catalog same)
 
 same_held : (old new : List ℕ) (r : Root) (listing : Result (List Listed) Damage) → AllByRecursion (IsSameAt old new) (listed_extents listing) → (listing >>= held_by new r) ≡ (listing >>= held_by old r)
 same_held old new r (Err fault) same = refl

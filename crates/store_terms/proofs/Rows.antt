@@ -1,5 +1,5 @@
 -- Worked rows of the layouts.
-use Rattle.std.proofs.Common.{◌≡◌, inl, ℕ, ℤ, pos, List, [], ◌∷◌, take, Some, None, codes, refl}
+use Rattle.std.proofs.Common.{◌≡◌, inl, inr, ℕ, ℤ, pos, true, false, List, [], ◌∷◌, length, take, replicate, Some, None, codes, refl}
 use Rattle.overlay_terms.specs.Plane.{WholePoint}
 use Rattle.overlay_terms.specs.Trees.{leaf, combine, intersection}
 use Rattle.overlay_terms.specs.Histories.{pieces}
@@ -33,7 +33,7 @@ and_reads_back = refl
 no_layers_are_two_bytes : (catalog 33).text [] ≡ 0 ∷ 0 ∷ []
 no_layers_are_two_bytes = refl
 
-and_are_read : catalog_of_record (0 ∷ 0 ∷ []) ≡ Some []
+and_are_read : catalog_of_record false (0 ∷ 0 ∷ []) ≡ Some []
 and_are_read = refl
 
 abbrev one_layer : List Listed
@@ -42,8 +42,28 @@ one_layer = record { name = codes "A"; records = inl (record { block = 3; size =
 a_base_layer_alone_takes_17_bytes : (catalog 33).text one_layer ≡ 0 ∷ 1 ∷ 1 ∷ 65 ∷ 0 ∷ 0 ∷ 0 ∷ 0 ∷ 0 ∷ 0 ∷ 0 ∷ 0 ∷ 3 ∷ 0 ∷ 0 ∷ 0 ∷ 44 ∷ []
 a_base_layer_alone_takes_17_bytes = refl
 
-and_is_read : catalog_of_record (0 ∷ 1 ∷ 1 ∷ 65 ∷ 0 ∷ 0 ∷ 0 ∷ 0 ∷ 0 ∷ 0 ∷ 0 ∷ 0 ∷ 3 ∷ 0 ∷ 0 ∷ 0 ∷ 44 ∷ []) ≡ Some one_layer
+and_is_read : catalog_of_record false (0 ∷ 1 ∷ 1 ∷ 65 ∷ 0 ∷ 0 ∷ 0 ∷ 0 ∷ 0 ∷ 0 ∷ 0 ∷ 0 ∷ 3 ∷ 0 ∷ 0 ∷ 0 ∷ 44 ∷ []) ≡ Some one_layer
 and_is_read = refl
+
+-- the catalog of an old file: a base layer A in block 3, I in block 4 and its tile of column 8 in block 2; and what it lists
+abbrev old_bytes : List ℕ
+old_bytes =
+    0 ∷ 2 ∷ 1 ∷ 65 ∷ 0 ∷ 0 ∷ 0 ∷ 0 ∷ 0 ∷ 0 ∷ 0 ∷ 0 ∷ 3 ∷ 0 ∷ 0 ∷ 0 ∷ 44 ∷ 1 ∷ 73 ∷ 1 ∷ 0 ∷ 0 ∷ 0 ∷ 0 ∷ 0 ∷ 0 ∷ 0 ∷ 4 ∷ 0 ∷ 0 ∷ 0 ∷ 1
+    ∷ 0 ∷ 0 ∷ 0 ∷ 0 ∷ 0 ∷ 0 ∷ 0 ∷ 0 ∷ 1 ∷ 0 ∷ 0 ∷ 0 ∷ 0 ∷ 0 ∷ 0 ∷ 0 ∷ 2 ∷ 0 ∷ 0 ∷ 0 ∷ 142 ∷ 0 ∷ 0 ∷ 0 ∷ 0 ∷ 0 ∷ 0 ∷ 0 ∷ 0 ∷ []
+
+abbrev two_layers : List Listed
+two_layers =
+    record { name = codes "A"; records = inl (record { block = 3; size = 44 }) }
+    ∷ record { name = codes "I"; records = inr (record { block = 4; size = 1 }, replicate 33 None) } ∷ []
+
+an_old_catalog_has_61_bytes_and_lists_no_tile : (length old_bytes ≡ 61) × (catalog_of_record true old_bytes ≡ Some two_layers)
+an_old_catalog_has_61_bytes_and_lists_no_tile = (refl, refl)
+
+it_is_none_of_the_new_format : catalog_of_record false old_bytes ≡ None
+it_is_none_of_the_new_format = refl
+
+in_the_new_format_it_has_65_bytes : length ((catalog 33).text two_layers) ≡ 65
+in_the_new_format_it_has_65_bytes = refl
 
 a_definition_is_5_bytes : expression_text (combine intersection (leaf (codes "A")) (leaf (codes "B"))) ≡ 65 ∷ 32 ∷ 38 ∷ 32 ∷ 66 ∷ []
 a_definition_is_5_bytes = refl
@@ -77,7 +97,7 @@ and_of_no_other_column = refl
 
 -- slot 0 of a new store: sequence 0, version 0, a catalog of 2 bytes in block 2
 abbrev first_root : Root
-first_root = record { sequence = 0; version = 0; catalog = record { block = 2; size = 2 } }
+first_root = record { is_old = false; sequence = 0; version = 0; catalog = record { block = 2; size = 2 } }
 
 abbrev first_bytes : List ℕ
 first_bytes = 79 ∷ 86 ∷ 76 ∷ 83 ∷ 84 ∷ 79 ∷ 82 ∷ 69 ∷ 0 ∷ 0 ∷ 0 ∷ 2 ∷ 0 ∷ 0 ∷ 0 ∷ 0 ∷ 0 ∷ 0 ∷ 0 ∷ 0 ∷ 0 ∷ 0 ∷ 0 ∷ 0 ∷ 0 ∷ 0 ∷ 0 ∷ 0 ∷ 0 ∷ 0 ∷ 0 ∷ 0 ∷ 0 ∷ 0 ∷ 0 ∷ 2 ∷ 0 ∷ 0 ∷ 0 ∷ 2 ∷ 0 ∷ 0 ∷ 0 ∷ 0 ∷ 0 ∷ 0 ∷ 0 ∷ 0 ∷ []
@@ -91,7 +111,7 @@ and_its_root_is_read = refl
 
 -- slot 1 after the first commit: sequence 1, version 1, a catalog of 17 bytes in block 4
 abbrev second_root : Root
-second_root = record { sequence = 1; version = 1; catalog = record { block = 4; size = 17 } }
+second_root = record { is_old = false; sequence = 1; version = 1; catalog = record { block = 4; size = 17 } }
 
 abbrev second_bytes : List ℕ
 second_bytes = 79 ∷ 86 ∷ 76 ∷ 83 ∷ 84 ∷ 79 ∷ 82 ∷ 69 ∷ 0 ∷ 0 ∷ 0 ∷ 2 ∷ 0 ∷ 0 ∷ 0 ∷ 0 ∷ 0 ∷ 0 ∷ 0 ∷ 1 ∷ 0 ∷ 0 ∷ 0 ∷ 0 ∷ 0 ∷ 0 ∷ 0 ∷ 1 ∷ 0 ∷ 0 ∷ 0 ∷ 0 ∷ 0 ∷ 0 ∷ 0 ∷ 4 ∷ 0 ∷ 0 ∷ 0 ∷ 17 ∷ 0 ∷ 0 ∷ 0 ∷ 0 ∷ 0 ∷ 0 ∷ 0 ∷ 0 ∷ []

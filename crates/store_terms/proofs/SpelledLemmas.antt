@@ -84,13 +84,13 @@ layers_spelled file known (l ∷ ls) layers tiles are orderly few named =
 pub spelled_is_held : SpelledIsHeld
 unfolding listing_of
 spelled_is_held file r x may is =
-    let listing : listing_of file r ≡ Ok is.listing = spelled CatalogPlace CatalogForm file r.catalog catalog_of_record is.listing is.catalog in
+    let listing : listing_of file r ≡ Ok is.listing = spelled CatalogPlace CatalogForm file r.catalog (catalog_of_record r.is_old) is.listing is.catalog in
     let all = layers_spelled file [] is.listing x.layers x.tiles is.layers may.orderly (omega (arith, may.few)) may.named in
     ap (λ (l : Result (List Listed) Damage). l >>= held_by file r) listing
     ∙ ap (λ (h : Result (List Layer × List Finished) Damage). h >>= λ held. cond (all_apart (r.catalog ∷ extents_listed is.listing)) (Ok (record { number = r.version; layers = held.0; tiles = held.1 })) (Err Overlap)) all
     ∙ ap (λ b. cond b (Ok (record { number = r.version; layers = x.layers; tiles = x.tiles })) (Err Overlap)) is.apart
     ∙ (λ i. Ok (record { number = is.number i; layers = x.layers; tiles = x.tiles }))
 
-pub listing_spelled : (file : List ℕ) (r : Root) (listing : List Listed) → Spells file r.catalog catalog_of_record listing → listing_of file r ≡ Ok listing
+pub listing_spelled : (file : List ℕ) (r : Root) (listing : List Listed) → Spells file r.catalog (catalog_of_record r.is_old) listing → listing_of file r ≡ Ok listing
 unfolding listing_of
-listing_spelled file r listing spells = spelled CatalogPlace CatalogForm file r.catalog catalog_of_record listing spells
+listing_spelled file r listing spells = spelled CatalogPlace CatalogForm file r.catalog (catalog_of_record r.is_old) listing spells

@@ -1,5 +1,7 @@
 -- The catalog: where the records of each layer lie.
-use Rattle.std.specs.Prelude.{ℕ, ◌⊎◌, List, Option}
+use Rattle.std.specs.Prelude.{ℕ, ◌⊎◌, Bool, List, map, replicate, Option, None, if◌then◌else◌}
+use Rattle.std.specs.Option.{option_map}
+use Rattle.std.proofs.Common.{inl, inr}
 use Rattle.overlay_terms.specs.Column.{column_count}
 use Rattle.overlay_terms.specs.Layers.{Name}
 use Rattle.store_terms.specs.declared.root.RecordExtent.{RecordExtent}
@@ -27,6 +29,19 @@ listed n = made (λ p. record { name = p.0; records = p.1 }) (λ l. (l.name, l.r
 abbrev pub catalog : ℕ → Field (List Listed)
 catalog n = counted 2 (listed n)
 
--- the layers that a catalog lists
-abbrev pub catalog_of_record : List ℕ → Option (List Listed)
-catalog_of_record bytes = whole (catalog column_count) bytes
+-- how many columns a file of the old format has
+abbrev pub old_column_count : ℕ
+old_column_count = 17
+
+-- a layer without its finished tiles, as they are those of other columns
+abbrev pub pending_records : Records → Records
+pending_records (inl e) = inl e
+pending_records (inr both) = inr (both.0, replicate column_count None)
+
+abbrev pub without_tiles : Listed → Listed
+without_tiles l = record { name = l.name; records = pending_records l.records }
+
+-- the layers that a catalog lists. Of the tiles in an old one the form of their entries is asked, and no more
+abbrev pub catalog_of_record : Bool → List ℕ → Option (List Listed)
+catalog_of_record is_old bytes =
+    if is_old then option_map (map without_tiles) (whole (catalog old_column_count) bytes) else whole (catalog column_count) bytes

@@ -81,7 +81,7 @@ pub record Held : Type 0 where
 
 -- what the catalog of a root lists
 unfoldable pub listing_of : List ℕ → Root → Result (List Listed) Damage
-listing_of file r = placed_bytes CatalogPlace file r.catalog >>= λ bytes. or_fault CatalogForm (catalog_of_record bytes)
+listing_of file r = placed_bytes CatalogPlace file r.catalog >>= λ bytes. or_fault CatalogForm (catalog_of_record r.is_old bytes)
 
 abbrev pub held_by : List ℕ → Root → List Listed → Result Held Damage
 held_by file r listing =

@@ -1,5 +1,5 @@
 -- Roots, and the bodies of the slots that name them.
-use Rattle.std.specs.Prelude.{ℕ, ◌^◌, true, List, ◌++◌, take, drop, codes, bytes_eq}
+use Rattle.std.specs.Prelude.{ℕ, ◌^◌, ◌==◌, true, List, ◌++◌, take, drop, codes, bytes_eq, if◌then◌else◌}
 use Rattle.byteorder.specs.Endian.{big_number, big_bytes}
 use Rattle.store_terms.specs.declared.root.Root.{Root}
 use Rattle.store_terms.specs.declared.root.Body.{Body}
@@ -12,22 +12,30 @@ magic = codes "OVLSTORE"
 abbrev pub format_number : ℕ
 format_number = 2
 
+-- that of files whose columns are other ones, which are read too
+abbrev pub old_format : ℕ
+old_format = 1
+
+-- the number of a root's format
+abbrev pub format_of : Root → ℕ
+format_of r = if r.is_old then old_format else format_number
+
 -- the body of a slot: magic, format, the numbers of the root, and zeros that are not read
 abbrev pub body_text : Root → List ℕ
 body_text r =
-    magic ++ (big_bytes 4 format_number ++ (big_bytes 8 r.sequence ++ (big_bytes 8 r.version ++ (big_bytes 8 r.catalog.block ++ (big_bytes 4 r.catalog.size ++ big_bytes 8 0)))))
+    magic ++ (big_bytes 4 (format_of r) ++ (big_bytes 8 r.sequence ++ (big_bytes 8 r.version ++ (big_bytes 8 r.catalog.block ++ (big_bytes 4 r.catalog.size ++ big_bytes 8 0)))))
 
 -- what the first 40 bytes of a body say, whether it is ours or not
 unfoldable pub body_in : List ℕ → Body
 body_in bytes = record {
   is_ours = bytes_eq (take 8 bytes) magic;
   format = big_number 4 (drop 8 bytes);
-  root = record { sequence = big_number 8 (drop 12 bytes); version = big_number 8 (drop 20 bytes); catalog = record { block = big_number 8 (drop 28 bytes); size = big_number 4 (drop 36 bytes) } };
+  root = record { is_old = (big_number 4 (drop 8 bytes) == old_format); sequence = big_number 8 (drop 12 bytes); version = big_number 8 (drop 20 bytes); catalog = record { block = big_number 8 (drop 28 bytes); size = big_number 4 (drop 36 bytes) } };
 }
 
 -- the body of a root of ours
 abbrev pub ours : Root → Body
-ours r = record { is_ours = true; format = format_number; root = r }
+ours r = record { is_ours = true; format = format_of r; root = r }
 
 -- the greatest number of a commit
 abbrev pub sequence_max : ℕ

@@ -46,7 +46,7 @@ LayersAre file (l ∷ ls) layers tiles =
 -- a root whose catalog lists the records of some layers and tiles
 pub record IsSpelled (file : List ℕ) (r : Root) (x : Held) : Type 0 where
   pub listing : List Listed
-  pub catalog : Spells file r.catalog catalog_of_record listing
+  pub catalog : Spells file r.catalog (catalog_of_record r.is_old) listing
   pub layers : LayersAre file listing x.layers x.tiles
   pub apart : all_apart (r.catalog ∷ extents_listed listing) ≡ true
   pub number : r.version ≡ x.number

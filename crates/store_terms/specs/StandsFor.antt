@@ -7,7 +7,7 @@ use Rattle.store_terms.specs.declared.damage.Damage.TheVariants.{NotAStore, Form
 use Rattle.store_terms.specs.Places.{block_size}
 use Rattle.store_terms.specs.declared.root.Root.{Root}
 use Rattle.store_terms.specs.declared.root.Body.{Body}
-use Rattle.store_terms.specs.Roots.{body_in, format_number, sequence_max}
+use Rattle.store_terms.specs.Roots.{body_in, format_of, sequence_max}
 use Rattle.store_terms.specs.Image.{◌>>=◌, Held, held_of}
 
 -- where the gate of a slot stands, and its body behind it
@@ -40,7 +40,7 @@ is_foreign file k = (gate file k == open_gate) && not (body file k).is_ours
 abbrev pub slot : List ℕ → ℕ → Result (Option Root) Damage
 slot file k =
     if gate file k == open_gate
-    then (if (body file k).format == format_number then (if fits_slot k (body file k).root then Ok (Some (body file k).root) else Err Numbers) else Err Format)
+    then (if (body file k).format == format_of (body file k).root then (if fits_slot k (body file k).root then Ok (Some (body file k).root) else Err Numbers) else Err Format)
     else Ok None
 
 -- the root with the greater sequence

@@ -10,6 +10,8 @@ pub struct RecordExtent {
 /// The number of a commit, that of the version which it wrote, and where its catalog lies.
 #[derive(Clone, Copy, Debug, PartialEq, Eq)]
 pub struct Root {
+    /// Whether it is of format 1, whose columns are other ones: then its tiles count as pending.
+    pub is_old: bool,
     pub sequence: u64,
     pub version: u64,
     pub catalog: RecordExtent,

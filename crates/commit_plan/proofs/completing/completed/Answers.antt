@@ -1,4 +1,4 @@
-use Rattle.std.proofs.Common.{◌≡◌, true, Some, ◌+◌, ◌^◌, ◌<◌, ◌++◌, ◌∷◌, [], ℕ, List, length, map, inr, refl, sym, ◌∙◌, ap, subst, arith}
+use Rattle.std.proofs.Common.{false, ◌≡◌, true, Some, ◌+◌, ◌^◌, ◌<◌, ◌++◌, ◌∷◌, [], ℕ, List, length, map, inr, refl, sym, ◌∙◌, ap, subst, arith}
 use Rattle.std.specs.List.{flat_map}
 use Rattle.extent_map.specs.FirstFit.{IsPlanned, IsFull}
 use Rattle.record_writing.specs.ImageHeld.{image_held}
@@ -33,6 +33,7 @@ returns-clause-ok c x given limit layers root there room apart draft spell =
     let next : Next =
     record {
       root = record {
+        is_old = false;
         sequence = c.args.root.sequence + 1;
         version = c.into_shared-number.result.0;
         catalog = c.in_ok-catalog.catalog;
@@ -114,6 +115,7 @@ returns-clause-laid c live given limit layers sizes draft spell placed =
     let cat : Filed = record { extent = c.in_ok-catalog.catalog; bytes = c.in_ok-bytes.bytes.items } in
     let d = c.file.new.self in
     let root : Root = record {
+      is_old = false;
       sequence = c.args.root.sequence + 1;
       version = c.into_shared-number.result.0;
       catalog = c.in_ok-catalog.catalog;
@@ -124,7 +126,7 @@ returns-clause-laid c live given limit layers sizes draft spell placed =
     listing cat b c.args.body d root c.push.new.self.items (subst (λ (l : List ℕ). IsPlanned given limit (sizes ++ length l ∷ []) d.runs.items)
     (c.in_ok-bytes.ensures.spelled ∙ ap (λ l. (catalog column_count).text (entries_of l)) c.deref.ensures.value)
     (c.in_ok-catalog.ensures.placed given limit sizes placed).planned)
-    (c.in_ok-catalog.ensures.ok given limit (flat_map filed_of layers) draft) spell
+    (c.in_ok-catalog.ensures.ok given limit (flat_map filed_of layers) draft) spell refl
     (c.in_ok-bytes.ensures.reads_back ∙ ap (λ l. Some (entries_of l)) c.deref.ensures.value) refl refl
     (c.in_ok-from_slice.ensures.items ∙ c.write_body.ensures.spelled) c.in_ok-push.ensures.items
 

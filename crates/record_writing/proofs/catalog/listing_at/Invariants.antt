@@ -1,5 +1,4 @@
 use Rattle.std.proofs.Common.{◌≡◌, ◌-◌}
-use Rattle.overlay_terms.specs.Column.{column_count}
 use Rattle.store_terms.specs.Fields.{read_many}
 use Rattle.store_terms.specs.Catalog.{listed}
 use Rattle.store_terms.proofs.Loops.{with_front}
@@ -8,5 +7,5 @@ use Rattle.record_writing.proofs.catalog.listing_at.Given as goal
 
 abbrev pub invariant-loop : goal.invariant-loop
 invariant-loop l =
-    with_front (entries_of l.listing.items) (read_many (listed column_count).read (l.count - l.counter) l.rest)
-    ≡ read_many (listed column_count).read l.count l.bytes
+    with_front (entries_of l.listing.items) (read_many (listed l.columns).read (l.count - l.counter) l.rest)
+    ≡ read_many (listed l.columns).read l.count l.bytes

@@ -1,5 +1,4 @@
 use Rattle.std.proofs.Common.{◌≡◌, ◌-◌}
-use Rattle.overlay_terms.specs.Column.{column_count}
 use Rattle.store_terms.specs.Fields.{read_many}
 use Rattle.store_terms.specs.Choices.{optional}
 use Rattle.store_terms.specs.Catalog.{extent}
@@ -8,5 +7,5 @@ use Rattle.record_writing.proofs.catalog.tiles_at.Given as goal
 
 abbrev pub invariant-loop : goal.invariant-loop
 invariant-loop l =
-    with_front l.tiles.items (read_many (optional extent).read (column_count - l.counter) l.rest)
-    ≡ read_many (optional extent).read column_count l.bytes
+    with_front l.tiles.items (read_many (optional extent).read (l.columns - l.counter) l.rest)
+    ≡ read_many (optional extent).read l.columns l.bytes
