@@ -143,8 +143,8 @@ def named(one, two, tiled):
     yield "B's name is A", two, put(at + 18, b"A"), "33 7"
     first = two[at + 5 : at + 17]
     yield "B's place is A's", two, put(at + 20, first), "33 9"
-    tile = next(place for place, size in extents_of(tiled) if tiled[place : place + 2] == b"\0\7" and size > 6)
-    yield "a tile names another column", tiled, put(tile + 1, b"\10"), "33 8"
+    tile = next(place for place, size in extents_of(tiled) if tiled[place : place + 2] == b"\0\17" and size > 6)
+    yield "a tile names another column", tiled, put(tile + 1, b"\20"), "33 8"
 
 
 def alterations(program, folder, files):

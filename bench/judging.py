@@ -397,7 +397,7 @@ def judge_session(session, number, judged):
 
 SQUARE = b"POLYGON ((0 0, 10 0, 10 10, 0 10, 0 0))"
 OTHER = b"POLYGON ((5 5, 15 5, 15 15, 5 15, 5 5))"
-FIRST = b"PUT A " + SQUARE + b"\nLOCATE A 12 12\nDEFINE I = A\nWAIT I\nEDGES I 8\nSYNC\nLAYERS\nHELLO\n"
+FIRST = b"PUT A " + SQUARE + b"\nLOCATE A 12 12\nDEFINE I = A\nWAIT I\nEDGES I 16\nSYNC\nLAYERS\nHELLO\n"
 SECOND = b"LOCATE A 2 2\nPUT A " + OTHER + b"\nDROP A\nLOCATE A 2 2\n"
 RIGHT = """# script 1
 ok 1

@@ -8,7 +8,7 @@ those of Debian that are there (libcgal-dev libgmp-dev libmpfr-dev, libboost-dev
 bench/peers are compiled by g++ -O2; one that cannot be compiled is left out.
 
 - The symmetric difference of two layers of so many edges each (the families of bench/tiles.py, laid over all columns):
-  WAIT of the derived layer and EDGES of its 17 columns, with one worker; beside them CGAL's exact arrangement of the
+  WAIT of the derived layer and EDGES of its 33 columns, with one worker; beside them CGAL's exact arrangement of the
   same segments, and Boost.Geometry's sym_difference over floating point where no ring crosses itself or another of its
   layer.
 - WAIT alone, and EDGES alone, of the same layers.

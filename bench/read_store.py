@@ -22,8 +22,9 @@ GATE_OPEN = 0xA7
 MAGIC = b"OVLSTORE"
 NUMBER_MAX = 2**62
 COORDINATE_MAX = 1048576
-COLUMNS = 17
-COLUMN_WIDTH = 131072
+COLUMNS = 33
+COLUMN_WIDTH = 65536
+FORMAT, OLD_FORMAT, OLD_COLUMNS = 2, 1, 17
 LAYERS_MAX = 32
 NAME_MAX = 32
 STEPS_MAX = 2048
@@ -31,7 +32,7 @@ TOKENS_MAX = 64
 PIECES_MAX = 65536
 FORMAT_PAGE = pathlib.Path(__file__).resolve().parent.parent / "docs" / "FORMAT.md"
 
-Root = collections.namedtuple("Root", "sequence version catalog")
+Root = collections.namedtuple("Root", "format sequence version catalog")
 Extent = collections.namedtuple("Extent", "block size")
 Listed = collections.namedtuple("Listed", "name record tiles")  # of a base layer tiles is None
 Segment = collections.namedtuple("Segment", "left right")
@@ -210,14 +211,17 @@ def leaves(tree):
 # ---- records
 
 
-def read_catalog(data):
-    data = Bytes(data)
+def read_catalog(data, written=FORMAT):
+    """The layers that are listed. In format 1 the tiles are those of other columns, and count as pending."""
+    data, columns = Bytes(data), COLUMNS if written == FORMAT else OLD_COLUMNS
     listing = []
     for _ in range(data.number(2)):
         name = data.take(data.number(1))
         is_derived = data.one_of(0, 1)
         record = data.extent()
-        tiles = [data.extent() if data.one_of(0, 1) else None for _ in range(COLUMNS)] if is_derived else None
+        tiles = [data.extent() if data.one_of(0, 1) else None for _ in range(columns)] if is_derived else None
+        if is_derived and written != FORMAT:
+            tiles = [None] * COLUMNS
         listing.append(Listed(name, record, tiles))
     data.end()
     return listing
@@ -285,9 +289,10 @@ def slot_root(data, slot):
     """The root in an open slot."""
     body = Bytes(data[BLOCK * slot + 16 : BLOCK * slot + 64])
     body.take(len(MAGIC))
-    if body.number(4) != 1:
+    written = body.number(4)
+    if written not in (OLD_FORMAT, FORMAT):
         raise Damage("33 1")
-    root = Root(body.number(8), body.number(8), body.extent())
+    root = Root(written, body.number(8), body.number(8), body.extent())
     if root.sequence > NUMBER_MAX or root.version > NUMBER_MAX or root.sequence % 2 != slot:
         raise Damage("33 2")
     return root
@@ -368,7 +373,7 @@ def layer_line(name, content):
 def reading(data):
     """The lines that tell what a file stands for."""
     root = find_root(data)
-    listing = formed(4, read_catalog, record_at(data, root.catalog, 3))
+    listing = formed(4, read_catalog, record_at(data, root.catalog, 3), root.format)
     layers, tiles = read_layers(data, listing)
     extents = [extent for listed in listing for extent in [listed.record, *(listed.tiles or [])] if extent is not None]
     check_apart([root.catalog, *extents])
@@ -450,7 +455,7 @@ def vector_checks(vectors):
         (read_base(vectors[2]), square),
         (read_catalog(vectors[3]), [Listed(b"A", Extent(3, 44), None)]),
         (read_definition(vectors[5]), (b"&", b"A", b"B")),
-        (read_tile(vectors[6], 16), 1),
+        (read_tile(vectors[6], 32), 1),
     ]
 
 

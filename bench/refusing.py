@@ -19,14 +19,14 @@ FAULT_LINE = re.compile(r"error (\d+) [a-z #0-9]+\n")
 SQUARE = "POLYGON ((0 0, 10 0, 10 10, 0 10, 0 0))"
 OTHER = "POLYGON ((5 5, 15 5, 15 15, 5 15, 5 5))"
 WORDS = [
-    f"PUT A {SQUARE}", f"PUT B {OTHER}", "DEFINE I = A & B", "LOCATE I 7 7", "LAYERS", "WAIT I", "EDGES I 8",
-    "VERIFY I 8", "GRID I 4 4 2 4 4", "HELLO", "LOCATE Z 1 1", "PUT A POLYGON ((0 0, 9 0, 9 9, 0 9, 0 0))", "SYNC",
+    f"PUT A {SQUARE}", f"PUT B {OTHER}", "DEFINE I = A & B", "LOCATE I 7 7", "LAYERS", "WAIT I", "EDGES I 16",
+    "VERIFY I 16", "GRID I 4 4 2 4 4", "HELLO", "LOCATE Z 1 1", "PUT A POLYGON ((0 0, 9 0, 9 9, 0 9, 0 0))", "SYNC",
     "DEFINE J = I ^ B", "WAIT J", "DROP J", "SYNC", "LOCATE A 9 1",
 ]
-FIRST = [f"PUT A {SQUARE}", "DEFINE I = A", "WAIT I", "EDGES I 8", "SYNC", "GRID A 0 0 5 3 3", "LAYERS"]
+FIRST = [f"PUT A {SQUARE}", "DEFINE I = A", "WAIT I", "EDGES I 16", "SYNC", "GRID A 0 0 5 3 3", "LAYERS"]
 SECOND = [f"PUT B {OTHER}", "SYNC", "DEFINE J = A ^ B", "WAIT J", "VERIFY J 8", "DROP I", "SYNC"]
 BEFORE = [f"PUT A {SQUARE}", f"PUT B {OTHER}", "DEFINE I = A & B"]
-AFTER = ["LOCATE I 7 7", "EDGES I 8", f"PUT C {SQUARE}", "SYNC", "DROP I", "VERIFY I 8"]
+AFTER = ["LOCATE I 7 7", "EDGES I 16", f"PUT C {SQUARE}", "SYNC", "DROP I", "VERIFY I 16"]
 
 
 # So many runs in a row have to meet no refusal, before it counts that each was tried: threads make calls more or fewer.

@@ -116,7 +116,7 @@ def replies(runs, lines):
                 n = len(script)
                 script += [f"LOCATE {derived} {i % 20} {n % 20}" for i in range(15)]
                 script += [f"EDGES {derived} 3", f"VERIFY {derived} 3", f"DEFINE {derived} = {base}"]
-                script += [f"PUT {base} {ring(8, n % 100, 0, 50)}", f"EDGES {base} 8"]
+                script += [f"PUT {base} {ring(8, n % 100, 0, 50)}", f"EDGES {base} 16"]
             scripts.append(script + ["SYNC"])
         clock, used, output = runs.best(scripts, 2, True)
         count = sum(len(script) for script in scripts)

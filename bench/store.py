@@ -36,7 +36,7 @@ def zigzag(steps):
 
 
 def column_left(column):
-    return -(2**20) + column * 2**17
+    return -(2**20) + column * 2**16
 
 
 def whole_piece(column, i):
@@ -74,7 +74,7 @@ def body(sequence, version, block, size):
 def store(layers):
     # layers: name, base record or definition record, and tiles by column (None of a base layer)
     entries = [
-        14 + len(name) + sum(13 if c in tiles else 1 for c in range(17) if tiles is not None)
+        14 + len(name) + sum(13 if c in tiles else 1 for c in range(33) if tiles is not None)
         for name, _, tiles in layers
     ]
     records, catalog = [], struct.pack(">H", len(layers))
@@ -89,7 +89,7 @@ def store(layers):
 
     for name, record, tiles in layers:
         catalog += struct.pack(">B", len(name)) + name + struct.pack(">B", tiles is not None) + placed(record)
-        for column in range(17) if tiles is not None else []:
+        for column in range(33) if tiles is not None else []:
             catalog += b"\1" + placed(tiles[column]) if column in tiles else b"\0"
     # both gates are open, so that opening writes nothing
     slots = b"".join((b"\xa7" + bytes(15) + body(s, len(layers), 2, len(catalog))).ljust(BLOCK, b"\0") for s in [0, 1])
@@ -146,11 +146,11 @@ def records(programs, folder):
 def files(program, folder):
     base, small = zigzag(2048), zigzag(4)
     tile = {c: tile_record(c, 60000, whole_piece) for c in range(16)}
-    oversize = {c: bytes([1, c]) for c in range(17)}
+    oversize = {c: bytes([1, c]) for c in range(33)}
     kinds = {
         "one layer of 4 steps": [(b"A", small, None)],
         "32 layers of 2,048 steps": [(b"A%d" % i, base, None) for i in range(32)],
-        "a derived layer with 17 oversize tiles": [(b"A", small, None), (b"I", b"A", oversize)],
+        "a derived layer with 33 oversize tiles": [(b"A", small, None), (b"I", b"A", oversize)],
         "a tile of 60,000 pieces": [(b"A", small, None), (b"I", b"A", {8: tile[8]})],
         "128 tiles of 60,000 pieces": [(b"A", small, None)] + [(b"I%d" % i, b"A", tile) for i in range(8)],
     }
@@ -173,7 +173,7 @@ def files(program, folder):
 def changes(program, folder):
     """What a commit writes that leads from one file to another."""
     base, other, small = zigzag(2048), zigzag(2047), zigzag(4)
-    tile = {c: tile_record(c, 100, short_piece) for c in range(17)}
+    tile = {c: tile_record(c, 100, short_piece) for c in range(33)}
     shorter = {**tile, 8: tile_record(8, 99, whole_piece)}
     layers = [(b"A%d" % i, base, None) for i in range(32)]
     tiled = [(b"A", small, None)] + [(b"I%d" % i, b"A", tile) for i in range(30)]
@@ -194,7 +194,7 @@ def changes(program, folder):
 def beginnings(program, folder):
     """How long the beginning of a commit takes, and how long it takes to find a place."""
     small, path = zigzag(4), folder / "tiled"
-    tile = {c: tile_record(c, 100, short_piece) for c in range(17)}
+    tile = {c: tile_record(c, 100, short_piece) for c in range(33)}
     path.write_bytes(store([(b"A", small, None)] + [(b"I%d" % i, b"A", tile) for i in range(30)]))
     words = [program, "begin", path, "200"]
     least = int(subprocess.run(words, stdout=subprocess.PIPE, check=True, text=True).stdout.split()[0])

@@ -78,7 +78,7 @@ BROKEN = [
     "DEFINE D0 = (A0", "DEFINE 9X = A0", "DEFINE D1 = " + " | ".join(["A0"] * 33), "DEFINE D1 = A?", "DROP",
     "DROP A0 A1", "LOCATE A0 1", "LOCATE A0 1 1 0", "LOCATE A0 1 1 1025", "LOCATE A0 1048577 0", "LOCATE A0 x 1",
     "EDGES D0", "WAIT",
-    "EDGES D0 17", "EDGES D0 -1", "VERIFY D0 17", "GRID D0 0 0 0 1 1", "GRID D0 0 0 1 257 1", "GRID D0 0 0 1 1",
+    "EDGES D0 33", "EDGES D0 -1", "VERIFY D0 33", "GRID D0 0 0 0 1 1", "GRID D0 0 0 1 257 1", "GRID D0 0 0 1 1",
     "GRID A0 1048576 0 1 2 1", "WAIT 9X", "put A0 POLYGON EMPTY", "LOCATE A0 +1 -0", " \t LOCATE\tA0  2 \t 2 ",
 ]
 
@@ -95,7 +95,7 @@ class Script:
         return self.draw.choice(BASES[:10] if self.draw.random() < 0.4 else DERIVED[:14])
 
     def column(self):
-        return self.draw.choice([7, 8, 7, 8, 7, 8, 7, 8, self.draw.randrange(17)])
+        return self.draw.choice([15, 16, 15, 16, 15, 16, 15, 16, self.draw.randrange(model.COLUMNS)])
 
     def put(self):
         return f"PUT {self.draw.choice(BASES)} {self.draw.choice(self.texts)}"

@@ -28,8 +28,8 @@ import unproved
 
 HERE = pathlib.Path(__file__).resolve().parent
 COORDINATE_MAX = 2**20
-WIDTH = 2**17
-COLUMNS = 17
+WIDTH = 2**16
+COLUMNS = 33
 
 CRATES = ["wkt_form", "layer_expr", "arrange", "tile_build", "layer_book"]
 

@@ -18,7 +18,7 @@ import time
 
 import serving
 
-LAYERS, COLUMNS, ROUNDS, WORKERS = 30, 17, 12, (1, 2, 4)
+LAYERS, COLUMNS, ROUNDS, WORKERS = 30, 33, 12, (1, 2, 4)
 
 
 def waited(names):

@@ -415,12 +415,12 @@ class ToSvg(unittest.TestCase):
 
     def test_columns_and_their_pieces(self):
         text, _ = self.picture("Ring")
-        for column in ("column 6: ", "column 7: ", "column 8: ", "column 9: "):
+        for column in ("column 13: ", "column 15: ", "column 16: ", "column 18: "):
             self.assertIn(column, text)
 
     def test_what_lacks_is_told(self):
         text, told = self.picture("Gone")
-        self.assertEqual(len(told), 17)
+        self.assertEqual(len(told), sessions.COLUMNS)
         xml.etree.ElementTree.fromstring(text)
         with self.assertRaisesRegex(sessions.Unusable, "A is no derived layer"):
             self.picture("A")
@@ -451,12 +451,12 @@ class Sessions(unittest.TestCase):
     def test_a_batch_has_one_reply(self):
         lines = [b"BATCH 3", b"PUT A " + SQUARE.encode(), b"", b"# PUT B", b"PUT B " + SQUARE.encode(),
                  b"DEFINE I = A & B", b" BATCH\t+2 \r", b"DROP I", b"DROP Z", b"LAYERS", b"BATCH 2", b"DROP I",
-                 b"#" * 65537, b"BATCH 1", b"BATCH 1", b"EDGES I 8"]
+                 b"#" * 65537, b"BATCH 1", b"BATCH 1", b"EDGES I 16"]
         replies = ["ok 1", "refused 1 error 10 unknown layer", "layers 3", "A MULTI" + SQUARE, "B MULTI" + SQUARE,
                    "I = A & B", "refused 1 error 42 line too long", "refused 0 error 41 command syntax", "edges 0"]
         session = sessions.read(b"\n".join(lines), "\n".join(replies).encode())
         self.assertEqual((list(session.base), session.definitions, session.edges),
-                         (["A", "B"], {"I": "A & B"}, {("I", 8): []}))
+                         (["A", "B"], {"I": "A & B"}, {("I", 16): []}))
         self.assertEqual([text.split("\n")[0] for text, _ in session.refused], [" BATCH\t+2 ", "BATCH 2", "BATCH 1"])
         batch = b"\n".join(lines[:6])
         self.assertEqual((sessions.last_defined(batch), list(sessions.put_by(batch))), ("I", ["A", "B"]))
@@ -489,7 +489,7 @@ class Sessions(unittest.TestCase):
         for replies in (b"edges 1\nx\n", b"edges 1\n1 1 0 2 2 1\n", b"edges 1\n2 2 1 4 4 2\n",
                         b"edges x\n", b"edges 1\n1 1 1 2 2\n"):
             with self.assertRaises(sessions.Unusable):
-                sessions.read(b"EDGES I 8", replies)
+                sessions.read(b"EDGES I 16", replies)
 
     def test_reach(self):
         session = sessions.Session()
@@ -502,7 +502,7 @@ class Sessions(unittest.TestCase):
         script = b"PUT A x\nDEFINE I=A"
         asked = sessions.with_questions(script, sessions.last_defined(script), (0, 0, 1, 2, 3)).decode().splitlines()
         self.assertEqual((len(asked), asked[2:4], asked[-2:]),
-                         (21, ["WAIT I", "EDGES I 0"], ["EDGES I 16", "GRID I 0 0 1 2 3"]))
+                         (37, ["WAIT I", "EDGES I 0"], ["EDGES I 32", "GRID I 0 0 1 2 3"]))
 
 
 # A plain overlay of two layers, by comparing all pairs, as another source of pieces than the program.

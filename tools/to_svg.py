@@ -83,7 +83,7 @@ def columns(view, counts):
     found = []
     for column in range(sessions.COLUMNS):
         begin = sessions.column_begin(column)
-        end = begin + sessions.COLUMN_WIDTH if column < 16 else begin
+        end = begin + sessions.COLUMN_WIDTH if column < sessions.COLUMNS - 1 else begin
         if view.left <= begin <= view.right:
             x = view.x(begin)
             found.append(f'<path d="M{x} {HEAD - 6}V{number(view.bottom)}" stroke="#999999" stroke-width="0.7" '
