@@ -3,7 +3,7 @@ ghost use Rattle.std.specs.Prelude.{[]};
 
 use disk_model::disk::Disk;
 use disk_model::fault::DiskFault;
-use std::fs::{File, OpenOptions};
+use std::fs::{File, OpenOptions, TryLockError};
 use std::os::unix::fs::FileExt;
 use std::rt::Files;
 use std::{fs, io};
@@ -52,10 +52,30 @@ fn opened<R: Files<File = File> + AllocGlobal>(rt: &R, path: &str, make: bool) -
     if !file.metadata()?.is_file() {
         return Err(io::Error::from(io::ErrorKind::InvalidInput));
     }
+    hold(&file)?;
     if make {
         folder_of(rt, path)?.sync_all()?;
     }
     Ok(file)
+}
+
+/// Holds a file for this program, until it is closed: that another holds it is an error. Where the system has no locks
+/// on the file, nobody is kept out.
+fn hold(file: &File) -> io::Result<()> {
+    match file.try_lock() {
+        Ok(()) => Ok(()),
+        Err(TryLockError::WouldBlock) => Err(io::Error::from(io::ErrorKind::WouldBlock)),
+        Err(TryLockError::Error(error)) if has_no_locks(&error) => Ok(()),
+        Err(TryLockError::Error(error)) => Err(error),
+    }
+}
+
+/// What the system answers where a file system has no locks, as some over a network have not.
+const NO_LOCKS: i32 = 37;
+
+/// Whether an error says that there are no locks on a file.
+fn has_no_locks(error: &io::Error) -> bool {
+    error.kind() == io::ErrorKind::Unsupported || error.raw_os_error() == Some(NO_LOCKS)
 }
 
 /// The folder in which the file at a path lies, whatever links lead to it.
