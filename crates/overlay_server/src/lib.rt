@@ -15,6 +15,6 @@ pub use script_form::{CommandFault, SessionEnd};
 pub use server_session::session_run;
 pub use serving::serve;
 pub use store_flushing::closing::{Closed, close};
-pub use store_flushing::flushing::flusher_loop;
+pub use store_flushing::keeper::flusher_loop;
 pub use tile_workers::gate::{Gate, OpenGate};
 pub use tile_workers::worker::worker_loop;

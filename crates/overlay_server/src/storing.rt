@@ -9,7 +9,7 @@ use std::marker::PhantomData;
 use std::snapshot::Snapshot;
 use std::sync::Wait;
 use std::thread::{Promise, PromisedHandle, Scope, Threads};
-use store_flushing::flushing::flusher_loop;
+use store_flushing::keeper::flusher_loop;
 use version_book::reporter::Reporter;
 use version_book::seen_log::Naming;
 use version_book::shared::Shared;
@@ -81,16 +81,13 @@ pub fn keep_store<J: Naming, S: Wait + Drop, Q: Wait, D: Disk>(
     requires { store.reporter.book ≡ J.book }
     ensures { IsStoreKept J.book D.Disk store result }
 {
-    let Store {
-        mut reporter,
-        flusher,
-    } = store;
-    let flusher = match flusher {
-        Some(mut flusher) => {
-            flusher_loop(rt, alloc, shared, &mut reporter, &mut flusher);
-            Some(flusher)
+    let Store { reporter, flusher } = store;
+    let (reporter, flusher) = match flusher {
+        Some(flusher) => {
+            let (reporter, flusher) = flusher_loop(rt, alloc, shared, reporter, flusher);
+            (reporter, Some(flusher))
         }
-        None => None,
+        None => (reporter, None),
     };
     // What the reporter has seen is a log with a first entry: the clauses rest on that.
     let _ = reporter.given();

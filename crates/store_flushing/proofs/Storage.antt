@@ -1,6 +1,7 @@
 -- What the calls of the flusher's loop make of a store of a history.
 use Rattle.std.proofs.Common.{◌≡◌, ◌⊎◌, inl, inr, ℕ, ◌≤◌, false, List, [], Result, Ok, Err, IfOk, ⊎_elim, refl, sym, ap, ◌∙◌, subst, arith}
 use Rattle.std.proofs.lemmas.Bool.{false≢true}
+use Rattle.std.specs.Prelude.{OnOk, OnErr}
 use Rattle.disk_model.specs.declared.disk.Disk.{Ghosts}
 use Rattle.disk_model.specs.Disk as device
 use Rattle.disk_model.specs.Moments.{Leaves, LeavesOnly}
@@ -20,7 +21,7 @@ use Rattle.root_store.proofs.Steps.{rest_either, shut_either, both_either}
 use Rattle.flush_core.specs.declared.flusher.Flusher.{Flusher}
 use Rattle.flush_core.specs.Stored.{stored_after, IsCommitOf, IsImageOf}
 use Rattle.store_flushing.specs.Among.{IsFileIn}
-use Rattle.store_flushing.specs.Storing.{Goes, IsStoreAt, IsStoreOf, Flushes}
+use Rattle.store_flushing.specs.Storing.{Goes, IsStoreAt, IsStoreOf, AllReported, Flushes, KeepsTold}
 use Rattle.store_flushing.proofs.Histories.{begins_self, begins_trans, numbers_rise, among_more, file_more, newest_among}
 
 abbrev IsDone : Result Progress StoreFault → Type 0
@@ -360,6 +361,90 @@ module _ {D : Type 0} (g : Ghosts D) where
         by_device = fails;
       }
 
+  -- ---- calls of a keeper
+
+  -- a call that tells no more than was stored as it began
+  pub kept : (was now : History) (s t : Flusher D g) → Flushes g was s now t → (newest now).durable ≤ s.commit.root.version → KeepsTold g was s now t
+  kept was now s t run told = record {
+    goes_on = run.goes_on;
+    store = run.store;
+    no_less = run.no_less;
+    told = told;
+    moments = run.moments;
+    by_device = run.by_device;
+  }
+
+  -- one that tells and stores nothing more
+  pub kept_on : (was now : History) (s t : Flusher D g) → KeepsTold g was s now t → (newest now).durable ≡ (newest was).durable → t.commit.root.version ≡ s.commit.root.version
+      → Flushes g was s now t
+  kept_on was now s t call same stored = record {
+    goes_on = call.goes_on;
+    store = call.store;
+    no_less = call.no_less;
+    reports = λ all. same ∙ all ∙ sym stored;
+    moments = call.moments;
+    by_device = call.by_device;
+  }
+
+  -- two, after which all that is stored is reported
+  pub told_all : (a b c : History) (s t u : Flusher D g) → KeepsTold g a s b t → KeepsTold g b t c u → AllReported c u → Flushes g a s c u
+  told_all a b c s t u first second all = record {
+    goes_on = begins_trans a b c first.goes_on second.goes_on;
+    store = second.store;
+    no_less = omega (arith, first.no_less, second.no_less);
+    reports = λ was. all;
+    moments = joined g s.commit.disk t.commit.disk u.commit.disk (IsFileIn c s.commit.root.version) (IsFileIn c t.commit.root.version)
+        (λ file is. file_more c c t.commit.root.version s.commit.root.version file (begins_self c) first.no_less is)
+        (widened g s.commit.disk t.commit.disk (IsFileIn b s.commit.root.version) (IsFileIn c s.commit.root.version) (λ file is. file_more b c s.commit.root.version s.commit.root.version file second.goes_on (omega arith) is) first.moments)
+        second.moments;
+    by_device = fails_twice s.commit t.commit u.commit first.by_device second.by_device;
+  }
+
+  -- all that is told by its end is in each file that a crash may leave at any moment of it
+  pub told_is_left : (was now : History) (s t : Flusher D g) → KeepsTold g was s now t → LeavesOnly g s.commit.disk t.commit.disk (IsFileIn now (newest now).durable)
+  told_is_left was now s t call =
+      widened g s.commit.disk t.commit.disk (IsFileIn now s.commit.root.version) (IsFileIn now (newest now).durable)
+      (λ file is. file_more now now s.commit.root.version (newest now).durable file (begins_self now) call.told is) call.moments
+
+  -- a device call
+  pub step_kept : (h : History) (s new : Flusher D g) → IsStoreOf g h s → Moves h s new → FailsByDevice g s.commit new.commit → KeepsTold g h s h new
+  step_kept h s new is moved fails = record {
+    goes_on = begins_self h;
+    store = moved.store;
+    no_less = moved.no_less;
+    told = is.reported;
+    moments = moved.moments;
+    by_device = fails;
+  }
+
+  -- what is stored is no newer than what was seen
+  pub stored_level : ((disk : D) → g.is_honest disk → g.may_leave disk (g.seen disk)) → (h : History) (s : Flusher D g) → IsHistory h → IsStoreOf g h s
+      → s.commit.root.version ≤ (newest h).number
+  stored_level may h s history is =
+      let file = store_leaves h s is (g.seen s.commit.disk) (may s.commit.disk is.honest) in
+      omega (arith, file.no_less, file.among.image.number, numbers_rise h file.among.version history file.among.among)
+
+  -- a report of what is stored
+  module _ (h n : History) (s : Flusher D g) (at : OnlyNow s) (on : BeginsWith n h)
+      (told : ((newest n).durable ≡ s.commit.root.version) ⊎ ((newest n).durable ≡ (newest h).durable)) (is : IsStoreOf g h s) where
+    no_more : (newest n).durable ≤ s.commit.root.version
+    no_more = ⊎_elim (λ to. omega (arith, to)) (λ stays. omega (arith, stays, is.reported)) told
+
+    pub report_kept : KeepsTold g h s n s
+    report_kept =
+        let store = store_more h n s on no_more is in
+        record {
+          goes_on = on;
+          store = store;
+          no_less = omega arith;
+          told = no_more;
+          moments = started g s.commit.disk (IsFileIn n s.commit.root.version) (λ c left. store_leaves n s store c (at c left));
+          by_device = fails_not s.commit;
+        }
+
+    pub all_told : (s.commit.root.version ≤ (newest h).number → s.commit.root.version ≤ (newest n).durable) → s.commit.root.version ≤ (newest h).number → AllReported n s
+    all_told reached level = omega (arith, no_more, reached level)
+
 Succeeds : {A B : Type 0} → Result A B → Type 0
 Succeeds (Ok x) = Unit {0}
 Succeeds (Err e) = ⊥
@@ -368,3 +453,15 @@ Succeeds (Err e) = ⊥
 pub never_both : {A B : Type 0} (r : Result A B) (x : A) (e : B) → r ≡ Ok x → r ≡ Err e → ⊥
 unfolding Succeeds
 never_both r x e is not = subst Succeeds (sym is ∙ not) tt
+
+-- a commit of the newest version begins, or it is refused and nothing changes
+pub begin_kept : {D A : Type 0} (g : Ghosts D) (h : History) (s new : Flusher D g) (v : Version) (r : Result A StoreFault) → OnlyNow g s
+    → is_busy s.commit.phase ≡ false → IsHistory h → v ≡ newest h → (s.commit.phase ≡ Failed → r ≡ Err fault.Failed)
+    → ((x : Kept) → Stands g s.commit x → OnOk r ((y : Kept) × IsCommitOf v y × Runs g new.commit x y)) → new.commit.root.version ≡ s.commit.root.version
+    → OnOk r (new.commit.phase ≡ Close) → new.commit.disk ≡ s.commit.disk → OnErr r (new ≡ s) → IsStoreOf g h s → KeepsTold g h s h new
+begin_kept g h s new v (Ok u) at idle history latest failed begins stored busy disk same is =
+    kept g h h s new
+    (commit_begins g h s new v idle (λ why. never_both (Ok u) u fault.Failed refl (failed why)) history latest begins stored busy disk at is)
+    is.reported
+begin_kept {D} g h s new v (Err why) at idle history latest failed begins stored busy disk same is =
+    subst (λ (f : Flusher D g). KeepsTold g h s h f) (sym same) (kept g h h s s (begun g h s at is) is.reported)

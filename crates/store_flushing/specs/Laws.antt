@@ -1,7 +1,7 @@
 -- How a store of a history begins, and what a crash may leave of it.
 use Rattle.std.specs.Prelude.{◌≡◌, ◌≤◌, []}
 use Rattle.disk_model.specs.declared.disk.Disk.{Ghosts}
-use Rattle.disk_model.specs.Moments.{Leaves}
+use Rattle.disk_model.specs.Moments.{Leaves, LeavesOnly}
 use Rattle.overlay_terms.specs.Histories.{Version, History, newest}
 use Rattle.commit_plan.specs.Kept.{Kept}
 use Rattle.root_store.specs.declared.phase.Phase.TheVariants.{Idle}
@@ -9,7 +9,7 @@ use Rattle.root_store.specs.Running.{Stands}
 use Rattle.flush_core.specs.declared.flusher.Flusher.{Flusher}
 use Rattle.flush_core.specs.Stored.{IsImageOf}
 use Rattle.store_flushing.specs.Among.{IsFileIn}
-use Rattle.store_flushing.specs.Storing.{IsStoreOf}
+use Rattle.store_flushing.specs.Storing.{IsStoreOf, KeepsTold}
 
 -- a store that stands for a version, of which no more is durable than is stored, is one of the history that begins with
 -- it
@@ -31,3 +31,10 @@ StoreIsKnown {D = D} g =
     (history : History) (f : Flusher D g) → g.is_honest f.commit.disk → f.commit.phase ≡ Idle
     → (newest history).durable ≤ f.commit.root.version
     → Leaves g f.commit.disk (IsFileIn history f.commit.root.version) → IsStoreOf g history f
+
+-- at every moment of a keeper's call a crash leaves a version of the history that is no older than what is told durable by
+-- its end
+abbrev pub ToldIsLeft : {D : Type 0} → Ghosts D → Type 0
+ToldIsLeft {D = D} g =
+    (was now : History) (old new : Flusher D g) → KeepsTold g was old now new
+    → LeavesOnly g old.commit.disk new.commit.disk (IsFileIn now (newest now).durable)

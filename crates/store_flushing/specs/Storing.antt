@@ -9,6 +9,8 @@ use Rattle.root_store.specs.declared.phase.Phase.TheVariants.{Idle, Close, Settl
 use Rattle.commit_plan.specs.Kept.{Kept}
 use Rattle.root_store.specs.Running.{Stands, Runs, FailsByDevice}
 use Rattle.flush_core.specs.declared.flusher.Flusher.{Flusher}
+use Rattle.book_history.specs.Logs.{history_of}
+use Rattle.version_book.specs.Heard.{Heard}
 use Rattle.store_flushing.specs.Among.{IsHeldIn, IsFileIn}
 
 module _ {D : Type 0} (g : Ghosts D) (history : History) where
@@ -62,3 +64,20 @@ pub record Flushes {D : Type 0} (g : Ghosts D) (was : History) (old : Flusher D 
   pub reports : AllReported was old → AllReported now new
   pub moments : LeavesOnly g old.commit.disk new.commit.disk (IsFileIn now old.commit.root.version)
   pub by_device : FailsByDevice g old.commit new.commit
+
+-- a call of a store's keeper: the history that the reporter has seen goes on, the store is one of it, and it fails by its
+-- device alone. What is told durable by the end of the call was stored as it began, and a crash at any moment of it leaves
+-- a version of the history that is no older than that
+pub record KeepsTold {D : Type 0} (g : Ghosts D) (was : History) (old : Flusher D g) (now : History) (new : Flusher D g)
+    : Type 0 where
+  pub goes_on : BeginsWith now was
+  pub store : IsStoreOf g now new
+  pub no_less : old.commit.root.version ≤ new.commit.root.version
+  pub told : (newest now).durable ≤ old.commit.root.version
+  pub moments : LeavesOnly g old.commit.disk new.commit.disk (IsFileIn now old.commit.root.version)
+  pub by_device : FailsByDevice g old.commit new.commit
+
+-- the same of a reporter and its store, where the store is one of the history that the reporter has seen
+abbrev pub Keeps : {D : Type 0} (g : Ghosts D) → Heard → Flusher D g → Heard → Flusher D g → Type 0
+Keeps g was old now new =
+    IsStoreOf g (history_of was.log) old → KeepsTold g (history_of was.log) old (history_of now.log) new

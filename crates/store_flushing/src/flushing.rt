@@ -1,4 +1,4 @@
-//! The loop of a flusher.
+//! The loop of a flusher: calls of a keeper, and nothing else.
 ghost use Rattle.std.specs.Prelude.{◌≡◌, ◌⊎◌, false};
 ghost use Rattle.overlay_terms.specs.Histories.{IsHistory, newest};
 ghost use Rattle.root_store.specs.Running.{is_busy};
@@ -6,14 +6,12 @@ ghost use Rattle.root_store.specs.declared.phase.Phase.TheVariants as phases;
 ghost use Rattle.book_history.specs.Logs.{history_of};
 ghost use Rattle.store_flushing.specs.Storing.{IsStoreOf, Flushes};
 
-use crate::telling::{report, tell};
+use crate::keeper::Keeper;
 use disk_model::disk::Disk;
-use flush_core::flusher::Flusher;
 use root_store::phase::Progress;
 use std::alloc::Global;
 use std::sync::Wait;
 use std::thread;
-use version_book::reporter::Reporter;
 use version_book::seen_log::Naming;
 use version_book::shared::Shared;
 use version_core::version::Version;
@@ -26,24 +24,23 @@ use version_core::version::Version;
 /// fails (30, 35) ends the loop, and the book is told too. At closing the commit under way is ended, and what the book
 /// still gives is committed. Called once more then, when the workers have returned, it commits the tiles that they
 /// finished meanwhile.
-pub fn flusher_loop<J: Naming, R: Wait + Drop, D: Disk, W: Wait>(
+pub(crate) fn flush<J: Naming, R: Wait + Drop, D: Disk, W: Wait>(
     rt: &W,
     alloc: Global,
     shared: &Shared<J, R>,
-    me: &mut Reporter,
-    flusher: &mut Flusher<D>,
+    keeper: &mut Keeper<D>,
 )
-    requires { me.old.book ≡ J.book }
+    requires { keeper.old.reporter.book ≡ J.book }
     // What it stores it reports, and a crash at any moment leaves a version that the reporter has seen in the end, no
     // older than what was stored at first.
-    ensures flushes { IsStoreOf D.Disk (history_of me.old.log) flusher.old
-        → Flushes D.Disk (history_of me.old.log) flusher.old (history_of me.new.log) flusher.new }
+    ensures flushes { IsStoreOf D.Disk (history_of keeper.old.reporter.log) keeper.old.flusher
+        → Flushes D.Disk (history_of keeper.old.reporter.log) keeper.old.flusher (history_of keeper.new.reporter.log) keeper.new.flusher }
     // No commit is left half done, unless the device failed.
-    ensures rests { is_busy flusher.new.commit.phase ≡ false }
-    ensures same { me.new.book ≡ me.old.book }
+    ensures rests { is_busy keeper.new.flusher.commit.phase ≡ false }
+    ensures same { keeper.new.reporter.book ≡ keeper.old.reporter.book }
 {
     'rounds: for _ in rt.forever() {
-        if !round(rt, alloc, shared, me, flusher) {
+        if !round(rt, alloc, shared, keeper) {
             return;
         }
     }
@@ -56,22 +53,20 @@ fn round<J: Naming, R: Wait + Drop, D: Disk, W: Wait>(
     rt: &W,
     alloc: Global,
     shared: &Shared<J, R>,
-    me: &mut Reporter,
-    flusher: &mut Flusher<D>,
+    keeper: &mut Keeper<D>,
 ) -> bool
-    requires { me.old.book ≡ J.book }
-    ensures flushes { IsStoreOf D.Disk (history_of me.old.log) flusher.old
-        → Flushes D.Disk (history_of me.old.log) flusher.old (history_of me.new.log) flusher.new }
-    ensures rests { is_busy flusher.new.commit.phase ≡ false }
-    ensures ends { result ≡ false → (flusher.new.commit.phase ≡ phases.Failed)
-        ⊎ ((me.new ≡ me.old) × (flusher.new ≡ flusher.old)) }
-    ensures same { me.new.book ≡ me.old.book }
+    requires { keeper.old.reporter.book ≡ J.book }
+    ensures flushes { IsStoreOf D.Disk (history_of keeper.old.reporter.log) keeper.old.flusher
+        → Flushes D.Disk (history_of keeper.old.reporter.log) keeper.old.flusher (history_of keeper.new.reporter.log) keeper.new.flusher }
+    ensures rests { is_busy keeper.new.flusher.commit.phase ≡ false }
+    ensures ends { result ≡ false → (keeper.new.flusher.commit.phase ≡ phases.Failed) ⊎ (keeper.new ≡ keeper.old) }
+    ensures same { keeper.new.reporter.book ≡ keeper.old.reporter.book }
 {
-    if flusher.busy() {
-        return end_commit(rt, alloc, shared, me, flusher);
+    if keeper.busy() {
+        return end_commit(rt, alloc, shared, keeper);
     }
-    match shared.next_version(rt, me) {
-        Ok(Some(version)) => commit(rt, alloc, shared, me, flusher, &version),
+    match keeper.look(rt, shared) {
+        Ok(Some(version)) => commit(rt, alloc, shared, keeper, &version),
         Ok(None) => false,
         Err(_) => {
             thread::yield_now();
@@ -85,23 +80,22 @@ fn commit<J: Naming, R: Wait + Drop, D: Disk, W: Wait>(
     rt: &W,
     alloc: Global,
     shared: &Shared<J, R>,
-    me: &mut Reporter,
-    flusher: &mut Flusher<D>,
+    keeper: &mut Keeper<D>,
     version: &Version,
 ) -> bool
-    requires book { me.old.book ≡ J.book }
-    requires idle { is_busy flusher.old.commit.phase ≡ false }
-    requires history { IsHistory (history_of me.old.log) }
-    requires newest { version.now ≡ newest (history_of me.old.log) }
-    ensures flushes { IsStoreOf D.Disk (history_of me.old.log) flusher.old
-        → Flushes D.Disk (history_of me.old.log) flusher.old (history_of me.new.log) flusher.new }
-    ensures rests { is_busy flusher.new.commit.phase ≡ false }
-    ensures ends { result ≡ false → flusher.new.commit.phase ≡ phases.Failed }
-    ensures same { me.new.book ≡ me.old.book }
+    requires book { keeper.old.reporter.book ≡ J.book }
+    requires idle { is_busy keeper.old.flusher.commit.phase ≡ false }
+    requires history { IsHistory (history_of keeper.old.reporter.log) }
+    requires newest { version.now ≡ newest (history_of keeper.old.reporter.log) }
+    ensures flushes { IsStoreOf D.Disk (history_of keeper.old.reporter.log) keeper.old.flusher
+        → Flushes D.Disk (history_of keeper.old.reporter.log) keeper.old.flusher (history_of keeper.new.reporter.log) keeper.new.flusher }
+    ensures rests { is_busy keeper.new.flusher.commit.phase ≡ false }
+    ensures ends { result ≡ false → keeper.new.flusher.commit.phase ≡ phases.Failed }
+    ensures same { keeper.new.reporter.book ≡ keeper.old.reporter.book }
 {
-    match flusher.begin(alloc, version) {
-        Ok(()) => end_commit(rt, alloc, shared, me, flusher),
-        Err(fault) => tell(rt, shared, me, fault),
+    match keeper.begin(alloc, version) {
+        Ok(()) => end_commit(rt, alloc, shared, keeper),
+        Err(fault) => keeper.tell(rt, shared, fault),
     }
 }
 
@@ -111,25 +105,24 @@ fn end_commit<J: Naming, R: Wait + Drop, D: Disk, W: Wait>(
     rt: &W,
     alloc: Global,
     shared: &Shared<J, R>,
-    me: &mut Reporter,
-    flusher: &mut Flusher<D>,
+    keeper: &mut Keeper<D>,
 ) -> bool
-    requires book { me.old.book ≡ J.book }
-    ensures flushes { IsStoreOf D.Disk (history_of me.old.log) flusher.old
-        → Flushes D.Disk (history_of me.old.log) flusher.old (history_of me.new.log) flusher.new }
-    ensures rests { is_busy flusher.new.commit.phase ≡ false }
-    ensures ends { result ≡ false → flusher.new.commit.phase ≡ phases.Failed }
-    ensures same { me.new.book ≡ me.old.book }
+    requires book { keeper.old.reporter.book ≡ J.book }
+    ensures flushes { IsStoreOf D.Disk (history_of keeper.old.reporter.log) keeper.old.flusher
+        → Flushes D.Disk (history_of keeper.old.reporter.log) keeper.old.flusher (history_of keeper.new.reporter.log) keeper.new.flusher }
+    ensures rests { is_busy keeper.new.flusher.commit.phase ≡ false }
+    ensures ends { result ≡ false → keeper.new.flusher.commit.phase ≡ phases.Failed }
+    ensures same { keeper.new.reporter.book ≡ keeper.old.reporter.book }
 {
     'calls: for _ in rt.forever() {
-        match flusher.step() {
+        match keeper.step() {
             Ok(Progress::Going) => {}
             Ok(Progress::Idle) => return true,
-            Ok(Progress::Done(number)) => {
-                report(rt, alloc, shared, me, number);
+            Ok(Progress::Done(_)) => {
+                keeper.report(rt, alloc, shared);
                 return true;
             }
-            Err(fault) => return tell(rt, shared, me, fault),
+            Err(fault) => return keeper.tell(rt, shared, fault),
         }
     }
     unreachable!()

@@ -1,5 +1,5 @@
 //! Laws over the definitions: each function does nothing, and its contract is the law.
-ghost use Rattle.store_flushing.specs.Laws.{StoreBegins, StoreLeaves, StoreIsKnown};
+ghost use Rattle.store_flushing.specs.Laws.{StoreBegins, StoreLeaves, StoreIsKnown, ToldIsLeft};
 
 use disk_model::disk::Disk;
 
@@ -17,4 +17,10 @@ pub fn store_leaves<D: Disk>()
 /// stands for one of its versions, no older than what is stored.
 pub fn store_is_known<D: Disk>()
     ensures { StoreIsKnown D.Disk }
+{}
+
+/// At every moment of a keeper's call a crash leaves a version of the history that is no older than what is told durable
+/// by the call's end.
+pub fn told_is_left<D: Disk>()
+    ensures { ToldIsLeft D.Disk }
 {}

@@ -3,6 +3,7 @@
 #![tactic(auto)]
 
 pub mod closing;
-pub mod flushing;
+mod flushing;
+pub mod keeper;
 pub mod laws;
 mod telling;

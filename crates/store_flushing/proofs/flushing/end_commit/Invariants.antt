@@ -6,6 +6,6 @@ use Rattle.store_flushing.proofs.flushing.end_commit.Given as goal
 -- a run so far
 abbrev pub invariant-calls : goal.invariant-calls
 invariant-calls g l =
-    (l.me.book ≡ l.initial.me.book)
-    × (IsStoreOf g.D.Disk (history_of l.initial.me.log) l.initial.flusher
-    → Flushes g.D.Disk (history_of l.initial.me.log) l.initial.flusher (history_of l.me.log) l.flusher)
+    (l.keeper.reporter.book ≡ l.initial.keeper.reporter.book)
+    × (IsStoreOf g.D.Disk (history_of l.initial.keeper.reporter.log) l.initial.keeper.flusher
+    → Flushes g.D.Disk (history_of l.initial.keeper.reporter.log) l.initial.keeper.flusher (history_of l.keeper.reporter.log) l.keeper.flusher)

@@ -1,24 +1,31 @@
-use Rattle.store_flushing.proofs.Storage.{longer, then}
+use Rattle.std.proofs.Common.{ap}
+use Rattle.flush_core.specs.declared.flusher.Flusher.{Flusher}
 use Rattle.book_history.specs.Logs.{history_of}
+use Rattle.store_flushing.proofs.Storage.{kept_on, then}
 use Rattle.store_flushing.proofs.flushing.round.Goals as goal
 
 pub returns-in-Ok-Some-clause-flushes : goal.returns-in-Ok-Some-clause-flushes
 returns-in-Ok-Some-clause-flushes g c is =
     let d = g.D.Disk in
-    let h = history_of c.args.me.now.log in
-    let s = c.args.flusher.now in
-    let m = history_of c.next_version.new.me.log in
-    let seen = longer d h m s (λ f left. g.met.D.Disk.only_now s.commit.disk f is.honest left) c.next_version.ensures.goes_on c.next_version.ensures.durable is in
-    then d h m (history_of c.commit.new.me.log) s s (c.commit.new.flusher) seen (c.commit.ensures.flushes seen.store)
+    let old = c.args.keeper.now in
+    let mid = c.look.new.self in
+    let new = c.commit.new.keeper in
+    let h = history_of old.reporter.log in
+    let m = history_of mid.reporter.log in
+    let e = c.look.ensures in
+    let seen = kept_on d h m old.flusher mid.flusher (e.keeps is) e.durable (ap (λ (f : Flusher g.row.D.Denot g.D.Disk). f.commit.root.version) e.flusher) in
+    then d h m (history_of new.reporter.log) old.flusher mid.flusher new.flusher seen (c.commit.ensures.flushes seen.store)
 
 pub returns-in-Ok-None-clause-flushes : goal.returns-in-Ok-None-clause-flushes
 returns-in-Ok-None-clause-flushes g c is =
-    let s = c.args.flusher.now in
-    let m = history_of c.next_version.new.me.log in
-    longer g.D.Disk (history_of c.args.me.now.log) m s (λ f left. g.met.D.Disk.only_now s.commit.disk f is.honest left) c.next_version.ensures.goes_on c.next_version.ensures.durable is
+    let old = c.args.keeper.now in
+    let mid = c.look.new.self in
+    let e = c.look.ensures in
+    kept_on g.D.Disk (history_of old.reporter.log) (history_of mid.reporter.log) old.flusher mid.flusher (e.keeps is) e.durable (ap (λ (f : Flusher g.row.D.Denot g.D.Disk). f.commit.root.version) e.flusher)
 
 pub returns-in-Err-clause-flushes : goal.returns-in-Err-clause-flushes
 returns-in-Err-clause-flushes g c is =
-    let s = c.args.flusher.now in
-    let m = history_of c.next_version.new.me.log in
-    longer g.D.Disk (history_of c.args.me.now.log) m s (λ f left. g.met.D.Disk.only_now s.commit.disk f is.honest left) c.next_version.ensures.goes_on c.next_version.ensures.durable is
+    let old = c.args.keeper.now in
+    let mid = c.look.new.self in
+    let e = c.look.ensures in
+    kept_on g.D.Disk (history_of old.reporter.log) (history_of mid.reporter.log) old.flusher mid.flusher (e.keeps is) e.durable (ap (λ (f : Flusher g.row.D.Denot g.D.Disk). f.commit.root.version) e.flusher)

@@ -1,0 +1,13 @@
+use Rattle.std.proofs.Common.{Ok, Err, Result, subst, sym}
+use Rattle.flush_core.specs.declared.flusher.Flusher.{Flusher}
+use Rattle.book_history.specs.Logs.{history_of}
+use Rattle.store_flushing.specs.Storing.{KeepsTold}
+use Rattle.store_flushing.proofs.Storage.{begin_kept}
+use Rattle.store_flushing.proofs.keeper.Keeper.begin.Goals as goal
+
+pub returns-clause-keeps : goal.returns-clause-keeps
+returns-clause-keeps g c is =
+    let s = c.args.self.now.flusher in
+    let e = c.begin.ensures in
+    begin_kept g.D.Disk (history_of c.args.self.now.reporter.log) s c.begin.new.self c.args.version.now c.begin.result (λ k left. g.met.D.Disk.only_now s.commit.disk k is.honest left)
+    c.requires.idle c.requires.history c.requires.newest e.failed e.begun e.stored e.begins e.disk e.err is

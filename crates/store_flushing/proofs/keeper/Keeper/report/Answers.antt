@@ -1,0 +1,25 @@
+use Rattle.std.proofs.Common.{ℕ, ◌≡◌, ◌≤◌, ◌⊎◌, subst}
+use Rattle.book_history.specs.Logs.{history_of, newest_in}
+use Rattle.store_flushing.proofs.Storage.{all_told, report_kept, stored_level}
+use Rattle.store_flushing.proofs.keeper.Keeper.report.Goals as goal
+
+pub returns-clause-keeps : goal.returns-clause-keeps
+returns-clause-keeps g c is =
+    let d = g.D.Disk in
+    let h = history_of c.args.self.now.reporter.log in
+    let n = history_of c.report.new.me.log in
+    let s = c.args.self.now.flusher in
+    let e = c.report.ensures in
+    let told = subst (λ (k : ℕ). ((newest_in c.report.new.me.log).durable ≡ k) ⊎ ((newest_in c.report.new.me.log).durable ≡ (newest_in c.args.self.now.reporter.log).durable)) c.stored.ensures e.reported in
+    report_kept d h n s (λ k left. g.met.D.Disk.only_now s.commit.disk k is.honest left) e.goes_on told is
+
+pub returns-clause-reported : goal.returns-clause-reported
+returns-clause-reported g c is =
+    let d = g.D.Disk in
+    let h = history_of c.args.self.now.reporter.log in
+    let n = history_of c.report.new.me.log in
+    let s = c.args.self.now.flusher in
+    let e = c.report.ensures in
+    let told = subst (λ (k : ℕ). ((newest_in c.report.new.me.log).durable ≡ k) ⊎ ((newest_in c.report.new.me.log).durable ≡ (newest_in c.args.self.now.reporter.log).durable)) c.stored.ensures e.reported in
+    let reached = subst (λ (k : ℕ). k ≤ (newest_in c.args.self.now.reporter.log).number → k ≤ (newest_in c.report.new.me.log).durable) c.stored.ensures e.reached in
+    all_told d h n s (λ k left. g.met.D.Disk.only_now s.commit.disk k is.honest left) e.goes_on told is reached (stored_level d g.met.D.Disk.seen_may_stay h s e.history is)

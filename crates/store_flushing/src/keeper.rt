@@ -1,0 +1,138 @@
+//! A store, and the one token that may report what it stores, as one value.
+ghost use Rattle.std.specs.Prelude.{◌≡◌, false, IfErr, IfOk, IfSome, IfNone, OnErr};
+ghost use Rattle.std.specs.Arc.{arc_value};
+ghost use Rattle.overlay_terms.specs.Histories.{IsHistory, newest};
+ghost use Rattle.root_store.specs.Beginning.{IsReason};
+ghost use Rattle.root_store.specs.Running.{Counts, calls_left, is_busy};
+ghost use Rattle.root_store.specs.declared.phase.Phase.TheVariants as phases;
+ghost use Rattle.flush_core.specs.Stored.{HasNoRoomFor, stored_after};
+ghost use Rattle.book_history.specs.Fault.{passes};
+ghost use Rattle.book_history.specs.Logs.{history_of, newest_in};
+ghost use Rattle.store_flushing.specs.Storing.{AllReported, Flushes, IsStoreOf, Keeps};
+ghost use Rattle.store_flushing.specs.Telling.{told_of};
+
+use crate::flushing::flush;
+use crate::telling;
+use commit_plan::fault::StoreFault;
+use disk_model::disk::Disk;
+use flush_core::flusher::Flusher;
+use root_store::phase::Progress;
+use std::alloc::Global;
+use std::sync::{Arc, Wait};
+use version_book::fault::BookFault;
+use version_book::reporter::Reporter;
+use version_book::seen_log::Naming;
+use version_book::shared::Shared;
+use version_core::version::Version;
+
+/// A store, and the one token that may report what it stores. Both are reached by its calls alone. None of them moves the
+/// disk and reports: so what a session was told durable by the end of a call was stored as the call began, whenever within
+/// it the session was told.
+pub struct Keeper<D: Disk> {
+    reporter: Reporter,
+    flusher: Flusher<D>,
+}
+
+/// Commits each version that the book gives, and reports it once it is stored, until the book closes or the device
+/// fails.
+pub fn flusher_loop<J: Naming, R: Wait + Drop, D: Disk, W: Wait>(
+    rt: &W,
+    alloc: Global,
+    shared: &Shared<J, R>,
+    reporter: Reporter,
+    flusher: Flusher<D>,
+) -> (Reporter, Flusher<D>)
+    requires { reporter.book ≡ J.book }
+    ensures flushes { IsStoreOf D.Disk (history_of reporter.log) flusher
+        → Flushes D.Disk (history_of reporter.log) flusher (history_of result.0.log) result.1 }
+    ensures rests { is_busy result.1.commit.phase ≡ false }
+    ensures same { result.0.book ≡ reporter.book }
+{
+    let mut keeper = Keeper { reporter, flusher };
+    flush(rt, alloc, shared, &mut keeper);
+    let Keeper { reporter, flusher } = keeper;
+    (reporter, flusher)
+}
+
+impl<D: Disk> Keeper<D> {
+    /// Whether a commit is under way.
+    pub fn busy(&self) -> bool
+        ensures { result ≡ is_busy self.now.flusher.commit.phase }
+    {
+        self.flusher.busy()
+    }
+
+    /// Waits for news, and sees the newest version. It makes no device call, and reports nothing.
+    pub fn look<J: Naming, R: Wait + Drop, W: Wait>(
+        &mut self,
+        rt: &W,
+        shared: &Shared<J, R>,
+    ) -> Result<Option<Arc<Version, Global>>, BookFault>
+        requires { self.old.reporter.book ≡ J.book }
+        ensures keeps { Keeps D.Disk self.old.reporter self.old.flusher self.new.reporter self.new.flusher }
+        ensures history { IfOk result (λ o. IfSome o (λ _. IsHistory (history_of self.new.reporter.log))) }
+        ensures newest { IfOk result (λ o. IfSome o (λ version. arc_value version ≡ newest_in self.new.reporter.log)) }
+        ensures durable { (newest_in self.new.reporter.log).durable ≡ (newest_in self.old.reporter.log).durable }
+        ensures none { IfOk result (λ o. IfNone o (self.new ≡ self.old)) }
+        ensures flusher { self.new.flusher ≡ self.old.flusher }
+        ensures same { self.new.reporter.book ≡ self.old.reporter.book }
+    {
+        shared.next_version(rt, &mut self.reporter)
+    }
+
+    /// Begins the commit of the newest version that was seen. It makes no device call, and reports nothing.
+    pub fn begin(&mut self, alloc: Global, version: &Version) -> Result<(), StoreFault>
+        requires idle { is_busy self.old.flusher.commit.phase ≡ false }
+        requires history { IsHistory (history_of self.old.reporter.log) }
+        requires newest { version.now ≡ newest (history_of self.old.reporter.log) }
+        ensures keeps { Keeps D.Disk self.old.reporter self.old.flusher self.new.reporter self.new.flusher }
+        ensures stored { self.new.flusher.commit.root.version ≡ self.old.flusher.commit.root.version }
+        ensures reporter { self.new.reporter ≡ self.old.reporter }
+        ensures err { OnErr result (self.new ≡ self.old) }
+        ensures errors { IfErr result (λ fault. IsReason self.old.flusher.commit.phase self.old.flusher.commit.root (HasNoRoomFor self.old.flusher.commit version.now) fault) }
+    {
+        self.flusher.begin(alloc, version)
+    }
+
+    /// Makes one device call; none where no commit is under way. It reports nothing.
+    pub fn step(&mut self) -> Result<Progress, StoreFault>
+        ensures keeps { Keeps D.Disk self.old.reporter self.old.flusher self.new.reporter self.new.flusher }
+        ensures stored { self.new.flusher.commit.root.version ≡ stored_after result self.old.flusher.commit.root.version }
+        ensures counted { IfOk result (λ p. Counts p (calls_left self.old.flusher.commit) (calls_left self.new.flusher.commit)) }
+        ensures failed { OnErr result (self.new.flusher.commit.phase ≡ phases.Failed) }
+        ensures reporter { self.new.reporter ≡ self.old.reporter }
+    {
+        self.flusher.step()
+    }
+
+    /// Reports what is stored. It makes no device call.
+    pub fn report<J: Naming, R: Wait + Drop, W: Wait>(
+        &mut self,
+        rt: &W,
+        alloc: Global,
+        shared: &Shared<J, R>,
+    )
+        requires { self.old.reporter.book ≡ J.book }
+        ensures keeps { Keeps D.Disk self.old.reporter self.old.flusher self.new.reporter self.new.flusher }
+        ensures reported { IsStoreOf D.Disk (history_of self.old.reporter.log) self.old.flusher
+            → AllReported (history_of self.new.reporter.log) self.new.flusher }
+        ensures flusher { self.new.flusher ≡ self.old.flusher }
+        ensures same { self.new.reporter.book ≡ self.old.reporter.book }
+    {
+        telling::report(rt, alloc, shared, &mut self.reporter, self.flusher.stored());
+    }
+
+    /// Tells the book of a fault, and says whether the store can go on after it.
+    pub fn tell<J: Naming, R: Wait + Drop, W: Wait>(
+        &mut self,
+        rt: &W,
+        shared: &Shared<J, R>,
+        fault: StoreFault,
+    ) -> bool
+        requires { self.old.reporter.book ≡ J.book }
+        ensures nothing { self.new ≡ self.old }
+        ensures passes { result ≡ passes (told_of fault) }
+    {
+        telling::tell(rt, shared, &mut self.reporter, fault)
+    }
+}
