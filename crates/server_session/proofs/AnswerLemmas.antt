@@ -46,8 +46,8 @@ use Rattle.script_form.specs.declared.gathering.LinesFault.TheVariants.{Unread, 
 use Rattle.script_form.specs.declared.line_turn.LineTurn.TheVariants.{Waits, Alone, Whole}
 use Rattle.server_session.specs.Answering.{Answers, AnswersAll, IsAnswerToAll, Submits, SubmitsAll}
 use Rattle.server_session.specs.Fault.{batch_told, fault_told, lines_told, numbered}
-use Rattle.server_session.specs.Session.{IsSharedRun}
-use Rattle.server_session.specs.Turn.{Stays, TakesTurn}
+use Rattle.server_session.specs.Session.{IsSharedRun, Stays}
+use Rattle.server_session.specs.Turn.{TakesTurn}
 use Rattle.server_session.proofs.Runs.{run-none, run-one}
 use Rattle.server_session.proofs.Turns.{stays_self}
 

@@ -1,172 +1,318 @@
--- A session that goes on in its script.
-use Rattle.std.proofs.Common.{◌≡◌, ◌≢◌, ℕ, ◌==◌, ◌≤◌, Bool, false, Option, Result, Ok, Err, IsErr, MatchResult, List, [], ◌∷◌, ◌++◌, map, length, take, refl, sym, ap, ◌∙◌, subst, append_assoc, append-nil}
+-- What bytes make of a session on its way, and what the end of its script does.
+use Rattle.std.proofs.Common.{◌≡◌, ◌≢◌, ℕ, zero, suc, ◌+◌, ◌==◌, ◌<◌, ◌≤◌, ◌⊎◌, inl, inr, Bool, true, false, Option, Some, None, is_some, Result, Ok, Err, IsErr, OnOk, OnErr, MatchResult, List, [], ◌∷◌, ◌++◌, map, length, take, drop, lit<, refl, sym, ap, ◌∙◌, subst, append_assoc, append-nil, ne_eqb, arith}
+use Rattle.std.proofs.Math.Seq.{drop-append_seam}
+use Rattle.std.proofs.lemmas.Bool.{false≢true, true≢false}
+use Rattle.std.proofs.lemmas.List.{take_all, length-take}
 use Rattle.std.specs.Io.KnownBytes.{Appends}
-use Rattle.std.proofs.KnownBytes.{Appends-nil, Appends-trans}
-use Rattle.std.proofs.lemmas.Bool.{ne_eqb, false≢true}
-use Rattle.std.proofs.lemmas.List.{take_all}
+use Rattle.std.proofs.KnownBytes.{Appends-nil}
 use Rattle.book_history.specs.Known.{Known}
+use Rattle.script_form.specs.declared.fault.CommandFault.TheVariants.{CommandSyntax}
 use Rattle.script_form.specs.declared.gathering.Gathering.{Gathering}
 use Rattle.script_form.specs.Gathering.{IsOpen}
-use Rattle.script_form.specs.Lines.{line_room, without_cr, ended_lines, unended}
+use Rattle.script_form.specs.Lines.{line_room, without_cr, ended_lines, unended, last_line, whole_lines}
+use Rattle.script_form.specs.Replies.{error_line}
 use Rattle.script_form.specs.Requests.{request_of}
-use Rattle.script_form.specs.Writing.{IsCutShort}
-use Rattle.script_form.specs.Turns.{Turn, turns_from, turns_of, waiting_behind}
-use Rattle.script_form.proofs.LongLines.{request_of-cut_ended, take-push, take-nil}
-use Rattle.script_form.proofs.Pieces.{GoesOn, ended_lines-feed, ended_lines-byte, ended_lines-more, unended-feed, unended-byte}
-use Rattle.script_form.proofs.TurnLemmas.{turns_of-more}
-use Rattle.server_session.specs.Loop.{Stands, TakesAll, IsStopped}
-use Rattle.server_session.specs.Session.{IsSharedRun, IsCutOff}
-use Rattle.server_session.specs.Turn.{TakesTurn}
-use Rattle.server_session.proofs.Runs.{pushed_run, pushed_waits, takes_turn-same}
-use Rattle.server_session.proofs.Turns.{stays_trans}
+use Rattle.script_form.specs.Writing.{IsCutShort, Writes}
+use Rattle.script_form.specs.Turns.{Turn, Waiting, cut_off, cut_off_in, ended_by, turns_from, turns_of, all_turns_of, waiting_after, waiting_behind}
+use Rattle.script_form.proofs.LongLines.{request_of-cut, request_of-cut_ended, take-push, take-nil}
+use Rattle.script_form.proofs.Pieces.{ended_lines-feed, ended_lines-byte, ended_lines-more, unended-feed, unended-byte}
+use Rattle.script_form.proofs.TurnLemmas.{turns_of-more, turns_of-push, waiting_behind-push}
+use Rattle.server_session.specs.Loop.{AnswersLine, EndsBatch}
+use Rattle.server_session.specs.Session.{IsSharedRun, Stays}
+use Rattle.server_session.specs.Talk.{HasTaken, turns_ended, turns_at_end, AnswersTurns, AnswersInPart}
+use Rattle.server_session.specs.Turn.{IsLineTaken, TakesTurn}
+use Rattle.server_session.specs.declared.talk.Talk.{Talk}
+use Rattle.server_session.proofs.Runs.{run-one, takes_turn-same, ended_one, cut_one, answers_none, answers_join, answers_as, stops_behind, stops_before, stops_as}
+use Rattle.server_session.proofs.Turns.{stays_self}
 
--- what a session stands on may be told by other words for the same
-stands-same : (stored : Bool) (was : Known) (taken other written same_written line : List ℕ) (waiting : Option Gathering) (now : Known) → taken ≡ other → written ≡ same_written
-    → Stands stored was taken written line waiting now → Stands stored was other same_written line waiting now
-stands-same stored was taken other written same_written line waiting now same told stands =
-    subst (λ t. Stands stored was t same_written line waiting now) same (subst (λ w. Stands stored was taken w line waiting now) told stands)
+-- ==== The turns that bytes end
 
-cut_off-same : (stored : Bool) (was now : Known) (turns other : List Turn) (written same_written : List ℕ) → turns ≡ other → written ≡ same_written → IsCutOff stored was now turns written → IsCutOff stored was now other same_written
-cut_off-same stored was now turns other written same_written same told cut =
-    subst (λ (l : List Turn). IsCutOff stored was now l same_written) same (subst (IsCutOff stored was now turns) told cut)
+behind_front : (xs ys zs : List Turn) → zs ≡ xs ++ ys → drop (length xs) zs ≡ ys
+behind_front xs ys zs is = ap (drop (length xs)) is ∙ drop-append_seam xs ys
 
--- a byte that ends no line
-stands-byte : (stored : Bool) (was : Known) (taken written line : List ℕ) (waiting : Option Gathering) (now : Known) (b : ℕ) → (b == 10) ≡ false → Stands stored was taken written line waiting now
-    → Stands stored was (taken ++ b ∷ []) written (take line_room (line ++ b ∷ [])) waiting now
-stands-byte stored was taken written line waiting now b other stands = record {
-  stays = stands.stays;
-  told = subst (λ (lines : List (List ℕ)). IsSharedRun stored was (turns_of lines) now written) (sym (ended_lines-byte taken b other)) stands.told;
-  waits = subst (λ (lines : List (List ℕ)). IsOpen (waiting_behind lines) waiting) (sym (ended_lines-byte taken b other)) stands.waits;
-  rest = ap (λ l. take line_room (l ++ b ∷ [])) stands.rest ∙ take-push line_room (unended taken) b ∙ ap (take line_room) (sym (unended-byte taken b other));
-}
+turns_ended-are : (taken bytes : List ℕ) (turns : List Turn) → turns_of (ended_lines (taken ++ bytes)) ≡ turns_of (ended_lines taken) ++ turns → turns_ended taken bytes ≡ turns
+turns_ended-are taken bytes turns is = behind_front (turns_of (ended_lines taken)) turns (turns_of (ended_lines (taken ++ bytes))) is
 
--- a line feed behind what a session stands on
-module _ (stored : Bool) (was : Known) (taken written line : List ℕ) (before after : Option Gathering) (old new : Known) (reply : List ℕ)
-    (stands : Stands stored was taken written line before old) (takes : TakesTurn stored old before (without_cr line) new after reply) where
-  -- the turn of the line that is kept is the turn of the whole line
-  kept_turn : TakesTurn stored old before (without_cr (unended taken)) new after reply
-  kept_turn =
-      takes_turn-same stored (without_cr line) (without_cr (unended taken)) (ap (λ l. request_of (without_cr l)) stands.rest ∙ request_of-cut_ended (unended taken)) old new before after reply takes
+-- they come behind those that were ended, which stay
+pub turns_ended-behind : (taken bytes : List ℕ) → turns_of (ended_lines (taken ++ bytes)) ≡ turns_of (ended_lines taken) ++ turns_ended taken bytes
+turns_ended-behind taken bytes =
+    let on = ended_lines-more taken bytes in
+    let more : List Turn = turns_from (waiting_behind (ended_lines taken)) (map request_of on.more) in
+    let is : turns_of (ended_lines (taken ++ bytes)) ≡ turns_of (ended_lines taken) ++ more = ap turns_of on.is ∙ turns_of-more (ended_lines taken) on.more in
+    is ∙ ap (λ (ts : List Turn). turns_of (ended_lines taken) ++ ts) (sym (turns_ended-are taken bytes more is))
 
-  -- the turns behind the line feed, and their run
-  feed_run : IsSharedRun stored was (turns_of (ended_lines (taken ++ 10 ∷ []))) new (written ++ reply)
-  feed_run =
-      subst (λ (lines : List (List ℕ)). IsSharedRun stored was (turns_of lines) new (written ++ reply)) (sym (ended_lines-feed taken))
-      (pushed_run stored was old new (ended_lines taken) (without_cr (unended taken)) written reply before after stands.waits kept_turn stands.stays stands.told)
+turns_ended-nil : (taken : List ℕ) → turns_ended taken [] ≡ []
+turns_ended-nil taken = turns_ended-are taken [] [] (ap (λ bytes. turns_of (ended_lines bytes)) (append-nil taken) ∙ sym (append-nil (turns_of (ended_lines taken))))
 
-  -- the reply to its line, if it has one
-  stands-feed : Stands stored was (taken ++ 10 ∷ []) (written ++ reply) [] after new
-  stands-feed = record {
-    stays = stays_trans was old new stands.stays takes.stays;
-    told = feed_run;
-    waits = subst (λ (lines : List (List ℕ)). IsOpen (waiting_behind lines) after) (sym (ended_lines-feed taken))
-        (pushed_waits stored was old new (ended_lines taken) (without_cr (unended taken)) written reply before after stands.waits kept_turn);
-    rest = sym (ap (take line_room) (unended-feed taken) ∙ take-nil line_room);
-  }
+turns_ended-byte : (taken : List ℕ) (b : ℕ) → (b == 10) ≡ false → turns_ended taken (b ∷ []) ≡ []
+turns_ended-byte taken b other = turns_ended-are taken (b ∷ []) [] (ap turns_of (ended_lines-byte taken b other) ∙ sym (append-nil (turns_of (ended_lines taken))))
 
--- a run whose last reply is cut short
-pub cut_run : (stored : Bool) (was now : Known) (turns : List Turn) (replies reply front : List ℕ) → IsSharedRun stored was turns now (replies ++ reply) → IsCutShort reply front
-    → IsCutOff stored was now turns (replies ++ front)
-cut_run stored was now turns replies reply front run short = record {
-  answered = turns;
-  later = [];
-  read = sym (append-nil turns);
-  replies = replies ++ reply;
-  told = run;
-  front = record {
-    unwritten = short.unwritten;
-    split = ap (λ r. replies ++ r) short.split ∙ sym (append_assoc replies front short.unwritten);
-    lost = short.lost;
-  };
-}
+turns_ended-feed : (taken : List ℕ) → turns_ended taken (10 ∷ []) ≡ ended_by (waiting_behind (ended_lines taken)) (request_of (without_cr (unended taken)))
+turns_ended-feed taken =
+    turns_ended-are taken (10 ∷ []) (ended_by (waiting_behind (ended_lines taken)) (request_of (without_cr (unended taken))))
+    (ap turns_of (ended_lines-feed taken) ∙ turns_of-push (ended_lines taken) (without_cr (unended taken)))
 
--- what was cut off among some turns was cut off among more
-pub cut_off-longer : (stored : Bool) (was now : Known) (turns more : List Turn) (written : List ℕ) → IsCutOff stored was now turns written → IsCutOff stored was now (turns ++ more) written
-cut_off-longer stored was now turns more written cut = record {
-  answered = cut.answered;
-  later = cut.later ++ more;
-  read = ap (λ (l : List Turn). l ++ more) cut.read ∙ append_assoc cut.answered cut.later more;
-  replies = cut.replies;
-  told = cut.told;
-  front = cut.front;
-}
+turns_ended-join : (taken xs ys : List ℕ) → turns_ended taken xs ++ turns_ended (taken ++ xs) ys ≡ turns_ended taken (xs ++ ys)
+turns_ended-join taken xs ys =
+    sym (turns_ended-are taken (xs ++ ys) (turns_ended taken xs ++ turns_ended (taken ++ xs) ys) (
+    ap (λ bytes. turns_of (ended_lines bytes)) (sym (append_assoc taken xs ys)) ∙ turns_ended-behind (taken ++ xs) ys
+    ∙ ap (λ (ts : List Turn). ts ++ turns_ended (taken ++ xs) ys) (turns_ended-behind taken xs)
+    ∙ append_assoc (turns_of (ended_lines taken)) (turns_ended taken xs) (turns_ended (taken ++ xs) ys)
+    ))
 
-cut_off-more : (stored : Bool) (was now : Known) (lines more : List (List ℕ)) (written : List ℕ) → GoesOn lines more → IsCutOff stored was now (turns_of lines) written → IsCutOff stored was now (turns_of more) written
-cut_off-more stored was now lines more written on cut =
-    subst (λ (turns : List Turn). IsCutOff stored was now turns written) (sym (ap turns_of on.is ∙ turns_of-more lines on.more))
-    (cut_off-longer stored was now (turns_of lines) (turns_from (waiting_behind lines) (map request_of on.more)) written cut)
+-- those at the end of the script
+last_lines_on : (ended last : List (List ℕ)) → (more : List Turn) × (all_turns_of (ended ++ last) ≡ turns_of ended ++ more)
+last_lines_on ended last = (
+  turns_from (waiting_behind ended) (map request_of last) ++ cut_off_in (waiting_behind (ended ++ last)),
+  ap (λ (ts : List Turn). ts ++ cut_off_in (waiting_behind (ended ++ last))) (turns_of-more ended last)
+      ∙ append_assoc (turns_of ended) (turns_from (waiting_behind ended) (map request_of last)) (cut_off_in (waiting_behind (ended ++ last))),
+)
 
--- no byte changes nothing
-pub takes-nil : (stored : Bool) (me : Known) (line : List ℕ) (waiting : Option Gathering) (output : Option (List ℕ)) → TakesAll stored me line waiting [] me line waiting output output
-takes-nil stored me line waiting output = λ was taken replies stands.
-    ([], Appends-nil output, stands-same stored was taken _ replies _ line waiting me (sym (append-nil taken)) (sym (append-nil replies)) stands)
+turns_at_end-are : (taken : List ℕ) (turns : List Turn) → all_turns_of (whole_lines taken) ≡ turns_of (ended_lines taken) ++ turns → turns_at_end taken ≡ turns
+turns_at_end-are taken turns is = behind_front (turns_of (ended_lines taken)) turns (all_turns_of (whole_lines taken)) is
+
+pub turns_at_end-behind : (taken : List ℕ) → all_turns_of (whole_lines taken) ≡ turns_of (ended_lines taken) ++ turns_at_end taken
+turns_at_end-behind taken =
+    let on = last_lines_on (ended_lines taken) (last_line (unended taken)) in
+    on.1 ∙ ap (λ (ts : List Turn). turns_of (ended_lines taken) ++ ts) (sym (turns_at_end-are taken on.0 on.1))
+
+turns_at_end-empty : (taken : List ℕ) → unended taken ≡ [] → turns_at_end taken ≡ cut_off_in (waiting_behind (ended_lines taken))
+turns_at_end-empty taken none =
+    turns_at_end-are taken (cut_off_in (waiting_behind (ended_lines taken)))
+    (ap all_turns_of (ap (λ l. ended_lines taken ++ last_line l) none ∙ append-nil (ended_lines taken)))
+
+last_line-is : (rest : List ℕ) → 0 < length rest → last_line rest ≡ rest ∷ []
+last_line-is [] some = absurd (omega arith)
+last_line-is (b ∷ rest) some = refl
+
+turns_at_end-last : (taken : List ℕ) → 0 < length (unended taken) → turns_at_end taken
+    ≡ ended_by (waiting_behind (ended_lines taken)) (request_of (unended taken)) ++ cut_off_in (waiting_after (waiting_behind (ended_lines taken)) (request_of (unended taken)))
+turns_at_end-last taken some =
+    let lines = ended_lines taken in
+    let last = unended taken in
+    turns_at_end-are taken (ended_by (waiting_behind lines) (request_of last) ++ cut_off_in (waiting_after (waiting_behind lines) (request_of last))) (
+    ap (λ l. all_turns_of (lines ++ l)) (last_line-is last some)
+    ∙ ap (λ (ts : List Turn). ts ++ cut_off_in (waiting_behind (lines ++ last ∷ []))) (turns_of-push lines last)
+    ∙ ap (λ w. (turns_of lines ++ ended_by (waiting_behind lines) (request_of last)) ++ cut_off_in w) (waiting_behind-push lines last)
+    ∙ append_assoc (turns_of lines) (ended_by (waiting_behind lines) (request_of last)) (cut_off_in (waiting_after (waiting_behind lines) (request_of last)))
+    )
+
+-- ==== A byte
+
+-- one that ends no line
+pub takes_other : (old new : Talk) (b : ℕ) → b ≢ 10 → new.line ≡ take line_room (old.line ++ b ∷ []) → new.waiting ≡ old.waiting
+    → (taken : List ℕ) → HasTaken old taken → HasTaken new (taken ++ b ∷ [])
+takes_other old new b other is same taken has =
+    let no_feed = ne_eqb b 10 other in
+    record {
+      line = is ∙ ap (λ l. take line_room (l ++ b ∷ [])) has.line ∙ take-push line_room (unended taken) b ∙ ap (take line_room) (sym (unended-byte taken b no_feed));
+      waits = subst (λ (lines : List (List ℕ)). IsOpen (waiting_behind lines) new.waiting) (sym (ended_lines-byte taken b no_feed))
+          (subst (λ (o : Option Gathering). IsOpen (waiting_behind (ended_lines taken)) o) (sym same) has.waits);
+    }
+
+pub answers_other : (stored : Bool) (me : Known) (b : ℕ) (output : Option (List ℕ)) → b ≢ 10 → (taken : List ℕ) → AnswersTurns stored me (turns_ended taken (b ∷ [])) me output output
+answers_other stored me b output other taken =
+    answers_as stored me me [] (turns_ended taken (b ∷ [])) output output (sym (turns_ended-byte taken b (ne_eqb b 10 other))) (answers_none stored me output)
+
+-- a line feed: the line that is kept ends the turn that the whole line ends
+module _ (stored : Bool) (old : Talk) (was now : Known) (before after : Option Gathering) (ended reply : List ℕ) (same : before ≡ old.waiting) (is : ended ≡ without_cr old.line)
+    (takes : TakesTurn stored was before ended now after reply) (taken : List ℕ) (has : HasTaken old taken) where
+  fed_line : IsLineTaken stored was (waiting_behind (ended_lines taken)) (without_cr (unended taken)) now after reply
+  fed_line =
+      let whole =
+      takes_turn-same stored ended (without_cr (unended taken)) (ap request_of is ∙ ap (λ l. request_of (without_cr l)) has.line ∙ request_of-cut_ended (unended taken)) was now before after reply
+      takes in
+      whole.taken (waiting_behind (ended_lines taken)) (subst (IsOpen (waiting_behind (ended_lines taken))) (sym same) has.waits)
+
+  fed_waits : IsOpen (waiting_behind (ended_lines (taken ++ 10 ∷ []))) after
+  fed_waits =
+      subst (λ w. IsOpen w after) (sym (ap waiting_behind (ended_lines-feed taken) ∙ waiting_behind-push (ended_lines taken) (without_cr (unended taken)))) fed_line.waits
+
+  fed_answers : (output all : Option (List ℕ)) → Appends output all reply → AnswersTurns stored was (turns_ended taken (10 ∷ [])) now output all
+  fed_answers output all appended =
+      answers_as stored was now _ (turns_ended taken (10 ∷ [])) output all (sym (turns_ended-feed taken)) (record { replies = reply; told = fed_line.answered; appended = appended })
+
+  fed_stops : (output all : Option (List ℕ)) (front : List ℕ) → IsCutShort reply front → Appends output all front → AnswersInPart stored was (turns_ended taken (10 ∷ [])) now output all
+  fed_stops output all front short appended =
+      stops_as stored was now _ (turns_ended taken (10 ∷ [])) output all (sym (turns_ended-feed taken)) (record {
+        written = front;
+        cut = cut_one stored was now _ reply front (ended_one (waiting_behind (ended_lines taken)) (request_of (without_cr (unended taken)))) fed_line.answered short;
+        appended = appended;
+      })
+
+pub takes_feed : {A E : Type 0} (result : Result A E) (stored : Bool) (old new : Talk) (was now : Known) (before : Option Gathering) (ended : List ℕ) (b : ℕ) (output all : Option (List ℕ))
+    → b ≡ 10 → new.line ≡ [] → before ≡ old.waiting → ended ≡ without_cr old.line → AnswersLine stored result was before ended now new.waiting output all
+    → OnOk result ((taken : List ℕ) → HasTaken old taken → HasTaken new (taken ++ b ∷ []))
+takes_feed (Ok a) stored old new was now before ended b output all feed none same is (reply, takes, appended) = λ taken has.
+    subst (λ c. HasTaken new (taken ++ c ∷ [])) (sym feed) (record {
+      line = none ∙ sym (ap (take line_room) (unended-feed taken) ∙ take-nil line_room);
+      waits = fed_waits stored old was now before new.waiting ended reply same is takes taken has;
+    })
+takes_feed (Err e) stored old new was now before ended b output all feed none same is answers = tt
+
+pub answers_feed : {A E : Type 0} (result : Result A E) (stored : Bool) (old : Talk) (was now : Known) (before after : Option Gathering) (ended : List ℕ) (b : ℕ) (output all : Option (List ℕ))
+    → b ≡ 10 → before ≡ old.waiting → ended ≡ without_cr old.line → AnswersLine stored result was before ended now after output all
+    → OnOk result ((taken : List ℕ) → HasTaken old taken → AnswersTurns stored was (turns_ended taken (b ∷ [])) now output all)
+answers_feed (Ok a) stored old was now before after ended b output all feed same is (reply, takes, appended) = λ taken has.
+    subst (λ c. AnswersTurns stored was (turns_ended taken (c ∷ [])) now output all) (sym feed)
+    (fed_answers stored old was now before after ended reply same is takes taken has output all appended)
+answers_feed (Err e) stored old was now before after ended b output all feed same is answers = tt
+
+pub stops_feed : {A E : Type 0} (result : Result A E) (stored : Bool) (old : Talk) (was now : Known) (before after : Option Gathering) (ended : List ℕ) (b : ℕ) (output all : Option (List ℕ))
+    → b ≡ 10 → before ≡ old.waiting → ended ≡ without_cr old.line → AnswersLine stored result was before ended now after output all
+    → OnErr result ((taken : List ℕ) → HasTaken old taken → AnswersInPart stored was (turns_ended taken (b ∷ [])) now output all)
+stops_feed (Ok a) stored old was now before after ended b output all feed same is answers = tt
+stops_feed (Err e) stored old was now before after ended b output all feed same is (reply, takes, (front, short, appended)) = λ taken has.
+    subst (λ c. AnswersInPart stored was (turns_ended taken (c ∷ [])) now output all) (sym feed)
+    (fed_stops stored old was now before after ended reply same is takes taken has output all front short appended)
+
+-- ==== Bytes, one after another
+
+pub takes_none : (talk : Talk) (taken : List ℕ) → HasTaken talk taken → HasTaken talk (taken ++ [])
+takes_none talk taken has = subst (HasTaken talk) (sym (append-nil taken)) has
+
+pub answers_nothing : (stored : Bool) (me : Known) (output : Option (List ℕ)) (taken : List ℕ) → AnswersTurns stored me (turns_ended taken []) me output output
+answers_nothing stored me output taken = answers_as stored me me [] (turns_ended taken []) output output (sym (turns_ended-nil taken)) (answers_none stored me output)
 
 -- bytes, and then more bytes
-pub takes-trans : (stored : Bool) (first mid end : Known) (line mid_line end_line : List ℕ) (waiting mid_waiting end_waiting : Option Gathering) (xs ys zs : List ℕ) (output mid_output end_output : Option (List ℕ))
-    → xs ++ ys ≡ zs → TakesAll stored first line waiting xs mid mid_line mid_waiting output mid_output → TakesAll stored mid mid_line mid_waiting ys end end_line end_waiting mid_output end_output
-    → TakesAll stored first line waiting zs end end_line end_waiting output end_output
-takes-trans stored first mid end line mid_line end_line waiting mid_waiting end_waiting xs ys zs output mid_output end_output joined one two = λ was taken replies stands.
-    let (before, appended, stood) = one was taken replies stands in
-    let (then, more, there) = two was (taken ++ xs) (replies ++ before) stood in (
-      before ++ then,
-      Appends-trans output mid_output end_output before then appended more,
-      stands-same stored was _ _ _ _ end_line end_waiting end (append_assoc taken xs ys ∙ ap (λ bytes. taken ++ bytes) joined) (append_assoc replies before then) there,
-    )
+module _ (stored : Bool) (first mid : Talk) (was between now : Known) (xs ys zs : List ℕ) (output middle all : Option (List ℕ)) (joined : xs ++ ys ≡ zs) (stays : Stays was between)
+    (takes : (taken : List ℕ) → HasTaken first taken → HasTaken mid (taken ++ xs))
+    (answers : (taken : List ℕ) → HasTaken first taken → AnswersTurns stored was (turns_ended taken xs) between output middle) where
+  pub takes_more : (end : Talk) → ((taken : List ℕ) → HasTaken mid taken → HasTaken end (taken ++ ys)) → (taken : List ℕ) → HasTaken first taken → HasTaken end (taken ++ zs)
+  takes_more end next taken has = subst (HasTaken end) (append_assoc taken xs ys ∙ ap (λ bytes. taken ++ bytes) joined) (next (taken ++ xs) (takes taken has))
 
--- a front that is as long as the bytes is all of them
-pub takes-all : (stored : Bool) (first end : Known) (line end_line : List ℕ) (waiting end_waiting : Option Gathering) (bytes : List ℕ) (n : ℕ) (output end_output : Option (List ℕ)) → length bytes ≤ n
-    → TakesAll stored first line waiting (take n bytes) end end_line end_waiting output end_output → TakesAll stored first line waiting bytes end end_line end_waiting output end_output
-takes-all stored first end line end_line waiting end_waiting bytes n output end_output whole takes =
-    subst (λ l. TakesAll stored first line waiting l end end_line end_waiting output end_output) (take_all n bytes whole) takes
+  pub answers_more : ((taken : List ℕ) → HasTaken mid taken → AnswersTurns stored between (turns_ended taken ys) now middle all)
+      → (taken : List ℕ) → HasTaken first taken → AnswersTurns stored was (turns_ended taken zs) now output all
+  answers_more next taken has =
+      answers_as stored was now _ (turns_ended taken zs) output all (turns_ended-join taken xs ys ∙ ap (turns_ended taken) joined)
+      (answers_join stored was between now (turns_ended taken xs) (turns_ended (taken ++ xs) ys) output middle all stays (answers taken has) (next (taken ++ xs) (takes taken has)))
 
--- bytes, and then a failed write: the bytes that were not looked at any more make no difference
-pub stopped-trans : (stored : Bool) (first mid end : Known) (line mid_line : List ℕ) (waiting mid_waiting : Option Gathering) (xs ys more zs : List ℕ) (output mid_output end_output : Option (List ℕ))
-    → (xs ++ ys) ++ more ≡ zs → TakesAll stored first line waiting xs mid mid_line mid_waiting output mid_output → IsStopped stored mid mid_line mid_waiting ys end mid_output end_output
-    → IsStopped stored first line waiting zs end output end_output
-stopped-trans stored first mid end line mid_line waiting mid_waiting xs ys more zs output mid_output end_output joined one two = λ was taken replies stands.
-    let (before, appended, stood) = one was taken replies stands in
-    let (then, told, cut) = two was (taken ++ xs) (replies ++ before) stood in
-    let whole : ((taken ++ xs) ++ ys) ++ more ≡ taken ++ zs =
-    ap (λ bytes. bytes ++ more) (append_assoc taken xs ys) ∙ append_assoc taken (xs ++ ys) more ∙ ap (λ bytes. taken ++ bytes) joined in (
-      before ++ then,
-      Appends-trans output mid_output end_output before then appended told,
-      cut_off-same stored was end _ _ _ _ (ap (λ bytes. turns_of (ended_lines bytes)) whole) (append_assoc replies before then)
-          (cut_off-more stored was end (ended_lines ((taken ++ xs) ++ ys)) (ended_lines (((taken ++ xs) ++ ys) ++ more)) _ (ended_lines-more ((taken ++ xs) ++ ys) more) cut),
-    )
+  stops_more : ((taken : List ℕ) → HasTaken mid taken → AnswersInPart stored between (turns_ended taken ys) now middle all)
+      → (taken : List ℕ) → HasTaken first taken → AnswersInPart stored was (turns_ended taken zs) now output all
+  stops_more next taken has =
+      stops_as stored was now _ (turns_ended taken zs) output all (turns_ended-join taken xs ys ∙ ap (turns_ended taken) joined)
+      (stops_behind stored was between now (turns_ended taken xs) (turns_ended (taken ++ xs) ys) output middle all stays (answers taken has) (next (taken ++ xs) (takes taken has)))
 
--- a byte that ends no line is kept
-pub takes-other : (stored : Bool) (me : Known) (line : List ℕ) (waiting : Option Gathering) (b : ℕ) (line_after : List ℕ) (output : Option (List ℕ))
-    → b ≢ 10 → line_after ≡ take line_room (line ++ b ∷ []) → TakesAll stored me line waiting (b ∷ []) me line_after waiting output output
-takes-other stored me line waiting b line_after output other is = λ was taken replies stands. (
-  [],
-  Appends-nil output,
-  subst (λ l. Stands stored was (taken ++ b ∷ []) (replies ++ []) l waiting me) (sym is)
-      (stands-same stored was _ _ replies _ _ waiting me refl (sym (append-nil replies)) (stands-byte stored was taken replies line waiting me b (ne_eqb b 10 other) stands)),
-)
+-- a failed write: the bytes that were not looked at any more make no difference
+pub stops_there : (stored : Bool) (first mid : Talk) (was between now : Known) (xs ys rest all_bytes : List ℕ) (output middle all : Option (List ℕ)) → (xs ++ ys) ++ rest ≡ all_bytes → Stays was between
+    → ((taken : List ℕ) → HasTaken first taken → HasTaken mid (taken ++ xs)) → ((taken : List ℕ) → HasTaken first taken → AnswersTurns stored was (turns_ended taken xs) between output middle)
+    → ((taken : List ℕ) → HasTaken mid taken → AnswersInPart stored between (turns_ended taken ys) now middle all)
+    → (taken : List ℕ) → HasTaken first taken → AnswersInPart stored was (turns_ended taken all_bytes) now output all
+stops_there stored first mid was between now xs ys rest all_bytes output middle all joined stays takes answers next taken has =
+    stops_as stored was now _ (turns_ended taken all_bytes) output all (turns_ended-join taken (xs ++ ys) rest ∙ ap (turns_ended taken) joined)
+    (stops_before stored was now (turns_ended taken (xs ++ ys)) (turns_ended (taken ++ (xs ++ ys)) rest) output all
+    (stops_more stored first mid was between now xs ys (xs ++ ys) output middle all refl stays takes answers next taken has))
 
--- a line feed, where the reply to its turn is written
-pub takes-feed : (stored : Bool) (old new : Known) (line ended : List ℕ) (before after : Option Gathering) (b : ℕ) (line_after : List ℕ) (output all : Option (List ℕ))
-    → b ≡ 10 → ended ≡ without_cr line → line_after ≡ [] → ((reply : List ℕ) × TakesTurn stored old before ended new after reply × Appends output all reply)
-    → TakesAll stored old line before (b ∷ []) new line_after after output all
-takes-feed stored old new line ended before after b line_after output all feed is none (reply, takes, appended) = λ was taken replies stands. (
-  reply,
-  appended,
-  subst (λ c. Stands stored was (taken ++ c ∷ []) (replies ++ reply) line_after after new) (sym feed)
-      (subst (λ l. Stands stored was (taken ++ 10 ∷ []) (replies ++ reply) l after new) (sym none)
-      (stands-feed stored was taken replies line before after old new reply stands (subst (λ l. TakesTurn stored old before l new after reply) is takes))),
-)
+-- ==== The end of the script
 
--- a line feed, where a write of the reply failed
-pub stopped-feed : (stored : Bool) (old new : Known) (line ended : List ℕ) (before after : Option Gathering) (b : ℕ) (output all : Option (List ℕ))
-    → b ≡ 10 → ended ≡ without_cr line → ((reply : List ℕ) × TakesTurn stored old before ended new after reply × ((front : List ℕ) × IsCutShort reply front × Appends output all front))
-    → IsStopped stored old line before (b ∷ []) new output all
-stopped-feed stored old new line ended before after b output all feed is (reply, takes, (front, short, appended)) = λ was taken replies stands. (
-  front,
-  appended,
-  subst (λ c. IsCutOff stored was new (turns_of (ended_lines (taken ++ c ∷ []))) (replies ++ front)) (sym feed)
-      (cut_run stored was new (turns_of (ended_lines (taken ++ 10 ∷ []))) replies reply front
-      (feed_run stored was taken replies line before after old new reply stands (subst (λ l. TakesTurn stored old before l new after reply) is takes)) short),
-)
+-- no batch waits, or one waits and is refused
+cut_off_none : (waiting : Option Waiting) → IsOpen waiting None → cut_off_in waiting ≡ []
+cut_off_none None waits = refl
+cut_off_none (Some waiting) waits = absurd waits
+
+cut_off_run : (stored : Bool) (me : Known) (waiting : Option Waiting) (gathering : Gathering) → IsOpen waiting (Some gathering)
+    → IsSharedRun stored me (cut_off_in waiting) me (error_line CommandSyntax)
+cut_off_run stored me None gathering waits = absurd waits
+cut_off_run stored me (Some waiting) gathering waits =
+    run-one stored me me (cut_off waiting.came) [] (error_line CommandSyntax)
+    (record { goes_on = (stays_self me).goes_on; answered = record { nothing_made = refl; told = refl } }) (sym (append-nil me.made))
+
+cut_off_one : (waiting : Option Waiting) → (cut_off_in waiting ≡ []) ⊎ ((turn : Turn) × (cut_off_in waiting ≡ turn ∷ []))
+cut_off_one None = inl refl
+cut_off_one (Some waiting) = inr (cut_off waiting.came, refl)
+
+pub ends_alone : (open_before : Option Gathering) (output : Option (List ℕ)) → is_some open_before ≡ false
+    → (stored : Bool) (me : Known) (waiting : Option Waiting) → IsOpen waiting open_before → AnswersTurns stored me (cut_off_in waiting) me output output
+ends_alone None output none stored me waiting waits =
+    answers_as stored me me [] (cut_off_in waiting) output output (sym (cut_off_none waiting waits)) (answers_none stored me output)
+ends_alone (Some gathering) output none stored me waiting waits = absurd (true≢false none)
+
+pub ends_refused : {A E : Type 0} (result : Result A E) (open_before : Option Gathering) (output all : Option (List ℕ)) → is_some open_before ≡ true
+    → Writes result output all (error_line CommandSyntax) → EndsBatch result open_before output all
+ends_refused result None output all some writes = absurd (false≢true some)
+ends_refused (Ok a) (Some gathering) output all some appended = λ stored me waiting waits.
+    record { replies = error_line CommandSyntax; told = cut_off_run stored me waiting gathering waits; appended = appended }
+ends_refused (Err e) (Some gathering) output all some (front, short, appended) = λ stored me waiting waits. record {
+  written = front;
+  cut = cut_one stored me me (cut_off_in waiting) (error_line CommandSyntax) front (cut_off_one waiting) (cut_off_run stored me waiting gathering waits) short;
+  appended = appended;
+}
+
+-- nothing is kept where nothing stands behind the last line feed
+some_room : 0 < line_room
+unfolding line_room
+some_room = lit< tt
+
+take_of_some : (n : ℕ) (rest : List ℕ) → 0 < n → length (take n rest) ≡ 0 → rest ≡ []
+take_of_some n [] some none = refl
+take_of_some zero (b ∷ rest) some none = absurd (omega arith)
+take_of_some (suc n) (b ∷ rest) some none = absurd (omega arith)
+
+no_rest : (talk : Talk) (taken : List ℕ) → HasTaken talk taken → length talk.line ≡ 0 → unended taken ≡ []
+no_rest talk taken has none = take_of_some line_room (unended taken) some_room (sym (ap length has.line) ∙ none)
+
+some_rest : (talk : Talk) (taken : List ℕ) → HasTaken talk taken → 0 < length talk.line → 0 < length (unended taken)
+some_rest talk taken has some = omega (arith, ap length has.line, length-take line_room (unended taken))
+
+-- the script ends behind a line feed
+module _ {A E : Type 0} (stored : Bool) (talk : Talk) (me : Known) (before : Option Gathering) (output all : Option (List ℕ)) (same : before ≡ talk.waiting) (none : length talk.line ≡ 0) where
+  pub answers_empty : (result : Result A E) → EndsBatch result before output all → OnOk result ((taken : List ℕ) → HasTaken talk taken → AnswersTurns stored me (turns_at_end taken) me output all)
+  answers_empty (Ok a) ends = λ taken has.
+      answers_as stored me me _ (turns_at_end taken) output all (sym (turns_at_end-empty taken (no_rest talk taken has none)))
+      (ends stored me (waiting_behind (ended_lines taken)) (subst (IsOpen (waiting_behind (ended_lines taken))) (sym same) has.waits))
+  answers_empty (Err e) ends = tt
+
+  pub stops_empty : (result : Result A E) → EndsBatch result before output all → OnErr result ((taken : List ℕ) → HasTaken talk taken → AnswersInPart stored me (turns_at_end taken) me output all)
+  stops_empty (Ok a) ends = tt
+  stops_empty (Err e) ends = λ taken has.
+      stops_as stored me me _ (turns_at_end taken) output all (sym (turns_at_end-empty taken (no_rest talk taken has none)))
+      (ends stored me (waiting_behind (ended_lines taken)) (subst (IsOpen (waiting_behind (ended_lines taken))) (sym same) has.waits))
+
+-- a last line
+module _ (stored : Bool) (talk : Talk) (was now : Known) (before after : Option Gathering) (bytes reply : List ℕ) (same : before ≡ talk.waiting) (is : bytes ≡ talk.line) (some : 0 < length talk.line)
+    (takes : TakesTurn stored was before bytes now after reply) (taken : List ℕ) (has : HasTaken talk taken) where
+  last_taken : IsLineTaken stored was (waiting_behind (ended_lines taken)) (unended taken) now after reply
+  last_taken =
+      let whole = takes_turn-same stored bytes (unended taken) (ap request_of (is ∙ has.line) ∙ request_of-cut (unended taken)) was now before after reply takes in
+      whole.taken (waiting_behind (ended_lines taken)) (subst (IsOpen (waiting_behind (ended_lines taken))) (sym same) has.waits)
+
+  last_turns : ended_by (waiting_behind (ended_lines taken)) (request_of (unended taken)) ++ cut_off_in (waiting_after (waiting_behind (ended_lines taken)) (request_of (unended taken))) ≡ turns_at_end taken
+  last_turns = sym (turns_at_end-last taken (some_rest talk taken has some))
+
+  last_answers : (output all : Option (List ℕ)) → Appends output all reply → AnswersTurns stored was (ended_by (waiting_behind (ended_lines taken)) (request_of (unended taken))) now output all
+  last_answers output all appended = record { replies = reply; told = last_taken.answered; appended = appended }
+
+pub answers_last : {A E : Type 0} (result : Result A E) (stored : Bool) (talk : Talk) (was now : Known) (before after : Option Gathering) (bytes : List ℕ) (output middle all : Option (List ℕ))
+    → before ≡ talk.waiting → bytes ≡ talk.line → 0 < length talk.line → ((reply : List ℕ) × TakesTurn stored was before bytes now after reply × Appends output middle reply)
+    → EndsBatch result after middle all → OnOk result ((taken : List ℕ) → HasTaken talk taken → AnswersTurns stored was (turns_at_end taken) now output all)
+answers_last (Ok a) stored talk was now before after bytes output middle all same is some (reply, takes, appended) ends = λ taken has.
+    answers_as stored was now _ (turns_at_end taken) output all (last_turns stored talk was now before after bytes reply same is some takes taken has)
+    (answers_join stored was now now _ _ output middle all takes.stays (last_answers stored talk was now before after bytes reply same is some takes taken has output middle appended)
+    (ends stored now _ (last_taken stored talk was now before after bytes reply same is some takes taken has).waits))
+answers_last (Err e) stored talk was now before after bytes output middle all same is some told ends = tt
+
+pub stops_last : {A E : Type 0} (result : Result A E) (stored : Bool) (talk : Talk) (was now : Known) (before after : Option Gathering) (bytes : List ℕ) (output middle all : Option (List ℕ))
+    → before ≡ talk.waiting → bytes ≡ talk.line → 0 < length talk.line → ((reply : List ℕ) × TakesTurn stored was before bytes now after reply × Appends output middle reply)
+    → EndsBatch result after middle all → OnErr result ((taken : List ℕ) → HasTaken talk taken → AnswersInPart stored was (turns_at_end taken) now output all)
+stops_last (Ok a) stored talk was now before after bytes output middle all same is some told ends = tt
+stops_last (Err e) stored talk was now before after bytes output middle all same is some (reply, takes, appended) ends = λ taken has.
+    stops_as stored was now _ (turns_at_end taken) output all (last_turns stored talk was now before after bytes reply same is some takes taken has)
+    (stops_behind stored was now now _ _ output middle all takes.stays (last_answers stored talk was now before after bytes reply same is some takes taken has output middle appended)
+    (ends stored now _ (last_taken stored talk was now before after bytes reply same is some takes taken has).waits))
+
+-- a last line whose reply was cut short
+pub stops_at_last : (stored : Bool) (talk : Talk) (was now : Known) (before after : Option Gathering) (bytes : List ℕ) (output all : Option (List ℕ))
+    → before ≡ talk.waiting → bytes ≡ talk.line → 0 < length talk.line
+    → ((reply : List ℕ) × TakesTurn stored was before bytes now after reply × ((front : List ℕ) × IsCutShort reply front × Appends output all front))
+    → (taken : List ℕ) → HasTaken talk taken → AnswersInPart stored was (turns_at_end taken) now output all
+stops_at_last stored talk was now before after bytes output all same is some (reply, takes, (front, short, appended)) taken has =
+    stops_as stored was now _ (turns_at_end taken) output all (last_turns stored talk was now before after bytes reply same is some takes taken has)
+    (stops_before stored was now _ _ output all (record {
+      written = front;
+      cut = cut_one stored was now _ reply front (ended_one (waiting_behind (ended_lines taken)) (request_of (unended taken)))
+          (last_taken stored talk was now before after bytes reply same is some takes taken has).answered short;
+      appended = appended;
+    }))
 
 -- what holds of a failure holds of a result that is one
 pub at_err : {A E : Type 0} (P Q : Type 0) (result : Result A E) → IsErr result → Q → MatchResult result (λ _. P) (λ _. Q)

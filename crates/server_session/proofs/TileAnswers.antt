@@ -26,7 +26,7 @@ use Rattle.script_form.specs.Requests.{edges, wait, verify, sync}
 use Rattle.script_form.specs.Transcript.{Asked, asked_column, IsOutOfMemory, IsAnswered, IsOfStore}
 use Rattle.server_session.specs.Answering.{Answers}
 use Rattle.server_session.specs.Fault.{fault_told, store_told}
-use Rattle.server_session.specs.Turn.{Stays}
+use Rattle.server_session.specs.Session.{Stays}
 use Rattle.server_session.proofs.AnswerLemmas.{answers_so, answers_there, unnamed, refused_so, refused_as}
 
 -- a question that is refused, and one that is not

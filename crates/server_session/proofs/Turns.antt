@@ -2,7 +2,7 @@
 use Rattle.std.proofs.Common.{List, [], ◌++◌, refl, sym, ap, ◌∙◌, append_assoc, append-nil}
 use Rattle.overlay_terms.specs.Histories.{Entry, History, BeginsWith}
 use Rattle.book_history.specs.Known.{Known, seen}
-use Rattle.server_session.specs.Turn.{Stays}
+use Rattle.server_session.specs.Session.{Stays}
 
 begins_self : (h : History) → BeginsWith h h
 begins_self h = ([], ap (λ (es : List Entry). record { start = h.start; entries = es }) (sym (append-nil h.entries)))

@@ -12,7 +12,7 @@ use Rattle.script_form.specs.Replies.{error_line}
 use Rattle.script_form.specs.LineReply.{reply_text}
 use Rattle.script_form.specs.Requests.{Request}
 use Rattle.script_form.specs.Transcript.{IsRefused, IsSubmitted, IsSubmittedAll, IsAnswered, IsBatchAnswered, IsOutOfMemory}
-use Rattle.server_session.specs.Turn.{Stays}
+use Rattle.server_session.specs.Session.{Stays}
 
 -- the bytes that tell a reply or a fault
 abbrev pub result_text : Result LineReply CommandFault → List ℕ

@@ -2,4 +2,5 @@ pub mod Session
 pub mod Fault
 pub mod Turn
 pub mod Answering
+pub mod Talk
 pub mod Loop

@@ -1,8 +1,9 @@
 -- A session of a book that threads share: what it writes for what it reads, until its script ends or a fault ends it.
 -- `stored` says whether the book has a store.
-use Rattle.std.specs.Prelude.{◌≡◌, ℕ, ◌+◌, ◌≤◌, ◌⊎◌, Bool, List, [], ◌++◌, take, length, Option}
+use Rattle.std.specs.Prelude.{◌≡◌, ℕ, ◌+◌, ◌≤◌, ◌⊎◌, Bool, List, [], ◌∷◌, ◌++◌, take, length, Option}
 use Rattle.std.specs.Io.KnownBytes.{Appends, Consumes, IsAtEnd}
 use Rattle.overlay_terms.specs.Batches.{Batch}
+use Rattle.overlay_terms.specs.Histories.{BeginsWith}
 use Rattle.book_history.specs.Known.{Known, seen}
 use Rattle.script_form.specs.declared.fault.CommandFault.TheVariants.{ReadLimit, Read}
 use Rattle.script_form.specs.declared.session_end.SessionEnd.{SessionEnd}
@@ -12,6 +13,12 @@ use Rattle.script_form.specs.Replies.{error_line}
 use Rattle.script_form.specs.Writing.{IsCutShort}
 use Rattle.script_form.specs.Transcript.{IsTranscript}
 use Rattle.script_form.specs.Turns.{Turn, turns_of, all_turns_of}
+
+-- a session is of the same book under the same number, and what it has seen goes on
+pub record Stays (was now : Known) : Type 0 where
+  pub book : now.book ≡ was.book
+  pub session : now.session ≡ was.session
+  pub goes_on : BeginsWith (seen now) (seen was)
 
 -- the replies to these turns, by histories from what the session had seen to what it has seen then; it made just what they made
 pub record IsSharedRun (stored : Bool) (was : Known) (turns : List Turn) (now : Known) (replies : List ℕ) : Type 0 where
@@ -27,37 +34,50 @@ pub record IsEnded (most : ℕ) (stored : Bool) (was now : Known) (taken : List 
   pub short : length taken ≤ most
   pub told : IsSharedRun stored was (all_turns_of (whole_lines taken)) now written
 
--- a byte too many came: the turns of the lines that were ended before it have their replies, and the fault is the last line; a
--- batch that waits then has none
-pub record IsPastLimit (most : ℕ) (stored : Bool) (was now : Known) (taken written : List ℕ) : Type 0 where
+-- a byte too many came: the turns of the lines that were ended before it have their replies, and then this is written; a batch
+-- that waits has none
+pub record IsPastLimit (most : ℕ) (stored : Bool) (was now : Known) (taken line written : List ℕ) : Type 0 where
   pub one_more : length taken ≡ most + 1
   pub replies : List ℕ
   pub told : IsSharedRun stored was (turns_of (ended_lines (take most taken))) now replies
-  pub fault : written ≡ replies ++ error_line ReadLimit
+  pub fault : written ≡ replies ++ line
 
--- a read failed: the turns of the lines that were ended by then have their replies, and the fault is the last line
-pub record IsReadFault (most : ℕ) (stored : Bool) (was now : Known) (taken written : List ℕ) : Type 0 where
+-- a read failed: the turns of the lines that were ended by then have their replies, and then this is written
+pub record IsReadFault (most : ℕ) (stored : Bool) (was now : Known) (taken line written : List ℕ) : Type 0 where
   pub short : length taken ≤ most
   pub replies : List ℕ
   pub told : IsSharedRun stored was (turns_of (ended_lines taken)) now replies
-  pub fault : written ≡ replies ++ error_line Read
+  pub fault : written ≡ replies ++ line
 
--- a front of what tells the first of some turns
+-- a turn is run, and of its reply a front alone is written, which lacks at least the last byte
+pub record IsCutTurn (stored : Bool) (was now : Known) (turn : Turn) (front : List ℕ) : Type 0 where
+  pub reply : List ℕ
+  pub told : IsSharedRun stored was (turn ∷ []) now reply
+  pub cut : IsCutShort reply front
+
+-- a write failed on the way through some turns: those before it have their replies whole, the one whose reply it was of has a
+-- front of it, and no later one is run
 pub record IsCutOff (stored : Bool) (was now : Known) (turns : List Turn) (written : List ℕ) : Type 0 where
-  pub answered : List Turn
+  pub before : List Turn
+  pub last : Turn
   pub later : List Turn
-  pub read : turns ≡ answered ++ later
+  pub read : turns ≡ before ++ last ∷ later
+  pub between : Known
+  pub stays : Stays was between
   pub replies : List ℕ
-  pub told : IsSharedRun stored was answered now replies
-  pub front : IsCutShort replies written
+  pub whole : IsSharedRun stored was before between replies
+  pub front : List ℕ
+  pub cut : IsCutTurn stored between now last front
+  pub written_is : written ≡ replies ++ front
 
--- a write failed: what is written is a front of the replies to the first of the turns that were ended within the limit,
--- of the whole script's where it was read to its end, or of all that another fault's session writes
+-- a write failed: on the way through the turns that were ended within the limit, or through those of the whole script where it
+-- was read to its end; or in the line of another fault, when all of them had their replies
 abbrev pub IsWriteFault : ℕ → Bool → Known → Known → List ℕ → Option (List ℕ) → List ℕ → Type 0
 IsWriteFault most stored was now taken left written =
     IsCutOff stored was now (turns_of (ended_lines (take most taken))) written
     ⊎ (IsAtEnd left × (length taken ≤ most) × IsCutOff stored was now (all_turns_of (whole_lines taken)) written)
-    ⊎ ((text : List ℕ) × (IsPastLimit most stored was now taken text ⊎ IsReadFault most stored was now taken text) × IsCutShort text written)
+    ⊎ ((front : List ℕ) × IsCutShort (error_line ReadLimit) front × IsPastLimit most stored was now taken front written)
+    ⊎ ((front : List ℕ) × IsCutShort (error_line Read) front × IsReadFault most stored was now taken front written)
 
 -- no memory for the session itself: it read and wrote nothing, and saw and made nothing
 pub record IsNotBegun (was now : Known) (taken written : List ℕ) : Type 0 where
@@ -68,7 +88,8 @@ pub record IsNotBegun (was now : Known) (taken written : List ℕ) : Type 0 wher
 abbrev pub EndsSo : ℕ → Bool → SessionEnd → Known → Known → List ℕ → Option (List ℕ) → List ℕ → Type 0
 EndsSo most stored End was now taken left written = IsEnded most stored was now taken left written
 EndsSo most stored (Failed code) was now taken left written =
-    ((code ≡ 47) × IsPastLimit most stored was now taken written) ⊎ ((code ≡ 48) × IsReadFault most stored was now taken written)
+    ((code ≡ 47) × IsPastLimit most stored was now taken (error_line ReadLimit) written)
+    ⊎ ((code ≡ 48) × IsReadFault most stored was now taken (error_line Read) written)
     ⊎ ((code ≡ 49) × IsWriteFault most stored was now taken left written) ⊎ ((code ≡ 40) × IsNotBegun was now taken written)
 
 -- what was taken from the reader, what was appended to the writer, and how the session of a script of at most so many

@@ -1,18 +1,11 @@
 -- What a line makes of a session.
-use Rattle.std.specs.Prelude.{◌≡◌, ℕ, Bool, List, Option}
-use Rattle.overlay_terms.specs.Histories.{BeginsWith}
-use Rattle.book_history.specs.Known.{Known, seen}
+use Rattle.std.specs.Prelude.{ℕ, Bool, List, Option}
+use Rattle.book_history.specs.Known.{Known}
 use Rattle.script_form.specs.Gathering.{IsOpen}
 use Rattle.script_form.specs.Requests.{request_of}
 use Rattle.script_form.specs.Turns.{Waiting, waiting_after, ended_by}
 use Rattle.script_form.specs.declared.gathering.Gathering.{Gathering}
-use Rattle.server_session.specs.Session.{IsSharedRun}
-
--- a session is of the same book under the same number, and what it has seen goes on
-pub record Stays (was now : Known) : Type 0 where
-  pub book : now.book ≡ was.book
-  pub session : now.session ≡ was.session
-  pub goes_on : BeginsWith (seen now) (seen was)
+use Rattle.server_session.specs.Session.{IsSharedRun, Stays}
 
 -- a line is taken where a batch waits or none does: the turn that it ends is answered by this session of a book with or
 -- without a store; and which batch waits then

@@ -8,7 +8,8 @@ ghost use Rattle.script_form.specs.LineReply.{reply_text};
 ghost use Rattle.script_form.specs.Requests.{request, put_text, locate, grid, list_layers, edges, wait, verify, sync};
 ghost use Rattle.script_form.specs.Transcript.{asked_column};
 ghost use Rattle.server_session.specs.Answering.{Answers, Submits, result_text};
-ghost use Rattle.server_session.specs.Turn.{Stays, TakesTurn};
+ghost use Rattle.server_session.specs.Session.{Stays};
+ghost use Rattle.server_session.specs.Turn.{TakesTurn};
 ghost use Rattle.version_book.specs.Store.{has_store};
 
 use crate::answering_all::answer_batch;

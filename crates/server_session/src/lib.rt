@@ -1,9 +1,12 @@
-//! A session of a book that threads share: the answer to a line, and a run from the bytes of a script to those of its replies.
+//! A session of a book that threads share: the answer to a line, a session on its way, and a run from the bytes of a script to
+//! those of its replies.
 #![tactic(auto)]
 
 pub mod answering;
 mod answering_all;
 mod fault;
 pub mod session;
+pub mod talk;
 
 pub use session::{session_run, session_run_within};
+pub use talk::Talk;

@@ -1,17 +1,14 @@
 //! A session of a book that threads share, from the bytes of a script to the bytes of its replies.
-ghost use Rattle.std.specs.Prelude.{◌≡◌, ◌<◌, ◌∷◌, ◌^◌, [], length, IfOk, None};
+ghost use Rattle.std.specs.Prelude.{◌≡◌, ◌<◌, ◌^◌, [], false, length, IfOk};
 ghost use Rattle.overlay_terms.specs.Histories.{BeginsWith};
 ghost use Rattle.book_history.specs.Known.{seen};
 ghost use Rattle.version_book.specs.Store.{has_store};
-ghost use Rattle.server_session.specs.Session.{IsSharedSession, IsSessionWithin};
-ghost use Rattle.server_session.specs.Loop.{AnswersLine, TakesBytes, Finishes, EndsBatch, EndsBy};
-ghost use Rattle.server_session.specs.Turn.{Stays};
+ghost use Rattle.server_session.specs.Session.{IsSharedSession, IsSessionWithin, Stays};
+ghost use Rattle.server_session.specs.Talk.{has_ended, HasTaken};
+ghost use Rattle.server_session.specs.Loop.{Finishes, EndsBy};
 
-use crate::answering::answer;
-use script_form::{
-    CommandFault, Gathering, LineBuffer, LineReply, SCRIPT_MAX, SessionEnd, read_chunk,
-    write_reply, write_text,
-};
+use crate::talk::Talk;
+use script_form::{SCRIPT_MAX, SessionEnd, read_chunk, write_text};
 use std::alloc::{AllocError, Global};
 use std::io::{Read, Write};
 use std::sync::Wait;
@@ -22,10 +19,6 @@ use version_book::shared::Shared;
 
 /// How many bytes are asked for at once.
 const CHUNK: usize = 4096;
-
-/// A write of a reply failed.
-#[derive(Drop)]
-struct WriteFailed;
 
 /// Runs a script in a book that other threads may change: reads its lines, and writes the reply to each before it asks
 /// for more bytes. The room for its lines is had first, and a fault's line takes none: where there is none it fails with
@@ -64,15 +57,14 @@ pub fn session_run_within<J: Naming, S: Wait + Drop, Q: Wait + Threads + Sync, R
     ensures goes_on { BeginsWith (seen me.new) (seen me.old) }
     ensures same { (me.new.book ≡ me.old.book) × (me.new.session ≡ me.old.session) }
 {
-    match buffers(alloc) {
-        Ok((mut line, mut chunk)) => run(
+    match rooms(alloc) {
+        Ok((mut talk, mut chunk)) => run(
             rt,
             alloc,
             shared,
             me,
             most,
-            &mut line,
-            &mut None,
+            &mut talk,
             chunk.as_mut_slice(),
             reader,
             writer,
@@ -81,14 +73,15 @@ pub fn session_run_within<J: Naming, S: Wait + Drop, Q: Wait + Threads + Sync, R
     }
 }
 
-/// Room for a line, and for what a read brings.
-fn buffers(alloc: Global) -> Result<(LineBuffer, Vec<u8>), AllocError>
-    ensures line { IfOk result (λ rooms. rooms.0 ≡ []) }
+/// A session that begins, and room for what a read brings.
+fn rooms(alloc: Global) -> Result<(Talk, Vec<u8>), AllocError>
+    ensures begun { IfOk result (λ rooms. HasTaken rooms.0 []) }
+    ensures going { IfOk result (λ rooms. has_ended rooms.0 ≡ false) }
     ensures chunk { IfOk result (λ rooms. length rooms.1.items ≡ CHUNK) }
 {
-    let line = LineBuffer::new(alloc)?;
+    let talk = Talk::new(alloc)?;
     let chunk = vec![in alloc; 0; CHUNK]?;
-    Ok((line, chunk))
+    Ok((talk, chunk))
 }
 
 fn run<J: Naming, S: Wait + Drop, Q: Wait + Threads + Sync, R: Read, W: Write>(
@@ -97,15 +90,14 @@ fn run<J: Naming, S: Wait + Drop, Q: Wait + Threads + Sync, R: Read, W: Write>(
     shared: &Shared<J, S>,
     me: &mut Session,
     most: usize,
-    line: &mut LineBuffer,
-    waiting: &mut Option<Gathering>,
+    talk: &mut Talk,
     chunk: &mut [u8],
     reader: &mut R,
     writer: &mut W,
 ) -> SessionEnd
     requires book { me.old.book ≡ J.book }
-    requires empty { line.old ≡ [] }
-    requires alone { waiting.old ≡ None }
+    requires begun { HasTaken talk.old [] }
+    requires going { has_ended talk.old ≡ false }
     requires room { 0 < length chunk.old }
     requires countable { most < 2 ^ 63 }
     ensures run { IsSessionWithin most (has_store shared.now) result me.old me.new (R.remaining reader.old)
@@ -116,12 +108,11 @@ fn run<J: Naming, S: Wait + Drop, Q: Wait + Threads + Sync, R: Read, W: Write>(
     while taken <= most {
         let count = match read_chunk(reader, chunk, taken, most) {
             Err(_) => return end_by(48, b"error 48 read\n", writer),
-            Ok(0) => return finish(rt, alloc, shared, me, line, waiting, writer),
+            Ok(0) => return finish(rt, alloc, shared, me, talk, writer),
             Ok(count) => count,
         };
         let allowed = count.min(most - taken);
-        let bytes = &chunk[..allowed];
-        let told = take_bytes(rt, alloc, shared, me, line, waiting, bytes, writer);
+        let told = talk.take(rt, alloc, shared, me, &chunk[..allowed], writer);
         if told.is_err() {
             return SessionEnd::Failed(49);
         }
@@ -130,105 +121,22 @@ fn run<J: Naming, S: Wait + Drop, Q: Wait + Threads + Sync, R: Read, W: Write>(
     end_by(47, b"error 47 read limit\n", writer)
 }
 
-/// Takes bytes of the script, and answers each turn that they end.
-fn take_bytes<J: Naming, S: Wait + Drop, Q: Wait + Threads + Sync, W: Write>(
-    rt: &Q,
-    alloc: Global,
-    shared: &Shared<J, S>,
-    me: &mut Session,
-    line: &mut LineBuffer,
-    waiting: &mut Option<Gathering>,
-    bytes: &[u8],
-    writer: &mut W,
-) -> Result<(), WriteFailed>
-    requires { me.old.book ≡ J.book }
-    ensures takes { TakesBytes (has_store shared.now) result me.old line.old waiting.old bytes.now me.new line.new waiting.new
-        (W.contents writer.old) (W.contents writer.new) }
-    ensures stays { Stays me.old me.new }
-{
-    for byte in bytes {
-        take_byte(rt, alloc, shared, me, line, waiting, *byte, writer)?;
-    }
-    Ok(())
-}
-
-fn take_byte<J: Naming, S: Wait + Drop, Q: Wait + Threads + Sync, W: Write>(
-    rt: &Q,
-    alloc: Global,
-    shared: &Shared<J, S>,
-    me: &mut Session,
-    line: &mut LineBuffer,
-    waiting: &mut Option<Gathering>,
-    byte: u8,
-    writer: &mut W,
-) -> Result<(), WriteFailed>
-    requires { me.old.book ≡ J.book }
-    ensures takes { TakesBytes (has_store shared.now) result me.old line.old waiting.old (byte ∷ []) me.new line.new waiting.new
-        (W.contents writer.old) (W.contents writer.new) }
-    ensures stays { Stays me.old me.new }
-{
-    if byte != b'\n' {
-        line.push(byte);
-        return Ok(());
-    }
-    answer_line(rt, alloc, shared, me, waiting, line.without_cr(), writer)?;
-    line.clear();
-    Ok(())
-}
-
-fn answer_line<J: Naming, S: Wait + Drop, Q: Wait + Threads + Sync, W: Write>(
-    rt: &Q,
-    alloc: Global,
-    shared: &Shared<J, S>,
-    me: &mut Session,
-    waiting: &mut Option<Gathering>,
-    line: &[u8],
-    writer: &mut W,
-) -> Result<(), WriteFailed>
-    requires { me.old.book ≡ J.book }
-    ensures { AnswersLine (has_store shared.now) result me.old waiting.old line.now me.new waiting.new
-        (W.contents writer.old) (W.contents writer.new) }
-{
-    let reply = answer(rt, alloc, shared, me, waiting, line);
-    match write_reply(writer, &reply) {
-        Ok(()) => Ok(()),
-        Err(_) => Err(WriteFailed),
-    }
-}
-
-/// At the end of the script: answers a last line that lacks its line feed, and a batch that waits.
+/// At the end of the script.
 fn finish<J: Naming, S: Wait + Drop, Q: Wait + Threads + Sync, W: Write>(
     rt: &Q,
     alloc: Global,
     shared: &Shared<J, S>,
     me: &mut Session,
-    line: &LineBuffer,
-    waiting: &mut Option<Gathering>,
+    talk: &mut Talk,
     writer: &mut W,
 ) -> SessionEnd
-    requires { me.old.book ≡ J.book }
-    ensures finishes { Finishes (has_store shared.now) result me.old line.now waiting.old me.new
-        (W.contents writer.old) (W.contents writer.new) }
+    requires book { me.old.book ≡ J.book }
+    requires going { has_ended talk.old ≡ false }
+    ensures finishes { Finishes (has_store shared.now) result talk.old me.old me.new (W.contents writer.old)
+        (W.contents writer.new) }
     ensures stays { Stays me.old me.new }
 {
-    let bytes = line.bytes();
-    if bytes.is_empty() {
-        return end_batch(waiting, writer);
-    }
-    match answer_line(rt, alloc, shared, me, waiting, bytes, writer) {
-        Ok(()) => end_batch(waiting, writer),
-        Err(_) => SessionEnd::Failed(49),
-    }
-}
-
-/// Behind the last line: refuses a batch whose lines did not all come.
-fn end_batch<W: Write>(waiting: &Option<Gathering>, writer: &mut W) -> SessionEnd
-    ensures { EndsBatch result waiting.now (W.contents writer.old) (W.contents writer.new) }
-{
-    if waiting.is_none() {
-        return SessionEnd::End;
-    }
-    match write_reply(writer, &LineReply::Fault(CommandFault::CommandSyntax)) {
+    match talk.finish(rt, alloc, shared, me, writer) {
         Ok(()) => SessionEnd::End,
         Err(_) => SessionEnd::Failed(49),
     }

@@ -1,0 +1,39 @@
+-- A session on its way through its script: what it has taken, and what it appends to its writer as it takes more.
+use Rattle.std.specs.Prelude.{◌≡◌, ℕ, Bool, List, ◌++◌, take, drop, length, Option}
+use Rattle.std.specs.Io.KnownBytes.{Appends}
+use Rattle.book_history.specs.Known.{Known}
+use Rattle.script_form.specs.Gathering.{IsOpen}
+use Rattle.script_form.specs.Lines.{line_room, ended_lines, unended, whole_lines}
+use Rattle.script_form.specs.Turns.{Turn, turns_of, all_turns_of, waiting_behind}
+use Rattle.server_session.specs.Session.{IsSharedRun, IsCutOff}
+use Rattle.server_session.specs.declared.talk.Talk.{Talk}
+
+-- whether its script ended, or a write failed
+abbrev pub has_ended : Talk → Bool
+has_ended talk = talk.ended
+
+-- it has taken these bytes of its script: it keeps what stands behind the last line feed, as far as that tells what the line is,
+-- and the batch that waits
+pub record HasTaken (talk : Talk) (taken : List ℕ) : Type 0 where
+  pub line : talk.line ≡ take line_room (unended taken)
+  pub waits : IsOpen (waiting_behind (ended_lines taken)) talk.waiting
+
+-- the turns that bytes end, which come behind others: those that were not ended before
+abbrev pub turns_ended : List ℕ → List ℕ → List Turn
+turns_ended taken bytes = drop (length (turns_of (ended_lines taken))) (turns_of (ended_lines (taken ++ bytes)))
+
+-- the turns that the end of the script ends: that of a last line that lacks its line feed, and that of a batch that waits
+abbrev pub turns_at_end : List ℕ → List Turn
+turns_at_end taken = drop (length (turns_of (ended_lines taken))) (all_turns_of (whole_lines taken))
+
+-- these turns are run, and their replies and nothing else are appended
+pub record AnswersTurns (stored : Bool) (was : Known) (turns : List Turn) (now : Known) (output all : Option (List ℕ)) : Type 0 where
+  pub replies : List ℕ
+  pub told : IsSharedRun stored was turns now replies
+  pub appended : Appends output all replies
+
+-- a write failed on the way through these turns
+pub record AnswersInPart (stored : Bool) (was : Known) (turns : List Turn) (now : Known) (output all : Option (List ℕ)) : Type 0 where
+  pub written : List ℕ
+  pub cut : IsCutOff stored was now turns written
+  pub appended : Appends output all written

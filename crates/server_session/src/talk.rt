@@ -1,0 +1,167 @@
+//! A session on its way through its script.
+ghost use Rattle.std.specs.Prelude.{◌≡◌, ◌∷◌, ◌++◌, [], List, ℕ, false, true, is_err, IfOk, IfErr, OnOk, OnErr};
+ghost use Rattle.version_book.specs.Store.{has_store};
+ghost use Rattle.server_session.specs.Session.{Stays};
+ghost use Rattle.server_session.specs.Talk.{has_ended, HasTaken, turns_ended, turns_at_end, AnswersTurns, AnswersInPart};
+ghost use Rattle.server_session.specs.Loop.{AnswersLine, EndsBatch};
+
+use crate::answering::answer;
+use script_form::{CommandFault, Gathering, LineBuffer, LineReply, write_reply};
+use std::alloc::{AllocError, Global};
+use std::io::Write;
+use std::sync::Wait;
+use std::thread::Threads;
+use version_book::seen_log::Naming;
+use version_book::session::Session;
+use version_book::shared::Shared;
+
+/// A session on its way: the line that is being read, and the batch that waits for lines. The turns that ended are
+/// answered, in whatever portions their bytes came. The end of its script ends it, and so does a write that fails.
+#[derive(Debug, Drop)]
+pub struct Talk {
+    line: LineBuffer,
+    waiting: Option<Gathering>,
+    ended: bool,
+}
+
+impl Talk {
+    /// A session that has taken nothing. The room for its lines is had now.
+    pub fn new(alloc: Global) -> Result<Talk, AllocError>
+        ensures begun { IfOk result (λ talk. HasTaken talk []) }
+        ensures going { IfOk result (λ talk. has_ended talk ≡ false) }
+    {
+        let line = LineBuffer::new(alloc)?;
+        Ok(Talk {
+            line,
+            waiting: None,
+            ended: false,
+        })
+    }
+
+    /// Whether its script ended, or a write failed.
+    pub fn has_ended(&self) -> bool
+        ensures { result ≡ has_ended self.now }
+    {
+        self.ended
+    }
+
+    /// Takes more bytes of the script, and answers each turn that they end before it looks at the bytes behind it.
+    pub fn take<J: Naming, S: Wait + Drop, Q: Wait + Threads + Sync, W: Write>(
+        &mut self,
+        rt: &Q,
+        alloc: Global,
+        shared: &Shared<J, S>,
+        me: &mut Session,
+        bytes: &[u8],
+        writer: &mut W,
+    ) -> Result<(), CommandFault>
+        requires book { me.old.book ≡ J.book }
+        requires going { has_ended self.old ≡ false }
+        ensures takes { OnOk result ((taken : List ℕ) → HasTaken self.old taken → HasTaken self.new (taken ++ bytes.now)) }
+        ensures answers { OnOk result ((taken : List ℕ) → HasTaken self.old taken
+            → AnswersTurns (has_store shared.now) me.old (turns_ended taken bytes.now) me.new (W.contents writer.old) (W.contents writer.new)) }
+        ensures stops { OnErr result ((taken : List ℕ) → HasTaken self.old taken
+            → AnswersInPart (has_store shared.now) me.old (turns_ended taken bytes.now) me.new (W.contents writer.old) (W.contents writer.new)) }
+        ensures fault { IfErr result (λ fault. fault ≡ CommandFault.Write) }
+        ensures ended { has_ended self.new ≡ is_err result }
+        ensures stays { Stays me.old me.new }
+    {
+        for byte in bytes {
+            self.take_byte(rt, alloc, shared, me, *byte, writer)?;
+        }
+        Ok(())
+    }
+
+    fn take_byte<J: Naming, S: Wait + Drop, Q: Wait + Threads + Sync, W: Write>(
+        &mut self,
+        rt: &Q,
+        alloc: Global,
+        shared: &Shared<J, S>,
+        me: &mut Session,
+        byte: u8,
+        writer: &mut W,
+    ) -> Result<(), CommandFault>
+        requires book { me.old.book ≡ J.book }
+        requires going { has_ended self.old ≡ false }
+        ensures takes { OnOk result ((taken : List ℕ) → HasTaken self.old taken → HasTaken self.new (taken ++ byte ∷ [])) }
+        ensures answers { OnOk result ((taken : List ℕ) → HasTaken self.old taken
+            → AnswersTurns (has_store shared.now) me.old (turns_ended taken (byte ∷ [])) me.new (W.contents writer.old) (W.contents writer.new)) }
+        ensures stops { OnErr result ((taken : List ℕ) → HasTaken self.old taken
+            → AnswersInPart (has_store shared.now) me.old (turns_ended taken (byte ∷ [])) me.new (W.contents writer.old) (W.contents writer.new)) }
+        ensures fault { IfErr result (λ fault. fault ≡ CommandFault.Write) }
+        ensures ended { has_ended self.new ≡ is_err result }
+        ensures stays { Stays me.old me.new }
+    {
+        if byte != b'\n' {
+            self.line.push(byte);
+            return Ok(());
+        }
+        let mut waiting = self.waiting.take();
+        let line = self.line.without_cr();
+        let told = answer_line(rt, alloc, shared, me, &mut waiting, line, writer);
+        self.waiting = waiting;
+        self.line.clear();
+        self.ended = told.is_err();
+        told
+    }
+
+    /// Takes the end of the script: answers a last line that lacks its line feed, and refuses a batch whose lines did not
+    /// all come.
+    pub fn finish<J: Naming, S: Wait + Drop, Q: Wait + Threads + Sync, W: Write>(
+        &mut self,
+        rt: &Q,
+        alloc: Global,
+        shared: &Shared<J, S>,
+        me: &mut Session,
+        writer: &mut W,
+    ) -> Result<(), CommandFault>
+        requires book { me.old.book ≡ J.book }
+        requires going { has_ended self.old ≡ false }
+        ensures answers { OnOk result ((taken : List ℕ) → HasTaken self.old taken
+            → AnswersTurns (has_store shared.now) me.old (turns_at_end taken) me.new (W.contents writer.old) (W.contents writer.new)) }
+        ensures stops { OnErr result ((taken : List ℕ) → HasTaken self.old taken
+            → AnswersInPart (has_store shared.now) me.old (turns_at_end taken) me.new (W.contents writer.old) (W.contents writer.new)) }
+        ensures fault { IfErr result (λ fault. fault ≡ CommandFault.Write) }
+        ensures ended { has_ended self.new ≡ true }
+        ensures stays { Stays me.old me.new }
+    {
+        self.ended = true;
+        let mut waiting = self.waiting.take();
+        let line = self.line.bytes();
+        if line.is_empty() {
+            return end_batch(&waiting, writer);
+        }
+        answer_line(rt, alloc, shared, me, &mut waiting, line, writer)?;
+        end_batch(&waiting, writer)
+    }
+}
+
+/// Answers the turn that a line ends, if it ends one.
+fn answer_line<J: Naming, S: Wait + Drop, Q: Wait + Threads + Sync, W: Write>(
+    rt: &Q,
+    alloc: Global,
+    shared: &Shared<J, S>,
+    me: &mut Session,
+    waiting: &mut Option<Gathering>,
+    line: &[u8],
+    writer: &mut W,
+) -> Result<(), CommandFault>
+    requires { me.old.book ≡ J.book }
+    ensures answers { AnswersLine (has_store shared.now) result me.old waiting.old line.now me.new waiting.new
+        (W.contents writer.old) (W.contents writer.new) }
+    ensures fault { IfErr result (λ fault. fault ≡ CommandFault.Write) }
+{
+    let reply = answer(rt, alloc, shared, me, waiting, line);
+    write_reply(writer, &reply)
+}
+
+/// Behind the last line: refuses a batch that waits.
+fn end_batch<W: Write>(waiting: &Option<Gathering>, writer: &mut W) -> Result<(), CommandFault>
+    ensures ends { EndsBatch result waiting.now (W.contents writer.old) (W.contents writer.new) }
+    ensures fault { IfErr result (λ fault. fault ≡ CommandFault.Write) }
+{
+    if waiting.is_none() {
+        return Ok(());
+    }
+    write_reply(writer, &LineReply::Fault(CommandFault::CommandSyntax))
+}
