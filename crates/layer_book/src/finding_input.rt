@@ -60,9 +60,9 @@ impl Layers {
         ensures { IfOk result (λ input. input ≡ input_of self.now name.now column) }
     {
         let wanted = self.reach(name);
-        let bases = self.wanted_bases(alloc, &wanted)?;
+        let reached = self.wanted_bases(alloc, &wanted)?;
         let steps = self.wanted_steps(alloc, name, &wanted)?;
-        TileInput::of(alloc, column, &bases, steps)
+        TileInput::of(alloc, column, &reached, steps)
     }
 
     /// The base layers that a layer reaches, in order: of a base layer itself alone.

@@ -13,9 +13,9 @@ wanted_steps-requires-clause-standing c = derived_stands c.args.self.now c.args.
 pub of-requires : goal.of-requires
 of-requires c =
     bases_counted (λ b. b.now) c.args.self.now c.args.name.now c.deref.result.now c.in_ok-steps.steps
-    (ap (map (λ b. b.now)) c.deref.ensures.value ∙ (c.in_ok-bases.ensures ∙ ap rings_of c.reach-wanted.ensures.exactly)) c.in_ok-steps.ensures
+    (ap (map (λ b. b.now)) c.deref.ensures.value ∙ (c.in_ok-reached.ensures ∙ ap rings_of c.reach-wanted.ensures.exactly)) c.in_ok-steps.ensures
 
 pub returns : goal.returns
 returns c =
     input_ok c.args.self.now c.args.name.now c.args.column (map (λ b. b.now) c.deref.result.now) c.in_ok-steps.steps c.of.result
-    (ap (map (λ b. b.now)) c.deref.ensures.value ∙ (c.in_ok-bases.ensures ∙ ap rings_of c.reach-wanted.ensures.exactly)) c.in_ok-steps.ensures c.of.ensures
+    (ap (map (λ b. b.now)) c.deref.ensures.value ∙ (c.in_ok-reached.ensures ∙ ap rings_of c.reach-wanted.ensures.exactly)) c.in_ok-steps.ensures c.of.ensures
