@@ -1,4 +1,5 @@
 pub mod Durable
+pub mod Listened
 pub mod Lists
 pub mod Parts
 pub mod Sent

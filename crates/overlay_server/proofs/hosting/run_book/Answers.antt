@@ -7,7 +7,7 @@ use Rattle.book_lock.proofs.Beginning.{count_of}
 use Rattle.version_book.specs.Store.{has_store}
 use Rattle.overlay_server.specs.Rooms.{HasParts}
 use Rattle.overlay_server.specs.Running.{IsRunOf}
-use Rattle.overlay_server.specs.Seats.{ended_session, reader_of, session_of}
+use Rattle.overlay_server.specs.Seats.{ended_session, port_of, session_of}
 use Rattle.overlay_server.specs.Serving.{first_log}
 use Rattle.overlay_server.proofs.Lists.{beside_length}
 use Rattle.overlay_server.proofs.Parts.{AreSeated, all_of_book, as_many, of_ended}
@@ -17,7 +17,7 @@ use Rattle.overlay_server.proofs.serving.run_book.Goals as goal
 
 pub seated-requires : goal.seated-requires
 seated-requires g c =
-    ap (λ (ks : List Known). length ks) c.requires.sessions ∙ count_of (record { book = g.J.Naming.book; log = first_log c.args.start.value }) (length c.args.readers.items)
+    ap (λ (ks : List Known). length ks) c.requires.sessions ∙ count_of (record { book = g.J.Naming.book; log = first_log c.args.start.value }) (length c.args.ports.items)
 
 pub returns-in_default-clause-refused : goal.returns-in_default-clause-refused
 returns-in_default-clause-refused g c = record {
@@ -30,8 +30,8 @@ pub run_threads-store-requires-clause-scripts : goal.run_threads-store-requires-
 run_threads-store-requires-clause-scripts g c κs within =
     let seats = c.in-Some.seats in
     let sessions : map session_of seats.scripts.items ≡ c.args.sessions.items = search rules in
-    let readers : map reader_of seats.scripts.items ≡ c.args.readers.items = search rules in
-    all_of_book g.J.Naming.book c.args.start.value c.args.readers.items seats.scripts.items (record { sessions = sessions ∙ c.requires.sessions; readers_are = readers })
+    let ports : map port_of seats.scripts.items ≡ c.args.ports.items = search rules in
+    all_of_book g.J.Naming.book c.args.start.value c.args.ports.items seats.scripts.items (record { sessions = sessions ∙ c.requires.sessions; ports_are = ports })
 
 pub returns-in_default-ended-clause-refused : goal.returns-in_default-ended-clause-refused
 returns-in_default-ended-clause-refused g c =
@@ -51,12 +51,12 @@ parted-sessions-requires g c =
     let ended = c.in-Some-ended.ended.items in
     let stored = has_store c.args.shared in
     let sessions : map session_of scripts ≡ c.args.sessions.items = search rules in
-    let readers : map reader_of scripts ≡ c.args.readers.items = search rules in
-    let parts : HasParts seats.parts (length c.args.readers.items) = search rules in
-    let ran : AllZip (IsRunOf g.J.Naming.book stored g.R.Read.remaining) scripts ended = search rules in
-    let seated : AreSeated g.J.Naming.book c.args.start.value c.args.readers.items scripts = record { sessions = sessions ∙ c.requires.sessions; readers_are = readers } in
-    let count : length c.args.readers.items ≡ length ended =
-    sym (as_many g.J.Naming.book c.args.start.value c.args.readers.items scripts seated) ∙ beside_length (IsRunOf g.J.Naming.book stored g.R.Read.remaining) scripts ended ran in
+    let ports : map port_of scripts ≡ c.args.ports.items = search rules in
+    let parts : HasParts seats.parts (length c.args.ports.items) = search rules in
+    let ran : AllZip (IsRunOf g.J.Naming.book stored g.R.Read.remaining g.W.Write.contents) scripts ended = search rules in
+    let seated : AreSeated g.J.Naming.book c.args.start.value c.args.ports.items scripts = record { sessions = sessions ∙ c.requires.sessions; ports_are = ports } in
+    let count : length c.args.ports.items ≡ length ended =
+    sym (as_many g.J.Naming.book c.args.start.value c.args.ports.items scripts seated) ∙ beside_length (IsRunOf g.J.Naming.book stored g.R.Read.remaining g.W.Write.contents) scripts ended ran in
     subst (HasParts seats.parts) count parts
 
 pub close-closed-requires-clause-sessions : goal.close-closed-requires-clause-sessions
@@ -64,12 +64,12 @@ close-closed-requires-clause-sessions g c =
     let scripts = c.in-Some.seats.scripts.items in
     let ended = c.in-Some-ended.ended.items in
     let stored = has_store c.args.shared in
-    let ran : AllZip (IsRunOf g.J.Naming.book stored g.R.Read.remaining) scripts ended = search rules in
+    let ran : AllZip (IsRunOf g.J.Naming.book stored g.R.Read.remaining g.W.Write.contents) scripts ended = search rules in
     subst (All (λ (k : Known). k.book ≡ g.J.Naming.book)) (sym c.parted-sessions.ensures.sessions)
-    (of_ended g.J.Naming.book stored g.R.Read.remaining scripts ended ran)
+    (of_ended g.J.Naming.book stored g.R.Read.remaining g.W.Write.contents scripts ended ran)
 
-pub returns-clause-served : goal.returns-clause-served
-returns-clause-served g c =
+pub returns-clause-left : goal.returns-clause-left
+returns-clause-left g c =
     let seats = c.in-Some.seats in
     let scripts = seats.scripts.items in
     let ended = c.in-Some-ended.ended.items in
@@ -78,14 +78,14 @@ returns-clause-served g c =
     let last = c.keep_store-reporter.result in
     let closed = c.close-closed.ensures in
     let sessions : map session_of scripts ≡ c.args.sessions.items = search rules in
-    let readers : map reader_of scripts ≡ c.args.readers.items = search rules in
-    let ran : AllZip (IsRunOf g.J.Naming.book stored g.R.Read.remaining) scripts ended = search rules in
-    served_from g.D.Disk g.J.Naming.book stored g.R.Read.remaining c.args.start.value c.args.readers.items c.args.store last scripts ended
-    (record { sessions = c.parted-sessions.result.outcomes; closed = c.close-closed.result })
+    let ports : map port_of scripts ≡ c.args.ports.items = search rules in
+    let ran : AllZip (IsRunOf g.J.Naming.book stored g.R.Read.remaining g.W.Write.contents) scripts ended = search rules in
+    served_from g.D.Disk g.J.Naming.book stored g.R.Read.remaining g.W.Write.contents c.args.start.value c.args.ports.items c.args.store last scripts ended
+    (record { sessions = c.parted-sessions.result.finished; closed = c.close-closed.result })
     (record {
       log = c.requires.reporter.1;
-      some = c.requires.readers;
-      seated = record { sessions = sessions ∙ c.requires.sessions; readers_are = readers };
+      some = c.requires.ports;
+      seated = record { sessions = sessions ∙ c.requires.sessions; ports_are = ports };
     })
     (record {
       sessions = ran;
@@ -96,7 +96,7 @@ returns-clause-served g c =
       version = closed.version;
       log = closed.log.1;
       sessions = subst (All (HasAllOf c.close-closed.result.seen_log.log)) c.parted-sessions.ensures.sessions closed.sessions;
-      outcomes = c.parted-sessions.ensures.outcomes;
+      finished = c.parted-sessions.ensures.finished;
       store = record {
         on = begins_with last.reporter.log c.close-closed.result.seen_log.log c.keep_store-reporter.ensures.begun closed.reporter;
         none = closed.none;
