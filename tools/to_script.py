@@ -336,8 +336,8 @@ def work(words: argparse.Namespace, output: TextIO, say: Callable[[str], None]) 
         for line in (line for store in stores for line in lines_of(store)):
             print(line, file=output)
     if words.fit:
-        say(f"{fitting.words(scale.factor, scale.origin)}; moved by at most {rounding.shown(reader.furthest())} "
-            f"{scale.unit}".removesuffix(" 1"))
+        moved = f"moved by at most {rounding.shown(reader.furthest())} {scale.unit}".removesuffix(" 1")
+        say(f"{fitting.words(scale.factor, scale.origin)}; {moved if reader.furthest() else 'nothing is rounded'}")
     for text in planner.told + reader.told + told + written:
         say(text)
     return 1 if reader.refusals else 0
