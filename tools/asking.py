@@ -126,10 +126,6 @@ class Map:
     scale: scales.Scale
     scaled_by: pathlib.Path | None = None
 
-    def version(self, layer: str) -> int | None:
-        """The number of the version that the layer was asked at, where the program told one."""
-        return self.session.built.get(layer, max(self.session.built.values(), default=self.session.durable))
-
 
 def add_words(parser: argparse.ArgumentParser, many: bool = False) -> None:
     """The words that tools have for where layers and replies come from."""

@@ -109,7 +109,7 @@ def piece_of(line: str) -> Piece:
 
 
 class Session:
-    """The layers after a script, and the last answers of EDGES, WAIT and GRID that still hold."""
+    """The layers after a script, and the last answers of EDGES and GRID that still hold."""
 
     def __init__(self) -> None:
         self.order: list[str] = []  # all names, as LAYERS has them
@@ -117,9 +117,7 @@ class Session:
         self.definitions: dict[str, str] = {}  # name: the expression as given
         self.edges: dict[tuple[str, int], list[Piece] | str] = {}  # (name, column): pieces, or the line of the refusal
         self.grids: dict[str, Grid] = {}  # name: x, y, step, rows
-        self.built: dict[str, int] = {}  # name: the number of the version in which it was built
-        self.located: list[str] = []  # the answers of LOCATE, one behind the other
-        self.durable: int | None = None
+        self.version: int | None = None  # the greatest number of a version that was told
         self.refused: list[Refusal] = []
         self.asking = False  # whether what comes are questions of a tool, whose refusals are no lines of a script
 
@@ -153,7 +151,6 @@ class Session:
     def forget(self, stale: list[str]) -> None:
         self.edges = {place: pieces for place, pieces in self.edges.items() if place[0] not in stale}
         self.grids = {layer: grid for layer, grid in self.grids.items() if layer not in stale}
-        self.built = {layer: number for layer, number in self.built.items() if layer not in stale}
 
     def put(self, rest: str) -> None:
         name, text = matched(r"([^ \t]+)[ \t]+(.*)", rest)
@@ -183,6 +180,9 @@ class Session:
 
     def answered(self, request: Request, reply: list[str]) -> None:
         """Takes in one request with the lines of its reply. A batch changes all that its lines change, or nothing."""
+        told = re.fullmatch(r"(?:ok|built|durable) ([0-9]+)", reply[0])
+        if told:
+            self.version = max(self.version or 0, int(told[1]))
         if REFUSED.fullmatch(reply[0]):
             self.refuse(request, reply[0])
             self.refused_edges(request, reply[0])
@@ -216,12 +216,6 @@ class Session:
         elif word == "GRID":
             name, x, y, step, _, _ = rest.split()
             self.grids[name] = (int(x), int(y), int(step), reply[1:])
-        elif word == "WAIT":
-            self.built[rest] = int(reply[0].removeprefix("built "))
-        elif word == "LOCATE":
-            self.located.append(reply[0])
-        elif word == "SYNC":
-            self.durable = int(reply[0].removeprefix("durable "))
         elif word == "LAYERS":
             self.listed(reply[1:])
 

@@ -51,7 +51,7 @@ def polygon_text(polygon: list[Ring], scale: scales.Scale) -> str:
 def feature(found: Map, layer: str, kind: str, coordinates: str, area: Fraction) -> str:
     """One feature, on one line."""
     own = found.scale.area(area)
-    given = {"layer": layer, "expression": found.session.definitions.get(layer), "version": found.version(layer)}
+    given = {"layer": layer, "expression": found.session.definitions.get(layer), "version": found.session.version}
     properties = "".join(f"{json.dumps(name)}: {json.dumps(value)}, " for name, value in given.items())
     properties += f'"area": {scales.decimals(own, 12)}, "area_exact": "{own}"'
     return (f'{{"type": "Feature", "properties": {{{properties}}}, '

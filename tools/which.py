@@ -11,7 +11,8 @@ stand once for each of its stores, in their order. The point is in coordinates o
 it cannot be asked exactly the nearest one that can is asked, and told. A store is read and not changed.
 
 For each point a line: the name, or names with a tab between, or nothing where no layer or feature has it; behind `edge`
-and a tab those that it may belong to, where it lies on a segment. Status 0: all points are answered; 1: one is not.
+and a tab, where it lies on a segment, those that it may belong to: of coded layers all whose numbers fit, the neighbours
+among them. Status 0: all points are answered; 1: one is not.
 """
 
 import argparse

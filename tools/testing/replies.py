@@ -98,7 +98,7 @@ class Sessions(unittest.TestCase):
 
     def test_layers_of_a_store(self):
         session = sessions.read(b"LAYERS\nSYNC\n", LISTED + b"durable 7\n")
-        self.assertEqual((session.order, list(session.base), session.definitions, session.durable),
+        self.assertEqual((session.order, list(session.base), session.definitions, session.version),
                          (["A", "I", "J"], ["A"], {"I": "A", "J": "A & I"}, 7))
         self.assertEqual(session.unnamed(), ["J"])
         self.assertEqual([sessions.as_command(line) for line in ("A MULTIPOLYGON EMPTY", "I = A")],
