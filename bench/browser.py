@@ -14,6 +14,7 @@ from __future__ import annotations
 import argparse
 import base64
 import json
+import math
 import os
 import pathlib
 import struct
@@ -23,6 +24,7 @@ import tempfile
 import time
 import urllib.request
 import zlib
+from collections.abc import Callable
 from typing import Any
 
 import web_front
@@ -188,10 +190,12 @@ def compared(browser: Browser, address: str, tries: Tries, what: str) -> None:
     """Compares the map's colours with what LOCATE says, where the point and four others 4 pixels away say the same."""
     browser.value(BARE % "hidden")
     picture, layers = Picture(browser.picture()), browser.value(LAYERS)
+    status = asked(f"{address}status")
+    left, low, right, high = (-180, -85, 180, 85) if status["geographic"] else status["limits"]
     browser.value(BARE % "")
     same, different, near, kinds = 0, [], 0, set()
     for x, y, places in browser.value(POINTS):
-        told = [asked(f"{address}locate?x={lng}&y={lat}")["places"] for lng, lat in places if abs(lng) < 180 and abs(lat) < 89]
+        told = [asked(f"{address}locate?x={lng}&y={lat}")["places"] for lng, lat in places if left < lng < right and low < lat < high]
         if len(told) < 5 or any(one != told[0] for one in told) or "edge" in told[0].values():
             near += 1
             continue
@@ -251,7 +255,6 @@ def changes(browser: Browser, address: str, pictures: pathlib.Path, tries: Tries
     browser.until("/N is built/.test(document.getElementById('told').textContent)")
     cells = browser.value("[document.querySelectorAll('#columns i.built').length, document.querySelectorAll('#columns i').length]")
     tries.that(cells[0] == cells[1] == overlay_columns(address), f"{told(browser, 'told')}; {cells[0]} of {cells[1]} cells are green")
-    (pictures / "building.png").write_bytes(browser.picture())
     browser.until("document.getElementById('columns').hidden")
     tries.that("version 2" in told(browser, "status") and "durable 2" in told(browser, "status"), "the new version is durable")
     compared(browser, address, tries, "with a layer defined")
@@ -272,6 +275,55 @@ def changes(browser: Browser, address: str, pictures: pathlib.Path, tries: Tries
     urllib.request.urlopen(other).close()
     browser.until("overlayPage.plot.drawn.has('either')", 10)
     tries.that("version 4" in told(browser, "status"), "what another client defines is drawn")
+
+
+def ring(corners: int, x: int, y: int, reach: Callable[[float, int], float]) -> str:
+    """A ring round a place; reach gives the distance at an angle, and at a corner by its number."""
+    turns = [2 * math.pi * i / corners for i in range(corners)]
+    points = [(x + round(reach(t, i) * math.cos(t)), y + round(reach(t, i) * math.sin(t))) for i, t in enumerate(turns)]
+    return "POLYGON ((" + ", ".join(f"{a} {b}" for a, b in points + points[:1]) + "))"
+
+
+def star(x: int, y: int) -> str:
+    """A ring of 400 corners that goes out and in at each."""
+    return ring(400, x, y, lambda _, i: 600_000 * (1 - 0.75 * (i % 2)))
+
+
+def flower(x: int, y: int) -> str:
+    return ring(1000, x, y, lambda turn, _: 500_000 * (1 + 0.3 * math.sin(7 * turn)))
+
+
+def plane(folder: pathlib.Path, program: str, name: str, shape: Callable[[int, int], str], *lines: str) -> pathlib.Path:
+    """A store of three shapes that cross each other, in a plane that is nowhere on the earth."""
+    store = folder / f"{name}.db"
+    with web_front.overlay_client.Server(store, create=True, program=program) as server, server.session() as one:
+        puts = [one.put_line(layer, shape(x, y)) for layer, x, y in (("A", -150_000, 0), ("B", 170_000, 60_000), ("C", 0, -190_000))]
+        one.batch([*puts, *lines])
+    store.with_suffix(".scale.json").write_text(json.dumps({"title": f"Three {name}", "factor": 100, "unit": "m"}), encoding="utf-8")
+    return store
+
+
+# Holds up the page's second look at the tiles, so that what it draws after the first can be looked at.
+HOLD = """(() => { const real = fetch; let looks = 0;
+  globalThis.fetch = async (path, how) => {
+    if (/\\/tiles/.test(path) && ++looks === 2) await new Promise(go => { globalThis.goOn = go; });
+    return real(path, how); }; })()"""
+
+
+def building(browser: Browser, address: str, pictures: pathlib.Path, tries: Tries) -> None:
+    """Defines a layer of 100,000 pieces, and looks at the tiles while they are built."""
+    browser.open(address)
+    browser.until(READY)
+    browser.value("document.querySelectorAll('#layers input').forEach(one => one.click())")
+    browser.value(HOLD)
+    define(browser, "D", "(A ^ B) & C")
+    browser.until("globalThis.goOn !== undefined")
+    cells = browser.value("[...document.querySelectorAll('#columns i')].map(one => one.className)")
+    (pictures / "building.png").write_bytes(browser.picture())
+    browser.value("goOn()")
+    browser.until("/D is built/.test(document.getElementById('told').textContent)", 120)
+    tries.that(0 < cells.count("built") < len(cells),
+               f"while it is built {cells.count('built')} of {len(cells)} cells are green; then {told(browser, 'told')}")
 
 
 def overlay_columns(address: str) -> int:
@@ -304,6 +356,15 @@ def main() -> int:
             with web_front.front("--store", store, "--writable", program=words.program, python=words.python) as address:
                 looks(browser, address, pictures, tries)
                 changes(browser, address, pictures, tries)
+            stars = plane(folder, words.program, "stars", star)
+            with web_front.front("--store", stars, "--writable", "--workers", "1", program=words.program, python=words.python) as address:
+                building(browser, address, pictures, tries)
+            flowers = plane(folder, words.program, "flowers", flower, "DEFINE D = (A ^ B) & C")
+            with web_front.front("--store", flowers, "--writable", program=words.program, python=words.python) as address:
+                browser.open(address)
+                browser.until(READY)
+                compared(browser, address, tries, "a plane that is nowhere on the earth")
+                (pictures / "plane.png").write_bytes(browser.picture())
             with web_front.front("--store", store, program=words.program, python=words.python) as address:
                 read_only(browser, address, tries)
             faults = [one for one in browser.faults if "409" not in one and "404" not in one]

@@ -1,6 +1,8 @@
 // Lines of round coordinates with their numbers, and the measure of a plane that is nowhere on the earth.
 
-const TARGET = 110;
+import {make} from "./ask.js";
+
+const TARGET = 110;    // pixels between two lines, about
 
 // 1, 2 or 5 times a power of ten, the first that is not less.
 function round(length) {
@@ -20,8 +22,8 @@ function multiples(least, most, step) {
 }
 
 function label(at, text, anchor) {
-  return L.marker(at, {interactive: false, keyboard: false, icon: L.divIcon({
-    className: "graticule", html: document.createTextNode(text), iconSize: null, iconAnchor: anchor})});
+  const icon = L.divIcon({className: "graticule", html: make("span", text), iconSize: null, iconAnchor: anchor});
+  return L.marker(at, {icon, interactive: false, keyboard: false});
 }
 
 export function graticule(map, renderer) {
@@ -53,7 +55,7 @@ export function measure(map, unit) {
     const update = () => {
       const y = map.getSize().y / 2;
       const width = map.containerPointToLatLng([100, y]).lng - map.containerPointToLatLng([0, y]).lng;
-      const length = round(width * 0.4);
+      const length = round(width * 0.6);
       box.style.width = `${length / width * 100}px`;
       box.textContent = `${spelled(length, length)} ${unit}`;
     };

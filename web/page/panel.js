@@ -29,9 +29,9 @@ function row(layer, place, plot, state, drop) {
   box.onchange = () => plot.show(layer.id, box.checked);
   swatch.style.borderColor = colour(place);
   swatch.style.background = layer.definition ? colour(place) : "none";
-  const rule = make("code", layer.definition ? `= ${layer.definition}` : "base", "rule");
-  rule.title = layer.definition || "a base layer";
-  made.append(box, swatch, make("span", layer.id, "name"), rule);
+  const text = make("div", undefined, "text");
+  text.append(make("span", layer.id, "name"), make("code", layer.definition ? `= ${layer.definition}` : "base layer"));
+  made.append(box, swatch, text);
   if (layer.extent) made.append(button("\u2316", "go there", () => plot.fit(layer.extent.spatial.bbox)));
   if (state.writable) made.append(button("\u00d7", `drop ${layer.id}`, () => drop(layer.id)));
   return made;
