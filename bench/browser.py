@@ -303,10 +303,10 @@ def plane(folder: pathlib.Path, program: str, name: str, shape: Callable[[int, i
     return store
 
 
-# Holds up the page's second look at the tiles, so that what it draws after the first can be looked at.
+# Holds up the page's fifth look at the tiles, so that what it draws after four can be looked at.
 HOLD = """(() => { const real = fetch; let looks = 0;
   globalThis.fetch = async (path, how) => {
-    if (/\\/tiles/.test(path) && ++looks === 2) await new Promise(go => { globalThis.goOn = go; });
+    if (/\\/tiles/.test(path) && ++looks === 5) await new Promise(go => { globalThis.goOn = go; });
     return real(path, how); }; })()"""
 
 
@@ -327,7 +327,7 @@ def building(browser: Browser, address: str, pictures: pathlib.Path, tries: Trie
 
 
 def overlay_columns(address: str) -> int:
-    return int(asked(f"{address}status")["columns"])
+    return len(asked(f"{address}status")["columns"])
 
 
 def read_only(browser: Browser, address: str, tries: Tries) -> None:

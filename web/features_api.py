@@ -98,8 +98,9 @@ class FeaturesApi:
         if not 1 <= int(number) <= len(joined.features):
             raise Problem(404, f"{name} has no item {number}")
         at = f"{request.root}/collections/{name}"
-        links = [link(f"{at}/items/{number}", "self", GEOJSON), link(at, "collection")]
-        made = {**joined.features[int(number) - 1].geojson(), "revision": joined.revision, "links": links}
+        made = joined.features[int(number) - 1].geojson()
+        made["revision"] = joined.revision
+        made["links"] = [link(f"{at}/items/{number}", "self", GEOJSON), link(at, "collection")]
         return json_answer(made, GEOJSON, headers=self._headers(joined))
 
     def _headers(self, joined: Joined) -> dict[str, str]:
@@ -128,4 +129,4 @@ class FeaturesApi:
         return [self._stored(left, low, Fraction(180), high), self._stored(Fraction(-180), low, right, high)]
 
     def _stored(self, left: Fraction, low: Fraction, right: Fraction, high: Fraction) -> Box:
-        return Box(*self.scale.stored(left, low), *self.scale.stored(right, high))
+        return Box(*self.scale.scale.stored(left, low), *self.scale.scale.stored(right, high))

@@ -55,7 +55,8 @@ def status_of(fault: Refused) -> int:
 
 
 def refusal(status: int, code: object, text: str, headers: Mapping[str, str] | None = None, **more: object) -> Answer:
-    return json_answer({"code": str(code), "description": text, **more}, status=status, headers=headers)
+    more.update(code=str(code), description=text)
+    return json_answer(more, status=status, headers=headers)
 
 
 class Front:
@@ -105,8 +106,7 @@ class Front:
         except Problem as fault:
             return refusal(fault.status, fault.status, str(fault), fault.headers)
         except Refused as fault:
-            more = {} if fault.place is None else {"command": fault.place}
-            return refusal(status_of(fault), fault.number, str(fault), **more)
+            return refusal(status_of(fault), fault.number, str(fault), command=fault.place)
         except NotDurable as fault:
             return refusal(503, 503, str(fault), version=fault.version)
         except TooLarge as fault:
@@ -141,7 +141,8 @@ class Front:
             if not self.store.writable:
                 raise Problem(403, "it was started without --writable")
             origin, parts = request.header("origin"), urllib.parse.urlsplit(request.root)
-            if origin not in ("", f"{parts.scheme}://{parts.netloc}") or request.header("sec-fetch-site") in ("cross-site", "same-site"):
+            foreign = request.header("sec-fetch-site") in ("cross-site", "same-site")
+            if foreign or origin not in ("", f"{parts.scheme}://{parts.netloc}"):
                 raise Problem(403, "another site's page may change nothing")
         for word, value in request.words.items():
             if word not in (*route.words, "f"):

@@ -20,7 +20,7 @@ from typing import NamedTuple
 
 import shapes
 from kept_values import Kept
-from map_scale import Scale
+from map_scale import MapScale
 from overlay_client import OVERSIZE, PENDING, UNKNOWN_LAYER, Layer, Piece, Point, Refused, Server, number_of
 
 PIECES_MOST = 200_000
@@ -83,11 +83,11 @@ class LayerStore:
     version: the number that the process began with, and kept: whether it is the number of a file.
     """
 
-    def __init__(self, server: Server, scratch: Server, scale: Scale, *, version: int, kept: bool, writable: bool) -> None:
+    def __init__(self, server: Server, scratch: Server, scale: MapScale, *, version: int, kept: bool, writable: bool) -> None:
         self.scale, self.kept, self.writable = scale, kept, writable
         self.version = self.durable = version
         self._server, self._scratch = server, scratch
-        self._salt = repr(sorted(vars(scale).items()))
+        self._salt = scale.scale.text()
         self._changing = threading.Lock()
         self._listing: tuple[int, dict[str, Listed]] | None = None
         self._joined: Kept[str, Joined] = Kept(KEPT_MOST, Joined.weight)

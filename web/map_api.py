@@ -4,7 +4,7 @@ from __future__ import annotations
 
 import re
 
-import sessions  # of tools/
+import limits  # of tools/
 from layer_store import LayerStore
 from overlay_client import LARGEST_BATCH, NAME, Point, Session
 from shapes import text_of
@@ -21,28 +21,30 @@ class MapApi:
         store = self.store
         return json_answer({
             "title": self.scale.title, "version": store.version, "durable": store.durable if store.kept else None,
-            "writable": store.writable, "layers": len(store.layers()), "columns": sessions.COLUMNS,
+            "writable": store.writable, "layers": len(store.layers()), "columns": self.scale.columns(),
             "crs": self.scale.crs, "unit": self.scale.unit, "geographic": self.scale.is_geographic(),
             "limits": self.scale.limits()})
 
     def locate(self, request: Request, name: str) -> Answer:
         question, told = self._question(request)
-        return json_answer({"place": self.store.locate([name], question)[name], **told})
+        told["place"] = self.store.locate([name], question)[name]
+        return json_answer(told)
 
     def locate_all(self, request: Request) -> Answer:
         question, told = self._question(request)
-        return json_answer({"places": self.store.locate(list(self.store.layers()), question), **told})
+        told["places"] = self.store.locate(list(self.store.layers()), question)
+        return json_answer(told)
 
     def _question(self, request: Request) -> tuple[Point, dict[str, object]]:
         """What LOCATE is asked, and what the answer says of it: the point that was asked, and whether it is the given one."""
         x, y = *request.numbers("x", 1), *request.numbers("y", 1)
-        question = self.scale.question(x, y)
-        point = self.scale.world(question)
+        question = self.scale.scale.question(x, y)
+        point = self.scale.scale.world(question)
         return question, {
             "asked": question, "point": [self.scale.number(n) for n in point], "exact": point == (x, y)}
 
     def tiles(self, request: Request, name: str) -> Answer:
-        """The columns of a derived layer: of each its borders, and its pieces or null where it is pending."""
+        """The columns of a derived layer: of each its pieces, or null where it is pending."""
         found = self.store.layer(name)
         tiles = [self._tile(name, column) for column in self._columns(request)]
         return json_answer({"revision": found.revision, "tiles": tiles})
@@ -50,19 +52,15 @@ class MapApi:
     def _columns(self, request: Request) -> list[int]:
         word = request.words.get("columns")
         if word is None:
-            return list(range(sessions.COLUMNS))
+            return list(range(limits.COLUMNS))
         if not re.fullmatch(r"[0-9]{1,2}(,[0-9]{1,2}){0,99}", word):
             raise Problem(400, "columns: numbers parted by commas are wanted")
         return sorted({int(one) for one in word.split(",")})
 
     def _tile(self, name: str, column: int) -> dict[str, object]:
         pieces = self.store.column(name, column)
-        borders = [self._x_of(sessions.column_begin(column)), self._x_of(sessions.column_begin(column + 1))]
         lines = None if pieces is None else [[self.scale.position(a), self.scale.position(b)] for a, b in pieces]
-        return {"column": column, "x": borders, "lines": lines}
-
-    def _x_of(self, stored: int) -> int | float:
-        return self.scale.position((min(stored, sessions.LIMIT), 0, 1))[0]
+        return {"column": column, "lines": lines}
 
     # ---- changes
 

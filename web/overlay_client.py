@@ -298,12 +298,16 @@ class Pool:
                 self._free.put(one)
 
     def _borrowed(self, end: float) -> Session:
-        """A free session. It looks each second whether there is still one to wait for."""
+        """A free session that is whole. It looks each second whether there is still one to wait for."""
         while any(not one.closed for one in self._all):
-            with contextlib.suppress(queue.Empty):
-                return self._free.get(timeout=max(0.0, min(1.0, end - time.monotonic())))
-            if time.monotonic() >= end:
-                raise TimeoutError("all sessions are asked")
+            try:
+                found = self._free.get(timeout=max(0.0, min(1.0, end - time.monotonic())))
+            except queue.Empty:
+                if time.monotonic() >= end:
+                    raise TimeoutError("all sessions are asked") from None
+                continue
+            if not found.closed:
+                return found
         raise Ended("all sessions have ended")
 
 

@@ -31,9 +31,10 @@ for folder in (HERE, HERE.parent / "tools"):
     if str(folder) not in sys.path:
         sys.path.append(str(folder))
 
+import scale as scales  # noqa: E402
 from front import LEAFLET, LOOPBACK, Front  # noqa: E402
 from layer_store import LayerStore, number_in_file  # noqa: E402
-from map_scale import BadScale, Scale  # noqa: E402
+from map_scale import MapScale  # noqa: E402
 from overlay_client import MOST_SESSIONS, Ended, Refused, Server  # noqa: E402
 from serving import serve  # noqa: E402
 
@@ -72,10 +73,11 @@ def words_of(arguments: Sequence[str]) -> argparse.Namespace:
     return words
 
 
-def scale_of(words: argparse.Namespace) -> Scale:
-    beside = words.store.with_suffix(".scale.json") if words.store else None
-    path = words.scale or (beside if beside and beside.exists() else None)
-    return Scale.read(path) if path else Scale()
+def scale_of(words: argparse.Namespace) -> MapScale:
+    """The scale of the words, or of the sidecar, or that of whole numbers."""
+    beside = scales.beside(words.store) if words.store else None
+    path = words.scale or (beside if beside and beside.is_file() else None)
+    return MapScale(scales.read(path) if path else scales.Scale())
 
 
 def hosts_of(words: argparse.Namespace) -> set[str]:
@@ -122,7 +124,7 @@ def main(arguments: Sequence[str]) -> int:
             ended = server.process.poll()
             for child in multiprocessing.active_children():  # what it joins nobody will ask for
                 child.kill()
-    except (Refused, Ended, BadScale, OSError) as fault:
+    except (Refused, Ended, scales.ScaleFault, OSError) as fault:
         print(f"{words.store or 'the front'}: {fault}", file=sys.stderr)
         return 1
     if ended is not None:

@@ -22,7 +22,7 @@ def serve(front: Front, host: str, port: int) -> None:
     """Answers questions until it is ended by a signal. It tells its address on standard output when it listens."""
     host = "127.0.0.1" if host == "localhost" else host
     try:
-        import waitress
+        import waitress  # type: ignore[import]
     except ImportError:
         serve_by_threads(front, host, port)
         return
@@ -51,6 +51,6 @@ class Handler(simple_server.WSGIRequestHandler):
 
 def serve_by_threads(front: Front, host: str, port: int) -> None:
     kind = Threaded6 if ":" in host else Threaded
-    with simple_server.make_server(host, port, front, kind, Handler) as server:  # type: ignore[arg-type]
+    with simple_server.make_server(host, port, front, kind, Handler) as server:
         told(host, server.server_port)
         server.serve_forever()

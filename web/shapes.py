@@ -11,7 +11,7 @@ from fractions import Fraction
 from typing import NamedTuple
 
 import to_rings  # of tools/
-from map_scale import Scale, exact, rounded
+from map_scale import MapScale, exact, rounded
 from overlay_client import Piece, Point
 
 AREA_BITS = 96
@@ -81,7 +81,7 @@ def holds(rings: list[list[Point]], point: Point) -> bool:
 class Feature:
     """A polygon of a layer: an outer ring and its holes, as exact corners and as positions in the world."""
 
-    def __init__(self, number: int, rings: list[list[Point]], scale: Scale) -> None:
+    def __init__(self, number: int, rings: list[list[Point]], scale: MapScale) -> None:
         self.number, self.rings = number, rings
         self.positions = [[scale.position(corner) for corner in ring] for ring in rings]
         self.area = area_of(rings, scale)
@@ -104,14 +104,14 @@ class Feature:
         }
 
 
-def area_of(rings: list[list[Point]], scale: Scale) -> int | float:
+def area_of(rings: list[list[Point]], scale: MapScale) -> int | float:
     """The area of a polygon in the square of the world's unit, by its exact corners."""
     twice = sum(((a[0] * b[1] - b[0] * a[1]) << AREA_BITS) // (a[2] * b[2]) for ring in rings for a, b in edges_of(ring))
-    by = scale.factor * scale.factor_y
+    by = scale.scale.factor * scale.scale.factor_y
     return rounded(twice * by.denominator, by.numerator << (AREA_BITS + 1), scale.digits)
 
 
-def features_of(pieces: list[Piece], scale: Scale) -> list[Feature]:
+def features_of(pieces: list[Piece], scale: MapScale) -> list[Feature]:
     """The polygons that the pieces of a whole boundary bound, numbered from 1 in the order of their least corners."""
     polygons = to_rings.polygons_of(pieces)
     return [Feature(number, [ring.corners for ring in rings], scale) for number, rings in enumerate(polygons, 1)]
@@ -127,7 +127,7 @@ class Text(NamedTuple):
 class Rounding:
     """Writes GeoJSON's positions as a store's whole numbers, and notes how far a corner was moved at most."""
 
-    def __init__(self, scale: Scale) -> None:
+    def __init__(self, scale: MapScale) -> None:
         self.scale, self.moved = scale, Fraction(0)
 
     def position(self, given: object) -> str:
@@ -135,7 +135,7 @@ class Rounding:
             raise ValueError("a position is a list of two numbers")
         x, y = exact(given[0]), exact(given[1])
         near = self.scale.nearest(x, y)
-        there = self.scale.world((*near, 1))
+        there = self.scale.scale.world((*near, 1))
         self.moved = max(self.moved, abs(there[0] - x), abs(there[1] - y))
         return f"{near[0]} {near[1]}"
 
@@ -152,12 +152,13 @@ def bracketed(given: object, spell: Callable[[object], str]) -> str:
     return "(" + ", ".join(spell(one) for one in given) + ")"
 
 
-def text_of(geometry: object, scale: Scale) -> Text:
+def text_of(geometry: object, scale: MapScale) -> Text:
     """The text of a GeoJSON Polygon or MultiPolygon, each corner at the nearest whole place of the store."""
     kind = geometry.get("type") if isinstance(geometry, dict) else None
-    if not isinstance(geometry, dict) or kind not in ("Polygon", "MultiPolygon"):
-        raise ValueError("a Polygon or a MultiPolygon is wanted")
-    given, rounding = geometry.get("coordinates"), Rounding(scale)
+    given = geometry.get("coordinates") if isinstance(geometry, dict) else None
+    if kind not in ("Polygon", "MultiPolygon") or not isinstance(given, list):
+        raise ValueError("a Polygon or a MultiPolygon with coordinates is wanted")
+    rounding = Rounding(scale)
     polygons = [given] if kind == "Polygon" and given else given
     text = bracketed(polygons, rounding.polygon) if polygons else "EMPTY"
     return Text(f"MULTIPOLYGON {text}", float(rounding.moved))

@@ -4,6 +4,7 @@ import {ask, at, send, tell, telling} from "./ask.js";
 import {showColumns, showLayers, showPlaces, showStatus, summary} from "./panel.js";
 
 const LOOKS = 2000;    // milliseconds between two looks at the version
+const AT_ONCE = 4;    // columns of a question for tiles
 const page = {plot: null, state: null, layers: []};
 globalThis.overlayPage = page;    // for scripts that look at the page
 
@@ -33,19 +34,21 @@ const drop = name => telling(async () => {
 // Draws the tiles of a layer as they are built, and gives how many milliseconds it took until all were.
 async function watch(name) {
   const {plot} = page, began = performance.now();
-  let waiting = [...Array(page.state.columns).keys()];
-  const built = waiting.map(() => false), shown = new Map();
+  const built = page.state.columns.map(() => false);
+  let waiting = [...built.keys()];
+  plot.pending(page.state.columns);
   while (waiting.length) {
-    const {tiles} = await ask(`${path(name)}/tiles?columns=${waiting}`);
-    for (const tile of tiles) {
-      shown.get(tile.column)?.forEach(one => one.remove());
-      shown.set(tile.column, plot.tile(tile));
-      built[tile.column] = tile.lines !== null;
+    const {tiles} = await ask(`${path(name)}/tiles?columns=${waiting.slice(0, AT_ONCE)}`);
+    const done = tiles.filter(tile => tile.lines !== null);
+    for (const tile of done) {
+      plot.tile(tile);
+      built[tile.column] = true;
     }
-    waiting = waiting.filter(column => !built[column]);
+    // What is pending is asked again behind the others.
+    waiting = [...waiting.slice(AT_ONCE), ...tiles.filter(tile => tile.lines === null).map(tile => tile.column)];
     showColumns(built);
     tell(`${name}: ${built.length - waiting.length} of ${built.length} columns are built`);
-    if (waiting.length) await pause(60);
+    if (!done.length) await pause(40);
   }
   return Math.round(performance.now() - began);
 }

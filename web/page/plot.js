@@ -70,17 +70,19 @@ export class Plot {
     else if (shape) shape.remove();
   }
 
-  // A column of a layer: grey while it is pending, then with its part of the boundary.
-  tile({x: [left, right], lines}) {
-    const [, low, , high] = this.state.limits, renderer = this.renderers.tiles;
-    const strip = L.rectangle([[low, left], [high, right]], {
-      renderer, interactive: false, weight: 1, color: "#9aa5b1", fillColor: lines ? "#39a06e" : "#66727f", fillOpacity: lines ? 0.1 : 0.28});
-    this.tiles.addLayer(strip);
-    if (!lines) return [strip];
-    const boundary = L.polyline(lines.map(line => line.map(([x, y]) => [y, x])), {
-      renderer, interactive: false, smoothFactor: 0, color: "#1d7d4f", weight: 2.5});
-    this.tiles.addLayer(boundary);
-    return [strip, boundary];
+  // The columns of a layer that is to be built: grey strips from where each begins.
+  pending(begins) {
+    const [, low, right, high] = this.state.limits;
+    this.strips = begins.map((x, column) => L.rectangle([[low, x], [high, begins[column + 1] ?? right]], {
+      renderer: this.renderers.tiles, interactive: false, weight: 1, color: "#a9b3bd", fillColor: "#5b6773", fillOpacity: 0.3}));
+    this.strips.forEach(strip => this.tiles.addLayer(strip));
+  }
+
+  // A column that is built: its strip clears up and shows its part of the boundary.
+  tile({column, lines}) {
+    this.strips[column].setStyle({fillOpacity: 0.03});
+    this.tiles.addLayer(L.polyline(lines.map(line => line.map(([x, y]) => [y, x])), {
+      renderer: this.renderers.tiles, interactive: false, smoothFactor: 0, color: "#1d7d4f", weight: 2}));
   }
 
   // Marks the point that was asked, with a text.
