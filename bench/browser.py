@@ -28,6 +28,7 @@ from collections.abc import Callable
 from typing import Any
 
 import web_front
+from web_front import Tries, asked
 
 SIZE = (1280, 800)
 STEP = 23
@@ -147,23 +148,6 @@ class Picture:
     def at(self, x: int, y: int) -> tuple[int, int, int]:
         red, green, blue = self.rows[y][x * self.channels:x * self.channels + 3]
         return red, green, blue
-
-
-class Tries:
-    """What was tried and whether it held."""
-
-    def __init__(self) -> None:
-        self.passed = self.failed = 0
-
-    def that(self, holds: object, text: str) -> None:
-        self.passed += bool(holds)
-        self.failed += not holds
-        print(("ok      " if holds else "FAILED  ") + text, flush=True)
-
-
-def asked(address: str) -> Any:
-    with urllib.request.urlopen(address, timeout=30) as answer:
-        return json.load(answer)
 
 
 def over(below: tuple[float, ...], colour: str, opacity: float) -> tuple[float, ...]:

@@ -9,7 +9,9 @@ import pathlib
 import shutil
 import subprocess
 import sys
+import urllib.request
 from collections.abc import Iterator
+from typing import Any
 
 TOP = pathlib.Path(__file__).resolve().parent.parent
 PROGRAM = TOP / "crates/overlay_live/out/overlay_live"
@@ -20,6 +22,23 @@ DEFINITIONS = {"both": "iceland_110m & iceland_50m", "one": "iceland_110m ^ icel
 
 sys.path.append(str(TOP / "web"))
 import overlay_client  # noqa: E402
+
+
+class Tries:
+    """What was tried and whether it held."""
+
+    def __init__(self) -> None:
+        self.passed = self.failed = 0
+
+    def that(self, holds: object, text: str) -> None:
+        self.passed += bool(holds)
+        self.failed += not holds
+        print(("ok      " if holds else "FAILED  ") + text, flush=True)
+
+
+def asked(address: str) -> Any:
+    with urllib.request.urlopen(address, timeout=30) as answer:
+        return json.load(answer)
 
 
 def need(command: str, *packages: str) -> None:
@@ -49,10 +68,16 @@ def iceland(folder: pathlib.Path, program: str) -> pathlib.Path:
 
 
 @contextlib.contextmanager
-def front(*words: str | os.PathLike[str], program: str, python: str = DEBIAN_PYTHON) -> Iterator[str]:
-    """The address of a front that runs until the end of the block, and then has to end with 0."""
-    run = subprocess.Popen(
-        [python, TOP / "web/overlay_web.py", "--port", "0", "--program", program, *words], stdout=subprocess.PIPE, text=True)
+def front(
+    *words: str | os.PathLike[str], program: str, python: str = DEBIAN_PYTHON, before: str = ""
+) -> Iterator[str]:
+    """The address of a front that runs until the end of the block, and then has to end with 0.
+
+    before: lines of Python that are run first.
+    """
+    code = f"{before}import runpy, sys; sys.argv = sys.argv[1:]; runpy.run_path(sys.argv[0], run_name='__main__')"
+    given = ["--port", "0", "--program", program, *words]
+    run = subprocess.Popen([python, "-c", code, TOP / "web/overlay_web.py", *given], stdout=subprocess.PIPE, text=True)
     assert run.stdout
     try:
         address = run.stdout.readline().strip()

@@ -44,6 +44,9 @@ class Threaded6(Threaded):
 
 class Handler(simple_server.WSGIRequestHandler):
     timeout = SECONDS_MOST
+    # Headers and body go out together, not each behind the other's receipt.
+    wbufsize = 1 << 16
+    disable_nagle_algorithm = True
 
     def log_message(self, *_: Any) -> None:
         """Nothing is logged, as by waitress."""
