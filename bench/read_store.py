@@ -464,9 +464,9 @@ def page_checks(page):
     for _, name, point in table_behind(page, "The prover computes these seven."):
         checks.append((name, point_text(bytes.fromhex(codes(name)[0])), point))
     plain = six_blocks(vectors)
-    with_tile = page[page.index("A **file with a derived layer**") :]
-    derived = changed(plain, codes(re.split(r"\n\n", with_tile)[0].replace("\n", " ")))
-    for data, head in ((plain, "A **file of six blocks**"), (derived, "A **file with a derived layer**")):
+    for head in ("A **file of six blocks**", "A **file with a derived layer**", "A **file of format 1**"):
+        told_so = re.split(r"\n\n", page[page.index(head) :])[0].replace("\n", " ")
+        data = changed(plain, codes(told_so))
         for cell, gives in table_behind(page, head):
             lines = told(file_of_a_row(data, cell))
             wanted = codes(gives)
