@@ -45,9 +45,10 @@ use Rattle.script_form.specs.declared.gathering.LinesFault.{LinesFault}
 use Rattle.script_form.specs.declared.gathering.LinesFault.TheVariants.{Unread, OutOfMemory as NoMemory}
 use Rattle.script_form.specs.declared.line_turn.LineTurn.TheVariants.{Waits, Alone, Whole}
 use Rattle.server_session.specs.Answering.{Answers, AnswersAll, IsAnswerToAll, Submits, SubmitsAll}
-use Rattle.server_session.specs.Fault.{batch_told, fault_told, lines_told, numbered}
+use Rattle.server_session.specs.Fault.{fault_told, lines_told}
 use Rattle.server_session.specs.Session.{IsSharedRun, Stays}
 use Rattle.server_session.specs.Turn.{TakesTurn}
+use Rattle.server_session.proofs.BatchFaults.{batch_told, numbered_reason, batch_reported}
 use Rattle.server_session.proofs.Runs.{run-none, run-one}
 use Rattle.server_session.proofs.Turns.{stays_self}
 
@@ -152,21 +153,6 @@ submits_all_accepted was now commands number on same accepted made = record {
       }))));
   only = made;
 }
-
-batch_reported : (o : Option BatchRefusal) (fault : BatchFault) → option_map batch_faults.batch_fault_of o ≡ Some fault
-    → (refusal : BatchRefusal) × (o ≡ Some refusal) × (fault ≡ batch_faults.batch_fault_of refusal)
-batch_reported None fault e = absurd (cc)
-batch_reported (Some refusal) fault e = (refusal, refl, cc)
-
--- the number of a reason stands for its fault
-numbered_reason : (reason : Refusal) → numbered (batch_faults.code_for reason) ≡ Version (Layer (fault_of reason))
-numbered_reason terms.unknown_layer = refl
-numbered_reason terms.not_base = refl
-numbered_reason terms.not_derived = refl
-numbered_reason terms.later_layer = refl
-numbered_reason terms.in_use = refl
-numbered_reason terms.too_many_layers = refl
-numbered_reason terms.version_limit = refl
 
 refusal_told : (refusal : BatchRefusal) → IsRefusedBatch refusal [] (batch_told (batch_faults.batch_fault_of refusal))
 refusal_told (at place reason) = record { nothing_made = refl; told = ap (refused_line place) (numbered_reason reason) }

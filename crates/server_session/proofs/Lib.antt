@@ -2,5 +2,6 @@ pub mod Turns
 pub mod Runs
 pub mod Steps
 pub mod Endings
+pub mod BatchFaults
 pub mod AnswerLemmas
 pub mod TileAnswers

@@ -1,8 +1,7 @@
 -- How a session tells what the book refuses.
-use Rattle.std.specs.Prelude.{ℕ, ◌==◌, List, if◌then◌else◌}
-use Rattle.layer_book.specs.declared.batch_fault.BatchFault.{BatchFault}
-use Rattle.layer_book.specs.declared.batch_fault.BatchFault.TheVariants.{At, Whole}
-use Rattle.layer_book.specs.declared.fault.LayerFault.TheVariants as layer
+use Rattle.std.specs.Prelude.{◌≡◌, ◌⊎◌, ℕ, List}
+use Rattle.overlay_terms.specs.Commands.{Refusal}
+use Rattle.layer_book.specs.Fault.{fault_of}
 use Rattle.version_core.specs.declared.fault.VersionFault.TheVariants.{Layer}
 use Rattle.book_history.specs.declared.fault.BookFault.{BookFault}
 use Rattle.book_history.specs.declared.fault.BookFault.TheVariants as book
@@ -11,6 +10,7 @@ use Rattle.book_history.specs.declared.fault.ToldFault.TheVariants as store
 use Rattle.script_form.specs.declared.fault.CommandFault.{CommandFault}
 use Rattle.script_form.specs.declared.gathering.LinesFault.{LinesFault}
 use Rattle.script_form.specs.declared.gathering.LinesFault.TheVariants as lines
+use Rattle.script_form.specs.Fault.{code_of}
 use Rattle.script_form.specs.Replies.{error_line, refused_line}
 use Rattle.script_form.specs.declared.fault.CommandFault.TheVariants.{Version, Device, Full, StoreFailed, SequenceLimit, OutOfMemory, Closing, Gone, NoStore}
 
@@ -28,23 +28,19 @@ fault_told book.Gone = Gone
 fault_told book.NoStore = NoStore
 fault_told (book.Store fault) = store_told fault
 
--- the fault that the number of a batch's refusal stands for
-abbrev pub numbered : ℕ → CommandFault
-numbered code =
-    if code == 10 then Version (Layer layer.UnknownLayer)
-    else (if code == 11 then Version (Layer layer.NotBase)
-    else (if code == 12 then Version (Layer layer.NotDerived)
-    else (if code == 13 then Version (Layer layer.LaterLayer)
-    else (if code == 14 then Version (Layer layer.InUse)
-    else (if code == 15 then Version (Layer layer.TooManyLayers)
-    else (if code == 16 then Version (Layer layer.VersionLimit)
-    else (if code == 43 then Closing
-    else (if code == 44 then Gone else OutOfMemory))))))))
+-- a fault by which a batch is refused: a refusal of the definitions, or the book closes, or is behind, or memory ran out
+abbrev pub IsBatchFault : CommandFault → Type 0
+IsBatchFault fault =
+    ((reason : Refusal) × (fault ≡ Version (Layer (fault_of reason)))) ⊎ (fault ≡ Closing) ⊎ (fault ≡ Gone) ⊎ (fault ≡ OutOfMemory)
 
--- the bytes that tell why a batch is refused
-abbrev pub batch_told : BatchFault → List ℕ
-batch_told (At place code) = refused_line place (numbered code)
-batch_told (Whole code) = error_line (numbered code)
+-- the one whose number it is
+pub record IsNumbered (code : ℕ) (fault : CommandFault) : Type 0 where
+  pub one_of : IsBatchFault fault
+  pub number : code_of fault ≡ code
+
+-- one of them has the number
+abbrev pub IsBatchNumber : ℕ → Type 0
+IsBatchNumber code = (fault : CommandFault) × IsNumbered code fault
 
 -- the bytes that tell why the lines of a batch are not read as commands
 abbrev pub lines_told : LinesFault → List ℕ

@@ -1,6 +1,6 @@
 //! What the book refuses, as a reply tells it.
 ghost use Rattle.std.specs.Prelude.{◌≡◌};
-ghost use Rattle.server_session.specs.Fault.{fault_told, numbered, store_told};
+ghost use Rattle.server_session.specs.Fault.{fault_told, store_told, IsBatchNumber, IsNumbered};
 
 use layer_book::fault::LayerFault;
 use script_form::CommandFault;
@@ -32,21 +32,27 @@ fn store_fault(fault: ToldFault) -> CommandFault
     }
 }
 
-/// The fault that the number of a batch's refusal stands for.
+/// The fault of a batch that has this number.
 pub(crate) fn numbered(code: u8) -> CommandFault
-    ensures { result ≡ numbered code }
+    requires { IsBatchNumber code }
+    ensures { IsNumbered code result }
 {
-    let fault = match code {
-        10 => LayerFault::UnknownLayer,
-        11 => LayerFault::NotBase,
-        12 => LayerFault::NotDerived,
-        13 => LayerFault::LaterLayer,
-        14 => LayerFault::InUse,
-        15 => LayerFault::TooManyLayers,
-        16 => LayerFault::VersionLimit,
-        43 => return CommandFault::Closing,
-        44 => return CommandFault::Gone,
-        _ => return CommandFault::OutOfMemory,
-    };
+    match code {
+        10 => refusal(LayerFault::UnknownLayer),
+        11 => refusal(LayerFault::NotBase),
+        12 => refusal(LayerFault::NotDerived),
+        13 => refusal(LayerFault::LaterLayer),
+        14 => refusal(LayerFault::InUse),
+        15 => refusal(LayerFault::TooManyLayers),
+        16 => refusal(LayerFault::VersionLimit),
+        43 => CommandFault::Closing,
+        44 => CommandFault::Gone,
+        _ => CommandFault::OutOfMemory,
+    }
+}
+
+fn refusal(fault: LayerFault) -> CommandFault
+    ensures { result ≡ CommandFault.Version (VersionFault.Layer fault) }
+{
     CommandFault::Version(VersionFault::Layer(fault))
 }
