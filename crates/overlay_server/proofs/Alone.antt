@@ -14,11 +14,10 @@ use Rattle.book_history.proofs.Chains.{begins_with, commands_in_log, is_history}
 use Rattle.book_lock.specs.Steps.{HasAllOf}
 use Rattle.script_form.specs.Turns.{Turn}
 use Rattle.line_laws.specs.Deciding.{Answered, AreTurnsOf, history_after, made_by}
-use Rattle.line_laws.proofs.Entries.{accepted_more, count}
+use Rattle.line_laws.proofs.Entries.{accepted_more, count, history_front}
 use Rattle.line_laws.proofs.Runs.{transcripts_have_turns, turns_grow}
 use Rattle.server_session.specs.Session.{IsSharedRun}
 use Rattle.overlay_server.specs.Alone.{OneSessionIsAlone, WasAlone, first_session}
-use Rattle.overlay_server.proofs.Durable.{earlier_is_history}
 
 -- all that are numbered below 1 have the number 0
 keep_all : (cs : List (ℕ × Batch)) → All (λ (c : ℕ × Batch). c.0 < 1) cs → filter (λ c. c.0 == 0) cs ≡ cs
@@ -44,7 +43,7 @@ front_of [] log valid longer = record { history = tt; behind = accepted_in (hist
 front_of (x ∷ xs) log valid longer =
     let on = begins_with (x ∷ xs) log (omega arith) longer in
     record {
-      history = earlier_is_history (history_of log) (history_of (x ∷ xs)) on (is_history log valid);
+      history = history_front (history_of (x ∷ xs)) (history_of log) on.0 on.1 (is_history log valid);
       behind = accepted_in on.0;
       whole = ap (λ (h : History). accepted_in h.entries) on.1 ∙ accepted_more (history_of (x ∷ xs)).entries on.0;
     }

@@ -13,18 +13,18 @@ returns-clause-sessions g c =
 pub returns-clause-reported : goal.returns-clause-reported
 returns-clause-reported g c =
     let ended = c.into_closed-closed in
-    reported_left c.args.flusher c.left_of-stored.result.0 c.left_of-stored.result.1 c.left_of-stored.ensures.some c.args.reporter ended.result.seen_log.log ended.ensures.reporter ended.ensures.durable
+    reported_left c.args.flusher c.left_of-stored.result.stored c.left_of-stored.result.disk c.left_of-stored.ensures.some c.args.reporter ended.result.seen_log.log ended.ensures.reporter ended.ensures.durable
 
 pub returns-clause-files : goal.returns-clause-files
 returns-clause-files g c =
     let was = c.args.reporter.log in
     let now = c.into_closed-closed.result.seen_log.log in
     let on = begins_with was now c.given.ensures.begun c.into_closed-closed.ensures.reporter.longer in
-    files_left g.D.Disk (history_of was) (history_of now) on c.args.flusher c.left_of-stored.result.0 c.left_of-stored.result.1 c.left_of-stored.ensures.some
+    files_left g.D.Disk (history_of was) (history_of now) on c.args.flusher c.left_of-stored.result.stored c.left_of-stored.result.disk c.left_of-stored.ensures.some
 
 pub returns-clause-exactly : goal.returns-clause-exactly
 returns-clause-exactly g c =
     let was = c.args.reporter.log in
     let now = c.into_closed-closed.result.seen_log.log in
     let on = begins_with was now c.given.ensures.begun c.into_closed-closed.ensures.reporter.longer in
-    exactly_left g.D.Disk (history_of was) (history_of now) on c.args.flusher c.left_of-stored.result.0 c.left_of-stored.result.1 c.left_of-stored.ensures.some
+    exactly_left g.D.Disk (history_of was) (history_of now) on c.args.flusher c.left_of-stored.result.stored c.left_of-stored.result.disk c.left_of-stored.ensures.some
