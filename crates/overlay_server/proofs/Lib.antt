@@ -1,3 +1,5 @@
+pub mod Alone
+pub mod Counts
 pub mod Durable
 pub mod Listened
 pub mod Lists
@@ -6,3 +8,4 @@ pub mod Sent
 pub mod SentStore
 pub mod ServedParts
 pub mod Stores
+pub mod Strangers

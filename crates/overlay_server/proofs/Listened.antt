@@ -1,5 +1,5 @@
 -- From what a server of ports leaves, where the replies are kept as lists of bytes, to what `serve` owes.
-use Rattle.std.proofs.Common.{◌≡◌, ◌++◌, ◌∷◌, [], ℕ, suc, Bool, List, Option, Some, is_some, length, map, refl, ap, sym, ◌∙◌, subst, arith}
+use Rattle.std.proofs.Common.{◌≡◌, ◌++◌, ◌∷◌, ◌<◌, [], ℕ, suc, All, Bool, List, Option, Some, is_some, length, map, refl, ap, sym, ◌∙◌, subst, arith}
 use Rattle.std.specs.Arc.{arc_value}
 use Rattle.std.specs.List.{AllByRecursion}
 use Rattle.std.proofs.lemmas.List.{length-map}
@@ -11,7 +11,8 @@ use Rattle.overlay_server.specs.declared.outcome.Left.{Left}
 use Rattle.overlay_server.specs.declared.outcome.Served.{Served}
 use Rattle.std.specs.declared.vec.Vec.{Vec}
 use Rattle.std.specs.declared.alloc.Global.{Global}
-use Rattle.overlay_terms.specs.Histories.{Version, Entry}
+use Rattle.overlay_terms.specs.Batches.{Batch}
+use Rattle.overlay_terms.specs.Histories.{Version, Entry, commands_in}
 use Rattle.book_history.specs.Known.{Known}
 use Rattle.book_lock.specs.Steps.{beginners}
 use Rattle.script_form.specs.Lines.{script_max}
@@ -131,6 +132,9 @@ module _ {R : Type 0} where
     version = subst (λ (k : Closed D). arc_value k.version ≡ newest_in k.seen_log.log) (sym closed) were.version;
     log = subst (λ (k : Closed D). IsLog k.seen_log.log) (sym closed) were.log;
     begins = subst (λ (k : Closed D). (history_of k.seen_log.log).start ≡ start) (sym closed) were.begins;
+    only =
+        subst (λ (n : ℕ). All (λ (c : ℕ × Batch). c.0 < n) (commands_in (history_of served.closed.seen_log.log).entries)) (length_by ports readers is)
+        (subst (λ (k : Closed D). All (λ (c : ℕ × Batch). c.0 < length ports) (commands_in (history_of k.seen_log.log).entries)) (sym closed) were.only);
     sessions =
         subst (λ (os : List Outcome). AreServed (is_some store) remaining start served.closed.seen_log.log readers os) (sym outcomes)
         (subst (λ (k : Closed D). AreServed (is_some store) remaining start k.seen_log.log readers (map outcome_of left.sessions.items)) (sym closed)

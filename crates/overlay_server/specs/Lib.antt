@@ -1,3 +1,4 @@
+pub mod Alone
 pub mod Counting
 pub mod Durability
 pub mod Keeping
