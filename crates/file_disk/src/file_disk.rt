@@ -11,34 +11,59 @@ use std::{fs, io};
 /// A plain file. That it is honest is claimed nowhere: what it does is shown by tests.
 #[derive(Debug, Drop)]
 pub struct FileDisk {
-    /// None once a write or a sync has failed: each call fails then until the file is opened anew. After a sync that
-    /// failed, what was written may be gone although the system takes the next sync as done.
-    file: Option<File>,
+    access: Access,
+}
+
+/// What may be done with a file.
+#[derive(Debug, Drop)]
+enum Access {
+    /// It is read and written.
+    Whole(File),
+    /// It is read alone: each write is an error.
+    Reading(File),
+    /// Nothing, once a write or a sync has failed, until the file is opened anew. After a sync that failed, what was
+    /// written may be gone although the system takes the next sync as done.
+    Failed,
 }
 
 impl FileDisk {
     /// The file at a path. Where it is absent it is made if `make` says so, and else that is an error, as is a folder, a
     /// device and whatever the system refuses. Of a link, also of one that leads to no file yet, it is the file that the
-    /// link leads to. No byte of a file that is there is changed or cut off. The error's kind is `OutOfMemory` where
-    /// memory was refused.
+    /// link leads to. No byte of a file that is there is changed or cut off. No other program has it until it is closed:
+    /// that another has it is an error. The error's kind is `OutOfMemory` where memory was refused.
     pub fn at<R: Files<File = File> + AllocGlobal>(
         rt: &R,
         path: &str,
         make: bool,
     ) -> io::Result<FileDisk> {
         let file = opened(rt, path, make)?;
-        Ok(FileDisk { file: Some(file) })
+        Ok(FileDisk {
+            access: Access::Whole(file),
+        })
+    }
+
+    /// The file at a path, to be read alone: it may be one that cannot be written. Others may read it meanwhile, and no
+    /// program has it to write; that one has it is an error.
+    pub fn reading<R: Files<File = File>>(rt: &R, path: &str) -> io::Result<FileDisk> {
+        let file = opened_to_read(rt, path)?;
+        Ok(FileDisk {
+            access: Access::Reading(file),
+        })
     }
 
     /// The file, as long as no write or sync has failed.
     fn file(&self) -> Result<&File, DiskFault> {
-        self.file.as_ref().ok_or(DiskFault::Device)
+        match &self.access {
+            Access::Whole(file) => Ok(file),
+            Access::Reading(file) => Ok(file),
+            Access::Failed => Err(DiskFault::Device),
+        }
     }
 
     /// The answer of a write or a sync. Where it failed, each later call fails.
     fn after(&mut self, answer: Result<(), DiskFault>) -> Result<(), DiskFault> {
         if answer.is_err() {
-            self.file = None;
+            self.access = Access::Failed;
         }
         answer
     }
@@ -49,20 +74,37 @@ fn opened<R: Files<File = File> + AllocGlobal>(rt: &R, path: &str, make: bool) -
     let mut how = OpenOptions::new();
     how.read(true).write(true).create(make);
     let file = how.open(rt, path)?;
-    if !file.metadata()?.is_file() {
-        return Err(io::Error::from(io::ErrorKind::InvalidInput));
-    }
-    hold(&file)?;
+    expect_plain(file.metadata()?.is_file())?;
+    held(file.try_lock())?;
     if make {
         folder_of(rt, path)?.sync_all()?;
     }
     Ok(file)
 }
 
-/// Holds a file for this program, until it is closed: that another holds it is an error. Where the system has no locks
-/// on the file, nobody is kept out.
-fn hold(file: &File) -> io::Result<()> {
-    match file.try_lock() {
+/// The plain file at a path, to be read. It is looked at before it is opened as well, since the opening of a pipe would
+/// wait for who writes to it.
+fn opened_to_read<R: Files<File = File>>(rt: &R, path: &str) -> io::Result<File> {
+    expect_plain(fs::metadata(rt, path)?.is_file())?;
+    let file = File::open(rt, path)?;
+    expect_plain(file.metadata()?.is_file())?;
+    held(file.try_lock_shared())?;
+    Ok(file)
+}
+
+/// Of a folder, a device or a pipe nothing is kept.
+fn expect_plain(is_file: bool) -> io::Result<()> {
+    if is_file {
+        Ok(())
+    } else {
+        Err(io::Error::from(io::ErrorKind::InvalidInput))
+    }
+}
+
+/// What the system answered to a lock on a file, which lasts until the file is closed: that another program holds one
+/// beside which it cannot be is an error. Where the system has no locks on the file, nobody is kept out.
+fn held(answer: Result<(), TryLockError>) -> io::Result<()> {
+    match answer {
         Ok(()) => Ok(()),
         Err(TryLockError::WouldBlock) => Err(io::Error::from(io::ErrorKind::WouldBlock)),
         Err(TryLockError::Error(error)) if has_no_locks(&error) => Ok(()),
@@ -84,6 +126,25 @@ fn folder_of<R: Files<File = File> + AllocGlobal>(rt: &R, path: &str) -> io::Res
     match place.as_path().parent() {
         Some(folder) => File::open(rt, folder),
         None => Err(io::Error::from(io::ErrorKind::InvalidInput)),
+    }
+}
+
+/// Syncs a file that is read alone: what another program wrote to it and did not sync lasts from then on. On a medium
+/// that cannot be written there is nothing of the kind.
+fn synced_to_read(file: &File) -> io::Result<()> {
+    match file.sync_data() {
+        Err(error) if has_nothing_to_sync(&error) => Ok(()),
+        answer => answer,
+    }
+}
+
+/// Whether an error says that a file takes no sync, as one of a medium that is made once does.
+fn has_nothing_to_sync(error: &io::Error) -> bool {
+    match error.kind() {
+        io::ErrorKind::InvalidInput
+        | io::ErrorKind::ReadOnlyFilesystem
+        | io::ErrorKind::Unsupported => true,
+        _ => false,
     }
 }
 
@@ -128,12 +189,20 @@ impl Disk for FileDisk {
     }
 
     fn write_at(&mut self, at: usize, bytes: &[u8]) -> Result<(), DiskFault> {
-        let answer = told(self.file()?.write_all_at(bytes, at as u64));
+        let answer = match &self.access {
+            Access::Whole(file) => told(file.write_all_at(bytes, at as u64)),
+            Access::Reading(_) => return Err(DiskFault::Device),
+            Access::Failed => return Err(DiskFault::Device),
+        };
         self.after(answer)
     }
 
     fn sync(&mut self) -> Result<(), DiskFault> {
-        let answer = told(self.file()?.sync_data());
+        let answer = match &self.access {
+            Access::Whole(file) => told(file.sync_data()),
+            Access::Reading(file) => told(synced_to_read(file)),
+            Access::Failed => return Err(DiskFault::Device),
+        };
         self.after(answer)
     }
 }

@@ -2,22 +2,18 @@
 #![tactic(auto)]
 
 mod ending;
-mod fault;
 mod printing;
 mod running;
 mod script;
-mod store;
 
 use crate::running::run;
+use program_store::ending::exit_status;
 use std::process::ExitCode;
 
 fn main(rt: HostRuntime) -> ExitCode {
-    match run(&rt, rt.stdin(), &mut rt.stdout()) {
-        Ok(true) => ExitCode::SUCCESS,
-        Ok(false) => ExitCode::FAILURE,
-        Err(fault) => {
-            let _printed = eprintln!(rt; "error {} {}", fault.code(), fault.text());
-            ExitCode::from(fault.status())
-        }
+    let ending = run(&rt, rt.stdin(), &mut rt.stdout());
+    if let Err(fault) = ending {
+        let _printed = eprintln!(rt; "error {} {}", fault.code(), fault.text());
     }
+    ExitCode::from(exit_status(ending))
 }

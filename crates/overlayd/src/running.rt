@@ -1,16 +1,16 @@
 //! What the words ask for, from the scripts to what is printed.
-use crate::ending::{have_ended, unsaid};
-use crate::fault::ProgramFault;
+use crate::ending::ends_of;
 use crate::printing::print_all;
 use crate::script::open_scripts;
-use crate::store::{has_stored, open_store};
 use overlay_server::outcome::{ServeOptions, Served};
 use overlay_server::serving::serve;
+use program_store::fault::ProgramFault;
+use program_store::store::{end_run, open_store};
+use program_words::own::own_words;
 use program_words::reading::read_words;
-use std::env;
 use std::env::Env;
 use std::fs::File;
-use std::io::{ErrorKind, Stdin, Write};
+use std::io::{Stdin, Write};
 use std::rt::Files;
 use std::sync::Wait;
 use std::thread::Threads;
@@ -24,39 +24,17 @@ pub fn run<Q: Env + Files<File = File> + Threads + Wait + Sync + AllocGlobal>(
     input: Stdin,
     output: &mut impl Write,
 ) -> Result<bool, ProgramFault> {
-    let plan = read_words(rt.alloc(), &own_words(rt)?)?;
-    let scripts = open_scripts(rt, input, &plan.scripts)?;
-    let engine = open_store(rt, &plan)?;
+    let (keeping, paths) = read_words(rt.alloc(), &own_words(rt)?)?.into_parts();
+    let scripts = open_scripts(rt, input, &paths)?;
+    let engine = open_store(rt, &keeping)?;
     let options = ServeOptions {
-        workers: plan.workers as usize,
+        workers: keeping.workers as usize,
     };
     match serve(rt, rt.alloc(), options, &OpenGate, engine, scripts) {
         Ok(Served { sessions, closed }) => {
-            let printed = print_all(output, &sessions);
-            let stored = has_stored(rt, &plan, closed)?;
-            if printed.is_err() {
-                return Err(ProgramFault::Write);
-            }
-            match unsaid(&sessions) {
-                Some(fault) => Err(fault),
-                None => Ok(stored && have_ended(&sessions)),
-            }
+            let printed = print_all(output, &sessions).is_ok();
+            end_run(rt, &keeping, closed, printed, ends_of(&sessions))
         }
         Err(refused) => Err(ProgramFault::of_server(refused.code)),
-    }
-}
-
-/// The words behind the program's name.
-fn own_words<Q: Env + AllocGlobal>(rt: &Q) -> Result<Vec<String>, ProgramFault> {
-    match env::args(rt) {
-        Ok(words) => {
-            let mut behind = Vec::new(rt.alloc());
-            for word in words.skip(1) {
-                behind.push(word)?;
-            }
-            Ok(behind)
-        }
-        Err(error) if error.kind() == ErrorKind::OutOfMemory => Err(ProgramFault::OutOfMemory),
-        Err(_) => Err(ProgramFault::Words),
     }
 }

@@ -1,7 +1,7 @@
 //! The scripts that the program runs.
 ghost use Rattle.std.specs.Prelude.{◌<◌, ◌≤◌, length, IfOk};
 
-use crate::fault::ProgramFault;
+use program_store::fault::ProgramFault;
 use std::fs::File;
 use std::io::{ErrorKind, Read, Stdin};
 use std::rt::Files;

@@ -1,2 +1,3 @@
+mod LiveLemmas
 mod NumberLemmas
 mod RequestLemmas

@@ -5,7 +5,7 @@ ghost use Rattle.program_words.specs.Fault.{code_of, text_of};
 ghost use Rattle.program_words.specs.declared.fault.WordFault.TheVariants.{OutOfMemory};
 
 use fault_texts::{CommonFault, FaultText};
-use std::alloc::AllocError;
+use std::alloc::{AllocError, AllocFailed};
 use thiserror::Error;
 
 /// Why words make no plan.
@@ -45,6 +45,14 @@ impl From<AllocError> for WordFault {
     ghost from_gives = { λ _ e. e ≡ OutOfMemory };
 
     fn from(_error: AllocError) -> WordFault {
+        WordFault::OutOfMemory
+    }
+}
+
+impl<T: Drop> From<AllocFailed<T>> for WordFault {
+    ghost from_gives = { λ _ e. e ≡ OutOfMemory };
+
+    fn from(_error: AllocFailed<T>) -> WordFault {
         WordFault::OutOfMemory
     }
 }

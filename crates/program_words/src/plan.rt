@@ -1,5 +1,8 @@
-//! What the words ask for.
-ghost use Rattle.std.specs.Prelude.{◌≤◌, ◌≡◌, true, is_some, vec_len};
+//! What the words of the program that runs scripts ask for.
+ghost use Rattle.std.specs.Prelude.{◌≤◌, ◌≡◌, true, is_some, vec_len, if◌then◌else◌};
+ghost use Rattle.program_words.specs.declared.keeping.Opening.TheVariants.{Existing, New};
+
+use crate::keeping::{Keeping, Opening};
 
 /// The most workers.
 pub const WORKERS_MAX: u32 = 8;
@@ -30,4 +33,35 @@ pub struct Plan {
     pub ghost few_blocks: { max_blocks ≤ 1048576 },
     pub ghost few_scripts: { vec_len scripts ≤ 4 },
     pub ghost made_in_a_store: { create ≡ true → is_some store ≡ true },
+}
+
+impl Plan {
+    /// The plan as what both programs are told, and the paths of its scripts.
+    pub fn into_parts(self) -> (Keeping, Vec<String>)
+        ensures store { result.0.store ≡ self.store }
+        ensures opening { result.0.opening ≡ (if self.create then New else Existing) }
+        ensures workers { result.0.workers ≡ self.workers }
+        ensures max_blocks { result.0.max_blocks ≡ self.max_blocks }
+        ensures scripts { result.1 ≡ self.scripts }
+    {
+        let Plan {
+            store,
+            create,
+            workers,
+            max_blocks,
+            scripts,
+        } = self;
+        let opening = if create {
+            Opening::New
+        } else {
+            Opening::Existing
+        };
+        let keeping = Keeping {
+            store,
+            opening,
+            workers,
+            max_blocks,
+        };
+        (keeping, scripts)
+    }
 }

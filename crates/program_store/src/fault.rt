@@ -1,8 +1,8 @@
 //! The faults of the program's own.
 ghost use Rattle.std.specs.Prelude.{◌≡◌, ◌⊎◌};
 ghost use Rattle.fault_texts.specs.FaultText.{shown, IsBrief};
-ghost use Rattle.overlayd.specs.Fault.{code_of, status_of, text_of};
-ghost use Rattle.overlayd.specs.declared.fault.ProgramFault.TheVariants as faults;
+ghost use Rattle.program_store.specs.Fault.{code_of, status_of, text_of};
+ghost use Rattle.program_store.specs.declared.fault.ProgramFault.TheVariants as faults;
 ghost use Rattle.program_words.specs.Fault as words;
 
 use commit_plan::fault::StoreFault;
@@ -10,12 +10,12 @@ use fault_texts::{CommonFault, FaultText};
 use program_words::fault::WordFault;
 use std::alloc::{AllocError, AllocFailed};
 
-/// Why the program runs no script, or why what it leaves is not all.
+/// Why a program runs no session, or why what it leaves is not all.
 #[derive(Clone, Copy, Debug, PartialEq, Eq)]
 pub enum ProgramFault {
     /// The words are not those of the synopsis.
     Words,
-    /// A script can't be opened.
+    /// A script, or a path of a pair, can't be opened.
     Script,
     /// The store is not made, is not opened, or refuses the newest version.
     Store(StoreFault),

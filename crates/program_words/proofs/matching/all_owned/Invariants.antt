@@ -1,5 +1,5 @@
 use Rattle.std.proofs.Common.{◌≡◌, map, take, string_bytes, vec_len}
-use Rattle.program_words.proofs.reading.all_owned.Given as goal
+use Rattle.program_words.proofs.matching.all_owned.Given as goal
 
 -- the copies so far
 abbrev pub invariant-loop-text : goal.invariant-loop-text

@@ -3,8 +3,8 @@ use Rattle.std.specs.Prelude.{ℕ, List}
 use Rattle.commit_plan.specs.Fault as stores
 use Rattle.fault_texts.specs.CommonFault as common
 use Rattle.fault_texts.specs.declared.common_fault.CommonFault.TheVariants as faults
-use Rattle.overlayd.specs.declared.fault.ProgramFault.{ProgramFault}
-use Rattle.overlayd.specs.declared.fault.ProgramFault.TheVariants.{Words, Script, Store, OutOfMemory, Gone, Write}
+use Rattle.program_store.specs.declared.fault.ProgramFault.{ProgramFault}
+use Rattle.program_store.specs.declared.fault.ProgramFault.TheVariants.{Words, Script, Store, OutOfMemory, Gone, Write}
 
 -- the number under which a fault is printed
 abbrev pub code_of : ProgramFault → ℕ

@@ -1,0 +1,111 @@
+//! Where sessions read their lines, and where their replies go.
+ghost use Rattle.std.specs.Prelude.{◌≡◌, ◌<◌, ◌≤◌, ◌^◌, length, max, IfOk};
+
+use overlay_server::outcome::Port;
+use program_store::fault::ProgramFault;
+use std::fs::{File, OpenOptions};
+use std::io::{ErrorKind, Read, Stdin, Stdout, Write};
+use std::rt::Files;
+use std::{fs, io};
+
+/// The most bytes of a session, 2^62: none gets there.
+const BYTES_MAX: usize = 4_611_686_018_427_387_904;
+
+/// Where lines come from.
+#[derive(Drop)]
+pub enum Lines {
+    Input(Stdin),
+    File(File),
+}
+
+impl Read for Lines {
+    fn read(&mut self, buf: &mut [u8]) -> io::Result<usize> {
+        match self {
+            Lines::Input(input) => input.read(buf),
+            Lines::File(file) => file.read(buf),
+        }
+    }
+}
+
+/// Where replies go. Each write is one of the system's, so that nothing waits in a buffer. Where nobody reads any more it
+/// is an error: no program of the kit is ended by the signal.
+#[derive(Drop)]
+pub enum Replies {
+    Output(Stdout),
+    File(File),
+}
+
+impl Write for Replies {
+    fn write(&mut self, buf: &[u8]) -> io::Result<usize> {
+        match self {
+            Replies::Output(output) => output.write(buf),
+            Replies::File(file) => file.write(buf),
+        }
+    }
+
+    fn flush(&mut self) -> io::Result<()> {
+        match self {
+            Replies::Output(output) => output.flush(),
+            Replies::File(file) => file.flush(),
+        }
+    }
+}
+
+/// Opens the pairs of paths in their order, of each first where its lines come from: of a named pipe each opening waits
+/// for the other end. Without a pair there is that of standard input and output. The fault is `Script` where a path
+/// can't be opened for another reason than want of memory.
+pub fn open_ports<Q: Files<File = File> + AllocGlobal>(
+    rt: &Q,
+    input: Stdin,
+    output: Stdout,
+    pairs: &[(String, String)],
+) -> Result<Vec<Port<Lines, Replies>>, ProgramFault>
+    requires { length pairs.now ≤ 4 }
+    ensures each { IfOk result (λ ports. length ports.items ≡ max 1 (length pairs.now)) }
+    ensures some { IfOk result (λ ports. 0 < length ports.items) }
+    ensures few { IfOk result (λ ports. length ports.items ≤ 4) }
+{
+    let mut ports = Vec::new(rt.alloc());
+    if pairs.is_empty() {
+        ports.push(port(Lines::Input(input), Replies::Output(output)))?;
+        return Ok(ports);
+    }
+    'pairs: for pair in pairs {
+        let (from, to) = pair;
+        let reader = answered(fs::open(rt, from.as_str()))?;
+        let writer = answered(open_to_write(rt, to))?;
+        ports.push(port(Lines::File(reader), Replies::File(writer)))?;
+    }
+    Ok(ports)
+}
+
+/// A pair that is open, for a session without end.
+fn port(reader: Lines, writer: Replies) -> Port<Lines, Replies>
+    ensures { result.most ≡ 2 ^ 62 }
+{
+    Port {
+        reader,
+        most: BYTES_MAX,
+        writer,
+    }
+}
+
+/// The file at a path, to be written from its beginning: one that is there is emptied, else one is made. A pipe that is
+/// there is not asked to be made, which the system may refuse where it belongs to somebody else.
+fn open_to_write<Q: Files<File = File>>(rt: &Q, path: &str) -> io::Result<File> {
+    match OpenOptions::new().write(true).truncate(true).open(rt, path) {
+        Err(error) if error.kind() == ErrorKind::NotFound => {
+            OpenOptions::new().write(true).create(true).open(rt, path)
+        }
+        opened => opened,
+    }
+}
+
+/// What the system answered, as a fault of the program's.
+fn answered(opened: io::Result<File>) -> Result<File, ProgramFault> {
+    match opened {
+        Ok(file) => Ok(file),
+        Err(error) if error.kind() == ErrorKind::OutOfMemory => Err(ProgramFault::OutOfMemory),
+        Err(_) => Err(ProgramFault::Script),
+    }
+}

@@ -1,0 +1,74 @@
+-- How a run ends: what its sessions, its replies and its store come to.
+use Rattle.std.specs.Prelude.{ℕ, List, Bool, true, false, not, ◌&&◌, ◌||◌, nat_eq, nat_le, Option, Some, None, Result, Ok, Err, is_some}
+use Rattle.std.specs.Arc.{arc_value}
+use Rattle.std.specs.List.{list_all}
+use Rattle.program_words.specs.declared.keeping.Keeping.{Keeping}
+use Rattle.program_words.specs.declared.keeping.Opening.{Opening}
+use Rattle.program_words.specs.declared.keeping.Opening.TheVariants.{Existing, New, ReadOnly}
+use Rattle.script_form.specs.declared.session_end.SessionEnd.{SessionEnd}
+use Rattle.script_form.specs.declared.session_end.SessionEnd.TheVariants.{End, Failed}
+use Rattle.store_flushing.specs.declared.closing.Closed.{Closed}
+use Rattle.program_store.specs.Fault.{status_of}
+use Rattle.program_store.specs.declared.ending.Ends.{Ends}
+use Rattle.program_store.specs.declared.fault.ProgramFault.{ProgramFault}
+use Rattle.program_store.specs.declared.fault.ProgramFault.TheVariants.{OutOfMemory, Write}
+
+-- a script was read to its end
+abbrev pub is_end : SessionEnd → Bool
+is_end End = true
+is_end (Failed code) = false
+
+-- a session had memory for its lines
+abbrev pub was_run : SessionEnd → Bool
+was_run End = true
+was_run (Failed code) = not (nat_eq code 40)
+
+-- a session's replies could be written
+abbrev pub was_written : SessionEnd → Bool
+was_written End = true
+was_written (Failed code) = not (nat_eq code 49)
+
+-- how sessions ended
+abbrev pub ends_of : List SessionEnd → Ends
+ends_of ends = record { at_end = list_all is_end ends; run = list_all was_run ends; written = list_all was_written ends }
+
+-- the fault of which no session's replies tell
+abbrev pub unsaid_by : (run written : Bool) → Option ProgramFault
+unsaid_by false written = Some OutOfMemory
+unsaid_by true false = Some Write
+unsaid_by true true = None
+
+abbrev pub unsaid : Ends → Option ProgramFault
+unsaid ends = unsaid_by ends.run ends.written
+
+-- a fault, or where there is none whether all is complete
+abbrev pub complete_or : Option ProgramFault → Bool → Result Bool ProgramFault
+complete_or None complete = Ok complete
+complete_or (Some fault) complete = Err fault
+
+-- what a run comes to: the store's fault, that replies could not be printed, a session's that no reply tells, the first
+-- that applies; else whether the newest version is stored and each script was read to its end
+abbrev pub conclusion : Result Bool ProgramFault → Bool → Ends → Result Bool ProgramFault
+conclusion (Err fault) printed ends = Err fault
+conclusion (Ok stored) false ends = Err Write
+conclusion (Ok stored) true ends = complete_or (unsaid ends) (stored && ends.at_end)
+
+-- the exit status of a run: 0 where nothing is missing
+abbrev pub exit_status : Result Bool ProgramFault → ℕ
+exit_status (Ok true) = 0
+exit_status (Ok false) = 1
+exit_status (Err fault) = status_of fault
+
+-- the newest version is stored
+abbrev pub is_stored : {D : Type 0} → Closed D → Bool
+is_stored closed = nat_le (arc_value closed.version).number closed.stored
+
+-- nothing is kept of what is only read
+abbrev pub is_read_only : Opening → Bool
+is_read_only Existing = false
+is_read_only New = false
+is_read_only ReadOnly = true
+
+-- all is where the words have it: in memory alone, or in the store
+abbrev pub is_kept : {D : Type 0} → Opening → Closed D → Bool
+is_kept opening closed = is_read_only opening || not (is_some closed.disk) || is_stored closed

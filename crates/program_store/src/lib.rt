@@ -1,0 +1,6 @@
+//! What both programs do with their store, from opening it to the exit status, and the faults that they tell of their own.
+#![tactic(auto)]
+
+pub mod ending;
+pub mod fault;
+pub mod store;

@@ -1,0 +1,20 @@
+//! The words that a program is called with.
+use crate::fault::WordFault;
+use std::env;
+use std::env::Env;
+use std::io::ErrorKind;
+
+/// The words behind the program's name. One that is not UTF-8 is a wrong word.
+pub fn own_words<Q: Env + AllocGlobal>(rt: &Q) -> Result<Vec<String>, WordFault> {
+    match env::args(rt) {
+        Ok(words) => {
+            let mut behind = Vec::new(rt.alloc());
+            for word in words.skip(1) {
+                behind.push(word)?;
+            }
+            Ok(behind)
+        }
+        Err(error) if error.kind() == ErrorKind::OutOfMemory => Err(WordFault::OutOfMemory),
+        Err(_) => Err(WordFault::Words),
+    }
+}
