@@ -11,7 +11,9 @@ import concurrent.futures
 import functools
 import hashlib
 import multiprocessing
+import os
 import re
+import signal
 import threading
 import time
 from collections.abc import Sequence
@@ -234,7 +236,19 @@ def joining_process() -> concurrent.futures.ProcessPoolExecutor:
 
     It is not forked: a fork would hold the ends of the sessions' pipes, and overlay_live would never see their end.
     """
-    return concurrent.futures.ProcessPoolExecutor(1, multiprocessing.get_context("spawn"))
+    return concurrent.futures.ProcessPoolExecutor(1, multiprocessing.get_context("spawn"), end_with_parent)
+
+
+def end_with_parent() -> None:
+    """Ends this process when the front does, also where that is killed; an interrupt of the terminal is the front's."""
+    signal.signal(signal.SIGINT, signal.SIG_IGN)
+    parent = multiprocessing.parent_process()
+
+    def wait() -> None:
+        if parent:
+            parent.join()
+        os._exit(1)
+    threading.Thread(target=wait, daemon=True).start()
 
 
 def number_in_file(store: str, program: str) -> int:

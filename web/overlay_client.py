@@ -389,8 +389,8 @@ def started(
             own.append(Session(open(line_out, "wb", 0), open(reply_in, "rb", 0), timeout))
         # In a session of its own it does not get the interrupt that a terminal sends to all: its end is close.
         process = subprocess.Popen(
-            words + [f"/dev/fd/{descriptor}" for descriptor in given], stdin=subprocess.DEVNULL, stderr=subprocess.PIPE,
-            pass_fds=given, start_new_session=True)
+            words + [f"/dev/fd/{descriptor}" for descriptor in given], stdin=subprocess.DEVNULL, stdout=subprocess.DEVNULL,
+            stderr=subprocess.PIPE, pass_fds=given, start_new_session=True)
     except BaseException:
         for session in own:
             session.close()

@@ -130,7 +130,7 @@ class Iceland(FrontCase):
     def test_boxes_against_brute_force(self) -> None:
         polygons, source = self.polygons("one"), random.Random(5)
         sizes = set()
-        for number in range(60):
+        for number in range(20):
             x, y = source.uniform(-25, -13), source.uniform(63, 67)
             width = source.choice((0, 0.02, 0.5, 3))
             words = [f"{n:.{number % 6}f}" for n in (x, y, x + width, y + width / 2)]
@@ -139,7 +139,7 @@ class Iceland(FrontCase):
             self.assertEqual([one["id"] for one in found["features"]], right, words)
             self.assertEqual(found["numberMatched"], len(right))
             sizes.add(len(right))
-        self.assertGreater(len(sizes), 5)
+        self.assertGreater(len(sizes), 3)
 
     def test_a_box_by_a_corner_in_fractions_is_exact(self) -> None:
         """The least corner of each polygon, most of them crossings, as a box of one point; and a box that ends before it."""

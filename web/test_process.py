@@ -112,16 +112,17 @@ class Processes(unittest.TestCase):
             self.assertEqual(self.ended(run), (1, "overlay_live has ended with status -9\n"))
 
     def test_what_it_began_ends_with_it(self) -> None:
-        with running("--store", self.store, "--writable") as (run, address):
-            asked(address, "GET", "/collections/I/items")
-            begun = children(run.pid)
-            self.assertGreater(len(begun), 2)
-            run.send_signal(signal.SIGTERM)
-            self.ended(run)
-        end = time.monotonic() + 20
-        while left := [pid for pid in begun if pathlib.Path(f"/proc/{pid}").exists()]:
-            self.assertLess(time.monotonic(), end, left)
-            time.sleep(0.05)
+        for number in (signal.SIGTERM, signal.SIGKILL):
+            with running("--store", self.store, "--writable") as (run, address):
+                asked(address, "GET", "/collections/I/items")
+                begun = children(run.pid)
+                self.assertGreater(len(begun), 2)
+                run.send_signal(number)
+                self.ended(run)
+            end = time.monotonic() + 20
+            while left := [pid for pid in begun if pathlib.Path(f"/proc/{pid}").exists()]:
+                self.assertLess(time.monotonic(), end, left)
+                time.sleep(0.05)
 
     def test_it_begins_a_store(self) -> None:
         with running("--store", self.folder / "new.db", "--create", "--writable") as (_, address):
