@@ -34,13 +34,12 @@ from typing import Any
 TOP = pathlib.Path(__file__).resolve().parent.parent
 sys.path.insert(0, str(TOP / "tools"))
 
-import asking  # noqa: E402
+import checking  # noqa: E402
 import limits  # noqa: E402
 import map_reading  # noqa: E402
 import rounding  # noqa: E402
 import scale as scales  # noqa: E402
 import sessions  # noqa: E402
-import to_rings  # noqa: E402
 import wkt  # noqa: E402
 
 PYTHON = "/usr/bin/python3"  # the one that has Debian's packages
@@ -70,7 +69,7 @@ CHARTS = [
           177, False),
     Chart("boroughs", "python3-geopandas",
           "/vsizip/usr/lib/python3/dist-packages/geopandas/datasets/nybb_16a.zip/nybb.shp", "BoroName", ["--split"], 5, False),
-    Chart("counties", "r-cran-spdata", "usr/lib/R/site-library/spData/shapes/sids.shp", "NAME", ["--coded"], 100, True),
+    Chart("counties", "r-cran-spdata", "usr/lib/R/site-library/spData/shapes/sids.shp", "NAME", ["--coded", "--check"], 100, True),
 ]
 
 
@@ -175,25 +174,6 @@ def star(extent: tuple[int, int, int, int], corners: int = 720) -> rounding.Ring
     return [*points, points[0]]
 
 
-def areas_of(program: str, script: bytes, overlays: list["Overlay"]) -> list[Fraction]:
-    """The exact areas of overlays, each defined under the name `asked` in the place of the one before."""
-    lines = [f"DEFINE asked = {one.expression}\n".encode() + sessions.questions(["asked"]) for one in overlays]
-    asked = script + b"".join(lines)
-    replies = sessions.lines_of(asking.ran(program, [], asked))
-    found, at = [], len(script.splitlines())
-    if any(not line.startswith("ok ") for line in replies[:at]):
-        sys.exit("a line of a script was refused")
-    for _ in overlays:
-        pieces = []
-        at += 2
-        for _ in range(limits.COLUMNS):
-            reply = sessions.reply_lines(replies, at)
-            pieces += [sessions.piece_of(line) for line in reply[1:]]
-            at += len(reply)
-        found.append(to_rings.area_of_all(to_rings.polygons_of(pieces)))
-    return found
-
-
 @dataclass
 class Overlay:
     """An overlay: what it is called, ours by expression, and GEOS's by names, an operation and another name."""
@@ -202,6 +182,11 @@ class Overlay:
     names: list[str]
     operation: str = ""
     other: str = ""
+
+
+def areas_of(program: str, lines: list[str], plan: list[Overlay]) -> list[Fraction]:
+    """The exact areas of overlays over the layers of a script."""
+    return checking.areas(program, [([] if place else lines, one.expression) for place, one in enumerate(plan)])
 
 
 @dataclass
@@ -269,11 +254,11 @@ def layer_names(told: str, features: list[str]) -> dict[str, str]:
     return dict(zip(dict.fromkeys(layers), features))
 
 
-def scripts_of(chart: Chart, file: pathlib.Path, folder: pathlib.Path) -> tuple[list[pathlib.Path], str]:
+def scripts_of(chart: Chart, file: pathlib.Path, folder: pathlib.Path, program: str) -> tuple[list[pathlib.Path], str]:
     for old in folder.glob(f"{chart.name}.*txt"):
         old.unlink()
     words = [sys.executable, str(TOP / "tools" / "to_script.py"), str(file), "--fit", "--name-by", chart.name_by, *chart.words,
-             "--output", str(folder / f"{chart.name}.txt")]
+             "--output", str(folder / f"{chart.name}.txt"), "--program", program]
     done = subprocess.run(words, stdout=subprocess.DEVNULL, stderr=subprocess.PIPE, text=True, check=False)
     if done.returncode:
         sys.exit(f"{' '.join(words)}: {done.stderr}")
@@ -292,7 +277,8 @@ def stored(program: str, script: pathlib.Path) -> pathlib.Path:
 
 def points_in(extent: tuple[int, int, int, int], scale: scales.Scale) -> list[tuple[str, list[float]]]:
     """Points at random in halves of whole numbers, as words of the world and as numbers of the store."""
-    source, found = random.Random(1), []
+    source = random.Random(1)
+    found: list[tuple[str, list[float]]] = []
     while len(found) < POINTS:
         corner = source.randrange(2 * extent[0], 2 * extent[2]), source.randrange(2 * extent[1], 2 * extent[3]), 2
         x, y = scale.world(corner)
@@ -328,7 +314,7 @@ def task_of(shapes: dict[str, Polygons], overlays: list[Overlay], features: list
 def tried(chart: Chart, program: str, folder: pathlib.Path) -> tuple[Result, str]:
     """One map, in whole and compared."""
     file = as_geojson(chart, folder)
-    scripts, told = scripts_of(chart, file, folder)
+    scripts, told = scripts_of(chart, file, folder, program)
     scale = scales.read(folder / f"{chart.name}.scale.json")
     whole, read = rounded(file, chart.name_by, scale)
     stores = [stored(program, script) for script in scripts]
@@ -344,11 +330,12 @@ def tried(chart: Chart, program: str, folder: pathlib.Path) -> tuple[Result, str
     plans = [plan for place, script in enumerate(base, 1) for plan in (
         plans_of_coded(script, [row for row in rows if row["store"] == str(place)]) if chart.coded
         else plans_of_names(script, names))]
-    ours = [areas_of(program, script + f"PUT star {wkt.write(shapes['star'])}\n".encode(), plan) for script, plan in plans]
+    ours = [areas_of(program, [*script.decode().splitlines(), f"PUT star {wkt.write(shapes['star'])}"], plan)
+            for script, plan in plans]
     overlays = [one for _, plan in plans for one in plan]
     geos = asked_of_geos(task_of(shapes, overlays, list(whole), [number for _, number in points]))
     before = read_area(read)
-    held = sum(rounding.area_of(polygons) for polygons in whole.values())
+    held = sum((rounding.area_of(polygons) for polygons in whole.values()), Fraction(0))
     moved = max(line.split("largest move ")[1].split(",")[0] for line in told.splitlines() if "largest move" in line)
     result = Result(chart, sum(map(rounding.steps_of, whole.values())), sum(len(script.splitlines()) for script in base),
                     len(stores), f"{moved} {scale.unit}".removesuffix(" 1"), float(scale.area(held)) / before)

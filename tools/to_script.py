@@ -22,11 +22,12 @@ by more than a 1000th of the extent, or are out of range, nothing is written, an
           own, joined by |. Without it a layer is even-odd.
 --coded   features are numbered from 1, and layer b0, b1 .. holds those whose number has that bit, so that 7 layers carry
           127 features that do not overlap. NAME.names.csv has numbers, names, the expression of each feature, and areas;
-          tools/which.py tells names by it.
+          tools/which.py tells names by it. Where features overlap their numbers are mixed: --check tells whether they do,
+          exactly, by areas that the program is asked for.
 --output  NAME.txt is the script, and NAME.scale.json says what its numbers mean, for the other tools and for web/. Where
           one store of 32 layers does not suffice, NAME.1.txt, NAME.2.txt .. are each the script of a store.
 
-Status 0: all was written; 1: something was refused, the rest was written; 2: a file could not be read, or the factor
+Status 0: all was written; 1: something was refused, the rest was written, or features overlap; 2: a file could not be read, or the factor
 does not fit, and nothing was written.
 """
 
@@ -41,12 +42,15 @@ from dataclasses import replace
 from fractions import Fraction
 from typing import TextIO
 
+import asking
+import checking
 import fitting
 import layering
 import limits
 import map_reading
 import rounding
 import scale as scales
+import sessions
 import wkt
 from layering import Group, Layout, Store
 from map_reading import Refused, Shape
@@ -286,6 +290,22 @@ def write_files(words: argparse.Namespace, stores: list[Store], scale: Scale) ->
     return [f"factor and origin in {sidecar}"] + told
 
 
+def overlaps(words: argparse.Namespace, stores: list[Store], say: Callable[[str], None]) -> int:
+    """Tells whether features of coded layers overlap: 1 where some do, or nobody can say, else 0."""
+    status = 0
+    try:
+        program = words.program or asking.found_program((asking.BATCHED, asking.LIVE))
+        for store in stores:
+            names = checking.overlapping(program, store)
+            status = 1 if names else status
+            say(f"features overlap, and numbers are mixed: in the layers another area have {', '.join(names)}" if names else
+                f"of {len(store.features)} features no two overlap")
+    except sessions.Unusable as fault:
+        say(f"--check: {fault}")
+        return 1
+    return status
+
+
 def words_of(arguments: list[str]) -> argparse.Namespace:
     parser = argparse.ArgumentParser(description=__doc__, formatter_class=argparse.RawDescriptionHelpFormatter)
     parser.add_argument("files", metavar="FILE", nargs="+", help="GeoJSON or Well-Known Text; - is standard input")
@@ -301,6 +321,8 @@ def words_of(arguments: list[str]) -> argparse.Namespace:
     parser.add_argument("--split", action="store_true", help="spread what is too long for a layer over several")
     parser.add_argument("--union", action="store_true", help="polygons of one layer may overlap")
     parser.add_argument("--coded", action="store_true", help="number the features over few layers (needs --output)")
+    parser.add_argument("--check", action="store_true", help="tell whether the features of --coded overlap")
+    parser.add_argument("--program", metavar="PATH", help="the program that --check asks (default: as the other tools)")
     parser.add_argument("--output", metavar="NAME.txt", type=pathlib.Path, help="in the place of standard output")
     parser.add_argument("--title", help="for the scale's file (default: the output's name)")
     parser.add_argument("--unit", help="of the world's numbers (default: degree for degrees, else 1)")
@@ -312,6 +334,8 @@ def words_of(arguments: list[str]) -> argparse.Namespace:
         parser.error("--scale and --fit, a factor or an origin are two answers")
     if words.coded and (words.union or not words.output):
         parser.error("--coded needs --output NAME.txt, as it writes names too, and no --union")
+    if words.check and not words.coded:
+        parser.error("--check is of --coded features")
     return words
 
 
@@ -340,7 +364,8 @@ def work(words: argparse.Namespace, output: TextIO, say: Callable[[str], None]) 
         say(f"{fitting.words(scale.factor, scale.origin)}; {moved if reader.furthest() else 'nothing is rounded'}")
     for text in planner.told + reader.told + told + written:
         say(text)
-    return 1 if reader.refusals else 0
+    overlap = overlaps(words, stores, say) if words.check else 0
+    return 1 if reader.refusals else overlap
 
 
 def main(arguments: list[str], output: TextIO | None = None, errors: TextIO | None = None) -> int:

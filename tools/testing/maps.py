@@ -152,6 +152,9 @@ class Counties(WithProgram):
         script = self.file("any.txt", (self.folder / "nc.txt").read_text()
                            + "DEFINE any = b0 | b1 | b2 | b3 | b4 | b5 | b6\n"
                            + "".join(f"DEFINE c{row['number']} = {row['expression']}\n" for row in self.rows[:20]))
+        told = outcome(to_script, COUNTIES, "--fit", "--coded", "--check", "--name-by", "name", "--program", self.program,
+                       "--output", self.folder / "again.txt")
+        self.assertEqual((told[0], told[2].splitlines()[-1]), (0, "of 100 features no two overlap"))
         told = outcome(to_rings, script, "--program", self.program, "--layer", "any", "--areas")
         self.assertEqual(Fraction(told[1].split()[-2]), sum(areas.values()))
         told = outcome(to_geojson, script, "--program", self.program, *(f"--layer=c{n}" for n in range(1, 21)))
@@ -160,3 +163,29 @@ class Counties(WithProgram):
         layer = outcome(to_rings, "--store", self.db, "--program", self.program, "--layer", "b2", "--areas")[1]
         self.assertEqual(Fraction(layer.split()[-2]) * 10**10,
                          sum(areas[row["name"]] for row in self.rows if int(row["number"]) & 4))
+
+
+class Overlaps(WithProgram):
+    def checked(self, *texts: str) -> tuple[int, str]:
+        """The status of --check, and the last line that it tells."""
+        file = self.file("plan.wkt", " ".join(f"POLYGON (({text}))" for text in texts))
+        status, _, errors = outcome(to_script, file, "--coded", "--check", "--program", self.program, "--factor", 1,
+                                    "--output", self.folder / "plan.txt")
+        return status, errors.splitlines()[-1].replace(str(file), "FILE")
+
+    def test_features_that_overlap_are_told(self) -> None:
+        squares = [f"{x} 0, {x + 10} 0, {x + 10} 10, {x} 10, {x} 0" for x in (0, 10, 20, 29)]
+        self.assertEqual(self.checked(*squares[:3]), (0, "of 3 features no two overlap"))
+        # Between 29 and 30 lie features 3 and 4, and together they spell 7, which is nobody's.
+        self.assertEqual(self.checked(*squares), (1, "features overlap, and numbers are mixed: in the layers another area "
+                                                     "have FILE, text 3, FILE, text 4"))
+        words = ["--store", self.store("plan.db", (self.folder / "plan.txt").read_bytes()), "--names",
+                 self.folder / "plan.names.csv", "--program", self.program]
+        self.assertEqual(outcome(which, *words, "29.5", "5")[:2], (1, ""))
+        self.assertEqual(outcome(which, *words, "25", "5")[1], f"{self.folder / 'plan.wkt'}, text 3\n")
+
+    def test_rings_that_cross_have_the_area_of_their_inside(self) -> None:
+        # A bow tie has no area by the sum over its corners; what lies in one of its halves overlaps it.
+        bow, within = "0 0, 4 4, 4 0, 0 4, 0 0", "0 1, 1 2, 0 3, 0 1"
+        self.assertEqual(self.checked(bow, "10 0, 14 0, 14 4, 10 0"), (0, "of 2 features no two overlap"))
+        self.assertEqual(self.checked(bow, within)[0], 1)
