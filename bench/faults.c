@@ -6,6 +6,8 @@
    tells so, another call is interrupted (EINTR); 3 with ENOSPC. A sync that fails loses what was written to the store
    since the last one that did not: all of it, or with kind 1 the second half of each write; with kind 2 nothing, as it
    is asked for again. A sync of the folder that fails, but with kind 2, loses the store, where it was made in this run.
+   A program that opens a gate over writes which are not synced, or writes a new store before its folder is, is ended by
+   abort. FAIL_LEAVE makes such a program of a right one: with 1 no sync of the store is made, with 2 none of the folder.
    The first 8 bytes of the file FAIL_COUNTS are how many calls there were, the next 8 how many failed. */
 
 /* What the C library and the system have, as it is declared in their headers: those need not be there. */
@@ -34,7 +36,7 @@ struct counts {
 
 static struct counts none;
 static struct counts *counts = &none;
-static unsigned long first, rest, kind;
+static unsigned long first, rest, kind, left_out;
 
 /* Which files are watched: as the store, or as its folder. */
 enum { STORE = 1, FOLDER = 2 };
@@ -70,6 +72,7 @@ __attribute__((constructor)) static void begin(void)
     first = number_of("FAIL_FIRST");
     rest = number_of("FAIL_REST");
     kind = number_of("FAIL_KIND");
+    left_out = number_of("FAIL_LEAVE");
 }
 
 static int is_watched(int file)
@@ -189,8 +192,18 @@ static long written(int file, const void *from, size_t size, long at)
     return syscall(SYS_pwrite64, file, from, size, at);
 }
 
+/* A new store is written only when its folder is synced, and a gate opened only when all that was written is. */
+static void ask_for_sync(int file, const void *from, size_t size, long at)
+{
+    if (is_watched(file) == STORE && last && size == 1 && *(const unsigned char *)from == 0xA7 && at % 4096 == 0)
+        abort();
+    if (is_watched(file) == STORE && is_made)
+        abort();
+}
+
 long pwrite(int file, const void *from, size_t size, long at)
 {
+    ask_for_sync(file, from, size, at);
     if (!is_watched(file) || !fails())
         return written(file, from, size, at);
     if (kind == 2)
@@ -225,11 +238,15 @@ static int synced(int file, long call)
 
 int fdatasync(int file)
 {
+    if (left_out == 1 && is_watched(file) == STORE)
+        return 0;
     return synced(file, SYS_fdatasync);
 }
 
 int fsync(int file)
 {
+    if (left_out == 2 && is_watched(file) == FOLDER)
+        return 0;
     return synced(file, SYS_fsync);
 }
 

@@ -14,27 +14,41 @@ opening it writes. Each has to end by itself with status 0 or 1; its replies hav
 each SYNC of a session may tell 30 from one on, once a call has failed; none may lack, but all do where a call failed
 before the store was open (so many calls as runs with empty scripts make); standard error has the one line of 30 where
 the status is 1. The store that it leaves has to hold a version of the history, no older than what was told durable, the
-last one where the status is 0, with right tiles, and be opened by the program. Prints a table and, at last, how many of
-its lines are right; ends with status 1 where one is not.
+last one where the status is 0, with right tiles, and be opened by the program. A program that opens a gate over writes
+which are not synced, or writes a new store before its folder is, is ended by the shim: so that this is seen, the syncs
+are left out of a run, and those of the folder out of another. Prints a table and, at last, how many of its lines are
+right; ends with status 1 where one is not.
 """
 
 import argparse
 import os
 import pathlib
+import signal
 import subprocess
 import sys
 import tempfile
 
 import refusing
 
+# What the shim leaves out of a right program, by the number that it is told.
+LEFT_OUT = {1: "no sync of the store is made", 2: "no sync of the folder is made"}
 KINDS = ["nothing done", "half a write", "half a write told, or interrupted", "full"]
+
+
+def is_found(words, library, folder, left_out):
+    """Whether the shim ends a program that leaves out syncs."""
+    runner = refusing.Runner(words.program, refusing.CREATED, library, folder, words.seconds)
+    status = runner.run({"LEAVE": left_out}, "FAIL").status
+    print(f"| {refusing.CREATED.name} | {LEFT_OUT[left_out]} | ended by the shim: {status == -signal.SIGABRT} |")
+    return status == -signal.SIGABRT
 
 
 def fail(words, folder):
     """Prints the table, and gives how many of its lines are right, and how many are not."""
     library = refusing.compiled("faults", folder)
-    right = wrong = 0
     print(refusing.HEAD)
+    found = [is_found(words, library, folder, number) for number in LEFT_OUT]
+    right, wrong = sum(found), len(found) - sum(found)
     for scenario in (refusing.CREATED, refusing.OPENED):
         runner = refusing.Runner(words.program, scenario, library, folder, words.seconds)
         runner.count_early("FAIL")
@@ -55,40 +69,40 @@ def fail(words, folder):
     return right, wrong
 
 
-# A writer that goes on behind each call that fails, and prints those.
+# A writer that syncs its folder, goes on behind each other call that fails, and prints those.
 CALLS = """
 import os, sys
 def told(call, *words):
     try:
-        return call(*words)
+        return call(*words) or True
     except OSError:
         print(call.__name__)
 file = told(os.open, sys.argv[1], os.O_RDWR | os.O_CREAT)
-if file is not None:
+folder = os.open(os.path.dirname(sys.argv[1]), os.O_RDONLY)
+if file and told(os.fsync, folder):
     told(os.pwrite, file, b"four", 0)
     told(os.fdatasync, file)
     told(os.pwrite, file, b"less", 3)
     told(os.fdatasync, file)
-    told(os.fsync, os.open(os.path.dirname(sys.argv[1]), os.O_RDONLY))
 """
 # The number of the call that fails and how, what fails for the writer, and what it leaves.
 LEFT = [
     (0, 0, "", b"fouless"),
     (1, 0, "open", None),
-    (2, 0, "pwrite", bytes(3) + b"less"),
-    (2, 1, "pwrite", b"fo" + bytes(1) + b"less"),
-    (2, 2, "", b"fo" + bytes(1) + b"less"),
-    (3, 0, "fdatasync", bytes(3) + b"less"),
-    (3, 1, "fdatasync", b"fo" + bytes(1) + b"less"),
+    (3, 0, "fsync", None),
     (3, 2, "", b"fouless"),
-    (4, 0, "pwrite", b"four"),
-    (4, 1, "pwrite", b"foule"),
-    (5, 0, "fdatasync", b"four"),
-    (5, 1, "fdatasync", b"foule" + bytes(2)),
+    (4, 0, "pwrite", bytes(3) + b"less"),
+    (4, 1, "pwrite", b"fo" + bytes(1) + b"less"),
+    (4, 2, "", b"fo" + bytes(1) + b"less"),
+    (5, 0, "fdatasync", bytes(3) + b"less"),
+    (5, 1, "fdatasync", b"fo" + bytes(1) + b"less"),
     (5, 2, "", b"fouless"),
-    (5, 3, "fdatasync", b"four"),
-    (7, 0, "fsync", None),
+    (6, 0, "pwrite", b"four"),
+    (6, 1, "pwrite", b"foule"),
+    (7, 0, "fdatasync", b"four"),
+    (7, 1, "fdatasync", b"foule" + bytes(2)),
     (7, 2, "", b"fouless"),
+    (7, 3, "fdatasync", b"four"),
     (8, 0, "", b"fouless"),
 ]
 

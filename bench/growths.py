@@ -15,7 +15,8 @@ history, no older than what was told durable, with right tiles, and be opened by
 row met no refusal. --step N refuses only each Nth growth in turn, and ends 20 behind the most of three plain runs,
 whatever the last runs met. --every also tries each growth refused together with every second, third and hundredth
 behind it: there 40 may be told any number of times, and a run may be without end, as what asks again for memory is
-refused again and again, and is ended then and counted. Prints a table and, at last, how many of its lines are right;
+refused again and again, and is ended then and counted. Scripts that wait for nothing are run with all growths refused
+from each one on: these runs end. Prints a table and, at last, how many of its lines are right;
 ends with status 1 where one is not. Threads draw their order anew in each run, so two tables may differ.
 
 A program that takes its memory by calls that can't be counted so (built static, or with an allocator of its own) is
@@ -49,12 +50,19 @@ def tables(runner, calls, step, every):
         yield f"and each {each} behind", table
 
 
+def from_each_on(runner, calls):
+    """The table of runs of a scenario in which memory never comes back from a growth on. They end by themselves."""
+    settings = [{"FIRST": number, "EACH": 1} for number in range(1, calls + refusing.MARGIN)]
+    yield "one growth, and all behind", refusing.run_all(runner, "REFUSE", settings, many_growths)
+
+
 def refuse(words, folder):
     """Prints the table, and gives how many of its lines are right, and how many are not."""
     library = refusing.compiled("growths", folder)
     right = wrong = 0
     print(refusing.HEAD)
-    for scenario in (refusing.MEMORY, refusing.CREATED, refusing.OPENED):
+    waiting = (refusing.MEMORY, refusing.CREATED, refusing.OPENED)
+    for scenario in (*waiting, refusing.QUIET_MEMORY, refusing.QUIET_CREATED):
         runner = refusing.Runner(words.program, scenario, library, folder, words.seconds)
         runner.count_early("REFUSE")
         plain = [runner.run({}, "REFUSE") for _ in range(3)]
@@ -63,7 +71,9 @@ def refuse(words, folder):
         if faults or not calls:
             print(f"{scenario.name}: with nothing refused: {faults or 'no growth was counted: is the program static?'}")
             return right, wrong + 1
-        for which, table in tables(runner, calls, words.step, words.every):
+        is_waiting = scenario in waiting
+        found = tables(runner, calls, words.step, words.every) if is_waiting else from_each_on(runner, calls)
+        for which, table in found:
             refusing.print_table(runner, which, calls, table)
             right += not table.wrong
             wrong += bool(table.wrong)

@@ -64,6 +64,10 @@ class Scenario:
 MEMORY = Scenario("one script in memory", [WORDS], 1, None)
 CREATED = Scenario("two scripts, a new store", [FIRST, SECOND], 2)
 OPENED = Scenario("one script, a store opened", [AFTER], 2, BEFORE)
+# Scripts that wait for nothing: runs that end, though memory never comes back.
+QUIET = [[f"PUT A {SQUARE}", "DEFINE I = A", "LOCATE I 2 2", "LAYERS"], [f"PUT B {OTHER}", "GRID B 4 4 2 4 4"]]
+QUIET_MEMORY = Scenario("one script that waits for nothing", QUIET[:1], 1, None)
+QUIET_CREATED = Scenario("two of them, a new store", QUIET, 2)
 
 
 def compiled(name, folder):
