@@ -20,7 +20,7 @@ use Rattle.overlay_engine.specs.Covers.{version_of, IsStored, Covered, AtRest, I
 use Rattle.overlay_engine.specs.Laws.{OpenedRecovers, OpeningIsCovered, BegunCovers}
 use Rattle.overlay_engine.proofs.Covering.{covered_less, covers_leaves}
 
-same_held : (file : List ℕ) (x y : Held) → reading file ≡ Ok x → reading file ≡ Ok y → x ≡ y
+pub same_held : (file : List ℕ) (x y : Held) → reading file ≡ Ok x → reading file ≡ Ok y → x ≡ y
 same_held file x y a b = cc
 
 -- the image of a version with right tiles has right tiles

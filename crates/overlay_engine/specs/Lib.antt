@@ -6,6 +6,7 @@ pub mod Devices
 pub mod Laws
 pub mod Lives
 pub mod NewEngine
+pub mod OldFile
 pub mod Recovery
 pub mod Runs
 pub mod Start

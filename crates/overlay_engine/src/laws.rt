@@ -2,6 +2,7 @@
 ghost use Rattle.overlay_engine.specs.Counting.{CommitCalls, CommitCounts, CommitLeaves, CommitTells, DeviceRefusals};
 ghost use Rattle.overlay_engine.specs.Laws.{BegunCovers, CoveredRests, CoveredStays, EventsCover, OpenedRecovers, OpeningIsCovered};
 ghost use Rattle.overlay_engine.specs.Lives.{NothingIsLost};
+ghost use Rattle.overlay_engine.specs.OldFile.{OldFileIsCovered};
 ghost use Rattle.overlay_engine.specs.Recovery.{RecoveredAnswers};
 ghost use Rattle.overlay_engine.specs.Start.{Start};
 ghost use Rattle.overlay_engine.specs.Telling.{CrashKeepsTold, DurableIsTold, JobsAreNumbered};
@@ -31,6 +32,11 @@ pub fn opened_recovers<D: Disk>()
 /// While a file is opened, a crash leaves what was covered before.
 pub fn opening_is_covered<D: Disk>()
     ensures { OpeningIsCovered D.Disk }
+{}
+
+/// A file of the old format is covered from what it stands for on.
+pub fn old_file_is_covered()
+    ensures { OldFileIsCovered }
 {}
 
 /// A commit of the present version that begins leaves the store covering the same batches.

@@ -2,6 +2,7 @@
 ghost use Rattle.std.specs.Prelude.{◌≡◌, ◌↔◌, [], ◌++◌, ℕ, List, Ok, IfOk, IfErr, MatchResult};
 ghost use Rattle.disk_model.specs.Moments.{Leaves};
 ghost use Rattle.overlay_terms.specs.Batches.{Batch};
+ghost use Rattle.overlay_terms.specs.Layers.{Layer};
 ghost use Rattle.store_terms.specs.Image.{Held};
 ghost use Rattle.store_terms.specs.StandsFor.{reading};
 ghost use Rattle.record_writing.specs.ImageHeld.{image_held};
@@ -11,6 +12,7 @@ ghost use Rattle.root_store.specs.Running.{KeepsTo};
 ghost use Rattle.overlay_engine.specs.Start.{Start};
 ghost use Rattle.overlay_engine.specs.Covers.{version_of, Covered};
 ghost use Rattle.overlay_engine.specs.NewEngine.{IsNewEngine};
+ghost use Rattle.overlay_engine.specs.OldFile.{IsOldFile, start_at, OldRecovered};
 ghost use Rattle.overlay_engine.specs.Recovery.{Recovered, Refused};
 ghost use Rattle.overlay_engine.specs.Runs.{Made, EachSurvives, CrashesIn, accepted_in};
 
@@ -42,6 +44,11 @@ impl<D: Disk> Engine<D> {
             → EachSurvives D.Disk start batches run → (crash : CrashesIn D.Disk run disk)
             → MatchResult result (λ e. Recovered D.Disk start disk e crash.made.old.version.durable (batches ++ accepted_in crash.before))
             (λ refused. Refused D.Disk start disk refused crash.made.old.version.durable (batches ++ accepted_in crash.before)) }
+        // Of a file of the old format the version is what it stands for, with no finished tile, and the engine covers it
+        // from there on; it is refused only for the device or for memory, and what is left recovers as well.
+        ensures old { D.is_honest disk → (number : ℕ) (layers : List Layer) → Leaves D.Disk disk (IsOldFile number layers)
+            → MatchResult result (λ e. OldRecovered D.Disk number layers disk e)
+            (λ refused. Refused D.Disk (start_at number layers) disk refused number []) }
         // Of any file the version is what it stands for, or the fault is what is wrong with it.
         ensures gives { D.is_honest disk → MatchResult result (λ e. (x : Held) × (reading (D.seen disk) ≡ Ok x) × (e.version ≡ version_of x))
             (λ refused. Tells refused.fault (reading (D.seen disk))) }

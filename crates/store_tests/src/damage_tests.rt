@@ -24,9 +24,12 @@ const CASES: &[Case] = &[
     // Another magic, in either slot.
     (16, b"X", 32, 0),
     (SLOT + 23, b"X", 32, 0),
-    // Another format.
+    // Another format; the old one in the older root, which is not looked at further, and over a catalog of the present one.
+    (27, &[0], 33, 1),
     (27, &[3], 33, 1),
     (SLOT + 24, &[1], 33, 1),
+    (27, &[1], 0, 0),
+    (SLOT + 27, &[1], 33, 4),
     // A sequence above 2^62, one of the other slot, and a version above 2^62.
     (28, &[64, 0, 0, 0, 0, 0, 0, 2], 33, 2),
     (35, &[1], 33, 2),

@@ -1,4 +1,4 @@
-use Rattle.std.proofs.Common.{◌++◌, sym, ◌∙◌, ap, subst}
+use Rattle.std.proofs.Common.{[], ◌++◌, sym, ◌∙◌, ap, subst}
 use Rattle.commit_plan.specs.declared.fault.StoreFault.TheVariants.{OutOfMemory}
 use Rattle.overlay_terms.specs.Histories.{Version}
 use Rattle.flush_core.specs.declared.flusher.Flusher.{Flusher}
@@ -6,9 +6,11 @@ use Rattle.record_writing.specs.ImageHeld.{image_held}
 use Rattle.disk_model.specs.Moments.{Leaves}
 use Rattle.root_store.specs.Opening.{Writes, IsCompleted}
 use Rattle.overlay_engine.specs.Recovery.{Refused}
+use Rattle.overlay_engine.specs.OldFile.{start_at}
 use Rattle.overlay_engine.specs.Runs.{accepted_in}
 use Rattle.overlay_engine.proofs.Running.{crash_covered}
 use Rattle.overlay_engine.proofs.Opened.{recovered_with, rests_as, refused_as, given_up, writes_of, root_read}
+use Rattle.overlay_engine.proofs.OldFiles.{old_file_is_covered, old_recovered}
 use Rattle.overlay_engine.proofs.engine.Engine.recover.Goals as goal
 
 pub returns-in-Ok-restored-clause-ok : goal.returns-in-Ok-restored-clause-ok
@@ -83,3 +85,18 @@ returns-in-Err-restored-clause-untouched g c honest damage is = absurd (cc is)
 pub returns-in-Err-restored-clause-memory : goal.returns-in-Err-restored-clause-memory
 returns-in-Err-restored-clause-memory g c honest memory =
     root_read (g.D.Disk.seen c.args.disk) (image_held c.in-Ok.opened.1) (c.in-Ok.ensures.gives honest)
+
+pub returns-in-Ok-restored-clause-old : goal.returns-in-Ok-restored-clause-old
+returns-in-Ok-restored-clause-old g c honest number layers all =
+    old_recovered g.D.Disk number layers c.args.disk
+    (record { version = c.in-Ok-restored.version; flusher = c.new.result; jobs = c.new-in-Ok-restored.result; next_job = 0 })
+    (image_held c.in-Ok.opened.1) all (g.met.D.Disk.seen_may_stay c.args.disk honest) (c.in-Ok.ensures.gives honest) c.in-Ok-restored.ensures
+    (returns-in-Ok-restored-clause-ok g c honest (start_at number layers) number [] (λ file left. old_file_is_covered number layers file (all file left)))
+
+pub returns-in-Err-restored-clause-old : goal.returns-in-Err-restored-clause-old
+returns-in-Err-restored-clause-old g c honest number layers all =
+    returns-in-Err-restored-clause-err g c honest (start_at number layers) number [] (λ file left. old_file_is_covered number layers file (all file left))
+
+pub returns-in-Err-clause-old : goal.returns-in-Err-clause-old
+returns-in-Err-clause-old g c honest number layers all =
+    returns-in-Err-clause-err g c honest (start_at number layers) number [] (λ file left. old_file_is_covered number layers file (all file left))
