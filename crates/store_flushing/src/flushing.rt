@@ -11,7 +11,7 @@ use disk_model::disk::Disk;
 use root_store::phase::Progress;
 use std::alloc::Global;
 use std::sync::Wait;
-use std::thread;
+use version_book::resting::rest;
 use version_book::seen_log::Naming;
 use version_book::shared::Shared;
 use version_core::version::Version;
@@ -69,7 +69,7 @@ fn round<J: Naming, R: Wait + Drop, D: Disk, W: Wait>(
         Ok(Some(version)) => commit(rt, alloc, shared, keeper, &version),
         Ok(None) => false,
         Err(_) => {
-            thread::yield_now();
+            rest(rt);
             true
         }
     }

@@ -8,13 +8,13 @@ ghost use Rattle.store_flushing.specs.Telling.{told_of};
 use commit_plan::fault::StoreFault;
 use std::alloc::Global;
 use std::sync::Wait;
-use std::thread;
 use version_book::fault::ToldFault as Told;
 use version_book::reporter::Reporter;
+use version_book::resting::rest;
 use version_book::seen_log::Naming;
 use version_book::shared::Shared;
 
-/// Reports a number, and tries again where there is no memory.
+/// Reports a number. Where there is no memory for that, it sleeps a moment and tries again.
 pub(crate) fn report<J: Naming, R: Wait + Drop, W: Wait>(
     rt: &W,
     alloc: Global,
@@ -37,7 +37,7 @@ pub(crate) fn report<J: Naming, R: Wait + Drop, W: Wait>(
     'tries: for _ in rt.forever() {
         match shared.report(rt, alloc, me, number) {
             Ok(_) => return,
-            Err(_) => thread::yield_now(),
+            Err(_) => rest(rt),
         }
     }
     unreachable!()

@@ -4,14 +4,14 @@ ghost use Rattle.std.specs.Prelude.{◌≡◌};
 use crate::gate::Gate;
 use std::alloc::Global;
 use std::sync::Wait;
-use std::thread;
 use tile_build::built::Built;
 use version_book::job::Job;
+use version_book::resting::rest;
 use version_book::seen_log::Naming;
 use version_book::shared::Shared;
 
-/// Builds tiles until the book closes. Where a tile is not handed out for want of memory (40), it asks again; where
-/// memory runs out later, it gives the tile back.
+/// Builds tiles until the book closes. Where a tile is not handed out for want of memory (40), it sleeps a moment
+/// and asks again; where memory runs out later, it gives the tile back.
 // It has no clause on what it built, as nothing of what lies under the lock can be said once that is given up. But each
 // job is spent, as it is no value that may be dropped, and only with a tile that is built of the job's own input.
 pub fn worker_loop<J: Naming, R: Wait + Drop, G: Gate, W: Wait>(
@@ -24,7 +24,7 @@ pub fn worker_loop<J: Naming, R: Wait + Drop, G: Gate, W: Wait>(
         match shared.take_job(rt, alloc) {
             Ok(Some(job)) => work(rt, alloc, gate, shared, job),
             Ok(None) => return,
-            Err(_) => thread::yield_now(),
+            Err(_) => rest(rt),
         }
     }
     unreachable!()

@@ -1,6 +1,7 @@
 -- A tile that can be handed out, and one that is: what it is to be built from.
 use Rattle.std.specs.Prelude.{◌≡◌, Bool, List, false, refl}
 use Rattle.std.specs.Coded.{Coded, code_by, coded_list, coded×}
+use mathlib.Core.List.{IsPrefix}
 use Rattle.logbook.specs.Pages.{Book, book_coded}
 use Rattle.overlay_terms.specs.Histories.{Entry, Tile, Version}
 use Rattle.overlay_terms.specs.InputCode.{input_code}
@@ -27,10 +28,11 @@ pub record IsJob (job : Handed) : Type 0 where
   pub pending : IsPending (newest_in job.log) job.name job.input.column
   pub present : job.input ≡ input_of (newest_in job.log).layers job.name job.input.column
 
--- a job was spent with a tile: where it was awaited it stands last now; where not, it is not in the log's last version,
--- and the log stayed as it was
+-- a job was spent with a tile, at a log that goes on from that of the job: where the tile was awaited there, it stands
+-- last now; where not, it is not in that log's last version, and the log stayed as it was
 pub record IsFinishedBy (job : Handed) (tile : Tile) (is_kept : Bool) (after : List Entry) : Type 0 where
   pub log : List Entry
+  pub goes_on : IsPrefix job.log log
   pub finished : IsFinishedIn log job.name job.input tile is_kept after
 
 -- a job as data that a model's value may hold

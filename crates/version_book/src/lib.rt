@@ -1,11 +1,11 @@
 //! Published versions: the book that threads share, its sessions, its reporter and its jobs.
 #![tactic(auto)]
 
-pub mod crossing;
 mod held_tiles;
 mod locked_book;
 mod pending;
 pub mod reporter;
+pub mod sending;
 pub mod shared;
 mod standing;
 mod turns;
@@ -23,6 +23,11 @@ pub mod job {
 /// Why a call on the book is refused.
 pub mod fault {
     pub use book_history::fault::{BookFault, ToldFault};
+}
+
+/// What a thread does that was refused memory, before it asks again.
+pub mod resting {
+    pub use book_history::resting::rest;
 }
 
 /// A session: what it has seen and made.

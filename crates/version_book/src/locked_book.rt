@@ -13,6 +13,7 @@ use crate::standing::Standing;
 use book_history::fault::BookFault;
 use book_history::seen_log::{Naming, SeenLog};
 use book_lock::locked_log::LockedLog;
+use book_lock::room::Room;
 use book_lock::session::Session;
 use layer_book::batch::Batch;
 use layer_book::batch_fault::BatchFault;
@@ -31,17 +32,21 @@ pub mod telling;
 pub struct LockedBook<J: Naming, R: Wait + Drop> {
     log: LockedLog<J, R>,
     standing: Standing,
-    /// Where the layer stood whose tile was handed out last: there the next one is looked for first.
-    near: usize,
+    /// Where the layer stood whose tile was handed out last, and the tile's column by its number: there the next one is looked for
+    /// first.
+    near: (usize, u8),
+    /// Memory for the next report: what is stored can be told where there is none any more.
+    room: Room,
 }
 
 impl<J: Naming, R: Wait + Drop> LockedBook<J, R> {
     /// A book that begins with a log.
-    pub fn new(log: LockedLog<J, R>, standing: Standing) -> LockedBook<J, R> {
+    pub fn new(alloc: Global, log: LockedLog<J, R>) -> LockedBook<J, R> {
         LockedBook {
             log,
-            standing,
-            near: 0,
+            standing: Standing::new(alloc),
+            near: (0, 0),
+            room: Room::new(alloc),
         }
     }
 
@@ -116,7 +121,8 @@ impl<J: Naming, R: Wait + Drop> LockedBook<J, R> {
     }
 
     /// Spends a job: keeps the tile that was built of its input where it is awaited, and says whether it was, by one
-    /// entry or none. The tile is not handed out any more. Where that cannot be written down, both come back.
+    /// entry or none. The tile is not handed out any more. Where that cannot be written down, or the log does not go on from
+    /// that at which the tile was handed out, both come back.
     pub fn finish(
         &mut self,
         alloc: Global,
@@ -125,6 +131,7 @@ impl<J: Naming, R: Wait + Drop> LockedBook<J, R> {
     ) -> Result<bool, (Job, Built, BookFault)>
         requires book { job.book ≡ J.book }
         requires input { built.0 ≡ job.input }
+        ensures goes_on { IfOk result (λ _. IsPrefix job.log self.old.log) }
         ensures log { IfOk result
             (λ is_kept. IsFinishedIn self.old.log job.name job.input built.1 is_kept self.new.log) }
         ensures standing { IfOk result
@@ -134,6 +141,9 @@ impl<J: Naming, R: Wait + Drop> LockedBook<J, R> {
             × (self.new.standing ≡ self.old.standing)) }
         ensures refused { IfErr result (λ e. (e.2 ≡ no_memory) ⊎ (e.2 ≡ BookFault.Gone)) }
     {
+        if !self.log.has(job.seen_log()) {
+            return Err((job, built, BookFault::Gone));
+        }
         let kept = match self.log.keep(alloc, job.name(), &built) {
             Ok(kept) => kept,
             Err(fault) => return Err((job, built, fault)),

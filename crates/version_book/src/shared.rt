@@ -22,7 +22,6 @@ use crate::locked_book::telling::{
     Awaited, report, store_failed, tell_built, tell_durable, tell_news, tell_no_store,
 };
 use crate::reporter::Reporter;
-use crate::standing::Standing;
 use crate::turns::{TurnKind, Turns};
 use book_history::fault::{BookFault, ToldFault};
 use book_history::seen_log::{Head, Naming, SeenLog};
@@ -68,7 +67,7 @@ impl<J: Naming, R: Wait + Drop> Shared<J, R> {
         let reporter = Reporter::new(seen_log.again(), version.durable());
         let (log, list) = LockedLog::open(rt, alloc, head, seen_log, version, sessions)?;
         let shared = Shared {
-            turns: Turns::new(LockedBook::new(log, Standing::new(alloc))),
+            turns: Turns::new(LockedBook::new(alloc, log)),
             store,
         };
         Ok((shared, reporter, list))
@@ -143,7 +142,9 @@ impl<J: Naming, R: Wait + Drop> Shared<J, R> {
     }
 
     /// Spends a job with the tile that was built of its input. It says whether the tile was kept, with the log behind
-    /// it, where the tile stands last then. Where that cannot be written down, for want of memory, both come back.
+    /// it, where the tile stands last then; where it was not, that log is the one in which it was not awaited. It goes on
+    /// from the log at which the tile was handed out. Where that cannot be written down, for want of memory, both come
+    /// back.
     pub fn finish<W: Wait>(
         &self,
         rt: &W,

@@ -214,6 +214,29 @@ fn a_report_a_fault_and_closing_each_end_a_wait(rt: HostRuntime) {
     play(&rt, rt.alloc(), true, ENDED, 3);
 }
 
+const TOLD: &[&[Row]] = &[&[
+    Row::Calls(PUT_A, Ok(Some(1))),
+    Row::Calls(Call::StoreFailed(ToldFault::SequenceLimit), Ok(None)),
+    Row::Calls(
+        Call::WaitDurable,
+        Err(BookFault::Store(ToldFault::SequenceLimit)),
+    ),
+    Row::Calls(PUT_A, Ok(Some(2))),
+    Row::Calls(Call::StoreFailed(ToldFault::OutOfMemory), Ok(None)),
+    Row::Calls(
+        Call::WaitDurable,
+        Err(BookFault::Store(ToldFault::OutOfMemory)),
+    ),
+    Row::Calls(PUT_A, Ok(Some(3))),
+    Row::Calls(Call::StoreFailed(ToldFault::Failed), Ok(None)),
+    Row::Calls(Call::WaitDurable, Err(BookFault::Store(ToldFault::Failed))),
+]];
+
+#[test]
+fn a_fault_of_the_store_is_told_as_it_is(rt: HostRuntime) {
+    play(&rt, rt.alloc(), true, TOLD, 3);
+}
+
 const NEWS: &[&[Row]] = &[
     OVERLAP,
     &[

@@ -51,6 +51,7 @@ pub(crate) fn into_closed<J: Naming, R: Wait + Drop>(locked: LockedBook<J, R>) -
         log,
         standing: _standing,
         near: _,
+        room: _room,
     } = locked;
     log.into_closed()
 }

@@ -13,6 +13,7 @@ use crate::locked_book::LockedBook;
 use crate::reporter::Reporter;
 use book_history::fault::{BookFault, NO_MEMORY, ToldFault};
 use book_history::seen_log::Naming;
+use book_lock::room::Room;
 use book_lock::session::Session;
 use layer_expr::name::Name;
 use std::alloc::Global;
@@ -182,7 +183,8 @@ pub(crate) fn tell_news<J: Naming, R: Wait + Drop>(
     Ok(Some(version))
 }
 
-/// Reports a number durable: one entry, or none. It answers the durable number then.
+/// Reports a number durable: one entry, or none. It answers the durable number then. Memory for the next report is taken
+/// ahead, where there is some.
 pub(crate) fn report<J: Naming, R: Wait + Drop>(
     locked: &mut LockedBook<J, R>,
     alloc: Global,
@@ -206,8 +208,9 @@ pub(crate) fn report<J: Naming, R: Wait + Drop>(
     if !me.is_level(&last.seen_log, last.version.durable()) {
         return Err(BookFault::Gone);
     }
-    let durable = locked.log.report(alloc, number)?;
+    let durable = locked.log.report(alloc, &mut locked.room, number)?;
     me.move_on(&locked.log.last().seen_log, durable, given);
+    locked.room = Room::new(alloc);
     Ok(durable)
 }
 
