@@ -40,19 +40,34 @@ class Browser:
 
     def __init__(self, folder: pathlib.Path) -> None:
         (to_in, to_out), (from_in, from_out) = os.pipe(), os.pipe()
-        words = ["chromium", "--headless=new", "--no-sandbox", "--disable-gpu", "--hide-scrollbars", "--force-color-profile=srgb",
-                 f"--user-data-dir={folder}/profile", f"--window-size={SIZE[0]},{SIZE[1]}", "--remote-debugging-pipe", "about:blank"]
+        words = [
+            "chromium",
+            "--headless=new",
+            "--no-sandbox",
+            "--disable-gpu",
+            "--hide-scrollbars",
+            "--force-color-profile=srgb",
+            f"--user-data-dir={folder}/profile",
+            f"--window-size={SIZE[0]},{SIZE[1]}",
+            "--remote-debugging-pipe",
+            "about:blank",
+        ]
         # The shell gives the pipe the descriptors that chromium looks at.
         shell = ["sh", "-c", f'exec 3<&{to_in} 4>&{from_out}; exec "$@"', "sh", *words]
         self.run = subprocess.Popen(shell, pass_fds=(to_in, from_out), stderr=subprocess.DEVNULL)
         os.close(to_in), os.close(from_out)
-        self.to, self.back, self.rest, self.count, self.session = to_out, from_in, b"", 0, ""
+        self.to, self.back, self.rest, self.count, self.session, self.target = to_out, from_in, b"", 0, "", ""
         self.faults: list[str] = []
         self.asked: list[str] = []
 
     def call(self, method: str, **words: object) -> dict[str, Any]:
         self.count += 1
-        told = {"id": self.count, "method": method, "params": words, **({"sessionId": self.session} if self.session else {})}
+        told = {
+            "id": self.count,
+            "method": method,
+            "params": words,
+            **({"sessionId": self.session} if self.session else {}),
+        }
         os.write(self.to, json.dumps(told).encode() + b"\0")
         while True:
             value = self.next()
@@ -79,11 +94,16 @@ class Browser:
         return value
 
     def open(self, address: str) -> None:
-        target = self.call("Target.createTarget", url="about:blank")["targetId"]
-        self.session = self.call("Target.attachToTarget", targetId=target, flatten=True)["sessionId"]
+        if self.target:
+            self.session = ""
+            self.call("Target.closeTarget", targetId=self.target)
+        self.target = self.call("Target.createTarget", url="about:blank")["targetId"]
+        self.session = self.call("Target.attachToTarget", targetId=self.target, flatten=True)["sessionId"]
         for part in ("Runtime", "Page", "Log", "Network"):
             self.call(f"{part}.enable")
-        self.call("Emulation.setDeviceMetricsOverride", width=SIZE[0], height=SIZE[1], deviceScaleFactor=1, mobile=False)
+        self.call(
+            "Emulation.setDeviceMetricsOverride", width=SIZE[0], height=SIZE[1], deviceScaleFactor=1, mobile=False
+        )
         self.call("Page.navigate", url=address)
 
     def value(self, text: str) -> Any:
@@ -92,11 +112,13 @@ class Browser:
             raise RuntimeError(f"{text}: {found['exceptionDetails']}")
         return found["result"].get("value")
 
-    def until(self, text: str, seconds: float = 30) -> None:
+    def until(self, text: str, seconds: float = 120) -> None:
         end = time.monotonic() + seconds
         while not self.value(text):
             if time.monotonic() > end:
-                raise AssertionError(f"not within {seconds} s: {text}; told: {self.value('document.body.innerText')}; {self.faults}")
+                raise AssertionError(
+                    f"not within {seconds} s: {text}; told: {self.value('document.body.innerText')}; {self.faults}"
+                )
             time.sleep(0.05)
 
     def picture(self) -> bytes:
@@ -104,7 +126,14 @@ class Browser:
 
     def click(self, x: float, y: float) -> None:
         for kind in ("mouseMoved", "mousePressed", "mouseReleased"):
-            self.call("Input.dispatchMouseEvent", type=kind, x=x, y=y, button="none" if kind == "mouseMoved" else "left", clickCount=1)
+            self.call(
+                "Input.dispatchMouseEvent",
+                type=kind,
+                x=x,
+                y=y,
+                button="none" if kind == "mouseMoved" else "left",
+                clickCount=1,
+            )
 
     def end(self) -> None:
         self.run.terminate()
@@ -123,8 +152,8 @@ class Picture:
     def __init__(self, data: bytes) -> None:
         parts, at = {b"IDAT": b""}, 8
         while at < len(data):
-            (length,), kind = struct.unpack(">I", data[at:at + 4]), data[at + 4:at + 8]
-            parts[kind] = parts.get(kind, b"") + data[at + 8:at + 8 + length]
+            (length,), kind = struct.unpack(">I", data[at : at + 4]), data[at + 4 : at + 8]
+            parts[kind] = parts.get(kind, b"") + data[at + 8 : at + 8 + length]
             at += 12 + length
         self.width, self.height, bits, colour = struct.unpack(">IIBB", parts[b"IHDR"][:10])
         assert bits == 8 and colour in (2, 6), "a picture of another form"
@@ -135,7 +164,7 @@ class Picture:
         size, found = self.width * self.channels, [bytearray(self.width * self.channels)]
         for y in range(self.height):
             begin = y * (size + 1)
-            found.append(self._unfiltered(raw[begin], bytearray(raw[begin + 1:begin + 1 + size]), found[-1]))
+            found.append(self._unfiltered(raw[begin], bytearray(raw[begin + 1 : begin + 1 + size]), found[-1]))
         return found[1:]
 
     def _unfiltered(self, kind: int, row: bytearray, above: bytearray) -> bytearray:
@@ -146,13 +175,13 @@ class Picture:
         return row
 
     def at(self, x: int, y: int) -> tuple[int, int, int]:
-        red, green, blue = self.rows[y][x * self.channels:x * self.channels + 3]
+        red, green, blue = self.rows[y][x * self.channels : x * self.channels + 3]
         return red, green, blue
 
 
 def over(below: tuple[float, ...], colour: str, opacity: float) -> tuple[float, ...]:
     """A colour `#rrggbb` laid over another."""
-    parts = [int(colour[i:i + 2], 16) for i in (1, 3, 5)]
+    parts = [int(colour[i : i + 2], 16) for i in (1, 3, 5)]
     return tuple(opacity * part + (1 - opacity) * under for part, under in zip(parts, below))
 
 
@@ -162,7 +191,12 @@ POINTS = """(() => { const {map} = overlayPage.plot, size = map.getSize(), found
     const places = [[0, 0], [-4, -4], [4, -4], [-4, 4], [4, 4]].map(([i, j]) => {
       const at = map.containerPointToLatLng([x + .5 + i, y + .5 + j]); return [at.lng, at.lat]; });
     found.push([x, y, places]); }
-  return found; })()""" % (STEP // 2, STEP, STEP // 2, STEP)
+  return found; })()""" % (
+    STEP // 2,
+    STEP,
+    STEP // 2,
+    STEP,
+)
 LAYERS = """[...overlayPage.layers].map(layer => [layer.id, overlayPage.plot.drawn.get(layer.id)])
   .filter(([name]) => !overlayPage.plot.hidden.has(name))
   .sort(([, a], [, b]) => a.derived - b.derived).map(([name, {shape}]) => [name, shape.options.color, shape.options.fillOpacity])"""
@@ -179,7 +213,11 @@ def compared(browser: Browser, address: str, tries: Tries, what: str) -> None:
     browser.value(BARE % "")
     same, different, near, kinds = 0, [], 0, set()
     for x, y, places in browser.value(POINTS):
-        told = [asked(f"{address}locate?x={lng}&y={lat}")["places"] for lng, lat in places if left < lng < right and low < lat < high]
+        told = [
+            asked(f"{address}locate?x={lng}&y={lat}")["places"]
+            for lng, lat in places
+            if left < lng < right and low < lat < high
+        ]
         if len(told) < 5 or any(one != told[0] for one in told) or "edge" in told[0].values():
             near += 1
             continue
@@ -193,18 +231,24 @@ def compared(browser: Browser, address: str, tries: Tries, what: str) -> None:
             different.append((x, y, told[0], picture.at(x, y), colour))
     for one in different[:5]:
         print(one)
-    tries.that(not different and same > 300 and len(kinds) > 2,
-               f"{what}: of {same + len(different) + near} points {same} have the colour of LOCATE's answer, "
-               f"{len(different)} another, {near} are too near to an edge; {len(kinds)} answers occur")
+    tries.that(
+        not different and same > 300 and len(kinds) > 2,
+        f"{what}: of {same + len(different) + near} points {same} have the colour of LOCATE's answer, "
+        f"{len(different)} another, {near} are too near to an edge; {len(kinds)} answers occur",
+    )
 
 
-READY = ("globalThis.overlayPage !== undefined && document.body.dataset.ready === 'yes' && overlayPage.layers.length > 0 && "
-         "overlayPage.plot.drawn.size === overlayPage.layers.length")
+READY = (
+    "globalThis.overlayPage !== undefined && document.body.dataset.ready === 'yes' && overlayPage.layers.length > 0 && "
+    "overlayPage.plot.drawn.size === overlayPage.layers.length"
+)
 
 
 def define(browser: Browser, name: str, text: str) -> None:
-    browser.value(f"(() => {{ const form = document.getElementById('define'); form.elements.id.value = {json.dumps(name)}; "
-                  f"form.elements.definition.value = {json.dumps(text)}; form.requestSubmit(); }})()")
+    browser.value(
+        f"(() => {{ const form = document.getElementById('define'); form.elements.id.value = {json.dumps(name)}; "
+        f"form.elements.definition.value = {json.dumps(text)}; form.requestSubmit(); }})()"
+    )
 
 
 def told(browser: Browser, part: str) -> str:
@@ -212,21 +256,28 @@ def told(browser: Browser, part: str) -> str:
 
 
 def ask_point(browser: Browser, x: str, y: str) -> None:
-    browser.value(f"(() => {{ const form = document.getElementById('asking'); form.elements.x.value = {json.dumps(x)}; "
-                  f"form.elements.y.value = {json.dumps(y)}; form.requestSubmit(); }})()")
+    browser.value(
+        f"(() => {{ const form = document.getElementById('asking'); form.elements.x.value = {json.dumps(x)}; "
+        f"form.elements.y.value = {json.dumps(y)}; form.requestSubmit(); }})()"
+    )
 
 
 def looks(browser: Browser, address: str, pictures: pathlib.Path, tries: Tries) -> None:
     browser.open(address)
     browser.until(READY)
-    tries.that("version 1" in told(browser, "status") and "durable 1" in told(browser, "status"), "it tells the version and what is durable")
+    tries.that(
+        "version 1" in told(browser, "status") and "durable 1" in told(browser, "status"),
+        "it tells the version and what is durable",
+    )
     compared(browser, address, tries, "drawn")
 
     browser.click(460, 400)
     browser.until("document.querySelectorAll('#places tr').length === 4")
     x, y = browser.value("[...document.querySelectorAll('#asking input')].map(one => one.value)")
     right = asked(f"{address}locate?x={x}&y={y}")["places"]
-    rows = browser.value("[...document.querySelectorAll('#places tr')].map(row => [...row.cells].map(one => one.textContent))")
+    rows = browser.value(
+        "[...document.querySelectorAll('#places tr')].map(row => [...row.cells].map(one => one.textContent))"
+    )
     tries.that(dict(rows) == right and "in" in right.values(), f"a click at {x}, {y}: {right}")
     ask_point(browser, f"{189812 - 19 * 42262}/42262", f"{145589 + 65 * 100000}/100000")
     browser.until("document.querySelector('#places .edge') !== null")
@@ -237,10 +288,17 @@ def looks(browser: Browser, address: str, pictures: pathlib.Path, tries: Tries) 
 def changes(browser: Browser, address: str, pictures: pathlib.Path, tries: Tries) -> None:
     define(browser, "N", "iceland_50m - iceland_110m")
     browser.until("/N is built/.test(document.getElementById('told').textContent)")
-    cells = browser.value("[document.querySelectorAll('#columns i.built').length, document.querySelectorAll('#columns i').length]")
-    tries.that(cells[0] == cells[1] == overlay_columns(address), f"{told(browser, 'told')}; {cells[0]} of {cells[1]} cells are green")
+    cells = browser.value(
+        "[document.querySelectorAll('#columns i.built').length, document.querySelectorAll('#columns i').length]"
+    )
+    tries.that(
+        cells[0] == cells[1] == overlay_columns(address),
+        f"{told(browser, 'told')}; {cells[0]} of {cells[1]} cells are green",
+    )
     browser.until("document.getElementById('columns').hidden")
-    tries.that("version 2" in told(browser, "status") and "durable 2" in told(browser, "status"), "the new version is durable")
+    tries.that(
+        "version 2" in told(browser, "status") and "durable 2" in told(browser, "status"), "the new version is durable"
+    )
     compared(browser, address, tries, "with a layer defined")
     browser.click(520, 300)
     browser.until("document.querySelectorAll('#places tr').length === 5")
@@ -250,14 +308,20 @@ def changes(browser: Browser, address: str, pictures: pathlib.Path, tries: Tries
     compared(browser, address, tries, "with a layer hidden")
     define(browser, "M", "N - nowhere")
     browser.until("document.getElementById('told').className === 'bad'")
-    tries.that("error 10 unknown layer" in told(browser, "told"), f"a definition that is refused: {told(browser, 'told')}")
+    tries.that(
+        "error 10 unknown layer" in told(browser, "told"), f"a definition that is refused: {told(browser, 'told')}"
+    )
     browser.value("[...document.querySelectorAll('#layers button')].at(-1).click()")
-    browser.until("document.querySelectorAll('#layers li').length === 4 && /N is dropped/.test(document.getElementById('told').textContent)")
+    browser.until(
+        "document.querySelectorAll('#layers li').length === 4 && /N is dropped/.test(document.getElementById('told').textContent)"
+    )
     tries.that("version 3" in told(browser, "status"), f"dropped: {told(browser, 'told')}")
     body = json.dumps({"definition": "iceland_110m | iceland_50m"}).encode()
-    other = urllib.request.Request(f"{address}collections/either", body, {"Content-Type": "application/json"}, method="PUT")
+    other = urllib.request.Request(
+        f"{address}collections/either", body, {"Content-Type": "application/json"}, method="PUT"
+    )
     urllib.request.urlopen(other).close()
-    browser.until("overlayPage.plot.drawn.has('either')", 10)
+    browser.until("overlayPage.plot.drawn.has('either')")
     tries.that("version 4" in told(browser, "status"), "what another client defines is drawn")
 
 
@@ -277,13 +341,15 @@ def flower(x: int, y: int) -> str:
     return ring(1000, x, y, lambda turn, _: 500_000 * (1 + 0.3 * math.sin(7 * turn)))
 
 
-def plane(folder: pathlib.Path, program: str, name: str, shape: Callable[[int, int], str], *lines: str) -> pathlib.Path:
+def plane(folder: pathlib.Path, program: str, name: str, shape: Callable[[int, int], str]) -> pathlib.Path:
     """A store of three shapes that cross each other, in a plane that is nowhere on the earth."""
     store = folder / f"{name}.db"
     with web_front.overlay_client.Server(store, create=True, program=program) as server, server.session() as one:
-        puts = [one.put_line(layer, shape(x, y)) for layer, x, y in (("A", -150_000, 0), ("B", 170_000, 60_000), ("C", 0, -190_000))]
-        one.batch([*puts, *lines])
-    store.with_suffix(".scale.json").write_text(json.dumps({"title": f"Three {name}", "factor": 100, "unit": "m"}), encoding="utf-8")
+        places = (("A", -150_000, 0), ("B", 170_000, 60_000), ("C", 0, -190_000))
+        one.batch([one.put_line(layer, shape(x, y)) for layer, x, y in places])
+    store.with_suffix(".scale.json").write_text(
+        json.dumps({"title": f"Three {name}", "factor": 100, "unit": "m"}), encoding="utf-8"
+    )
     return store
 
 
@@ -294,20 +360,22 @@ HOLD = """(() => { const real = fetch; let looks = 0;
     return real(path, how); }; })()"""
 
 
-def building(browser: Browser, address: str, pictures: pathlib.Path, tries: Tries) -> None:
-    """Defines a layer of 100,000 pieces, and looks at the tiles while they are built."""
+def building(browser: Browser, address: str, picture: pathlib.Path, tries: Tries) -> None:
+    """Defines a layer, and looks at its tiles while they are built."""
     browser.open(address)
     browser.until(READY)
-    browser.value("document.querySelectorAll('#layers input').forEach(one => one.click())")
     browser.value(HOLD)
     define(browser, "D", "(A ^ B) & C")
     browser.until("globalThis.goOn !== undefined")
     cells = browser.value("[...document.querySelectorAll('#columns i')].map(one => one.className)")
-    (pictures / "building.png").write_bytes(browser.picture())
+    picture.write_bytes(browser.picture())
     browser.value("goOn()")
-    browser.until("/D is built/.test(document.getElementById('told').textContent)", 120)
-    tries.that(0 < cells.count("built") < len(cells),
-               f"while it is built {cells.count('built')} of {len(cells)} cells are green; then {told(browser, 'told')}")
+    browser.until("/D is built/.test(document.getElementById('told').textContent)")
+    tries.that(
+        0 < cells.count("built") < len(cells),
+        f"while it is built {cells.count('built')} of {len(cells)} cells are green; then {told(browser, 'told')}",
+    )
+    browser.until("document.getElementById('columns').hidden")
 
 
 def overlay_columns(address: str) -> int:
@@ -317,8 +385,13 @@ def overlay_columns(address: str) -> int:
 def read_only(browser: Browser, address: str, tries: Tries) -> None:
     browser.open(address)
     browser.until(READY)
-    shown = browser.value("[document.getElementById('defining').hidden, document.querySelectorAll('#layers button[title^=drop]').length]")
-    tries.that(shown == [True, 0] and "read only" in told(browser, "status"), f"a front that reads: {told(browser, 'status')!r}")
+    shown = browser.value(
+        "[document.getElementById('defining').hidden, document.querySelectorAll('#layers button[title^=drop]').length]"
+    )
+    tries.that(
+        shown == [True, 0] and "read only" in told(browser, "status"),
+        f"a front that reads: {told(browser, 'status')!r}",
+    )
     tries.that("version 4" in told(browser, "status"), "it tells the file's version")
 
 
@@ -340,15 +413,14 @@ def main() -> int:
             with web_front.front("--store", store, "--writable", program=words.program, python=words.python) as address:
                 looks(browser, address, pictures, tries)
                 changes(browser, address, pictures, tries)
-            stars = plane(folder, words.program, "stars", star)
-            with web_front.front("--store", stars, "--writable", "--workers", "1", program=words.program, python=words.python) as address:
-                building(browser, address, pictures, tries)
-            flowers = plane(folder, words.program, "flowers", flower, "DEFINE D = (A ^ B) & C")
-            with web_front.front("--store", flowers, "--writable", program=words.program, python=words.python) as address:
-                browser.open(address)
-                browser.until(READY)
-                compared(browser, address, tries, "a plane that is nowhere on the earth")
-                (pictures / "plane.png").write_bytes(browser.picture())
+            for name, shape in (("stars", star), ("flowers", flower)):
+                three = plane(folder, words.program, name, shape)
+                with web_front.front(
+                    "--store", three, "--writable", program=words.program, python=words.python
+                ) as address:
+                    building(browser, address, pictures / f"building-{name}.png", tries)
+                    if name == "flowers":
+                        compared(browser, address, tries, "a plane that is nowhere on the earth")
             with web_front.front("--store", store, program=words.program, python=words.python) as address:
                 read_only(browser, address, tries)
             faults = [one for one in browser.faults if "409" not in one and "404" not in one]

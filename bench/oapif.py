@@ -36,7 +36,9 @@ def ogr(*words: str | pathlib.Path) -> str:
 
 
 def exact_area(rings: list[overlay_client.Ring]) -> Fraction:
-    return sum((a[0] * b[1] - b[0] * a[1] for ring in rings for a, b in zip(ring, ring[1:] + ring[:1])), Fraction(0)) / 2
+    return (
+        sum((a[0] * b[1] - b[0] * a[1] for ring in rings for a, b in zip(ring, ring[1:] + ring[:1])), Fraction(0)) / 2
+    )
 
 
 def planar_area(coordinates: Any) -> float:
@@ -49,8 +51,10 @@ def planar_area(coordinates: Any) -> float:
 
 def exact_layers(store: pathlib.Path, program: str) -> dict[str, list[list[overlay_client.Ring]]]:
     """The polygons of each derived layer, with the world's coordinates, by the client."""
+
     def world(ring: overlay_client.Ring) -> overlay_client.Ring:
         return [(x / 42262 - 19, y / 100000 + 65) for x, y in ring]
+
     with overlay_client.Server(store, program=program) as server, server.session() as one:
         names = [layer.name for layer in one.layers() if layer.definition]
         return {name: [[world(ring) for ring in rings] for rings in one.rings(name)] for name in names}
@@ -74,7 +78,9 @@ def lists(address: str, exact: dict[str, list[list[overlay_client.Ring]]], tries
 def filters(address: str, tries: Tries) -> None:
     west, south, east, north = BOX
     text = ogr("ogrinfo", "-al", "-so", "-spat", *map(str, BOX), f"OAPIF:{address}", "one")
-    front = json.loads(ogr("curl", "-s", f"{address}collections/one/items?bbox={west},{south},{east},{north}&limit=10000"))
+    front = json.loads(
+        ogr("curl", "-s", f"{address}collections/one/items?bbox={west},{south},{east},{north}&limit=10000")
+    )
     count = int(re.findall(r"Feature Count: (\d+)", text)[0])
     tries.that(count == front["numberMatched"] > 1, f"-spat: {count} features in the box, as bbox says")
 
@@ -88,8 +94,10 @@ def copies(address: str, folder: pathlib.Path, exact: dict[str, list[list[overla
         features = json.loads(copied.read_text())["features"]
         area = sum(planar_area(one["geometry"]["coordinates"]) for one in features)
         right = float(sum(exact_area(rings) for rings in polygons))
-        tries.that(len(features) == len(polygons) and abs(area - right) < 1e-5,
-                   f"{name} by ogr2ogr: {len(features)} polygons, area {area:.7f}; exactly {right:.7f}")
+        tries.that(
+            len(features) == len(polygons) and abs(area - right) < 1e-5,
+            f"{name} by ogr2ogr: {len(features)} polygons, area {area:.7f}; exactly {right:.7f}",
+        )
     ogr("ogr2ogr", "-f", "GeoJSON", "-oo", "PAGE_SIZE=5", folder / "paged.geojson", f"OAPIF:{address}", "one")
     count = len(json.loads((folder / "paged.geojson").read_text())["features"])
     tries.that(count == len(exact["one"]), f"by pages of 5: {count} polygons")

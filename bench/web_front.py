@@ -16,8 +16,15 @@ from typing import Any
 TOP = pathlib.Path(__file__).resolve().parent.parent
 PROGRAM = TOP / "crates/overlay_live/out/overlay_live"
 DEBIAN_PYTHON = "/usr/bin/python3"
-SCALE = {"title": "Iceland at two scales", "factor": 42262, "factor_y": 100000, "origin": [-19, 65], "unit": "degree",
-         "crs": "OGC:CRS84", "digits": 7}
+SCALE = {
+    "title": "Iceland at two scales",
+    "factor": 42262,
+    "factor_y": 100000,
+    "origin": [-19, 65],
+    "unit": "degree",
+    "crs": "OGC:CRS84",
+    "digits": 7,
+}
 DEFINITIONS = {"both": "iceland_110m & iceland_50m", "one": "iceland_110m ^ iceland_50m"}
 
 sys.path.append(str(TOP / "web"))
@@ -37,7 +44,7 @@ class Tries:
 
 
 def asked(address: str) -> Any:
-    with urllib.request.urlopen(address, timeout=30) as answer:
+    with urllib.request.urlopen(address, timeout=120) as answer:
         return json.load(answer)
 
 
@@ -68,9 +75,7 @@ def iceland(folder: pathlib.Path, program: str) -> pathlib.Path:
 
 
 @contextlib.contextmanager
-def front(
-    *words: str | os.PathLike[str], program: str, python: str = DEBIAN_PYTHON, before: str = ""
-) -> Iterator[str]:
+def front(*words: str | os.PathLike[str], program: str, python: str = DEBIAN_PYTHON, before: str = "") -> Iterator[str]:
     """The address of a front that runs until the end of the block, and then has to end with 0.
 
     before: lines of Python that are run first.

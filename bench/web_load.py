@@ -82,8 +82,10 @@ def measured(address: str, label: str, asks: list[Ask], seconds: float) -> bool:
     told: multiprocessing.SimpleQueue[Found | str] = multiprocessing.SimpleQueue()
     other: multiprocessing.SimpleQueue[Found | str] = multiprocessing.SimpleQueue()
     end = time.time() + seconds
-    runs = [multiprocessing.Process(target=client, args=(address, ask, end, place, told if ask is asks[0] else other))
-            for place, ask in enumerate(asks)]
+    runs = [
+        multiprocessing.Process(target=client, args=(address, ask, end, place, told if ask is asks[0] else other))
+        for place, ask in enumerate(asks)
+    ]
     for run in runs:
         run.start()
     answers = [(told if ask is asks[0] else other).get() for ask in asks]
@@ -94,16 +96,26 @@ def measured(address: str, label: str, asks: list[Ask], seconds: float) -> bool:
         print(f"FAILED  {label}: {faults[0]}", flush=True)
         return False
     for ask in dict.fromkeys(asks):
-        times = sorted(took for kind, one in zip(asks, answers) if kind is ask and not isinstance(one, str) for took in one)
-        print(f"{label}, {asks.count(ask)} x {ask.__name__}: {len(times) / seconds:.0f} replies a second, "
-              + ", ".join(f"p{share} {1000 * times[len(times) * share // 100]:.1f} ms" for share in (50, 99))
-              + f", most {1000 * times[-1]:.1f} ms", flush=True)
+        times = sorted(
+            took for kind, one in zip(asks, answers) if kind is ask and not isinstance(one, str) for took in one
+        )
+        print(
+            f"{label}, {asks.count(ask)} x {ask.__name__}: {len(times) / seconds:.0f} replies a second, "
+            + ", ".join(f"p{share} {1000 * times[len(times) * share // 100]:.1f} ms" for share in (50, 99))
+            + f", most {1000 * times[-1]:.1f} ms",
+            flush=True,
+        )
     return True
 
 
 def measure(address: str, label: str, clients: int, seconds: float) -> int:
     """How many of the loads fell."""
-    loads: list[list[Ask]] = [[locate] * clients, [locate_all] * clients, [items] * clients, [*[locate] * (clients - 1), put]]
+    loads: list[list[Ask]] = [
+        [locate] * clients,
+        [locate_all] * clients,
+        [items] * clients,
+        [*[locate] * (clients - 1), put],
+    ]
     return sum(not measured(address, label, asks, seconds) for asks in loads)
 
 
@@ -119,7 +131,9 @@ def main() -> int:
     with tempfile.TemporaryDirectory() as place:
         store = web_front.iceland(pathlib.Path(place), words.program)
         for label, before in (("waitress", ""), ("wsgiref", WITHOUT_WAITRESS)):
-            with web_front.front("--store", store, "--writable", program=words.program, python=words.python, before=before) as address:
+            with web_front.front(
+                "--store", store, "--writable", program=words.program, python=words.python, before=before
+            ) as address:
                 for name in ("both", "one"):
                     web_front.asked(f"{address}collections/{name}/items")
                 fell += measure(address, label, words.clients, words.seconds)

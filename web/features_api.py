@@ -30,13 +30,19 @@ class FeaturesApi:
 
     def landing(self, request: Request) -> Answer:
         root = request.root
-        return json_answer({
-            "title": self.scale.title, "description": "Layers of polygons and exact overlays of them",
-            "links": [
-                link(f"{root}/?f=json", "self", title="this page"), link(f"{root}/?f=html", "alternate", "text/html", "a map"),
-                link(f"{root}/api", "service-desc", OPENAPI), link(f"{root}/conformance", "conformance"),
-                link(f"{root}/collections", "data", title="the layers"),
-            ]})
+        return json_answer(
+            {
+                "title": self.scale.title,
+                "description": "Layers of polygons and exact overlays of them",
+                "links": [
+                    link(f"{root}/?f=json", "self", title="this page"),
+                    link(f"{root}/?f=html", "alternate", "text/html", "a map"),
+                    link(f"{root}/api", "service-desc", OPENAPI),
+                    link(f"{root}/conformance", "conformance"),
+                    link(f"{root}/collections", "data", title="the layers"),
+                ],
+            }
+        )
 
     def api(self, request: Request) -> Answer:
         import openapi
@@ -49,9 +55,12 @@ class FeaturesApi:
         return json_answer({"conformsTo": [CORE + name for name in names]})
 
     def collections(self, request: Request) -> Answer:
-        return json_answer({
-            "links": [link(f"{request.root}/collections", "self")],
-            "collections": [self._described(request, one) for one in self.store.layers().values()]})
+        return json_answer(
+            {
+                "links": [link(f"{request.root}/collections", "self")],
+                "collections": [self._described(request, one) for one in self.store.layers().values()],
+            }
+        )
 
     def collection(self, request: Request, name: str) -> Answer:
         return json_answer(self._described(request, self.store.layer(name)))
@@ -60,7 +69,11 @@ class FeaturesApi:
         name, definition = found.layer.name, found.layer.definition
         at, crs = f"{request.root}/collections/{name}", self.scale.uri()
         made: dict[str, object] = {
-            "id": name, "title": name, "itemType": "feature", "revision": found.revision, "definition": definition,
+            "id": name,
+            "title": name,
+            "itemType": "feature",
+            "revision": found.revision,
+            "definition": definition,
             "description": f"{name} = {definition}" if definition else "a base layer",
             "links": [link(at, "self"), link(f"{at}/items", "items", GEOJSON)],
         }
@@ -80,18 +93,30 @@ class FeaturesApi:
         if headers["ETag"] in request.header("if-none-match").split(", "):
             return Answer(304, GEOJSON, b"", headers)
         matched = [one for one in joined.features if boxes is None or any(map(one.meets, boxes))]
-        chosen = matched[offset:offset + limit]
+        chosen = matched[offset : offset + limit]
         at = f"{request.root}/collections/{name}"
-        links = [link(f"{at}/items?{urllib.parse.urlencode(request.words, safe=',')}".rstrip("?"), "self", GEOJSON),
-                 link(at, "collection")]
-        places = [("next", offset + limit)] * (offset + limit < len(matched)) + [("prev", max(0, offset - limit))] * (offset > 0)
+        links = [
+            link(f"{at}/items?{urllib.parse.urlencode(request.words, safe=',')}".rstrip("?"), "self", GEOJSON),
+            link(at, "collection"),
+        ]
+        places = [("next", offset + limit)] * (offset + limit < len(matched)) + [("prev", max(0, offset - limit))] * (
+            offset > 0
+        )
         for rel, start in places:
             words = {**request.words, "limit": limit, "offset": start, "revision": joined.revision}
             links.append(link(f"{at}/items?{urllib.parse.urlencode(words, safe=',')}", rel, GEOJSON))
-        return json_answer({
-            "type": "FeatureCollection", "numberMatched": len(matched), "numberReturned": len(chosen),
-            "revision": joined.revision, "links": links, "features": [one.geojson() for one in chosen],
-        }, GEOJSON, headers=headers)
+        return json_answer(
+            {
+                "type": "FeatureCollection",
+                "numberMatched": len(matched),
+                "numberReturned": len(chosen),
+                "revision": joined.revision,
+                "links": links,
+                "features": [one.geojson() for one in chosen],
+            },
+            GEOJSON,
+            headers=headers,
+        )
 
     def item(self, request: Request, name: str, number: str) -> Answer:
         joined = self.store.joined(name)

@@ -25,9 +25,11 @@ SLOW_MOST = 12
 """How many questions that may wait are answered at once; the front has more threads than that."""
 KINDS = {".html": "text/html; charset=utf-8", ".js": "text/javascript", ".css": "text/css", ".png": "image/png"}
 HEADERS = {
-    "X-Content-Type-Options": "nosniff", "Referrer-Policy": "no-referrer", "Cross-Origin-Resource-Policy": "same-origin",
+    "X-Content-Type-Options": "nosniff",
+    "Referrer-Policy": "no-referrer",
+    "Cross-Origin-Resource-Policy": "same-origin",
     "Content-Security-Policy": "default-src 'none'; script-src 'self'; style-src 'self'; img-src 'self' data:; "
-                               "connect-src 'self'; form-action 'none'; base-uri 'none'; frame-ancestors 'none'",
+    "connect-src 'self'; form-action 'none'; base-uri 'none'; frame-ancestors 'none'",
 }
 # What overlay_live refuses by what was asked for, by what stands, and by what the machine or the store cannot do.
 NOT_FOUND, CONFLICT = (10, 23), (11, 12, 13, 14, 15, 16, 21, 22)
@@ -63,7 +65,11 @@ class Front:
     """hosts: the names by which it is asked. base: the address under which a server before it passes questions on."""
 
     def __init__(
-        self, store: LayerStore, hosts: Iterable[str] = LOOPBACK, base: str | None = None, leaflet: pathlib.Path = LEAFLET
+        self,
+        store: LayerStore,
+        hosts: Iterable[str] = LOOPBACK,
+        base: str | None = None,
+        leaflet: pathlib.Path = LEAFLET,
     ) -> None:
         self.store, self.leaflet = store, leaflet
         self.base = base.rstrip("/") if base else None
@@ -75,15 +81,19 @@ class Front:
         name, number = "([A-Za-z][A-Za-z0-9_]{0,31})", "([0-9]{1,9})"
         layer = f"/collections/{name}"
         routes = [
-            Route("GET", "/", self.first), Route("GET", "/api", features.api),
+            Route("GET", "/", self.first),
+            Route("GET", "/api", features.api),
             Route("GET", "/conformance", features.conformance),
             Route("GET", "/collections", features.collections, slow=True),
             Route("GET", layer, features.collection, slow=True),
             Route("GET", f"{layer}/items", features.items, ITEM_WORDS, slow=True),
             Route("GET", f"{layer}/items/{number}", features.item, slow=True),
-            Route("GET", f"{layer}/locate", maps.locate, ("x", "y")), Route("GET", "/locate", maps.locate_all, ("x", "y")),
-            Route("GET", f"{layer}/tiles", maps.tiles, ("columns",)), Route("GET", "/status", maps.status),
-            Route("PUT", layer, maps.put, slow=True), Route("DELETE", layer, maps.drop, slow=True),
+            Route("GET", f"{layer}/locate", maps.locate, ("x", "y")),
+            Route("GET", "/locate", maps.locate_all, ("x", "y")),
+            Route("GET", f"{layer}/tiles", maps.tiles, ("columns",)),
+            Route("GET", "/status", maps.status),
+            Route("PUT", layer, maps.put, slow=True),
+            Route("DELETE", layer, maps.drop, slow=True),
             Route("POST", "/batch", maps.batch, slow=True),
             Route("GET", r"/([a-z]+\.(?:js|css))", self.page_file),
             Route("GET", r"/leaflet/([a-z.-]+\.(?:js|css)|images/[a-z0-9-]+\.png)", self.leaflet_file),
@@ -134,7 +144,9 @@ class Front:
             if route.method == method:
                 self._check(request, route)
                 return self._run(request, route, match.groups())
-        raise Problem(405, f"{request.method} is not for this page", Allow=", ".join(route.method for _, route in fitting))
+        raise Problem(
+            405, f"{request.method} is not for this page", Allow=", ".join(route.method for _, route in fitting)
+        )
 
     def _check(self, request: Request, route: Route) -> None:
         if route.method != "GET":

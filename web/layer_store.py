@@ -85,7 +85,9 @@ class LayerStore:
     version: the number that the process began with, and kept: whether it is the number of a file.
     """
 
-    def __init__(self, server: Server, scratch: Server, scale: MapScale, *, version: int, kept: bool, writable: bool) -> None:
+    def __init__(
+        self, server: Server, scratch: Server, scale: MapScale, *, version: int, kept: bool, writable: bool
+    ) -> None:
         self.scale, self.kept, self.writable = scale, kept, writable
         self.version = self.durable = version
         self._server, self._scratch = server, scratch
@@ -248,6 +250,7 @@ def end_with_parent() -> None:
         if parent:
             parent.join()
         os._exit(1)
+
     threading.Thread(target=wait, daemon=True).start()
 
 

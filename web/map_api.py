@@ -19,11 +19,20 @@ class MapApi:
 
     def status(self, _: Request) -> Answer:
         store = self.store
-        return json_answer({
-            "title": self.scale.title, "version": store.version, "durable": store.durable if store.kept else None,
-            "writable": store.writable, "layers": len(store.layers()), "columns": self.scale.columns(),
-            "crs": self.scale.crs, "unit": self.scale.unit, "geographic": self.scale.is_geographic(),
-            "limits": self.scale.limits()})
+        return json_answer(
+            {
+                "title": self.scale.title,
+                "version": store.version,
+                "durable": store.durable if store.kept else None,
+                "writable": store.writable,
+                "layers": len(store.layers()),
+                "columns": self.scale.columns(),
+                "crs": self.scale.crs,
+                "unit": self.scale.unit,
+                "geographic": self.scale.is_geographic(),
+                "limits": self.scale.limits(),
+            }
+        )
 
     def locate(self, request: Request, name: str) -> Answer:
         question, told = self._question(request)
@@ -40,8 +49,7 @@ class MapApi:
         x, y = *request.numbers("x", 1), *request.numbers("y", 1)
         question = self.scale.scale.question(x, y)
         point = self.scale.scale.world(question)
-        return question, {
-            "asked": question, "point": [self.scale.number(n) for n in point], "exact": point == (x, y)}
+        return question, {"asked": question, "point": [self.scale.number(n) for n in point], "exact": point == (x, y)}
 
     def tiles(self, request: Request, name: str) -> Answer:
         """The columns of a derived layer: of each its pieces, or null where it is pending."""

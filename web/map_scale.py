@@ -44,7 +44,11 @@ class MapScale:
         self.title, self.unit = scale.title or "Layers", "" if scale.unit == "1" else scale.unit
         # world = (n * a + w * b) / (w * c) in whole numbers, of x and of y.
         self._whole = [
-            (factor.denominator * begin.denominator, begin.numerator * factor.numerator, factor.numerator * begin.denominator)
+            (
+                factor.denominator * begin.denominator,
+                begin.numerator * factor.numerator,
+                factor.numerator * begin.denominator,
+            )
             for factor, begin in zip((scale.factor, scale.factor_y), scale.origin)
         ]
 

@@ -111,8 +111,8 @@ class Replies:
 
     def line(self) -> str:
         while (end := self._held.find(b"\n", self._at)) < 0:
-            self._held, self._at = self._held[self._at:] + self._more(), 0
-        line, self._at = self._held[self._at:end], end + 1
+            self._held, self._at = self._held[self._at :] + self._more(), 0
+        line, self._at = self._held[self._at : end], end + 1
         return line.decode()
 
     def _more(self) -> bytes:
@@ -168,7 +168,7 @@ class Session:
         left = memoryview(sent)
         try:
             while left:
-                left = left[self._lines.write(left):]
+                left = left[self._lines.write(left) :]
             self._lines.flush()
         except ConnectionError as fault:
             raise Ended("the program has ended, or the session has") from fault
@@ -275,8 +275,10 @@ def rings_of(pieces: list[Piece]) -> list[list[Ring]]:
         sys.path.append(tools)
     import to_rings
 
-    return [[[(Fraction(x, w), Fraction(y, w)) for x, y, w in ring.corners] for ring in polygon]
-            for polygon in to_rings.polygons_of(pieces)]
+    return [
+        [[(Fraction(x, w), Fraction(y, w)) for x, y, w in ring.corners] for ring in polygon]
+        for polygon in to_rings.polygons_of(pieces)
+    ]
 
 
 class Pool:
@@ -321,9 +323,16 @@ class Server:
     """
 
     def __init__(
-        self, store: str | os.PathLike[str] | None = None, *, create: bool = False, read_only: bool = False,
-        sessions: int = 1, workers: int | None = None, max_blocks: int | None = None,
-        program: str | os.PathLike[str] = "overlay_live", timeout: float | None = None,
+        self,
+        store: str | os.PathLike[str] | None = None,
+        *,
+        create: bool = False,
+        read_only: bool = False,
+        sessions: int = 1,
+        workers: int | None = None,
+        max_blocks: int | None = None,
+        program: str | os.PathLike[str] = "overlay_live",
+        timeout: float | None = None,
     ) -> None:
         if not 1 <= sessions <= MOST_SESSIONS:
             raise ValueError(f"a process has 1 to {MOST_SESSIONS} sessions")
@@ -371,13 +380,13 @@ class Server:
     def __enter__(self) -> Server:
         return self
 
-    def __exit__(self, kind: type[BaseException] | None, fault: BaseException | None, trace: TracebackType | None) -> None:
+    def __exit__(
+        self, kind: type[BaseException] | None, fault: BaseException | None, trace: TracebackType | None
+    ) -> None:
         self.close()
 
 
-def started(
-    words: list[str], sessions: int, timeout: float | None
-) -> tuple[subprocess.Popen[bytes], list[Session]]:
+def started(words: list[str], sessions: int, timeout: float | None) -> tuple[subprocess.Popen[bytes], list[Session]]:
     """The process of some words and the sessions of as many pairs of pipes, which it opens as /dev/fd/N."""
     own: list[Session] = []
     given: list[int] = []
@@ -389,8 +398,13 @@ def started(
             own.append(Session(open(line_out, "wb", 0), open(reply_in, "rb", 0), timeout))
         # In a session of its own it does not get the interrupt that a terminal sends to all: its end is close.
         process = subprocess.Popen(
-            words + [f"/dev/fd/{descriptor}" for descriptor in given], stdin=subprocess.DEVNULL, stdout=subprocess.DEVNULL,
-            stderr=subprocess.PIPE, pass_fds=given, start_new_session=True)
+            words + [f"/dev/fd/{descriptor}" for descriptor in given],
+            stdin=subprocess.DEVNULL,
+            stdout=subprocess.DEVNULL,
+            stderr=subprocess.PIPE,
+            pass_fds=given,
+            start_new_session=True,
+        )
     except BaseException:
         for session in own:
             session.close()

@@ -50,10 +50,16 @@ def is_loopback(host: str) -> bool:
 
 def words_of(arguments: Sequence[str]) -> argparse.Namespace:
     parser = argparse.ArgumentParser(description=__doc__, formatter_class=argparse.RawDescriptionHelpFormatter)
-    parser.add_argument("--store", metavar="FILE", type=pathlib.Path, help="the store; without it all is lost at the end")
+    parser.add_argument(
+        "--store", metavar="FILE", type=pathlib.Path, help="the store; without it all is lost at the end"
+    )
     parser.add_argument("--create", action="store_true", help="make the store anew")
-    parser.add_argument("--scale", metavar="FILE", type=pathlib.Path,
-                        help="what its whole numbers mean (default: NAME.scale.json beside the store, if it is there)")
+    parser.add_argument(
+        "--scale",
+        metavar="FILE",
+        type=pathlib.Path,
+        help="what its whole numbers mean (default: NAME.scale.json beside the store, if it is there)",
+    )
     parser.add_argument("--writable", action="store_true", help="let the page and PUT, DELETE and POST change layers")
     parser.add_argument("--host", default="127.0.0.1", help="the address to listen on (default 127.0.0.1)")
     parser.add_argument("--port", type=int, default=8080, help="the port; 0 for one that is free (default 8080)")
@@ -61,8 +67,9 @@ def words_of(arguments: Sequence[str]) -> argparse.Namespace:
     parser.add_argument("--name", action="append", default=[], help="a further name in the Host of questions")
     parser.add_argument("--workers", type=int, default=2, help="threads that build tiles, 1 to 8 (default 2)")
     parser.add_argument("--program", default="overlay_live", metavar="PATH", help="the program (default overlay_live)")
-    parser.add_argument("--leaflet", type=pathlib.Path, default=LEAFLET, metavar="FOLDER",
-                        help=f"where Leaflet is (default {LEAFLET})")
+    parser.add_argument(
+        "--leaflet", type=pathlib.Path, default=LEAFLET, metavar="FOLDER", help=f"where Leaflet is (default {LEAFLET})"
+    )
     words = parser.parse_args(arguments)
     if words.writable and not is_loopback(words.host):
         parser.error("--writable is for the loopback alone")
@@ -91,9 +98,17 @@ def opened(words: argparse.Namespace) -> Iterator[tuple[Server, LayerStore]]:
     """The running process over the store, and its layers."""
     scale, reads = scale_of(words), not words.writable
     with contextlib.ExitStack() as open_ones:
-        server = open_ones.enter_context(Server(
-            words.store, create=words.create, read_only=reads, sessions=MOST_SESSIONS, workers=words.workers,
-            program=words.program, timeout=PATIENCE))
+        server = open_ones.enter_context(
+            Server(
+                words.store,
+                create=words.create,
+                read_only=reads,
+                sessions=MOST_SESSIONS,
+                workers=words.workers,
+                program=words.program,
+                timeout=PATIENCE,
+            )
+        )
         scratch = open_ones.enter_context(Server(program=words.program, timeout=PATIENCE))
         version = 0
         if reads:

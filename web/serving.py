@@ -27,8 +27,15 @@ def serve(front: Front, host: str, port: int) -> None:
         serve_by_threads(front, host, port)
         return
     server = waitress.create_server(
-        front, host=host, port=port, threads=THREADS, max_request_body_size=BODY_MOST, max_request_header_size=1 << 16,
-        channel_timeout=SECONDS_MOST, ident=None)
+        front,
+        host=host,
+        port=port,
+        threads=THREADS,
+        max_request_body_size=BODY_MOST,
+        max_request_header_size=1 << 16,
+        channel_timeout=SECONDS_MOST,
+        ident=None,
+    )
     told(host, server.effective_port)
     server.run()
 

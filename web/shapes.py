@@ -99,14 +99,18 @@ class Feature:
     def geojson(self) -> dict[str, object]:
         properties = {"corners": sum(map(len, self.rings)), "holes": len(self.rings) - 1, "area": self.area}
         return {
-            "type": "Feature", "id": self.number, "properties": properties,
+            "type": "Feature",
+            "id": self.number,
+            "properties": properties,
             "geometry": {"type": "Polygon", "coordinates": [ring + ring[:1] for ring in self.positions]},
         }
 
 
 def area_of(rings: list[list[Point]], scale: MapScale) -> int | float:
     """The area of a polygon in the square of the world's unit, by its exact corners."""
-    twice = sum(((a[0] * b[1] - b[0] * a[1]) << AREA_BITS) // (a[2] * b[2]) for ring in rings for a, b in edges_of(ring))
+    twice = sum(
+        ((a[0] * b[1] - b[0] * a[1]) << AREA_BITS) // (a[2] * b[2]) for ring in rings for a, b in edges_of(ring)
+    )
     by = scale.scale.factor * scale.scale.factor_y
     return rounded(twice * by.denominator, by.numerator << (AREA_BITS + 1), scale.digits)
 

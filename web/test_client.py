@@ -39,11 +39,18 @@ class Commands(ClientCase):
 
     def test_each_change_is_a_version(self) -> None:
         one = self.session
-        self.assertEqual((one.put("A", SQUARE), one.put("B", SHIFTED), one.define("I", "A&B"), one.drop("I")), (1, 2, 3, 4))
+        self.assertEqual(
+            (one.put("A", SQUARE), one.put("B", SHIFTED), one.define("I", "A&B"), one.drop("I")), (1, 2, 3, 4)
+        )
         one.define("I", "A - (B)")
-        self.assertEqual(one.layers(), [
-            Layer("A", "MULTIPOLYGON (((0 0, 10 0, 10 10, 0 10, 0 0)))", None),
-            Layer("B", "MULTIPOLYGON (((5 5, 15 5, 15 15, 5 15, 5 5)))", None), Layer("I", None, "A - B")])
+        self.assertEqual(
+            one.layers(),
+            [
+                Layer("A", "MULTIPOLYGON (((0 0, 10 0, 10 10, 0 10, 0 0)))", None),
+                Layer("B", "MULTIPOLYGON (((5 5, 15 5, 15 15, 5 15, 5 5)))", None),
+                Layer("I", None, "A - B"),
+            ],
+        )
 
     def test_a_batch_is_one_version_or_none(self) -> None:
         one = self.session
@@ -56,8 +63,10 @@ class Commands(ClientCase):
     def test_points(self) -> None:
         one = self.session
         one.batch([one.put_line("A", SQUARE), one.put_line("B", SHIFTED), "DEFINE I = A & B"])
-        self.assertEqual([one.locate("I", 7, 7), one.locate("I", 10, 2), one.locate("I", 14, 14, 2), one.locate("I", 2, 2)],
-                         ["in", "edge", "in", "out"])
+        self.assertEqual(
+            [one.locate("I", 7, 7), one.locate("I", 10, 2), one.locate("I", 14, 14, 2), one.locate("I", 2, 2)],
+            ["in", "edge", "in", "out"],
+        )
         self.assertEqual(one.grid("I", 4, 4, 2, 4, 4), ["...+", ".##+", ".##+", "++++"])
         self.refused(20, one.locate, "I", 0, 0, 1025)
         self.refused(45, one.grid, "I", 0, 0, 0, 1, 1)
@@ -81,13 +90,19 @@ class Commands(ClientCase):
         one.batch([one.put_line("T", TRIANGLE), one.put_line("S", BAR), "DEFINE I = T & S", "DEFINE O = S - T"])
         third = [(1, Fraction(1, 3)), (2, Fraction(2, 3)), (2, Fraction(4, 3)), (1, Fraction(5, 3))]
         self.assertEqual(one.rings("I"), [[third]])
-        self.assertEqual(one.rings("O"), [
-            [[(1, -1), (2, -1), (2, Fraction(2, 3)), (1, Fraction(1, 3))]],
-            [[(1, Fraction(5, 3)), (2, Fraction(4, 3)), (2, 3), (1, 3)]]])
+        self.assertEqual(
+            one.rings("O"),
+            [
+                [[(1, -1), (2, -1), (2, Fraction(2, 3)), (1, Fraction(1, 3))]],
+                [[(1, Fraction(5, 3)), (2, Fraction(4, 3)), (2, 3), (1, 3)]],
+            ],
+        )
 
     def test_rings_have_holes(self) -> None:
         one = self.session
-        one.batch([one.put_line("A", SQUARE), one.put_line("B", "POLYGON ((2 2, 4 2, 4 4, 2 4, 2 2))"), "DEFINE D = A - B"])
+        one.batch(
+            [one.put_line("A", SQUARE), one.put_line("B", "POLYGON ((2 2, 4 2, 4 4, 2 4, 2 2))"), "DEFINE D = A - B"]
+        )
         self.assertEqual(one.rings("D"), [[[(0, 0), (10, 0), (10, 10), (0, 10)], [(2, 2), (2, 4), (4, 4), (4, 2)]]])
 
     def test_refusals_have_number_and_text(self) -> None:
@@ -107,11 +122,23 @@ class Commands(ClientCase):
         one = self.session
         one.put("A", SQUARE)
         for action in (
-            lambda: one.ask("LAYERS\nDROP A"), lambda: one.ask("LAYERS\r"), lambda: one.ask(""), lambda: one.ask(" \t"),
-            lambda: one.ask("# nothing"), lambda: one.ask("BATCH 1"), lambda: one.ask("  BATCH\t1"), lambda: one.batch([]),
-            lambda: one.batch(["DROP A"] * 65), lambda: one.batch(["DROP A", ""]), lambda: one.batch(["DROP A", "# no"]),
-            lambda: one.batch(["DROP A\nDROP A"]), lambda: one.define("I", "A\nDROP A"), lambda: one.drop("A\nLAYERS"),
-            lambda: one.put("B\nDROP A", SQUARE), lambda: one.locate("A\n", 1, 1), lambda: one.define("I", "\udc00"),
+            lambda: one.ask("LAYERS\nDROP A"),
+            lambda: one.ask("LAYERS\r"),
+            lambda: one.ask(""),
+            lambda: one.ask(" \t"),
+            lambda: one.ask("# nothing"),
+            lambda: one.ask("BATCH 1"),
+            lambda: one.ask("  BATCH\t1"),
+            lambda: one.batch([]),
+            lambda: one.batch(["DROP A"] * 65),
+            lambda: one.batch(["DROP A", ""]),
+            lambda: one.batch(["DROP A", "# no"]),
+            lambda: one.batch(["DROP A\nDROP A"]),
+            lambda: one.define("I", "A\nDROP A"),
+            lambda: one.drop("A\nLAYERS"),
+            lambda: one.put("B\nDROP A", SQUARE),
+            lambda: one.locate("A\n", 1, 1),
+            lambda: one.define("I", "\udc00"),
         ):
             self.assertRaises(ValueError, action)
         self.assertEqual([layer.name for layer in one.layers()], ["A"])
@@ -140,6 +167,7 @@ class Sessions(ClientCase):
                 while not ending.is_set():
                     for text, _ in reversed(states):
                         writer.put("A", text)
+
             thread = threading.Thread(target=change)
             thread.start()
             try:
@@ -155,8 +183,12 @@ class Sessions(ClientCase):
     def test_a_wait_holds_up_no_question(self) -> None:
         with running(sessions=2, workers=1) as server:
             with server.session() as one:
-                one.batch([one.put_line(name, testing.star(440, x, y)) for name, x, y in
-                           (("A", -150_000, 0), ("B", 170_000, 60_000), ("C", 0, -190_000))])
+                one.batch(
+                    [
+                        one.put_line(name, testing.star(440, x, y))
+                        for name, x, y in (("A", -150_000, 0), ("B", 170_000, 60_000), ("C", 0, -190_000))
+                    ]
+                )
                 one.define("D", "(A ^ B) & C")
             began, ended, answered = threading.Event(), threading.Event(), 0
 
@@ -165,6 +197,7 @@ class Sessions(ClientCase):
                     began.set()
                     slow.wait("D")
                     ended.set()
+
             thread = threading.Thread(target=wait)
             thread.start()
             began.wait(10)
@@ -176,8 +209,9 @@ class Sessions(ClientCase):
         self.assertGreater(answered, 10)
 
     def test_a_session_whose_reply_was_broken_off_is_closed_and_the_others_go_on(self) -> None:
-        with running(sessions=3, timeout=0.3) as server:
+        with running(sessions=3) as server:
             with self.assertRaises(TimeoutError), server.session() as broken:
+                broken._replies.timeout = 0.2
                 broken._exchange(b"LAYERS")  # without its line feed no line yet, so it has no reply
             self.assertTrue(broken.closed)
             self.assertRaises(Ended, broken.layers)
@@ -272,6 +306,7 @@ class Processes(ClientCase):
     def test_nothing_is_left_open(self) -> None:
         def open_ones() -> int:
             return len(list(pathlib.Path("/proc/self/fd").iterdir()))
+
         before = open_ones()
         for _ in range(3):
             with running(sessions=4):

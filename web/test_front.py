@@ -21,7 +21,7 @@ ROOT = f"http://{testing.HOST}"
 def path_of(href: str) -> str:
     if not href.startswith(ROOT):
         raise AssertionError(href)
-    return href[len(ROOT):]
+    return href[len(ROOT) :]
 
 
 def linked(value: Any, rel: str) -> str:
@@ -31,7 +31,9 @@ def linked(value: Any, rel: str) -> str:
 
 
 def exact_area(polygon: list[list[Place]]) -> Fraction:
-    return sum((a[0] * b[1] - b[0] * a[1] for ring in polygon for a, b in zip(ring, ring[1:] + ring[:1])), Fraction(0)) / 2
+    return (
+        sum((a[0] * b[1] - b[0] * a[1] for ring in polygon for a, b in zip(ring, ring[1:] + ring[:1])), Fraction(0)) / 2
+    )
 
 
 def put_lines() -> list[str]:
@@ -41,10 +43,21 @@ def put_lines() -> list[str]:
 
 
 class Iceland(FrontCase):
-    lines = (*put_lines(), "DEFINE both = iceland_110m & iceland_50m", "DEFINE one = iceland_110m ^ iceland_50m",
-             "DEFINE none = one & both")
-    scale = {"title": "Iceland", "factor": 42262, "factor_y": 100000, "origin": [-19, 65], "unit": "degree",
-             "crs": "OGC:CRS84", "digits": 7}
+    lines = (
+        *put_lines(),
+        "DEFINE both = iceland_110m & iceland_50m",
+        "DEFINE one = iceland_110m ^ iceland_50m",
+        "DEFINE none = one & both",
+    )
+    scale = {
+        "title": "Iceland",
+        "factor": 42262,
+        "factor_y": 100000,
+        "origin": [-19, 65],
+        "unit": "degree",
+        "crs": "OGC:CRS84",
+        "digits": 7,
+    }
 
     def polygons(self, name: str) -> list[list[list[Place]]]:
         """The polygons of a derived layer in the world, by the client."""
@@ -55,8 +68,10 @@ class Iceland(FrontCase):
     def test_from_the_landing_page_to_an_item(self) -> None:
         landing = self.client.get("/")
         self.assertEqual(landing["title"], "Iceland")
-        self.assertEqual(self.client.ask(linked(landing, "service-desc")).headers["Content-Type"],
-                         "application/vnd.oai.openapi+json;version=3.0")
+        self.assertEqual(
+            self.client.ask(linked(landing, "service-desc")).headers["Content-Type"],
+            "application/vnd.oai.openapi+json;version=3.0",
+        )
         conformance = self.client.get(linked(landing, "conformance"))["conformsTo"]
         self.assertEqual([one.rsplit("/", 1)[1] for one in conformance], ["core", "geojson", "oas30"])
         collections = self.client.get(linked(landing, "data"))["collections"]
@@ -78,8 +93,16 @@ class Iceland(FrontCase):
         """Each path of the description answers, and takes the words that it lists."""
         document = self.client.get("/api")
         self.assertEqual((document["openapi"], document["servers"]), ("3.0.3", [{"url": ROOT}]))
-        words = {"bbox": "-20,63,-18,64", "limit": "2", "offset": "1", "datetime": "2020-01-01/..", "x": "-19", "y": "65",
-                 "crs": "http://www.opengis.net/def/crs/OGC/1.3/CRS84", "columns": "16,17"}
+        words = {
+            "bbox": "-20,63,-18,64",
+            "limit": "2",
+            "offset": "1",
+            "datetime": "2020-01-01/..",
+            "x": "-19",
+            "y": "65",
+            "crs": "http://www.opengis.net/def/crs/OGC/1.3/CRS84",
+            "columns": "16,17",
+        }
         words["bbox-crs"] = words["crs"]
         words["revision"] = self.client.get("/collections/both")["revision"]
         for path, methods in document["paths"].items():
@@ -87,15 +110,19 @@ class Iceland(FrontCase):
                 listed = [one["name"] for one in methods["get"]["parameters"] if one["in"] == "query"]
                 asked = path.format(collectionId="both", featureId=1)
                 self.client.get(f"{asked}?{urllib.parse.urlencode({name: words[name] for name in listed})}")
-        self.assertEqual({path for path, methods in document["paths"].items() if set(methods) & {"put", "delete", "post"}},
-                         {"/collections/{collectionId}", "/batch"})
+        self.assertEqual(
+            {path for path, methods in document["paths"].items() if set(methods) & {"put", "delete", "post"}},
+            {"/collections/{collectionId}", "/batch"},
+        )
 
     def test_pages_of_items_are_all_of_them(self) -> None:
         whole = self.client.get("/collections/one/items")
         found, path, pages = [], "/collections/one/items?limit=7", 0
         while path:
             page = self.client.get(path)
-            self.assertEqual((page["numberMatched"], page["numberReturned"]), (whole["numberMatched"], len(page["features"])))
+            self.assertEqual(
+                (page["numberMatched"], page["numberReturned"]), (whole["numberMatched"], len(page["features"]))
+            )
             found += page["features"]
             pages += 1
             path = linked(page, "next") if any(link["rel"] == "next" for link in page["links"]) else ""
@@ -163,8 +190,10 @@ class Iceland(FrontCase):
         self.assertEqual(self.client.get("/collections/one/items?bbox=170,60,-1,70")["numberMatched"], everything)
 
     def test_a_box_with_heights(self) -> None:
-        self.assertEqual(self.client.get("/collections/one/items?bbox=-20,63,0,-18,64,9")["features"],
-                         self.client.get("/collections/one/items?bbox=-20,63,-18,64")["features"])
+        self.assertEqual(
+            self.client.get("/collections/one/items?bbox=-20,63,0,-18,64,9")["features"],
+            self.client.get("/collections/one/items?bbox=-20,63,-18,64")["features"],
+        )
 
     def test_an_extent_is_the_box_of_the_layer(self) -> None:
         for name in ("both", "one"):
@@ -176,8 +205,15 @@ class Iceland(FrontCase):
 
     def test_points(self) -> None:
         found = self.client.get("/locate?x=-19&y=65")
-        self.assertEqual(found, {"places": {"iceland_110m": "in", "iceland_50m": "in", "both": "in", "one": "out", "none": "out"},
-                                 "asked": [0, 0, 1], "point": [-19, 65], "exact": True})
+        self.assertEqual(
+            found,
+            {
+                "places": {"iceland_110m": "in", "iceland_50m": "in", "both": "in", "one": "out", "none": "out"},
+                "asked": [0, 0, 1],
+                "point": [-19, 65],
+                "exact": True,
+            },
+        )
         self.assertEqual(self.client.get("/collections/one/locate?x=-19&y=65")["place"], "out")
         # The first corner of the coarse outline, as it is stored, and what lies a hair beside it.
         corner = f"x={189812 - 19 * 42262}/42262&y={145589 + 65 * 100000}/100000"
@@ -192,7 +228,9 @@ class Iceland(FrontCase):
         with self.server.session() as one:
             columns = one.columns("both")
         for tile, pieces in zip(found["tiles"], columns):
-            self.assertEqual(tile["lines"], [[self.store.scale.position(end) for end in piece] for piece in pieces or ()])
+            self.assertEqual(
+                tile["lines"], [[self.store.scale.position(end) for end in piece] for piece in pieces or ()]
+            )
         some = self.client.get("/collections/both/tiles?columns=14,3,14")["tiles"]
         self.assertEqual(some, [found["tiles"][3], found["tiles"][14]])
 
@@ -242,8 +280,14 @@ class Changes(FrontCase):
     def test_layers_are_put_defined_and_dropped(self) -> None:
         made = self.client.change("/collections/A", "PUT", self.square)
         self.assertEqual(made, {"version": self.began + 1, "durable": None, "moved": 0.0})
-        made = self.client.change("/collections/B", "PUT", {"type": "Feature", "geometry": self.square | {"coordinates": [
-            [[500.05, 0.051], [501, 0.05], [501, 1], [500.05, 0.051]]]}})
+        made = self.client.change(
+            "/collections/B",
+            "PUT",
+            {
+                "type": "Feature",
+                "geometry": self.square | {"coordinates": [[[500.05, 0.051], [501, 0.05], [501, 1], [500.05, 0.051]]]},
+            },
+        )
         self.assertAlmostEqual(made["moved"], 0.001)
         self.client.change("/collections/I", "PUT", {"definition": " A & B"})
         status = self.client.get("/status")
@@ -255,7 +299,11 @@ class Changes(FrontCase):
         self.assertEqual(self.client.ask("/collections/I").status, 404)
 
     def test_a_batch_is_one_version_or_none(self) -> None:
-        commands = [{"put": "A", "geometry": self.square}, {"put": "B", "geometry": self.square}, {"define": "I", "definition": "A - B"}]
+        commands = [
+            {"put": "A", "geometry": self.square},
+            {"put": "B", "geometry": self.square},
+            {"define": "I", "definition": "A - B"},
+        ]
         self.assertEqual(self.client.change("/batch", "POST", {"commands": commands})["version"], self.began + 1)
         refused = self.client.ask("/batch", "POST", {"commands": [{"drop": "I"}, {"drop": "Z"}]})
         self.assertEqual((refused.status, refused.value["code"], refused.value["command"]), (404, "10", 1))
@@ -277,7 +325,10 @@ class Changes(FrontCase):
         self.assertEqual(self.client.get("/collections/I")["revision"], before)
 
     def test_pages_go_on_with_their_revision(self) -> None:
-        two = {"type": "MultiPolygon", "coordinates": [self.square["coordinates"], [[[502, 0], [503, 0], [503, 1], [502, 0]]]]}
+        two = {
+            "type": "MultiPolygon",
+            "coordinates": [self.square["coordinates"], [[[502, 0], [503, 0], [503, 1], [502, 0]]]],
+        }
         self.client.change("/collections/A", "PUT", two)
         page = self.client.get("/collections/A/items?limit=1")
         self.client.change("/collections/A", "PUT", self.square)
@@ -287,10 +338,13 @@ class Changes(FrontCase):
         self.assertEqual(self.client.ask("/collections/A/items?revision=0123").status, 409)
 
     def test_tiles_that_are_pending_are_null(self) -> None:
-        lines = [f"PUT {name} {testing.star(440, x, y)}" for name, x, y in (("A", -150_000, 0), ("B", 170_000, 60_000), ("C", 0, -190_000))]
+        lines = [
+            f"PUT {name} {testing.star(440, x, y)}"
+            for name, x, y in (("A", -150_000, 0), ("B", 170_000, 60_000), ("C", 0, -190_000))
+        ]
         self.store.change([*lines, "DEFINE D = (A ^ B) & C"])
         seen = [tile["lines"] for tile in self.client.get("/collections/D/tiles?columns=31,32")["tiles"]]
-        self.client.get("/collections/D")    # its extent, though it may be pending
+        self.client.get("/collections/D")  # its extent, though it may be pending
         with self.server.session(slow=True) as one:
             one.wait("D")
         built = [tile["lines"] for tile in self.client.get("/collections/D/tiles?columns=31,32")["tiles"]]
@@ -311,6 +365,8 @@ class Changes(FrontCase):
     def test_corners_are_written_with_the_digits_of_the_scale(self) -> None:
         self.store.change([f"PUT T {TRIANGLE}", f"PUT S {BAR}", "DEFINE I = T & S"])
         ring = self.client.get("/collections/I/items")["features"][0]["geometry"]["coordinates"][0]
-        self.assertEqual(ring, [[500.01, 0.0033], [500.02, 0.0067], [500.02, 0.0133], [500.01, 0.0167], [500.01, 0.0033]])
+        self.assertEqual(
+            ring, [[500.01, 0.0033], [500.02, 0.0067], [500.02, 0.0133], [500.01, 0.0167], [500.01, 0.0033]]
+        )
         self.assertEqual(self.client.get("/conformance"), {"conformsTo": []})
         self.assertEqual(self.client.get("/collections/I")["storageCrs"], "http://www.opengis.net/def/crs/EPSG/0/32633")

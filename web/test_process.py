@@ -27,8 +27,10 @@ WEB = pathlib.Path(overlay_web.__file__).resolve().parent
 
 def started(*words: str | pathlib.Path) -> subprocess.Popen[str]:
     """A front with a free port. Waitress is hidden from it, as the tests need no package."""
-    code = ("import sys; sys.modules['waitress'] = None; sys.argv[0] = 'overlay_web.py'; "
-            f"sys.path.insert(0, {str(WEB)!r}); import overlay_web; sys.exit(overlay_web.main(sys.argv[1:]))")
+    code = (
+        "import sys; sys.modules['waitress'] = None; sys.argv[0] = 'overlay_web.py'; "
+        f"sys.path.insert(0, {str(WEB)!r}); import overlay_web; sys.exit(overlay_web.main(sys.argv[1:]))"
+    )
     given = [sys.executable, "-c", code, "--program", testing.PROGRAM, "--port", "0", *map(str, words)]
     return subprocess.Popen(given, stdout=subprocess.PIPE, stderr=subprocess.PIPE, text=True)
 
@@ -47,7 +49,7 @@ def running(*words: str | pathlib.Path) -> Iterator[tuple[subprocess.Popen[str],
 
 def asked(address: str, method: str, path: str, body: bytes | None = None) -> tuple[int, Any]:
     host = urllib.parse.urlsplit(address).netloc
-    link = http.client.HTTPConnection(host, timeout=30)
+    link = http.client.HTTPConnection(host, timeout=120)
     try:
         link.request(method, path, body, {"Content-Type": "application/json"} if body else {})
         answer = link.getresponse()
@@ -71,13 +73,16 @@ class Processes(unittest.TestCase):
         (self.folder / "map.scale.json").write_text('{"title": "T", "factor": 10, "unit": "m"}')
 
     def ended(self, run: subprocess.Popen[str]) -> tuple[int, str]:
-        _, told = run.communicate(timeout=60)
+        _, told = run.communicate(timeout=120)
         return run.returncode, told
 
     def test_it_changes_a_store_durably_and_ends_by_a_signal(self) -> None:
         with running("--store", self.store, "--writable") as (run, address):
             self.assertEqual(asked(address, "GET", "/status")[1]["durable"], 1)
-            self.assertEqual(asked(address, "PUT", "/collections/N", b'{"definition": "I"}')[1], {"version": 2, "durable": 2, "moved": 0.0})
+            self.assertEqual(
+                asked(address, "PUT", "/collections/N", b'{"definition": "I"}')[1],
+                {"version": 2, "durable": 2, "moved": 0.0},
+            )
             self.assertEqual(asked(address, "GET", "/collections/N/items")[1]["features"][0]["properties"]["area"], 1)
             self.assertEqual(asked(address, "GET", "/locate?x=0.5&y=0.5")[1]["asked"], [5, 5, 1])
             run.send_signal(signal.SIGTERM)
@@ -96,7 +101,9 @@ class Processes(unittest.TestCase):
         with running("--store", self.store) as (_, first), running("--store", self.store) as (_, second):
             for address in (first, second):
                 status = asked(address, "GET", "/status")[1]
-                self.assertEqual((status["version"], status["durable"], status["writable"], status["title"]), (1, 1, False, "T"))
+                self.assertEqual(
+                    (status["version"], status["durable"], status["writable"], status["title"]), (1, 1, False, "T")
+                )
                 self.assertEqual(asked(address, "GET", "/collections/I/items")[1]["numberMatched"], 1)
                 self.assertEqual(asked(address, "DELETE", "/collections/I")[0], 403)
             with running("--store", self.store, "--writable") as (run, address):
@@ -106,7 +113,11 @@ class Processes(unittest.TestCase):
     def test_it_ends_where_the_program_has_ended(self) -> None:
         with running("--store", self.store, "--writable") as (run, address):
             asked(address, "GET", "/status")
-            found = [pid for pid in children(run.pid) if f"--store\0{self.store}" in pathlib.Path(f"/proc/{pid}/cmdline").read_text()]
+            found = [
+                pid
+                for pid in children(run.pid)
+                if f"--store\0{self.store}" in pathlib.Path(f"/proc/{pid}/cmdline").read_text()
+            ]
             self.assertEqual(len(found), 1)
             os.kill(found[0], signal.SIGKILL)
             self.assertEqual(self.ended(run), (1, "overlay_live has ended with status -9\n"))
@@ -119,7 +130,7 @@ class Processes(unittest.TestCase):
                 self.assertGreater(len(begun), 2)
                 run.send_signal(number)
                 self.ended(run)
-            end = time.monotonic() + 20
+            end = time.monotonic() + 60
             while left := [pid for pid in begun if pathlib.Path(f"/proc/{pid}").exists()]:
                 self.assertLess(time.monotonic(), end, left)
                 time.sleep(0.05)
@@ -133,10 +144,11 @@ class Processes(unittest.TestCase):
 
     def test_stores_and_scales_that_cannot_be_opened(self) -> None:
         tries: list[tuple[list[str | pathlib.Path], str]] = [
-                            (["--store", self.folder / "none.db"], "error 30 device"),
-                            (["--store", self.store, "--scale", self.folder / "none.json"], "none.json"),
-                            (["--store", self.folder / "map.scale.json"], "error 32 not a store"),
-                            (["--store", self.store, "--create", "--writable"], "error 34 not empty")]
+            (["--store", self.folder / "none.db"], "error 30 device"),
+            (["--store", self.store, "--scale", self.folder / "none.json"], "none.json"),
+            (["--store", self.folder / "map.scale.json"], "error 32 not a store"),
+            (["--store", self.store, "--create", "--writable"], "error 34 not empty"),
+        ]
         for words, told in tries:
             with running(*words) as (run, address):
                 status, text = self.ended(run)
@@ -145,13 +157,25 @@ class Processes(unittest.TestCase):
                 self.assertEqual(text.count("\n"), 1, text)
 
     def test_words(self) -> None:
-        for line in ("--store map.db --writable --host 0.0.0.0", "--writable --host ::", "", "--create", "--store map.db --create",
-                     "--writable --host map.example.org", "--colour", "--store map.db --base map.example.org"):
+        for line in (
+            "--store map.db --writable --host 0.0.0.0",
+            "--writable --host ::",
+            "",
+            "--create",
+            "--store map.db --create",
+            "--writable --host map.example.org",
+            "--colour",
+            "--store map.db --base map.example.org",
+        ):
             with running(*line.split()) as (run, _):
                 self.assertEqual(self.ended(run)[0], 2, line)
         words = overlay_web.words_of(["--store", "map.db", "--host", "10.1.2.3", "--name", "Map.Example.Org"])
         self.assertEqual(overlay_web.hosts_of(words), {"10.1.2.3", "map.example.org"})
-        self.assertTrue(overlay_web.is_loopback("127.8.8.8") and overlay_web.is_loopback("::1") and overlay_web.is_loopback("localhost"))
+        self.assertTrue(
+            overlay_web.is_loopback("127.8.8.8")
+            and overlay_web.is_loopback("::1")
+            and overlay_web.is_loopback("localhost")
+        )
         self.assertFalse(overlay_web.is_loopback("localhost.example") or overlay_web.is_loopback("0.0.0.0"))
 
     def test_a_question_that_does_not_end_holds_up_no_other(self) -> None:

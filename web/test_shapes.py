@@ -61,9 +61,11 @@ def meets(rings: list[list[Place]], box: Box) -> bool:
 
 def random_rings(source: random.Random, reach: int) -> list[list[tuple[int, int, int]]]:
     """A triangle or a quadrangle with corners in fractions, and at times another beside or within it."""
+
     def corner() -> tuple[int, int, int]:
         w = source.choice((1, 1, 2, 3, 7))
         return source.randrange(-reach * w, reach * w + 1), source.randrange(-reach * w, reach * w + 1), w
+
     rings = [[corner() for _ in range(source.choice((3, 3, 4)))] for _ in range(source.choice((1, 1, 2)))]
     return [ring for ring in rings if len({(Fraction(x, w), Fraction(y, w)) for x, y, w in ring}) == len(ring)]
 
@@ -89,8 +91,16 @@ class Shapes(unittest.TestCase):
 
     def test_a_box_that_touches_in_a_point_meets(self) -> None:
         feature = Feature(1, [[(0, 0, 1), (3, 1, 1), (0, 2, 1)]], testing.map_scale())
-        for box, right in (("3 1 5 5", True), ("301/100 1 5 5", False), ("-1 -1 0 0", True), ("3/2 3/2 5 5", True),
-                           ("151/100 3/2 5 5", False), ("1 1 1 1", True), ("1 1/3 1 1/3", True), ("-9 -9 9 9", True)):
+        for box, right in (
+            ("3 1 5 5", True),
+            ("301/100 1 5 5", False),
+            ("-1 -1 0 0", True),
+            ("3/2 3/2 5 5", True),
+            ("151/100 3/2 5 5", False),
+            ("1 1 1 1", True),
+            ("1 1/3 1 1/3", True),
+            ("-9 -9 9 9", True),
+        ):
             self.assertEqual(feature.meets(Box(*map(Fraction, box.split()))), right, box)
 
     def test_a_box_within_a_hole_meets_nothing(self) -> None:
@@ -104,8 +114,16 @@ class Shapes(unittest.TestCase):
         source = random.Random(2)
         for number in range(300):
             scale = testing.map_scale(factor=(1, 100, "42262.5")[number % 3], factor_y=(1, 7)[number % 2], digits=12)
-            rings = [[(source.randrange(-(2**62), 2**62), source.randrange(-(2**62), 2**62), source.randrange(1, 2**42))
-                      for _ in range(source.randrange(3, 9))]]
+            rings = [
+                [
+                    (
+                        source.randrange(-(2**62), 2**62),
+                        source.randrange(-(2**62), 2**62),
+                        source.randrange(1, 2**42),
+                    )
+                    for _ in range(source.randrange(3, 9))
+                ]
+            ]
             places = [scale.scale.world(corner) for corner in rings[0]]
             twice = sum(a[0] * b[1] - b[0] * a[1] for a, b in zip(places, places[1:] + places[:1]))
             right = float(rounded(twice.numerator, twice.denominator * 2, 12))
@@ -114,12 +132,36 @@ class Shapes(unittest.TestCase):
 
 class Numbers(unittest.TestCase):
     def test_numbers_are_bounded(self) -> None:
-        for text, value in (("1", 1), ("-0.5", Fraction(-1, 2)), ("1e3", 1000), ("5/3", Fraction(5, 3)), (".5", Fraction(1, 2)),
-                            ("2.5e-2", Fraction(1, 40)), ("+7", 7), ("-1/4", Fraction(-1, 4))):
+        for text, value in (
+            ("1", 1),
+            ("-0.5", Fraction(-1, 2)),
+            ("1e3", 1000),
+            ("5/3", Fraction(5, 3)),
+            (".5", Fraction(1, 2)),
+            ("2.5e-2", Fraction(1, 40)),
+            ("+7", 7),
+            ("-1/4", Fraction(-1, 4)),
+        ):
             self.assertEqual(exact(text), value, text)
         bad: tuple[object, ...] = (
-            "", ".", "1e999", "1e99999999", "1/0", "1//2", "nan", "inf", "0x10", "1" * 21, "1_0", "1/3.5", "e5", "٣",
-            True, None, [1])
+            "",
+            ".",
+            "1e999",
+            "1e99999999",
+            "1/0",
+            "1//2",
+            "nan",
+            "inf",
+            "0x10",
+            "1" * 21,
+            "1_0",
+            "1/3.5",
+            "e5",
+            "٣",
+            True,
+            None,
+            [1],
+        )
         for given in bad:
             self.assertRaises(ValueError, exact, given)
 
@@ -141,7 +183,11 @@ class Numbers(unittest.TestCase):
         source = random.Random(4)
         scale = testing.map_scale(factor="42262.25", factor_y=100000, origin=["-19.125", 65], digits=9)
         for _ in range(500):
-            corner = source.randrange(-(2**40), 2**40), source.randrange(-(2**40), 2**40), source.randrange(1, 2**21)
+            corner = (
+                source.randrange(-(2**40), 2**40),
+                source.randrange(-(2**40), 2**40),
+                source.randrange(1, 2**21),
+            )
             world = scale.scale.world(corner)
             self.assertEqual(scale.position(corner), [scale.number(n) for n in world])
             self.assertEqual(scale.scale.stored(*world), (Fraction(*corner[::2]), Fraction(*corner[1:])))
@@ -156,7 +202,10 @@ class Numbers(unittest.TestCase):
     def test_columns_and_limits(self) -> None:
         scale = testing.map_scale(factor=2, origin=[100, 0])
         self.assertEqual(scale.limits(), [100 - 2**19, -(2**19), 100 + 2**19, 2**19])
-        self.assertEqual((len(scale.columns()), scale.columns()[0], scale.columns()[-1]), (limits.COLUMNS, 100 - 2**19, 100 + 2**19))
+        self.assertEqual(
+            (len(scale.columns()), scale.columns()[0], scale.columns()[-1]),
+            (limits.COLUMNS, 100 - 2**19, 100 + 2**19),
+        )
 
 
 class Texts(unittest.TestCase):
@@ -165,7 +214,9 @@ class Texts(unittest.TestCase):
         ring = [["500.5", 0], [501, 0], [501, 1, 77], ["500.5", 0]]
         given = json.loads(json.dumps({"type": "Polygon", "coordinates": [ring]}), parse_int=str)
         self.assertEqual(text_of(given, scale), ("MULTIPOLYGON (((50 0, 100 0, 100 100, 50 0)))", 0.0))
-        self.assertEqual(text_of({"type": "MultiPolygon", "coordinates": [[ring], [ring, ring]]}, scale).wkt.count("50 0, 100 0"), 3)
+        self.assertEqual(
+            text_of({"type": "MultiPolygon", "coordinates": [[ring], [ring, ring]]}, scale).wkt.count("50 0, 100 0"), 3
+        )
         self.assertEqual(text_of({"type": "MultiPolygon", "coordinates": []}, scale).wkt, "MULTIPOLYGON EMPTY")
         self.assertEqual(text_of({"type": "Polygon", "coordinates": []}, scale).wkt, "MULTIPOLYGON EMPTY")
 
@@ -177,10 +228,19 @@ class Texts(unittest.TestCase):
 
     def test_what_is_no_polygon_is_refused(self) -> None:
         bad: tuple[object, ...] = (
-            None, [], {}, {"type": "Point", "coordinates": [0, 0]}, {"type": "Polygon"}, {"type": ["Polygon"], "coordinates": []},
-            {"type": "Polygon", "coordinates": [[]]}, {"type": "Polygon", "coordinates": [[[0]]]},
-            {"type": "Polygon", "coordinates": [[["a", 0]]]}, {"type": "Polygon", "coordinates": "x"},
-            {"type": "Polygon", "coordinates": {"0": 1}}, {"type": "Polygon", "coordinates": [[["1e99999999", 0]]]},
-            {"type": "MultiPolygon", "coordinates": [[[[]]]]})
+            None,
+            [],
+            {},
+            {"type": "Point", "coordinates": [0, 0]},
+            {"type": "Polygon"},
+            {"type": ["Polygon"], "coordinates": []},
+            {"type": "Polygon", "coordinates": [[]]},
+            {"type": "Polygon", "coordinates": [[[0]]]},
+            {"type": "Polygon", "coordinates": [[["a", 0]]]},
+            {"type": "Polygon", "coordinates": "x"},
+            {"type": "Polygon", "coordinates": {"0": 1}},
+            {"type": "Polygon", "coordinates": [[["1e99999999", 0]]]},
+            {"type": "MultiPolygon", "coordinates": [[[[]]]]},
+        )
         for given in bad:
             self.assertRaises(ValueError, text_of, given, testing.map_scale())

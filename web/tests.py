@@ -28,6 +28,7 @@ MODULES = (test_shapes, test_client, test_front, test_refusals, test_process)
 
 def chosen(names: list[str]) -> unittest.TestSuite:
     """All tests, or those of which a name is a part of the name."""
+
     def flat(suite: unittest.TestSuite) -> list[unittest.TestCase]:
         return [case for one in suite for case in (flat(one) if isinstance(one, unittest.TestSuite) else [one])]
 

@@ -50,7 +50,8 @@ class Request:
         self.path = str(environ.get("PATH_INFO") or "/")
         try:
             words = urllib.parse.parse_qsl(
-                environ.get("QUERY_STRING", ""), keep_blank_values=True, max_num_fields=WORDS_MOST)
+                environ.get("QUERY_STRING", ""), keep_blank_values=True, max_num_fields=WORDS_MOST
+            )
         except ValueError as fault:
             raise Problem(400, f"the question: {fault}") from fault
         self.words = dict(words)
@@ -90,7 +91,9 @@ class Request:
         if int(told) > BODY_MOST:
             raise Problem(413, f"a body has at most {BODY_MOST} bytes")
         try:
-            value = json.loads(self.environ["wsgi.input"].read(int(told)), parse_float=str, parse_int=str, parse_constant=str)
+            value = json.loads(
+                self.environ["wsgi.input"].read(int(told)), parse_float=str, parse_int=str, parse_constant=str
+            )
         except (ValueError, RecursionError) as fault:
             raise Problem(400, f"no JSON: {fault}") from fault
         if not isinstance(value, dict):

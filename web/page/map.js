@@ -105,7 +105,7 @@ function listen() {
 async function look() {
   for (;;) {
     await pause(LOOKS);
-    const state = await ask("status").catch(() => null);
+    const state = await ask("status").catch(fault => tell(`the front does not answer: ${fault.message}`, true));
     if (state && state.version !== page.state.version) await telling(refresh);
     else if (state && state.durable !== page.state.durable) showStatus(page.state = state);
   }

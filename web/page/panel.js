@@ -31,9 +31,10 @@ function row(layer, place, plot, state, drop) {
   swatch.style.background = layer.definition ? colour(place) : "none";
   const text = make("div", undefined, "text");
   text.append(make("span", layer.id, "name"), make("code", layer.definition ? `= ${layer.definition}` : "base layer"));
-  made.append(box, swatch, text);
-  if (layer.extent) made.append(button("\u2316", "go there", () => plot.fit(layer.extent.spatial.bbox)));
-  if (state.writable) made.append(button("\u00d7", `drop ${layer.id}`, () => drop(layer.id)));
+  const tools = make("span", undefined, "tools");
+  if (layer.extent) tools.append(button("\u2316", "go there", () => plot.fit(layer.extent.spatial.bbox)));
+  if (state.writable) tools.append(button("\u00d7", `drop ${layer.id}`, () => drop(layer.id)));
+  made.append(box, swatch, text, tools);
   return made;
 }
 
