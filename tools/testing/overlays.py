@@ -37,7 +37,7 @@ def check(test, layers, inside, polygons):
 
 
 class PlainOverlay(unittest.TestCase):
-    def test_random_layers(self):
+    def test_random_layers(self) -> None:
         source = random.Random(20)
         for number in range(120):
             reach = 5 if number % 2 else 14
@@ -47,7 +47,7 @@ class PlainOverlay(unittest.TestCase):
 
 
 class ProgramBeside(WithProgram):
-    def test_the_program_gives_the_same_pieces(self):
+    def test_the_program_gives_the_same_pieces(self) -> None:
         source = random.Random(21)
         for number in range(12):
             layers = [random_rings(source, 8), random_rings(source, 8)]
