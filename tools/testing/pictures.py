@@ -2,6 +2,7 @@
 
 import unittest
 import xml.etree.ElementTree
+from fractions import Fraction
 
 import limits
 import scale
@@ -12,8 +13,8 @@ from testing.rings import shapes
 
 
 class ToSvg(unittest.TestCase):
-    def picture(self, layer):
-        told = []
+    def picture(self, layer: str) -> tuple[str, list[str]]:
+        told: list[str] = []
         return to_svg.picture(shapes(), layer, 800, told.append), told
 
     def test_a_picture_is_xml(self) -> None:
@@ -44,9 +45,9 @@ class ToSvg(unittest.TestCase):
 
     def test_a_bar_of_the_scale(self) -> None:
         # The view is 10.5 wide; a fifth of that in tenths of a foot is 0.21 ft, so the bar is of 0.2 ft, 2 wide.
-        foot = scale.Scale(scale.Fraction(10), scale.Fraction(10), unit="ft")
+        foot = scale.Scale(Fraction(10), Fraction(10), unit="ft")
         text = to_svg.picture(shapes(), "I", 800, self.fail, foot)
-        self.assertIn(">0.2 ft</text>", text)
+        self.assertIn(">0.2 ft; lower left 0 0, upper right 1.5 1.5</text>", text)
 
     def test_a_grid(self) -> None:
         script = b"PUT A " + SQUARE.encode() + b"\nDEFINE I = A\nGRID I 4 4 2 4 4\n"

@@ -1,6 +1,7 @@
 """Tests of to_rings.py: rings of answers that stand in fixtures/, and of answers that a program gives."""
 
 import io
+import pathlib
 import sys
 import unittest
 from fractions import Fraction
@@ -10,24 +11,24 @@ import to_rings
 import to_svg
 from scale import decimals
 from testing.common import InFolder, content, outcome, path
-from testing.plain import area_twice, overlay
+from testing.plain import OPERATIONS, Place, area_twice, overlay
 
 
-def shapes():
+def shapes() -> sessions.Session:
     return sessions.read(content("fixtures", "shapes.txt"), content("fixtures", "shapes.replies"))
 
 
-def rings_of(session, layer):
+def rings_of(session: sessions.Session, layer: str) -> list[list[tuple[bool, list[Place]]]]:
     """The rings of a layer's polygons, corners as pairs of fractions."""
     return [[(ring.outer, [(Fraction(x, w), Fraction(y, w)) for x, y, w in ring.corners]) for ring in polygon]
             for polygon in to_rings.layer_polygons(session, layer)]
 
 
-def outer(*corners):
-    return True, [(Fraction(x), Fraction(y)) for x, y in corners]
+def outer(*corners: tuple[object, object]) -> tuple[bool, list[Place]]:
+    return True, [(Fraction(str(x)), Fraction(str(y))) for x, y in corners]
 
 
-def hole(*corners):
+def hole(*corners: tuple[object, object]) -> tuple[bool, list[Place]]:
     return False, outer(*corners)[1]
 
 
@@ -73,7 +74,7 @@ class ToRings(unittest.TestCase):
         with self.assertRaisesRegex(sessions.Unusable, "Gone: column 0: not asked, or asked before a change"):
             to_rings.layer_polygons(self.session, "Gone")
 
-    def words(self, layer):
+    def words(self, layer: str) -> tuple[str, ...]:
         return path("fixtures", "shapes.txt"), "--replies", path("fixtures", "shapes.replies"), "--layer", layer
 
     def test_the_text(self) -> None:
@@ -89,7 +90,7 @@ class ToRings(unittest.TestCase):
     def test_holes_and_islands_in_each_other(self) -> None:
         frames = [[(-x, -x), (x, -x), (x, x), (-x, x)] for x in (1, 2, 3, 4, 5, 6, 7)]
         aside = [[(x, 10), (x + 2, 10), (x + 2, 12), (x, 12)] for x in (0, 20)]
-        polygons = to_rings.polygons_of(overlay([frames + aside, []], lambda a, _: a))
+        polygons = to_rings.polygons_of(overlay([frames + aside, []], OPERATIONS["|"]))
         corners = [[ring.corners[0][0] for ring in polygon] for polygon in polygons]
         self.assertEqual(corners, [[-7, -6], [-5, -4], [-3, -2], [-1], [0], [20]])
 
@@ -152,7 +153,7 @@ class Runs(InFolder):
         whole = content("fixtures", "iceland.txt")
         self.script = self.file("script.txt", whole[: whole.index(b"WAIT")])
 
-    def program(self, ending=""):
+    def program(self, ending: str = "") -> pathlib.Path:
         script, replies = path("fixtures", "iceland.txt"), path("fixtures", "iceland.replies")
         return self.file("program", f"#!/bin/sh\ncmp -s - '{script}' || exit 3\ncat '{replies}'\n{ending}", 0o700)
 

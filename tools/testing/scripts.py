@@ -98,7 +98,7 @@ class ToScript(unittest.TestCase):
             self.assertIn("not read", errors)
 
     def test_too_many_steps(self) -> None:
-        def zigzag(steps):
+        def zigzag(steps: int) -> str:
             points = [f"{i} {i * 7919 % 1000}" for i in range(steps)] + ["0 0"]
             return "POLYGON ((" + ", ".join(points) + "))"
         self.assertEqual(on_file(to_script, zigzag(1000))[0], 0)
@@ -122,19 +122,19 @@ class ToScript(unittest.TestCase):
         self.assertIn("layer iceland_50m: polygons 1, steps 452; 902 of 906 coordinates rounded", errors)
 
 
-def feature(name, shift=0, kind="Polygon"):
+def feature(name: str, shift: int = 0, kind: str = "Polygon") -> str:
     ring = f"[[{shift}, 0], [{shift + 5}, 0], [{shift}, 5.0], [{shift}, 0]]"
     rings = f"[{ring}]" if kind == "Polygon" else f"[[{ring}]]"
     return (f'{{"type": "Feature", "properties": {{"name": {name}}}, '
             f'"geometry": {{"type": "{kind}", "coordinates": {rings}}}}}')
 
 
-def collection(*features):
+def collection(*features: str) -> str:
     return '{"type": "FeatureCollection", "features": [' + ", ".join(features) + "]}"
 
 
 class Names(unittest.TestCase):
-    def names(self, *wishes):
+    def names(self, *wishes: str) -> tuple[list[str], int, str]:
         text = collection(*(feature(wish, 10 * i) for i, wish in enumerate(wishes)))
         status, output, errors = on_file(to_script, text, "--name-by", "name")
         return [line.split()[1] for line in output.splitlines()], status, errors

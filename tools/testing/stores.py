@@ -6,6 +6,7 @@ import pathlib
 import unittest
 import unittest.mock
 import xml.etree.ElementTree
+from types import ModuleType
 
 import asking
 import dump_store
@@ -28,7 +29,7 @@ SCALE = '{"title": "Plan", "factor": 10, "origin": [500, -20], "unit": "m", "crs
 class OverScripts(InFolder):
     """The plain model of bench/ is the program here."""
 
-    def asked(self, tool, text, *words):
+    def asked(self, tool: ModuleType, text: str, *words: object) -> tuple[int, str, str]:
         return outcome(tool, self.file("plan.txt", text), "--program", self.model(), *words)
 
     def test_a_base_layer_has_the_boundary_of_its_inside(self) -> None:
@@ -69,7 +70,7 @@ class OverScripts(InFolder):
         self.assertIn("area 1/75 0.0133", self.asked(to_rings, CUT, "--areas")[1])
         self.assertEqual(self.asked(to_rings, CUT, "--factor", 1, "--digits", 2)[1],
                          "POLYGON ((1 0.33, 3 1, 1 1.67, 1 0.33))\n")
-        self.assertIn(" m</text>", self.asked(to_svg, CUT)[1])
+        self.assertIn(" m; lower left ", self.asked(to_svg, CUT)[1])
         scale.write_text("[]")
         self.assertEqual(self.asked(to_rings, CUT)[:2], (1, ""))
 
@@ -124,7 +125,7 @@ class OverStores(WithProgram):
             replies = asking.ran(self.program, [], content("fixtures", f"{name}.txt"))
             self.assertEqual(replies, content("fixtures", f"{name}.replies"))
 
-    def each(self, tool, store, *words):
+    def each(self, tool: ModuleType, store: pathlib.Path, *words: object) -> tuple[int, str, str]:
         """The one outcome of a tool by each program that can read the store, which stays as it is."""
         before = store.read_bytes()
         found = [outcome(tool, "--store", store, "--program", program, *words) for program in self.readers()]
@@ -170,10 +171,17 @@ class OverStores(WithProgram):
         with store.open("rb+") as file:
             fcntl.flock(file, fcntl.LOCK_EX)
             for program in self.readers():
-                for words in ((to_rings, "--store", store), (dump_store, store), (which, "--store", store, 1, 1)):
-                    self.assertEqual(outcome(*words, "--program", program),
+                for tool, words in ((to_rings, "--store"), (dump_store, ""), (which, "1 1 --store")):
+                    self.assertEqual(outcome(tool, *words.split(), store, "--program", program),
                                      (1, "", f"{store}: another program holds it, and may write\n"))
         self.assertEqual(self.each(to_rings, store)[0], 0)
+
+    def test_a_store_that_has_to_be_written_at_its_opening_is_asked_as_a_copy(self) -> None:
+        text = f"#!/bin/sh\ncase $1 in --read-only) echo error 30 device >&2; exit 1;; esac\nexec '{self.program}' \"$@\"\n"
+        store, program = self.store("plan.db", CUT), self.file("overlay_live", text, 0o700)
+        before = store.read_bytes()
+        self.assertEqual(outcome(to_rings, "--store", store, "--program", program, "--areas")[1].split()[-2], "4/3")
+        self.assertEqual(store.read_bytes(), before)
 
     def test_files_that_are_no_store(self) -> None:
         none = self.file("none.db", "no store")
@@ -218,8 +226,8 @@ class OfAnswers(InFolder):
             which.of_bits(table, ["out", "in", "in"])
 
     def test_tables_that_are_none(self) -> None:
-        for text in ("", "a,b\n1,2\n", "store,number,name\n1,x,y\n", "store,number,name\n1\n"):
-            with self.assertRaises(sessions.Unusable) if text else unittest.mock.MagicMock():
-                which.read_table(self.file("names.csv", text))
+        for text in ("a,b\n1,2\n", "store,number,name\n1,x,y\n", "store,number,name\n1\n", "\xff"):
+            with self.assertRaises(sessions.Unusable, msg=text):
+                which.read_table(self.file("names.csv", text.encode("latin-1") + b"\n"))
         self.assertEqual(which.read_table(self.file("names.csv", "\ufeffstore,number,name\r\n2,3,Ash\r\n")), {2: {3: "Ash"}})
 
