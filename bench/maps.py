@@ -68,7 +68,8 @@ CHARTS = [
           "usr/lib/python3/dist-packages/geopandas/datasets/naturalearth_lowres/naturalearth_lowres.shp", "name", [],
           177, False),
     Chart("boroughs", "python3-geopandas",
-          "/vsizip/usr/lib/python3/dist-packages/geopandas/datasets/nybb_16a.zip/nybb.shp", "BoroName", ["--split"], 5, False),
+          "/vsizip/usr/lib/python3/dist-packages/geopandas/datasets/nybb_16a.zip/nybb.shp", "BoroName",
+          ["--split", "--unit", "ft"], 5, False),
     Chart("counties", "r-cran-spdata", "usr/lib/R/site-library/spData/shapes/sids.shp", "NAME", ["--coded", "--check"], 100, True),
 ]
 
@@ -336,9 +337,9 @@ def tried(chart: Chart, program: str, folder: pathlib.Path) -> tuple[Result, str
     geos = asked_of_geos(task_of(shapes, overlays, list(whole), [number for _, number in points]))
     before = read_area(read)
     held = sum((rounding.area_of(polygons) for polygons in whole.values()), Fraction(0))
-    moved = max(line.split("largest move ")[1].split(",")[0] for line in told.splitlines() if "largest move" in line)
+    moves = [line.split("largest move ")[1].split(",")[0] for line in told.splitlines() if "largest move" in line]
     result = Result(chart, sum(map(rounding.steps_of, whole.values())), sum(len(script.splitlines()) for script in base),
-                    len(stores), f"{moved} {scale.unit}".removesuffix(" 1"), float(scale.area(held)) / before)
+                    len(stores), f"{max(moves, key=float)} {scale.unit}".removesuffix(" 1"), float(scale.area(held)) / before)
     if len(whole) != chart.features or any(not polygons for polygons in whole.values()):
         result.wrong.append(f"{chart.name}: {len(whole)} features of {chart.features}")
     compare(result, overlays, [area for own in ours for area in own], geos["areas"])

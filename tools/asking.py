@@ -1,4 +1,3 @@
-#!/usr/bin/env python3
 """Asks the program: of a script's layers, or of those of a store, which is read and never changed.
 
 Where the program is overlay_live it opens the store by --read-only. Else, and where opening the store has to write, the

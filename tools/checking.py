@@ -1,4 +1,3 @@
-#!/usr/bin/env python3
 """Exact areas of expressions over a script's layers, and by them whether features of coded layers overlap.
 
 A module for to_script.py and bench/; it is no tool of its own.
@@ -60,7 +59,8 @@ def overlapping(program: str, store: Store) -> list[str]:
         raise sessions.Unusable(f"{limits.LAYERS_MAX} layers leave no room for --check")
     texts = [layering.expression_of(number, len(store.features)) for number in range(1, len(store.features) + 1)]
     lines = [line for layout in store.layouts for line in layout.lines()]
-    coded = areas(program, [(lines, texts[0]), *(([], text) for text in texts[1:])])
+    steps: list[Step] = [([] if place else lines, text) for place, text in enumerate(texts)]
+    coded = areas(program, steps)
     own = areas_of_groups(program, store.features)
     return [group.wish for group, one, other in zip(store.features, coded, own, strict=True) if one != other]
 

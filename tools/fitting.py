@@ -1,4 +1,3 @@
-#!/usr/bin/env python3
 """Proposes a factor and an origin from the box of a map, and says where those that were used do not fit it.
 
 A module for to_script.py; it is no tool of its own.

@@ -1,4 +1,3 @@
-#!/usr/bin/env python3
 """Lays polygons out over layers and stores: rings that are too long are split exactly, and coded layers number features.
 
 A ring is cut into runs, each closed through the ring's first point: the chords stand twice, so that by even-odd the

@@ -1,4 +1,3 @@
-#!/usr/bin/env python3
 """The limits of overlayd and the borders of its columns: the one place where Python has these numbers.
 
 A module for the tools and for bench/; it is no tool of its own.

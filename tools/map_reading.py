@@ -1,4 +1,3 @@
-#!/usr/bin/env python3
 """Reads GeoJSON and Well-Known Text into shapes, and tells the names of their coordinates.
 
 A module for to_script.py; it is no tool of its own.

@@ -1,4 +1,3 @@
-#!/usr/bin/env python3
 """Polygons in whole numbers of those in fractions, and what rounding did to them.
 
 A module for to_script.py; it is no tool of its own.

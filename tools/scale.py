@@ -1,4 +1,3 @@
-#!/usr/bin/env python3
 """What the whole numbers of a store mean in the world, and the file NAME.scale.json that says so.
 
     {"title": "Boroughs", "factor": 10, "factor_y": 10, "origin": [985000, 189000], "unit": "ft", "crs": "EPSG:2263",

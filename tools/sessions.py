@@ -1,4 +1,3 @@
-#!/usr/bin/env python3
 """Reads scripts of overlayd and their replies: which layers stand, what EDGES and GRID answered, what was refused.
 
 A module for the tools; it is no tool of its own.

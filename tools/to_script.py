@@ -169,7 +169,7 @@ def check_scale(reader: Reader, box: fitting.Box | None, scale: Scale, given: bo
     factor, origin = fitting.proposed(box)
     if (factor, origin) == (scale.factor, scale.origin):
         return []
-    told = (f"at {fitting.words(scale.factor, scale.origin)[2:].replace(' --', ', ')} {'; '.join(wrong)}; to be fitted: "
+    told = (f"at {fitting.words(scale.factor, scale.origin)[2:].replace(' --', ', ')}: {'; '.join(wrong)}; to be fitted: "
             f"{fitting.words(factor, origin)}, or --fit")
     if not given:
         raise Stopped(told)

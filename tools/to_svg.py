@@ -6,8 +6,8 @@
 
 The base layers are those that the layer's definition reaches, filled by even-odd. Above each column stands its number
 and how many pieces its tile has. With --grid N, or where the replies hold a GRID of the layer, its points are drawn:
-full where in, a ring where edge, small where out. Where a scale is there, a bar of it is drawn. Coordinates of the
-picture are rounded to a hundredth of a unit.
+full where in, a ring where edge, small where out. Where a scale is there, a bar of it and the corners of the picture are
+told. Coordinates of the picture are rounded to a hundredth of a unit.
 
 Status 0: the picture is whole; 1: it is not, or a line of the script was refused (each is told), or there is none.
 """
@@ -150,15 +150,25 @@ def joined(session: Session, layer: str, say: Callable[[str], None]
     return pieces, counts, to_rings.polygons_of(pieces)
 
 
+def corners(view: View, scale: scales.Scale) -> str:
+    """The places of the world in the lower left and the upper right of the picture, to a hundredth of its width."""
+    digits = max(0, 2 - math.floor(math.log10((view.right - view.left) / float(scale.factor))))
+    places = [scale.world((round(x), round(y), 1)) for x, y in ((view.left, view.low), (view.right, view.high))]
+    texts = [" ".join(scales.decimals(part, digits) for part in place) for place in places]
+    return f"lower left {texts[0]}, upper right {texts[1]}"
+
+
 def bar(view: View, scale: scales.Scale, y: float) -> list[str]:
-    """A bar as long as 1, 2 or 5 times a power of ten in the world's unit, about a fifth of the picture."""
+    """A bar as long as 1, 2 or 5 times a power of ten in the world's unit, at most a fifth of the picture, and its corners.
+    """
     length = (view.right - view.left) / float(scale.factor) / 5
     power = 10.0 ** math.floor(math.log10(length))
     length = max(step * power for step in (1, 2, 5) if step * power <= length)
     right = number(SIDE + length * float(scale.factor) * view.scale)
     text = f"{length:.10g} {scale.unit}".removesuffix(" 1")
     return [f'<path d="M{SIDE} {number(y - 8)}v4H{right}v-4" fill="none" stroke="{INK}" stroke-width="1.2"/>',
-            f'<text x="{number(float(right) + 8)}" y="{number(y)}" fill="{INK}">{html.escape(text)}</text>']
+            f'<text x="{number(float(right) + 8)}" y="{number(y)}" fill="{INK}">'
+            f'{html.escape(text)}; {corners(view, scale)}</text>']
 
 
 def picture(session: Session, layer: str, width: int, say: Callable[[str], None],

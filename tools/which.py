@@ -2,7 +2,7 @@
 """Tells which layers, or which features of coded layers, have a point.
 
     tools/which.py --store map.db 7 7
-    tools/which.py --store nc.db --names nc.names.csv -- -78.64 35.77
+    tools/which.py --store nc.db --names nc.names.csv -78.64 35.77
     tools/which.py --store nc.db --names nc.names.csv --points points.txt
 
 Without --names the layers are those that no definition names, and each that has the point is told. With --names the
@@ -121,7 +121,7 @@ def read_points(words: argparse.Namespace) -> list[Point]:
     """The points of the words, or of the file: two numbers on a line, apart by blanks, a comma or a semicolon."""
     if words.points is None:
         if len(words.numbers) != 2:
-            raise Unusable("a point is two numbers; where the first begins with -, put -- before it")
+            raise Unusable("a point is two numbers")
         lines = [" ".join(words.numbers)]
     else:
         try:
@@ -154,7 +154,7 @@ def questions(points: list[Point], scale: Scale, say: list[str]) -> list[tuple[i
 
 def parser_of() -> argparse.ArgumentParser:
     parser = argparse.ArgumentParser(description=__doc__, formatter_class=argparse.RawDescriptionHelpFormatter)
-    parser.add_argument("numbers", metavar="X Y", nargs="*", help="a point; put -- before one that begins with -")
+    parser.add_argument("numbers", metavar="X Y", nargs="*", help="a point")
     parser.add_argument("--store", metavar="FILE", type=pathlib.Path, action="append", required=True,
                         help="a store; it is not changed")
     parser.add_argument("--names", metavar="FILE", type=pathlib.Path, help="NAME.names.csv of to_script.py --coded")

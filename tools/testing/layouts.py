@@ -52,7 +52,7 @@ class Fitting(InFolder):
         status, output, errors = on_file(to_script, self.degrees)
         self.assertEqual((status, output), (2, ""))
         # Half of 5.7677 degrees goes 363,600 times into 2^20; 4 digits stand behind the points.
-        self.assertEqual(errors, "at factor 1, origin 0 0 coordinates move by up to 0.473, more than a 1000th of the "
+        self.assertEqual(errors, "at factor 1, origin 0 0: coordinates move by up to 0.473, more than a 1000th of the "
                                  "extent, 5.77; to be fitted: --factor 10000 --origin -78.66 35.08, or --fit\n")
         words = errors.split("fitted: ")[1].split(", or")[0].split()
         status, output, errors = on_file(to_script, self.degrees, *words)
@@ -63,7 +63,7 @@ class Fitting(InFolder):
     def test_rings_that_collapse_at_factor_1_are_an_error(self) -> None:
         status, output, errors = on_file(to_script, f"{SQUARE} POLYGON ((1000 0, 1000.4 0, 1000 0.4, 1000 0))")
         self.assertEqual((status, output), (2, ""))
-        self.assertIn("at factor 1, origin 0 0 1 rings collapse;", errors)
+        self.assertIn("at factor 1, origin 0 0: 1 rings collapse;", errors)
 
     def test_the_greatest_factor_of_1_2_and_5(self) -> None:
         for half, factor in (("180.123456789", 5000), ("77104.123456789", 10), ("4.12345678901", 200000),

@@ -15,8 +15,10 @@ import to_rings
 import to_script
 import which
 import wkt
+from to_rings import turn
 from testing.common import WithProgram, outcome, path
-from testing.plain import area_twice, below, on, overlay, segments_of
+from testing.layouts import geojson, zigzag
+from testing.plain import OPERATIONS, area_twice, below, on, overlay, segments_of
 
 COUNTIES = path("data", "north_carolina.geojson")
 ICELAND = [path("data", f"iceland_{scale}.geojson") for scale in ("110m", "50m")]
@@ -93,7 +95,7 @@ class RoundTrips(WithProgram):
         script = (self.folder / "map.txt").read_text() + "DEFINE both = iceland_110m & iceland_50m\n"
         store = self.store("both.db", script)
         layers = [[ring[:-1] for ring in rings] for rings in sessions.put_by(script.encode()).values()]
-        wanted = to_rings.polygons_of(overlay(layers, lambda one, other: one and other))
+        wanted = to_rings.polygons_of(overlay(layers, OPERATIONS["&"]))
         told = outcome(to_rings, "--store", store, "--program", self.program, "--exact")[1]
         corners = [(Fraction(x, w), Fraction(y, w)) for polygon in wanted for ring in polygon for x, y, w in ring.corners]
         got = [tuple(map(Fraction, line.split())) for line in told.splitlines() if not line.startswith("polygon")]
@@ -189,3 +191,25 @@ class Overlaps(WithProgram):
         bow, within = "0 0, 4 4, 4 0, 0 4, 0 0", "0 1, 1 2, 0 3, 0 1"
         self.assertEqual(self.checked(bow, "10 0, 14 0, 14 4, 10 0"), (0, "of 2 features no two overlap"))
         self.assertEqual(self.checked(bow, within)[0], 1)
+
+
+class LargeMaps(WithProgram):
+    def test_a_ring_of_5000_steps_comes_out_whole(self) -> None:
+        ring = zigzag(5000)
+        file, script = self.file("long.geojson", geojson(("Long", [[ring]]))), self.folder / "long.txt"
+        self.assertEqual(outcome(to_script, file, "--split", "--name-by", "name", "--output", script)[0], 0)
+        store = self.store("long.db", script.read_bytes())
+        words = ["--store", store, "--program", self.program, "--layer", "Long"]
+        self.assertEqual(Fraction(outcome(to_rings, *words, "--areas")[1].split()[-2]), abs(Fraction(area_twice(ring[:-1]), 2)))
+        # One ring, and its corners are those at which the given one turns.
+        told = outcome(to_rings, *words, "--exact")[1].splitlines()
+        self.assertEqual(told[0], "polygons 1")
+        turns = {ring[i] for i in range(len(ring) - 1) if turn((*ring[i - 1 if i else -2], 1), (*ring[i], 1), (*ring[i + 1], 1))}
+        self.assertEqual({tuple(map(int, line.split())) for line in told[2:]}, turns)
+
+    def test_overlapping_polygons_are_united(self) -> None:
+        squares = [f"POLYGON (({x} 0, {x + 10} 0, {x + 10} 10, {x} 10, {x} 0))" for x in (0, 5, 14, 40)]
+        file, script = self.file("plan.wkt", " ".join(squares)), self.folder / "plan.txt"
+        self.assertEqual(outcome(to_script, file, "--union", "--output", script)[0], 0)
+        told = outcome(to_rings, script, "--program", self.program, "--areas")[1]
+        self.assertEqual(told, "polygon 1 outer area 240 240\npolygon 2 outer area 100 100\narea 340 340\n")

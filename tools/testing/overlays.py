@@ -2,7 +2,9 @@
 
 import random
 import unittest
+from collections.abc import Callable
 from fractions import Fraction
+from typing import Any
 
 import asking
 import sessions
@@ -12,7 +14,8 @@ from testing.common import WithProgram
 from testing.plain import OPERATIONS, area_twice, below, on, overlay, random_rings, segments_of
 
 
-def check(test, layers, inside, polygons):
+def check(test: unittest.TestCase, layers: list[Any], inside: Callable[..., bool],
+          polygons: list[list[to_rings.Ring]]) -> None:
     """Corners turn, no ring passes a place twice, areas are of their sign, and places have the right answer."""
     lists = [segments_of(rings) for rings in layers]
     for polygon in polygons:
@@ -37,7 +40,7 @@ def check(test, layers, inside, polygons):
 
 
 class PlainOverlay(unittest.TestCase):
-    def test_random_layers(self):
+    def test_random_layers(self) -> None:
         source = random.Random(20)
         for number in range(120):
             reach = 5 if number % 2 else 14
@@ -47,7 +50,7 @@ class PlainOverlay(unittest.TestCase):
 
 
 class ProgramBeside(WithProgram):
-    def test_the_program_gives_the_same_pieces(self):
+    def test_the_program_gives_the_same_pieces(self) -> None:
         source = random.Random(21)
         for number in range(12):
             layers = [random_rings(source, 8), random_rings(source, 8)]

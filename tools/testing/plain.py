@@ -84,10 +84,10 @@ def random_rings(source: random.Random, reach: int) -> list[list[tuple[int, int]
 
 
 OPERATIONS: dict[str, Callable[..., bool]] = {
-    "&": lambda a, b: a and b,
-    "|": lambda a, b: a or b,
-    "-": lambda a, b: a and not b,
-    "^": lambda a, b: a != b,
+    "&": lambda a, b: bool(a and b),
+    "|": lambda a, b: bool(a or b),
+    "-": lambda a, b: bool(a and not b),
+    "^": lambda a, b: bool(a != b),
 }
 
 
