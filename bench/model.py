@@ -22,19 +22,12 @@ import pathlib
 import re
 import sys
 
-COORDINATE_MAX = 2**20
-COLUMNS = 33
-COLUMN_WIDTH = 2**16
-LAYERS_MAX = 32
-NAME_MAX = 32
-STEPS_MAX = 2048
-TOKENS_MAX = 64
-PIECES_MAX = 65536
-LINE_MAX = 65536
-WEIGHT_MAX = 1024
-BATCH_MAX = 64
-GRID_MAX = 256
-STEP_MAX = 2**21
+sys.path.insert(0, str(pathlib.Path(__file__).resolve().parent.parent / "tools"))
+
+from limits import (  # noqa: E402
+    BATCH_MAX, COLUMN_WIDTH, COLUMNS, COORDINATE_MAX, GRID_MAX, LAYERS_MAX, LINE_MAX, NAME_MAX, PIECES_MAX, STEP_MAX,
+    STEPS_MAX, TOKENS_MAX, WEIGHT_MAX,
+)
 
 TEXTS = {
     1: "wkt syntax at #", 2: "not whole at #", 3: "coordinate out of range at #", 4: "ring # open", 5: "ring # short",

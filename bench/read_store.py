@@ -17,19 +17,17 @@ import re
 import string
 import sys
 
+sys.path.insert(0, str(pathlib.Path(__file__).resolve().parent.parent / "tools"))
+
+from limits import (  # noqa: E402
+    COLUMN_WIDTH, COLUMNS, COORDINATE_MAX, LAYERS_MAX, NAME_MAX, PIECES_MAX, STEPS_MAX, TOKENS_MAX,
+)
+
 BLOCK = 4096
 GATE_OPEN = 0xA7
 MAGIC = b"OVLSTORE"
 NUMBER_MAX = 2**62
-COORDINATE_MAX = 1048576
-COLUMNS = 33
-COLUMN_WIDTH = 65536
 FORMAT, OLD_FORMAT, OLD_COLUMNS = 2, 1, 17
-LAYERS_MAX = 32
-NAME_MAX = 32
-STEPS_MAX = 2048
-TOKENS_MAX = 64
-PIECES_MAX = 65536
 FORMAT_PAGE = pathlib.Path(__file__).resolve().parent.parent / "docs" / "FORMAT.md"
 
 Root = collections.namedtuple("Root", "format sequence version catalog")

@@ -21,15 +21,18 @@ import math
 import pathlib
 import resource
 import subprocess
+import sys
 import tempfile
 
 import proved
 import unproved
 
+sys.path.insert(0, str(pathlib.Path(__file__).resolve().parent.parent / "tools"))
+
+from limits import COLUMN_WIDTH as WIDTH  # noqa: E402
+from limits import COLUMNS, COORDINATE_MAX  # noqa: E402
+
 HERE = pathlib.Path(__file__).resolve().parent
-COORDINATE_MAX = 2**20
-WIDTH = 2**16
-COLUMNS = 33
 
 CRATES = ["wkt_form", "layer_expr", "arrange", "tile_build", "layer_book"]
 

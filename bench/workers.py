@@ -13,12 +13,17 @@ machine allows: how many times as much as one of them four programs with one wor
 import argparse
 import pathlib
 import subprocess
+import sys
 import tempfile
 import time
 
 import serving
 
-LAYERS, COLUMNS, ROUNDS, WORKERS = 30, 33, 12, (1, 2, 4)
+sys.path.insert(0, str(pathlib.Path(__file__).resolve().parent.parent / "tools"))
+
+from limits import COLUMNS  # noqa: E402
+
+LAYERS, ROUNDS, WORKERS = 30, 12, (1, 2, 4)
 
 
 def waited(names):

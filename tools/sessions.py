@@ -1,60 +1,91 @@
-"""A module for to_svg.py and to_rings.py: reads scripts of overlayd and their replies.
+#!/usr/bin/env python3
+"""Reads scripts of overlayd and their replies: which layers stand, what EDGES and GRID answered, what was refused.
 
-It gives which layers stand, and what EDGES and GRID answered.
+A module for the tools; it is no tool of its own.
 """
 
 import re
-import subprocess
-import sys
+from dataclasses import dataclass
+from typing import Any
 
+import limits
 import wkt
 
-LIMIT = 2**20
-COLUMNS = 33
-COLUMN_WIDTH = 2**16
-LONGEST_LINE = 65536
-LARGEST_BATCH = 64
+COLUMNS = limits.COLUMNS
+Corner = tuple[int, int, int]
+Piece = tuple[Corner, Corner]
+Grid = tuple[int, int, int, list[str]]
+REFUSED = re.compile(r"(?:refused ([0-9]+) )?(error [0-9]+ .*)")
+MARK = "﻿"
 
 
 class Unusable(Exception):
     """A script, a reply or an answer that a tool can do nothing with."""
 
 
-def column_begin(column):
-    """The x at which a column begins; the last one is the line x = LIMIT."""
-    return -LIMIT + column * COLUMN_WIDTH
+@dataclass(frozen=True)
+class Request:
+    """What has one reply in a script: a line, or a batch with its lines, and where they stand, counted from 1."""
+
+    lines: tuple[str, ...]
+    places: tuple[int, ...]
 
 
-def batch_size(line):
-    """How many lines belong to this line (bytes): those of a BATCH line that asks for 1 to 64, else none."""
-    found = re.fullmatch(rb"[ \t]*BATCH[ \t]+(\+?[0-9]{1,18})[ \t]*", line) if len(line) <= LONGEST_LINE else None
+@dataclass(frozen=True)
+class Refusal:
+    """A line that was refused: its place in the script, the line, the refusal, and the place of its batch's first line."""
+
+    place: int
+    line: str
+    reply: str
+    batch: int | None = None
+
+    def told(self) -> str:
+        mark = "; the line begins with a byte order mark" if self.line.startswith(MARK) else ""
+        within = f" (nothing of the batch from line {self.batch} on)" if self.batch is not None else ""
+        return f"line {self.place}: {shortened(self.line)}: {self.reply}{within}{mark}"
+
+
+def shortened(line: str) -> str:
+    """The first two words of a line, as they tell what it was for."""
+    words = line.replace("\t", " ").split()
+    text = " ".join(words[:2])[:60]
+    return text + " .." if len(words) > 2 or len(text) == 60 else text
+
+
+def batch_size(line: bytes) -> int:
+    """How many lines belong to this line: those of a BATCH line that asks for 1 to 64, else none."""
+    found = re.fullmatch(rb"[ \t]*BATCH[ \t]+(\+?[0-9]{1,18})[ \t]*", line) if len(line) <= limits.LINE_MAX else None
     size = int(found.group(1)) if found else 0
-    return size if size <= LARGEST_BATCH else 0
+    return size if size <= limits.BATCH_MAX else 0
 
 
-def requests(script):
-    """What has a reply in a script (bytes), each as its lines without their ends: a line, or a batch with its lines.
+def is_skipped(line: bytes) -> bool:
+    """Whether a line has no reply: it is blank, or begins with #, and is not too long."""
+    return len(line) <= limits.LINE_MAX and (not line.strip(b" \t") or line.startswith(b"#"))
 
-    And how many lines the last of them still lacks, as where a script ends within a batch.
-    """
+
+def requests(script: bytes) -> tuple[list[Request], int]:
+    """What has a reply in a script, and how many lines the last of it still lacks, where the script ends in a batch."""
     lines = script.split(b"\n")
     if lines[-1] == b"":
         lines.pop()
-    found, lacking = [], 0
-    for line in lines:
-        line = line[:-1] if line.endswith(b"\r") else line
-        if len(line) <= LONGEST_LINE and (not line.strip(b" \t") or line.startswith(b"#")):
+    found: list[list[tuple[int, str]]] = []
+    lacking = 0
+    for place, line in enumerate(lines, 1):
+        line = line.removesuffix(b"\r")
+        if is_skipped(line):
             continue
         if lacking:
             lacking -= 1
         else:
             lacking = batch_size(line)
             found.append([])
-        found[-1].append(line.decode("utf-8", "replace"))
-    return found, lacking
+        found[-1].append((place, line.decode("utf-8", "replace")))
+    return [Request(tuple(text for _, text in one), tuple(at for at, _ in one)) for one in found], lacking
 
 
-def reply_lines(replies, at):
+def reply_lines(replies: list[str], at: int) -> list[str]:
     """The lines of the reply that begins at a line."""
     if at >= len(replies):
         raise Unusable("the script has more lines with a reply than there are replies")
@@ -69,7 +100,7 @@ def reply_lines(replies, at):
     return replies[at : at + 1 + more]
 
 
-def piece_of(line):
+def piece_of(line: str) -> Piece:
     """The ends of a piece, each (X, Y, W) for the point (X / W, Y / W), left before right."""
     x, y, w, right_x, right_y, right_w = (int(word) for word in line.split(" "))
     if w < 1 or right_w < 1 or (x * right_w, y * right_w) >= (right_x * w, right_y * w):
@@ -80,129 +111,204 @@ def piece_of(line):
 class Session:
     """The layers after a script, and the last answers of EDGES and GRID that still hold."""
 
-    def __init__(self):
-        self.base = {}  # name: list of rings of points
-        self.definitions = {}  # name: the expression as given
-        self.edges = {}  # (name, column): list of pieces, or the line of the refusal
-        self.grids = {}  # name: (x, y, step, rows)
-        self.refused = []  # (lines of the request as one text, line of the refusal)
+    def __init__(self) -> None:
+        self.order: list[str] = []  # all names, as LAYERS has them
+        self.base: dict[str, list[list[tuple[int, int]]]] = {}  # name: its rings of points
+        self.definitions: dict[str, str] = {}  # name: the expression as given
+        self.edges: dict[tuple[str, int], list[Piece] | str] = {}  # (name, column): pieces, or the line of the refusal
+        self.grids: dict[str, Grid] = {}  # name: x, y, step, rows
+        self.version: int | None = None  # the greatest number of a version that was told
+        self.refused: list[Refusal] = []
+        self.asking = False  # whether what comes are questions of a tool, whose refusals are no lines of a script
 
-    def reach(self, name):
+    def reach(self, name: str) -> list[str]:
         """The layer itself and all that its definition names, directly or through others."""
-        found, left = [], [name]
+        found: list[str] = []
+        left = [name]
         while left:
             layer = left.pop()
             if layer not in found:
                 found.append(layer)
-                left.extend(re.findall(r"[A-Za-z][A-Za-z0-9_]*", self.definitions.get(layer, "")))
+                left.extend(names_in(self.definitions.get(layer, "")))
         return found
 
-    def base_in_reach(self, name):
+    def base_in_reach(self, name: str) -> list[str]:
         reached = self.reach(name)
         return [layer for layer in self.base if layer in reached]
 
-    def forget(self, name):
-        """Gives up the answers of each layer that reaches the name."""
+    def unnamed(self) -> list[str]:
+        """The layers that no definition names."""
+        named = {name for text in self.definitions.values() for name in names_in(text)}
+        return [name for name in self.order if name not in named]
+
+    def stands(self, name: str) -> None:
+        """Takes in that a layer stands, behind all others where it is new, and gives up answers that it changes."""
+        if name not in self.order:
+            self.order.append(name)
         stale = [layer for layer in self.definitions if name in self.reach(layer)]
+        self.forget(stale)
+
+    def forget(self, stale: list[str]) -> None:
         self.edges = {place: pieces for place, pieces in self.edges.items() if place[0] not in stale}
         self.grids = {layer: grid for layer, grid in self.grids.items() if layer not in stale}
 
-    def put(self, rest):
-        name, text = re.match(r"([^ \t]+)[ \t]+(.*)", rest, re.S).groups()
-        polygons = wkt.polygons_of(*wkt.read_all(text)[0])
+    def put(self, rest: str) -> None:
+        name, text = matched(r"([^ \t]+)[ \t]+(.*)", rest)
+        polygons = wkt.polygons_of(*wkt.read_all(text)[0]) or []
         self.base[name] = [[(int(x), int(y)) for x, y in ring] for polygon in polygons for ring in polygon]
-        self.forget(name)
+        self.stands(name)
 
-    def define(self, rest):
-        name, text = re.match(r"([^ \t=]+)[ \t]*=(.*)", rest, re.S).groups()
+    def define(self, rest: str) -> None:
+        name, text = matched(r"([^ \t=]+)[ \t]*=(.*)", rest)
         self.definitions[name] = text.strip()
-        self.forget(name)
+        self.stands(name)
 
-    def drop(self, name):
-        self.forget(name)
+    def drop(self, name: str) -> None:
+        self.forget([name])
         self.base.pop(name, None)
         self.definitions.pop(name, None)
+        self.order = [layer for layer in self.order if layer != name]
 
-    def answered(self, request, reply):
-        """Takes in one request, a line or a batch with its lines, with the lines of its reply."""
-        if len(request) > 1:
-            self.answered_batch(request, reply)
-        else:
-            self.answered_line(request[0], reply)
+    def refuse(self, request: Request, reply: str) -> None:
+        """Takes in the refusal of a line, or of a batch for one of its lines."""
+        if self.asking:
+            return
+        found = matched(REFUSED, reply)
+        at = int(found[0]) + 1 if found[0] else 0
+        at = at if at < len(request.lines) else 0
+        self.refused.append(Refusal(request.places[at], request.lines[at], reply, request.places[0] if at else None))
 
-    def answered_batch(self, request, reply):
-        """A batch changes all that its lines change, or nothing."""
-        if reply[0].startswith(("error ", "refused ")):
-            self.refused.append(("\n".join(request), reply[0]))
-        else:
-            for line in request[1:]:
+    def answered(self, request: Request, reply: list[str]) -> None:
+        """Takes in one request with the lines of its reply. A batch changes all that its lines change, or nothing."""
+        told = re.fullmatch(r"(?:ok|built|durable) ([0-9]+)", reply[0])
+        if told:
+            self.version = max(self.version or 0, int(told[1]))
+        if REFUSED.fullmatch(reply[0]):
+            self.refuse(request, reply[0])
+            self.refused_edges(request, reply[0])
+        elif len(request.lines) > 1:
+            for line in request.lines[1:]:
                 self.answered_line(line, reply)
+        else:
+            self.answered_line(request.lines[0], reply)
 
-    def answered_line(self, request, reply):
-        word, _, rest = request.strip(" \t").replace("\t", " ").partition(" ")
+    def refused_edges(self, request: Request, reply: str) -> None:
+        words = request.lines[0].split()
+        if len(words) == 3 and words[0] == "EDGES" and words[2].lstrip("+").isdigit():
+            self.edges[words[1], int(words[2])] = reply
+
+    def answered_line(self, line: str, reply: list[str]) -> None:
+        word, _, rest = line.strip(" \t").replace("\t", " ").partition(" ")
         rest = rest.strip(" ")
-        if reply[0].startswith("error "):
-            self.refused.append((request, reply[0]))
-            if word == "EDGES" and len(rest.split()) == 2 and rest.split()[1].lstrip("+").isdigit():
-                self.edges[rest.split()[0], int(rest.split()[1])] = reply[0]
-        elif word == "PUT":
+        if word == "PUT":
             self.put(rest)
         elif word == "DEFINE":
             self.define(rest)
         elif word == "DROP":
             self.drop(rest)
-        elif word == "EDGES":
+        else:
+            self.answered_question(word, rest, reply)
+
+    def answered_question(self, word: str, rest: str, reply: list[str]) -> None:
+        if word == "EDGES":
             name, column = rest.split()
             self.edges[name, int(column)] = [piece_of(line) for line in reply[1:]]
         elif word == "GRID":
             name, x, y, step, _, _ = rest.split()
             self.grids[name] = (int(x), int(y), int(step), reply[1:])
+        elif word == "LAYERS":
+            self.listed(reply[1:])
+
+    def listed(self, lines: list[str]) -> None:
+        """Takes in the lines of LAYERS, where the script has not made the layers itself."""
+        for line in lines:
+            name, _, rest = line.partition(" ")
+            if name not in self.order:
+                self.answered_line(as_command(line), [])
 
 
-def read(script, replies):
-    """The session of a script (bytes) and what the program wrote for it (bytes)."""
-    session, at = Session(), 0
+def matched(pattern: str | re.Pattern[str], text: str) -> tuple[Any, ...]:
+    found = re.match(pattern, text, re.S) if isinstance(pattern, str) else pattern.fullmatch(text)
+    if not found:
+        raise ValueError(text)
+    return found.groups()
+
+
+def names_in(expression: str) -> list[str]:
+    return re.findall(r"[A-Za-z][A-Za-z0-9_]*", expression)
+
+
+def as_command(line: str) -> str:
+    """The line of a script that makes the layer which a line of LAYERS tells of."""
+    name, _, rest = line.partition(" ")
+    return f"DEFINE {line}" if rest.startswith("= ") else f"PUT {line}"
+
+
+def lines_of(replies: bytes) -> list[str]:
     lines = replies.decode("utf-8", "replace").split("\n")
     if lines[-1] == "":
         lines.pop()
-    for request in requests(script)[0]:
+    return lines
+
+
+def read(script: bytes, replies: bytes, own: int | None = None, session: Session | None = None) -> Session:
+    """The session of a script and what the program wrote for it, going on from one before.
+
+    Only the first `own` requests are the user's: what is refused of the others is a question of a tool, whose refusal
+    stands with the answer.
+    """
+    session, at, lines = session or Session(), 0, lines_of(replies)
+    for number, request in enumerate(requests(script)[0]):
+        session.asking = own is not None and number >= own
         try:
             reply = reply_lines(lines, at)
             session.answered(request, reply)
         except (ValueError, AttributeError, IndexError, TypeError, wkt.WktFault) as fault:
-            raise Unusable(f"line {at + 1} of the replies is no reply to: {request[0][:60]}") from fault
+            raise Unusable(f"line {at + 1} of the replies is no reply to: {request.lines[0][:60]}") from fault
         at += len(reply)
     if at < len(lines):
         raise Unusable(f"line {at + 1} of the replies answers no line of the script: {lines[at][:60]}")
     return session
 
 
-def last_defined(script):
-    """The name that the last DEFINE of a script gives."""
-    found = None
-    for line in (line for request in requests(script)[0] for line in request):
-        match = re.match(r"[ \t]*DEFINE[ \t]+([A-Za-z][A-Za-z0-9_]*)[ \t]*=", line)
-        found = match.group(1) if match else found
-    if found is None:
-        raise Unusable("the script defines no layer: DEFINE one, for a base layer A by DEFINE L = A")
-    return found
+def all_lines(script: bytes) -> list[str]:
+    return [line for request in requests(script)[0] for line in request.lines]
 
 
-def with_questions(script, layer, grid=None):
-    """The script and, behind it, the questions for all columns of a layer, and for a grid (x, y, step, nx, ny)."""
+def named_by(script: bytes) -> list[str]:
+    """The names that PUT and DEFINE of a script give, in their order."""
+    found = [re.match(r"[ \t]*(?:PUT[ \t]+([A-Za-z][A-Za-z0-9_]*)[ \t]|DEFINE[ \t]+([A-Za-z][A-Za-z0-9_]*)[ \t]*=)", line)
+             for line in all_lines(script)]
+    return list(dict.fromkeys(match.group(1) or match.group(2) for match in found if match))
+
+
+def last_defined(script: bytes) -> str:
+    """The name that the last DEFINE of a script gives, or where it has none that of its last PUT."""
+    found = [re.match(r"[ \t]*DEFINE[ \t]+([A-Za-z][A-Za-z0-9_]*)[ \t]*=", line) for line in all_lines(script)]
+    names = [match.group(1) for match in found if match] or named_by(script)
+    if not names:
+        raise Unusable("the script makes no layer")
+    return names[-1]
+
+
+def questions(layers: list[str]) -> bytes:
+    """The questions for all columns of layers."""
+    lines = [line for layer in layers
+             for line in [f"WAIT {layer}"] + [f"EDGES {layer} {column}" for column in range(COLUMNS)]]
+    return "".join(line + "\n" for line in lines).encode()
+
+
+def with_lines(script: bytes, lines: bytes) -> bytes:
+    """The script with lines behind it."""
     if requests(script)[1]:
         raise Unusable("the script ends within a batch")
-    lines = [f"WAIT {layer}"] + [f"EDGES {layer} {column}" for column in range(COLUMNS)]
-    if grid:
-        lines.append(f"GRID {layer} " + " ".join(str(number) for number in grid))
-    end = b"" if script.endswith(b"\n") or not script else b"\n"
-    return script + end + "".join(line + "\n" for line in lines).encode()
+    return script + (b"" if script.endswith(b"\n") or not script else b"\n") + lines
 
 
-def put_by(script):
+def put_by(script: bytes) -> dict[str, list[list[tuple[int, int]]]]:
     """The rings of the base layers that a script puts, as far as its lines can be read."""
     session = Session()
-    for line in (line for request in requests(script)[0] for line in request):
+    for line in all_lines(script):
         if line.strip(" \t").startswith("PUT"):
             try:
                 session.answered_line(line, ["ok"])
@@ -211,17 +317,10 @@ def put_by(script):
     return session.base
 
 
-def run(program, script):
-    """What the program writes for a script."""
-    try:
-        return subprocess.run([program], input=script, stdout=subprocess.PIPE, check=True).stdout
-    except (OSError, subprocess.CalledProcessError) as fault:
-        raise Unusable(f"{program}: {fault}") from fault
-
-
-def pieces_of(session, layer):
+def pieces_of(session: Session, layer: str) -> tuple[list[Piece], list[tuple[int, str]]]:
     """All pieces of a layer, and the columns that gave none, each with the reason."""
-    pieces, missing = [], []
+    pieces: list[Piece] = []
+    missing: list[tuple[int, str]] = []
     for column in range(COLUMNS):
         answer = session.edges.get((layer, column), "not asked, or asked before a change")
         if isinstance(answer, str):
@@ -231,34 +330,5 @@ def pieces_of(session, layer):
     return pieces, missing
 
 
-def add_words(parser):
-    """The words that both tools have for where the replies come from."""
-    parser.add_argument("script", metavar="SCRIPT", help="a script for overlayd")
-    source = parser.add_mutually_exclusive_group(required=True)
-    source.add_argument("--program", metavar="PATH",
-                        help="run this overlayd on the script and on the questions behind it")
-    source.add_argument("--replies", metavar="FILE", help="the replies to the script, which asks EDGES itself")
-    source.add_argument("--questions", action="store_true",
-                        help="only print the script with the questions behind it, to be run elsewhere")
-    parser.add_argument("--layer", metavar="NAME", help="the derived layer (default: the last that is defined)")
-
-
-def session_of(words, grid=None):
-    """The session and the layer that the words ask for; with --questions it prints them and ends.
-
-    grid gives the numbers of a GRID to ask for, or None, for a script.
-    """
-    try:
-        with open(words.script, "rb") as file:
-            script = file.read()
-        layer = words.layer or last_defined(script)
-        if words.replies:
-            with open(words.replies, "rb") as file:
-                return read(script, file.read()), layer
-    except OSError as fault:
-        raise Unusable(str(fault)) from fault
-    script = with_questions(script, layer, grid(script) if grid else None)
-    if words.questions:
-        sys.stdout.write(script.decode())
-        sys.exit(0)
-    return read(script, run(words.program, script)), layer
+if __name__ == "__main__":
+    limits.tell(__doc__)

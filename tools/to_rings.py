@@ -1,7 +1,8 @@
 #!/usr/bin/env python3
-"""Joins the boundary pieces of a derived layer into rings with exact corners.
+"""Joins the boundary of a layer into rings with exact corners, and tells their areas.
 
-    python3 tools/to_rings.py script.txt --program crates/overlayd/out/overlayd --layer I
+    python3 tools/to_rings.py --store map.db --layer I
+    python3 tools/to_rings.py script.txt --layer I --areas
 
 The inside is on the left of each ring: outer rings run counter-clockwise, holes clockwise. It is told by even-odd: a
 place is inside where an odd number of pieces are below it. No ring passes a place twice: where boundaries touch, each
@@ -11,19 +12,32 @@ columns among them. The text is rounded to --digits; --exact writes the fraction
     polygon 1 outer 3       the number of the polygon, outer or hole, and how many corners (the first is not repeated)
     3 5/3                   x and y of a corner
 
-Status 0: all rings are written; 1: a column is missing, pending or oversize, or a reply is of another form.
+--areas writes the area of each ring and of all, exactly and rounded:
+
+    polygon 1 outer area 25/3 8.333333
+    area 25/3 8.333333
+
+Coordinates and areas are those of the world where a scale is there. A base layer has the boundary of its even-odd
+inside. Status 0: all rings are written; 1: a line of the script was refused (each is told), a column is missing or
+oversize, or a reply is of another form.
 """
 
 import argparse
 import functools
 import sys
+from collections.abc import Iterator
 from fractions import Fraction
+from typing import TextIO
 
+import asking
 import sessions
 import wkt
+from asking import Map
+from scale import decimals
+from sessions import Corner, Piece, Session
 
 
-def turn(a, b, c):
+def turn(a: Corner, b: Corner, c: Corner) -> int:
     """Greater than 0 where c lies to the left of the line from a to b, less where to the right, 0 on it."""
     return (
         a[0] * (b[1] * c[2] - b[2] * c[1])
@@ -32,7 +46,7 @@ def turn(a, b, c):
     )
 
 
-def compare(a, b):
+def compare(a: Corner, b: Corner) -> int:
     """The order of points: by x, then by y."""
     across = a[0] * b[2] - b[0] * a[2]
     return across if across else a[1] * b[2] - b[1] * a[2]
@@ -41,12 +55,12 @@ def compare(a, b):
 ORDER = functools.cmp_to_key(compare)
 
 
-def is_vertical(piece):
+def is_vertical(piece: Piece) -> bool:
     (a, b) = piece
     return a[0] * b[2] == b[0] * a[2]
 
 
-def middle(piece):
+def middle(piece: Piece) -> Corner:
     (a, b) = piece
     return a[0] * b[2] + b[0] * a[2], a[1] * b[2] + b[1] * a[2], 2 * a[2] * b[2]
 
@@ -54,10 +68,10 @@ def middle(piece):
 class Status:
     """The pieces that a line in x meets, from the lowest up, just right of it."""
 
-    def __init__(self):
-        self.pieces = []
+    def __init__(self) -> None:
+        self.pieces: list[Piece] = []
 
-    def place(self, piece):
+    def place(self, piece: Piece) -> int:
         """How many pieces pass under the left end of a piece, or start there and rise less."""
         low, high = 0, len(self.pieces)
         while low < high:
@@ -72,7 +86,7 @@ class Status:
                 raise sessions.Unusable("two pieces lie on each other")
         return low
 
-    def below(self, point):
+    def below(self, point: Corner) -> int:
         """How many pieces pass under a point that is on none of them."""
         low, high = 0, len(self.pieces)
         while low < high:
@@ -83,20 +97,20 @@ class Status:
                 high = half
         return low
 
-    def insert(self, piece):
+    def insert(self, piece: Piece) -> None:
         self.pieces.insert(self.place(piece), piece)
 
-    def remove(self, piece):
+    def remove(self, piece: Piece) -> None:
         at = self.below(piece[1])
         while self.pieces[at] != piece:
             at += 1
         del self.pieces[at]
 
 
-def groups(pieces, end):
+def groups(pieces: list[Piece], end: int) -> Iterator[list[Piece]]:
     """The pieces by the x of one of their ends, in the order of x."""
     ordered = sorted(pieces, key=lambda piece: ORDER(piece[end]))
-    group = []
+    group: list[Piece] = []
     for piece in ordered:
         if group and group[0][end][0] * piece[end][2] != piece[end][0] * group[0][end][2]:
             yield group
@@ -106,9 +120,10 @@ def groups(pieces, end):
         yield group
 
 
-def directed(pieces):
+def directed(pieces: list[Piece]) -> list[Piece]:
     """Each piece as (from, to) with the inside on its left."""
-    status, found = Status(), []
+    status = Status()
+    found: list[Piece] = []
     slanted = [piece for piece in pieces if not is_vertical(piece)]
     ends = list(groups(slanted, 1))[::-1]
     for group in groups(pieces, 0):
@@ -125,17 +140,17 @@ def directed(pieces):
     return found
 
 
-def half_plane(direction):
+def half_plane(direction: tuple[int, int]) -> int:
     """0 for directions from 0 to under 180 degrees, 1 for the others."""
     return 0 if direction[1] > 0 or (direction[1] == 0 and direction[0] > 0) else 1
 
 
-def direction(start, end):
+def direction(start: Corner, end: Corner) -> tuple[int, int]:
     """Two whole numbers that point from one place to another."""
     return end[0] * start[2] - start[0] * end[2], end[1] * start[2] - start[1] * end[2]
 
 
-def counter_clockwise(a, b):
+def counter_clockwise(a: tuple[int, int], b: tuple[int, int]) -> int:
     """The order of directions by angle, from 0 degrees on."""
     if half_plane(a) != half_plane(b):
         return half_plane(a) - half_plane(b)
@@ -146,9 +161,10 @@ def counter_clockwise(a, b):
 ANGLE = functools.cmp_to_key(counter_clockwise)
 
 
-def followers(pieces):
+def followers(pieces: list[Piece]) -> dict[Piece, Piece]:
     """For each directed piece the one that goes on with the same inside: the sharpest left turn at its end."""
-    leaving, arriving = {}, {}
+    leaving: dict[Corner, list[Piece]] = {}
+    arriving: dict[Corner, list[Piece]] = {}
     for piece in pieces:
         leaving.setdefault(piece[0], []).append(piece)
         arriving.setdefault(piece[1], []).append(piece)
@@ -169,11 +185,12 @@ def followers(pieces):
     return follows
 
 
-def loops(pieces):
+def loops(pieces: list[Piece]) -> Iterator[list[Piece]]:
     """The pieces as closed walks that pass no node twice."""
     follows, left = followers(pieces), dict.fromkeys(pieces)
     while left:
-        walk, stands = [], {}
+        walk: list[Piece] = []
+        stands: dict[Corner, int] = {}
         piece = next(iter(left))
         while piece in left:
             del left[piece]
@@ -188,7 +205,7 @@ def loops(pieces):
             piece = follows[piece]
 
 
-def without_straight_corners(nodes):
+def without_straight_corners(nodes: list[Corner]) -> list[Corner]:
     count = len(nodes)
     return [node for i, node in enumerate(nodes) if turn(nodes[i - 1], node, nodes[(i + 1) % count])]
 
@@ -196,7 +213,7 @@ def without_straight_corners(nodes):
 class Ring:
     """A ring with the inside on its left, begun at its least corner; probe is a place on it and on no other."""
 
-    def __init__(self, walk):
+    def __init__(self, walk: list[Piece]) -> None:
         corners = without_straight_corners([piece[0] for piece in walk])
         first = min(range(len(corners)), key=lambda i: ORDER(corners[i]))
         self.corners = corners[first:] + corners[:first]
@@ -206,7 +223,7 @@ class Ring:
         self.high = max(self.corners, key=lambda point: Fraction(point[1], point[2]))
         self.last = max(self.corners, key=ORDER)
 
-    def contains(self, point):
+    def contains(self, point: Corner) -> bool:
         """Whether an odd number of its edges are below the point, which is on none of them."""
         if compare(point, self.corners[0]) <= 0 or compare(point, self.last) >= 0:
             return False
@@ -220,14 +237,14 @@ class Ring:
         return odd
 
 
-def innermost(polygons):
+def innermost(polygons: list[list[Ring]]) -> list[Ring]:
     """Of polygons whose outer rings lie in each other, the one that lies in all others."""
-    def depth(polygon):
+    def depth(polygon: list[Ring]) -> int:
         return sum(other[0].contains(polygon[0].probe) for other in polygons if other is not polygon)
     return max(polygons, key=depth)
 
 
-def polygons_of(pieces):
+def polygons_of(pieces: list[Piece]) -> list[list[Ring]]:
     """The polygons that the pieces bound: each an outer ring and its holes, in the order of their least corners."""
     try:
         rings = [Ring(walk) for walk in loops(directed(pieces))]
@@ -244,7 +261,7 @@ def polygons_of(pieces):
     return polygons
 
 
-def layer_polygons(session, layer):
+def layer_polygons(session: Session, layer: str) -> list[list[Ring]]:
     """The polygons of a layer, or Unusable where a column has no pieces to give."""
     pieces, missing = sessions.pieces_of(session, layer)
     if missing:
@@ -253,64 +270,78 @@ def layer_polygons(session, layer):
     return polygons_of(pieces)
 
 
-def decimals(number, digits):
-    """A fraction with so many digits behind the point, halves to even, zeros at the end dropped."""
-    scaled = round(number * 10**digits)
-    text = str(abs(scaled)).rjust(digits + 1, "0")
-    whole, rest = text[: len(text) - digits], text[len(text) - digits :].rstrip("0")
-    return ("-" if scaled < 0 else "") + whole + ("." + rest if rest else "")
+def area_of(ring: Ring) -> Fraction:
+    """The area of a ring in whole numbers' unit, greater than 0 for holes too."""
+    points = [(Fraction(x, w), Fraction(y, w)) for x, y, w in ring.corners]
+    twice = sum(ax * by - bx * ay for (ax, ay), (bx, by) in zip(points, points[1:] + points[:1]))
+    return abs(Fraction(twice)) / 2
 
 
-def exact_lines(polygons, given):
-    yield f"polygons {len(polygons)}"
+def area_of_polygon(polygon: list[Ring]) -> Fraction:
+    """The area of an outer ring without its holes."""
+    return area_of(polygon[0]) - sum(area_of(hole) for hole in polygon[1:])
+
+
+def area_of_all(polygons: list[list[Ring]]) -> Fraction:
+    return sum((area_of_polygon(polygon) for polygon in polygons), Fraction(0))
+
+
+def heads(polygons: list[list[Ring]]) -> Iterator[tuple[str, Ring]]:
+    """Each ring and what it is called."""
     for number, polygon in enumerate(polygons, 1):
         for ring in polygon:
-            yield f"polygon {number} {'outer' if ring.outer else 'hole'} {len(ring.corners)}"
-            for corner in ring.corners:
-                x, y = given(corner)
-                yield f"{x} {y}"
+            yield f"polygon {number} {'outer' if ring.outer else 'hole'}", ring
 
 
-def words_of(arguments):
+def exact_lines(polygons: list[list[Ring]], found: Map) -> Iterator[str]:
+    yield f"polygons {len(polygons)}"
+    for head, ring in heads(polygons):
+        yield f"{head} {len(ring.corners)}"
+        for corner in ring.corners:
+            x, y = found.scale.world(corner)
+            yield f"{x} {y}"
+
+
+def area_lines(polygons: list[list[Ring]], found: Map) -> Iterator[str]:
+    for head, ring in heads(polygons):
+        area = found.scale.area(area_of(ring))
+        yield f"{head} area {area} {decimals(area, found.scale.digits)}"
+    area = found.scale.area(area_of_all(polygons))
+    yield f"area {area} {decimals(area, found.scale.digits)}"
+
+
+def text_lines(polygons: list[list[Ring]], found: Map) -> Iterator[str]:
+    closed = [[[found.scale.world(corner) for corner in ring.corners + ring.corners[:1]] for ring in polygon]
+              for polygon in polygons]
+    yield wkt.write(closed, lambda number: decimals(number, found.scale.digits))
+
+
+def parser_of() -> argparse.ArgumentParser:
     parser = argparse.ArgumentParser(description=__doc__, formatter_class=argparse.RawDescriptionHelpFormatter)
-    sessions.add_words(parser)
-    parser.add_argument("--exact", action="store_true", help="fractions in place of Well-Known Text")
-    parser.add_argument("--digits", type=int, default=6, help="digits behind the point (default 6)")
-    parser.add_argument("--factor", type=Fraction, default=Fraction(1), help="the factor that to_script.py was given")
-    parser.add_argument("--factor-y", type=Fraction, help="and that for y")
-    parser.add_argument("--origin", type=Fraction, nargs=2, metavar=("X", "Y"), default=[Fraction(0)] * 2,
-                        help="and the origin: what is written is then in the unit of its input")
+    asking.add_words(parser)
+    form = parser.add_mutually_exclusive_group()
+    form.add_argument("--exact", action="store_true", help="fractions in place of Well-Known Text")
+    form.add_argument("--areas", action="store_true", help="areas in place of Well-Known Text")
+    asking.add_scale_words(parser)
+    return parser
+
+
+def main(arguments: list[str], output: TextIO | None = None, errors: TextIO | None = None) -> int:
+    parser = parser_of()
     words = parser.parse_args(arguments)
-    words.factor_y = words.factor if words.factor_y is None else words.factor_y
-    if words.factor <= 0 or words.factor_y <= 0 or not 0 <= words.digits <= 100:
-        parser.error("a factor is greater than 0, digits are 0 to 100")
-    return words
+    target, errors = output or sys.stdout, errors or sys.stderr
 
+    def write(found: Map) -> int:
+        polygons = layer_polygons(found.session, found.layers[0])
+        lines = exact_lines if words.exact else area_lines if words.areas else text_lines
+        for line in lines(polygons, found):
+            print(line, file=target)
+        holes = sum(len(polygon) - 1 for polygon in polygons)
+        print(f"outer rings {len(polygons)} (counter-clockwise), holes {holes} (clockwise); inside on the left",
+              file=errors)
+        return 0
 
-def main(arguments, output=None, errors=None):
-    words = words_of(arguments)
-    output, errors = output or sys.stdout, errors or sys.stderr
-    try:
-        polygons = layer_polygons(*sessions.session_of(words))
-    except sessions.Unusable as fault:
-        print(fault, file=errors)
-        return 1
-
-    def given(corner):
-        return (Fraction(corner[0], corner[2]) / words.factor + words.origin[0],
-                Fraction(corner[1], corner[2]) / words.factor_y + words.origin[1])
-
-    if words.exact:
-        for line in exact_lines(polygons, given):
-            print(line, file=output)
-    else:
-        closed = [[[given(corner) for corner in ring.corners + ring.corners[:1]] for ring in polygon]
-                  for polygon in polygons]
-        print(wkt.write(closed, lambda number: decimals(number, words.digits)), file=output)
-    holes = sum(len(polygon) - 1 for polygon in polygons)
-    print(f"outer rings {len(polygons)} (counter-clockwise), holes {holes} (clockwise); inside on the left",
-          file=errors)
-    return 0
+    return asking.worked(lambda: asking.map_of(words, parser), write, errors)
 
 
 if __name__ == "__main__":

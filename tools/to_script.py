@@ -1,358 +1,356 @@
 #!/usr/bin/env python3
 """Makes PUT lines for overlayd of GeoJSON or Well-Known Text with fractions.
 
-    python3 tools/to_script.py shapes.geojson --factor 100 --origin 500000 4600000 --name-by name > script.txt
+    tools/to_script.py map.geojson --fit --name-by name --output map.txt
+    tools/to_script.py boroughs.geojson --fit --split --name-by BoroName --output ny.txt
+    tools/to_script.py counties.geojson --fit --coded --name-by NAME --output nc.txt
+    tools/to_script.py plan.wkt --factor 100 --origin 500000 4600000 > plan.txt
 
 A coordinate x becomes the whole number nearest to (x - X) * FACTOR, the greater one of two that are as near. Standard
 error tells what was rounded, by how much in the given unit, merged and refused. Each file is a layer, or with --name-by
-each value of the property (features without it make one of the file's name). Status 0: all was written; 1: something
-was refused, the rest was written; 2: a file could not be read, and nothing was written.
+each value of the property (features without it make one of the file's name).
+
+Without --factor, --origin, --scale and --fit the factor is 1 where that fits: where rings collapse, or coordinates move
+by more than a 1000th of the extent, or are out of range, nothing is written, and the words to type are told.
+
+--fit     factor and origin from the box of the data: the least factor by which nothing is rounded, else the greatest of
+          1, 2 and 5 times a power of ten that is in range. A ring that is smaller than a whole number there is left out.
+--split   what has more than 2,048 steps is spread over several layers NAME_1 .. joined by ^ under its name, exactly: a
+          long ring is cut into runs, each closed by a chord through the ring's first point, and the chords cancel.
+          Price: LOCATE says `edge` on a chord, too.
+--union   where polygons of one layer overlap, what they cover is inside: those that overlap stand in layers of their
+          own, joined by |. Without it a layer is even-odd.
+--coded   features are numbered from 1, and layer b0, b1 .. holds those whose number has that bit, so that 7 layers carry
+          127 features that do not overlap. NAME.names.csv has numbers, names, the expression of each feature, and areas;
+          tools/which.py tells names by it.
+--output  NAME.txt is the script, and NAME.scale.json says what its numbers mean, for the other tools and for web/. Where
+          one store of 32 layers does not suffice, NAME.1.txt, NAME.2.txt .. are each the script of a store.
+
+Status 0: all was written; 1: something was refused, the rest was written; 2: a file could not be read, or the factor
+does not fit, and nothing was written.
 """
 
 import argparse
-import json
-import os
+import csv
+import pathlib
 import re
 import sys
 import unicodedata
-from decimal import Decimal
+from collections.abc import Callable
+from dataclasses import replace
 from fractions import Fraction
+from typing import TextIO
 
+import fitting
+import layering
+import limits
+import map_reading
+import rounding
+import scale as scales
 import wkt
-
-LIMIT = 2**20
-MOST_STEPS = 2048
-MOST_LAYERS = 32
-LONGEST_NAME = 32
-LONGEST_LINE = 65536
-COLLECTIONS = ("FeatureCollection", "GeometryCollection")
+from layering import Group, Layout, Store
+from map_reading import Refused, Shape
+from scale import Scale
 
 
-class Refused(Exception):
-    """Why a geometry or a ring is not written."""
+class Stopped(Exception):
+    """Why nothing is written."""
 
 
-class Shape:
-    """One geometry of the input: what it is called in reports, the layer it asks for, its type and coordinates."""
-
-    def __init__(self, label, wish, kind, coordinates):
-        self.label, self.wish, self.kind, self.coordinates = label, wish, kind, coordinates
-
-
-class Tally:
-    """What rounding has done to some coordinates; the largest move is in the given unit."""
-
-    def __init__(self):
-        self.coordinates, self.rounded, self.furthest, self.merged, self.heights = 0, 0, Fraction(0), 0, 0
-
-    def add(self, other):
-        self.coordinates += other.coordinates
-        self.rounded += other.rounded
-        self.furthest = max(self.furthest, other.furthest)
-        self.merged += other.merged
-        self.heights += other.heights
-
-    def text(self):
-        heights = f", further numbers of {self.heights} points dropped" if self.heights else ""
-        return (f"{self.rounded} of {self.coordinates} coordinates rounded, largest move "
-                f"{decimal(self.furthest, 3)}, {self.merged} equal points merged{heights}")
-
-
-class Scale:
-    """Factors and origin, the extent of all that was read, and the tally of the ring that is read."""
-
-    def __init__(self, factors, origin):
-        self.factors, self.origin, self.tally = factors, origin, Tally()
-        self.least, self.greatest = [None, None], [None, None]
-
-    def whole(self, axis, number):
-        if isinstance(number, bool) or not isinstance(number, (int, Decimal)):
-            raise Refused(f"a coordinate that is no number: {number!r}"[:80])
-        if not Decimal(number).is_finite() or abs(Decimal(number).adjusted()) > 400:
-            raise Refused("a coordinate that is beyond all bounds")
-        exact = Fraction(number)
-        self.least[axis] = exact if self.least[axis] is None else min(self.least[axis], exact)
-        self.greatest[axis] = exact if self.greatest[axis] is None else max(self.greatest[axis], exact)
-        scaled = (exact - self.origin[axis]) * self.factors[axis]
-        nearest = (scaled + Fraction(1, 2)).__floor__()
-        self.tally.coordinates += 1
-        if nearest != scaled:
-            self.tally.rounded += 1
-            self.tally.furthest = max(self.tally.furthest, abs(nearest - scaled) / self.factors[axis])
-        return nearest
-
-    def ring(self, positions):
-        """The ring in whole numbers, without equal points next to each other; range is not looked at here."""
-        self.tally, points = Tally(), []
-        for position in positions:
-            if not isinstance(position, (list, tuple)) or len(position) < 2:
-                raise Refused("a point that has no two coordinates")
-            self.tally.heights += len(position) > 2
-            points.append((self.whole(0, position[0]), self.whole(1, position[1])))
-        if len(positions) >= 2 and list(positions[0][:2]) != list(positions[-1][:2]):
-            raise Refused("a ring whose last point is not its first")
-        kept = points[:1]
-        for point in points[1:]:
-            if point == kept[-1]:
-                self.tally.merged += 1
-            else:
-                kept.append(point)
-        return kept
-
-
-def is_flat(ring):
-    """Whether all points of a ring stand on one line."""
-    first = ring[0]
-    other = next((point for point in ring if point != first), first)
-    across, up = other[0] - first[0], other[1] - first[1]
-    return all(across * (y - first[1]) == up * (x - first[0]) for x, y in ring)
-
-
-def unusable_ring(positions, ring):
-    """Why a ring in whole numbers cannot be written, or None."""
-    if len(positions) < 4:
-        return f"a ring of {len(positions)} points"
-    if len(ring) < 4 or is_flat(ring):
-        return "a ring that collapsed"
-    return None
-
-
-def scaled_polygon(polygon, scale, say):
-    """The polygon in whole numbers and its tally.
-
-    A hole that cannot be written is left out; an outer ring takes the polygon along.
-    """
-    rings, tally = [], Tally()
-    for number, positions in enumerate(polygon):
-        if not isinstance(positions, (list, tuple)):
-            raise Refused("a ring that is no list of points")
-        ring = scale.ring(positions)
-        for point in ring:
-            if max(abs(point[0]), abs(point[1])) > LIMIT:
-                raise Refused(f"out of range after scaling: {point[0]} {point[1]}")
-        reason = unusable_ring(positions, ring)
-        if reason and number == 0:
-            say(f"a polygon, for its outer ring: {reason}")
-            return [], tally
-        if reason:
-            say(f"a hole: {reason}")
-        else:
-            rings.append(ring)
-            tally.add(scale.tally)
-    return rings, tally
-
-
-def geometries_of(value, label, wish, name_by):
-    """All shapes in a GeoJSON value, collections taken apart."""
-    if not isinstance(value, dict):
-        return [Shape(label, wish, "no GeoJSON object", None)]
-    kind = value.get("type")
-    if kind == "Feature":
-        properties = value.get("properties") or {}
-        if name_by and properties.get(name_by) is not None:
-            wish = str(properties[name_by])
-        called = f"{label} ({wish})" if name_by and wish else label
-        if value.get("geometry") is None:
-            return [Shape(called, wish, "a feature without a geometry", None)]
-        return geometries_of(value["geometry"], called, wish, name_by)
-    if kind in COLLECTIONS:
-        members = value.get("features" if kind == "FeatureCollection" else "geometries") or []
-        return [shape for number, member in enumerate(members, 1)
-                for shape in geometries_of(member, f"{label}, member {number}", wish, name_by)]
-    return [Shape(label, wish, str(kind).upper(), value.get("coordinates"))]
-
-
-def wkt_shapes(label, kind, coordinates):
-    if kind == "GEOMETRYCOLLECTION":
-        return [shape for number, member in enumerate(coordinates, 1)
-                for shape in wkt_shapes(f"{label}, member {number}", *member)]
-    return [Shape(label, None, kind, coordinates)]
-
-
-def shapes_of(text, label, name_by):
-    """All shapes of a text, GeoJSON where it begins as an object, else Well-Known Text."""
-    if text.lstrip().startswith("{"):
-        return geometries_of(json.loads(text, parse_float=Decimal), label, None, name_by)
-    return [shape for number, geometry in enumerate(wkt.read_all(text), 1)
-            for shape in wkt_shapes(f"{label}, text {number}", *geometry)]
-
-
-def fitting_name(wish, taken):
-    """A layer name that looks like the wish: marks dropped, other bytes made _, and a number where it is taken."""
+def fitted_name(wish: str) -> str:
+    """A layer name that looks like the wish: marks dropped, other bytes made _."""
     plain = unicodedata.normalize("NFKD", wish).encode("ascii", "ignore").decode()
     plain = re.sub(r"[^A-Za-z0-9]+", "_", plain.strip()).strip("_")
     if not plain or not plain[0].isalpha():
         plain = "L" + ("_" + plain if plain else "")
-    name, number = plain[:LONGEST_NAME], 1
-    while name in taken:
-        number += 1
-        name = plain[: LONGEST_NAME - len(f"_{number}")] + f"_{number}"
-    return name
+    return plain
 
 
-def steps_of(polygons):
-    return sum(len(ring) - 1 for polygon in polygons for ring in polygon)
+class Reader:
+    """Gathers shapes into groups, and what was refused of them."""
 
+    def __init__(self, scale: Scale, fitted: bool) -> None:
+        self.rounding, self.fitted = rounding.Rounding(scale), fitted
+        self.groups: dict[object, Group] = {}
+        self.told: list[str] = []
+        self.refusals = self.collapsed = self.outside = 0
 
-class Layer:
-    """A layer to be written: its polygons, what rounding did to them, and whether they are too many."""
+    def refuse(self, label: str, reason: str) -> None:
+        """Tells a refusal. That at a fitted scale a ring is too small for it is none, but told."""
+        is_small = reason.endswith(rounding.COLLAPSED)
+        self.refusals += not (is_small and self.fitted)
+        self.collapsed += is_small
+        self.outside += reason.startswith(rounding.OUT_OF_RANGE)
+        self.told.append(f"{'left out' if is_small and self.fitted else 'refused'}: {label}: {reason}")
 
-    def __init__(self, name):
-        self.name, self.polygons, self.boxes, self.tally, self.too_large = name, [], [], Tally(), False
-
-    def add(self, polygons, tally):
-        self.polygons.extend(polygons)
-        self.tally.add(tally)
-        for polygon in polygons:
-            across, up = [x for x, _ in polygon[0]], [y for _, y in polygon[0]]
-            self.boxes.append((min(across), min(up), max(across), max(up)))
-
-    def touching_boxes(self):
-        """How many pairs of polygons have boxes with a common part."""
-        count = 0
-        for i, (left, low, right, high) in enumerate(self.boxes):
-            count += sum(left < r and l < right and low < h and o < high for l, o, r, h in self.boxes[:i])
-        return count
-
-
-class Writer:
-    """Gathers shapes into layers, and reports."""
-
-    def __init__(self, scale, report):
-        self.scale, self.report = scale, report
-        self.layers, self.refusals, self.out_of_range = {}, 0, False
-
-    def refuse(self, label, reason):
-        self.refusals += 1
-        self.out_of_range = self.out_of_range or reason.startswith("out of range")
-        self.report(f"refused: {label}: {reason}")
-
-    def polygons(self, shape):
-        """The polygons of a shape in whole numbers, and their tally."""
-        known = wkt.polygons_of(shape.kind, shape.coordinates)
-        if known is None:
-            raise Refused(f"no polygon: {shape.kind}")
-        found, tally = [], Tally()
-        for polygon in known:
-            rings, own = scaled_polygon(polygon, self.scale, lambda reason: self.refuse(shape.label, reason))
-            found.extend([rings] if rings else [])
-            tally.add(own)
-        return found, tally
-
-    def layer(self, key, wish):
-        """The layer of a key, made where it is new, named after the wish; None where as many stand as may."""
-        if key not in self.layers:
-            if len(self.layers) == MOST_LAYERS:
-                return None
-            self.layers[key] = Layer(fitting_name(wish, {layer.name for layer in self.layers.values()}))
-        return self.layers[key]
-
-    def take(self, shape, file, stem):
-        """Takes in a shape of a file, for the layer that it asks for, else for that of the file."""
-        wish = shape.wish or stem
+    def take(self, shape: Shape, by_feature: bool) -> None:
+        """Takes in a shape, for the layer that it asks for, else for that of its file or its feature."""
+        tally, found, before = rounding.Tally(), [], self.collapsed
         try:
-            polygons, tally = self.polygons(shape)
+            for polygon in shape.polygons():
+                rings, own = self.rounding.polygon(polygon, lambda reason: self.refuse(shape.label, reason))
+                found.extend([rings] if rings else [])
+                tally.add(own)
         except (Refused, TypeError) as fault:
             self.refuse(shape.label, str(fault) if isinstance(fault, Refused) else "coordinates of another form")
             return
-        steps = steps_of(polygons)
-        if steps > MOST_STEPS:
-            self.refuse(shape.label, f"too many steps: {steps} of at most {MOST_STEPS}")
+        if not found:
+            if self.fitted and self.collapsed > before:
+                self.refuse(shape.label, "all of it is too small for this scale")
+            self.told.append(f"nothing to write: {shape.label}")
             return
-        if not polygons:
-            self.report(f"nothing to write: {shape.label}")
-            return
-        layer = self.layer(shape.wish or (file,), wish)
-        if layer is None:
-            self.refuse(shape.label, f"a layer more than {MOST_LAYERS}: {wish}")
-            return
-        if steps_of(layer.polygons) + steps > MOST_STEPS and not layer.too_large:
-            layer.too_large = True
-            self.refuse(shape.label, f"with it layer {layer.name} has too many steps (over {MOST_STEPS}); "
-                        "the whole layer is left out")
-        layer.add(polygons, tally)
+        key: object = shape.wish or ((shape.file, shape.feature) if by_feature else shape.file)
+        wish = shape.wish or (shape.feature if by_feature else shape.stem)
+        self.groups.setdefault((type(key), key), Group(wish)).add(found, tally)
 
-    def lines(self):
-        for layer in self.layers.values():
-            if layer.too_large:
-                self.report(f"left out: layer {layer.name}: {steps_of(layer.polygons)} steps")
-                continue
-            line = f"PUT {layer.name} {wkt.write(layer.polygons)}"
-            if len(line) > LONGEST_LINE:
-                self.refuse(f"layer {layer.name}", f"a line of {len(line)} bytes")
-                continue
-            self.report(f"layer {layer.name}: polygons {len(layer.polygons)}, steps {steps_of(layer.polygons)}; "
-                        f"{layer.tally.text()}")
-            pairs = layer.touching_boxes()
-            if pairs:
-                self.report(f"layer {layer.name}: {pairs} pairs of polygons with overlapping boxes; "
-                            "where polygons of one layer overlap, the layer is out (even-odd)")
-            yield line
+    def furthest(self) -> Fraction:
+        return max((group.tally.furthest for group in self.groups.values()), default=Fraction(0))
 
 
-def decimal(number, digits=12):
-    """A fraction with a few significant digits."""
-    return f"{float(number):.{digits}g}" if number else "0"
+def read_shapes(words: argparse.Namespace) -> tuple[list[Shape], set[str | None]]:
+    """The shapes of all files, and the names of their coordinates."""
+    shapes, names = [], set()
+    for number, name in enumerate(words.files):
+        stem = words.name or ("L" if name == "-" else pathlib.Path(name).stem)
+        source = map_reading.Source(number, name, stem, words.name_by)
+        try:
+            own, crs = source.read(map_reading.content(name))
+        except (OSError, ValueError, ArithmeticError, RecursionError, wkt.WktFault) as fault:
+            raise Stopped(f"{name}: not read: {fault}") from fault
+        shapes += own
+        names.add(crs)
+    return shapes, names
 
 
-def hint(scale):
-    """Factor and origin with which what was read would be in range."""
-    if None in scale.least:
-        return None
-    middle = [(low + high) / 2 for low, high in zip(scale.least, scale.greatest)]
-    widest = max((high - low) / 2 for low, high in zip(scale.least, scale.greatest))
-    origin = [decimal(Fraction(number).limit_denominator(1000), 9) for number in middle]
-    if not widest:
-        return None
-    factor = Fraction(10) ** 15
-    while (widest + Fraction(1, 100)) * factor > LIMIT and factor > Fraction(1, 10**15):
-        factor /= 10
-    return f"all that was read would fit with --factor {decimal(factor)} --origin {' '.join(origin)}"
+def crs_for(words: argparse.Namespace, names: set[str | None], box: fitting.Box | None) -> str | None:
+    """The name of the coordinates: the one given, else that of the files, else degrees where they may be."""
+    given = {name for name in names if name}
+    if words.crs:
+        return str(words.crs)
+    if len(given) > 1:
+        raise Stopped(f"files of different coordinates: {', '.join(sorted(given))}")
+    if given:
+        return given.pop()
+    return scales.CRS84 if box and box.is_within_degrees() else None
 
 
-def words_of(arguments):
+def scale_for(words: argparse.Namespace, box: fitting.Box | None, crs: str | None) -> Scale:
+    """The scale that the words ask for."""
+    if words.scale:
+        try:
+            scale = scales.read(words.scale)
+        except scales.ScaleFault as fault:
+            raise Stopped(str(fault)) from fault
+        if crs and scale.crs and crs != scale.crs:
+            raise Stopped(f"the files are in {crs}, {words.scale} in {scale.crs}")
+        return scale
+    factor, origin = words.factor, words.origin
+    if words.fit and box:
+        wide, middle = fitting.proposed(box)
+        factor, origin = factor or wide, origin or middle
+    factor = factor or Fraction(1)
+    factor_y = words.factor_y or factor
+    x, y = origin or (Fraction(0), Fraction(0))
+    degrees = crs in (scales.CRS84, "EPSG:4326")
+    stem = words.output.stem if words.output else pathlib.Path(words.files[0]).stem
+    return Scale(factor, factor_y, (x, y), words.title or stem, words.unit or ("degree" if degrees else "1"), crs,
+                 scales.enough_digits(max(factor, factor_y)))
+
+
+def check_scale(reader: Reader, box: fitting.Box | None, scale: Scale, given: bool) -> list[str]:
+    """What to tell of a scale that does not fit the map; it stops all where it was not given."""
+    wrong = fitting.faults(reader.collapsed, reader.outside, reader.furthest(), box, scale) if box else []
+    if not wrong or not box:
+        return []
+    factor, origin = fitting.proposed(box)
+    if (factor, origin) == (scale.factor, scale.origin):
+        return []
+    told = (f"at {fitting.words(scale.factor, scale.origin)[2:].replace(' --', ', ')} {'; '.join(wrong)}; to be fitted: "
+            f"{fitting.words(factor, origin)}, or --fit")
+    if not given:
+        raise Stopped(told)
+    return [told]
+
+
+class Planner:
+    """Makes layers and stores of groups, and tells what they became."""
+
+    def __init__(self, words: argparse.Namespace, refuse: Callable[[str, str], None]) -> None:
+        self.words, self.refuse = words, refuse
+        self.names = layering.Names()
+        self.told: list[str] = []
+
+    def named(self, groups: list[Group]) -> list[Store]:
+        """Each group under its name, and each in one store."""
+        given = [(self.names.give(fitted_name(group.wish)), group) for group in groups]
+        layouts = []
+        for name, group in given:
+            layout = layering.split(name, group.polygons, self.names, self.words.union)
+            if layout.chords + (len(layout.base) > 1) and not self.words.split and not self.words.union:
+                self.refuse(f"layer {name}", f"too many steps: {group.steps()} of at most {limits.STEPS_MAX}; "
+                            "--split writes them exactly, over several layers")
+            elif any(rounding.steps_of([polygon]) > limits.STEPS_MAX for polygon in group.polygons) and not self.words.split:
+                self.refuse(f"layer {name}", f"a polygon of more than {limits.STEPS_MAX} steps; --split cuts it exactly")
+            elif not layering.fits(layout):
+                self.refuse(f"layer {name}", f"{group.steps()} steps need {layout.count()} layers, more than a store has")
+            else:
+                layouts.append(layout)
+                self.tell(layout, group)
+        return layering.in_stores(layouts)
+
+    def tell(self, layout: Layout, group: Group) -> None:
+        over = f" in {len(layout.base)} layers" if len(layout.base) > 1 else ""
+        chords = f"; LOCATE says edge on {layout.chords} chords" if layout.chords else ""
+        self.told.append(f"layer {layout.name}: polygons {len(group.polygons)}, steps {group.steps()}{over}{chords}; "
+                         f"{group.tally.text()}")
+        pairs = 0 if self.words.union else group.overlaps()
+        if pairs:
+            self.told.append(f"layer {layout.name}: {pairs} pairs of polygons with overlapping boxes; where polygons of "
+                             "one layer overlap, the layer is out (even-odd), or in with --union")
+
+    def coded(self, groups: list[Group]) -> list[Store]:
+        """Groups as numbered features."""
+        kept = []
+        for group in groups:
+            if layering.bit_layers([group], self.words.split):
+                kept.append(group)
+            else:
+                more = "" if self.words.split else "; --split writes them exactly, over several layers"
+                self.refuse(group.wish, f"too many steps: {group.steps()}{more}")
+        stores = layering.coded(kept, self.words.split)
+        for store in stores:
+            self.tell_coded(store)
+        return stores
+
+    def tell_coded(self, store: Store) -> None:
+        tally = rounding.Tally()
+        for feature in store.features:
+            tally.add(feature.tally)
+        steps = [sum(rounding.steps_of(polygons) for _, polygons in layout.base) for layout in store.layouts]
+        chords = sum(layout.chords for layout in store.layouts)
+        told = f"; LOCATE says edge on {chords} chords" if chords else ""
+        self.told.append(f"{len(store.features)} features in layers {store.layouts[0].name} to {store.layouts[-1].name}, "
+                         f"{min(steps)} to {max(steps)} steps each, {store.count()} layers in all{told}; {tally.text()}")
+
+
+def one_store(stores: list[Store], refuse: Callable[[str, str], None]) -> list[Store]:
+    """The first store: where no --output names further ones, what does not fit it is refused."""
+    for store in stores[1:]:
+        what = [group.wish for group in store.features] or [layout.name for layout in store.layouts]
+        for name in what:
+            refuse(name, f"a layer more than {limits.LAYERS_MAX}; --output NAME.txt writes several stores")
+    return stores[:1]
+
+
+def lines_of(store: Store) -> list[str]:
+    return [line for layout in store.layouts for line in layout.lines()]
+
+
+def spelled_area(area: Fraction) -> str:
+    digits = scales.decimal_digits(area)
+    return str(area) if digits is None else scales.decimals(area, digits)
+
+
+def write_names(path: pathlib.Path, stores: list[Store], scale: Scale) -> None:
+    """The table of numbered features."""
+    with path.open("w", encoding="utf-8", newline="") as file:
+        table = csv.writer(file, lineterminator="\n")
+        table.writerow(["store", "number", "name", "expression", "area"])
+        for place, store in enumerate(stores, 1):
+            for number, group in enumerate(store.features, 1):
+                table.writerow([place, number, group.wish, layering.expression_of(number, len(store.features)),
+                                spelled_area(scale.area(layering.area_of(group)))])
+
+
+def write_files(words: argparse.Namespace, stores: list[Store], scale: Scale) -> list[str]:
+    """Writes the scripts and what goes with them, and tells how to make stores of them."""
+    try:
+        text = replace(scale, title=words.title or scale.title).text()
+    except scales.ScaleFault as fault:
+        raise Stopped(f"--output: {fault}") from fault
+    base, told = words.output.with_suffix(""), []
+    scripts = [words.output]
+    if len(stores) > 1:
+        scripts = [pathlib.Path(f"{base}.{place}{words.output.suffix}") for place in range(1, len(stores) + 1)]
+    sidecar = pathlib.Path(f"{base}.scale.json")
+    try:
+        for script, store in zip(scripts, stores):
+            script.write_bytes("".join(line + "\n" for line in lines_of(store)).encode())
+            told.append(f"{script}: {store.count()} layers; overlayd --store {script.with_suffix('.db')} --create {script}")
+        sidecar.write_bytes(text.encode())
+        if words.coded:
+            write_names(pathlib.Path(f"{base}.names.csv"), stores, scale)
+            told.append(f"names in {base}.names.csv")
+    except OSError as fault:
+        raise Stopped(str(fault)) from fault
+    return [f"factor and origin in {sidecar}"] + told
+
+
+def words_of(arguments: list[str]) -> argparse.Namespace:
     parser = argparse.ArgumentParser(description=__doc__, formatter_class=argparse.RawDescriptionHelpFormatter)
     parser.add_argument("files", metavar="FILE", nargs="+", help="GeoJSON or Well-Known Text; - is standard input")
-    parser.add_argument("--factor", type=Fraction, default=Fraction(1), help="default 1")
+    parser.add_argument("--factor", type=Fraction, help="default 1")
     parser.add_argument("--factor-y", type=Fraction, help="another factor for y (default: that of x)")
-    parser.add_argument("--origin", type=Fraction, nargs=2, metavar=("X", "Y"), default=[Fraction(0)] * 2,
+    parser.add_argument("--origin", type=Fraction, nargs=2, metavar=("X", "Y"),
                         help="the point that becomes 0 0 (default 0 0)")
+    parser.add_argument("--fit", action="store_true", help="factor and origin from the data, where they are not given")
+    parser.add_argument("--scale", metavar="FILE", type=pathlib.Path,
+                        help="factor and origin of another map, NAME.scale.json")
     parser.add_argument("--name", help="the layer's name (default: the file's)")
-    parser.add_argument("--name-by", metavar="PROPERTY",
-                        help="one layer for each value of this property of GeoJSON features, at most 32")
+    parser.add_argument("--name-by", metavar="PROPERTY", help="a layer for each value of this property of GeoJSON features")
+    parser.add_argument("--split", action="store_true", help="spread what is too long for a layer over several")
+    parser.add_argument("--union", action="store_true", help="polygons of one layer may overlap")
+    parser.add_argument("--coded", action="store_true", help="number the features over few layers (needs --output)")
+    parser.add_argument("--output", metavar="NAME.txt", type=pathlib.Path, help="in the place of standard output")
+    parser.add_argument("--title", help="for the scale's file (default: the output's name)")
+    parser.add_argument("--unit", help="of the world's numbers (default: degree for degrees, else 1)")
+    parser.add_argument("--crs", help="the name of the world's coordinates, as EPSG:2263 (default: what the files say)")
     words = parser.parse_args(arguments)
-    words.factor_y = words.factor if words.factor_y is None else words.factor_y
-    if words.factor <= 0 or words.factor_y <= 0:
+    if any(factor is not None and factor <= 0 for factor in (words.factor, words.factor_y)):
         parser.error("a factor is greater than 0")
+    if words.scale and (words.fit or words.factor or words.factor_y or words.origin):
+        parser.error("--scale and --fit, a factor or an origin are two answers")
+    if words.coded and (words.union or not words.output):
+        parser.error("--coded needs --output NAME.txt, as it writes names too, and no --union")
     return words
 
 
-def read_file(name):
-    if name == "-":
-        return sys.stdin.buffer.read().decode("utf-8-sig")
-    with open(name, encoding="utf-8-sig") as file:
-        return file.read()
+def work(words: argparse.Namespace, output: TextIO, say: Callable[[str], None]) -> int:
+    """Reads, lays out and writes; the status."""
+    shapes, names = read_shapes(words)
+    box = fitting.box_of(shapes)
+    scale = scale_for(words, box, crs_for(words, names, box))
+    reader = Reader(scale, words.fit)
+    for shape in shapes:
+        reader.take(shape, words.coded)
+    given = words.fit or words.scale or words.factor or words.factor_y
+    told = check_scale(reader, box, scale, bool(given))
+    planner = Planner(words, reader.refuse)
+    groups = list(reader.groups.values())
+    stores = planner.coded(groups) if words.coded else planner.named(groups)
+    written = []
+    if words.output:
+        written = write_files(words, stores, scale)
+    else:
+        stores = one_store(stores, reader.refuse)
+        for line in (line for store in stores for line in lines_of(store)):
+            print(line, file=output)
+    if words.fit:
+        moved = f"moved by at most {rounding.shown(reader.furthest())} {scale.unit}".removesuffix(" 1")
+        say(f"{fitting.words(scale.factor, scale.origin)}; {moved if reader.furthest() else 'nothing is rounded'}")
+    for text in planner.told + reader.told + told + written:
+        say(text)
+    return 1 if reader.refusals else 0
 
 
-def main(arguments, output=None, errors=None):
+def main(arguments: list[str], output: TextIO | None = None, errors: TextIO | None = None) -> int:
     words = words_of(arguments)
     output, errors = output or sys.stdout, errors or sys.stderr
-    scale = Scale((words.factor, words.factor_y), words.origin)
-    writer = Writer(scale, lambda text: print(text, file=errors))
-    for number, name in enumerate(words.files):
-        stem = words.name or ("L" if name == "-" else os.path.splitext(os.path.basename(name))[0])
-        try:
-            shapes = shapes_of(read_file(name), name, words.name_by)
-        except (OSError, ValueError, ArithmeticError, RecursionError, wkt.WktFault) as fault:
-            print(f"{name}: not read: {fault}", file=errors)
-            return 2
-        for shape in shapes:
-            writer.take(shape, number, stem)
-    for line in writer.lines():
-        print(line, file=output)
-    if writer.out_of_range and hint(scale):
-        writer.report(hint(scale))
-    return 1 if writer.refusals else 0
+    try:
+        return work(words, output, lambda text: print(text, file=errors))
+    except Stopped as fault:
+        print(fault, file=errors)
+        return 2
 
 
 if __name__ == "__main__":

@@ -1,10 +1,15 @@
-"""A module for to_script.py, to_rings.py and sessions.py: reads and writes Well-Known Text.
+#!/usr/bin/env python3
+"""Reads and writes Well-Known Text: any geometry is read, with fractions, exponents, Z and M.
 
-Any geometry is read, with fractions, exponents, Z and M.
+A module for the tools; it is no tool of its own.
 """
 
 import re
+from collections.abc import Callable, Iterable
 from decimal import Decimal, InvalidOperation
+from typing import Any
+
+import limits
 
 TOKEN = re.compile(r"\s*(?:([A-Za-z]+)|([-+]?(?:\d+\.?\d*|\.\d+)(?:[eE][-+]?\d+)?)|([(),;=]))")
 
@@ -16,27 +21,28 @@ class WktFault(Exception):
 class Reader:
     """A text and the tokens that are left of it."""
 
-    def __init__(self, text):
+    def __init__(self, text: str) -> None:
         self.text, self.at = text, 0
-        self.kind, self.word = None, None
+        self.kind: int | None = None
+        self.word: Any = None
         self.advance()
 
-    def advance(self):
+    def advance(self) -> None:
         match = TOKEN.match(self.text, self.at)
         if match:
             self.at = match.end()
-            self.kind, self.word = match.lastindex, match.group(match.lastindex)
+            self.kind, self.word = match.lastindex, match.group(match.lastindex or 0)
         elif self.text[self.at:].strip():
             raise WktFault(f"no token of a text at character {self.at}")
         else:
             self.kind, self.word = None, None
 
-    def take(self, word):
+    def take(self, word: str) -> None:
         if self.word != word:
             raise WktFault(f"'{word}' expected before character {self.at}")
         self.advance()
 
-    def items(self, item):
+    def items(self, item: Callable[[], Any]) -> list[Any]:
         """What item reads, once or more, parted by commas and in brackets."""
         self.take("(")
         found = [item()]
@@ -46,7 +52,7 @@ class Reader:
         self.take(")")
         return found
 
-    def position(self):
+    def position(self) -> list[Decimal]:
         numbers = []
         while self.kind == 2:
             numbers.append(Decimal(self.word))
@@ -55,7 +61,7 @@ class Reader:
             raise WktFault(f"two numbers expected before character {self.at}")
         return numbers
 
-    def nested(self):
+    def nested(self) -> list[Any]:
         """Positions in brackets of any depth; of a MULTIPOINT some stand in brackets of their own."""
         if self.kind == 1 and self.word.upper() == "EMPTY":
             self.advance()
@@ -64,7 +70,7 @@ class Reader:
             return self.items(self.nested)
         return self.position()
 
-    def geometry(self):
+    def geometry(self) -> tuple[str, list[Any]]:
         """The type in upper case, and the coordinates, or for a GEOMETRYCOLLECTION its geometries."""
         if self.kind != 1:
             raise WktFault(f"the word of a geometry expected before character {self.at}")
@@ -78,7 +84,7 @@ class Reader:
         return kind, self.items(self.geometry if kind == "GEOMETRYCOLLECTION" else self.nested)
 
 
-def read_all(text):
+def read_all(text: str) -> list[tuple[str, list[Any]]]:
     """The geometries of a text, one behind the other; an SRID before one is passed over."""
     reader, found = Reader(text), []
     try:
@@ -93,7 +99,7 @@ def read_all(text):
     return found
 
 
-def polygons_of(kind, coordinates):
+def polygons_of(kind: str, coordinates: Any) -> list[Any] | None:
     """The polygons of a POLYGON or MULTIPOLYGON, each a list of rings; None for another type."""
     if kind == "POLYGON":
         return [coordinates] if coordinates else []
@@ -102,7 +108,7 @@ def polygons_of(kind, coordinates):
     return None
 
 
-def write(polygons, spell=str):
+def write(polygons: Iterable[Any], spell: Callable[[Any], str] = str) -> str:
     """A POLYGON where there is one, else a MULTIPOLYGON; spell writes a number."""
     texts = []
     for polygon in polygons:
@@ -111,3 +117,7 @@ def write(polygons, spell=str):
     if not texts:
         return "MULTIPOLYGON EMPTY"
     return "POLYGON " + texts[0] if len(texts) == 1 else "MULTIPOLYGON (" + ", ".join(texts) + ")"
+
+
+if __name__ == "__main__":
+    limits.tell(__doc__)

@@ -6,4 +6,5 @@ pub mod fault;
 pub mod published;
 pub mod publisher;
 pub mod reader_place;
+pub mod resting;
 pub mod seen_log;

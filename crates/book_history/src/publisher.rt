@@ -4,11 +4,14 @@ ghost use Rattle.left_right.specs.Sides.{view};
 ghost use Rattle.book_history.specs.BookLogs.{Begins};
 
 use crate::published::{Notes, Published, Publisher, ReaderPlace, Sees};
+use crate::resting::rest;
 use core::mem::replace_with;
 use std::alloc::Global;
+use std::snapshot::Snapshot;
 use std::sync::Wait;
 
-/// What publishes for so many readers, with one version that it knows and shows.
+/// What publishes for so many readers, with one version that it knows and shows. None comes where memory is refused.
+// It asks for memory once, and not again: a book that begins is refused where there is none.
 pub fn first_publisher<R: Wait>(
     rt: &R,
     alloc: Global,
@@ -22,10 +25,17 @@ pub fn first_publisher<R: Wait>(
     let (Ok(second), Ok(next)) = (first.again(), first.again()) else {
         return None;
     };
-    let Ok(publisher) = Publisher::new(alloc, first, second, readers) else {
+    let Ok(mut publisher) = Publisher::new(alloc, first, second, readers) else {
         return None;
     };
-    Some(shown_by(rt, publisher, next))
+    let known = Snapshot::of(&next);
+    match publisher.append(next) {
+        Ok(()) => Some(shown(rt, publisher, known)),
+        Err(_) => {
+            publisher.take(rt);
+            None
+        }
+    }
 }
 
 /// A place that has seen what the publisher knows.
@@ -39,7 +49,7 @@ pub fn new_place(publisher: &mut Publisher) -> Option<ReaderPlace>
     Some(place)
 }
 
-// Writes down what follows.
+// Writes down what follows. Where memory for that is refused, it sleeps before it asks again.
 fn write_down<R: Wait>(rt: &R, publisher: Publisher, next: Published) -> Publisher
     requires { drop publisher.behind publisher.log.items ≡ [] }
     ensures shown { result.desk ≡ publisher.desk }
@@ -50,7 +60,29 @@ fn write_down<R: Wait>(rt: &R, publisher: Publisher, next: Published) -> Publish
     'write: for _ in rt.forever() {
         match publisher.append(next) {
             Ok(()) => return publisher,
-            Err(back) => next = back,
+            Err(back) => {
+                next = back;
+                rest(rt);
+            }
+        }
+    }
+    unreachable!()
+}
+
+// A publisher that has published what was written down.
+fn shown<R: Wait>(rt: &R, publisher: Publisher, next: Snapshot<Published>) -> Publisher
+    requires pending { drop publisher.behind publisher.log.items ≡ next.value ∷ [] }
+    requires longer { Begins publisher.desk.shown.value.seen_log next.value.seen_log }
+    ensures shown { result.desk.shown.value.seen_log ≡ next.value.seen_log }
+    ensures known { view result.desk.place ≡ next.value.seen_log }
+    ensures pending { drop result.behind result.log.items ≡ [] }
+{
+    let mut publisher = publisher;
+    'show: for _ in rt.forever() {
+        let (after, done) = publisher.publish_as::<Sees, R>(rt);
+        publisher = after;
+        if done.is_ok() {
+            return publisher;
         }
     }
     unreachable!()
@@ -64,15 +96,9 @@ fn shown_by<R: Wait>(rt: &R, publisher: Publisher, next: Published) -> Publisher
     ensures known { view result.desk.place ≡ next.seen_log }
     ensures pending { drop result.behind result.log.items ≡ [] }
 {
-    let mut publisher = write_down(rt, publisher, next);
-    'show: for _ in rt.forever() {
-        let (after, done) = publisher.publish_as::<Sees, R>(rt);
-        publisher = after;
-        if done.is_ok() {
-            return publisher;
-        }
-    }
-    unreachable!()
+    let known = Snapshot::of(&next);
+    let publisher = write_down(rt, publisher, next);
+    shown(rt, publisher, known)
 }
 
 /// Publishes what follows.

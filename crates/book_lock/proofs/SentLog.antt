@@ -1,6 +1,6 @@
 -- A session, and the log under the lock, may go from thread to thread.
 use denote.RattleType.{RattleType}
-use denote.Param.Send.{IsSend, SendAt, recorded_send_of, recorded_send_at, struct_send_at, view_send, sendable}
+use denote.Param.Send.{IsSend, SendAt, recorded_send, recorded_send_of, recorded_send_at, struct_send, struct_send_at, view_send, sendable}
 use denote.Array.{Array}
 use denote.Plain.{UInt}
 use denote.Builtin.{u64}
@@ -15,6 +15,7 @@ use Rattle.logbook.proofs.word.Word.TheSendSync as words
 use Rattle.book_lock.specs.contracts.locked_log.LockedLog as log
 use Rattle.book_lock.specs.contracts.locked_log.LockedLog.TheInside as inside
 use Rattle.book_history.specs.declared.seen_log.Naming as naming
+use Rattle.book_lock.specs.contracts.room.Room as room
 use Rattle.book_lock.specs.contracts.session.Session as session
 use Rattle.book_history.proofs.seen_log.SeenLog.TheSendSync as seen_logs
 use Rattle.std.proofs.Crossing.{crosses}
@@ -26,7 +27,12 @@ use Rattle.book_history.specs.contracts.published.OnlyGrows as only_grows
 use Rattle.book_history.specs.contracts.published.OnlyGrowsProtocolPublishedSeenLog.TheImpl as rule
 use Rattle.book_history.specs.contracts.seen_log.SeenLog as seen_log
 use Rattle.left_right.specs.contracts.writer.Writer as writer
-use Rattle.book_history.proofs.Sent.{place_send, publisher_send}
+use Rattle.book_history.proofs.Sent.{place_send, publisher_send, version_send, version_sync}
+
+pub room_send : IsSend room.the_row
+room_send =
+    let O = room.the_type in
+    recorded_send _ _ _ O.to_one (struct_send (shape O) (search (sendable, crosses, version_send, version_sync) depth 20, tt))
 
 pub session_send : IsSend session.the_row
 session_send = search (sendable, crosses, seen_logs.the_send, place_send) depth 20

@@ -6,6 +6,7 @@ ghost use Rattle.book_lock.specs.Steps.{IsFinishedIn, IsReportedIn};
 
 use crate::locked_log::LockedLog;
 use crate::making::{kept_version, reported_version};
+use crate::room::Room;
 use book_history::entry::Cause;
 use book_history::fault::BookFault;
 use book_history::seen_log::Naming;
@@ -34,8 +35,9 @@ impl<J: Naming, R: Wait + Drop> LockedLog<J, R> {
         Ok(true)
     }
 
-    /// Reports a number durable: the one entry that this adds, or nothing. It answers the durable number then.
-    pub fn report(&mut self, alloc: Global, number: u64) -> Result<u64, BookFault>
+    /// Reports a number durable: the one entry that this adds, or nothing. It answers the durable number then. The memory
+    /// for the entry's version is what was taken ahead for it, where there was some.
+    pub fn report(&mut self, alloc: Global, room: &mut Room, number: u64) -> Result<u64, BookFault>
         ensures ok { IfOk result (λ durable. IsReportedIn self.old number self.new
             × ((newest_in self.new).durable ≡ durable)) }
         ensures err { IfErr result (λ fault. (self.new ≡ self.old) × ((fault ≡ no_memory) ⊎ (fault ≡ BookFault.Gone))) }
@@ -45,7 +47,7 @@ impl<J: Naming, R: Wait + Drop> LockedLog<J, R> {
         if number <= durable || now.number() < number {
             return Ok(durable);
         }
-        let version = reported_version(alloc, now, number)?;
+        let version = reported_version(alloc, room, now, number)?;
         self.add(Cause::Durable(number), version)?;
         Ok(number)
     }

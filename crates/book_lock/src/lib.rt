@@ -5,5 +5,6 @@ pub mod closed;
 mod keeping;
 pub mod locked_log;
 mod making;
+pub mod room;
 pub mod session;
 mod submitting;

@@ -1,5 +1,5 @@
 //! The log under the lock, which is what is published.
-ghost use Rattle.std.specs.Prelude.{ℕ, ◌≡◌, ◌+◌, ◌<◌, ◌≤◌, [], ◌∷◌, ◌++◌, ◌⊎◌, length, slice_index, IfOk, IfErr};
+ghost use Rattle.std.specs.Prelude.{ℕ, ◌≡◌, ◌+◌, ◌<◌, ◌≤◌, [], ◌∷◌, ◌++◌, ◌⊎◌, ◌↔◌, length, slice_index, IfOk, IfErr};
 ghost use Rattle.std.specs.Prelude.{IsTrue, All, false};
 ghost use Rattle.std.specs.Arc.{arc_value};
 ghost use mathlib.Core.List.{IsPrefix};
@@ -117,6 +117,17 @@ impl<J: Naming, R: Wait + Drop> LockedLog<J, R> {
                 &self.publisher.published().seen_log,
                 self.counts[by as usize],
             )
+    }
+
+    /// Whether it has all that was seen.
+    pub fn has(&self, seen_log: &SeenLog) -> bool
+        requires { seen_log.now.book ≡ J.book }
+        ensures { IsTrue result ↔ IsPrefix seen_log.now.log self.now }
+    {
+        let last = self.last();
+        // Two logs of one book begin with the same entries: the clause rests on that.
+        last.seen_log.compare(seen_log);
+        seen_log.at() <= last.seen_log.at()
     }
 
     /// A session sees all of it. It does not where that would be less than it has seen, or its batches are others.

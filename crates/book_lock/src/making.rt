@@ -8,6 +8,7 @@ ghost use Rattle.layer_book.specs.Command.{command};
 ghost use Rattle.version_core.specs.Finish.{IsAwaited};
 ghost use Rattle.book_history.specs.Fault.{IfGone, IsCommandRefused, no_memory};
 
+use crate::room::Room;
 use book_history::fault::{BookFault, NO_MEMORY};
 use layer_book::batch::Batch;
 use layer_book::batch_fault::BatchFault;
@@ -82,9 +83,10 @@ pub(crate) fn kept_version(
     }
 }
 
-/// The version after a report of a number.
+/// The version after a report of a number, in memory that was taken ahead for it.
 pub(crate) fn reported_version(
     alloc: Global,
+    room: &mut Room,
     now: &Version,
     number: u64,
 ) -> Result<Arc<Version, Global>, BookFault>
@@ -92,7 +94,7 @@ pub(crate) fn reported_version(
     ensures err { IfErr result (λ fault. fault ≡ no_memory) }
 {
     match now.durable_to(alloc, number) {
-        Ok(next) => shared(alloc, next),
+        Ok(next) => room.shared(alloc, next),
         Err(fault) => Err(BookFault::Version(fault)),
     }
 }

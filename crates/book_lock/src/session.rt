@@ -84,6 +84,13 @@ impl Session {
         self.number
     }
 
+    /// How many batches it made.
+    pub fn made_count(&self) -> u64
+        ensures { result ≡ length self.now.made }
+    {
+        self.count
+    }
+
     /// The number of the newest version that it has seen.
     pub fn newest(&self) -> u64
         ensures { result ≡ (newest_in self.now.log).number }

@@ -184,7 +184,7 @@ tile_short k (Pieces list) formed =
     )
 tile_short k Oversize formed = omega (arith, length-bytes_high_first 1 k)
 
--- ---- catalogs: at most 490 bytes an entry
+-- ---- catalogs: at most 698 bytes an entry
 
 optional_long : (e : Option RecordExtent) → length ((optional extent).text e) ≤ 13
 optional_long None = omega arith
@@ -202,7 +202,7 @@ abbrev name_text : List ℕ → List ℕ
 name_text name = (counted 1 (number 1)).text name
 
 records_long : (name : List ℕ) (r : Records) → length name < 256 → HasColumns r
-    → length (name_text name ++ (spelled_records column_count).text (records_of r)) ≤ 490
+    → length (name_text name ++ (spelled_records column_count).text (records_of r)) ≤ 698
 records_long name (Base e) short has =
     omega (arith, short, name_long name, extent_long e, length-append (name_text name) (0 ∷ extent.text e))
 records_long name (Derived e entries) short has =
@@ -219,11 +219,11 @@ records_long name (Derived e entries) short has =
       length-append (name_text name) (1 ∷ (extent.text e ++ back)),
     )
 
-entry_long : (l : code.Listed) → IsListable l → length ((listed column_count).text (entry_of l)) ≤ 490
+entry_long : (l : code.Listed) → IsListable l → length ((listed column_count).text (entry_of l)) ≤ 698
 entry_long l is = records_long l.name.items l.records is.short is.columns
 
 entries_long : (ls : List code.Listed) → All IsListable ls
-    → length (flat_map (listed column_count).text (entries_of ls)) ≤ 490 * length ls
+    → length (flat_map (listed column_count).text (entries_of ls)) ≤ 698 * length ls
 entries_long [] all = omega arith
 entries_long (l ∷ ls) all =
     let first = (listed column_count).text (entry_of l) in

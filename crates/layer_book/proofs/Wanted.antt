@@ -1,6 +1,7 @@
 -- Layers that are not wanted change no answer of a wanted one.
-use Rattle.std.proofs.Common.{◌≡◌, ℕ, zero, suc, ◌+◌, ◌≤◌, Bool, true, false, cond, ◌||◌, List, [], ◌∷◌, ◌++◌, length, fold, slice_get, Some, refl, ap, sym, ◌∙◌, subst, arith, add-one, bytes_eq}
+use Rattle.std.proofs.Common.{◌≡◌, ℕ, zero, suc, ◌+◌, ◌≤◌, Bool, true, false, cond, ◌||◌, List, [], ◌∷◌, ◌++◌, length, fold, slice_get, Option, Some, refl, ap, sym, ◌∙◌, subst, arith, add-one, bytes_eq}
 use Rattle.std.specs.List.{list_any, list_all}
+use Rattle.std.specs.Option.{option_map}
 use Rattle.std.proofs.lemmas.Bool.{and_parts, or_left, or_right, both_ways, false_from_ne_true}
 use Rattle.std.proofs.lemmas.List.Folds.{list_all-append}
 use Rattle.overlay_terms.specs.Plane.{Point}
@@ -10,6 +11,7 @@ use Rattle.overlay_terms.specs.Commands.{index_of, stands}
 use Rattle.overlay_terms.specs.Orderly.{used_names, is_orderly_after}
 use Rattle.layer_book.specs.Question.{Question, IsInside, IsEdge, content_answer, answers, labelled, if_wanted, wanted_layers, at_index, is_wanted, NamesAreWanted}
 use Rattle.layer_book.proofs.Names.{same_name, own_name}
+use Rattle.layer_book.specs.Layer.{content_named}
 use Rattle.layer_book.proofs.Order.{head_of, apart}
 
 -- where a name stands, what is beside it is what is at its index
@@ -91,6 +93,34 @@ index_at known (l ∷ layers) (suc i) layer h e =
     let other : bytes_eq l.name layer.name ≡ false = false_from_ne_true _ (λ same. both_ways (stands layers l.name) (apart known l layers h) (subst (λ n. stands layers n ≡ true) (sym (same_name l.name layer.name same)) (stands_at layers i layer e))) in
     let next : index_of layers layer.name ≡ i = index_at (known ++ l.name ∷ []) layers i layer (head_of known l layers h).behind e in
     ap (λ b. cond b 0 (index_of layers layer.name + 1)) other ∙ omega arith
+
+-- where the layer at an index has another name, and none before it has the name, the name's index is greater
+pub index_behind : (layers : List Layer) (name : Name) (i : ℕ) (layer : Layer) → slice_get layers i ≡ Some layer → bytes_eq layer.name name ≡ false → i ≤ index_of layers name → i + 1 ≤ index_of layers name
+index_behind [] name i layer e other h = cc
+index_behind (l ∷ layers) name zero layer e other h =
+    let same : l ≡ layer = cc in
+    let here : bytes_eq l.name name ≡ false = subst (λ (m : Layer). bytes_eq m.name name ≡ false) (sym same) other in
+    rw here (omega arith)
+index_behind (l ∷ layers) name (suc i) layer e other h =
+    split (bytes_eq l.name name) h (λ within. index_behind layers name i layer e other within) where
+      split : (b : Bool) → suc i ≤ cond b 0 (index_of layers name + 1) → (i ≤ index_of layers name → i + 1 ≤ index_of layers name) → suc i + 1 ≤ cond b 0 (index_of layers name + 1)
+      split true h next = absurd (omega (arith, h))
+      split false h next = omega (arith, next (omega (arith, h)))
+
+-- the layer at an index that has the name is the name's
+pub index_here : (layers : List Layer) (name : Name) (i : ℕ) (layer : Layer) → is_orderly_after [] layers ≡ true → slice_get layers i ≡ Some layer → bytes_eq layer.name name ≡ true → (stands layers name ≡ true) × (index_of layers name ≡ i)
+index_here layers name i layer h e same =
+    let named : layer.name ≡ name = same_name layer.name name same in
+    (subst (λ n. stands layers n ≡ true) named (stands_at layers i layer e), subst (λ n. index_of layers n ≡ i) named (index_at [] layers i layer h e))
+
+-- what stands at a name's index is what stands under the name
+pub content_there : (layers : List Layer) (name : Name) → option_map (λ (layer : Layer). layer.content) (slice_get layers (index_of layers name)) ≡ content_named layers name
+content_there [] name = refl
+content_there (l ∷ layers) name = split (bytes_eq l.name name) (content_there layers name) where
+  split : (b : Bool) → option_map (λ (layer : Layer). layer.content) (slice_get layers (index_of layers name)) ≡ content_named layers name
+      → option_map (λ (layer : Layer). layer.content) (slice_get (l ∷ layers) (cond b 0 (index_of layers name + 1))) ≡ cond b (Some l.content) (content_named layers name)
+  split true next = refl
+  split false next = ap (λ i. option_map (λ (layer : Layer). layer.content) (slice_get (l ∷ layers) i)) (add-one (index_of layers name)) ∙ next
 
 marks_from : (is_in : Name → Bool) (ws : List Bool) (layers : List Layer) → ((i : ℕ) (layer : Layer) → slice_get layers i ≡ Some layer → (is_in layer.name ≡ at_index ws i) × (at_index ws i ≡ true → list_all is_in (used_names layer.content) ≡ true)) → length layers ≤ length ws → Marks is_in ws layers
 marks_from is_in [] [] f h = tt

@@ -5,11 +5,14 @@ ghost use Rattle.overlay_terms.specs.Column.{column_numbered};
 ghost use Rattle.overlay_terms.specs.Commands.{stands, stands_as_derived};
 ghost use Rattle.overlay_terms.specs.Tiles.{input_of};
 ghost use Rattle.layer_book.specs.Fault.{RefusedBy};
+ghost use Rattle.layer_book.specs.Layer.{IsBook};
+ghost use Rattle.layer_book.specs.Question.{marked_layers};
 ghost use Rattle.layer_book.specs.TileRefusal.{tile_refusal};
 
 use crate::fault::LayerFault;
 use crate::layers::Layers;
 use arrange::TileInput;
+use layer_expr::MAX_LAYERS;
 use layer_expr::name::Name;
 use layer_expr::step_list::StepList;
 use plane_base::{BaseLayer, Column};
@@ -56,9 +59,10 @@ impl Layers {
         requires { stands_as_derived self.now name.now ≡ true }
         ensures { IfOk result (λ input. input ≡ input_of self.now name.now column) }
     {
-        let bases = self.bases_in_reach(alloc, name)?;
-        let steps = self.steps_in_reach(alloc, name)?;
-        TileInput::of(alloc, column, &bases, steps)
+        let wanted = self.reach(name);
+        let reached = self.wanted_bases(alloc, &wanted)?;
+        let steps = self.wanted_steps(alloc, name, &wanted)?;
+        TileInput::of(alloc, column, &reached, steps)
     }
 
     /// The base layers that a layer reaches, in order: of a base layer itself alone.
@@ -81,7 +85,22 @@ impl Layers {
         ensures { IfOk result (λ steps. steps ≡ steps_in_reach self.now name.now) }
     {
         let wanted = self.reach(name);
-        let (layers, count) = self.wanted_layers(name, &wanted);
+        self.wanted_steps(alloc, name, &wanted)
+    }
+
+    /// The same, where the layers that are reached are marked already.
+    fn wanted_steps(
+        &self,
+        alloc: Global,
+        name: &Name,
+        wanted: &[bool; MAX_LAYERS],
+    ) -> Result<StepList, AllocError>
+        requires book { IsBook self.now }
+        requires standing { stands self.now name.now ≡ true }
+        requires exactly { marked_layers wanted.now self.now ≡ layers_in_reach self.now name.now }
+        ensures { IfOk result (λ steps. steps ≡ steps_in_reach self.now name.now) }
+    {
+        let (layers, count) = self.wanted_layers(name, wanted);
         let steps = StepList::of(alloc, &layers[..count])?;
         Ok(steps)
     }

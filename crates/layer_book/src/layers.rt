@@ -64,12 +64,19 @@ impl Layers {
         self.map.get_index(index)
     }
 
-    /// The index of the layer with a name.
+    /// The index of the layer with a name. Among so few layers comparing names is quicker than a hash.
     pub fn find(&self, name: &Name) -> Option<usize>
         ensures known { is_some result ≡ stands self.now name.now }
         ensures index { IfSome result (λ index. (index ≡ index_of self.now name.now) × (index < length self.now)) }
     {
-        self.map.get_index_of(name)
+        for index in 0..self.len() {
+            if let Some((own, _)) = self.at(index) {
+                if own == name {
+                    return Some(index);
+                }
+            }
+        }
+        None
     }
 
     /// The index of the layer with a name, or how many layers there are. It is looked for at an index first.
@@ -87,7 +94,11 @@ impl Layers {
         ensures value { option_map (λ layer. content layer.now) result ≡ content_named self.now name.now }
         ensures valid { IsBook self.now }
     {
-        self.map.get(name)
+        let _ = &self.map;
+        match self.at(self.index_of(name)) {
+            Some((_, layer)) => Some(layer),
+            None => None,
+        }
     }
 
     /// The same layers once more. Rings and expressions are shared.

@@ -148,7 +148,7 @@ turn_grows : (stored : Bool) (session : ℕ) (before : History) (turn : Answered
 turn_grows stored session before turn is =
     grows session before turn.after turn.turn turn.made turn.reply is.goes_on.0 (comes stored session before turn.after turn.made turn.reply turn.turn is) is.goes_on.1
 
-turns_grow : (stored : Bool) (session : ℕ) (seen : History) (turns : List Answered) → AreAnswered stored session seen turns
+pub turns_grow : (stored : Bool) (session : ℕ) (seen : History) (turns : List Answered) → AreAnswered stored session seen turns
     → count seen + length (made_by turns) ≤ count (history_after seen turns)
 turns_grow stored session seen [] told = nothing_made (count seen) where
   nothing_made : (n : ℕ) → n + 0 ≤ n

@@ -1,7 +1,11 @@
+pub mod Alone
+pub mod Counts
 pub mod Durable
+pub mod Listened
 pub mod Lists
 pub mod Parts
 pub mod Sent
 pub mod SentStore
 pub mod ServedParts
 pub mod Stores
+pub mod Strangers

@@ -15,19 +15,23 @@ use Rattle.version_book.specs.contracts.shared.Shared as shared
 use Rattle.book_history.specs.declared.seen_log.Naming as naming
 use Rattle.overlay_server.specs.contracts.running.Script as script
 use Rattle.overlay_server.specs.contracts.running.Ended as ended
+use Rattle.overlay_server.specs.contracts.outcome.Port as port
 
 pub heap_send : IsSend global.the_row
 heap_send = search (sendable, crosses)
 
-pub script_send : (R : RattleType) → IsSend R → IsSend (script.the_row R)
-script_send R r =
-    let O = script.the_type R in
-    recorded_send _ _ _ O.to_one (struct_send (shape O) (session_send, (r, tt)))
+port_send : (R W : RattleType) → IsSend R → IsSend W → IsSend (port.the_field R W).row
+port_send R W r w = struct_send (shape (port.the_type R W)) (r, (search (sendable, crosses), (w, tt)))
 
-pub ended_send : (R : RattleType) → IsSend R → IsSend (ended.the_row R)
-ended_send R r =
-    let O = ended.the_type R in
-    recorded_send _ _ _ O.to_one (struct_send (shape O) (session_send, (r, (search (sendable, crosses), (search (sendable, crosses), tt)))))
+pub script_send : (R W : RattleType) → IsSend R → IsSend W → IsSend (script.the_row R W)
+script_send R W r w =
+    let O = script.the_type R W in
+    recorded_send _ _ _ O.to_one (struct_send (shape O) (session_send, (port_send R W r w, tt)))
+
+pub ended_send : (R W : RattleType) → IsSend R → IsSend W → IsSend (ended.the_row R W)
+ended_send R W r w =
+    let O = ended.the_type R W in
+    recorded_send _ _ _ O.to_one (struct_send (shape O) (session_send, (port_send R W r w, (search (sendable, crosses), tt))))
 
 module _ (J S Q : RattleType) (g : naming.Ghosts J.Denot) (j : IsSend J) (s : IsSend S) (q : IsSync Q) where
   -- a worker's closure: the runtime, the allocator, the gate and the book

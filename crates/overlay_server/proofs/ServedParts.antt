@@ -1,5 +1,5 @@
 -- From what the threads of a server gave back, and what `close` tells, to what the server owes.
-use Rattle.std.proofs.Common.{◌≡◌, ◌<◌, ◌≤◌, ◌⊎◌, inl, inr, ℕ, Bool, is_some, List, Option, Some, None, IfSome, IfNone, All, length, map, sym, subst, ◌∙◌}
+use Rattle.std.proofs.Common.{◌≡◌, ◌+◌, ◌<◌, ◌≤◌, ◌⊎◌, inl, inr, ℕ, Bool, is_some, List, Option, Some, None, IfSome, IfNone, All, length, map, sym, subst, ◌∙◌}
 use Rattle.std.specs.Arc.{arc_value}
 use Rattle.std.specs.List.{AllZip}
 use mathlib.Core.List.{IsPrefix}
@@ -10,48 +10,55 @@ use Rattle.flush_core.specs.declared.flusher.Flusher.{Flusher}
 use Rattle.book_history.specs.Logs.{newest_in, IsLog}
 use Rattle.book_history.proofs.Chains.{begins_with}
 use Rattle.book_lock.specs.Steps.{HasAllOf}
+use Rattle.overlay_server.specs.Counting.{made_in}
 use Rattle.overlay_server.specs.Keeping.{IsStoreKept}
 use Rattle.overlay_server.specs.Running.{IsRunOf}
-use Rattle.overlay_server.specs.Seats.{ended_session, outcome_of}
-use Rattle.overlay_server.specs.Serving.{AreServed, IsServedFrom, first_log}
-use Rattle.overlay_server.specs.declared.outcome.Outcome.{Outcome}
-use Rattle.overlay_server.specs.declared.outcome.Served.{Served}
+use Rattle.overlay_server.specs.Seats.{ended_session, finished_of}
+use Rattle.overlay_server.specs.Serving.{ArePortsServed, IsLeftFrom, first_log}
+use Rattle.overlay_server.specs.declared.outcome.Finished.{Finished}
+use Rattle.overlay_server.specs.declared.outcome.Left.{Left}
+use Rattle.overlay_server.specs.declared.outcome.Port.{Port}
 use Rattle.overlay_server.specs.declared.running.Script.{Script}
 use Rattle.overlay_server.specs.declared.running.Ended.{Ended}
 use Rattle.overlay_server.specs.declared.storing.Store.{Store}
 use Rattle.overlay_server.proofs.Parts.{AreSeated, are_served, begins_first}
 use Rattle.overlay_server.proofs.Stores.{Closes, left_by}
+use Rattle.overlay_server.proofs.Strangers.{no_other}
 
 -- a server began so: its store's log, and the scripts with their sessions
-pub record Began {R D : Type 0} {g : Ghosts D} (book : Book) (start : Version) (readers : List R) (store : Store D g) (scripts : List (Script R)) : Type 0 where
+pub record Began {R W D : Type 0} {g : Ghosts D} (book : Book) (start : Version) (ports : List (Port R W)) (store : Store D g) (scripts : List (Script R W)) : Type 0 where
   pub log : store.reporter.log ≡ first_log start
-  pub some : 0 < length readers
-  pub seated : AreSeated book start readers scripts
+  pub some : 0 < length ports
+  pub seated : AreSeated book start ports scripts
 
 -- its threads have returned
-pub record Ran {R D : Type 0} (g : Ghosts D) (book : Book) (stored : Bool) (remaining : R → Option (List ℕ)) (store after : Store D g) (scripts : List (Script R)) (ended : List (Ended R)) : Type 0 where
-  pub sessions : AllZip (IsRunOf book stored remaining) scripts ended
+pub record Ran {R W D : Type 0} (g : Ghosts D) (book : Book) (stored : Bool) (remaining : R → Option (List ℕ)) (contents : W → Option (List ℕ)) (store after : Store D g) (scripts : List (Script R W)) (ended : List (Ended R W)) : Type 0 where
+  pub sessions : AllZip (IsRunOf book stored remaining contents) scripts ended
   pub kept : IsStoreKept book g store after
   pub stored_is : stored ≡ is_some store.flusher
 
 -- its book is closed
-pub record IsClosed {R D : Type 0} (g : Ghosts D) (after : Store D g) (ended : List (Ended R)) (served : Served D) : Type 0 where
-  pub version : arc_value served.closed.version ≡ newest_in served.closed.seen_log.log
-  pub log : IsLog served.closed.seen_log.log
-  pub sessions : All (HasAllOf served.closed.seen_log.log) (map ended_session ended)
-  pub outcomes : served.sessions.items ≡ map outcome_of ended
-  pub store : Closes g after.reporter after.flusher served.closed
+pub record IsClosed {R W D : Type 0} (g : Ghosts D) (start : Version) (after : Store D g) (ended : List (Ended R W)) (left : Left W D) : Type 0 where
+  pub version : arc_value left.closed.version ≡ newest_in left.closed.seen_log.log
+  pub log : IsLog left.closed.seen_log.log
+  pub sessions : All (HasAllOf left.closed.seen_log.log) (map ended_session ended)
+  pub number : (newest_in left.closed.seen_log.log).number ≡ start.number + made_in (map ended_session ended)
+  pub finished : left.sessions.items ≡ map finished_of ended
+  pub store : Closes g after.reporter after.flusher left.closed
 
-pub served_from : {R D : Type 0} (g : Ghosts D) (book : Book) (stored : Bool) (remaining : R → Option (List ℕ)) (start : Version) (readers : List R) (store after : Store D g)
-    (scripts : List (Script R)) (ended : List (Ended R)) (served : Served D) → Began book start readers store scripts → Ran g book stored remaining store after scripts ended
-    → IsClosed g after ended served → IsServedFrom remaining g start store.flusher readers served
-served_from g book stored remaining start readers store after scripts ended served began ran closed = record {
+pub served_from : {R W D : Type 0} (g : Ghosts D) (book : Book) (stored : Bool) (remaining : R → Option (List ℕ)) (contents : W → Option (List ℕ)) (start : Version) (ports : List (Port R W)) (store after : Store D g)
+    (scripts : List (Script R W)) (ended : List (Ended R W)) (left : Left W D) → Began book start ports store scripts → Ran g book stored remaining contents store after scripts ended
+    → IsClosed g start after ended left → IsLeftFrom remaining contents g start store.flusher ports left
+served_from {W = W} g book stored remaining contents start ports store after scripts ended left began ran closed = record {
   version = closed.version;
   log = closed.log;
-  begins = begins_first book stored remaining start readers scripts began.seated ended ran.sessions served.closed.seen_log.log closed.sessions began.some;
+  begins = begins_first book stored remaining contents start ports scripts began.seated ended ran.sessions left.closed.seen_log.log closed.sessions began.some;
+  only =
+      no_other book stored remaining contents start ports scripts ended left.closed.seen_log.log began.seated ran.sessions closed.sessions closed.log
+      (begins_first book stored remaining contents start ports scripts began.seated ended ran.sessions left.closed.seen_log.log closed.sessions began.some) closed.number;
   sessions =
-      subst (λ (b : Bool). AreServed b remaining start served.closed.seen_log.log readers served.sessions.items) ran.stored_is
-      (subst (λ (os : List Outcome). AreServed stored remaining start served.closed.seen_log.log readers os) (sym closed.outcomes)
-      (are_served book stored remaining start readers scripts began.seated ended ran.sessions served.closed.seen_log.log closed.sessions));
-  kept = left_by g start store.reporter after.reporter store.flusher after.flusher served.closed began.log ran.kept.flushed closed.store;
+      subst (λ (b : Bool). ArePortsServed b remaining contents start left.closed.seen_log.log ports left.sessions.items) ran.stored_is
+      (subst (λ (os : List (Finished W)). ArePortsServed stored remaining contents start left.closed.seen_log.log ports os) (sym closed.finished)
+      (are_served book stored remaining contents start ports scripts began.seated ended ran.sessions left.closed.seen_log.log closed.sessions));
+  kept = left_by g start store.reporter after.reporter store.flusher after.flusher left.closed began.log ran.kept.flushed closed.store;
 }

@@ -12,11 +12,11 @@ pub record IsReserved {X Z : Type 0} (list : Vec X Z) (count : ℕ) : Type 0 whe
   pub room : count ≤ vec_capacity list
 
 -- for the threads of so many sessions, and for what they leave
-pub record HasRooms {J R : Type 0} (rooms : Rooms J R) (count : ℕ) : Type 0 where
+pub record HasRooms {J R W : Type 0} (rooms : Rooms J R W) (count : ℕ) : Type 0 where
   pub running : IsReserved rooms.running count
   pub ended : IsReserved rooms.ended count
 
 -- for so many sessions and outcomes
-pub record HasParts (parts : Parts) (count : ℕ) : Type 0 where
+pub record HasParts {W : Type 0} (parts : Parts W) (count : ℕ) : Type 0 where
   pub sessions : IsReserved parts.sessions count
-  pub outcomes : IsReserved parts.outcomes count
+  pub finished : IsReserved parts.finished count

@@ -2,18 +2,19 @@
 use Rattle.book_history.specs.Known.{Known}
 use Rattle.overlay_server.specs.declared.running.Script.{Script}
 use Rattle.overlay_server.specs.declared.running.Ended.{Ended}
-use Rattle.overlay_server.specs.declared.outcome.Outcome.{Outcome}
+use Rattle.overlay_server.specs.declared.outcome.Finished.{Finished}
+use Rattle.overlay_server.specs.declared.outcome.Port.{Port}
 
-module _ {R : Type 0} where
-  abbrev pub session_of : Script R → Known
+module _ {R W : Type 0} where
+  abbrev pub session_of : Script R W → Known
   session_of script = script.session
 
-  abbrev pub reader_of : Script R → R
-  reader_of script = script.reader
+  abbrev pub port_of : Script R W → Port R W
+  port_of script = script.port
 
-  -- what a session that has ended leaves: itself, its bytes, and how it ended
-  abbrev pub ended_session : Ended R → Known
+  -- what a session that has ended leaves: itself, its writer, and how it ended
+  abbrev pub ended_session : Ended R W → Known
   ended_session ended = ended.session
 
-  abbrev pub outcome_of : Ended R → Outcome
-  outcome_of ended = record { bytes = ended.bytes; end = ended.end }
+  abbrev pub finished_of : Ended R W → Finished W
+  finished_of ended = record { writer = ended.port.writer; end = ended.end }

@@ -1,24 +1,29 @@
 -- What a server leaves: its sessions' replies, and its store.
-use Rattle.std.specs.Prelude.{◌≡◌, ◌⊎◌, ◌∷◌, ◌≤◌, ℕ, Bool, false, is_some, List, [], length, map, All, Option, Some, None}
+use Rattle.std.specs.Prelude.{◌≡◌, ◌⊎◌, ◌∷◌, ◌<◌, ◌≤◌, ℕ, Bool, false, is_some, List, [], length, map, All, Option, Some, None, Result, Ok, Err}
 use Rattle.std.specs.Arc.{arc_value}
 use Rattle.std.specs.List.{AllByRecursion}
 use Rattle.logbook.specs.Pages.{Book}
 use Rattle.disk_model.specs.declared.disk.Disk.{Ghosts}
 use Rattle.disk_model.specs.Disk as device
 use Rattle.disk_model.specs.Moments.{Leaves, LeavesOnly}
-use Rattle.overlay_terms.specs.Histories.{Version, Entry, BeginsWith, empty_version}
+use Rattle.overlay_terms.specs.Histories.{Version, Entry, BeginsWith, commands_in, empty_version}
 use Rattle.root_store.specs.Running.{is_busy}
 use Rattle.root_store.specs.declared.phase.Phase.TheVariants.{Failed}
 use Rattle.flush_core.specs.declared.flusher.Flusher.{Flusher}
 use Rattle.overlay_engine.specs.declared.engine.Engine.{Engine}
+use Rattle.book_history.specs.Fault.{code_of}
+use Rattle.book_history.specs.declared.fault.BookFault.{BookFault}
 use Rattle.book_history.specs.Known.{Known, seen}
 use Rattle.book_history.specs.Logs.{entry, no_event, history_of, newest_in, IsLog}
 use Rattle.book_lock.specs.Steps.{beginners, HasAllOf}
-use Rattle.server_session.specs.Session.{IsSharedSession}
+use Rattle.server_session.specs.Session.{IsSessionWithin, IsSharedSession}
 use Rattle.store_flushing.specs.Among.{IsFileIn, IsFileExactlyIn}
 use Rattle.store_flushing.specs.Storing.{IsStoreOf}
 use Rattle.store_flushing.specs.declared.closing.Closed.{Closed}
+use Rattle.overlay_server.specs.declared.outcome.Finished.{Finished}
+use Rattle.overlay_server.specs.declared.outcome.Left.{Left}
 use Rattle.overlay_server.specs.declared.outcome.Outcome.{Outcome}
+use Rattle.overlay_server.specs.declared.outcome.Port.{Port}
 use Rattle.overlay_server.specs.declared.outcome.Served.{Served}
 use Rattle.overlay_server.specs.declared.outcome.ServerFault.{ServerFault}
 
@@ -62,6 +67,34 @@ pub record AreServed {R : Type 0} (stored : Bool) (remaining : R → Option (Lis
   pub readers_are : map (λ (part : Part R). part.reader) parts ≡ readers
   pub outcomes_are : map (λ (part : Part R). part.outcome) parts ≡ outcomes
   pub served : AllByRecursion (IsServed stored remaining log) parts
+
+-- ---- sessions of ports
+
+-- a session's part in a server: what it had seen at first, its port, and what it left
+pub record PortPart (R W : Type 0) : Type 0 where
+  pub session : Known
+  pub port : Port R W
+  pub finished : Finished W
+
+-- a session was served: what it put behind what its writer had are the replies to its
+-- reader's lines, by histories that it has seen then; the log has all of that, and of the session's batches just those that
+-- it made
+pub record IsPortServed {R W : Type 0} (stored : Bool) (remaining : R → Option (List ℕ)) (contents : W → Option (List ℕ)) (log : List Entry) (part : PortPart R W) : Type 0 where
+  pub now : Known
+  pub left : Option (List ℕ)
+  pub same : now.session ≡ part.session.session
+  pub goes_on : BeginsWith (seen now) (seen part.session)
+  pub ran : IsSessionWithin part.port.most stored part.finished.end part.session now (remaining part.port.reader) left (contents part.port.writer) (contents part.finished.writer)
+  pub own : HasAllOf log now
+
+-- each port has a session of the book that begins with a version, by their order, and was served
+pub record ArePortsServed {R W : Type 0} (stored : Bool) (remaining : R → Option (List ℕ)) (contents : W → Option (List ℕ)) (start : Version) (log : List Entry) (ports : List (Port R W)) (finished : List (Finished W)) : Type 0 where
+  pub book : Book
+  pub parts : List (PortPart R W)
+  pub sessions : map (λ (part : PortPart R W). part.session) parts ≡ beginners (record { book = book; log = first_log start }) (length ports)
+  pub ports_are : map (λ (part : PortPart R W). part.port) parts ≡ ports
+  pub finished_are : map (λ (part : PortPart R W). part.finished) parts ≡ finished
+  pub served : AllByRecursion (IsPortServed stored remaining contents log) parts
 
 -- ---- the store
 
@@ -111,13 +144,30 @@ module _ {D : Type 0} (g : Ghosts D) where
 
 -- ---- the server
 
--- a server ran: from a version and its store to the end of its book
+-- a server ran: from a version and its store to the end of its book, in which the sessions of its readers alone, numbered
+-- from 0, had commands accepted
 pub record IsServedFrom {R D : Type 0} (remaining : R → Option (List ℕ)) (g : Ghosts D) (start : Version) (store : Option (Flusher D g)) (readers : List R) (served : Served D) : Type 0 where
   pub version : arc_value served.closed.version ≡ newest_in served.closed.seen_log.log
   pub log : IsLog served.closed.seen_log.log
   pub begins : (history_of served.closed.seen_log.log).start ≡ start
+  pub only : All (λ c. c.0 < length readers) (commands_in (history_of served.closed.seen_log.log).entries)
   pub sessions : AreServed (is_some store) remaining start served.closed.seen_log.log readers served.sessions.items
   pub kept : IsLeftOfStore g start store served.closed
+
+-- the same of a server of ports
+pub record IsLeftFrom {R W D : Type 0} (remaining : R → Option (List ℕ)) (contents : W → Option (List ℕ)) (g : Ghosts D) (start : Version) (store : Option (Flusher D g)) (ports : List (Port R W)) (left : Left W D) : Type 0 where
+  pub version : arc_value left.closed.version ≡ newest_in left.closed.seen_log.log
+  pub log : IsLog left.closed.seen_log.log
+  pub begins : (history_of left.closed.seen_log.log).start ≡ start
+  pub only : All (λ c. c.0 < length ports) (commands_in (history_of left.closed.seen_log.log).entries)
+  pub sessions : ArePortsServed (is_some store) remaining contents start left.closed.seen_log.log ports left.sessions.items
+  pub kept : IsLeftOfStore g start store left.closed
+
+-- the number under which a server tells why it did not run: that of the book's refusal, or 40 where the book was opened and
+-- memory or a thread was refused
+abbrev pub refusal_code : {B : Type 0} → Result B BookFault → ℕ
+refusal_code (Ok begun) = 40
+refusal_code (Err fault) = code_of fault
 
 -- a server could not run: for want of memory or of a thread, or of places in the book; the disk comes back
 pub record IsRefusedFrom {D : Type 0} (g : Ghosts D) (start : Version) (store : Option (Flusher D g)) (fault : ServerFault D) : Type 0 where

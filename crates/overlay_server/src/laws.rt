@@ -1,4 +1,5 @@
 //! Laws over the definitions: each function does nothing, and its contract is the law.
+ghost use Rattle.overlay_server.specs.Alone.{OneSessionIsAlone};
 ghost use Rattle.overlay_server.specs.Durability.{FilesAreCovered, NewEnginesAreStores, VersionsAreExact};
 
 use disk_model::disk::Disk;
@@ -17,4 +18,10 @@ pub fn files_are_covered()
 /// Each version of a history has right tiles, where its first one has.
 pub fn versions_are_exact()
     ensures { VersionsAreExact }
+{}
+
+/// The session of a server of one reader was alone: what was accepted in all that it has seen are the batches that it made.
+/// So its lines decide the versions behind them (`lines_decide`).
+pub fn one_session_is_alone()
+    ensures { OneSessionIsAlone }
 {}

@@ -1,19 +1,23 @@
 //! A server over one book: workers, a store and one session a reader, each in a thread of its own.
 #![tactic(auto)]
 
+mod counting;
+mod hosting;
 pub mod laws;
+mod listening;
 pub mod outcome;
+mod refusing;
 mod running;
 mod seating;
 pub mod serving;
 mod storing;
 mod threads;
 
-pub use outcome::{Outcome, ServeOptions, Served, ServerFault};
+pub use outcome::{Finished, Left, Outcome, Port, ServeOptions, Served, ServerFault};
 pub use overlay_grid::{GridSpec, grid};
 pub use script_form::{CommandFault, SessionEnd};
 pub use server_session::session_run;
-pub use serving::serve;
+pub use serving::{serve, serve_ports};
 pub use store_flushing::closing::{Closed, close};
 pub use store_flushing::keeper::flusher_loop;
 pub use tile_workers::gate::{Gate, OpenGate};

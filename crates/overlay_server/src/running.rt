@@ -5,10 +5,11 @@ ghost use Rattle.overlay_server.specs.Rooms.{IsReserved, HasRooms};
 ghost use Rattle.overlay_server.specs.Running.{IsRunOf};
 ghost use Rattle.version_book.specs.Store.{has_store};
 
+use crate::outcome::Port;
 use script_form::SessionEnd;
-use server_session::session::session_run;
+use server_session::session::session_run_within;
 use std::alloc::Global;
-use std::io::Read;
+use std::io::{Read, Write};
 use std::marker::PhantomData;
 use std::snapshot::Snapshot;
 use std::sync::Wait;
@@ -17,64 +18,64 @@ use version_book::seen_log::Naming;
 use version_book::session::Session;
 use version_book::shared::Shared;
 
-/// A session with the script that it is to run.
+/// A session with the script that it is to run, and where its replies go.
 #[derive(Drop)]
-pub struct Script<R> {
+pub struct Script<R, W> {
     pub session: Session,
-    pub reader: R,
+    pub port: Port<R, W>,
 }
 
-/// A session that has ended, with what it wrote.
+/// A session that has ended, with its port.
 #[derive(Drop)]
-pub struct Ended<R> {
+pub struct Ended<R, W> {
     pub session: Session,
-    pub reader: R,
-    pub bytes: Vec<u8>,
+    pub port: Port<R, W>,
     pub end: SessionEnd,
 }
 
 /// What a session's thread promises: it ran the script with which it began.
 #[derive(Drop)]
-pub struct RunsScript<J: Naming, R> {
-    begun: Snapshot<Script<R>>,
+pub struct RunsScript<J: Naming, R, W> {
+    begun: Snapshot<Script<R, W>>,
     /// Whether the book has a store.
     stored: bool,
     of: PhantomData<J>,
 }
 
-impl<J: Naming, R: Read> Promise<Ended<R>> for RunsScript<J, R> {
+impl<J: Naming, R: Read, W: Write> Promise<Ended<R, W>> for RunsScript<J, R, W> {
     ghost use Rattle.overlay_server.specs.Running.{IsRunOf};
 
-    ghost kept_by = { λ p r. IsRunOf J.book p.stored R.remaining p.begun.value r };
+    ghost kept_by = { λ p r. IsRunOf J.book p.stored R.remaining W.contents p.begun.value r };
 }
 
 /// A thread that runs a script.
-pub type Running<J, R> = PromisedHandle<Ended<R>, RunsScript<J, R>>;
+pub type Running<J, R, W> = PromisedHandle<Ended<R, W>, RunsScript<J, R, W>>;
 
 /// Room for the threads of sessions, and for what they leave.
 #[derive(Drop)]
-pub struct Rooms<J: Naming, R: Read> {
-    pub running: Vec<Running<J, R>>,
-    pub ended: Vec<Ended<R>>,
+pub struct Rooms<J: Naming, R: Read, W: Write> {
+    pub running: Vec<Running<J, R, W>>,
+    pub ended: Vec<Ended<R, W>>,
 }
 
 /// Runs a thread for each script, and takes them in. None comes where a thread is refused.
-pub fn run_sessions<'s, E, J, S, Q, R>(
+pub fn run_sessions<'s, E, J, S, Q, R, W>(
     scope: &'s Scope<'s, E>,
     rt: &'s Q,
     alloc: Global,
     shared: &'s Shared<J, S>,
-    scripts: Vec<Script<R>>,
-    rooms: Rooms<J, R>,
-) -> Option<Vec<Ended<R>>>
+    scripts: Vec<Script<R, W>>,
+    rooms: Rooms<J, R, W>,
+) -> Option<Vec<Ended<R, W>>>
 where
     J: Naming + Send + Sync,
     S: Wait + Drop + Send + 's,
     Q: Threads + Wait + Sync,
     R: Read + Send + Drop + 's,
+    W: Write + Send + Drop + 's,
     requires scripts { All (λ script. script.session.book ≡ J.book) scripts.items }
     requires rooms { HasRooms rooms (length scripts.items) }
-    ensures { IfSome result (λ list. AllZip (λ script ended. IsRunOf J.book (has_store shared.now) R.remaining script ended) scripts.items list.items) }
+    ensures { IfSome result (λ list. AllZip (λ script ended. IsRunOf J.book (has_store shared.now) R.remaining W.contents script ended) scripts.items list.items) }
 {
     let Rooms { running, ended } = rooms;
     let running = start_sessions(scope, rt, alloc, shared, scripts, running)?;
@@ -82,19 +83,20 @@ where
 }
 
 /// Starts a thread for each script, in their order. None comes where one is refused.
-fn start_sessions<'s, E, J, S, Q, R>(
+fn start_sessions<'s, E, J, S, Q, R, W>(
     scope: &'s Scope<'s, E>,
     rt: &'s Q,
     alloc: Global,
     shared: &'s Shared<J, S>,
-    scripts: Vec<Script<R>>,
-    mut list: Vec<Running<J, R>>,
-) -> Option<Vec<Running<J, R>>>
+    scripts: Vec<Script<R, W>>,
+    mut list: Vec<Running<J, R, W>>,
+) -> Option<Vec<Running<J, R, W>>>
 where
     J: Naming + Send + Sync,
     S: Wait + Drop + Send + 's,
     Q: Threads + Wait + Sync,
     R: Read + Send + Drop + 's,
+    W: Write + Send + Drop + 's,
     requires scripts { All (λ script. script.session.book ≡ J.book) scripts.items }
     requires room { IsReserved list (length scripts.items) }
     ensures begun { IfSome result (λ list. AllZip (λ script h. (h.promise.begun.value ≡ script) × (h.promise.stored ≡ has_store shared.now)) scripts.items list.items) }
@@ -106,18 +108,19 @@ where
 }
 
 /// Starts a thread for a script.
-fn start_session<'s, E, J, S, Q, R>(
+fn start_session<'s, E, J, S, Q, R, W>(
     scope: &'s Scope<'s, E>,
     rt: &'s Q,
     alloc: Global,
     shared: &'s Shared<J, S>,
-    script: Script<R>,
-) -> Option<Running<J, R>>
+    script: Script<R, W>,
+) -> Option<Running<J, R, W>>
 where
     J: Naming + Send + Sync,
     S: Wait + Drop + Send + 's,
     Q: Threads + Wait + Sync,
     R: Read + Send + Drop + 's,
+    W: Write + Send + Drop + 's,
     requires { script.session.book ≡ J.book }
     ensures { IfSome result (λ h. (h.promise.begun.value ≡ script) × (h.promise.stored ≡ has_store shared.now)) }
 {
@@ -129,22 +132,22 @@ where
     scope
         .spawn_with(
             promise,
-            move || -> Ended<R>
+            move || -> Ended<R, W>
                 requires { script.session.book ≡ J.book }
-                ensures { IsRunOf J.book (has_store shared.entry.now) R.remaining script result }
+                ensures { IsRunOf J.book (has_store shared.entry.now) R.remaining W.contents script result }
             { run_script(rt, alloc, shared, script) },
         )
         .ok()
 }
 
 /// Takes the threads of the scripts in, in their order.
-fn join_sessions<J: Naming, Q: Threads, R: Read + Drop>(
+fn join_sessions<J: Naming, Q: Threads, R: Read + Drop, W: Write + Drop>(
     rt: &Q,
-    running: Vec<Running<J, R>>,
-    mut list: Vec<Ended<R>>,
-) -> Vec<Ended<R>>
+    running: Vec<Running<J, R, W>>,
+    mut list: Vec<Ended<R, W>>,
+) -> Vec<Ended<R, W>>
     requires { IsReserved list (length running.items) }
-    ensures { AllZip (λ h ended. IsRunOf J.book h.promise.stored R.remaining h.promise.begun.value ended) running.items result.items }
+    ensures { AllZip (λ h ended. IsRunOf J.book h.promise.stored R.remaining W.contents h.promise.begun.value ended) running.items result.items }
 {
     for handle in running {
         list.push_reserved(handle.join(rt));
@@ -152,28 +155,40 @@ fn join_sessions<J: Naming, Q: Threads, R: Read + Drop>(
     list
 }
 
-/// Runs a script into a list of bytes.
-fn run_script<J: Naming, S: Wait + Drop, Q: Threads + Wait + Sync, R: Read>(
+/// Runs a script into its writer.
+fn run_script<J: Naming, S: Wait + Drop, Q: Threads + Wait + Sync, R: Read, W: Write>(
     rt: &Q,
     alloc: Global,
     shared: &Shared<J, S>,
-    script: Script<R>,
-) -> Ended<R>
+    script: Script<R, W>,
+) -> Ended<R, W>
     requires { script.session.book ≡ J.book }
-    ensures { IsRunOf J.book (has_store shared.now) R.remaining script result }
+    ensures { IsRunOf J.book (has_store shared.now) R.remaining W.contents script result }
 {
-    let Script {
-        mut session,
+    let Script { mut session, port } = script;
+    let Port {
         mut reader,
-    } = script;
-    let mut bytes = Vec::new(alloc);
-    let end = session_run(rt, alloc, shared, &mut session, &mut reader, &mut bytes);
+        most,
+        mut writer,
+    } = port;
+    let end = session_run_within(
+        rt,
+        alloc,
+        shared,
+        &mut session,
+        most,
+        &mut reader,
+        &mut writer,
+    );
     // It has seen some version: the clauses rest on that.
     let _ = session.number();
     Ended {
         session,
-        reader,
-        bytes,
+        port: Port {
+            reader,
+            most,
+            writer,
+        },
         end,
     }
 }

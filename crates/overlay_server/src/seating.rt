@@ -1,47 +1,47 @@
 //! Which session runs which reader's script, and what the sessions leave.
 ghost use Rattle.std.specs.Prelude.{◌≡◌, length, map, IfSome};
 ghost use Rattle.overlay_server.specs.Rooms.{HasParts, IsReserved, HasRooms};
-ghost use Rattle.overlay_server.specs.Seats.{ended_session, outcome_of, reader_of, session_of};
+ghost use Rattle.overlay_server.specs.Seats.{ended_session, finished_of, port_of, session_of};
 
-use crate::outcome::Outcome;
+use crate::outcome::{Finished, Port};
 use crate::running::{Ended, Rooms, Script};
 use std::alloc::Global;
-use std::io::Read;
+use std::io::{Read, Write};
 use version_book::seen_log::Naming;
 use version_book::session::Session;
 
 /// What ended sessions leave, in two lists, or room for that.
 #[derive(Drop)]
-pub struct Parts {
+pub struct Parts<W> {
     pub sessions: Vec<Session>,
-    pub outcomes: Vec<Outcome>,
+    pub finished: Vec<Finished<W>>,
 }
 
 /// The scripts, each with the session that runs it, and room for all that these leave.
 #[derive(Drop)]
-pub struct Seats<J: Naming, R: Read> {
-    pub scripts: Vec<Script<R>>,
-    pub rooms: Rooms<J, R>,
-    pub parts: Parts,
+pub struct Seats<J: Naming, R: Read, W: Write> {
+    pub scripts: Vec<Script<R, W>>,
+    pub rooms: Rooms<J, R, W>,
+    pub parts: Parts<W>,
 }
 
 /// Gives each reader's script the session of its place, and takes the memory for the lists that are filled later. None
 /// comes where memory is refused.
-pub fn seated<J: Naming, R: Read + Drop>(
+pub fn seated<J: Naming, R: Read + Drop, W: Write + Drop>(
     alloc: Global,
     sessions: Vec<Session>,
-    readers: Vec<R>,
-) -> Option<Seats<J, R>>
-    requires { length sessions.items ≡ length readers.items }
+    ports: Vec<Port<R, W>>,
+) -> Option<Seats<J, R, W>>
+    requires { length sessions.items ≡ length ports.items }
     ensures sessions { IfSome result (λ seats. map session_of seats.scripts.items ≡ sessions.items) }
-    ensures readers { IfSome result (λ seats. map reader_of seats.scripts.items ≡ readers.items) }
-    ensures rooms { IfSome result (λ seats. HasRooms seats.rooms (length readers.items)) }
-    ensures parts { IfSome result (λ seats. HasParts seats.parts (length readers.items)) }
+    ensures ports { IfSome result (λ seats. map port_of seats.scripts.items ≡ ports.items) }
+    ensures rooms { IfSome result (λ seats. HasRooms seats.rooms (length ports.items)) }
+    ensures parts { IfSome result (λ seats. HasParts seats.parts (length ports.items)) }
 {
-    let count = readers.len();
+    let count = ports.len();
     let rooms = rooms(alloc, count)?;
     let parts = room_for_parts(alloc, count)?;
-    let scripts = scripts(alloc, sessions, readers)?;
+    let scripts = scripts(alloc, sessions, ports)?;
     Some(Seats {
         scripts,
         rooms,
@@ -50,7 +50,10 @@ pub fn seated<J: Naming, R: Read + Drop>(
 }
 
 /// Room for the threads of so many sessions.
-fn rooms<J: Naming, R: Read + Drop>(alloc: Global, count: usize) -> Option<Rooms<J, R>>
+fn rooms<J: Naming, R: Read + Drop, W: Write + Drop>(
+    alloc: Global,
+    count: usize,
+) -> Option<Rooms<J, R, W>>
     ensures { IfSome result (λ rooms. HasRooms rooms count) }
 {
     let running = room(alloc, count)?;
@@ -59,12 +62,12 @@ fn rooms<J: Naming, R: Read + Drop>(alloc: Global, count: usize) -> Option<Rooms
 }
 
 /// Room for so many sessions and outcomes.
-fn room_for_parts(alloc: Global, count: usize) -> Option<Parts>
+fn room_for_parts<W>(alloc: Global, count: usize) -> Option<Parts<W>>
     ensures { IfSome result (λ parts. HasParts parts count) }
 {
     let sessions = room(alloc, count)?;
-    let outcomes = room(alloc, count)?;
-    Some(Parts { sessions, outcomes })
+    let finished = room(alloc, count)?;
+    Some(Parts { sessions, finished })
 }
 
 /// An empty list with room for so many.
@@ -75,45 +78,45 @@ fn room<T>(alloc: Global, count: usize) -> Option<Vec<T>>
 }
 
 /// The readers' scripts, each with its session, in their order.
-fn scripts<R: Drop>(
+fn scripts<R: Drop, W: Drop>(
     alloc: Global,
     sessions: Vec<Session>,
-    readers: Vec<R>,
-) -> Option<Vec<Script<R>>>
-    requires { length sessions.items ≡ length readers.items }
+    ports: Vec<Port<R, W>>,
+) -> Option<Vec<Script<R, W>>>
+    requires { length sessions.items ≡ length ports.items }
     ensures sessions { IfSome result (λ list. map session_of list.items ≡ sessions.items) }
-    ensures readers { IfSome result (λ list. map reader_of list.items ≡ readers.items) }
+    ensures ports { IfSome result (λ list. map port_of list.items ≡ ports.items) }
 {
     let mut list = Vec::new(alloc);
-    let mut readers = readers.into_iter();
+    let mut ports = ports.into_iter();
     for session in sessions {
-        let Some(reader) = readers.next() else {
+        let Some(port) = ports.next() else {
             unreachable!()
         };
-        list.push(Script { session, reader }).ok()?;
+        list.push(Script { session, port }).ok()?;
     }
     Some(list)
 }
 
 /// The sessions that have ended, and what they wrote, each in their order.
-pub fn parted<R: Drop>(ended: Vec<Ended<R>>, parts: Parts) -> Parts
+pub fn parted<R: Drop, W: Drop>(ended: Vec<Ended<R, W>>, parts: Parts<W>) -> Parts<W>
     requires { HasParts parts (length ended.items) }
     ensures sessions { result.sessions.items ≡ map ended_session ended.items }
-    ensures outcomes { result.outcomes.items ≡ map outcome_of ended.items }
+    ensures finished { result.finished.items ≡ map finished_of ended.items }
 {
     let Parts {
         mut sessions,
-        mut outcomes,
+        mut finished,
     } = parts;
     for one in ended {
-        let Ended {
-            session,
+        let Ended { session, port, end } = one;
+        let Port {
             reader: _reader,
-            bytes,
-            end,
-        } = one;
+            most: _,
+            writer,
+        } = port;
         sessions.push_reserved(session);
-        outcomes.push_reserved(Outcome { bytes, end });
+        finished.push_reserved(Finished { writer, end });
     }
-    Parts { sessions, outcomes }
+    Parts { sessions, finished }
 }

@@ -1,16 +1,13 @@
-//! The threads of a server: workers, the store, and a session for each reader.
-ghost use Rattle.std.specs.Prelude.{◌≡◌, All, length, IfSome};
-ghost use Rattle.std.specs.List.{AllZip};
-ghost use Rattle.overlay_server.specs.Rooms.{HasRooms};
-ghost use Rattle.overlay_server.specs.Running.{IsRunOf};
-ghost use Rattle.overlay_server.specs.Keeping.{IsStoreKept};
+//! The threads of a server: workers, the store, and a session for each port.
+ghost use Rattle.std.specs.Prelude.{◌≡◌};
+ghost use Rattle.overlay_server.specs.Working.{HasWorked, IsReady};
 ghost use Rattle.version_book.specs.Store.{has_store};
 
 use crate::running::{Ended, Rooms, Script, run_sessions};
 use crate::storing::{Store, start_store};
 use disk_model::disk::Disk;
 use std::alloc::Global;
-use std::io::Read;
+use std::io::{Read, Write};
 use std::sync::Wait;
 use std::thread;
 use std::thread::{Scope, Threads};
@@ -19,79 +16,78 @@ use tile_workers::worker::worker_loop;
 use version_book::seen_log::Naming;
 use version_book::shared::Shared;
 
+/// What the threads begin with: how many workers, the store, and the scripts with room for what these leave.
+#[derive(Drop)]
+pub struct Work<J: Naming, R: Read, W: Write, D: Disk> {
+    pub workers: usize,
+    pub store: Store<D>,
+    pub scripts: Vec<Script<R, W>>,
+    pub rooms: Rooms<J, R, W>,
+}
+
 /// What the threads gave back: the store, and the sessions that have ended, where each thread could start.
 #[derive(Drop)]
-pub struct Returned<R, D: Disk> {
+pub struct Returned<R, W, D: Disk> {
     pub store: Store<D>,
-    pub ended: Option<Vec<Ended<R>>>,
+    pub ended: Option<Vec<Ended<R, W>>>,
 }
 
 /// Runs workers, the store and a session for each script in threads of their own, and takes them in. Where a thread is
 /// refused, the book closes, and the others end.
-pub fn run_threads<J, S, G, Q, R, D>(
+pub fn run_threads<J, S, G, Q, R, W, D>(
     rt: &Q,
     alloc: Global,
     gate: &G,
     shared: &Shared<J, S>,
-    workers: usize,
-    store: Store<D>,
-    scripts: Vec<Script<R>>,
-    rooms: Rooms<J, R>,
-) -> Returned<R, D>
+    work: Work<J, R, W, D>,
+) -> Returned<R, W, D>
 where
     S: Wait + Drop + Send,
     J: Naming + Send + Sync,
     G: Gate + Sync,
     Q: Threads + Wait + Sync,
     R: Read + Send + Drop,
+    W: Write + Send + Drop,
     D: Disk + Send + Drop,
-    requires store { store.reporter.book ≡ J.book }
-    requires scripts { All (λ script. script.session.book ≡ J.book) scripts.items }
-    requires rooms { HasRooms rooms (length scripts.items) }
-    ensures store { IsStoreKept J.book D.Disk store result.store }
-    ensures ended { IfSome result.ended (λ list. AllZip (λ script ended. IsRunOf J.book (has_store shared.now) R.remaining script ended) scripts.items list.items) }
+    requires { IsReady J.book work }
+    ensures { HasWorked J.book (has_store shared.now) R.remaining W.contents D.Disk work result }
 {
     thread::scope(
         thread::scope_env(),
         rt,
-        |scope| -> Returned<R, D>
-            requires { (store.reporter.book ≡ J.book)
-                × All (λ script. script.session.book ≡ J.book) scripts.items × HasRooms rooms (length scripts.items) }
-            ensures { IsStoreKept J.book D.Disk store result.store
-                × IfSome result.ended (λ list. AllZip (λ script ended. IsRunOf J.book (has_store shared.entry.now) R.remaining script ended) scripts.items list.items) }
-        {
-            run_in(
-                scope, rt, alloc, gate, shared, workers, store, scripts, rooms,
-            )
-        },
+        |scope| -> Returned<R, W, D>
+            requires { IsReady J.book work }
+            ensures { HasWorked J.book (has_store shared.entry.now) R.remaining W.contents D.Disk work result }
+        { run_in(scope, rt, alloc, gate, shared, work) },
     )
 }
 
 /// The same in a scope.
-fn run_in<'s, E, J, S, G, Q, R, D>(
+fn run_in<'s, E, J, S, G, Q, R, W, D>(
     scope: &'s Scope<'s, E>,
     rt: &'s Q,
     alloc: Global,
     gate: &'s G,
     shared: &'s Shared<J, S>,
-    workers: usize,
-    store: Store<D>,
-    scripts: Vec<Script<R>>,
-    rooms: Rooms<J, R>,
-) -> Returned<R, D>
+    work: Work<J, R, W, D>,
+) -> Returned<R, W, D>
 where
     S: Wait + Drop + Send + 's,
     J: Naming + Send + Sync,
     G: Gate + Sync,
     Q: Threads + Wait + Sync,
     R: Read + Send + Drop + 's,
+    W: Write + Send + Drop + 's,
     D: Disk + Send + Drop + 's,
-    requires store { store.reporter.book ≡ J.book }
-    requires scripts { All (λ script. script.session.book ≡ J.book) scripts.items }
-    requires rooms { HasRooms rooms (length scripts.items) }
-    ensures store { IsStoreKept J.book D.Disk store result.store }
-    ensures ended { IfSome result.ended (λ list. AllZip (λ script ended. IsRunOf J.book (has_store shared.now) R.remaining script ended) scripts.items list.items) }
+    requires { IsReady J.book work }
+    ensures { HasWorked J.book (has_store shared.now) R.remaining W.contents D.Disk work result }
 {
+    let Work {
+        workers,
+        store,
+        scripts,
+        rooms,
+    } = work;
     let working = start_workers(scope, rt, alloc, gate, shared, workers);
     let keeping = start_store(scope, rt, alloc, shared, store);
     let mut ended = None;

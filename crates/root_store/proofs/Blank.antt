@@ -1,5 +1,5 @@
 -- A new file with its first gate open.
-use Rattle.std.proofs.Common.{get_or, ◌≡◌, ◌⊎◌, inl, inr, replicate, ℕ, ◌+◌, ◌<◌, ◌≤◌, ◌/◌, ◌&&◌, nat_le, true, List, length, [], ◌∷◌, Ok, refl, ◌∙◌, ap, arith}
+use Rattle.std.proofs.Common.{get_or, ◌≡◌, ◌⊎◌, inl, inr, replicate, ℕ, ◌+◌, ◌<◌, ◌≤◌, ◌/◌, ◌&&◌, nat_le, true, false, List, length, [], ◌∷◌, Ok, refl, ◌∙◌, ap, arith}
 use Rattle.disk_model.specs.Disk.{Holds, Torn}
 use Rattle.std.proofs.lemmas.List.{get_or-replicate, length-replicate}
 use Rattle.disk_model.proofs.Ranges.{Apart, byte_kept, part_same, part_kept, part_written, part_written_front}

@@ -12,12 +12,12 @@ use Rattle.script_form.specs.declared.fault.CommandFault.TheVariants.{CommandSyn
 use Rattle.script_form.specs.declared.gathering.Gathering.{Gathering}
 use Rattle.script_form.specs.Gathering.{IsOpen}
 use Rattle.script_form.specs.Turns.{Turn, Waiting, cut_off, waiting_behind, turns_of, cut_off_in, all_turns_of}
-use Rattle.script_form.specs.Lines.{script_max, line_room, ended_lines, unended, last_line, whole_lines}
+use Rattle.script_form.specs.Lines.{line_room, ended_lines, unended, last_line, whole_lines}
 use Rattle.script_form.specs.Replies.{error_line}
 use Rattle.script_form.specs.Requests.{request_of}
 use Rattle.script_form.specs.Writing.{IsCutShort}
 use Rattle.script_form.proofs.LongLines.{request_of-cut, take-nil}
-use Rattle.server_session.specs.Session.{IsSharedRun, IsPastLimit, IsReadFault, IsCutOff, EndsSo, IsSharedSession}
+use Rattle.server_session.specs.Session.{IsSharedRun, IsPastLimit, IsReadFault, IsCutOff, EndsSo, IsSessionWithin}
 use Rattle.server_session.specs.Turn.{Stays, TakesTurn}
 use Rattle.server_session.specs.Loop.{Stands, IsStopped, TakesAll, Finishes, EndsWith, EndsBatch, EndsBy}
 use Rattle.server_session.proofs.Runs.{run-none, run-one, run-join, pushed_run, pushed_waits, takes_turn-same}
@@ -151,24 +151,24 @@ finishes-cut stored old new line bytes before after output all is some (reply, t
     )
 
 -- a session under way: what it took and wrote, and where it stands, a byte too many left out
-pub record IsUnderWay (stored : Bool) (was : Known) (input left output all : Option (List ℕ)) (count : ℕ) (line : List ℕ) (waiting : Option Gathering) (now : Known) : Type 0 where
+pub record IsUnderWay (most : ℕ) (stored : Bool) (was : Known) (input left output all : Option (List ℕ)) (count : ℕ) (line : List ℕ) (waiting : Option Gathering) (now : Known) : Type 0 where
   pub taken : List ℕ
   pub as_many : length taken ≡ count
   pub reads : Consumes input left taken
   pub written : List ℕ
   pub writes : Appends output all written
-  pub stands : Stands stored was (take script_max taken) written line waiting now
+  pub stands : Stands stored was (take most taken) written line waiting now
 
 -- the front of a script that is not too long is the whole of it
-in_limit : (taken : List ℕ) → length taken ≤ script_max → take script_max taken ≡ taken
-in_limit taken short = take_all script_max taken short
+in_limit : (most : ℕ) (taken : List ℕ) → length taken ≤ most → take most taken ≡ taken
+in_limit most taken short = take_all most taken short
 
 -- at the end of the script
-pub ends-finished : (stored : Bool) (was : Known) (end : SessionEnd) (input left left_after output mid all : Option (List ℕ)) (count : ℕ) (line : List ℕ) (waiting : Option Gathering) (old new : Known)
-    → IsUnderWay stored was input left output mid count line waiting old → count ≤ script_max → Consumes left left_after [] → IsAtEnd left_after
-    → Finishes stored end old line waiting new mid all → IsSharedSession stored end was new input left_after output all
-ends-finished stored was End input left left_after output mid all count line waiting old new way within reads at_end finishes =
-    let (more, appended, told) = finishes was (take script_max way.taken) way.written way.stands in
+pub ends-finished : (most : ℕ) (stored : Bool) (was : Known) (end : SessionEnd) (input left left_after output mid all : Option (List ℕ)) (count : ℕ) (line : List ℕ) (waiting : Option Gathering) (old new : Known)
+    → IsUnderWay most stored was input left output mid count line waiting old → count ≤ most → Consumes left left_after [] → IsAtEnd left_after
+    → Finishes stored end old line waiting new mid all → IsSessionWithin most stored end was new input left_after output all
+ends-finished most stored was End input left left_after output mid all count line waiting old new way within reads at_end finishes =
+    let (more, appended, told) = finishes was (take most way.taken) way.written way.stands in
     record {
       taken = way.taken;
       written = way.written ++ more;
@@ -176,19 +176,19 @@ ends-finished stored was End input left left_after output mid all count line wai
       writes = Appends-trans output mid all way.written more way.writes appended;
       ended = record {
         all_taken = at_end;
-        short = subst (λ n. n ≤ script_max) (sym way.as_many) within;
-        told = subst (λ t. IsSharedRun stored was (all_turns_of (whole_lines t)) new (way.written ++ more)) (in_limit way.taken (subst (λ n. n ≤ script_max) (sym way.as_many) within)) told;
+        short = subst (λ n. n ≤ most) (sym way.as_many) within;
+        told = subst (λ t. IsSharedRun stored was (all_turns_of (whole_lines t)) new (way.written ++ more)) (in_limit most way.taken (subst (λ n. n ≤ most) (sym way.as_many) within)) told;
       };
     }
-ends-finished stored was (Failed code) input left left_after output mid all count line waiting old new way within reads at_end finishes =
-    let (more, appended, (is, cut)) = finishes was (take script_max way.taken) way.written way.stands in
-    let short = subst (λ n. n ≤ script_max) (sym way.as_many) within in
+ends-finished most stored was (Failed code) input left left_after output mid all count line waiting old new way within reads at_end finishes =
+    let (more, appended, (is, cut)) = finishes was (take most way.taken) way.written way.stands in
+    let short = subst (λ n. n ≤ most) (sym way.as_many) within in
     record {
       taken = way.taken;
       written = way.written ++ more;
       reads = subst (Consumes input left_after) (append-nil way.taken) (Consumes-trans input left left_after way.taken [] way.reads reads);
       writes = Appends-trans output mid all way.written more way.writes appended;
-      ended = inr (inr (inl (is, inr (inl (at_end, short, subst (λ t. IsCutOff stored was new (all_turns_of (whole_lines t)) (way.written ++ more)) (in_limit way.taken short) cut)))));
+      ended = inr (inr (inl (is, inr (inl (at_end, short, subst (λ t. IsCutOff stored was new (all_turns_of (whole_lines t)) (way.written ++ more)) (in_limit most way.taken short) cut)))));
     }
 
 -- what a session wrote and took, with a fault's line
@@ -207,55 +207,55 @@ cut_line written line front short = record {
 }
 
 -- a read failed
-pub ends-at_read : (stored : Bool) (was : Known) (end : SessionEnd) (input left left_after output mid all : Option (List ℕ)) (count : ℕ) (line : List ℕ) (waiting : Option Gathering) (now : Known) (text : List ℕ)
-    → IsUnderWay stored was input left output mid count line waiting now → count ≤ script_max → Keeps left left_after → text ≡ error_line Read → EndsBy end 48 text mid all
-    → IsSharedSession stored end was now input left_after output all
-ends-at_read stored was end input left left_after output mid all count line waiting now text way within kept is ends =
-    let short = subst (λ n. n ≤ script_max) (sym way.as_many) within in
-    let told = subst (λ t. IsSharedRun stored was (turns_of (ended_lines t)) now way.written) (in_limit way.taken short) way.stands.told in
-    let fault : IsReadFault stored was now way.taken (way.written ++ text) = record { short = short; replies = way.written; told = told; fault = ap (λ l. way.written ++ l) is } in
+pub ends-at_read : (most : ℕ) (stored : Bool) (was : Known) (end : SessionEnd) (input left left_after output mid all : Option (List ℕ)) (count : ℕ) (line : List ℕ) (waiting : Option Gathering) (now : Known) (text : List ℕ)
+    → IsUnderWay most stored was input left output mid count line waiting now → count ≤ most → Keeps left left_after → text ≡ error_line Read → EndsBy end 48 text mid all
+    → IsSessionWithin most stored end was now input left_after output all
+ends-at_read most stored was end input left left_after output mid all count line waiting now text way within kept is ends =
+    let short = subst (λ n. n ≤ most) (sym way.as_many) within in
+    let told = subst (λ t. IsSharedRun stored was (turns_of (ended_lines t)) now way.written) (in_limit most way.taken short) way.stands.told in
+    let fault : IsReadFault most stored was now way.taken (way.written ++ text) = record { short = short; replies = way.written; told = told; fault = ap (λ l. way.written ++ l) is } in
     let reads = Consumes-kept input left left_after way.taken way.reads kept in
     by_line (fault_line end 48 text mid all ends) short fault reads where
       by_line : ((end ≡ Failed 48) × Appends mid all text) ⊎ ((end ≡ Failed 49) × ((front : List ℕ) × IsCutShort text front × Appends mid all front))
-          → length way.taken ≤ script_max → IsReadFault stored was now way.taken (way.written ++ text) → Consumes input left_after way.taken → IsSharedSession stored end was now input left_after output all
+          → length way.taken ≤ most → IsReadFault most stored was now way.taken (way.written ++ text) → Consumes input left_after way.taken → IsSessionWithin most stored end was now input left_after output all
       by_line (inl (same, appended)) short fault reads = record {
         taken = way.taken;
         written = way.written ++ text;
         reads = reads;
         writes = Appends-trans output mid all way.written text way.writes appended;
-        ended = subst (λ e. EndsSo stored e was now way.taken left_after (way.written ++ text)) (sym same) (inr (inl (refl, fault)));
+        ended = subst (λ e. EndsSo most stored e was now way.taken left_after (way.written ++ text)) (sym same) (inr (inl (refl, fault)));
       }
       by_line (inr (same, (front, cut, appended))) short fault reads = record {
         taken = way.taken;
         written = way.written ++ front;
         reads = reads;
         writes = Appends-trans output mid all way.written front way.writes appended;
-        ended = subst (λ e. EndsSo stored e was now way.taken left_after (way.written ++ front)) (sym same)
+        ended = subst (λ e. EndsSo most stored e was now way.taken left_after (way.written ++ front)) (sym same)
             (inr (inr (inl (refl, inr (inr (way.written ++ text, inr fault, cut_line way.written text front cut))))));
       }
 
 -- a byte too many was read
-pub ends-past_limit : (stored : Bool) (was : Known) (end : SessionEnd) (input left output mid all : Option (List ℕ)) (count : ℕ) (line : List ℕ) (waiting : Option Gathering) (now : Known) (text : List ℕ)
-    → IsUnderWay stored was input left output mid count line waiting now → count ≡ script_max + 1 → text ≡ error_line ReadLimit → EndsBy end 47 text mid all
-    → IsSharedSession stored end was now input left output all
-ends-past_limit stored was end input left output mid all count line waiting now text way past is ends =
-    let fault : IsPastLimit stored was now way.taken (way.written ++ text) = record { one_more = way.as_many ∙ past; replies = way.written; told = way.stands.told; fault = ap (λ l. way.written ++ l) is } in
+pub ends-past_limit : (most : ℕ) (stored : Bool) (was : Known) (end : SessionEnd) (input left output mid all : Option (List ℕ)) (count : ℕ) (line : List ℕ) (waiting : Option Gathering) (now : Known) (text : List ℕ)
+    → IsUnderWay most stored was input left output mid count line waiting now → count ≡ most + 1 → text ≡ error_line ReadLimit → EndsBy end 47 text mid all
+    → IsSessionWithin most stored end was now input left output all
+ends-past_limit most stored was end input left output mid all count line waiting now text way past is ends =
+    let fault : IsPastLimit most stored was now way.taken (way.written ++ text) = record { one_more = way.as_many ∙ past; replies = way.written; told = way.stands.told; fault = ap (λ l. way.written ++ l) is } in
     by_line (fault_line end 47 text mid all ends) fault where
       by_line : ((end ≡ Failed 47) × Appends mid all text) ⊎ ((end ≡ Failed 49) × ((front : List ℕ) × IsCutShort text front × Appends mid all front))
-          → IsPastLimit stored was now way.taken (way.written ++ text) → IsSharedSession stored end was now input left output all
+          → IsPastLimit most stored was now way.taken (way.written ++ text) → IsSessionWithin most stored end was now input left output all
       by_line (inl (same, appended)) fault = record {
         taken = way.taken;
         written = way.written ++ text;
         reads = way.reads;
         writes = Appends-trans output mid all way.written text way.writes appended;
-        ended = subst (λ e. EndsSo stored e was now way.taken left (way.written ++ text)) (sym same) (inl (refl, fault));
+        ended = subst (λ e. EndsSo most stored e was now way.taken left (way.written ++ text)) (sym same) (inl (refl, fault));
       }
       by_line (inr (same, (front, cut, appended))) fault = record {
         taken = way.taken;
         written = way.written ++ front;
         reads = way.reads;
         writes = Appends-trans output mid all way.written front way.writes appended;
-        ended = subst (λ e. EndsSo stored e was now way.taken left (way.written ++ front)) (sym same)
+        ended = subst (λ e. EndsSo most stored e was now way.taken left (way.written ++ front)) (sym same)
             (inr (inr (inl (refl, inr (inr (way.written ++ text, inl fault, cut_line way.written text front cut))))));
       }
 
@@ -275,21 +275,21 @@ take_of_append (suc n) (x ∷ xs) ys short =
     ap (λ l. x ∷ l) (take_of_append n xs ys (omega arith) ∙ ap (λ k. xs ++ take k ys) (omega arith))
 
 -- the bytes of a read, as far as the limit lets them in
-let_in : (taken chunk : List ℕ) (count allowed : ℕ) → length taken ≤ script_max → allowed ≡ min count (script_max - length taken)
-    → take script_max taken ++ take allowed chunk ≡ take script_max (taken ++ take count chunk)
-let_in taken chunk count allowed short is =
-    ap (λ l. l ++ take allowed chunk) (in_limit taken short)
-    ∙ ap (λ l. taken ++ l) (sym (take_of_take (script_max - length taken) count allowed chunk is))
-    ∙ sym (take_of_append script_max taken (take count chunk) short)
+let_in : (most : ℕ) (taken chunk : List ℕ) (count allowed : ℕ) → length taken ≤ most → allowed ≡ min count (most - length taken)
+    → take most taken ++ take allowed chunk ≡ take most (taken ++ take count chunk)
+let_in most taken chunk count allowed short is =
+    ap (λ l. l ++ take allowed chunk) (in_limit most taken short)
+    ∙ ap (λ l. taken ++ l) (sym (take_of_take (most - length taken) count allowed chunk is))
+    ∙ sym (take_of_append most taken (take count chunk) short)
 
 -- bytes are read and taken
-pub goes_on : (stored : Bool) (was : Known) (input left left_after output mid all : Option (List ℕ)) (count more allowed : ℕ) (line line_after chunk : List ℕ) (waiting waiting_then : Option Gathering) (old new : Known)
-    → IsUnderWay stored was input left output mid count line waiting old → count ≤ script_max → more ≤ length chunk → allowed ≡ min more (script_max - count)
+pub goes_on : (most : ℕ) (stored : Bool) (was : Known) (input left left_after output mid all : Option (List ℕ)) (count more allowed : ℕ) (line line_after chunk : List ℕ) (waiting waiting_then : Option Gathering) (old new : Known)
+    → IsUnderWay most stored was input left output mid count line waiting old → count ≤ most → more ≤ length chunk → allowed ≡ min more (most - count)
     → Consumes left left_after (take more chunk) → TakesAll stored old line waiting (take allowed chunk) new line_after waiting_then mid all
-    → IsUnderWay stored was input left_after output all (count + more) line_after waiting_then new
-goes_on stored was input left left_after output mid all count more allowed line line_after chunk waiting waiting_then old new way within room is reads takes =
-    let short = subst (λ n. n ≤ script_max) (sym way.as_many) within in
-    let (written, appended, stands) = takes was (take script_max way.taken) way.written way.stands in
+    → IsUnderWay most stored was input left_after output all (count + more) line_after waiting_then new
+goes_on most stored was input left left_after output mid all count more allowed line line_after chunk waiting waiting_then old new way within room is reads takes =
+    let short = subst (λ n. n ≤ most) (sym way.as_many) within in
+    let (written, appended, stands) = takes was (take most way.taken) way.written way.stands in
     record {
       taken = way.taken ++ take more chunk;
       as_many = omega (arith, length-append way.taken (take more chunk), length-take more chunk, way.as_many);
@@ -297,17 +297,17 @@ goes_on stored was input left left_after output mid all count more allowed line 
       written = way.written ++ written;
       writes = Appends-trans output mid all way.written written way.writes appended;
       stands = subst (λ t. Stands stored was t (way.written ++ written) line_after waiting_then new)
-          (let_in way.taken chunk more allowed short (is ∙ ap (λ n. min more (script_max - n)) (sym way.as_many))) stands;
+          (let_in most way.taken chunk more allowed short (is ∙ ap (λ n. min more (most - n)) (sym way.as_many))) stands;
     }
 
 -- bytes are read, and a write failed
-pub ends-stopped : (stored : Bool) (was : Known) (input left left_after output mid all : Option (List ℕ)) (count more allowed : ℕ) (line chunk : List ℕ) (waiting : Option Gathering) (old new : Known)
-    → IsUnderWay stored was input left output mid count line waiting old → count ≤ script_max → allowed ≡ min more (script_max - count)
+pub ends-stopped : (most : ℕ) (stored : Bool) (was : Known) (input left left_after output mid all : Option (List ℕ)) (count more allowed : ℕ) (line chunk : List ℕ) (waiting : Option Gathering) (old new : Known)
+    → IsUnderWay most stored was input left output mid count line waiting old → count ≤ most → allowed ≡ min more (most - count)
     → Consumes left left_after (take more chunk) → IsStopped stored old line waiting (take allowed chunk) new mid all
-    → IsSharedSession stored (Failed 49) was new input left_after output all
-ends-stopped stored was input left left_after output mid all count more allowed line chunk waiting old new way within is reads stopped =
-    let short = subst (λ n. n ≤ script_max) (sym way.as_many) within in
-    let (written, appended, cut) = stopped was (take script_max way.taken) way.written way.stands in
+    → IsSessionWithin most stored (Failed 49) was new input left_after output all
+ends-stopped most stored was input left left_after output mid all count more allowed line chunk waiting old new way within is reads stopped =
+    let short = subst (λ n. n ≤ most) (sym way.as_many) within in
+    let (written, appended, cut) = stopped was (take most way.taken) way.written way.stands in
     record {
       taken = way.taken ++ take more chunk;
       written = way.written ++ written;
@@ -316,20 +316,20 @@ ends-stopped stored was input left left_after output mid all count more allowed 
       ended = inr (inr (inl (
         refl,
         inl (subst (λ t. IsCutOff stored was new (turns_of (ended_lines t)) (way.written ++ written))
-            (let_in way.taken chunk more allowed short (is ∙ ap (λ n. min more (script_max - n)) (sym way.as_many))) cut),
+            (let_in most way.taken chunk more allowed short (is ∙ ap (λ n. min more (most - n)) (sym way.as_many))) cut),
       )));
     }
 
 -- a session begins with nothing taken and nothing written
-pub begins : (stored : Bool) (was : Known) (input output : Option (List ℕ)) (line : List ℕ) (waiting : Option Gathering) → line ≡ [] → waiting ≡ None
-    → IsUnderWay stored was input input output output 0 line waiting was
-begins stored was input output line waiting empty alone = record {
+pub begins : (most : ℕ) (stored : Bool) (was : Known) (input output : Option (List ℕ)) (line : List ℕ) (waiting : Option Gathering) → line ≡ [] → waiting ≡ None
+    → IsUnderWay most stored was input input output output 0 line waiting was
+begins most stored was input output line waiting empty alone = record {
   taken = [];
   as_many = refl;
   reads = Consumes-nil input;
   written = [];
   writes = Appends-nil output;
-  stands = subst (λ t. Stands stored was t [] line waiting was) (sym (take-nil script_max)) (record {
+  stands = subst (λ t. Stands stored was t [] line waiting was) (sym (take-nil most)) (record {
     stays = stays_self was;
     told = run-none stored was;
     waits = subst (λ (o : Option Gathering). IsOpen None o) (sym alone) tt;
@@ -338,8 +338,8 @@ begins stored was input output line waiting empty alone = record {
 }
 
 -- a session that finds no memory for itself
-pub begins_not : (stored : Bool) (was : Known) (input output : Option (List ℕ)) → IsSharedSession stored (Failed 40) was was input input output output
-begins_not stored was input output = record {
+pub begins_not : (most : ℕ) (stored : Bool) (was : Known) (input output : Option (List ℕ)) → IsSessionWithin most stored (Failed 40) was was input input output output
+begins_not most stored was input output = record {
   taken = [];
   written = [];
   reads = Consumes-nil input;

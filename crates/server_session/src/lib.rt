@@ -6,4 +6,4 @@ mod answering_all;
 mod fault;
 pub mod session;
 
-pub use session::session_run;
+pub use session::{session_run, session_run_within};

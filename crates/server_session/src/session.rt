@@ -1,9 +1,9 @@
 //! A session of a book that threads share, from the bytes of a script to the bytes of its replies.
-ghost use Rattle.std.specs.Prelude.{◌≡◌, ◌<◌, ◌∷◌, [], length, IfOk, None};
+ghost use Rattle.std.specs.Prelude.{◌≡◌, ◌<◌, ◌∷◌, ◌^◌, [], length, IfOk, None};
 ghost use Rattle.overlay_terms.specs.Histories.{BeginsWith};
 ghost use Rattle.book_history.specs.Known.{seen};
 ghost use Rattle.version_book.specs.Store.{has_store};
-ghost use Rattle.server_session.specs.Session.{IsSharedSession};
+ghost use Rattle.server_session.specs.Session.{IsSharedSession, IsSessionWithin};
 ghost use Rattle.server_session.specs.Loop.{AnswersLine, TakesBytes, Finishes, EndsBatch, EndsBy};
 ghost use Rattle.server_session.specs.Turn.{Stays};
 
@@ -44,12 +44,33 @@ pub fn session_run<J: Naming, S: Wait + Drop, Q: Wait + Threads + Sync, R: Read,
     ensures goes_on { BeginsWith (seen me.new) (seen me.old) }
     ensures same { (me.new.book ≡ me.old.book) × (me.new.session ≡ me.old.session) }
 {
+    session_run_within(rt, alloc, shared, me, SCRIPT_MAX, reader, writer)
+}
+
+/// The same, of a script that may have so many bytes.
+pub fn session_run_within<J: Naming, S: Wait + Drop, Q: Wait + Threads + Sync, R: Read, W: Write>(
+    rt: &Q,
+    alloc: Global,
+    shared: &Shared<J, S>,
+    me: &mut Session,
+    most: usize,
+    reader: &mut R,
+    writer: &mut W,
+) -> SessionEnd
+    requires book { me.old.book ≡ J.book }
+    requires countable { most < 2 ^ 63 }
+    ensures run { IsSessionWithin most (has_store shared.now) result me.old me.new (R.remaining reader.old)
+        (R.remaining reader.new) (W.contents writer.old) (W.contents writer.new) }
+    ensures goes_on { BeginsWith (seen me.new) (seen me.old) }
+    ensures same { (me.new.book ≡ me.old.book) × (me.new.session ≡ me.old.session) }
+{
     match buffers(alloc) {
         Ok((mut line, mut chunk)) => run(
             rt,
             alloc,
             shared,
             me,
+            most,
             &mut line,
             &mut None,
             chunk.as_mut_slice(),
@@ -75,6 +96,7 @@ fn run<J: Naming, S: Wait + Drop, Q: Wait + Threads + Sync, R: Read, W: Write>(
     alloc: Global,
     shared: &Shared<J, S>,
     me: &mut Session,
+    most: usize,
     line: &mut LineBuffer,
     waiting: &mut Option<Gathering>,
     chunk: &mut [u8],
@@ -85,18 +107,19 @@ fn run<J: Naming, S: Wait + Drop, Q: Wait + Threads + Sync, R: Read, W: Write>(
     requires empty { line.old ≡ [] }
     requires alone { waiting.old ≡ None }
     requires room { 0 < length chunk.old }
-    ensures run { IsSharedSession (has_store shared.now) result me.old me.new (R.remaining reader.old)
+    requires countable { most < 2 ^ 63 }
+    ensures run { IsSessionWithin most (has_store shared.now) result me.old me.new (R.remaining reader.old)
         (R.remaining reader.new) (W.contents writer.old) (W.contents writer.new) }
     ensures stays { Stays me.old me.new }
 {
     let mut taken = 0;
-    while taken <= SCRIPT_MAX {
-        let count = match read_chunk(reader, chunk, taken) {
+    while taken <= most {
+        let count = match read_chunk(reader, chunk, taken, most) {
             Err(_) => return end_by(48, b"error 48 read\n", writer),
             Ok(0) => return finish(rt, alloc, shared, me, line, waiting, writer),
             Ok(count) => count,
         };
-        let allowed = count.min(SCRIPT_MAX - taken);
+        let allowed = count.min(most - taken);
         let bytes = &chunk[..allowed];
         let told = take_bytes(rt, alloc, shared, me, line, waiting, bytes, writer);
         if told.is_err() {

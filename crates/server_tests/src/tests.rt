@@ -1,6 +1,7 @@
 //! The tests of the server, and what they share.
 mod books;
 mod gate_tests;
+mod ports_tests;
 mod row_tests;
 mod session_tests;
 mod store_tests;

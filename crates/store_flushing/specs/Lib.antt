@@ -2,3 +2,4 @@ pub mod Among
 pub mod Laws
 pub mod Storing
 pub mod Telling
+pub mod Unstored

@@ -1,5 +1,5 @@
 //! The end of a book and its store.
-ghost use Rattle.std.specs.Prelude.{◌≡◌, ◌≤◌, All, IfSome, IfNone, Some, None};
+ghost use Rattle.std.specs.Prelude.{◌≡◌, ◌<◌, ◌≤◌, All, IfSome, IfNone, Some, None};
 ghost use Rattle.std.specs.Arc.{arc_value};
 ghost use mathlib.Core.List.{IsPrefix};
 ghost use Rattle.disk_model.specs.Moments.{Leaves};
@@ -8,7 +8,9 @@ ghost use Rattle.book_history.specs.Logs.{history_of, newest_in, IsLog};
 ghost use Rattle.book_lock.specs.Steps.{HasAllOf};
 ghost use Rattle.store_flushing.specs.Among.{IsFileExactlyIn, IsFileIn};
 ghost use Rattle.store_flushing.specs.Storing.{IsStoreOf};
+ghost use Rattle.store_flushing.specs.Unstored.{IsUnstoredFor};
 
+use commit_plan::fault::StoreFault;
 use disk_model::disk::Disk;
 use flush_core::flusher::Flusher;
 use std::alloc::Global;
@@ -28,6 +30,8 @@ pub struct Closed<D> {
     pub seen_log: SeenLog,
     /// The number of the version that is stored; 0 without a store.
     pub stored: u64,
+    /// Why the newest version is not stored, where the store refuses it.
+    pub fault: Option<StoreFault>,
     /// The store's disk.
     pub disk: Option<D>,
 }
@@ -36,6 +40,7 @@ pub struct Closed<D> {
 /// with.
 pub fn close<J: Naming, R: Wait + Drop, D: Disk, W: Wait>(
     rt: &W,
+    alloc: Global,
     shared: Shared<J, R>,
     reporter: Reporter,
     flusher: Option<Flusher<D>>,
@@ -51,6 +56,10 @@ pub fn close<J: Naming, R: Wait + Drop, D: Disk, W: Wait>(
     ensures sessions { All (λ session. HasAllOf result.seen_log.log session) sessions.items }
     ensures none { IfNone flusher ((result.stored ≡ 0) × (result.disk ≡ None)) }
     ensures disk { IfSome flusher (λ f. (result.stored ≡ f.commit.root.version) × (result.disk ≡ Some f.commit.disk)) }
+    // Where the newest version is not stored and the store would not begin its commit, it is told why.
+    ensures fault { IfSome result.fault (λ fault. IfSome flusher (λ f. IsUnstoredFor fault f (arc_value result.version))) }
+    ensures failed { IfSome flusher (λ f. f.commit.phase ≡ phases.Failed → f.commit.root.version < (arc_value result.version).number
+        → result.fault ≡ Some StoreFault.Failed) }
     // All that is reported is stored, where it was for the reporter.
     ensures reported { IfSome flusher (λ f. (newest_in reporter.log).durable ≤ f.commit.root.version
         → All (λ entry. entry.version.durable ≤ result.stored) result.seen_log.log) }
@@ -65,22 +74,65 @@ pub fn close<J: Naming, R: Wait + Drop, D: Disk, W: Wait>(
     // What the reporter has seen is a log with a first entry: the clauses rest on that.
     let _ = reporter.given();
     let closed = shared.into_closed(rt, &reporter, &sessions);
-    let (stored, disk) = left_of(flusher);
+    let LeftStore {
+        stored,
+        fault,
+        disk,
+    } = left_of(alloc, flusher, &closed.version);
     Closed {
         version: closed.version,
         seen_log: closed.seen_log,
         stored,
+        fault,
         disk,
     }
 }
 
-/// The number of the version that is stored, and the disk.
-fn left_of<D: Disk>(flusher: Option<Flusher<D>>) -> (u64, Option<D>)
-    ensures none { IfNone flusher ((result.0 ≡ 0) × (result.1 ≡ None)) }
-    ensures some { IfSome flusher (λ f. (result.0 ≡ f.commit.root.version) × (result.1 ≡ Some f.commit.disk)) }
+/// What is left of a store.
+struct LeftStore<D> {
+    stored: u64,
+    fault: Option<StoreFault>,
+    disk: Option<D>,
+}
+
+/// The number of the version that is stored, why a version is not, and the disk.
+fn left_of<D: Disk>(alloc: Global, flusher: Option<Flusher<D>>, version: &Version) -> LeftStore<D>
+    ensures none { IfNone flusher ((result.stored ≡ 0) × (result.disk ≡ None)) }
+    ensures some { IfSome flusher (λ f. (result.stored ≡ f.commit.root.version) × (result.disk ≡ Some f.commit.disk)) }
+    ensures fault { IfSome result.fault (λ fault. IfSome flusher (λ f. IsUnstoredFor fault f version.now)) }
+    ensures failed { IfSome flusher (λ f. f.commit.phase ≡ phases.Failed → f.commit.root.version < version.now.number
+        → result.fault ≡ Some StoreFault.Failed) }
 {
     match flusher {
-        Some(flusher) => (flusher.stored(), Some(flusher.into_disk())),
-        None => (0, None),
+        Some(mut flusher) => {
+            let fault = refusal_of(alloc, &mut flusher, version);
+            LeftStore {
+                stored: flusher.stored(),
+                fault,
+                disk: Some(flusher.into_disk()),
+            }
+        }
+        None => LeftStore {
+            stored: 0,
+            fault: None,
+            disk: None,
+        },
     }
+}
+
+/// Why a store would not begin the commit of a version that it does not hold. It makes no device call.
+fn refusal_of<D: Disk>(
+    alloc: Global,
+    flusher: &mut Flusher<D>,
+    version: &Version,
+) -> Option<StoreFault>
+    ensures disk { flusher.new.commit.disk ≡ flusher.old.commit.disk }
+    ensures stored { flusher.new.commit.root.version ≡ flusher.old.commit.root.version }
+    ensures fault { IfSome result (λ fault. IsUnstoredFor fault flusher.old version.now) }
+    ensures failed { flusher.old.commit.phase ≡ phases.Failed → flusher.old.commit.root.version < version.now.number → result ≡ Some StoreFault.Failed }
+{
+    if flusher.busy() || version.number() <= flusher.stored() {
+        return None;
+    }
+    flusher.begin(alloc, version).err()
 }

@@ -1,9 +1,9 @@
 -- A body that is written is read again.
-use Rattle.std.proofs.Common.{◌≡◌, ◌∙◌, ◌<◌, ◌^◌, ◌==◌, ℕ, Bool, true, false, cond, [], ◌++◌, take, drop, length, ap, refl, arith}
+use Rattle.std.proofs.Common.{◌≡◌, ◌∙◌, ◌<◌, ◌^◌, ◌==◌, Bool, true, false, cond, [], ◌++◌, take, drop, length, ap, refl, arith}
 use Rattle.byteorder.specs.Endian.{big_number, big_bytes}
 use Rattle.byteorder.specs.Numbers.{big_number-reads_back}
 use Rattle.store_terms.specs.declared.root.Root.{Root}
-use Rattle.store_terms.specs.Roots.{body_text, body_in, ours, format_of}
+use Rattle.store_terms.specs.Roots.{body_text, body_in, format_of}
 use Rattle.store_terms.specs.RecordLaws.{BodyReadsBack}
 
 -- the format is a small number, and tells whether it is the old one

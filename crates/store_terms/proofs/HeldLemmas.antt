@@ -19,7 +19,7 @@ pub ok_bound : {A B : Type 0} (o : Result A Damage) (f : A → Result B Damage) 
 ok_bound (Ok x) f y e = (x, refl, e)
 ok_bound (Err d) f y e = absurd cc
 
-no_fault : {A : Type 0} (fault : Damage) (o : Option A) (x : A) → or_fault fault o ≡ Ok x → o ≡ Some x
+pub no_fault : {A : Type 0} (fault : Damage) (o : Option A) (x : A) → or_fault fault o ≡ Ok x → o ≡ Some x
 no_fault {A} fault None x e = absurd cc
 no_fault {A} fault (Some y) x e = let same : y ≡ x = cc in ap (λ (z : A). Some z) same
 

@@ -6,6 +6,7 @@ pub mod Accepting
 pub mod SpelledLemmas
 pub mod HeldLemmas
 pub mod OrderlyHeld
+pub mod OldHeld
 pub mod RecordLemmas
 pub mod BaseLemmas
 pub mod NameTests

@@ -1,5 +1,5 @@
 -- What a root holds are layers in order.
-use Rattle.std.proofs.Common.{◌≡◌, inl, inr, ◌+◌, Bool, true, false, cond, not, ◌&&◌, ℕ, List, [], ◌∷◌, ◌++◌, Option, Some, None, Result, Ok, Err, refl, sym, ap, subst, ◌∙◌}
+use Rattle.std.proofs.Common.{◌≡◌, inl, inr, true, false, not, ◌&&◌, ℕ, List, [], ◌∷◌, ◌++◌, Option, Some, None, Ok, refl, ap, subst, ◌∙◌}
 use Rattle.std.proofs.lemmas.Bool.{and_parts, not-true}
 use Rattle.overlay_terms.specs.Layers.{Name, Content, base, derived, Layer}
 use Rattle.overlay_terms.specs.Orderly.{IsOrderly}
@@ -7,9 +7,7 @@ use Rattle.overlay_terms.specs.Commands.{Refusal, put, define, stands, with_cont
 use Rattle.overlay_terms.proofs.AcceptedLemmas.{step_orderly}
 use Rattle.overlay_terms.specs.Histories.{Finished}
 use Rattle.layer_expr.specs.Name.{is_name}
-use Rattle.store_terms.specs.declared.damage.Damage.{Damage}
 use Rattle.store_terms.specs.declared.damage.Damage.TheVariants.{RecordPlace, LayerForm, LayerRefused, Overlap}
-use Rattle.store_terms.specs.declared.root.Root.{Root}
 use Rattle.store_terms.specs.BaseRecord.{base_of_record}
 use Rattle.store_terms.specs.DefinitionRecord.{definition_of_record}
 use Rattle.store_terms.specs.Catalog.{Records, Listed}

@@ -1,5 +1,5 @@
 -- Laws of the records that are not plain fields, and what opening knows of a file that it has read.
-use Rattle.std.specs.Prelude.{◌≡◌, ◌↔◌, ℕ, ◌^◌, ◌<◌, true, List, take, All, Some, None, Ok}
+use Rattle.std.specs.Prelude.{◌≡◌, ◌↔◌, ℕ, ◌^◌, ◌<◌, true, List, [], take, All, Some, None, Ok}
 use Rattle.overlay_terms.specs.Plane.{WholePoint}
 use Rattle.overlay_terms.specs.InputLaws.{IsRing}
 use Rattle.plane_base.specs.BaseLayer.{rings_fault}
@@ -42,3 +42,7 @@ BodyReadsBack = (r : Root) → r.sequence < 256 ^ 8 → r.version < 256 ^ 8 → 
 -- what a root holds are layers in order: no name twice, and each definition over earlier layers
 abbrev pub HeldIsOrderly : Type 0
 HeldIsOrderly = (file : List ℕ) (r : Root) (x : Held) → held_of file r ≡ Ok x → IsOrderly x.layers
+
+-- what an old root holds has no tiles: those that it names are of other columns
+abbrev pub OldHasNoTiles : Type 0
+OldHasNoTiles = (file : List ℕ) (r : Root) (x : Held) → r.is_old ≡ true → held_of file r ≡ Ok x → x.tiles ≡ []

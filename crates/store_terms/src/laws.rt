@@ -6,7 +6,7 @@ ghost use Rattle.store_terms.specs.BaseRecord.{rings};
 ghost use Rattle.store_terms.specs.TileRecord.{named_tile};
 ghost use Rattle.store_terms.specs.Catalog.{catalog};
 ghost use Rattle.store_terms.specs.Frame.{ElsewhereHasNoMeaning};
-ghost use Rattle.store_terms.specs.RecordLaws.{BaseReadsBack, BodyReadsBack, DefinitionIsItsText, HeldIsOrderly, HeldIsPlaced, TileIsNamed};
+ghost use Rattle.store_terms.specs.RecordLaws.{BaseReadsBack, BodyReadsBack, DefinitionIsItsText, HeldIsOrderly, HeldIsPlaced, OldHasNoTiles, TileIsNamed};
 ghost use Rattle.store_terms.specs.Spelled.{SpelledIsHeld, HeldIsSpelled};
 
 /// What is read as a base record is spelled so, and what is spelled so is read.
@@ -67,4 +67,9 @@ pub fn body_reads_back()
 /// The layers that a root holds are in order.
 pub fn held_is_orderly()
     ensures { HeldIsOrderly }
+{}
+
+/// An old root holds no tiles, whatever its catalog says of them.
+pub fn old_has_no_tiles()
+    ensures { OldHasNoTiles }
 {}

@@ -3,3 +3,4 @@ pub mod Sent
 pub mod SentBook
 pub mod Told
 pub mod Marking
+mod RowLooks

@@ -31,8 +31,9 @@ pub mod telling;
 pub struct LockedBook<J: Naming, R: Wait + Drop> {
     log: LockedLog<J, R>,
     standing: Standing,
-    /// Where the layer stood whose tile was handed out last: there the next one is looked for first.
-    near: usize,
+    /// Where the layer stood whose tile was handed out last, and the tile's column by its number: there the next one is looked for
+    /// first.
+    near: (usize, u8),
 }
 
 impl<J: Naming, R: Wait + Drop> LockedBook<J, R> {
@@ -41,7 +42,7 @@ impl<J: Naming, R: Wait + Drop> LockedBook<J, R> {
         LockedBook {
             log,
             standing,
-            near: 0,
+            near: (0, 0),
         }
     }
 

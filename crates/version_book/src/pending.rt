@@ -5,7 +5,7 @@ ghost use Rattle.overlay_terms.specs.Commands.{stands_as_derived};
 ghost use Rattle.overlay_terms.specs.Histories.{tile_at};
 ghost use Rattle.overlay_terms.specs.Tiles.{input_of};
 ghost use Rattle.version_core.specs.Table.{row_by};
-ghost use Rattle.version_book.specs.Free.{AllAreHeld, AreHeld, AreHeldAt, IsFree};
+ghost use Rattle.version_book.specs.Free.{AllAreHeld, AreHeld, AreHeldAt, AreHeldFrom, IsFree};
 ghost use Rattle.version_book.specs.HeldTiles.{is_held};
 
 use crate::held_tiles::HeldTiles;
@@ -16,12 +16,18 @@ use std::alloc::{AllocError, Global};
 use version_core::tiles::TileRow;
 use version_core::version::Version;
 
-/// A pending tile of a version that is neither handed out nor marked. The layer at a place is looked at first.
-pub fn free<'a>(version: &'a Version, held: &HeldTiles, near: usize) -> Option<(&'a Name, Column)>
+/// A pending tile of a version that is neither handed out nor marked. The layer at a place is looked at first, from a
+/// column on.
+pub fn free<'a>(
+    version: &'a Version,
+    held: &HeldTiles,
+    near: usize,
+    from: u8,
+) -> Option<(&'a Name, Column)>
     ensures some { IfSome result (λ r. IsFree version.now held.now.list.items r.0.now r.1) }
     ensures none { IfNone result (AllAreHeld version.now held.now.list.items) }
 {
-    match free_at(version, held, near) {
+    match free_at(version, held, near, from) {
         Some(found) => Some(found),
         None => free_of_all(version, held),
     }
@@ -33,7 +39,7 @@ fn free_of_all<'a>(version: &'a Version, held: &HeldTiles) -> Option<(&'a Name, 
     ensures none { IfNone result (AllAreHeld version.now held.now.list.items) }
 {
     for place in 0..version.layers().len() {
-        if let Some(found) = free_at(version, held, place) {
+        if let Some(found) = free_at(version, held, place, 0) {
             return Some(found);
         }
     }
@@ -41,13 +47,18 @@ fn free_of_all<'a>(version: &'a Version, held: &HeldTiles) -> Option<(&'a Name, 
 }
 
 // The same among the tiles of the layer at a place.
-fn free_at<'a>(version: &'a Version, held: &HeldTiles, place: usize) -> Option<(&'a Name, Column)>
+fn free_at<'a>(
+    version: &'a Version,
+    held: &HeldTiles,
+    place: usize,
+    from: u8,
+) -> Option<(&'a Name, Column)>
     ensures some { IfSome result (λ r. IsFree version.now held.now.list.items r.0.now r.1) }
     ensures none { IfNone result (AreHeldAt version.now held.now.list.items place) }
 {
     if let Some((name, _layer, row)) = version.at(place) {
         if version.layers().stands_as_derived(name) {
-            if let Some(column) = free_column(version, held, name, row) {
+            if let Some(column) = free_column(version, held, name, row, from) {
                 return Some((name, column));
             }
         }
@@ -55,12 +66,14 @@ fn free_at<'a>(version: &'a Version, held: &HeldTiles, place: usize) -> Option<(
     None
 }
 
-// The same among the columns of a layer. Its row says which tiles are pending.
+// The same among the columns of a layer, whose row says which tiles are pending. They are looked at from one on, then
+// all.
 fn free_column(
     version: &Version,
     held: &HeldTiles,
     name: &Name,
     row: &TileRow,
+    from: u8,
 ) -> Option<Column>
     requires { row.now ≡ row_by (tile_at version.now.tiles name.now) }
     ensures pending { IfSome result (λ column. tile_at version.now.tiles name.now column ≡ None) }
@@ -71,7 +84,28 @@ fn free_column(
     if version.is_built(name) {
         return None;
     }
-    for number in 0..COLUMN_COUNT {
+    match free_from(version, held, name, row, from) {
+        Some(column) => Some(column),
+        None => free_from(version, held, name, row, 0),
+    }
+}
+
+// The same among the columns from one on.
+fn free_from(
+    version: &Version,
+    held: &HeldTiles,
+    name: &Name,
+    row: &TileRow,
+    from: u8,
+) -> Option<Column>
+    requires { row.now ≡ row_by (tile_at version.now.tiles name.now) }
+    ensures pending { IfSome result (λ column. tile_at version.now.tiles name.now column ≡ None) }
+    ensures column { IfSome result (λ column. column < column_count) }
+    ensures free { IfSome result (λ column. is_held name.now column held.now.list.items ≡ false) }
+    ensures none { IfNone result (AreHeldFrom version.now held.now.list.items name.now from) }
+{
+    let _ = version;
+    for number in from..COLUMN_COUNT {
         let Some(column) = Column::new(u64::from(number)) else {
             unreachable!()
         };

@@ -1,6 +1,5 @@
 //! A file of format 1: it opens with its layers and no tile, and the next commit makes it one of format 2.
-use crate::tests::testing::{CHOICES, Words, drive, recovered};
-use disk_model::image::Choice;
+use crate::tests::testing::{CHOICES, Words, drive, joined, recovered};
 use disk_model::mem_disk::MemDisk;
 use overlay_engine::step::Reply;
 use std::alloc::Global;
@@ -51,7 +50,8 @@ const FILE: &[Part] = &[
     (5 * BLOCK + 32, ENTRIES),
 ];
 
-/// What the tile's record and its place are instead: neither is looked at.
+/// What the tile's record and its place are instead: no tile; beyond the file, in a slot, in the blocks of A and of the
+/// catalog. Neither is looked at.
 const UNREAD: &[Part] = &[
     (2 * BLOCK, b"no tile"),
     (5 * BLOCK + 48, &[77]),
@@ -106,40 +106,76 @@ fn is_left(alloc: Global, disk: MemDisk) -> Result<(bool, MemDisk), Fail> {
     ))
 }
 
+/// The parts of one file: none is other in the first, and one in each that follows.
+fn unread(change: usize) -> &'static [Part] {
+    UNREAD.get(change.saturating_sub(1)..change).unwrap_or(&[])
+}
+
 #[test]
 fn an_old_file_opens_with_its_layers_and_is_completed_in_its_own_format(
     rt: HostRuntime,
 ) -> Result<(), Fail> {
-    for unread in 0..=UNREAD.len() {
-        let parts = UNREAD.get(unread..UNREAD.len().min(unread.saturating_add(1))).unwrap_or(&[]);
-        let (is, disk) = is_left(rt.alloc(), disk_of(rt.alloc(), parts)?)?;
-        assert!(rt; is, "with change {unread}");
+    for change in 0..=UNREAD.len() {
+        let (is, disk) = is_left(rt.alloc(), disk_of(rt.alloc(), unread(change))?)?;
+        assert!(rt; is, "with change {change}");
         assert!(rt; stands(&disk, (16, TWIN)) && stands(&disk, (BLOCK + 16, BODY)));
     }
     Ok(())
+}
+
+/// How many calls the completion makes, and the next commit behind it.
+const COMPLETION: usize = 2;
+
+const COMMIT: usize = 7;
+
+const ANSWERS: &[&[Reply]] = &[&[Reply::Going; COMMIT - 1], &[Reply::Done(2)]];
+
+/// What stands behind the commit: the new root and its catalog, the records where they were, and the old root.
+const COMMITTED: &[Part] = &[
+    (0, &[0xA7]),
+    (16, NEXT),
+    (BLOCK, &[0xA7]),
+    (BLOCK + 16, BODY),
+    (2 * BLOCK, LISTED),
+    (2 * BLOCK + 32, &[0; 33]),
+    (3 * BLOCK, RECORD),
+    (4 * BLOCK, b"A"),
+];
+
+/// Whether the commit to an old file answers so, and leaves its parts; and the disk then.
+fn is_committed(alloc: Global, parts: &[Part]) -> Result<(bool, MemDisk), Fail> {
+    let mut engine = recovered(alloc, disk_of(alloc, parts)?)?;
+    let replies = drive(alloc, &mut engine, &[Words::Device; COMMIT])?;
+    let answers = joined(alloc, ANSWERS)?;
+    let disk = engine.into_disk();
+    let mut is = replies.as_slice() == answers.as_slice();
+    for &part in COMMITTED {
+        is = is && stands(&disk, part);
+    }
+    Ok((is, disk))
+}
+
+/// Whether a crash at each call of the completion and of the commit leaves the version.
+fn are_left(alloc: Global, disk: &MemDisk) -> Result<bool, Fail> {
+    let made = disk.calls().len();
+    for calls in made.saturating_sub(COMPLETION + COMMIT)..=made {
+        for &choice in &CHOICES {
+            if !is_left(alloc, disk.image(calls, choice)?)?.0 {
+                return Ok(false);
+            }
+        }
+    }
+    Ok(true)
 }
 
 #[test]
 fn the_next_commit_is_of_the_new_format_and_a_crash_in_it_loses_nothing(
     rt: HostRuntime,
 ) -> Result<(), Fail> {
-    let alloc = rt.alloc();
-    let mut engine = recovered(alloc, disk_of(alloc, &[])?)?;
-    let replies = drive(alloc, &mut engine, &[Words::Device; 7])?;
-    let (last, going) = replies.split_last().unwrap_or((&Reply::NoJob, &[]));
-    assert!(rt; *last == Reply::Done(2) && going.len() == 6);
-    assert!(rt; going.iter().all(|reply| *reply == Reply::Going));
-    let disk = engine.into_disk();
-    assert!(rt; stands(&disk, (16, NEXT)) && stands(&disk, (0, &[0xA7])));
-    assert!(rt; stands(&disk, (2 * BLOCK, LISTED)) && stands(&disk, (2 * BLOCK + 32, &[0; 33])));
-    assert!(rt; stands(&disk, (3 * BLOCK, RECORD)) && stands(&disk, (4 * BLOCK, b"A")));
-    let made = disk.calls().len();
-    for calls in made.saturating_sub(7)..=made {
-        for &choice in &CHOICES {
-            let left: MemDisk = disk.image(calls, choice)?;
-            assert!(rt; is_left(alloc, left)?.0, "behind {calls} of {made} calls");
-        }
+    for change in 0..=UNREAD.len() {
+        let (is, disk) = is_committed(rt.alloc(), unread(change))?;
+        assert!(rt; is, "with change {change}");
+        assert!(rt; are_left(rt.alloc(), &disk)?, "with change {change}");
     }
-    assert!(rt; is_left(alloc, disk.image(made, Choice::New)?)?.0);
     Ok(())
 }

@@ -70,6 +70,13 @@ where
     let mut me = sessions.pop().expect(rt, "no session");
     let end = session_run(rt, alloc, &shared, &mut me, reader, writer);
     let sessions = Vec::from_array(alloc, [me]).expect(rt, "no memory");
-    let _closed = close(rt, shared, reporter, None::<Flusher<MemDisk>>, sessions);
+    let _closed = close(
+        rt,
+        alloc,
+        shared,
+        reporter,
+        None::<Flusher<MemDisk>>,
+        sessions,
+    );
     end
 }

@@ -139,6 +139,8 @@ fn over_a_file(
     let _absent = fs::remove_file(rt, path);
     let first = first_run(rt, alloc, FileDisk::at(rt, path, true)?, 200, script)?;
     expect(rt, &first, 0, replies);
+    // The file is held as long as its disk is there.
+    drop(first);
     let disk = Some(FileDisk::at(rt, path, false)?);
     let next = next_run(rt, alloc, disk, b"LOCATE A 2 2\nLOCATE A 11 2\nSYNC\n")?;
     expect(rt, &next, 0, "in\nout\ndurable 1\n");

@@ -52,7 +52,8 @@ impl<J: Naming, R: Wait + Drop> LockedBook<J, R> {
             job.end();
             return Err(NO_MEMORY);
         }
-        self.near = self.log.last().version.layers().index_of(job.name());
+        let place = self.log.last().version.layers().index_of(job.name());
+        self.near = (place, column.number());
         Ok(Some(job))
     }
 
@@ -72,7 +73,8 @@ impl<J: Naming, R: Wait + Drop> LockedBook<J, R> {
             (λ r. IsFree (newest_in self.now.log) self.now.standing.held.list.items r.0.now r.1) }
         ensures none { IfNone result (AllAreHeld (newest_in self.now.log) self.now.standing.held.list.items) }
     {
-        free(&self.log.last().version, &self.standing.held, self.near)
+        let (near, from) = self.near;
+        free(&self.log.last().version, &self.standing.held, near, from)
     }
 
     // A copy of the name of a derived layer, and the input of its tile.

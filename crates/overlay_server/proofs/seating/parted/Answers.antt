@@ -11,5 +11,5 @@ push_reserved-requires g c =
 pub push_reserved-requires-in-loop-one : goal.push_reserved-requires-in-loop-one
 push_reserved-requires-in-loop-one g c =
     let at = c.loop-one in
-    room_left _ at.yielded _ _ c.in-Some.one (vec_len at.outcomes) (vec_capacity at.outcomes) at.invariant.all c.in-Some.ensures.steps.0
-    at.invariant.outcomes_grown at.invariant.outcomes_room
+    room_left _ at.yielded _ _ c.in-Some.one (vec_len at.finished) (vec_capacity at.finished) at.invariant.all c.in-Some.ensures.steps.0
+    at.invariant.finished_grown at.invariant.finished_room

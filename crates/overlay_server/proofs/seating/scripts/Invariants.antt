@@ -1,6 +1,6 @@
 use Rattle.std.proofs.Common.{◌≡◌, ◌++◌, length, map}
 use Rattle.std.specs.Vec.Iter.{into_iter_items, into_iter_len}
-use Rattle.overlay_server.specs.Seats.{reader_of, session_of}
+use Rattle.overlay_server.specs.Seats.{port_of, session_of}
 use Rattle.overlay_server.proofs.seating.scripts.Given as goal
 
 -- each session so far has its reader, and there are as many readers as sessions left
@@ -8,8 +8,8 @@ abbrev pub invariant-loop-session : goal.invariant-loop-session
 invariant-loop-session g l = record {
   all : l.yielded ++ into_iter_items l.session-iterator ≡ into_iter_items l.initial.session-iterator;
   left : into_iter_len l.session-iterator ≡ length (into_iter_items l.session-iterator);
-  readers_left : into_iter_len l.readers ≡ length (into_iter_items l.readers);
+  ports_left : into_iter_len l.ports ≡ length (into_iter_items l.ports);
   sessions : map session_of l.list.items ≡ l.yielded;
-  readers : map reader_of l.list.items ++ into_iter_items l.readers ≡ into_iter_items l.initial.readers;
-  as_many : length (into_iter_items l.readers) ≡ length (into_iter_items l.session-iterator);
+  ports : map port_of l.list.items ++ into_iter_items l.ports ≡ into_iter_items l.initial.ports;
+  as_many : length (into_iter_items l.ports) ≡ length (into_iter_items l.session-iterator);
 }

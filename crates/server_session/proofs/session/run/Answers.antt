@@ -1,5 +1,4 @@
-use Rattle.std.proofs.Common.{◌≡◌, ◌≤◌, codes, refl, sym, arith, rules, ◌∙◌}
-use Rattle.script_form.specs.Lines.{script_max}
+use Rattle.std.proofs.Common.{◌≡◌, ◌+◌, ◌≤◌, codes, refl, sym, arith, rules, ◌∙◌}
 use Rattle.script_form.proofs.Texts.{read, read_limit}
 use Rattle.server_session.proofs.Endings.{begins, goes_on, ends-finished, ends-at_read, ends-past_limit, ends-stopped, reads_none, when_err, when_ok}
 use Rattle.server_session.proofs.Turns.{stays_self, stays_trans}
@@ -10,27 +9,25 @@ loop-taken-init g c = record {
   limited = omega arith;
   room = refl;
   stays = stays_self _;
-  way = begins _ _ _ _ _ _ c.requires.empty c.requires.alone;
+  way = begins _ _ _ _ _ _ _ c.requires.empty c.requires.alone;
 }
 
 pub finish-requires : goal.finish-requires
 finish-requires g c = (c.type_bounds.sync-Q, c.loop-taken.invariant.stays.book ∙ c.requires.book)
 
 pub returns-in-Err-clause-run : goal.returns-in-Err-clause-run
-unfolding script_max
 returns-in-Err-clause-run g c =
-    let within : c.loop-taken.taken ≤ script_max = c.loop-taken-test.true in
-    ends-at_read _ c.args.me.now c.end_by.result _ _ _ _ (g.W.Write.contents c.loop-taken.writer) (g.W.Write.contents c.end_by.new.writer) _ _ _ c.loop-taken.me (codes "error 48 read\n")
+    let within : c.loop-taken.taken ≤ c.args.most = c.loop-taken-test.true in
+    ends-at_read c.args.most _ c.args.me.now c.end_by.result _ _ _ _ (g.W.Write.contents c.loop-taken.writer) (g.W.Write.contents c.end_by.new.writer) _ _ _ c.loop-taken.me (codes "error 48 read\n")
     c.loop-taken.invariant.way within c.in-Err.ensures.err read c.end_by.ensures
 
 pub returns-in-Err-clause-stays : goal.returns-in-Err-clause-stays
 returns-in-Err-clause-stays g c = c.loop-taken.invariant.stays
 
 pub returns-in-Ok-eq0-clause-run : goal.returns-in-Ok-eq0-clause-run
-unfolding script_max
 returns-in-Ok-eq0-clause-run g c =
-    let within : c.loop-taken.taken ≤ script_max = c.loop-taken-test.true in
-    ends-finished _ c.args.me.now c.finish.result _ (g.R.Read.remaining c.loop-taken.reader) (g.R.Read.remaining c.read_chunk.new.reader) _ (g.W.Write.contents c.loop-taken.writer) (g.W.Write.contents c.finish.new.writer) _ c.loop-taken.line c.loop-taken.waiting c.loop-taken.me c.finish.new.me
+    let within : c.loop-taken.taken ≤ c.args.most = c.loop-taken-test.true in
+    ends-finished c.args.most _ c.args.me.now c.finish.result _ (g.R.Read.remaining c.loop-taken.reader) (g.R.Read.remaining c.read_chunk.new.reader) _ (g.W.Write.contents c.loop-taken.writer) (g.W.Write.contents c.finish.new.writer) _ c.loop-taken.line c.loop-taken.waiting c.loop-taken.me c.finish.new.me
     c.loop-taken.invariant.way within
     (reads_none _ _ c.in-Ok-eq0.field-0 c.read_chunk.new.chunk c.in-Ok-eq0.field-0-test c.in-Ok-eq0.ensures.bytes)
     (c.in-Ok-eq0.ensures.at_end c.in-Ok-eq0.field-0-test) c.finish.ensures.finishes
@@ -39,11 +36,10 @@ pub returns-in-Ok-eq0-clause-stays : goal.returns-in-Ok-eq0-clause-stays
 returns-in-Ok-eq0-clause-stays g c = stays_trans _ _ _ c.loop-taken.invariant.stays c.finish.ensures.stays
 
 pub returns-then-is_err-clause-run : goal.returns-then-is_err-clause-run
-unfolding script_max
 returns-then-is_err-clause-run g c =
-    let within : c.loop-taken.taken ≤ script_max = c.loop-taken-test.true in
+    let within : c.loop-taken.taken ≤ c.args.most = c.loop-taken-test.true in
     let stopped = when_err _ _ c.take_bytes-told.result (sym c.if-is_err.ensures.value) c.take_bytes-told.ensures.takes in
-    ends-stopped _ c.args.me.now _ (g.R.Read.remaining c.loop-taken.reader) (g.R.Read.remaining c.read_chunk.new.reader) _ (g.W.Write.contents c.loop-taken.writer) (g.W.Write.contents c.take_bytes-told.new.writer)
+    ends-stopped c.args.most _ c.args.me.now _ (g.R.Read.remaining c.loop-taken.reader) (g.R.Read.remaining c.read_chunk.new.reader) _ (g.W.Write.contents c.loop-taken.writer) (g.W.Write.contents c.take_bytes-told.new.writer)
     _ c.in-Ok.count c.min-allowed.result c.loop-taken.line c.read_chunk.new.chunk c.loop-taken.waiting c.loop-taken.me c.take_bytes-told.new.me
     c.loop-taken.invariant.way within c.min-allowed.ensures c.in-Ok.ensures.bytes stopped
 
@@ -51,25 +47,23 @@ pub returns-then-is_err-clause-stays : goal.returns-then-is_err-clause-stays
 returns-then-is_err-clause-stays g c = stays_trans _ _ _ c.loop-taken.invariant.stays c.take_bytes-told.ensures.stays
 
 pub loop-taken-preserved : goal.loop-taken-preserved
-unfolding script_max
 loop-taken-preserved g c =
-    let within : c.loop-taken.taken ≤ script_max = c.loop-taken-test.true in
+    let within : c.loop-taken.taken ≤ c.args.most = c.loop-taken-test.true in
     let takes = when_ok _ _ c.take_bytes-told.result (sym c.if-is_err.ensures.value) c.take_bytes-told.ensures.takes in
     record {
       limited = c.in-Ok.ensures.in_limit;
       room = search rules;
       stays = stays_trans _ _ _ c.loop-taken.invariant.stays c.take_bytes-told.ensures.stays;
       way =
-          goes_on _ c.args.me.now _ (g.R.Read.remaining c.loop-taken.reader) (g.R.Read.remaining c.read_chunk.new.reader) _ (g.W.Write.contents c.loop-taken.writer) (g.W.Write.contents c.take_bytes-told.new.writer)
+          goes_on c.args.most _ c.args.me.now _ (g.R.Read.remaining c.loop-taken.reader) (g.R.Read.remaining c.read_chunk.new.reader) _ (g.W.Write.contents c.loop-taken.writer) (g.W.Write.contents c.take_bytes-told.new.writer)
           c.loop-taken.taken c.in-Ok.count c.min-allowed.result c.loop-taken.line c.take_bytes-told.new.line c.read_chunk.new.chunk c.loop-taken.waiting c.take_bytes-told.new.waiting c.loop-taken.me c.take_bytes-told.new.me
           c.loop-taken.invariant.way within c.in-Ok.ensures.within c.min-allowed.ensures c.in-Ok.ensures.bytes takes;
     }
 
 pub returns-clause-run : goal.returns-clause-run
-unfolding script_max
 returns-clause-run g c =
-    let past : c.loop-taken.taken ≡ 16777217 = omega arith in
-    ends-past_limit _ c.args.me.now c.end_by-2.result _ _ _ (g.W.Write.contents c.loop-taken.writer) (g.W.Write.contents c.end_by-2.new.writer) _ _ _ c.loop-taken.me (codes "error 47 read limit\n")
+    let past : c.loop-taken.taken ≡ c.args.most + 1 = omega arith in
+    ends-past_limit c.args.most _ c.args.me.now c.end_by-2.result _ _ _ (g.W.Write.contents c.loop-taken.writer) (g.W.Write.contents c.end_by-2.new.writer) _ _ _ c.loop-taken.me (codes "error 47 read limit\n")
     c.loop-taken.invariant.way past read_limit c.end_by-2.ensures
 
 pub returns-clause-stays : goal.returns-clause-stays

@@ -1,5 +1,5 @@
 -- The session is under way.
-use Rattle.std.proofs.Common.{◌≡◌, ◌-◌, ◌≤◌, length}
+use Rattle.std.proofs.Common.{◌≡◌, ◌+◌, ◌-◌, ◌≤◌, length}
 use Rattle.version_book.specs.Store.{has_store}
 use Rattle.server_session.specs.Turn.{Stays}
 use Rattle.server_session.proofs.Endings.{IsUnderWay}
@@ -7,11 +7,11 @@ use Rattle.server_session.proofs.session.run.Given as goal
 
 abbrev pub invariant-loop-taken : goal.invariant-loop-taken
 invariant-loop-taken g l = record {
-  limited : l.taken ≤ 16777217;
+  limited : l.taken ≤ l.most + 1;
   room : length l.chunk ≡ length l.initial.chunk;
   stays : Stays l.initial.me l.me;
-  way : IsUnderWay (has_store l.shared) l.initial.me (g.R.Read.remaining l.initial.reader) (g.R.Read.remaining l.reader) (g.W.Write.contents l.initial.writer) (g.W.Write.contents l.writer) l.taken l.line l.waiting l.me;
+  way : IsUnderWay l.most (has_store l.shared) l.initial.me (g.R.Read.remaining l.initial.reader) (g.R.Read.remaining l.reader) (g.W.Write.contents l.initial.writer) (g.W.Write.contents l.writer) l.taken l.line l.waiting l.me;
 }
 
 abbrev pub decreases-loop-taken : goal.decreases-loop-taken
-decreases-loop-taken g l = 16777217 - l.taken
+decreases-loop-taken g l = l.most + 1 - l.taken

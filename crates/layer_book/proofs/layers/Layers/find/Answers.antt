@@ -1,10 +1,30 @@
-use Rattle.layer_book.proofs.Entries.{found}
+use Rattle.std.proofs.Common.{◌≡◌, ◌<◌, length, sym, ◌∙◌, arith}
+use Rattle.std.proofs.lemmas.Bool.Decides.{nat_tests}
+use Rattle.overlay_terms.specs.Commands.{index_of}
+use Rattle.layer_book.proofs.Lines.{none_there}
+use Rattle.layer_book.proofs.Names.{stands_is}
+use Rattle.layer_book.proofs.Wanted.{index_behind, index_here}
 use Rattle.layer_book.proofs.layers.Layers.find.Goals as goal
+use Rattle.layer_book.proofs.layers.Layers.find.Goals.{in-Some+else-eq, in_default}
+
+pub returns-then-eq-clause-known : goal.returns-then-eq-clause-known
+returns-then-eq-clause-known c =
+    sym (index_here c.args.self.now c.args.name.now c.loop-index.index _ c.len-index-end.ensures.valid.sound.orderly (sym c.in-Some.ensures) (sym c.eq.ensures ∙ c.if-eq.true)).0
+
+pub returns-then-eq-clause-index : goal.returns-then-eq-clause-index
+returns-then-eq-clause-index c = (
+  sym (index_here c.args.self.now c.args.name.now c.loop-index.index _ c.len-index-end.ensures.valid.sound.orderly (sym c.in-Some.ensures) (sym c.eq.ensures ∙ c.if-eq.true)).1,
+  omega (arith, c.len-index-end.ensures.value, c.loop-index-test.true),
+)
+
+pub loop-index-preserved : goal.loop-index-preserved
+loop-index-preserved c =
+    let layers = c.args.self.now in
+    elim c.match-at.branch [
+      | in-Some+else-eq w ↦ index_behind layers c.args.name.now c.loop-index.index _ (sym w.in-Some.ensures) (sym w.eq.ensures ∙ w.if-eq.false) c.loop-index.invariant
+      | in_default w ↦ absurd (none_there layers c.loop-index.index (omega (arith, c.len-index-end.ensures.value)) w.in_default.ensures)
+    ]
 
 pub returns-clause-known : goal.returns-clause-known
 returns-clause-known c =
-    rw (← c.self.view_is) (found c.self.inside.map.entries c.args.name.now c.get_index_of.result c.get_index_of.ensures.index).0
-
-pub returns-clause-index : goal.returns-clause-index
-returns-clause-index c =
-    rw (← c.self.view_is) (found c.self.inside.map.entries c.args.name.now c.get_index_of.result c.get_index_of.ensures.index).1
+    sym (stands_is c.args.self.now c.args.name.now ∙ grind (arith, nat_tests, c.loop-index.invariant, c.loop-index-test.false, c.len-index-end.ensures.value))

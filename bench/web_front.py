@@ -1,0 +1,91 @@
+"""A module for oapif.py, browser.py and web_load.py: a store of real shapes, a running front over it, Debian's packages."""
+
+from __future__ import annotations
+
+import contextlib
+import json
+import os
+import pathlib
+import shutil
+import subprocess
+import sys
+import urllib.request
+from collections.abc import Iterator
+from typing import Any
+
+TOP = pathlib.Path(__file__).resolve().parent.parent
+PROGRAM = TOP / "crates/overlay_live/out/overlay_live"
+DEBIAN_PYTHON = "/usr/bin/python3"
+SCALE = {"title": "Iceland at two scales", "factor": 42262, "factor_y": 100000, "origin": [-19, 65], "unit": "degree",
+         "crs": "OGC:CRS84", "digits": 7}
+DEFINITIONS = {"both": "iceland_110m & iceland_50m", "one": "iceland_110m ^ iceland_50m"}
+
+sys.path.append(str(TOP / "web"))
+import overlay_client  # noqa: E402
+
+
+class Tries:
+    """What was tried and whether it held."""
+
+    def __init__(self) -> None:
+        self.passed = self.failed = 0
+
+    def that(self, holds: object, text: str) -> None:
+        self.passed += bool(holds)
+        self.failed += not holds
+        print(("ok      " if holds else "FAILED  ") + text, flush=True)
+
+
+def asked(address: str) -> Any:
+    with urllib.request.urlopen(address, timeout=30) as answer:
+        return json.load(answer)
+
+
+def need(command: str, *packages: str) -> None:
+    """Installs packages of Debian where a command, or a file, is not there."""
+    if shutil.which(command) or pathlib.Path(command).exists():
+        return
+    environment = {**os.environ, "DEBIAN_FRONTEND": "noninteractive"}
+    words = ["apt-get", "install", "-y", "--no-install-recommends", *packages]
+    done = subprocess.run(words, env=environment, stdout=subprocess.DEVNULL)
+    if done.returncode:
+        sys.exit(f"{' '.join(words)}: status {done.returncode}")
+
+
+def iceland(folder: pathlib.Path, program: str) -> pathlib.Path:
+    """A store with Iceland at two scales, what both have, and what one of them has; its sidecar stands beside it."""
+    files = [str(TOP / f"tools/data/iceland_{scale}.geojson") for scale in ("110m", "50m")]
+    scaling = ["--factor", "42262", "--factor-y", "100000", "--origin", "-19", "65"]
+    words = [sys.executable, str(TOP / "tools/to_script.py"), *files, *scaling]
+    script = subprocess.run(words, capture_output=True, text=True, check=True).stdout
+    lines = script.splitlines() + [f"DEFINE {name} = {text}" for name, text in DEFINITIONS.items()]
+    store = folder / "map.db"
+    with overlay_client.Server(store, create=True, program=program) as server, server.session() as one:
+        one.batch(lines)
+        one.sync()
+    store.with_suffix(".scale.json").write_text(json.dumps(SCALE), encoding="utf-8")
+    return store
+
+
+@contextlib.contextmanager
+def front(
+    *words: str | os.PathLike[str], program: str, python: str = DEBIAN_PYTHON, before: str = ""
+) -> Iterator[str]:
+    """The address of a front that runs until the end of the block, and then has to end with 0.
+
+    before: lines of Python that are run first.
+    """
+    code = f"{before}import runpy, sys; sys.argv = sys.argv[1:]; runpy.run_path(sys.argv[0], run_name='__main__')"
+    given = ["--port", "0", "--program", program, *words]
+    run = subprocess.Popen([python, "-c", code, TOP / "web/overlay_web.py", *given], stdout=subprocess.PIPE, text=True)
+    assert run.stdout
+    try:
+        address = run.stdout.readline().strip()
+        if not address:
+            sys.exit(f"the front did not start: status {run.wait()}")
+        yield address
+    finally:
+        run.terminate()
+        status = run.wait(60)
+    if status:
+        sys.exit(f"the front ended with status {status}")

@@ -1,0 +1,59 @@
+//! Memory that is taken ahead for a version.
+ghost use Rattle.std.specs.Prelude.{◌≡◌, IfOk, IfErr};
+ghost use Rattle.std.specs.Arc.{arc_value};
+ghost use Rattle.book_history.specs.Fault.{no_memory};
+
+use crate::making::shared;
+use book_history::fault::BookFault;
+use std::alloc::Global;
+use std::sync::Arc;
+use version_core::version::Version;
+
+/// Memory for a version, where there was some: so what has to be told can be told where there is none any more.
+#[derive(Drop)]
+pub struct Room {
+    place: Option<Arc<Version, Global>>,
+}
+
+impl Room {
+    /// Takes memory for a version, where there is some.
+    pub fn new(alloc: Global) -> Room {
+        Room {
+            place: shared(alloc, Version::empty(alloc)).ok(),
+        }
+    }
+
+    /// A version for as many as ask for it, in this memory, or where there is none, in memory that it asks for.
+    pub(crate) fn shared(
+        &mut self,
+        alloc: Global,
+        version: Version,
+    ) -> Result<Arc<Version, Global>, BookFault>
+        ensures ok { IfOk result (λ v. arc_value v ≡ version) }
+        ensures err { IfErr result (λ fault. fault ≡ no_memory) }
+    {
+        match self.place.take() {
+            Some(place) => put(place, alloc, version),
+            None => shared(alloc, version),
+        }
+    }
+}
+
+// The same in the place of a version that nobody else has.
+fn put(
+    place: Arc<Version, Global>,
+    alloc: Global,
+    version: Version,
+) -> Result<Arc<Version, Global>, BookFault>
+    ensures ok { IfOk result (λ v. arc_value v ≡ version) }
+    ensures err { IfErr result (λ fault. fault ≡ no_memory) }
+{
+    let mut place = place;
+    match Arc::get_mut(&mut place) {
+        Some(old) => {
+            *old = version;
+            Ok(place)
+        }
+        None => shared(alloc, version),
+    }
+}

@@ -1,0 +1,119 @@
+use Rattle.std.proofs.Common.{rules, ◌≡◌, ◌+◌, ◌∙◌, ℕ, inl, List, All, length, map, ap, sym, subst}
+use Rattle.std.specs.List.{AllZip}
+use Rattle.overlay_terms.specs.Histories.{Version}
+use Rattle.book_history.specs.Known.{Known}
+use Rattle.book_history.proofs.Chains.{begins_with}
+use Rattle.book_lock.specs.Steps.{HasAllOf}
+use Rattle.book_lock.proofs.Beginning.{count_of}
+use Rattle.version_book.specs.Store.{has_store}
+use Rattle.overlay_server.specs.Counting.{made_in}
+use Rattle.overlay_server.specs.Rooms.{HasParts, HasRooms}
+use Rattle.overlay_server.specs.Running.{IsRunOf}
+use Rattle.overlay_server.specs.Seats.{ended_session, port_of, session_of}
+use Rattle.overlay_server.specs.Serving.{first_log}
+use Rattle.overlay_server.proofs.Lists.{beside_length}
+use Rattle.overlay_server.proofs.Parts.{AreSeated, all_of_book, as_many, of_ended}
+use Rattle.overlay_server.proofs.Stores.{kept_twice, stopped_at_once, stopped_by}
+use Rattle.overlay_server.proofs.ServedParts.{served_from}
+use Rattle.overlay_server.proofs.hosting.run_book.Goals as goal
+
+pub seated-requires : goal.seated-requires
+seated-requires g c =
+    ap (λ (ks : List Known). length ks) c.requires.sessions ∙ count_of (record { book = g.J.Naming.book; log = first_log c.args.start.version.value }) (length c.args.ports.items)
+
+pub returns-in_default-clause-refused : goal.returns-in_default-clause-refused
+returns-in_default-clause-refused g c = record {
+  code = inl c.refused.ensures.code;
+  back = stopped_at_once g.D.Disk c.args.start.version.value c.args.store.flusher c.refused.result.disk
+      c.refused.ensures.now c.refused.ensures.disk;
+}
+
+pub run_threads-store-requires : goal.run_threads-store-requires
+run_threads-store-requires g c κs within =
+    let seats = c.in-Some.seats in
+    let sessions : map session_of seats.scripts.items ≡ c.args.sessions.items = search rules in
+    let ports : map port_of seats.scripts.items ≡ c.args.ports.items = search rules in
+    let rooms : HasRooms seats.rooms (length c.args.ports.items) = search rules in
+    let seated : AreSeated g.J.Naming.book c.args.start.version.value c.args.ports.items seats.scripts.items = record { sessions = sessions ∙ c.requires.sessions; ports_are = ports } in
+    record {
+      store = c.requires.reporter.0;
+      scripts = all_of_book g.J.Naming.book c.args.start.version.value c.args.ports.items seats.scripts.items seated;
+      rooms = subst (HasRooms seats.rooms) (sym (as_many g.J.Naming.book c.args.start.version.value c.args.ports.items seats.scripts.items seated)) rooms;
+    }
+
+pub returns-in_default-ended-clause-refused : goal.returns-in_default-ended-clause-refused
+returns-in_default-ended-clause-refused g c =
+    let after = c.run_threads-store.result.store in
+    let last = c.keep_store-reporter.result in
+    let kept = kept_twice g.D.Disk g.J.Naming.book c.args.store after last c.run_threads-store.ensures.store c.keep_store-reporter.ensures in
+    record {
+      code = inl c.refused-in_default-ended.ensures.code;
+      back = stopped_by g.D.Disk c.args.start.version.value c.args.store.reporter last.reporter c.args.store.flusher last.flusher c.refused-in_default-ended.result.disk
+          c.requires.reporter.1 kept.valid kept.flushed c.refused-in_default-ended.ensures.disk;
+    }
+
+pub parted-sessions-requires : goal.parted-sessions-requires
+parted-sessions-requires g c =
+    let seats = c.in-Some.seats in
+    let scripts = seats.scripts.items in
+    let ended = c.in-Some-ended.ended.items in
+    let stored = has_store c.args.shared in
+    let sessions : map session_of scripts ≡ c.args.sessions.items = search rules in
+    let ports : map port_of scripts ≡ c.args.ports.items = search rules in
+    let parts : HasParts seats.parts (length c.args.ports.items) = search rules in
+    let ran : AllZip (IsRunOf g.J.Naming.book stored g.R.Read.remaining g.W.Write.contents) scripts ended = search rules in
+    let seated : AreSeated g.J.Naming.book c.args.start.version.value c.args.ports.items scripts = record { sessions = sessions ∙ c.requires.sessions; ports_are = ports } in
+    let count : length c.args.ports.items ≡ length ended =
+    sym (as_many g.J.Naming.book c.args.start.version.value c.args.ports.items scripts seated) ∙ beside_length (IsRunOf g.J.Naming.book stored g.R.Read.remaining g.W.Write.contents) scripts ended ran in
+    subst (HasParts seats.parts) count parts
+
+pub close-closed-requires-clause-sessions : goal.close-closed-requires-clause-sessions
+close-closed-requires-clause-sessions g c =
+    let scripts = c.in-Some.seats.scripts.items in
+    let ended = c.in-Some-ended.ended.items in
+    let stored = has_store c.args.shared in
+    let ran : AllZip (IsRunOf g.J.Naming.book stored g.R.Read.remaining g.W.Write.contents) scripts ended = search rules in
+    subst (All (λ (k : Known). k.book ≡ g.J.Naming.book)) (sym c.parted-sessions.ensures.sessions)
+    (of_ended g.J.Naming.book stored g.R.Read.remaining g.W.Write.contents scripts ended ran)
+
+pub returns-clause-left : goal.returns-clause-left
+returns-clause-left g c =
+    let seats = c.in-Some.seats in
+    let scripts = seats.scripts.items in
+    let ended = c.in-Some-ended.ended.items in
+    let stored = has_store c.args.shared in
+    let after = c.run_threads-store.result.store in
+    let last = c.keep_store-reporter.result in
+    let closed = c.close-closed.ensures in
+    let sessions : map session_of scripts ≡ c.args.sessions.items = search rules in
+    let ports : map port_of scripts ≡ c.args.ports.items = search rules in
+    let ran : AllZip (IsRunOf g.J.Naming.book stored g.R.Read.remaining g.W.Write.contents) scripts ended = search rules in
+    served_from g.D.Disk g.J.Naming.book stored g.R.Read.remaining g.W.Write.contents c.args.start.version.value c.args.ports.items c.args.store last scripts ended
+    (record { sessions = c.parted-sessions.result.finished; closed = c.close-closed.result })
+    (record {
+      log = c.requires.reporter.1;
+      some = c.requires.ports;
+      seated = record { sessions = sessions ∙ c.requires.sessions; ports_are = ports };
+    })
+    (record {
+      sessions = ran;
+      kept = kept_twice g.D.Disk g.J.Naming.book c.args.store after last c.run_threads-store.ensures.store c.keep_store-reporter.ensures;
+      stored_is = c.requires.stored;
+    })
+    (record {
+      version = closed.version;
+      log = closed.log.1;
+      sessions = subst (All (HasAllOf c.close-closed.result.seen_log.log)) c.parted-sessions.ensures.sessions closed.sessions;
+      number =
+          ap (λ (v : Version). v.number) (sym closed.version) ∙ c.await_number.ensures
+          ∙ ap (λ (n : ℕ). c.args.start.number + n) (c.made_by_all-made.ensures ∙ ap (λ (ks : List Known). made_in ks) c.parted-sessions.ensures.sessions);
+      finished = c.parted-sessions.ensures.finished;
+      store = record {
+        on = begins_with last.reporter.log c.close-closed.result.seen_log.log c.keep_store-reporter.ensures.begun closed.reporter;
+        none = closed.none;
+        disk = closed.disk;
+        reported = closed.reported;
+        files = closed.files;
+        exactly = closed.exactly;
+      };
+    })

@@ -1,0 +1,25 @@
+use Rattle.std.proofs.Common.{rules, ◌≡◌, ◌∷◌, [], ℕ, ◌+◌, length, length-append, refl, ap, sym, arith, ◌∙◌}
+use Rattle.std.specs.Vec.{vec_len, vec_capacity}
+use Rattle.overlay_server.specs.Listening.{bytes_in, limit_in, no_bytes, reader_in, script_limit}
+use Rattle.overlay_server.proofs.Lists.{one_on, pushed, pushed_one, room_left}
+use Rattle.overlay_server.proofs.listening.listened.Goals as goal
+
+pub push_reserved-requires : goal.push_reserved-requires
+push_reserved-requires g c =
+    let at = c.loop-reader in
+    room_left _ at.yielded _ _ c.in-Some.reader (vec_len at.ports) (vec_capacity at.ports) at.invariant.all c.in-Some.ensures.steps.0
+    at.invariant.grown at.invariant.room
+
+pub loop-reader-preserved : goal.loop-reader-preserved
+loop-reader-preserved g c =
+    let at = c.loop-reader in
+    let reader = c.in-Some.reader in
+    record {
+      all = one_on _ at.yielded _ _ reader at.invariant.all c.in-Some.ensures.steps.0;
+      left = search rules;
+      grown = c.push_reserved.ensures.len ∙ ap (λ (n : ℕ). n + 1) at.invariant.grown ∙ sym (length-append at.yielded (reader ∷ []));
+      room = omega (arith, at.invariant.room, c.push_reserved.ensures.capacity);
+      readers = pushed_one reader_in at.ports.items _ _ at.yielded c.push_reserved.ensures.items at.invariant.readers;
+      limits = pushed limit_in script_limit at.ports.items _ _ at.yielded reader c.push_reserved.ensures.items at.invariant.limits refl;
+      empty = pushed bytes_in no_bytes at.ports.items _ _ at.yielded reader c.push_reserved.ensures.items at.invariant.empty c.new-writer.ensures.items;
+    }

@@ -1,0 +1,5 @@
+-- The book is named by the history that was just opened.
+use Rattle.overlay_server.proofs.serving.serve_ports.Given as goal
+
+abbrev pub ghosts-serve_in : goal.ghosts-serve_in
+ghosts-serve_in g a = record { book = a.opened.seen_log.book }

@@ -1,0 +1,24 @@
+-- What the threads of a server begin with, and what they give back.
+use Rattle.std.specs.Prelude.{◌≡◌, Bool, ℕ, List, length, All, Option, IfSome}
+use Rattle.std.specs.List.{AllZip}
+use Rattle.logbook.specs.Pages.{Book}
+use Rattle.disk_model.specs.declared.disk.Disk.{Ghosts}
+use Rattle.overlay_server.specs.Keeping.{IsStoreKept}
+use Rattle.overlay_server.specs.Rooms.{HasRooms}
+use Rattle.overlay_server.specs.Running.{IsRunOf}
+use Rattle.overlay_server.specs.declared.running.Ended.{Ended}
+use Rattle.overlay_server.specs.declared.running.Script.{Script}
+use Rattle.overlay_server.specs.declared.threads.Returned.{Returned}
+use Rattle.overlay_server.specs.declared.threads.Work.{Work}
+
+-- store and sessions are of this book, and there is room for what the sessions leave
+pub record IsReady {J R W D : Type 0} {g : Ghosts D} (book : Book) (work : Work J R W D g) : Type 0 where
+  pub store : work.store.reporter.book ≡ book
+  pub scripts : All (λ (script : Script R W). script.session.book ≡ book) work.scripts.items
+  pub rooms : HasRooms work.rooms (length work.scripts.items)
+
+-- the threads have returned: the store's committed versions of the book alone, and where each had its thread, each session
+-- ran its script; `stored` says whether the book has a store
+pub record HasWorked {J R W D : Type 0} (book : Book) (stored : Bool) (remaining : R → Option (List ℕ)) (contents : W → Option (List ℕ)) (g : Ghosts D) (work : Work J R W D g) (returned : Returned R W D g) : Type 0 where
+  pub store : IsStoreKept book g work.store returned.store
+  pub ended : IfSome returned.ended (λ list. AllZip (λ (script : Script R W) (ended : Ended R W). IsRunOf book stored remaining contents script ended) work.scripts.items list.items)

@@ -1,0 +1,37 @@
+//! Whether all that a book accepted was made by its sessions.
+ghost use Rattle.std.specs.Prelude.{◌≡◌, ◌+◌};
+ghost use Rattle.overlay_server.specs.Counting.{made_in};
+
+use std::sync::Wait;
+use version_book::session::Session;
+use version_core::version::Version;
+
+/// How many batches these sessions made. Were it more than a number holds, which cannot come, it would wait for ever.
+pub fn made_by_all<Q: Wait>(rt: &Q, sessions: &[Session]) -> u64
+    ensures { result ≡ made_in sessions.now }
+{
+    let mut made: u64 = 0;
+    for session in sessions {
+        let Some(more) = made.checked_add(session.made_count()) else {
+            never(rt)
+        };
+        made = more;
+    }
+    made
+}
+
+/// Whether the last version of a book is so many batches behind the first. Were it not, which cannot come, it would wait
+/// for ever.
+pub fn await_number<Q: Wait>(rt: &Q, first: u64, made: u64, last: &Version)
+    ensures { last.now.number ≡ first + made }
+{
+    if first.checked_add(made) != Some(last.number()) {
+        never(rt)
+    }
+}
+
+// Waits for ever, for what does not come.
+fn never<W: Wait>(rt: &W) -> ! {
+    for _ in rt.forever() {}
+    unreachable!()
+}

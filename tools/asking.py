@@ -1,0 +1,309 @@
+#!/usr/bin/env python3
+"""Asks the program: of a script's layers, or of those of a store, which is read and never changed.
+
+Where the program is overlay_live it opens the store by --read-only. Else, and where opening the store has to write, the
+file is copied while a shared lock keeps every writer off it, and the copy is asked.
+
+A module for the tools; it is no tool of its own.
+"""
+
+import argparse
+import contextlib
+import errno
+import fcntl
+import pathlib
+import shutil
+import subprocess
+import sys
+import tempfile
+from collections.abc import Callable, Iterator
+from dataclasses import dataclass
+from fractions import Fraction
+from typing import BinaryIO, TextIO
+
+import limits
+import scale as scales
+import sessions
+import wkt
+from sessions import Session, Unusable
+
+TOP = pathlib.Path(__file__).resolve().parent.parent
+LIVE, BATCHED = "overlay_live", "overlayd"
+ROOM = ["--max-blocks", str(limits.BLOCKS_MAX)]
+NEEDS_COPY = ("error 30 device", "error 50 words")
+GridFor = Callable[[Session], tuple[int, ...] | None]
+
+
+def found_program(names: tuple[str, ...]) -> str:
+    """The first of the programs that is built in this repository, or else stands on the path."""
+    for name in names:
+        built = TOP / "crates" / name / "out" / name
+        if built.is_file():
+            return str(built)
+    for name in names:
+        on_path = shutil.which(name)
+        if on_path:
+            return on_path
+    raise Unusable(f"no program: neither {' nor '.join(names)} is built or stands on the path; say --program PATH")
+
+
+def ran(program: str, words: list[str], script: bytes) -> bytes:
+    """What the program writes for a script on standard input."""
+    status, output, errors = outcome(program, words, script)
+    if status != 0:
+        raise Unusable(f"{program}: status {status}" + (f", {errors}" if errors else ""))
+    return output
+
+
+def outcome(program: str, words: list[str], script: bytes) -> tuple[int, bytes, str]:
+    try:
+        done = subprocess.run([program, *words], input=script, capture_output=True, check=False)
+    except OSError as fault:
+        raise Unusable(f"{program}: {fault}") from fault
+    return done.returncode, done.stdout, done.stderr.decode("utf-8", "replace").strip()
+
+
+def share(file: BinaryIO) -> None:
+    """Holds a file against all who may write it, where its file system has locks."""
+    try:
+        fcntl.flock(file, fcntl.LOCK_SH | fcntl.LOCK_NB)
+    except OSError as fault:
+        if fault.errno not in (errno.ENOLCK, errno.EOPNOTSUPP, errno.ENOSYS):
+            raise
+
+
+@contextlib.contextmanager
+def copied(store: pathlib.Path) -> Iterator[pathlib.Path]:
+    """A copy of a store that no program writes to meanwhile."""
+    with tempfile.TemporaryDirectory() as folder:
+        copy = pathlib.Path(folder, "store")
+        try:
+            with store.open("rb") as file, copy.open("wb") as target:
+                share(file)
+                shutil.copyfileobj(file, target, 1 << 20)
+        except BlockingIOError as fault:
+            raise Unusable(f"{store}: another program holds it, and may write") from fault
+        except OSError as fault:
+            raise Unusable(f"{store}: {fault.strerror or fault}") from fault
+        yield copy
+
+
+def store_replies(program: str, store: pathlib.Path, script: bytes) -> bytes:
+    """What the program writes for a script over a store, which stays as it is."""
+    if not store.is_file():
+        raise Unusable(f"{store}: no such file" if not store.exists() else f"{store}: no file")
+    if pathlib.Path(program).name == LIVE:
+        words = ["--read-only", "--store", str(store), *ROOM]
+        status, output, errors = outcome(program, words, script)
+        if status == 0:
+            return output
+        if errors not in NEEDS_COPY:
+            raise Unusable(f"{store}: {errors or f'{program} ended with {status}'}")
+    with copied(store) as copy:
+        status, output, errors = outcome(program, ["--store", str(copy), *ROOM], script)
+        if status != 0:
+            raise Unusable(f"{store}: {errors or f'{program} ended with {status}'}")
+        return output
+
+
+def base_pieces(program: str, session: Session, layers: list[str]) -> None:
+    """Asks for the boundary of base layers: in memory, each under a definition that is its name alone."""
+    for name in layers:
+        copy = "B" if name == "A" else "A"
+        text = wkt.write([[ring] for ring in session.base[name]])
+        script = f"PUT {name} {text}\nDEFINE {copy} = {name}\n".encode() + sessions.questions([copy])
+        asked = sessions.read(script, ran(program, [], script))
+        for column in range(limits.COLUMNS):
+            session.edges[name, column] = asked.edges[copy, column]
+
+
+@dataclass
+class Map:
+    """What a tool works on: the session, the layers that were asked for, the scale, and what to tell of it."""
+
+    session: Session
+    layers: list[str]
+    scale: scales.Scale
+    scaled_by: pathlib.Path | None = None
+
+
+def add_words(parser: argparse.ArgumentParser, many: bool = False) -> None:
+    """The words that tools have for where layers and replies come from."""
+    parser.add_argument("script", metavar="SCRIPT", nargs="?", type=pathlib.Path, help="a script for overlayd")
+    parser.add_argument("--store", metavar="FILE", type=pathlib.Path,
+                        help="the layers of this store, in the place of a script; it is not changed")
+    source = parser.add_mutually_exclusive_group()
+    source.add_argument("--program", metavar="PATH",
+                        help="the program to ask (default: overlay_live or overlayd, built in this repository or on the "
+                        "path)")
+    source.add_argument("--replies", metavar="FILE", type=pathlib.Path,
+                        help="ask no program: the replies to the script, which asks EDGES itself")
+    source.add_argument("--questions", action="store_true",
+                        help="only print the script with the questions behind it, to be run elsewhere")
+    add_layer_word(parser, many)
+
+
+def add_layer_word(parser: argparse.ArgumentParser, many: bool) -> None:
+    if many:
+        parser.add_argument("--layer", metavar="NAME", action="append",
+                            help="a layer, base or derived; may stand several times (default: all)")
+    else:
+        parser.add_argument("--layer", metavar="NAME", help="a layer, base or derived (default: the last derived one)")
+
+
+def add_scale_words(parser: argparse.ArgumentParser) -> None:
+    """The words for coordinates of the world."""
+    parser.add_argument("--scale", metavar="FILE", type=pathlib.Path,
+                        help="what whole numbers mean (default: NAME.scale.json beside the script or the store NAME.*, "
+                        "where it is there)")
+    parser.add_argument("--factor", type=Fraction, help="in its place: the factor that to_script.py was given")
+    parser.add_argument("--factor-y", type=Fraction, help="and that for y")
+    parser.add_argument("--origin", type=Fraction, nargs=2, metavar=("X", "Y"), help="and the origin")
+    parser.add_argument("--digits", type=int,
+                        help="digits behind the point, 0 to 100 (default: those of the scale, else 6)")
+
+
+def scale_of(words: argparse.Namespace, parser: argparse.ArgumentParser) -> tuple[scales.Scale, pathlib.Path | None]:
+    """The scale that the words ask for, and the file that it is from, where it is from one."""
+    if words.digits is not None and not 0 <= words.digits <= 100:
+        parser.error("digits are 0 to 100")
+    given = (words.factor, words.factor_y, words.origin)
+    if given != (None, None, None):
+        if words.scale:
+            parser.error("--scale and a factor or an origin are two answers")
+        factor = Fraction(1) if words.factor is None else words.factor
+        factor_y = factor if words.factor_y is None else words.factor_y
+        if factor <= 0 or factor_y <= 0:
+            parser.error("a factor is greater than 0")
+        x, y = words.origin or (Fraction(0), Fraction(0))
+        return scales.with_digits(scales.Scale(factor, factor_y, (x, y)), words.digits), None
+    named = words.store or words.script
+    file = words.scale or (scales.beside(named) if named else None)
+    if file is None or not (words.scale or file.is_file()):
+        return scales.with_digits(scales.Scale(), words.digits), None
+    try:
+        return scales.with_digits(scales.read(file), words.digits), file
+    except scales.ScaleFault as fault:
+        raise Unusable(str(fault)) from fault
+
+
+def check_words(words: argparse.Namespace, parser: argparse.ArgumentParser) -> None:
+    if (words.script is None) == (words.store is None):
+        parser.error("either a SCRIPT or --store FILE")
+    if words.store and words.replies:
+        parser.error("--replies are those of a SCRIPT")
+
+
+def wanted(words: argparse.Namespace, default: list[str]) -> list[str]:
+    """The layers that the words name, each once, else those."""
+    if not words.layer:
+        return default
+    return list(dict.fromkeys(words.layer)) if isinstance(words.layer, list) else [words.layer]
+
+
+def last_layer(session: Session) -> list[str]:
+    """The last derived layer, or where there is none the last one."""
+    derived = [name for name in session.order if name in session.definitions]
+    return (derived or session.order)[-1:]
+
+
+def grid_line(layer: str, grid: tuple[int, ...] | None) -> bytes:
+    """The question for a picture of a layer: x, y, step, nx, ny."""
+    return f"GRID {layer} {' '.join(map(str, grid))}\n".encode() if grid else b""
+
+
+def ask_base(program: str, session: Session, layers: list[str]) -> None:
+    base_pieces(program, session, [name for name in layers if name in session.base])
+
+
+def of_store(words: argparse.Namespace, many: bool, grid: GridFor | None) -> tuple[Session, list[str]]:
+    """The session over a store and the layers that are asked for, with all their pieces."""
+    program = words.program or found_program((LIVE, BATCHED))
+    first = sessions.read(b"LAYERS\n", store_replies(program, words.store, b"LAYERS\n"), 0)
+    layers = wanted(words, first.order if many else last_layer(first))
+    if not layers:
+        raise Unusable(f"{words.store}: it has no layer")
+    derived = [name for name in layers if name in first.definitions]
+    script = b"LAYERS\nSYNC\n" + sessions.questions(derived) + grid_line(layers[0], grid(first) if grid else None)
+    if words.questions:
+        return printed(script)
+    session = sessions.read(script, store_replies(program, words.store, script), 0)
+    if (session.base, session.definitions) != (first.base, first.definitions):
+        raise Unusable(f"{words.store}: its layers changed meanwhile; ask again")
+    ask_base(program, session, layers)
+    return session, layers
+
+
+def of_script(words: argparse.Namespace, many: bool, grid: GridFor | None) -> tuple[Session, list[str]]:
+    """The session of a script and the layers that are asked for, with all their pieces."""
+    try:
+        script = words.script.read_bytes()
+        replies = words.replies.read_bytes() if words.replies else None
+    except OSError as fault:
+        raise Unusable(str(fault)) from fault
+    layers = wanted(words, sessions.named_by(script) if many else [sessions.last_defined(script)])
+    if replies is not None:
+        return sessions.read(script, replies), layers
+    put = Session()
+    put.base = sessions.put_by(script)
+    lines = sessions.questions(layers) + grid_line(layers[0], grid(put) if grid else None)
+    asked = sessions.with_lines(script, lines)
+    if words.questions:
+        return printed(asked)
+    program = words.program or found_program((BATCHED, LIVE))
+    session = sessions.read(asked, ran(program, [], asked), len(sessions.requests(script)[0]))
+    if many and not words.layer:
+        layers = session.order
+    ask_base(program, session, layers)
+    return session, layers
+
+
+def printed(script: bytes) -> tuple[Session, list[str]]:
+    sys.stdout.write(script.decode())
+    sys.exit(0)
+
+
+class Missing(Unusable):
+    """A layer that does not stand, with the session whose refusals may say why."""
+
+    def __init__(self, name: str, session: Session) -> None:
+        super().__init__(f"{name}: no layer has this name")
+        self.session = session
+
+
+def map_of(words: argparse.Namespace, parser: argparse.ArgumentParser, many: bool = False,
+           grid: GridFor | None = None) -> Map:
+    """All that the words ask for."""
+    check_words(words, parser)
+    scale, file = scale_of(words, parser)
+    session, layers = (of_store if words.store else of_script)(words, many, grid)
+    for name in layers:
+        if name not in session.order:
+            raise Missing(name, session)
+    return Map(session, layers, scale, file)
+
+
+def tell_refusals(session: Session, errors: TextIO) -> int:
+    """Tells each line of the script that was refused: 1 where there is one, else 0."""
+    for refusal in session.refused:
+        print(refusal.told(), file=errors)
+    return 1 if session.refused else 0
+
+
+def worked(make: Callable[[], Map], write: Callable[[Map], int], errors: TextIO) -> int:
+    """The status of a tool: refused lines are told and give 1, whatever is written without them."""
+    try:
+        made = make()
+        told = tell_refusals(made.session, errors)
+        if made.scaled_by:
+            print(f"coordinates of the world by {made.scaled_by}", file=errors)
+        return max(told, write(made))
+    except Unusable as fault:
+        if isinstance(fault, Missing):
+            tell_refusals(fault.session, errors)
+        print(fault, file=errors)
+        return 1
+
+
+if __name__ == "__main__":
+    limits.tell(__doc__)

@@ -1,0 +1,86 @@
+"""What the tests of the tools have in common: files, a tool's outcome, and the programs that are asked."""
+
+import io
+import os
+import pathlib
+import subprocess
+import tempfile
+import unittest
+from types import ModuleType
+
+TOOLS = pathlib.Path(__file__).resolve().parent.parent
+TOP = TOOLS.parent
+SQUARE = "POLYGON ((0 0, 10 0, 10 10, 0 10, 0 0))"
+
+
+class Programs:
+    """The built programs that tests.py was given, or None; stores are made by the first."""
+
+    batched: str | None = None
+    live: str | None = None
+
+
+def path(*parts: str) -> str:
+    return str(TOOLS.joinpath(*parts))
+
+
+def content(*parts: str) -> bytes:
+    return TOOLS.joinpath(*parts).read_bytes()
+
+
+def outcome(tool: ModuleType, *words: object) -> tuple[int, str, str]:
+    """Status, standard output and standard error of a tool."""
+    output, errors = io.StringIO(), io.StringIO()
+    status = tool.main([str(word) for word in words], output, errors)
+    return status, output.getvalue(), errors.getvalue()
+
+
+def on_file(tool: ModuleType, text: str | bytes, *words: object) -> tuple[int, str, str]:
+    """The same, with a file of this text as the first word."""
+    with tempfile.TemporaryDirectory() as folder:
+        name = pathlib.Path(folder, "input file.txt")
+        name.write_bytes(text if isinstance(text, bytes) else text.encode())
+        status, output, errors = outcome(tool, name, *words)
+        return status, output, errors.replace(str(name), "FILE")
+
+
+class InFolder(unittest.TestCase):
+    """A test with a folder of its own."""
+
+    def setUp(self) -> None:
+        made = tempfile.TemporaryDirectory()
+        self.addCleanup(made.cleanup)
+        self.folder = pathlib.Path(made.name)
+
+    def file(self, name: str, text: str | bytes, mode: int = 0o600) -> pathlib.Path:
+        made = self.folder / name
+        made.write_bytes(text if isinstance(text, bytes) else text.encode())
+        os.chmod(made, mode)
+        return made
+
+    def model(self) -> pathlib.Path:
+        """The plain model of bench/ in the place of the program, over layers in memory."""
+        text = f"#!/bin/sh\nexec python3 '{TOP / 'bench' / 'model.py'}' /dev/stdin\n"
+        return self.file("model", text, 0o700)
+
+
+class WithProgram(InFolder):
+    """A test of the built program, which is left out, and counted as such, where none was given."""
+
+    def setUp(self) -> None:
+        super().setUp()
+        if Programs.batched is None:
+            self.skipTest("no program was given")
+        self.program: str = Programs.batched
+
+    def readers(self) -> list[str]:
+        """The programs by which a store can be read."""
+        return [program for program in (Programs.batched, Programs.live) if program]
+
+    def store(self, name: str, script: str | bytes) -> pathlib.Path:
+        """A new store with the layers of a script, all of whose lines are accepted."""
+        made = self.folder / name
+        text = script if isinstance(script, bytes) else script.encode()
+        done = subprocess.run([self.program, "--store", made, "--create"], input=text, capture_output=True, check=True)
+        self.assertEqual([line for line in done.stdout.splitlines() if line.startswith((b"error", b"refused"))], [])
+        return made

@@ -1,0 +1,162 @@
+"""Tests on two real maps: in by to_script.py, through a store, and out again, with the program."""
+
+import csv
+import json
+import pathlib
+import random
+import re
+from decimal import Decimal
+from fractions import Fraction
+from typing import Any
+
+import sessions
+import to_geojson
+import to_rings
+import to_script
+import which
+import wkt
+from testing.common import WithProgram, outcome, path
+from testing.plain import area_twice, below, on, overlay, segments_of
+
+COUNTIES = path("data", "north_carolina.geojson")
+ICELAND = [path("data", f"iceland_{scale}.geojson") for scale in ("110m", "50m")]
+
+
+def area_of_script(text: str) -> dict[str, Fraction]:
+    """The areas of a script's base layers, whose rings do not cross: outer rings less their holes."""
+    found = {}
+    for line in text.splitlines():
+        _, name, rest = line.split(" ", 2)
+        polygons = wkt.polygons_of(*wkt.read_all(rest)[0]) or []
+        twice = sum(abs(area_twice(rings[0][:-1])) - sum(abs(area_twice(ring[:-1])) for ring in rings[1:])
+                    for rings in polygons)
+        found[name] = Fraction(twice) / 2
+    return found
+
+
+class RoundTrips(WithProgram):
+    def made(self, files: list[str], *words: object) -> pathlib.Path:
+        """The store of a map, whose script is map.txt."""
+        script = self.folder / "map.txt"
+        status, output, errors = outcome(to_script, *files, "--output", script, *words)
+        self.assertEqual((status, output), (0, ""), errors)
+        return self.store("map.db", script.read_bytes())
+
+    def features(self, store: pathlib.Path, *words: object) -> dict[str, Any]:
+        """The features that to_geojson.py writes of a store, by layer, and the file in map.geojson."""
+        found = [outcome(to_geojson, "--store", store, "--program", program, *words) for program in self.readers()]
+        self.assertEqual([one for one in found if one[:2] != found[0][:2] or one[0]], [])
+        self.file("map.geojson", found[0][1])
+        return {one["properties"]["layer"]: one for one in json.loads(found[0][1])["features"]}
+
+    def back(self) -> str:
+        """The script that comes of what was written."""
+        status, output, errors = outcome(to_script, self.folder / "map.geojson", "--name-by", "layer", "--scale",
+                                         self.folder / "map.scale.json")
+        self.assertEqual(status, 0, errors)
+        self.assertNotIn("refused", errors)
+        self.assertTrue(all(float(move) < 1e-8 for move in re.findall(r"largest move (\S+),", errors)), errors)
+        return output
+
+    def check(self, files: list[str], *words: object) -> None:
+        store = self.made(files, *words)
+        areas = area_of_script((self.folder / "map.txt").read_text())
+        features = self.features(store)
+        self.assertEqual(list(features), list(areas))
+        scale = json.loads((self.folder / "map.scale.json").read_text(), parse_float=Decimal)
+        unit = Fraction(scale["factor"]) * Fraction(scale["factor_y"])
+        for name, area in areas.items():
+            self.assertEqual(Fraction(features[name]["properties"]["area_exact"]), area / unit)
+            told = outcome(to_rings, "--store", store, "--program", self.program, "--layer", name, "--areas")[1]
+            self.assertEqual(Fraction(told.split()[-2]), area / unit)
+        again = self.back()
+        self.assertEqual(area_of_script(again), areas)
+        other = self.store("again.db", again)
+        self.file("again.scale.json", (self.folder / "map.scale.json").read_bytes())
+        first, second = self.features(store), self.features(other)
+        self.assertEqual([one["geometry"] for one in first.values()], [one["geometry"] for one in second.values()])
+
+    def test_two_outlines_of_iceland(self) -> None:
+        self.check(ICELAND, "--factor", 42262, "--factor-y", 100000, "--origin", -19, 65)
+
+    def test_iceland_by_a_fitted_scale(self) -> None:
+        self.check(ICELAND, "--fit")
+
+    def test_counties_in_their_own_layers(self) -> None:
+        text = json.loads(pathlib.Path(COUNTIES).read_text(), parse_float=Decimal)
+        text["features"] = text["features"][40:60]
+        file = self.file("some.geojson", json.dumps(text, default=float))
+        self.check([str(file)], "--fit", "--name-by", "name")
+
+    def test_the_overlay_of_two_outlines(self) -> None:
+        store = self.made(ICELAND, "--factor", 42262, "--factor-y", 100000, "--origin", -19, 65)
+        script = (self.folder / "map.txt").read_text() + "DEFINE both = iceland_110m & iceland_50m\n"
+        store = self.store("both.db", script)
+        layers = [[ring[:-1] for ring in rings] for rings in sessions.put_by(script.encode()).values()]
+        wanted = to_rings.polygons_of(overlay(layers, lambda one, other: one and other))
+        told = outcome(to_rings, "--store", store, "--program", self.program, "--exact")[1]
+        corners = [(Fraction(x, w), Fraction(y, w)) for polygon in wanted for ring in polygon for x, y, w in ring.corners]
+        got = [tuple(map(Fraction, line.split())) for line in told.splitlines() if not line.startswith("polygon")]
+        self.assertEqual((len(wanted), got), (2, corners))
+
+
+class Counties(WithProgram):
+    """The 100 counties of North Carolina in 7 coded layers."""
+
+    def setUp(self) -> None:
+        super().setUp()
+        script = self.folder / "nc.txt"
+        status, _, errors = outcome(to_script, COUNTIES, "--fit", "--coded", "--name-by", "name", "--output", script)
+        self.assertEqual(status, 0, errors)
+        self.db = self.store("nc.db", script.read_bytes())
+        with (self.folder / "nc.names.csv").open(encoding="utf-8", newline="") as table:
+            self.rows = list(csv.DictReader(table))
+        value = json.loads(pathlib.Path(COUNTIES).read_text(), parse_float=Decimal)
+        self.rings = {}
+        for feature in value["features"]:
+            polygons = feature["geometry"]["coordinates"]
+            polygons = [polygons] if feature["geometry"]["type"] == "Polygon" else polygons
+            rings = [[(int(x * 100000), int(y * 100000)) for x, y in ring] for polygon in polygons for ring in polygon]
+            self.rings[feature["properties"]["name"]] = segments_of(rings)
+
+    def test_7_layers_hold_them_all(self) -> None:
+        lines = (self.folder / "nc.txt").read_text().splitlines()
+        self.assertEqual([line.split()[:2] for line in lines], [["PUT", f"b{bit}"] for bit in range(7)])
+        self.assertEqual([row["name"] for row in self.rows], list(self.rings))
+
+    def test_points_are_told_their_county(self) -> None:
+        source = random.Random(100)
+        points = [(source.randrange(-8432386, -7545697), source.randrange(3388199, 3658965)) for _ in range(400)]
+        wanted = [[name for name, segments in self.rings.items() if below(segments, (x, y, 1)) % 2] for x, y in points]
+        for place, (x, y) in enumerate(points):
+            self.assertFalse(any(on(segments, (x, y, 1)) for segments in self.rings.values()), place)
+        self.assertGreater(sum(map(len, wanted)), 150)
+        text = "".join(f"{Decimal(x) / 100000} {Decimal(y) / 100000}\n" for x, y in points)
+        file = self.file("points.txt", text)
+        for program in self.readers():
+            status, output, errors = outcome(which, "--store", self.db, "--names", self.folder / "nc.names.csv", "--points",
+                                             file, "--program", program)
+            self.assertEqual((status, errors), (0, ""))
+            self.assertEqual([line.split("\t") if line else [] for line in output.splitlines()], wanted)
+
+    def test_on_a_common_border_both_are_among_those_that_fit(self) -> None:
+        one, other = (set(self.rings[name]) for name in ("Ashe", "Alleghany"))
+        (ax, ay), (bx, by) = sorted(one & other)[0]
+        point = f"{Decimal(ax + bx) / 200000} {Decimal(ay + by) / 200000}".split()
+        words = ["--store", self.db, "--names", self.folder / "nc.names.csv", "--program", self.program, "--", *point]
+        # Numbers 1 and 2: bits 0 and 1 may be either, and the third number that fits is Surry's.
+        self.assertEqual(outcome(which, *words)[:2], (0, "edge\tAshe\tAlleghany\tSurry\n"))
+
+    def test_the_areas_say_that_none_overlap(self) -> None:
+        areas = {row["name"]: Fraction(row["area"]) * 10**10 for row in self.rows}
+        script = self.file("any.txt", (self.folder / "nc.txt").read_text()
+                           + "DEFINE any = b0 | b1 | b2 | b3 | b4 | b5 | b6\n"
+                           + "".join(f"DEFINE c{row['number']} = {row['expression']}\n" for row in self.rows[:20]))
+        told = outcome(to_rings, script, "--program", self.program, "--layer", "any", "--areas")
+        self.assertEqual(Fraction(told[1].split()[-2]), sum(areas.values()))
+        told = outcome(to_geojson, script, "--program", self.program, *(f"--layer=c{n}" for n in range(1, 21)))
+        found = [Fraction(one["properties"]["area_exact"]) for one in json.loads(told[1])["features"]]
+        self.assertEqual(found, list(areas.values())[:20])
+        layer = outcome(to_rings, "--store", self.db, "--program", self.program, "--layer", "b2", "--areas")[1]
+        self.assertEqual(Fraction(layer.split()[-2]) * 10**10,
+                         sum(areas[row["name"]] for row in self.rows if int(row["number"]) & 4))

@@ -1,0 +1,48 @@
+"""The pages of examples/: each command of their console blocks writes what stands below it."""
+
+import os
+import pathlib
+import re
+import subprocess
+
+from testing.common import TOP, WithProgram
+
+PAGES = ("tasks.md", "beside-geos.md")
+
+
+def commands_of(text: str) -> list[tuple[str, str]]:
+    """The commands of a page's console blocks, each with the lines that it is to write."""
+    found = []
+    for block in re.findall(r"^```console\n(.*?)^```$", text, re.M | re.S):
+        for part in block.split("$ ")[1:] if block.startswith("$ ") else []:
+            command, _, wanted = part.partition("\n")
+            found.append((command, wanted))
+    return found
+
+
+class Pages(WithProgram):
+    def environment(self) -> dict[str, str]:
+        """The folder has what the pages ask for, and the program stands on the path."""
+        programs = self.folder / "programs"
+        programs.mkdir()
+        (programs / "overlayd").symlink_to(self.program)
+        for name in ("tools", "examples"):
+            (self.folder / name).symlink_to(TOP / name)
+        return os.environ | {"PATH": f"{programs}:{os.environ['PATH']}"}
+
+    def test_the_commands_write_what_the_pages_say(self) -> None:
+        environment = self.environment()
+        for page in PAGES:
+            commands = commands_of(pathlib.Path(TOP, "examples", page).read_text())
+            self.assertGreater(len(commands), 2)
+            for command, wanted in commands:
+                done = subprocess.run(["bash", "-c", command], cwd=self.folder, env=environment, capture_output=True,
+                                      text=True, check=False)
+                self.assertEqual(done.stdout, wanted, f"{page}: {command}\n{done.stderr}")
+
+    def test_every_script_of_the_pages_is_there(self) -> None:
+        table = pathlib.Path(TOP, "examples", "README.md").read_text()
+        names = [name for row in re.findall(r"^\| .* \| ([a-z, -]*) \|$", table, re.M)
+                 for name in re.split(r", | with ", row)]
+        self.assertGreater(len(names), 20)
+        self.assertEqual([name for name in names if not (TOP / "examples" / f"{name}.txt").is_file()], [])

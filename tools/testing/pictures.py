@@ -1,0 +1,66 @@
+"""Tests of to_svg.py."""
+
+import unittest
+import xml.etree.ElementTree
+
+import limits
+import scale
+import sessions
+import to_svg
+from testing.common import SQUARE
+from testing.rings import shapes
+
+
+class ToSvg(unittest.TestCase):
+    def picture(self, layer):
+        told = []
+        return to_svg.picture(shapes(), layer, 800, told.append), told
+
+    def test_a_picture_is_xml(self):
+        for layer in ("I", "F", "Bow", "Ring", "Chain", "None0", "Far"):
+            text, told = self.picture(layer)
+            self.assertEqual(told, [])
+            self.assertTrue(xml.etree.ElementTree.fromstring(text).tag.endswith("svg"))
+
+    def test_columns_and_their_pieces(self):
+        text, _ = self.picture("Ring")
+        for column in ("column 13: ", "column 15: ", "column 16: ", "column 18: "):
+            self.assertIn(column, text)
+
+    def test_what_lacks_is_told(self):
+        text, told = self.picture("Gone")
+        self.assertEqual(len(told), limits.COLUMNS)
+        xml.etree.ElementTree.fromstring(text)
+
+    def test_a_base_layer(self):
+        session = sessions.Session()
+        session.put(f"A {SQUARE}")
+        session.edges = {("A", column): [] for column in range(limits.COLUMNS)}
+        session.edges["A", 16] = [((0, 0, 1), (0, 10, 1)), ((0, 0, 1), (10, 0, 1)), ((0, 10, 1), (10, 10, 1)),
+                                  ((10, 0, 1), (10, 10, 1))]
+        text = to_svg.picture(session, "A", 800, self.fail)
+        self.assertIn(">boundary of A</text>", text)
+        xml.etree.ElementTree.fromstring(text)
+
+    def test_a_bar_of_the_scale(self):
+        # The view is 10.5 wide; a fifth of that in tenths of a foot is 0.21 ft, so the bar is of 0.2 ft, 2 wide.
+        foot = scale.Scale(scale.Fraction(10), scale.Fraction(10), unit="ft")
+        text = to_svg.picture(shapes(), "I", 800, self.fail, foot)
+        self.assertIn(">0.2 ft</text>", text)
+
+    def test_a_grid(self):
+        script = b"PUT A " + SQUARE.encode() + b"\nDEFINE I = A\nGRID I 4 4 2 4 4\n"
+        replies = b"ok 1\nok 2\ngrid 4 4\n...+\n.##+\n.##+\n++++\n"
+        text = to_svg.picture(sessions.read(script, replies), "I", 800, lambda told: None)
+        self.assertEqual([text.count(f'r="{size}"') for size in ("2", "2.2", "0.7")], [4, 7, 5])
+
+    def test_a_grid_that_is_wider_than_high(self):
+        session = sessions.read(b"GRID I 0 0 1 3 1\nLAYERS", b"grid 3 1\n.#+\nlayers 0\n")
+        self.assertEqual(session.grids["I"], (0, 0, 1, [".#+"]))
+
+    def test_the_grid_that_is_asked_for(self):
+        session = sessions.Session()
+        self.assertIsNone(to_svg.grid_for(session, 5))
+        session.base = sessions.put_by(b"PUT A " + SQUARE.encode() + b"\nPUT B nothing\nLAYERS\n")
+        self.assertEqual(to_svg.grid_for(session, 5), (0, 0, 2, 6, 6))
+        self.assertEqual(to_svg.grid_for(session, 256), (0, 0, 1, 11, 11))

@@ -1,0 +1,181 @@
+"""Tests of to_rings.py: rings of answers that stand in fixtures/, and of answers that a program gives."""
+
+import io
+import sys
+import unittest
+from fractions import Fraction
+
+import sessions
+import to_rings
+import to_svg
+from scale import decimals
+from testing.common import InFolder, content, outcome, path
+from testing.plain import area_twice, overlay
+
+
+def shapes():
+    return sessions.read(content("fixtures", "shapes.txt"), content("fixtures", "shapes.replies"))
+
+
+def rings_of(session, layer):
+    """The rings of a layer's polygons, corners as pairs of fractions."""
+    return [[(ring.outer, [(Fraction(x, w), Fraction(y, w)) for x, y, w in ring.corners]) for ring in polygon]
+            for polygon in to_rings.layer_polygons(session, layer)]
+
+
+def outer(*corners):
+    return True, [(Fraction(x), Fraction(y)) for x, y in corners]
+
+
+def hole(*corners):
+    return False, outer(*corners)[1]
+
+
+class ToRings(unittest.TestCase):
+    def setUp(self):
+        self.session = shapes()
+
+    def test_a_square(self):
+        self.assertEqual(rings_of(self.session, "I"), [[outer((5, 5), (10, 5), (10, 10), (5, 10))]])
+
+    def test_fractional_corners(self):
+        third = Fraction(1, 3)
+        self.assertEqual(rings_of(self.session, "F"),
+                         [[outer((1, third), (2, 2 * third), (2, 4 * third), (1, 5 * third))]])
+
+    def test_what_touches_is_parted(self):
+        self.assertEqual(rings_of(self.session, "Bow"),
+                         [[outer((0, 0), (2, 2), (0, 4))], [outer((2, 2), (4, 0), (4, 4))]])
+
+    def test_borders_of_columns_are_no_corners(self):
+        side = 200000
+        self.assertEqual(rings_of(self.session, "Ring"), [
+            [outer((-side, -side), (side, -side), (side, side), (-side, side)),
+             hole((-90000, 0), (0, 90000), (90000, 0), (0, -side))],
+            [outer((-10, -10), (10, -10), (10, 10), (-10, 10))]])
+
+    def test_a_chain_of_holes(self):
+        self.assertEqual(rings_of(self.session, "Chain"), [
+            [outer((-9, -9), (9, -9), (9, 9), (-9, 9)),
+             hole((-6, -3), (-3, 0), (-6, 3), (-3, 6), (0, 3), (3, 6),
+                  (6, 3), (3, 0), (6, -3), (3, -6), (0, -3), (-3, -6))],
+            [outer((-3, 0), (0, -3), (3, 0), (0, 3))]])
+
+    def test_nothing(self):
+        self.assertEqual(rings_of(self.session, "None0"), [])
+
+    def test_the_last_column(self):
+        far = 1048576
+        self.assertEqual(rings_of(self.session, "Far"),
+                         [[outer((far - 1, far - 1), (far, far - 1), (far, far), (far - 1, far))]])
+
+    def test_stale_answers_are_given_up(self):
+        with self.assertRaisesRegex(sessions.Unusable, "Gone: column 0: not asked, or asked before a change"):
+            to_rings.layer_polygons(self.session, "Gone")
+
+    def words(self, layer):
+        return path("fixtures", "shapes.txt"), "--replies", path("fixtures", "shapes.replies"), "--layer", layer
+
+    def test_the_text(self):
+        status, output, errors = outcome(to_rings, *self.words("F"), "--digits", 3)
+        self.assertEqual((status, output), (0, "POLYGON ((1 0.333, 2 0.667, 2 1.333, 1 1.667, 1 0.333))\n"))
+        self.assertIn("outer rings 1 (counter-clockwise), holes 0 (clockwise); inside on the left", errors)
+        self.assertEqual(outcome(to_rings, *self.words("None0"))[1], "MULTIPOLYGON EMPTY\n")
+
+    def test_the_fractions(self):
+        output = outcome(to_rings, *self.words("F"), "--exact")[1]
+        self.assertEqual(output, "polygons 1\npolygon 1 outer 4\n1 1/3\n2 2/3\n2 4/3\n1 5/3\n")
+
+    def test_holes_and_islands_in_each_other(self):
+        frames = [[(-x, -x), (x, -x), (x, x), (-x, x)] for x in (1, 2, 3, 4, 5, 6, 7)]
+        aside = [[(x, 10), (x + 2, 10), (x + 2, 12), (x, 12)] for x in (0, 20)]
+        polygons = to_rings.polygons_of(overlay([frames + aside, []], lambda a, _: a))
+        corners = [[ring.corners[0][0] for ring in polygon] for polygon in polygons]
+        self.assertEqual(corners, [[-7, -6], [-5, -4], [-3, -2], [-1], [0], [20]])
+
+    def test_back_by_two_factors(self):
+        output = outcome(to_rings, *self.words("I"), "--factor", 10, "--factor-y", 100)[1]
+        self.assertEqual(output, "POLYGON ((0.5 0.05, 1 0.05, 1 0.1, 0.5 0.1, 0.5 0.05))\n")
+
+    def test_back_to_the_given_unit(self):
+        output = outcome(to_rings, *self.words("I"), "--factor", 100, "--origin", 7, -3)[1]
+        self.assertEqual(output, "POLYGON ((7.05 -2.95, 7.1 -2.95, 7.1 -2.9, 7.05 -2.9, 7.05 -2.95))\n")
+
+    def test_a_layer_that_gives_no_rings(self):
+        status, output, errors = outcome(to_rings, *self.words("A"))
+        self.assertEqual((status, output), (1, ""))
+        self.assertIn("A: column 0: not asked", errors)
+
+    def test_pieces_that_do_not_close(self):
+        pieces, _ = sessions.pieces_of(self.session, "I")
+        with self.assertRaisesRegex(sessions.Unusable, "close to no rings"):
+            to_rings.polygons_of(pieces[1:])
+        for added in (pieces, [((5, 5, 1), (10, 10, 1))], [((0, 7, 1), (20, 8, 1))], [((7, 5, 1), (12, 5, 1))],
+                      [((7, 0, 1), (7, 20, 1))]):
+            with self.assertRaises(sessions.Unusable):
+                to_rings.polygons_of(pieces + added)
+
+    def test_decimals(self):
+        for number, digits, text in ((Fraction(-1, 3), 2, "-0.33"), (Fraction(5), 2, "5"), (Fraction(1, 1000), 2, "0"),
+                                     (Fraction(-1, 1000), 2, "0"), (Fraction(199, 100), 1, "2"),
+                                     (Fraction(-25, 10), 0, "-2"), (Fraction(1, 8), 6, "0.125"),
+                                     (Fraction(1005, 10), 1, "100.5")):
+            self.assertEqual(decimals(number, digits), text)
+
+
+class RealShapes(unittest.TestCase):
+    def setUp(self):
+        self.session = sessions.read(content("fixtures", "iceland.txt"), content("fixtures", "iceland.replies"))
+
+    def test_two_polygons(self):
+        polygons = rings_of(self.session, "both")
+        self.assertEqual([[len(corners) for _, corners in polygon] for polygon in polygons], [[4], [351]])
+
+    def test_the_intersection_is_less_than_both(self):
+        common = sum(area_twice(corners) for polygon in rings_of(self.session, "both") for _, corners in polygon)
+        for name in ("iceland_110m", "iceland_50m"):
+            whole = abs(sum(area_twice(ring[:-1]) for ring in self.session.base[name]))
+            self.assertTrue(whole * 4 // 5 < common < whole)
+
+    def test_the_picture_of_the_readme(self):
+        words = path("fixtures", "iceland.txt"), "--replies", path("fixtures", "iceland.replies"), "--layer", "both"
+        status, output, errors = outcome(to_svg, *words)
+        self.assertEqual((status, errors), (0, ""))
+        self.assertEqual(output.encode(), content("..", "docs", "overlay.svg"))
+
+
+class Runs(InFolder):
+    """The tools with --program and --questions; the program here writes a fixture."""
+
+    def setUp(self):
+        super().setUp()
+        whole = content("fixtures", "iceland.txt")
+        self.script = self.file("script.txt", whole[: whole.index(b"WAIT")])
+
+    def program(self, ending=""):
+        script, replies = path("fixtures", "iceland.txt"), path("fixtures", "iceland.replies")
+        return self.file("program", f"#!/bin/sh\ncmp -s - '{script}' || exit 3\ncat '{replies}'\n{ending}", 0o700)
+
+    def test_the_program_is_asked_all_columns(self):
+        status, output, errors = outcome(to_svg, self.script, "--program", self.program())
+        self.assertEqual((status, output.encode(), errors), (0, content("..", "docs", "overlay.svg"), ""))
+        status, output, _ = outcome(to_rings, self.script, "--program", self.program(), "--exact")
+        self.assertEqual((status, output.splitlines()[0]), (0, "polygons 2"))
+
+    def test_a_program_that_fails(self):
+        for program in (self.program("exit 1\n"), self.folder / "none"):
+            for tool in (to_rings, to_svg):
+                self.assertEqual(outcome(tool, self.script, "--program", program)[:2], (1, ""))
+
+    def test_the_questions_alone(self):
+        output, sys.stdout = sys.stdout, io.StringIO()
+        try:
+            with self.assertRaises(SystemExit) as ended:
+                to_rings.main([str(self.script), "--questions"])
+            text = sys.stdout.getvalue()
+        finally:
+            sys.stdout = output
+        self.assertEqual((ended.exception.code, text.encode()), (0, content("fixtures", "iceland.txt")))
+
+    def test_a_script_that_is_not_there(self):
+        self.assertEqual(outcome(to_rings, self.folder / "none", "--program", "x")[:2], (1, ""))

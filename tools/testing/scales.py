@@ -1,0 +1,81 @@
+"""Tests of scale.py: numbers as a file has them, and places of the world and of the store."""
+
+import json
+import unittest
+from fractions import Fraction
+
+import scale as scales
+from scale import Scale
+from testing.common import InFolder
+
+
+class Numbers(unittest.TestCase):
+    def test_decimals(self) -> None:
+        for number, digits, text in ((Fraction(-1, 3), 2, "-0.33"), (Fraction(5), 2, "5"), (Fraction(1, 1000), 2, "0"),
+                                     (Fraction(-1, 1000), 2, "0"), (Fraction(199, 100), 1, "2"),
+                                     (Fraction(-25, 10), 0, "-2"), (Fraction(1, 8), 6, "0.125"),
+                                     (Fraction(1005, 10), 1, "100.5")):
+            self.assertEqual(scales.decimals(number, digits), text)
+
+    def test_numbers_that_are_exact_and_those_that_are_none(self) -> None:
+        for text, number in (("1", Fraction(1)), ("-.5", Fraction(-1, 2)), (" 1e-3 ", Fraction(1, 1000)),
+                             ("2.", Fraction(2)), (7, Fraction(7)), (0.1, Fraction(1, 10))):
+            self.assertEqual(scales.exact(text), number)
+        for none in ("", ".", "e5", "1/3", "1e999999999", "nan", "0x10", True, None, "1" * 30, "1 2"):
+            with self.assertRaises(scales.ScaleFault, msg=none):
+                scales.exact(none)
+
+    def test_digits_that_spell_a_number(self) -> None:
+        for number, digits in ((Fraction(7), 0), (Fraction(1, 8), 3), (Fraction(3, 50), 2), (Fraction(1, 3), None)):
+            self.assertEqual(scales.decimal_digits(number), digits)
+
+
+class Places(InFolder):
+    scale = Scale(Fraction(10), Fraction(4), (Fraction(1000), Fraction(-1, 2)), "Plan", "ft", "EPSG:2263", 5)
+
+    def test_the_world_and_back(self) -> None:
+        self.assertEqual(self.scale.world((7, -6, 4)), (1000 + Fraction(7, 40), -Fraction(1, 2) - Fraction(6, 16)))
+        self.assertEqual(self.scale.stored(*self.scale.world((7, -6, 4))), (Fraction(7, 4), Fraction(-6, 4)))
+        self.assertEqual(self.scale.area(Fraction(20)), Fraction(1, 2))
+
+    def test_a_point_is_asked_exactly_where_a_weight_allows_it(self) -> None:
+        self.assertEqual(self.scale.question(Fraction("1000.01"), Fraction(0)), (1, 20, 10))
+        x, y, w = self.scale.question(1000 + Fraction(1, 30000), Fraction(0))
+        self.assertEqual((x, y, w), (0, 2048, 1024))  # 1/3000 of a unit is nearer to 0 than to 1/1024
+
+    def test_the_file_says_the_same(self) -> None:
+        file = self.file("plan.scale.json", self.scale.text())
+        self.assertEqual(scales.read(file), self.scale)
+        self.assertEqual(json.loads(file.read_text()), {
+            "title": "Plan", "factor": 10, "factor_y": 4, "origin": [1000, -0.5], "unit": "ft", "crs": "EPSG:2263",
+            "digits": 5})
+
+    def test_a_number_that_a_double_would_change_is_a_text(self) -> None:
+        origin = Fraction("0.12345678901234567891"), Fraction(2)
+        text = Scale(origin=origin).text()
+        self.assertEqual(json.loads(text)["origin"], ["0.12345678901234567891", 2])
+        self.assertEqual(scales.of_value(json.loads(text)).origin, origin)
+        with self.assertRaises(scales.ScaleFault):
+            Scale(Fraction(1, 3)).text()
+
+    def test_files_that_say_no_scale(self) -> None:
+        for text in ("", "[]", "{", '{"factor": 0}', '{"factor": "1/2"}', '{"origin": [1]}', '{"digits": 16}',
+                     '{"digits": true}', '{"factor": 1e999}', '{"factor": NaN}', "\xff"):
+            with self.assertRaises(scales.ScaleFault, msg=text):
+                scales.read(self.file("none", text.encode("latin-1")))
+        with self.assertRaises(scales.ScaleFault):
+            scales.read(self.folder / "absent")
+
+    def test_the_scale_beside_a_store_and_beside_its_parts(self) -> None:
+        shared = self.file("ny.scale.json", "{}")
+        self.assertEqual(scales.beside(self.folder / "ny.db"), shared)
+        self.assertEqual(scales.beside(self.folder / "ny.2.db"), shared)
+        own = self.file("ny.2.scale.json", "{}")
+        self.assertEqual(scales.beside(self.folder / "ny.2.db"), own)
+
+    def test_a_whole_number_comes_back_from_the_digits(self) -> None:
+        for factor in (Fraction(1), Fraction(10), Fraction(42262), Fraction(5, 1000), Fraction(10**6)):
+            digits = scales.enough_digits(factor)
+            for number in (1, 999983, -1048576):
+                world = Fraction(scales.decimals(number / factor, digits))
+                self.assertEqual(round(world * factor), number)

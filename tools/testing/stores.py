@@ -1,0 +1,225 @@
+"""Tests of the tools over a script that a program is asked for, and over stores."""
+
+import fcntl
+import json
+import pathlib
+import unittest
+import unittest.mock
+import xml.etree.ElementTree
+
+import asking
+import dump_store
+import sessions
+import to_geojson
+import to_rings
+import to_svg
+import which
+from testing.common import SQUARE, InFolder, WithProgram, content, outcome
+
+# T without what is left of x = 1 is T in two thirds: 4/3 of an area, with corners at 1/3 and 5/3.
+TRIANGLE = "PUT T POLYGON ((0 0, 3 1, 0 2, 0 0))\n"
+CUT = f"{TRIANGLE}PUT S POLYGON ((1 -1, 9 -1, 9 9, 1 9, 1 -1))\nDEFINE F = T & S\n"
+BOW = "PUT W POLYGON ((0 0, 4 4, 4 0, 0 4, 0 0))\n"
+FRAME = ("PUT Frame MULTIPOLYGON (((0 0, 30 0, 30 30, 0 30, 0 0), (10 10, 20 10, 20 20, 10 20, 10 10)), "
+         "((12 12, 14 12, 14 14, 12 14, 12 12)))\n")
+SCALE = '{"title": "Plan", "factor": 10, "origin": [500, -20], "unit": "m", "crs": "EPSG:5514", "digits": 4}'
+
+
+class OverScripts(InFolder):
+    """The plain model of bench/ is the program here."""
+
+    def asked(self, tool, text, *words):
+        return outcome(tool, self.file("plan.txt", text), "--program", self.model(), *words)
+
+    def test_a_base_layer_has_the_boundary_of_its_inside(self):
+        status, output, _ = self.asked(to_rings, BOW, "--layer", "W")
+        self.assertEqual((status, output), (0, "MULTIPOLYGON (((0 0, 2 2, 0 4, 0 0)), ((2 2, 4 0, 4 4, 2 2)))\n"))
+        self.assertEqual(self.asked(to_rings, TRIANGLE)[1], "POLYGON ((0 0, 3 1, 0 2, 0 0))\n")
+        self.assertEqual(self.asked(to_svg, BOW + CUT, "--layer", "W")[0], 0)
+
+    def test_areas_of_rings(self):
+        status, output, _ = self.asked(to_rings, CUT, "--areas")
+        self.assertEqual((status, output), (0, "polygon 1 outer area 4/3 1.333333\narea 4/3 1.333333\n"))
+        output = self.asked(to_rings, FRAME, "--areas")[1]
+        self.assertEqual(output, "polygon 1 outer area 900 900\npolygon 1 hole area 100 100\npolygon 2 outer area 4 4\n"
+                                 "area 804 804\n")
+        output = self.asked(to_rings, CUT, "--areas", "--factor", 10, "--factor-y", 5, "--digits", 3)[1]
+        self.assertEqual(output.splitlines()[1], "area 2/75 0.027")
+
+    def test_each_refused_line_is_told_by_all_tools(self):
+        text = f"PUT A {SQUARE}\nDEFINE I = A\n\nPUT A POLYGON ((0 0, 20.5 0, 10 10, 0 0))\nBATCH 2\nDROP I\nDROP Q\n"
+        told = ("line 4: PUT A ..: error 2 not whole at 15\n"
+                "line 7: DROP Q: refused 1 error 10 unknown layer (nothing of the batch from line 5 on)\n")
+        for tool in (to_rings, to_svg, to_geojson):
+            status, output, errors = self.asked(tool, text)
+            self.assertEqual((status, errors[: len(told)]), (1, told))
+            self.assertIn("10", output)
+
+    def test_a_definition_that_was_refused(self):
+        for tool in (to_rings, to_svg, to_geojson):
+            status, output, errors = self.asked(tool, f"PUT A {SQUARE}\nDEFINE I = A & B\n", "--layer", "I")
+            self.assertEqual((status, output), (1, ""))
+            self.assertEqual(errors, "line 2: DEFINE I ..: error 10 unknown layer\nI: no layer has this name\n")
+
+    def test_a_scale_beside_the_script(self):
+        scale = self.file("plan.scale.json", SCALE)
+        status, output, errors = self.asked(to_rings, CUT)
+        self.assertEqual((status, output), (0, "POLYGON ((500.1 -19.9667, 500.3 -19.9, 500.1 -19.8333, 500.1 -19.9667))\n"))
+        self.assertIn(f"coordinates of the world by {scale}", errors)
+        self.assertIn("area 1/75 0.0133", self.asked(to_rings, CUT, "--areas")[1])
+        self.assertEqual(self.asked(to_rings, CUT, "--factor", 1, "--digits", 2)[1],
+                         "POLYGON ((1 0.33, 3 1, 1 1.67, 1 0.33))\n")
+        self.assertIn(" m</text>", self.asked(to_svg, CUT)[1])
+        scale.write_text("[]")
+        self.assertEqual(self.asked(to_rings, CUT)[:2], (1, ""))
+
+    def test_geojson(self):
+        self.file("plan.scale.json", SCALE)
+        status, output, _ = self.asked(to_geojson, BOW + CUT, "--layer", "F", "--layer", "W")
+        value = json.loads(output)
+        self.assertEqual((status, value["name"], value["crs"]["properties"]["name"]),
+                         (0, "Plan", "urn:ogc:def:crs:EPSG::5514"))
+        first, second = value["features"]
+        self.assertEqual(first["properties"], {"layer": "F", "expression": "T & S", "version": 4, "area": 1 / 75,
+                                               "area_exact": "1/75"} | {"area": 0.013333333333})
+        self.assertEqual(first["geometry"], {"type": "MultiPolygon", "coordinates": [
+            [[[500.1, -19.9667], [500.3, -19.9], [500.1, -19.8333], [500.1, -19.9667]]]]})
+        self.assertEqual(second["properties"], {"layer": "W", "expression": None, "version": 4, "area": 0.08,
+                                                "area_exact": "2/25"})
+        self.assertEqual(second["geometry"]["coordinates"], [
+            [[[500, -20], [500.2, -19.8], [500, -19.6], [500, -20]]],
+            [[[500.2, -19.8], [500.4, -20], [500.4, -19.6], [500.2, -19.8]]]])
+        value = json.loads(self.asked(to_geojson, BOW + CUT, "--layer", "W", "--parts")[1])
+        self.assertEqual([(one["geometry"]["type"], one["properties"]["area_exact"]) for one in value["features"]],
+                         [("Polygon", "1/25"), ("Polygon", "1/25")])
+        layers = [one["properties"]["layer"] for one in json.loads(self.asked(to_geojson, BOW + CUT)[1])["features"]]
+        self.assertEqual(layers, ["W", "T", "S", "F"])
+        layers = [one["properties"]["layer"]
+                  for one in json.loads(self.asked(to_geojson, BOW + CUT, "--top")[1])["features"]]
+        self.assertEqual(layers, ["W", "F"])
+
+    def test_holes_and_what_is_empty(self):
+        value = json.loads(self.asked(to_geojson, FRAME + "DEFINE N = Frame - Frame\n")[1])
+        whole, none = (one["geometry"]["coordinates"] for one in value["features"])
+        self.assertEqual([len(polygon) for polygon in whole], [2, 1])
+        self.assertEqual((none, value["features"][1]["properties"]["area_exact"]), ([], "0"))
+        self.assertNotIn("crs", value)
+
+    def test_words_that_go_not_together(self):
+        for words in ([], ["a.txt", "--store", "b"], ["--store", "b", "--replies", "c"], ["a.txt", "--digits", "101"],
+                      ["a.txt", "--factor", "0"], ["a.txt", "--factor", "2", "--scale", "x"]):
+            for tool in (to_rings, to_svg, to_geojson):
+                with self.assertRaises(SystemExit) as ended, unittest.mock.patch("sys.stderr"):
+                    tool.main(words)
+                self.assertEqual(ended.exception.code, 2)
+
+    def test_a_script_that_makes_no_layer(self):
+        for tool in (to_rings, to_svg):
+            self.assertEqual(self.asked(tool, "LAYERS\n"), (1, "", "the script makes no layer\n"))
+
+
+class OverStores(WithProgram):
+    def test_the_fixtures_are_its_replies(self):
+        for name in ("shapes", "iceland"):
+            replies = asking.ran(self.program, [], content("fixtures", f"{name}.txt"))
+            self.assertEqual(replies, content("fixtures", f"{name}.replies"))
+
+    def each(self, tool, store, *words):
+        """The one outcome of a tool by each program that can read the store, which stays as it is."""
+        before = store.read_bytes()
+        found = [outcome(tool, "--store", store, "--program", program, *words) for program in self.readers()]
+        self.assertEqual(store.read_bytes(), before)
+        self.assertEqual([one for one in found if one != found[0]], [])
+        return found[0]
+
+    def test_the_tools_draw_what_is_in_a_store(self):
+        store = self.store("plan.db", BOW + CUT)
+        self.assertEqual(self.each(to_rings, store)[:2], (0, "POLYGON ((1 0.333333, 3 1, 1 1.666667, 1 0.333333))\n"))
+        self.assertEqual(self.each(to_rings, store, "--layer", "W", "--areas")[1].splitlines()[-1], "area 8 8")
+        status, output, _ = self.each(to_svg, store, "--grid", 20)
+        self.assertEqual((status, output.count("<circle") > 99), (0, True))
+        xml.etree.ElementTree.fromstring(output)
+        status, output, _ = self.each(to_geojson, store)
+        told = [(one["properties"]["layer"], one["properties"]["version"], one["properties"]["area_exact"])
+                for one in json.loads(output)["features"]]
+        self.assertEqual((status, told), (0, [("W", 4, "8"), ("T", 4, "3"), ("S", 4, "80"), ("F", 4, "4/3")]))
+        self.assertEqual(self.each(to_rings, store, "--layer", "Q"), (1, "", "Q: no layer has this name\n"))
+
+    def test_the_same_as_of_the_script(self):
+        store, script = self.store("plan.db", FRAME + CUT), self.file("plan.txt", FRAME + CUT)
+        for layer in ("F", "Frame"):
+            for tool in (to_rings, to_svg, to_geojson):
+                wanted = outcome(tool, script, "--program", self.model(), "--layer", layer)
+                self.assertEqual(self.each(tool, store, "--layer", layer), wanted)
+
+    def test_a_store_comes_back_from_its_script(self):
+        script = FRAME + CUT + "DEFINE G = (F - T) ^ S\nPUT Last MULTIPOLYGON EMPTY\nDROP W\n"
+        store = self.store("plan.db", BOW + script)
+        for program in self.readers():
+            status, output, errors = outcome(dump_store, store, "--program", program)
+            self.assertEqual((status, errors), (0, ""))
+            self.assertEqual([line.split()[:2] for line in output.splitlines()], [
+                ["PUT", "Frame"], ["PUT", "T"], ["PUT", "S"], ["DEFINE", "F"], ["DEFINE", "G"], ["PUT", "Last"]])
+            again = self.store(f"again{program.count('live')}.db", output)
+            self.assertEqual(outcome(dump_store, again, "--program", program)[1], output)
+            self.assertEqual(self.each(to_geojson, again)[1].split("features")[1].replace('"version": 6', '"version": 8'),
+                             self.each(to_geojson, store)[1].split("features")[1].replace('"version": 9', '"version": 8'))
+
+    def test_a_store_that_another_program_holds(self):
+        store = self.store("plan.db", CUT)
+        with store.open("rb+") as file:
+            fcntl.flock(file, fcntl.LOCK_EX)
+            for program in self.readers():
+                for words in ((to_rings, "--store", store), (dump_store, store), (which, "--store", store, 1, 1)):
+                    self.assertEqual(outcome(*words, "--program", program),
+                                     (1, "", f"{store}: another program holds it, and may write\n"))
+        self.assertEqual(self.each(to_rings, store)[0], 0)
+
+    def test_files_that_are_no_store(self):
+        none = self.file("none.db", "no store")
+        for program in self.readers():
+            self.assertEqual(outcome(to_rings, "--store", none, "--program", program),
+                             (1, "", f"{none}: error 32 not a store\n"))
+            self.assertEqual(outcome(dump_store, self.folder / "absent", "--program", program)[0], 1)
+            self.assertEqual(outcome(dump_store, self.folder, "--program", program)[0], 1)
+        empty = self.store("empty.db", "")
+        self.assertEqual(self.each(to_rings, empty), (1, "", f"{empty}: it has no layer\n"))
+        self.assertEqual(outcome(dump_store, empty, "--program", self.program), (0, "", ""))
+
+    def test_no_program(self):
+        script = self.file("plan.txt", CUT)
+        with unittest.mock.patch("asking.TOP", pathlib.Path("/nowhere")), unittest.mock.patch.dict("os.environ", PATH=""):
+            status, output, errors = outcome(to_rings, script)
+        self.assertEqual((status, output), (1, ""))
+        self.assertIn("no program: neither overlayd nor overlay_live is built", errors)
+
+    def test_points_in_layers(self):
+        store = self.store("plan.db", BOW + CUT)
+        self.file("plan.scale.json", SCALE)
+        points = self.file("points.txt", "500.2 -19.9\n500.01,-19.85\r\n500.1 -19.9\n\n507;-10\n500.100001 -19.9\n")
+        status, output, errors = self.each(which, store, "--points", points)
+        # In whole numbers 2 1, 0.1 1.5, 1 1, 70 100, and nearest to 1.00001 1 the point 1 1 again.
+        self.assertEqual((status, output), (0, "F\nW\nedge\tW\tF\n\nedge\tW\tF\n"))
+        self.assertEqual(errors, "asked at 500.1 -19.9, which is nearest to 500.100001 -19.9\n")
+        self.assertEqual(self.each(which, store, "--", "-1", "2")[:2], (0, "\n"))
+        self.assertEqual(self.each(which, store, "999999", "2"),
+                         (1, "", f"{store}: LOCATE W 9994990 220 1: error 20 point out of range\n"))
+        self.assertEqual(self.each(which, store, "1", "x")[:2], (1, ""))
+
+
+class OfAnswers(InFolder):
+    def test_bits_spell_a_number(self):
+        table = {1: "a", 2: "b", 3: "c", 5: "e"}
+        for answers, text in ((["in", "out", "in"], "e"), (["out", "out", "out"], ""), (["in", "in", "out"], "c"),
+                              (["edge", "in", "out"], "edge\tb\tc"), (["edge", "edge", "out"], "edge\ta\tb\tc"),
+                              (["out", "out", "edge"], "edge")):
+            self.assertEqual(which.of_bits(table, answers).text(), text)
+        with self.assertRaisesRegex(sessions.Unusable, "number 6 is no feature's"):
+            which.of_bits(table, ["out", "in", "in"])
+
+    def test_tables_that_are_none(self):
+        for text in ("", "a,b\n1,2\n", "store,number,name\n1,x,y\n", "store,number,name\n1\n"):
+            with self.assertRaises(sessions.Unusable) if text else unittest.mock.MagicMock():
+                which.read_table(self.file("names.csv", text))
+        self.assertEqual(which.read_table(self.file("names.csv", "\ufeffstore,number,name\r\n2,3,Ash\r\n")), {2: {3: "Ash"}})
+

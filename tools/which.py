@@ -1,0 +1,203 @@
+#!/usr/bin/env python3
+"""Tells which layers, or which features of coded layers, have a point.
+
+    tools/which.py --store map.db 7 7
+    tools/which.py --store nc.db --names nc.names.csv -- -78.64 35.77
+    tools/which.py --store nc.db --names nc.names.csv --points points.txt
+
+Without --names the layers are those that no definition names, and each that has the point is told. With --names the
+answers of layers b0, b1 .. spell the number of the feature in the table that to_script.py --coded wrote; --store may
+stand once for each of its stores, in their order. The point is in coordinates of the world where a scale is there; where
+it cannot be asked exactly the nearest one that can is asked, and told. A store is read and not changed.
+
+For each point a line: the name, or names with a tab between, or nothing where no layer or feature has it; behind `edge`
+and a tab, where it lies on a segment, those that it may belong to: of coded layers all whose numbers fit, the neighbours
+among them. Status 0: all points are answered; 1: one is not.
+"""
+
+import argparse
+import csv
+import pathlib
+import sys
+from collections.abc import Iterator
+from dataclasses import dataclass, field
+from fractions import Fraction
+from typing import TextIO
+
+import asking
+import scale as scales
+import sessions
+from scale import Scale
+from sessions import Session, Unusable
+
+Point = tuple[Fraction, Fraction]
+OUTSIDE = 0
+
+
+@dataclass
+class Answer:
+    """What a point is in, and what it is at the edge of."""
+
+    within: list[str] = field(default_factory=list)
+    edge: list[str] | None = None
+
+    def text(self) -> str:
+        found = "\t".join(self.within)
+        return found if self.edge is None else "\t".join(["edge", *self.edge, *self.within])
+
+
+def of_layers(names: list[str], answers: list[str]) -> Answer:
+    """The answer of layers that stand for themselves."""
+    told = list(zip(names, answers, strict=True))
+    edge = [name for name, answer in told if answer == "edge"]
+    return Answer([name for name, answer in told if answer == "in"], edge or None)
+
+
+def of_bits(table: dict[int, str], answers: list[str]) -> Answer:
+    """The answer that coded layers spell, b0 first. At an edge a bit may be either, and so several numbers fit."""
+    sure = [bit for bit, answer in enumerate(answers) if answer != "edge"]
+    number = sum(1 << bit for bit in sure if answers[bit] == "in")
+    if len(sure) == len(answers):
+        if number not in table and number != OUTSIDE:
+            raise Unusable(f"number {number} is no feature's: features overlap there, or this is another store's table")
+        return Answer([table[number]] if number != OUTSIDE else [])
+    mask = sum(1 << bit for bit in sure)
+    return Answer([], [name for one, name in table.items() if one & mask == number])
+
+
+def read_table(path: pathlib.Path) -> dict[int, dict[int, str]]:
+    """Of each store the numbers and names of its features."""
+    found: dict[int, dict[int, str]] = {}
+    try:
+        with path.open(encoding="utf-8-sig", newline="") as file:
+            for row in csv.DictReader(file):
+                found.setdefault(int(row["store"]), {})[int(row["number"])] = row["name"]
+    except (OSError, KeyError, TypeError, ValueError) as fault:
+        raise Unusable(f"{path}: no table of features: {fault}") from fault
+    return found
+
+
+def asked(program: str, store: pathlib.Path, names: list[str], points: list[tuple[int, int, int]]) -> Iterator[list[str]]:
+    """For each point the answers of the layers."""
+    lines = [f"LOCATE {name} {x} {y} {w}" for x, y, w in points for name in names]
+    replies = sessions.lines_of(asking.store_replies(program, store, "".join(line + "\n" for line in lines).encode()))
+    for place, reply in enumerate(replies):
+        if reply not in ("in", "out", "edge"):
+            raise Unusable(f"{store}: {lines[place]}: {reply}")
+    for at in range(0, len(replies), max(len(names), 1)):
+        yield replies[at : at + len(names)]
+
+
+def names_of(session: Session, table: dict[int, str] | None, store: pathlib.Path) -> list[str]:
+    """The layers to ask: those of the bits, or all that no definition names."""
+    if table is None:
+        return session.unnamed()
+    names = [f"b{bit}" for bit in range(max(table, default=0).bit_length())]
+    for name in names:
+        if name not in session.order:
+            raise Unusable(f"{store}: no layer {name}: the store is not of this table")
+    return names
+
+
+def answers_of(program: str, store: pathlib.Path, table: dict[int, str] | None,
+               points: list[tuple[int, int, int]]) -> list[Answer]:
+    """The answers of one store for all points."""
+    session = sessions.read(b"LAYERS\n", asking.store_replies(program, store, b"LAYERS\n"), 0)
+    names = names_of(session, table, store)
+    if not names:
+        return [Answer() for _ in points]
+    found = asked(program, store, names, points)
+    return [of_layers(names, own) if table is None else of_bits(table, own) for own in found]
+
+
+def joined(answers: list[Answer]) -> Answer:
+    """The answer of several stores."""
+    edges = [name for answer in answers if answer.edge is not None for name in answer.edge]
+    at_edge = any(answer.edge is not None for answer in answers)
+    return Answer([name for answer in answers for name in answer.within], edges if at_edge else None)
+
+
+def read_points(words: argparse.Namespace) -> list[Point]:
+    """The points of the words, or of the file: two numbers on a line, apart by blanks, a comma or a semicolon."""
+    if words.points is None:
+        if len(words.numbers) != 2:
+            raise Unusable("a point is two numbers; where the first begins with -, put -- before it")
+        lines = [" ".join(words.numbers)]
+    else:
+        try:
+            text = words.points.read_text(encoding="utf-8-sig") if str(words.points) != "-" else sys.stdin.read()
+        except (OSError, ValueError) as fault:
+            raise Unusable(f"{words.points}: {fault}") from fault
+        lines = [line for line in text.splitlines() if line.strip()]
+    points = []
+    for place, line in enumerate(lines, 1):
+        try:
+            x, y = (scales.exact(word) for word in line.replace(",", " ").replace(";", " ").split())
+        except (ValueError, scales.ScaleFault) as fault:
+            raise Unusable(f"point {place}: {line[:40]}: two numbers are a point") from fault
+        points.append((x, y))
+    return points
+
+
+def questions(points: list[Point], scale: Scale, say: list[str]) -> list[tuple[int, int, int]]:
+    """The numbers of LOCATE for each point; what is not asked exactly is told."""
+    found = []
+    for x, y in points:
+        corner = scale.question(x, y)
+        near = scale.world(corner)
+        if near != (x, y):
+            shown = " ".join(scales.decimals(number, scale.digits + 4) for number in near)
+            say.append(f"asked at {shown}, which is nearest to {scales.decimals(x, 12)} {scales.decimals(y, 12)}")
+        found.append(corner)
+    return found
+
+
+def parser_of() -> argparse.ArgumentParser:
+    parser = argparse.ArgumentParser(description=__doc__, formatter_class=argparse.RawDescriptionHelpFormatter)
+    parser.add_argument("numbers", metavar="X Y", nargs="*", help="a point; put -- before one that begins with -")
+    parser.add_argument("--store", metavar="FILE", type=pathlib.Path, action="append", required=True,
+                        help="a store; it is not changed")
+    parser.add_argument("--names", metavar="FILE", type=pathlib.Path, help="NAME.names.csv of to_script.py --coded")
+    parser.add_argument("--points", metavar="FILE", type=pathlib.Path, help="a point on each line; - is standard input")
+    parser.add_argument("--scale", metavar="FILE", type=pathlib.Path,
+                        help="what whole numbers mean (default: NAME.scale.json beside the store NAME.*)")
+    parser.add_argument("--program", metavar="PATH", help="the program to ask (default: as the other tools)")
+    return parser
+
+
+def work(words: argparse.Namespace, output: TextIO, errors: TextIO) -> None:
+    points = read_points(words)
+    program = words.program or asking.found_program((asking.LIVE, asking.BATCHED))
+    tables = read_table(words.names) if words.names else {}
+    if words.names and len(tables) != len(words.store):
+        raise Unusable(f"{words.names} is of {len(tables)} stores, and {len(words.store)} are given")
+    file = words.scale or scales.beside(words.store[0])
+    try:
+        scale = scales.read(file) if words.scale or file.is_file() else Scale()
+    except scales.ScaleFault as fault:
+        raise Unusable(str(fault)) from fault
+    told: list[str] = []
+    corners = questions(points, scale, told)
+    found = [answers_of(program, store, tables.get(place) if words.names else None, corners)
+             for place, store in enumerate(words.store, 1)]
+    for text in told:
+        print(text, file=errors)
+    for own in zip(*found, strict=True):
+        print(joined(list(own)).text(), file=output)
+
+
+def main(arguments: list[str], output: TextIO | None = None, errors: TextIO | None = None) -> int:
+    parser = parser_of()
+    words = parser.parse_args(arguments)
+    if (words.points is None) == (not words.numbers):
+        parser.error("either a point X Y or --points FILE")
+    try:
+        work(words, output or sys.stdout, errors or sys.stderr)
+    except Unusable as fault:
+        print(fault, file=errors or sys.stderr)
+        return 1
+    return 0
+
+
+if __name__ == "__main__":
+    sys.exit(main(sys.argv[1:]))

@@ -1,0 +1,182 @@
+"""The front as a WSGI application: who may ask, which page answers, and how a refusal is told."""
+
+from __future__ import annotations
+
+import json
+import pathlib
+import re
+import threading
+import urllib.parse
+from collections.abc import Callable, Iterable, Mapping
+from concurrent.futures.process import BrokenProcessPool
+from http import HTTPStatus
+from typing import Any, NamedTuple
+
+from features_api import ITEM_WORDS, FeaturesApi
+from layer_store import Changed, LayerStore, NotDurable, TooLarge
+from map_api import MapApi
+from overlay_client import Ended, Refused
+from web_request import JSON, Answer, Problem, Request, json_answer
+
+PAGE = pathlib.Path(__file__).resolve().parent / "page"
+LEAFLET = pathlib.Path("/usr/share/javascript/leaflet")
+LOOPBACK = frozenset(["127.0.0.1", "localhost", "[::1]"])
+SLOW_MOST = 12
+"""How many questions that may wait are answered at once; the front has more threads than that."""
+KINDS = {".html": "text/html; charset=utf-8", ".js": "text/javascript", ".css": "text/css", ".png": "image/png"}
+HEADERS = {
+    "X-Content-Type-Options": "nosniff", "Referrer-Policy": "no-referrer", "Cross-Origin-Resource-Policy": "same-origin",
+    "Content-Security-Policy": "default-src 'none'; script-src 'self'; style-src 'self'; img-src 'self' data:; "
+                               "connect-src 'self'; form-action 'none'; base-uri 'none'; frame-ancestors 'none'",
+}
+# What overlay_live refuses by what was asked for, by what stands, and by what the machine or the store cannot do.
+NOT_FOUND, CONFLICT = (10, 23), (11, 12, 13, 14, 15, 16, 21, 22)
+UNABLE = (30, 31, 35, 36, 40, 43, 44, 46)
+
+Start = Callable[[str, list[tuple[str, str]]], object]
+
+
+class Route(NamedTuple):
+    """A page: its method and path, the words that may stand in its question, and whether it may have to wait."""
+
+    method: str
+    path: str
+    answer: Callable[..., Answer]
+    words: tuple[str, ...] = ()
+    slow: bool = False
+
+
+def status_of(fault: Refused) -> int:
+    """The status of the web for a refusal by overlay_live."""
+    for numbers, status in ((NOT_FOUND, 404), (CONFLICT, 409), (UNABLE, 503)):
+        if fault.number in numbers:
+            return status
+    return 400
+
+
+def refusal(status: int, code: object, text: str, headers: Mapping[str, str] | None = None, **more: object) -> Answer:
+    more.update(code=str(code), description=text)
+    return json_answer(more, status=status, headers=headers)
+
+
+class Front:
+    """hosts: the names by which it is asked. base: the address under which a server before it passes questions on."""
+
+    def __init__(
+        self, store: LayerStore, hosts: Iterable[str] = LOOPBACK, base: str | None = None, leaflet: pathlib.Path = LEAFLET
+    ) -> None:
+        self.store, self.leaflet = store, leaflet
+        self.base = base.rstrip("/") if base else None
+        parts = urllib.parse.urlsplit(base or "")
+        self.base_host = parts.netloc.lower()
+        self.hosts = {*hosts, parts.hostname or ""} - {""}
+        self._slow = threading.BoundedSemaphore(SLOW_MOST)
+        features, maps = FeaturesApi(store), MapApi(store)
+        name, number = "([A-Za-z][A-Za-z0-9_]{0,31})", "([0-9]{1,9})"
+        layer = f"/collections/{name}"
+        routes = [
+            Route("GET", "/", self.first), Route("GET", "/api", features.api),
+            Route("GET", "/conformance", features.conformance),
+            Route("GET", "/collections", features.collections, slow=True),
+            Route("GET", layer, features.collection, slow=True),
+            Route("GET", f"{layer}/items", features.items, ITEM_WORDS, slow=True),
+            Route("GET", f"{layer}/items/{number}", features.item, slow=True),
+            Route("GET", f"{layer}/locate", maps.locate, ("x", "y")), Route("GET", "/locate", maps.locate_all, ("x", "y")),
+            Route("GET", f"{layer}/tiles", maps.tiles, ("columns",)), Route("GET", "/status", maps.status),
+            Route("PUT", layer, maps.put, slow=True), Route("DELETE", layer, maps.drop, slow=True),
+            Route("POST", "/batch", maps.batch, slow=True),
+            Route("GET", r"/([a-z]+\.(?:js|css))", self.page_file),
+            Route("GET", r"/leaflet/([a-z.-]+\.(?:js|css)|images/[a-z0-9-]+\.png)", self.leaflet_file),
+        ]
+        self.features = features
+        self.routes = [(re.compile(route.path + r"\Z"), route) for route in routes]
+
+    def __call__(self, environ: Mapping[str, Any], start: Start) -> list[bytes]:
+        answer = self.answered(environ)
+        headers = {**HEADERS, "Cache-Control": "no-cache", **answer.headers}
+        if answer.status != 304:
+            headers |= {"Content-Type": answer.kind, "Content-Length": str(len(answer.body))}
+        start(f"{answer.status} {HTTPStatus(answer.status).phrase}", list(headers.items()))
+        return [] if environ["REQUEST_METHOD"] == "HEAD" else [answer.body]
+
+    def answered(self, environ: Mapping[str, Any]) -> Answer:
+        """The answer, or what was refused as a JSON object of code and description."""
+        try:
+            return self.answer(Request(environ, self.root(environ)))
+        except Problem as fault:
+            return refusal(fault.status, fault.status, str(fault), fault.headers)
+        except Refused as fault:
+            return refusal(status_of(fault), fault.number, str(fault), command=fault.place)
+        except NotDurable as fault:
+            return refusal(503, 503, str(fault), version=fault.version)
+        except TooLarge as fault:
+            return refusal(413, 413, str(fault))
+        except Changed as fault:
+            return refusal(409, 409, str(fault))
+        except (Ended, OSError, TimeoutError, BrokenProcessPool) as fault:
+            return refusal(503, 503, f"the store does not answer: {fault}")
+
+    def root(self, environ: Mapping[str, Any]) -> str:
+        """The address that was asked. A foreign name, as a page gets that gives its own name this address, is refused."""
+        host = str(environ.get("HTTP_HOST", "")).lower()
+        found = re.fullmatch(r"(\[[0-9a-f:.]{2,45}\]|[a-z0-9._-]{1,253})(:[0-9]{1,5})?", host)
+        if not found or found[1] not in self.hosts:
+            raise Problem(403, "this name is not served")
+        return self.base if self.base and host == self.base_host else f"{environ['wsgi.url_scheme']}://{host}"
+
+    def answer(self, request: Request) -> Answer:
+        method = "GET" if request.method == "HEAD" else request.method
+        found = [(place.match(request.path), route) for place, route in self.routes]
+        fitting = [(match, route) for match, route in found if match]
+        if not fitting:
+            raise Problem(404, "there is no such page")
+        for match, route in fitting:
+            if route.method == method:
+                self._check(request, route)
+                return self._run(request, route, match.groups())
+        raise Problem(405, f"{request.method} is not for this page", Allow=", ".join(route.method for _, route in fitting))
+
+    def _check(self, request: Request, route: Route) -> None:
+        if route.method != "GET":
+            if not self.store.writable:
+                raise Problem(403, "it was started without --writable")
+            origin, parts = request.header("origin"), urllib.parse.urlsplit(request.root)
+            foreign = request.header("sec-fetch-site") in ("cross-site", "same-site")
+            if foreign or origin not in ("", f"{parts.scheme}://{parts.netloc}"):
+                raise Problem(403, "another site's page may change nothing")
+        for word, value in request.words.items():
+            if word not in (*route.words, "f"):
+                raise Problem(400, f"unknown word {word[:40]}")
+            if word == "f" and value != "json" and (value, route.path) != ("html", "/"):
+                raise Problem(400, "f: json is wanted")
+
+    def _run(self, request: Request, route: Route, words: tuple[str, ...]) -> Answer:
+        if not route.slow:
+            return route.answer(request, *words)
+        if not self._slow.acquire(blocking=False):
+            raise Problem(503, "too many questions that have to wait", **{"Retry-After": "1"})
+        try:
+            return route.answer(request, *words)
+        finally:
+            self._slow.release()
+
+    # ---- files
+
+    def first(self, request: Request) -> Answer:
+        """For a browser the page, else the landing page of the standard."""
+        page = request.wants_html()
+        answer = self.page_file(request, "map.html") if page else self.features.landing(request)
+        return answer._replace(headers={**answer.headers, "Vary": "Accept"})
+
+    def page_file(self, _: Request, name: str) -> Answer:
+        return file_answer(PAGE / name, {})
+
+    def leaflet_file(self, _: Request, name: str) -> Answer:
+        return file_answer(self.leaflet / name, {"Cache-Control": "max-age=86400"})
+
+
+def file_answer(path: pathlib.Path, headers: Mapping[str, str]) -> Answer:
+    try:
+        return Answer(200, KINDS[path.suffix], path.read_bytes(), headers)
+    except OSError:
+        raise Problem(404, f"there is no file {path.name}") from None

@@ -1,0 +1,64 @@
+"""Values that take long to make, kept while there is room for them."""
+
+from __future__ import annotations
+
+import threading
+from collections import OrderedDict
+from collections.abc import Callable, Hashable
+from concurrent.futures import Future
+from typing import Generic, TypeVar
+
+K = TypeVar("K", bound=Hashable)
+V = TypeVar("V")
+
+
+class Kept(Generic[K, V]):
+    """Values by key. Each is made once, also where several threads ask at once; those unused longest make room.
+
+    weigh says how heavy a value is, most how much all together may weigh. The value asked for last always stays.
+    """
+
+    def __init__(self, most: int, weigh: Callable[[V], int]) -> None:
+        self._most, self._weigh = most, weigh
+        self._lock = threading.Lock()
+        self._made: OrderedDict[K, V] = OrderedDict()
+        self._coming: dict[K, Future[V]] = {}
+
+    def get(self, key: K) -> V | None:
+        """The value if it is there."""
+        with self._lock:
+            if key in self._made:
+                self._made.move_to_end(key)
+            return self._made.get(key)
+
+    def put(self, key: K, value: V) -> None:
+        with self._lock:
+            self._made[key] = value
+            self._made.move_to_end(key)
+            weight = sum(map(self._weigh, self._made.values()))
+            while weight > self._most and len(self._made) > 1:
+                weight -= self._weigh(self._made.popitem(last=False)[1])
+
+    def made(self, key: K, make: Callable[[], V], timeout: float) -> V:
+        """The value, by make where it is not there; another thread that makes it is waited for."""
+        found = self.get(key)
+        if found is not None:
+            return found
+        with self._lock:
+            coming = self._coming.get(key)
+            own = coming is None
+            if coming is None:
+                coming = self._coming[key] = Future()
+        if not own:
+            return coming.result(timeout)
+        try:
+            value = make()
+            self.put(key, value)
+            coming.set_result(value)
+            return value
+        except BaseException as fault:
+            coming.set_exception(fault)
+            raise
+        finally:
+            with self._lock:
+                del self._coming[key]

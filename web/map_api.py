@@ -1,0 +1,113 @@
+"""What the front answers beyond the standard: where points lie, tiles as they are built, the version, and changes."""
+
+from __future__ import annotations
+
+import re
+
+import limits  # of tools/
+from layer_store import LayerStore
+from overlay_client import LARGEST_BATCH, NAME, Point, Session
+from shapes import text_of
+from web_request import Answer, Problem, Request, json_answer
+
+DEFINITION_MOST = 2000
+
+
+class MapApi:
+    def __init__(self, store: LayerStore) -> None:
+        self.store, self.scale = store, store.scale
+
+    def status(self, _: Request) -> Answer:
+        store = self.store
+        return json_answer({
+            "title": self.scale.title, "version": store.version, "durable": store.durable if store.kept else None,
+            "writable": store.writable, "layers": len(store.layers()), "columns": self.scale.columns(),
+            "crs": self.scale.crs, "unit": self.scale.unit, "geographic": self.scale.is_geographic(),
+            "limits": self.scale.limits()})
+
+    def locate(self, request: Request, name: str) -> Answer:
+        question, told = self._question(request)
+        told["place"] = self.store.locate([name], question)[name]
+        return json_answer(told)
+
+    def locate_all(self, request: Request) -> Answer:
+        question, told = self._question(request)
+        told["places"] = self.store.locate(list(self.store.layers()), question)
+        return json_answer(told)
+
+    def _question(self, request: Request) -> tuple[Point, dict[str, object]]:
+        """What LOCATE is asked, and what the answer says of it: the point that was asked, and whether it is the given one."""
+        x, y = *request.numbers("x", 1), *request.numbers("y", 1)
+        question = self.scale.scale.question(x, y)
+        point = self.scale.scale.world(question)
+        return question, {
+            "asked": question, "point": [self.scale.number(n) for n in point], "exact": point == (x, y)}
+
+    def tiles(self, request: Request, name: str) -> Answer:
+        """The columns of a derived layer: of each its pieces, or null where it is pending."""
+        found = self.store.layer(name)
+        tiles = [self._tile(name, column) for column in self._columns(request)]
+        return json_answer({"revision": found.revision, "tiles": tiles})
+
+    def _columns(self, request: Request) -> list[int]:
+        word = request.words.get("columns")
+        if word is None:
+            return list(range(limits.COLUMNS))
+        if not re.fullmatch(r"[0-9]{1,2}(,[0-9]{1,2}){0,99}", word):
+            raise Problem(400, "columns: numbers parted by commas are wanted")
+        return sorted({int(one) for one in word.split(",")})
+
+    def _tile(self, name: str, column: int) -> dict[str, object]:
+        pieces = self.store.column(name, column)
+        lines = None if pieces is None else [[self.scale.position(a), self.scale.position(b)] for a, b in pieces]
+        return {"column": column, "lines": lines}
+
+    # ---- changes
+
+    def put(self, request: Request, name: str) -> Answer:
+        line, moved = self._command(request.body(), name)
+        return self._changed([line], moved)
+
+    def drop(self, _: Request, name: str) -> Answer:
+        return self._changed([f"DROP {name}"], 0.0)
+
+    def batch(self, request: Request) -> Answer:
+        """{"commands": [{"put": name, "geometry": ..}, {"define": name, "definition": ..}, {"drop": name}]}."""
+        commands = request.body().get("commands")
+        if not isinstance(commands, list) or not 1 <= len(commands) <= LARGEST_BATCH:
+            raise Problem(400, f"commands: a list of 1 to {LARGEST_BATCH} objects is wanted")
+        made = [self._command_of_batch(one) for one in commands]
+        return self._changed([line for line, _ in made], max(moved for _, moved in made))
+
+    def _changed(self, lines: list[str], moved: float) -> Answer:
+        version = self.store.change(lines)
+        durable = self.store.durable if self.store.kept else None
+        return json_answer({"version": version, "durable": durable, "moved": moved})
+
+    def _command_of_batch(self, given: object) -> tuple[str, float]:
+        words = [word for word in ("put", "define", "drop") if isinstance(given, dict) and word in given]
+        if not isinstance(given, dict) or len(words) != 1 or not NAME.match(str(given[words[0]])):
+            raise Problem(400, "commands: each has put, define or drop with a name")
+        name = str(given[words[0]])
+        if words == ["drop"]:
+            return f"DROP {name}", 0.0
+        if ("definition" in given) != (words == ["define"]):
+            raise Problem(400, "commands: define has a definition, put a geometry")
+        return self._command(given, name)
+
+    def _command(self, given: dict[str, object], name: str) -> tuple[str, float]:
+        """The line that puts or defines a layer as an object says, and how far a corner is moved."""
+        if "definition" in given:
+            return f"DEFINE {name} = {definition_of(given['definition'])}", 0.0
+        try:
+            text = text_of(given.get("geometry", given), self.scale)
+        except ValueError as fault:
+            raise Problem(400, f"geometry: {fault}") from fault
+        return Session.put_line(name, text.wkt), text.moved
+
+
+def definition_of(given: object) -> str:
+    """An expression that is one line of printed ASCII."""
+    if not isinstance(given, str) or not re.fullmatch(rf"[ -~]{{1,{DEFINITION_MOST}}}", given):
+        raise Problem(400, f"definition: one line of at most {DEFINITION_MOST} printed letters is wanted")
+    return given

@@ -1,0 +1,59 @@
+"""Runs the front: by waitress where it is installed, else by the standard library with a thread for each question."""
+
+from __future__ import annotations
+
+import socket
+import socketserver
+from typing import Any
+from wsgiref import simple_server
+
+from front import SLOW_MOST, Front
+from web_request import BODY_MOST
+
+THREADS = SLOW_MOST + 4
+SECONDS_MOST = 30
+
+
+def told(host: str, port: int) -> None:
+    print(f"http://{f'[{host}]' if ':' in host else host}:{port}/", flush=True)
+
+
+def serve(front: Front, host: str, port: int) -> None:
+    """Answers questions until it is ended by a signal. It tells its address on standard output when it listens."""
+    host = "127.0.0.1" if host == "localhost" else host
+    try:
+        import waitress  # type: ignore[import]
+    except ImportError:
+        serve_by_threads(front, host, port)
+        return
+    server = waitress.create_server(
+        front, host=host, port=port, threads=THREADS, max_request_body_size=BODY_MOST, max_request_header_size=1 << 16,
+        channel_timeout=SECONDS_MOST, ident=None)
+    told(host, server.effective_port)
+    server.run()
+
+
+class Threaded(socketserver.ThreadingMixIn, simple_server.WSGIServer):
+    daemon_threads = True
+    request_queue_size = 64
+
+
+class Threaded6(Threaded):
+    address_family = socket.AF_INET6
+
+
+class Handler(simple_server.WSGIRequestHandler):
+    timeout = SECONDS_MOST
+    # Headers and body go out together, not each behind the other's receipt.
+    wbufsize = 1 << 16
+    disable_nagle_algorithm = True
+
+    def log_message(self, *_: Any) -> None:
+        """Nothing is logged, as by waitress."""
+
+
+def serve_by_threads(front: Front, host: str, port: int) -> None:
+    kind = Threaded6 if ":" in host else Threaded
+    with simple_server.make_server(host, port, front, kind, Handler) as server:
+        told(host, server.server_port)
+        server.serve_forever()

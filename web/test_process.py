@@ -1,0 +1,161 @@
+"""Tests of the front as a process: its words, the standard library's server, its end, and what it reads of a store."""
+
+from __future__ import annotations
+
+import contextlib
+import http.client
+import json
+import os
+import pathlib
+import signal
+import socket
+import subprocess
+import sys
+import time
+import unittest
+import urllib.parse
+from collections.abc import Iterator
+from typing import Any
+
+import overlay_web
+import testing
+from overlay_client import Server
+from testing import SQUARE
+
+WEB = pathlib.Path(overlay_web.__file__).resolve().parent
+
+
+def started(*words: str | pathlib.Path) -> subprocess.Popen[str]:
+    """A front with a free port. Waitress is hidden from it, as the tests need no package."""
+    code = ("import sys; sys.modules['waitress'] = None; sys.argv[0] = 'overlay_web.py'; "
+            f"sys.path.insert(0, {str(WEB)!r}); import overlay_web; sys.exit(overlay_web.main(sys.argv[1:]))")
+    given = [sys.executable, "-c", code, "--program", testing.PROGRAM, "--port", "0", *map(str, words)]
+    return subprocess.Popen(given, stdout=subprocess.PIPE, stderr=subprocess.PIPE, text=True)
+
+
+@contextlib.contextmanager
+def running(*words: str | pathlib.Path) -> Iterator[tuple[subprocess.Popen[str], str]]:
+    """A front and its address; it is killed where the test has not ended it."""
+    run = started(*words)
+    assert run.stdout
+    try:
+        yield run, run.stdout.readline().strip()
+    finally:
+        run.kill()
+        run.communicate()
+
+
+def asked(address: str, method: str, path: str, body: bytes | None = None) -> tuple[int, Any]:
+    host = urllib.parse.urlsplit(address).netloc
+    link = http.client.HTTPConnection(host, timeout=30)
+    try:
+        link.request(method, path, body, {"Content-Type": "application/json"} if body else {})
+        answer = link.getresponse()
+        return answer.status, json.loads(answer.read())
+    finally:
+        link.close()
+
+
+def children(pid: int) -> list[int]:
+    """The processes that a process has begun and that have not ended."""
+    text = pathlib.Path(f"/proc/{pid}/task/{pid}/children").read_text()
+    return [int(word) for word in text.split()]
+
+
+class Processes(unittest.TestCase):
+    def setUp(self) -> None:
+        self.folder = self.enterContext(testing.folder())
+        self.store = self.folder / "map.db"
+        with Server(self.store, create=True, program=testing.PROGRAM) as server:
+            server.sessions[0].batch([f"PUT A {SQUARE}", "DEFINE I = A"])
+        (self.folder / "map.scale.json").write_text('{"title": "T", "factor": 10, "unit": "m"}')
+
+    def ended(self, run: subprocess.Popen[str]) -> tuple[int, str]:
+        _, told = run.communicate(timeout=60)
+        return run.returncode, told
+
+    def test_it_changes_a_store_durably_and_ends_by_a_signal(self) -> None:
+        with running("--store", self.store, "--writable") as (run, address):
+            self.assertEqual(asked(address, "GET", "/status")[1]["durable"], 1)
+            self.assertEqual(asked(address, "PUT", "/collections/N", b'{"definition": "I"}')[1], {"version": 2, "durable": 2, "moved": 0.0})
+            self.assertEqual(asked(address, "GET", "/collections/N/items")[1]["features"][0]["properties"]["area"], 1)
+            self.assertEqual(asked(address, "GET", "/locate?x=0.5&y=0.5")[1]["asked"], [5, 5, 1])
+            run.send_signal(signal.SIGTERM)
+            self.assertEqual(self.ended(run), (0, ""))
+        with Server(self.store, program=testing.PROGRAM) as server:
+            self.assertEqual(server.sessions[0].sync(), 2)
+
+    def test_an_interrupt_of_the_terminal_ends_it_in_order(self) -> None:
+        with running("--store", self.store, "--writable") as (run, address):
+            asked(address, "GET", "/collections/I/items")
+            run.send_signal(signal.SIGINT)
+            self.assertEqual(self.ended(run), (0, ""))
+
+    def test_several_fronts_read_one_store(self) -> None:
+        before = self.store.read_bytes()
+        with running("--store", self.store) as (_, first), running("--store", self.store) as (_, second):
+            for address in (first, second):
+                status = asked(address, "GET", "/status")[1]
+                self.assertEqual((status["version"], status["durable"], status["writable"], status["title"]), (1, 1, False, "T"))
+                self.assertEqual(asked(address, "GET", "/collections/I/items")[1]["numberMatched"], 1)
+                self.assertEqual(asked(address, "DELETE", "/collections/I")[0], 403)
+            with running("--store", self.store, "--writable") as (run, address):
+                self.assertEqual((address, self.ended(run)), ("", (1, f"{self.store}: error 30 device\n")))
+        self.assertEqual(self.store.read_bytes(), before)
+
+    def test_it_ends_where_the_program_has_ended(self) -> None:
+        with running("--store", self.store, "--writable") as (run, address):
+            asked(address, "GET", "/status")
+            found = [pid for pid in children(run.pid) if f"--store\0{self.store}" in pathlib.Path(f"/proc/{pid}/cmdline").read_text()]
+            self.assertEqual(len(found), 1)
+            os.kill(found[0], signal.SIGKILL)
+            self.assertEqual(self.ended(run), (1, "overlay_live has ended with status -9\n"))
+
+    def test_what_it_began_ends_with_it(self) -> None:
+        with running("--store", self.store, "--writable") as (run, address):
+            asked(address, "GET", "/collections/I/items")
+            begun = children(run.pid)
+            self.assertGreater(len(begun), 2)
+            run.send_signal(signal.SIGTERM)
+            self.ended(run)
+        end = time.monotonic() + 20
+        while left := [pid for pid in begun if pathlib.Path(f"/proc/{pid}").exists()]:
+            self.assertLess(time.monotonic(), end, left)
+            time.sleep(0.05)
+
+    def test_it_begins_a_store(self) -> None:
+        with running("--store", self.folder / "new.db", "--create", "--writable") as (_, address):
+            self.assertEqual(asked(address, "GET", "/status")[1]["version"], 0)
+            self.assertEqual(asked(address, "GET", "/collections")[1]["collections"], [])
+        with running("--writable") as (_, address):
+            self.assertEqual(asked(address, "GET", "/status")[1]["durable"], None)
+
+    def test_stores_and_scales_that_cannot_be_opened(self) -> None:
+        tries: list[tuple[list[str | pathlib.Path], str]] = [
+                            (["--store", self.folder / "none.db"], "error 30 device"),
+                            (["--store", self.store, "--scale", self.folder / "none.json"], "none.json"),
+                            (["--store", self.folder / "map.scale.json"], "error 32 not a store"),
+                            (["--store", self.store, "--create", "--writable"], "error 34 not empty")]
+        for words, told in tries:
+            with running(*words) as (run, address):
+                status, text = self.ended(run)
+                self.assertEqual((status, address), (1, ""))
+                self.assertIn(told, text)
+                self.assertEqual(text.count("\n"), 1, text)
+
+    def test_words(self) -> None:
+        for line in ("--store map.db --writable --host 0.0.0.0", "--writable --host ::", "", "--create", "--store map.db --create",
+                     "--writable --host map.example.org", "--colour", "--store map.db --base map.example.org"):
+            with running(*line.split()) as (run, _):
+                self.assertEqual(self.ended(run)[0], 2, line)
+        words = overlay_web.words_of(["--store", "map.db", "--host", "10.1.2.3", "--name", "Map.Example.Org"])
+        self.assertEqual(overlay_web.hosts_of(words), {"10.1.2.3", "map.example.org"})
+        self.assertTrue(overlay_web.is_loopback("127.8.8.8") and overlay_web.is_loopback("::1") and overlay_web.is_loopback("localhost"))
+        self.assertFalse(overlay_web.is_loopback("localhost.example") or overlay_web.is_loopback("0.0.0.0"))
+
+    def test_a_question_that_does_not_end_holds_up_no_other(self) -> None:
+        with running("--store", self.store, "--writable") as (_, address):
+            parts = urllib.parse.urlsplit(address)
+            with socket.create_connection((parts.hostname, parts.port or 80)) as stuck:
+                stuck.sendall(b"GET /status HTTP/1.1\r\nHost:")
+                self.assertEqual(asked(address, "GET", "/status")[0], 200)

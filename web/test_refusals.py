@@ -1,0 +1,250 @@
+"""Tests of what the front refuses, and by which status, and of what it does where its helpers fail."""
+
+from __future__ import annotations
+
+import json
+import multiprocessing
+import threading
+import unittest
+import unittest.mock
+
+import front
+import layer_store
+import testing
+from layer_store import LayerStore
+from overlay_client import Ended, Refused, Server
+from testing import SHIFTED, SQUARE, Client, FrontCase, Told
+from web_request import BODY_MOST
+
+GEOMETRY = {"type": "Polygon", "coordinates": [[[0, 0], [9, 0], [9, 9], [0, 0]]]}
+
+
+class RefusalCase(FrontCase):
+    lines = (f"PUT A {SQUARE}", f"PUT B {SHIFTED}", "DEFINE I = A & B")
+
+    def refused(self, status: int, path: str, method: str = "GET", body: object = None, **headers: str) -> Told:
+        found = self.client.ask(path, method, body, headers)
+        self.assertEqual(found.status, status, (method, path, found.value))
+        self.assertLessEqual({"code", "description"}, set(found.value))
+        return found
+
+
+class Refusals(RefusalCase):
+    def tearDown(self) -> None:
+        """Nothing that was refused has changed a layer."""
+        self.assertEqual(self.client.get("/status")["version"], 1)
+        self.assertEqual(list(self.store.layers()), ["A", "B", "I"])
+
+    def test_names_that_are_not_served(self) -> None:
+        for host in ("map.example.org", "evil.example:8080", "127.0.0.1.example", "", "127.0.0.1:80:80", "a b", "[::2]", "localhost@x"):
+            self.refused(403, "/status", HTTP_HOST=host)
+            self.refused(403, "/collections/A", "DELETE", HTTP_HOST=host)
+        for host in ("127.0.0.1", "localhost:9", "LOCALHOST", "[::1]:8080"):
+            self.assertEqual(self.client.ask("/status", headers={"HTTP_HOST": host}).status, 200, host)
+
+    def test_pages_of_other_sites_change_nothing(self) -> None:
+        for origin in ("https://evil.example", "null", "http://localhost:8080", "https://127.0.0.1:8080", "http://127.0.0.1:8081"):
+            self.refused(403, "/collections/I", "DELETE", HTTP_ORIGIN=origin)
+            self.refused(403, "/collections/N", "PUT", {"definition": "A"}, HTTP_ORIGIN=origin)
+            self.refused(403, "/batch", "POST", {"commands": [{"drop": "I"}]}, HTTP_ORIGIN=origin)
+        for site in ("cross-site", "same-site"):
+            self.refused(403, "/collections/I", "DELETE", HTTP_SEC_FETCH_SITE=site)
+
+    def test_bodies_of_another_kind_or_size(self) -> None:
+        for kind in ("text/plain", "application/x-www-form-urlencoded", "", "application/jsonp"):
+            self.refused(415, "/collections/N", "PUT", {"definition": "A"}, CONTENT_TYPE=kind)
+        self.refused(413, "/collections/N", "PUT", b" " * 3_000_000)
+        self.refused(413, "/collections/N", "PUT", {}, CONTENT_LENGTH=str(BODY_MOST + 1))
+        for length in ("", "-1", "x", "1e3", "9" * 19):
+            self.refused(411, "/collections/N", "PUT", {"definition": "A"}, CONTENT_LENGTH=length)
+        for body in (b"", b"{", b"[]", b"1", b"null", b"\xff\xfe", b"[" * 200_000, b'{"a":' * 20_000, b"1" * 5000):
+            self.refused(400, "/collections/N", "PUT", body)
+
+    def test_geometries(self) -> None:
+        for number in (b"1e99999999", b"1e999", b"NaN", b"Infinity", b"-1e-999", b'"x"', b"null", b"true", b"1" * 400):
+            body = json.dumps(GEOMETRY).encode().replace(b"9", number)
+            self.refused(400, "/collections/N", "PUT", body)
+        bad: tuple[object, ...] = (
+            {}, {"geometry": None}, {"type": "Point", "coordinates": [1, 1]}, GEOMETRY | {"coordinates": [[[0]]]},
+            {"type": "FeatureCollection", "features": []}, {"type": "Polygon"})
+        for given in bad:
+            self.refused(400, "/collections/N", "PUT", given)
+        told = self.refused(400, "/collections/N", "PUT", GEOMETRY | {"coordinates": [[[0, 0], [9, 0], [0, 0]]]})
+        self.assertEqual(told.value["code"], "5")
+        self.assertEqual(self.refused(400, "/collections/N", "PUT", GEOMETRY | {"coordinates": [[[0, 0], [9, 0], [9, 9], [2, 2]]]})
+                         .value["description"], "error 4 ring 0 open")
+        far = GEOMETRY | {"coordinates": [[[0, 0], [2_000_000, 0], [9, 9], [0, 0]]]}
+        self.assertEqual(self.refused(400, "/collections/N", "PUT", far).value["code"], "3")
+        many = GEOMETRY | {"coordinates": [[[i % 7, i] for i in range(2049)] + [[0, 0]]]}
+        self.assertEqual(self.refused(400, "/collections/N", "PUT", many).value["code"], "6")
+
+    def test_definitions(self) -> None:
+        for text in ("A\nDROP I", "A\r", "A\x00", "", "A & \u00e9", "A" * 2001, 7, None, ["A"]):
+            self.refused(400, "/collections/N", "PUT", {"definition": text})
+        self.assertEqual(self.refused(400, "/collections/N", "PUT", {"definition": "A &"}).value["code"], "7")
+        self.assertEqual(self.refused(400, "/collections/N", "PUT", {"definition": "A &" * 40}).value["code"], "8")
+        self.assertEqual(self.refused(404, "/collections/N", "PUT", {"definition": "A & Z"}).value["code"], "10")
+        self.assertEqual(self.refused(409, "/collections/A", "PUT", {"definition": "B"}).value["code"], "12")
+        self.assertEqual(self.refused(409, "/collections/I", "PUT", GEOMETRY).value["code"], "11")
+        self.assertEqual(self.refused(409, "/collections/I", "PUT", {"definition": "I"}).value["code"], "13")
+        self.assertEqual(self.refused(409, "/collections/A", "DELETE").value["code"], "14")
+
+    def test_batches(self) -> None:
+        for body in ({}, {"commands": []}, {"commands": {}}, {"commands": [{"drop": "I"}] * 65}, {"commands": [["drop", "I"]]},
+                     {"commands": [{"drop": "I", "put": "I"}]}, {"commands": [{"drop": "I\nDROP A"}]}, {"commands": [{"drop": 7}]},
+                     {"commands": [{"define": "N"}]}, {"commands": [{"put": "N", "definition": "A"}]}, {"commands": [None]},
+                     {"commands": [{"define": "N", "definition": "A\nDROP I"}]}, {"commands": [{"put": "N", "geometry": {}}]}):
+            self.refused(400, "/batch", "POST", body)
+        told = self.refused(409, "/batch", "POST", {"commands": [{"drop": "I"}, {"define": "A", "definition": "B"}]})
+        self.assertEqual((told.value["code"], told.value["command"]), ("12", 1))
+
+    def test_paths_and_methods(self) -> None:
+        for path in ("/nowhere", "/leaflet/../../../etc/passwd", "/leaflet/..%2f..%2fx", "/leaflet/images/../leaflet.js", "/map.html.bak",
+                     "/tests.py", "/../overlay_web.py", "/collections/", "/collections/9x", "/collections/" + "a" * 33, "/collections/A%0A",
+                     "/collections/A/items/0x1", "/collections/A/items/9999999999", "/collections/I/items/0", "/collections/I/items/2",
+                     "/collections/Z", "/collections/Z/items", "/collections/Z/locate?x=1&y=1", "/collections/Z/tiles"):
+            self.refused(404, path)
+        for path, method, allowed in (("/status", "POST", "GET"), ("/collections", "DELETE", "GET"), ("/batch", "GET", "POST"),
+                                      ("/collections/A", "PATCH", "GET, PUT, DELETE"), ("/", "OPTIONS", "GET"), ("/status", "get", "GET")):
+            self.assertEqual(self.refused(405, path, method).headers["Allow"], allowed)
+
+    def test_words(self) -> None:
+        items = "/collections/I/items"
+        for words in ("limit=0", "limit=-1", "limit=x", "limit=", "limit=1.5", "limit=" + "9" * 19, "offset=-1", "bbox=1,2,3", "bbox=",
+                      "bbox=1,2,3,x", "bbox=1,2,3,4,5", "bbox=9,0,0,9", "bbox=0,9,9,0", "bbox=1e999999999,0,1,1", "bbox=0,0,1/0,1",
+                      "crs=EPSG:3857", "bbox-crs=x", "datetime=yesterday", "datetime=2020-1-1", "datetime=..", "f=html", "f=xml",
+                      "colour=red", "limit=1&limit=2", "limit=1&limit=1", "&".join(f"a{i}=1" for i in range(40))):
+            self.refused(400, f"{items}?{words}")
+        for words in ("limit=1", "limit=99999999", "offset=5", "datetime=2020-01-01T00:00:00Z/..", "datetime=2020-01-01/", "f=json"):
+            self.client.get(f"{items}?{words}")
+        self.assertEqual(self.client.get(f"{items}?limit=99999999")["numberReturned"], 1)
+        self.refused(409, f"{items}?revision=nothing")
+        for path in ("/status?x=1", "/?x=1", "/collections?limit=3", "/map.css?v=1", "/api?limit=1", "/locate?x=1&y=1&z=1"):
+            self.refused(400, path)
+
+    def test_points(self) -> None:
+        for words in ("", "x=1", "y=1", "x=1&y=", "x=1,2&y=3", "x=1e999999999&y=1", "x=nan&y=1", "x=1e999&y=1", "x=1&y=1/0", "x=0x1&y=1"):
+            self.refused(400, f"/locate?{words}")
+            self.refused(400, f"/collections/A/locate?{words}")
+        self.assertEqual(self.refused(400, "/locate?x=1048577&y=0").value["code"], "20")
+
+    def test_tiles(self) -> None:
+        self.assertEqual(self.refused(409, "/collections/A/tiles").value["code"], "12")
+        self.assertEqual(self.refused(404, "/collections/I/tiles?columns=99").value["code"], "23")
+        for columns in ("", "x", "1,", "-1", "1,,2", "100", ",".join(["1"] * 101)):
+            self.refused(400, f"/collections/I/tiles?columns={columns}")
+
+
+class ReadOnly(RefusalCase):
+    writable = False
+
+    def test_it_changes_nothing(self) -> None:
+        for path, method, body in (("/collections/N", "PUT", {"definition": "A"}), ("/collections/I", "DELETE", None),
+                                   ("/batch", "POST", {"commands": [{"drop": "I"}]})):
+            self.assertIn("--writable", self.refused(403, path, method, body).value["description"])
+        self.assertEqual(self.client.get("/status")["writable"], False)
+        self.assertNotIn("/batch", self.client.get("/api")["paths"])
+
+
+class Bases(RefusalCase):
+    """A front behind a server that is asked under a name of its own."""
+
+    def setUp(self) -> None:
+        self.behind = Client(front.Front(self.store, base="https://map.example.org/parcels/"))
+
+    def test_links_begin_with_the_base(self) -> None:
+        host = {"HTTP_HOST": "map.example.org"}
+        links = self.behind.ask("/?f=json", headers=host).value["links"]
+        self.assertEqual(links[0]["href"], "https://map.example.org/parcels/?f=json")
+        self.assertEqual(self.behind.get("/")["links"][0]["href"], f"http://{testing.HOST}/?f=json")
+        self.assertEqual(self.behind.ask("/status", headers={"HTTP_HOST": "other.example.org"}).status, 403)
+
+    def test_the_origin_is_that_of_the_base(self) -> None:
+        own = {"HTTP_HOST": "map.example.org", "HTTP_ORIGIN": "https://map.example.org"}
+        self.assertEqual(self.behind.ask("/collections/N", "PUT", {"definition": "A"}, own).status, 200)
+        foreign = own | {"HTTP_ORIGIN": "http://map.example.org"}
+        self.assertEqual(self.behind.ask("/collections/N", "DELETE", headers=foreign).status, 403)
+        self.assertEqual(self.behind.ask("/collections/N", "DELETE", headers=own).status, 200)
+
+
+class Failures(unittest.TestCase):
+    """Each test has a process of its own, as it harms it."""
+
+    def setUp(self) -> None:
+        self.server = self.enterContext(Server(sessions=4, program=testing.PROGRAM, timeout=60))
+        scratch = self.enterContext(Server(program=testing.PROGRAM, timeout=60))
+        self.store = LayerStore(self.server, scratch, testing.map_scale(), version=0, kept=False, writable=True)
+        self.addCleanup(self.store.close)
+        self.client = Client(front.Front(self.store))
+        self.client.change("/collections/A", "PUT", GEOMETRY)
+        self.client.change("/collections/I", "PUT", {"definition": "A"})
+
+    def test_a_session_whose_reply_is_broken_off_is_closed_and_the_front_goes_on(self) -> None:
+        for one in (self.server.sessions[0], self.server.sessions[2]):
+            one._replies.timeout = 0.2
+            self.assertRaises(TimeoutError, one._exchange, b"no line")
+        for _ in range(5):
+            self.assertEqual(self.client.get("/locate?x=5&y=2")["places"]["I"], "in")
+            self.assertEqual(self.client.get("/collections/I/items")["numberMatched"], 1)
+            self.client.change("/collections/N", "PUT", {"definition": "A & I"})
+        self.server.sessions[1].close()
+        self.assertEqual(self.client.ask("/locate?x=5&y=2").status, 503)
+
+    def test_a_program_that_has_ended_is_told(self) -> None:
+        self.server.process.kill()
+        self.server.process.wait()
+        for _ in range(6):
+            found = self.client.ask("/locate?x=1&y=1")
+            self.assertEqual((found.status, found.value["code"]), (503, "503"))
+        self.assertEqual(self.client.ask("/collections/N", "PUT", {"definition": "A"}).status, 503)
+
+    def test_a_joining_process_that_is_killed_is_begun_anew(self) -> None:
+        self.client.get("/collections/I/items")
+        for child in multiprocessing.active_children():
+            child.kill()
+            child.join()
+        self.client.change("/collections/I", "PUT", {"definition": "A | A"})
+        statuses = [self.client.ask("/collections/I/items").status for _ in range(3)]
+        self.assertEqual(statuses[-1], 200)
+        self.assertLessEqual(set(statuses), {200, 503})
+
+    def test_a_layer_of_too_many_pieces_is_refused(self) -> None:
+        self.enterContext(unittest.mock.patch.object(layer_store, "PIECES_MOST", 2))
+        found = self.client.ask("/collections/I/items")
+        self.assertEqual(found.status, 413)
+        self.assertIn("3 pieces", found.value["description"])
+        self.assertEqual(len(self.client.get("/collections/I/tiles?columns=16")["tiles"][0]["lines"]), 3)
+
+    def test_more_waiting_questions_than_there_are_places_are_refused(self) -> None:
+        slow = self.client.front._slow
+        for _ in range(front.SLOW_MOST):
+            slow.acquire()
+        found = self.client.ask("/collections/I/items")
+        self.assertEqual((found.status, found.headers["Retry-After"]), (503, "1"))
+        self.assertEqual(self.client.get("/locate?x=5&y=2")["places"]["I"], "in")
+        slow.release()
+        self.client.get("/collections/I/items")
+
+    def test_a_change_that_the_store_cannot_keep_is_told(self) -> None:
+        self.store.kept = True    # in memory a SYNC is refused, as it is by a store that is full
+        found = self.client.ask("/collections/N", "PUT", {"definition": "A"})
+        self.assertEqual((found.status, found.value["version"]), (503, 3))
+        self.assertIn("accepted as version 3, but not durable: error 46", found.value["description"])
+        status = self.client.get("/status")
+        self.assertEqual((status["version"], status["durable"]), (3, 0))
+        self.assertEqual(self.client.get("/collections/N")["definition"], "A")
+
+    def test_one_thread_joins_for_all_that_ask(self) -> None:
+        real = self.store._join
+        counted = self.enterContext(unittest.mock.patch.object(self.store, "_join", side_effect=real))
+        threads = [threading.Thread(target=self.client.get, args=("/collections/I/items",)) for _ in range(8)]
+        for one in threads:
+            one.start()
+        for one in threads:
+            one.join()
+        self.assertEqual(counted.call_count, 1)
+
+    def test_statuses_of_refusals(self) -> None:
+        for number, status in ((10, 404), (11, 409), (21, 409), (7, 400), (20, 400), (31, 503), (40, 503)):
+            self.assertEqual(front.status_of(Refused(number, "")), status)
+        self.assertTrue(issubclass(Ended, Exception))
