@@ -1,7 +1,7 @@
 #!/usr/bin/env python3
 """Makes each call of the store's device fail in turn, on a real file.
 
-python3 bench/faults.py PROGRAM [--seconds N]
+python3 bench/faults.py PROGRAM [--live] [--seconds N]
 python3 bench/faults.py --test
 
 The program is made to load bench/faults.c, which counts its calls on the store's file and on the folder and lets the
@@ -37,7 +37,7 @@ KINDS = ["nothing done", "half a write", "half a write told, or interrupted", "f
 
 def is_found(words, library, folder, left_out):
     """Whether the shim ends a program that leaves out syncs."""
-    runner = refusing.Runner(words.program, refusing.CREATED, library, folder, words.seconds)
+    runner = refusing.runner_of(words, refusing.CREATED, library, folder)
     status = runner.run({"LEAVE": left_out}, "FAIL").status
     print(f"| {refusing.CREATED.name} | {LEFT_OUT[left_out]} | ended by the shim: {status == -signal.SIGABRT} |")
     return status == -signal.SIGABRT
@@ -50,7 +50,7 @@ def fail(words, folder):
     found = [is_found(words, library, folder, number) for number in LEFT_OUT]
     right, wrong = sum(found), len(found) - sum(found)
     for scenario in (refusing.CREATED, refusing.OPENED):
-        runner = refusing.Runner(words.program, scenario, library, folder, words.seconds)
+        runner = refusing.runner_of(words, scenario, library, folder)
         runner.count_early("FAIL")
         plain = [runner.run({}, "FAIL") for _ in range(3)]
         faults = [fault for fault in (refusing.judge(runner, outcome, refusing.device) for outcome in plain) if fault]
@@ -139,6 +139,7 @@ def main():
         return test()
     parser = argparse.ArgumentParser(description=__doc__, formatter_class=argparse.RawDescriptionHelpFormatter)
     parser.add_argument("program")
+    parser.add_argument("--live", action="store_true", help="the program is overlay_live")
     parser.add_argument("--seconds", type=int, default=20, help="how long a run may take (20)")
     words = parser.parse_args()
     words.program = os.path.abspath(words.program)

@@ -1,7 +1,7 @@
 #!/usr/bin/env python3
 """Refuses each growth of the program in turn: the first, the second and so on, until a run meets no refusal.
 
-python3 bench/growths.py PROGRAM [--step N] [--seconds N] [--every]
+python3 bench/growths.py PROGRAM [--live] [--step N] [--seconds N] [--every]
 python3 bench/growths.py --test
 
 The program is made to load bench/growths.c, which counts its calls for memory and for threads and refuses the one with
@@ -63,7 +63,7 @@ def refuse(words, folder):
     print(refusing.HEAD)
     waiting = (refusing.MEMORY, refusing.CREATED, refusing.OPENED)
     for scenario in (*waiting, refusing.QUIET_MEMORY, refusing.QUIET_CREATED):
-        runner = refusing.Runner(words.program, scenario, library, folder, words.seconds)
+        runner = refusing.runner_of(words, scenario, library, folder)
         runner.count_early("REFUSE")
         plain = [runner.run({}, "REFUSE") for _ in range(3)]
         faults = [fault for fault in (refusing.judge(runner, outcome, one_growth) for outcome in plain) if fault]
@@ -110,6 +110,7 @@ def main():
     parser = argparse.ArgumentParser(description=__doc__, formatter_class=argparse.RawDescriptionHelpFormatter)
     parser.add_argument("program")
     parser.add_argument("--step", type=int, default=1)
+    parser.add_argument("--live", action="store_true", help="the program is overlay_live")
     parser.add_argument("--seconds", type=int, default=20, help="how long a run may take (20)")
     parser.add_argument("--every", action="store_true", help="also refuses many growths of a run")
     words = parser.parse_args()

@@ -133,7 +133,7 @@ class Runner:
             given |= {f"{prefix}_COUNTS": str(counts), f"{prefix}_STORE": str(store), f"{prefix}_FOLDER": place}
             given |= {"LD_PRELOAD": str(self.library)}
             with subprocess.Popen(
-                self.words(store), stdin=subprocess.DEVNULL, stdout=subprocess.PIPE, stderr=subprocess.PIPE,
+                self.words(store), cwd=place, stdin=subprocess.DEVNULL, stdout=subprocess.PIPE, stderr=subprocess.PIPE,
                 env={**os.environ, **given},
             ) as run:
                 try:
@@ -146,9 +146,13 @@ class Runner:
             numbers = counts.read_bytes() if counts.exists() else b""
             counted = tuple(int.from_bytes(numbers[at : at + 8], "little") for at in (0, 8))
             data = store.read_bytes() if store.exists() else None
-            texts = output.decode(errors="replace"), fault.decode(errors="replace")
+            texts = self.replies(output, pathlib.Path(place)), fault.decode(errors="replace")
             is_early = settings.get("FIRST", 0) <= self.early
             return Outcome(len(self.paths), status, *texts, data, counted, is_early)
+
+    def replies(self, output, _folder):
+        """The replies that a run wrote: on standard output."""
+        return output.decode(errors="replace")
 
     def reopened(self, data):
         """What the program tells of the store that a run left, with nothing refused: its layers and its version."""
@@ -162,6 +166,32 @@ class Runner:
                 raise judging.Wrong(f"opened again: status {done.returncode}, {done.stderr[:100]!r}")
             replies = judging.sections(done.stdout.decode(), 1)[0]
             return replies[0][1:], judging.number_of(replies[1]) - 1
+
+
+class LiveRunner(Runner):
+    """The same for overlay_live, whose sessions write their replies each into a file of its own."""
+
+    def words(self, store):
+        words = super().words(store)
+        paths = words[-len(self.paths) :]
+        pairs = [word for number, path in enumerate(paths, 1) for word in (path, f"replies{number}")]
+        return words[: -len(paths)] + pairs
+
+    def replies(self, output, folder):
+        """As overlayd prints them: with a line before each where there are several; nothing where none has a reply."""
+        files = [folder / f"replies{number}" for number in range(1, len(self.paths) + 1)]
+        texts = [file.read_text(errors="replace") if file.exists() else "" for file in files]
+        if output:
+            return output.decode(errors="replace")
+        if len(texts) == 1 or not any(texts):
+            return "".join(texts)
+        return "".join(f"# script {number}\n{text}" for number, text in enumerate(texts, 1))
+
+
+def runner_of(words, scenario, library, folder):
+    """What runs a scenario with the program of a script's words."""
+    kind = LiveRunner if words.live else Runner
+    return kind(words.program, scenario, library, folder, words.seconds)
 
 
 def judge_output(scenario, outcome, allows):
