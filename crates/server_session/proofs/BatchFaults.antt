@@ -1,5 +1,5 @@
 -- The faults of batches by their numbers.
-use Rattle.std.proofs.Common.{◌≡◌, ◌≢◌, ℕ, ◌==◌, cond, true, List, Option, Some, None, refl, sym, ap, ◌∙◌, ◌⊎◌, inl, inr}
+use Rattle.std.proofs.Common.{◌≡◌, ℕ, ◌==◌, cond, true, List, Option, Some, None, refl, sym, ap, ◌∙◌, ◌⊎◌, inl, inr}
 use Rattle.std.specs.Option.{option_map}
 use Rattle.overlay_terms.specs.Batches.{Batch, BatchRefusal, at, whole, reason_of, batch_refusal_at}
 use Rattle.overlay_terms.specs.Commands as terms
@@ -57,36 +57,17 @@ pub is_numbered : (code : ℕ) (fault : CommandFault) → IsNumbered code fault 
 is_numbered code fault numbered = by_number fault numbered.one_of ∙ ap fault_numbered numbered.number
 
 -- the fault of a refusal has its number
-pub numbered_refusal : (code : ℕ) (reason : Refusal) (fault : CommandFault) → fault ≡ Version (Layer (fault_of reason)) → code ≡ batch_faults.code_for reason → IsNumbered code fault
+numbered_refusal : (code : ℕ) (reason : Refusal) (fault : CommandFault) → fault ≡ Version (Layer (fault_of reason)) → code ≡ batch_faults.code_for reason → IsNumbered code fault
 numbered_refusal code reason fault is number = record { one_of = inl (reason, is); number = ap code_of is ∙ sym number }
 
-pub numbered_closing : (code : ℕ) → code ≡ 43 → IsNumbered code Closing
+numbered_closing : (code : ℕ) → code ≡ 43 → IsNumbered code Closing
 numbered_closing code number = record { one_of = inr (inl refl); number = sym number }
 
-pub numbered_gone : (code : ℕ) → code ≡ 44 → IsNumbered code Gone
+numbered_gone : (code : ℕ) → code ≡ 44 → IsNumbered code Gone
 numbered_gone code number = record { one_of = inr (inr (inl refl)); number = sym number }
 
 numbered_memory : (code : ℕ) → code ≡ 40 → IsNumbered code OutOfMemory
 numbered_memory code number = record { one_of = inr (inr (inr refl)); number = sym number }
-
--- a number that is none of the others is that of want of memory
-pub only_memory : (code : ℕ) → IsBatchNumber code → code ≢ 10 → code ≢ 11 → code ≢ 12 → code ≢ 13 → code ≢ 14 → code ≢ 15 → code ≢ 16 → code ≢ 43 → code ≢ 44
-    → IsNumbered code OutOfMemory
-only_memory code (fault, (record { one_of = one_of; number = number })) a b c d e f g h i = of_fault one_of where
-  is : (other : CommandFault) → fault ≡ other → code ≡ code_of other
-  is other same = sym number ∙ ap code_of same
-
-  of_fault : IsBatchFault fault → IsNumbered code OutOfMemory
-  of_fault (inl (terms.unknown_layer, same)) = absurd (a (is _ same))
-  of_fault (inl (terms.not_base, same)) = absurd (b (is _ same))
-  of_fault (inl (terms.not_derived, same)) = absurd (c (is _ same))
-  of_fault (inl (terms.later_layer, same)) = absurd (d (is _ same))
-  of_fault (inl (terms.in_use, same)) = absurd (e (is _ same))
-  of_fault (inl (terms.too_many_layers, same)) = absurd (f (is _ same))
-  of_fault (inl (terms.version_limit, same)) = absurd (g (is _ same))
-  of_fault (inr (inl same)) = absurd (h (is _ same))
-  of_fault (inr (inr (inl same))) = absurd (i (is _ same))
-  of_fault (inr (inr (inr same))) = numbered_memory code (is _ same)
 
 -- what a refusal of a batch is reported by
 pub batch_reported : (o : Option BatchRefusal) (fault : BatchFault) → option_map batch_faults.batch_fault_of o ≡ Some fault

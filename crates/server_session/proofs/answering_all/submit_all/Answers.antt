@@ -1,5 +1,10 @@
-use Rattle.std.proofs.Common.{sym, ap, ◌∙◌}
+use Rattle.std.proofs.Common.{subst, sym, ap, ◌∙◌}
+use Rattle.overlay_terms.specs.Histories.{newest}
+use Rattle.book_history.specs.Known.{seen}
+use Rattle.layer_book.specs.BatchFault.{code_of}
+use Rattle.layer_book.specs.declared.batch_fault.BatchFault.{BatchFault}
 use Rattle.script_form.specs.Replies.{error_line, refused_line}
+use Rattle.server_session.specs.Fault.{IsBatchNumber}
 use Rattle.server_session.proofs.BatchFaults.{batch_told, batch_number, is_numbered}
 use Rattle.server_session.proofs.AnswerLemmas.{submits_all_accepted, submits_all_refused}
 use Rattle.server_session.proofs.answering_all.submit_all.Goals as goal
@@ -9,6 +14,12 @@ returns-in-Ok g c =
     let e = c.submit_all.ensures in
     let done = c.in-Ok.ensures in
     submits_all_accepted c.args.me.now c.submit_all.new.me _ c.in-Ok.number e.goes_on e.same done.ok done.made
+
+pub numbered-requires : goal.numbered-requires
+numbered-requires g c = subst (λ (f : BatchFault). IsBatchNumber (code_of f)) c.in-Err-At.field-0-is (batch_number (newest (seen c.submit_all.new.me)) c.args.batch.now _ c.in-Err-At.ensures.refused)
+
+pub numbered-requires-in-Err-Whole : goal.numbered-requires-in-Err-Whole
+numbered-requires-in-Err-Whole g c = subst (λ (f : BatchFault). IsBatchNumber (code_of f)) c.in-Err-Whole.field-0-is (batch_number (newest (seen c.submit_all.new.me)) c.args.batch.now _ c.in-Err-Whole.ensures.refused)
 
 pub returns-in-Err-At : goal.returns-in-Err-At
 returns-in-Err-At g c =
