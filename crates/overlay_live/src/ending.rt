@@ -1,5 +1,5 @@
 //! How the sessions of a run ended.
-ghost use Rattle.std.specs.Prelude.{◌≡◌, map};
+ghost use Rattle.std.specs.Prelude.{◌≡◌};
 ghost use Rattle.program_store.specs.Ending.{ends_of};
 
 use overlay_server::outcome::Finished;
@@ -7,7 +7,7 @@ use program_store::ending::{Ends, is_end, was_run, was_written};
 
 /// How all sessions ended.
 pub fn ends_of<W>(sessions: &[Finished<W>]) -> Ends
-    ensures { result ≡ ends_of (map (λ session. session.end) sessions.now) }
+    ensures { result ≡ ends_of (λ session. session.end) sessions.now }
 {
     Ends {
         at_end: sessions.iter().all(|session| is_end(&session.end)),

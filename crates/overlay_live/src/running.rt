@@ -4,8 +4,9 @@ use crate::ports::open_ports;
 use crate::texts::{HELP, VERSION};
 use overlay_server::outcome::{Left, ServeOptions};
 use overlay_server::serving::serve_ports;
+use program_store::ending::end_run;
 use program_store::fault::ProgramFault;
-use program_store::store::{end_run, open_store};
+use program_store::store::open_store;
 use program_words::live_plan::{Asked, LivePlan};
 use program_words::live_reading::read_live_words;
 use program_words::own::own_words;
@@ -54,7 +55,7 @@ fn serve_plan<Q: Files<File = File> + Threads + Wait + Sync + AllocGlobal>(
         workers: keeping.workers as usize,
     };
     match serve_ports(rt, rt.alloc(), options, &OpenGate, engine, ports) {
-        Ok(Left { sessions, closed }) => end_run(rt, keeping, closed, true, ends_of(&sessions)),
+        Ok(Left { sessions, closed }) => end_run(keeping, &closed, true, ends_of(&sessions)),
         Err(refused) => Err(ProgramFault::of_server(refused.code)),
     }
 }

@@ -4,8 +4,9 @@ use crate::printing::print_all;
 use crate::script::open_scripts;
 use overlay_server::outcome::{ServeOptions, Served};
 use overlay_server::serving::serve;
+use program_store::ending::end_run;
 use program_store::fault::ProgramFault;
-use program_store::store::{end_run, open_store};
+use program_store::store::open_store;
 use program_words::own::own_words;
 use program_words::reading::read_words;
 use std::env::Env;
@@ -33,7 +34,7 @@ pub fn run<Q: Env + Files<File = File> + Threads + Wait + Sync + AllocGlobal>(
     match serve(rt, rt.alloc(), options, &OpenGate, engine, scripts) {
         Ok(Served { sessions, closed }) => {
             let printed = print_all(output, &sessions).is_ok();
-            end_run(rt, &keeping, closed, printed, ends_of(&sessions))
+            end_run(&keeping, &closed, printed, ends_of(&sessions))
         }
         Err(refused) => Err(ProgramFault::of_server(refused.code)),
     }

@@ -1,17 +1,19 @@
 -- How a run ends: what its sessions, its replies and its store come to.
-use Rattle.std.specs.Prelude.{ℕ, List, Bool, true, false, not, ◌&&◌, ◌||◌, nat_eq, nat_le, Option, Some, None, Result, Ok, Err, is_some}
+use Rattle.std.specs.Prelude.{ℕ, List, Bool, true, false, not, ◌&&◌, ◌||◌, nat_eq, nat_le, Option, Some, None, Result, Ok, Err, is_some, if◌then◌else◌}
 use Rattle.std.specs.Arc.{arc_value}
 use Rattle.std.specs.List.{list_all}
 use Rattle.program_words.specs.declared.keeping.Keeping.{Keeping}
 use Rattle.program_words.specs.declared.keeping.Opening.{Opening}
 use Rattle.program_words.specs.declared.keeping.Opening.TheVariants.{Existing, New, ReadOnly}
+use Rattle.commit_plan.specs.declared.fault.StoreFault.{StoreFault}
+use Rattle.commit_plan.specs.declared.fault.StoreFault.TheVariants as store
 use Rattle.script_form.specs.declared.session_end.SessionEnd.{SessionEnd}
 use Rattle.script_form.specs.declared.session_end.SessionEnd.TheVariants.{End, Failed}
 use Rattle.store_flushing.specs.declared.closing.Closed.{Closed}
 use Rattle.program_store.specs.Fault.{status_of}
 use Rattle.program_store.specs.declared.ending.Ends.{Ends}
 use Rattle.program_store.specs.declared.fault.ProgramFault.{ProgramFault}
-use Rattle.program_store.specs.declared.fault.ProgramFault.TheVariants.{OutOfMemory, Write}
+use Rattle.program_store.specs.declared.fault.ProgramFault.TheVariants.{OutOfMemory, Store, Write}
 
 -- a script was read to its end
 abbrev pub is_end : SessionEnd → Bool
@@ -28,9 +30,13 @@ abbrev pub was_written : SessionEnd → Bool
 was_written End = true
 was_written (Failed code) = not (nat_eq code 49)
 
--- how sessions ended
-abbrev pub ends_of : List SessionEnd → Ends
-ends_of ends = record { at_end = list_all is_end ends; run = list_all was_run ends; written = list_all was_written ends }
+-- how all sessions ended, of things that have a session's end each
+abbrev pub ends_of : {A : Type 0} → (A → SessionEnd) → List A → Ends
+ends_of end all = record {
+  at_end = list_all (λ one. is_end (end one)) all;
+  run = list_all (λ one. was_run (end one)) all;
+  written = list_all (λ one. was_written (end one)) all;
+}
 
 -- the fault of which no session's replies tell
 abbrev pub unsaid_by : (run written : Bool) → Option ProgramFault
@@ -72,3 +78,21 @@ is_read_only ReadOnly = true
 -- all is where the words have it: in memory alone, or in the store
 abbrev pub is_kept : {D : Type 0} → Opening → Closed D → Bool
 is_kept opening closed = is_read_only opening || not (is_some closed.disk) || is_stored closed
+
+-- why a version is not stored: of a store that failed, the device's fault that it failed by
+abbrev pub told_of : StoreFault → StoreFault
+told_of store.Device = store.Device
+told_of store.Full = store.Full
+told_of (store.Damaged damage) = store.Damaged damage
+told_of store.NotEmpty = store.NotEmpty
+told_of store.Failed = store.Device
+told_of store.SequenceLimit = store.SequenceLimit
+told_of store.OutOfMemory = store.OutOfMemory
+
+abbrev pub unstored : Option StoreFault → Result Bool ProgramFault
+unstored None = Ok false
+unstored (Some fault) = Err (Store (told_of fault))
+
+-- whether the newest version is where it is to be, and the store's fault where it told one
+abbrev pub kept_by : {D : Type 0} → Opening → Closed D → Result Bool ProgramFault
+kept_by opening closed = if is_kept opening closed then Ok true else unstored closed.fault

@@ -1,8 +1,10 @@
 //! How a run ends.
-ghost use Rattle.std.specs.Prelude.{◌≡◌, Bool, true, IfOk, Ok};
-ghost use Rattle.program_store.specs.Ending.{conclusion, exit_status, is_end, is_stored, unsaid, was_run, was_written};
+ghost use Rattle.std.specs.Prelude.{◌≡◌, true, IfOk, Ok};
+ghost use Rattle.program_store.specs.Ending.{conclusion, exit_status, is_end, is_kept, is_read_only, is_stored, kept_by, told_of, unsaid, was_run, was_written};
 
 use crate::fault::ProgramFault;
+use commit_plan::fault::StoreFault;
+use program_words::keeping::{Keeping, Opening};
 use script_form::SessionEnd;
 use store_flushing::closing::Closed;
 
@@ -17,26 +19,62 @@ pub struct Ends {
     pub written: bool,
 }
 
-/// What a run comes to: whether each script was read to its end and the newest version is stored. A fault is one that no
-/// session's replies tell: the store's, or else that the replies could not be written or that a session had no memory.
-pub fn conclude(
-    stored: Result<bool, ProgramFault>,
+/// The end of a run: whether each script was read to its end and the newest version is in the store, where it is to be. A
+/// fault is one that no session's replies tell: the store's, or else that the replies could not be written or that a
+/// session had no memory.
+pub fn end_run<D>(
+    keeping: &Keeping,
+    closed: &Closed<D>,
     printed: bool,
     ends: Ends,
 ) -> Result<bool, ProgramFault>
-    ensures value { result ≡ conclusion stored printed ends }
+    ensures value { result ≡ conclusion (kept_by keeping.now.opening closed.now) printed ends }
     // Status 0 means that nothing is missing.
-    ensures whole { result ≡ Ok true → (stored ≡ Ok true) × (printed ≡ true) × (ends.at_end ≡ true) }
+    ensures whole { result ≡ Ok true → (is_kept keeping.now.opening closed.now ≡ true) × (printed ≡ true) × (ends.at_end ≡ true) }
     // Where no fault is told, each session has told its end itself.
     ensures told { IfOk result (λ complete. (printed ≡ true) × (ends.run ≡ true) × (ends.written ≡ true)) }
 {
-    let stored = stored?;
+    let stored = has_stored(keeping.opening, closed)?;
     if !printed {
         return Err(ProgramFault::Write);
     }
     match unsaid(ends) {
         Some(fault) => Err(fault),
         None => Ok(stored && ends.at_end),
+    }
+}
+
+/// Whether the newest version is where it is to be. The fault is why the store does not take it.
+fn has_stored<D>(opening: Opening, closed: &Closed<D>) -> Result<bool, ProgramFault>
+    ensures value { result ≡ kept_by opening closed.now }
+    ensures kept { result ≡ Ok true → is_kept opening closed.now ≡ true }
+{
+    if is_read_only(opening) || closed.disk.is_none() || is_stored(closed) {
+        return Ok(true);
+    }
+    match closed.fault {
+        Some(fault) => Err(ProgramFault::Store(told(fault))),
+        None => Ok(false),
+    }
+}
+
+/// Whether nothing is kept, as the store is only read.
+fn is_read_only(opening: Opening) -> bool
+    ensures { result ≡ is_read_only opening }
+{
+    match opening {
+        Opening::ReadOnly => true,
+        Opening::Existing | Opening::New => false,
+    }
+}
+
+/// Why a version is not stored: of a store that failed, the device's fault that it failed by.
+fn told(fault: StoreFault) -> StoreFault
+    ensures { result ≡ told_of fault }
+{
+    match fault {
+        StoreFault::Failed => StoreFault::Device,
+        other => other,
     }
 }
 
@@ -95,7 +133,7 @@ pub fn was_written(end: &SessionEnd) -> bool
 }
 
 /// Whether the newest version is stored.
-pub fn is_stored<D>(closed: &Closed<D>) -> bool
+fn is_stored<D>(closed: &Closed<D>) -> bool
     ensures { result ≡ is_stored closed.now }
 {
     closed.version.number() <= closed.stored
