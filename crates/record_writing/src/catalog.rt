@@ -36,11 +36,7 @@ pub struct Listed {
 
 /// The layers that a catalog lists. Their names may be no names. In an old one, of format 1, tiles are those of other
 /// columns: their entries are asked for their form alone, and each tile counts as pending.
-pub fn read_catalog(
-    alloc: Global,
-    is_old: bool,
-    bytes: &[u8],
-) -> Result<Vec<Listed>, RecordFault>
+pub fn read_catalog(alloc: Global, is_old: bool, bytes: &[u8]) -> Result<Vec<Listed>, RecordFault>
     ensures { Reads (λ v. entries_of v.items) result (or_fault CatalogForm (catalog_of_record is_old bytes.now)) }
 {
     if is_old {
@@ -109,7 +105,12 @@ fn catalog_in(alloc: Global, columns: u8, bytes: &[u8]) -> Result<Vec<Listed>, R
 }
 
 /// So many layers, one behind another, and what follows them.
-fn listing_at(alloc: Global, columns: u8, count: u16, bytes: &[u8]) -> Result<(Vec<Listed>, &[u8]), ReadFault>
+fn listing_at(
+    alloc: Global,
+    columns: u8,
+    count: u16,
+    bytes: &[u8],
+) -> Result<(Vec<Listed>, &[u8]), ReadFault>
     ensures { Gives (λ x. (entries_of x.0.items, x.1.now)) result
         (read_many (listed columns).read count bytes.now) }
 {
@@ -163,7 +164,11 @@ fn records_at(alloc: Global, columns: u8, bytes: &[u8]) -> Result<(Records, &[u8
 }
 
 /// A tile entry for each column, and what follows them.
-fn tiles_at(alloc: Global, columns: u8, bytes: &[u8]) -> Result<(Vec<Option<RecordExtent>>, &[u8]), ReadFault>
+fn tiles_at(
+    alloc: Global,
+    columns: u8,
+    bytes: &[u8],
+) -> Result<(Vec<Option<RecordExtent>>, &[u8]), ReadFault>
     ensures { Gives (λ x. (x.0.items, x.1.now)) result (read_many (optional extent).read columns bytes.now) }
 {
     let mut tiles = Vec::new(alloc);
