@@ -5,6 +5,7 @@ from __future__ import annotations
 import json
 import multiprocessing
 import threading
+import time
 import unittest
 import unittest.mock
 
@@ -344,6 +345,24 @@ class Failures(unittest.TestCase):
         self.assertEqual((status["version"], status["durable"]), (3, 0))
         self.assertEqual(self.client.get("/collections/N")["definition"], "A")
 
+    def test_what_was_answered_is_in_the_file(self) -> None:
+        """The program is killed as soon as a change is answered; each time it is there again."""
+        store = self.enterContext(testing.folder()) / "map.db"
+        for number in range(6):
+            with Server(store, create=number == 0, sessions=2, program=testing.PROGRAM, timeout=60) as server:
+                kept = LayerStore(server, server, testing.map_scale(), version=number, kept=True, writable=True)
+                self.assertEqual(list(kept.layers()), [f"L{n}" for n in range(number)])
+                self.assertEqual((kept.change([f"PUT L{number} {SQUARE}"]), kept.durable), (number + 1, number + 1))
+                server.process.kill()
+                kept.close()
+
+    def test_a_change_without_a_reply_may_have_been_made(self) -> None:
+        self.server.sessions[2]._replies.timeout = 0
+        self.assertIn(self.client.ask("/collections/N", "PUT", {"definition": "A"}).status, (200, 503))
+        end = time.monotonic() + 60
+        while len(self.client.get("/collections")["collections"]) < 3:
+            self.assertLess(time.monotonic(), end)
+
     def test_one_thread_joins_for_all_that_ask(self) -> None:
         real = self.store._join
         counted = self.enterContext(unittest.mock.patch.object(self.store, "_join", side_effect=real))
@@ -353,6 +372,14 @@ class Failures(unittest.TestCase):
         for one in threads:
             one.join()
         self.assertEqual(counted.call_count, 1)
+
+    def test_polygons_of_another_revision_are_asked_again(self) -> None:
+        """The layer changes after its revision was read and before its pieces are: they are not kept as those of it."""
+        real = self.store._boundary
+        answers = [("of a change in between", []), real("I")]
+        asked = self.enterContext(unittest.mock.patch.object(self.store, "_boundary", side_effect=answers))
+        self.assertEqual(self.client.get("/collections/I/items")["numberMatched"], 1)
+        self.assertEqual(asked.call_count, 2)
 
     def test_statuses_of_refusals(self) -> None:
         for number, status in ((10, 404), (11, 409), (21, 409), (7, 400), (20, 400), (31, 503), (40, 503)):
