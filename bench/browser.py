@@ -31,7 +31,7 @@ import web_front
 from web_front import Tries, asked
 
 SIZE = (1280, 800)
-STEP = 31
+STEP = 23
 """Pixels between two points of the map that are compared."""
 
 

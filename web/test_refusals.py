@@ -2,12 +2,13 @@
 
 from __future__ import annotations
 
+import functools
 import json
 import multiprocessing
 import threading
-import time
 import unittest
 import unittest.mock
+from collections.abc import Callable
 
 import front
 import layer_store
@@ -278,6 +279,14 @@ class Bases(RefusalCase):
         self.assertEqual(self.behind.ask("/collections/N", "DELETE", headers=own).status, 200)
 
 
+def reply_lost(ask: Callable[[str], list[str]], line: str) -> list[str]:
+    """Asks, and gives a reply to a question alone: that to a change does not come."""
+    reply = ask(line)
+    if line.startswith("DEFINE"):
+        raise TimeoutError("no reply")
+    return reply
+
+
 class Failures(unittest.TestCase):
     """Each test has a process of its own, as it harms it."""
 
@@ -357,11 +366,12 @@ class Failures(unittest.TestCase):
                 kept.close()
 
     def test_a_change_without_a_reply_may_have_been_made(self) -> None:
-        self.server.sessions[2]._replies.timeout = 0
-        self.assertIn(self.client.ask("/collections/N", "PUT", {"definition": "A"}).status, (200, 503))
-        end = time.monotonic() + 60
-        while len(self.client.get("/collections")["collections"]) < 3:
-            self.assertLess(time.monotonic(), end)
+        self.assertEqual(len(self.client.get("/collections")["collections"]), 2)
+        for one in self.server.sessions:
+            lost = functools.partial(reply_lost, one.ask)
+            self.enterContext(unittest.mock.patch.object(one, "ask", side_effect=lost))
+        self.assertEqual(self.client.ask("/collections/N", "PUT", {"definition": "A"}).status, 503)
+        self.assertEqual(len(self.client.get("/collections")["collections"]), 3)
 
     def test_one_thread_joins_for_all_that_ask(self) -> None:
         real = self.store._join
