@@ -55,7 +55,8 @@ class Browser:
         # The shell gives the pipe the descriptors that chromium looks at.
         shell = ["sh", "-c", f'exec 3<&{to_in} 4>&{from_out}; exec "$@"', "sh", *words]
         self.run = subprocess.Popen(shell, pass_fds=(to_in, from_out), stderr=subprocess.DEVNULL)
-        os.close(to_in), os.close(from_out)
+        os.close(to_in)
+        os.close(from_out)
         self.to, self.back, self.rest, self.count, self.session, self.target = to_out, from_in, b"", 0, "", ""
         self.faults: list[str] = []
         self.asked: list[str] = []
@@ -94,9 +95,7 @@ class Browser:
         return value
 
     def open(self, address: str) -> None:
-        if self.target:
-            self.session = ""
-            self.call("Target.closeTarget", targetId=self.target)
+        self.leave()
         self.target = self.call("Target.createTarget", url="about:blank")["targetId"]
         self.session = self.call("Target.attachToTarget", targetId=self.target, flatten=True)["sessionId"]
         for part in ("Runtime", "Page", "Log", "Network"):
@@ -105,6 +104,13 @@ class Browser:
             "Emulation.setDeviceMetricsOverride", width=SIZE[0], height=SIZE[1], deviceScaleFactor=1, mobile=False
         )
         self.call("Page.navigate", url=address)
+
+    def leave(self) -> None:
+        """Closes the page, which looks at its front now and then."""
+        if self.target:
+            self.session = ""
+            self.call("Target.closeTarget", targetId=self.target)
+            self.target = ""
 
     def value(self, text: str) -> Any:
         found = self.call("Runtime.evaluate", expression=text, returnByValue=True, awaitPromise=True)
@@ -262,7 +268,7 @@ def ask_point(browser: Browser, x: str, y: str) -> None:
     )
 
 
-def looks(browser: Browser, address: str, pictures: pathlib.Path, tries: Tries) -> None:
+def looks(browser: Browser, address: str, tries: Tries) -> None:
     browser.open(address)
     browser.until(READY)
     tries.that(
@@ -395,6 +401,31 @@ def read_only(browser: Browser, address: str, tries: Tries) -> None:
     tries.that("version 4" in told(browser, "status"), "it tells the file's version")
 
 
+def visits(browser: Browser, words: argparse.Namespace, folder: pathlib.Path, tries: Tries) -> None:
+    """Looks at fronts over three stores, one of them by a front that reads too."""
+    pictures, running = words.pictures or folder, {"program": words.program, "python": words.python}
+    store = web_front.iceland(folder, words.program)
+    with web_front.front("--store", store, "--writable", **running) as address:
+        looks(browser, address, tries)
+        changes(browser, address, pictures, tries)
+        browser.leave()
+    for name, shape in (("stars", star), ("flowers", flower)):
+        three = plane(folder, words.program, name, shape)
+        with web_front.front("--store", three, "--writable", **running) as address:
+            building(browser, address, pictures / f"building-{name}.png", tries)
+            if name == "flowers":
+                compared(browser, address, tries, "a plane that is nowhere on the earth")
+            browser.leave()
+    with web_front.front("--store", store, **running) as address:
+        read_only(browser, address, tries)
+        browser.leave()
+    # A definition that was refused on purpose stands in the log as well.
+    faults = [one for one in browser.faults if "404" not in one]
+    tries.that(not faults, f"no fault in the browser's log: {faults}")
+    own = [one for one in browser.asked if one.startswith(("http://127.0.0.1:", "data:", "about:"))]
+    tries.that(own == browser.asked, f"all of {len(browser.asked)} requests go to the front")
+
+
 def main() -> int:
     parser = argparse.ArgumentParser(description=__doc__, formatter_class=argparse.RawDescriptionHelpFormatter)
     parser.add_argument("--program", default=str(web_front.PROGRAM), help="the built overlay_live")
@@ -405,28 +436,9 @@ def main() -> int:
     web_front.need("/usr/share/javascript/leaflet", "libjs-leaflet")
     tries = Tries()
     with tempfile.TemporaryDirectory() as place:
-        folder = pathlib.Path(place)
-        pictures = words.pictures or folder
-        store = web_front.iceland(folder, words.program)
-        browser = Browser(folder)
+        browser = Browser(pathlib.Path(place))
         try:
-            with web_front.front("--store", store, "--writable", program=words.program, python=words.python) as address:
-                looks(browser, address, pictures, tries)
-                changes(browser, address, pictures, tries)
-            for name, shape in (("stars", star), ("flowers", flower)):
-                three = plane(folder, words.program, name, shape)
-                with web_front.front(
-                    "--store", three, "--writable", program=words.program, python=words.python
-                ) as address:
-                    building(browser, address, pictures / f"building-{name}.png", tries)
-                    if name == "flowers":
-                        compared(browser, address, tries, "a plane that is nowhere on the earth")
-            with web_front.front("--store", store, program=words.program, python=words.python) as address:
-                read_only(browser, address, tries)
-            faults = [one for one in browser.faults if "409" not in one and "404" not in one]
-            tries.that(not faults, f"no fault in the browser's log: {faults}")
-            own = [one for one in browser.asked if one.startswith(("http://127.0.0.1:", "data:", "about:"))]
-            tries.that(own == browser.asked, f"all of {len(browser.asked)} requests go to the front")
+            visits(browser, words, pathlib.Path(place), tries)
         finally:
             browser.end()
     print(f"{tries.passed} passed, {tries.failed} failed")

@@ -23,7 +23,7 @@ from typing import NamedTuple
 import shapes
 from kept_values import Kept
 from map_scale import MapScale
-from overlay_client import OVERSIZE, PENDING, UNKNOWN_LAYER, Layer, Piece, Point, Refused, Server, number_of
+from overlay_client import OVERSIZE, PENDING, UNKNOWN_LAYER, Layer, Piece, Point, Refused, Server, Session, number_of
 
 PIECES_MOST = 200_000
 KEPT_MOST = 500_000
@@ -92,7 +92,7 @@ class LayerStore:
         self.version = self.durable = version
         self._server, self._scratch = server, scratch
         self._salt = scale.scale.text()
-        self._changing = threading.Lock()
+        self._changing, self._certain = threading.Lock(), True
         self._listing: tuple[int, dict[str, Listed]] | None = None
         self._joined: Kept[str, Joined] = Kept(KEPT_MOST, Joined.weight)
         self._extents: Kept[str, list[shapes.Box]] = Kept(REVISIONS_MOST, lambda _: 1)
@@ -106,7 +106,7 @@ class LayerStore:
     def layers(self) -> dict[str, Listed]:
         """All layers in order, by name."""
         held, version = self._listing, self.version
-        if held is None or held[0] != version:
+        if held is None or held[0] != version or not self._certain:
             with self._server.session() as one:
                 held = version, listed(one.layers(), self._salt)
             self._listing = held
@@ -221,16 +221,24 @@ class LayerStore:
     def change(self, lines: Sequence[str]) -> int:
         """Accepts commands as one version, whose number it gives. With a file, it is durable before this returns."""
         with self._changing, self._server.session(slow=True) as one:
-            try:
-                self.version = one.batch(lines) if len(lines) > 1 else number_of(one.ask(lines[0]))
-            finally:
-                self._listing = None
+            self.version = self._accepted(one, lines)
             if self.kept:
                 try:
                     self.durable = one.sync()
                 except Refused as fault:
                     raise NotDurable(self.version, fault) from fault
             return self.version
+
+    def _accepted(self, one: Session, lines: Sequence[str]) -> int:
+        """The number of the version that commands have made. Where no reply comes, nobody knows whether they have."""
+        self._certain = False
+        try:
+            number = one.batch(lines) if len(lines) > 1 else number_of(one.ask(lines[0]))
+        except Refused:
+            self._certain = True
+            raise
+        self._certain = True
+        return number
 
 
 def joining_process() -> concurrent.futures.ProcessPoolExecutor:

@@ -282,7 +282,7 @@ def rings_of(pieces: list[Piece]) -> list[list[Ring]]:
 
 
 class Pool:
-    """Sessions that threads borrow; one that was closed meanwhile does not come back."""
+    """Sessions that threads borrow; one that was closed meanwhile is lent no more."""
 
     def __init__(self, sessions: Sequence[Session]) -> None:
         self._free: queue.SimpleQueue[Session] = queue.SimpleQueue()
@@ -296,8 +296,7 @@ class Pool:
         try:
             yield one
         finally:
-            if not one.closed:
-                self._free.put(one)
+            self._free.put(one)
 
     def _borrowed(self, end: float) -> Session:
         """A free session that is whole. It looks each second whether there is still one to wait for."""

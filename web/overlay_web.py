@@ -9,7 +9,8 @@ loopback unless --host says otherwise, and is never writable elsewhere: to serve
 passwords before it. map.scale.json beside map.db, as tools/to_script.py writes it, says what its whole numbers mean.
 web/README.md has more.
 
-Status 0: ended by SIGTERM or an interrupt; 1: the store could not be opened, or overlay_live has ended; 2: wrong words.
+Status 0: ended by SIGTERM or an interrupt; 1: the store could not be opened, or overlay_live has ended by itself or by a
+fault, which is told; 2: wrong words.
 """
 
 from __future__ import annotations
@@ -136,15 +137,15 @@ def main(arguments: Sequence[str]) -> int:
             with contextlib.suppress(SystemExit, KeyboardInterrupt):
                 serve(Front(store, hosts_of(words), words.base, words.leaflet), words.host, words.port)
             signal.signal(signal.SIGTERM, signal.SIG_IGN)
-            ended = server.process.poll()
+            status, told = server.close()
             for child in multiprocessing.active_children():  # what it joins nobody will ask for
                 child.kill()
     except (Refused, Ended, scales.ScaleFault, OSError) as fault:
         print(f"{words.store or 'the front'}: {fault}", file=sys.stderr)
         return 1
-    if ended is not None:
-        print(f"overlay_live has ended with status {ended}", file=sys.stderr)
-    return 0 if ended is None else 1
+    if status:
+        print(f"overlay_live has ended with status {status} {told}".rstrip(), file=sys.stderr)
+    return 1 if status else 0
 
 
 if __name__ == "__main__":

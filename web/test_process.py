@@ -32,7 +32,7 @@ def started(*words: str | pathlib.Path) -> subprocess.Popen[str]:
         f"sys.path.insert(0, {str(WEB)!r}); import overlay_web; sys.exit(overlay_web.main(sys.argv[1:]))"
     )
     given = [sys.executable, "-c", code, "--program", testing.PROGRAM, "--port", "0", *map(str, words)]
-    return subprocess.Popen(given, stdout=subprocess.PIPE, stderr=subprocess.PIPE, text=True)
+    return subprocess.Popen(given, stdout=subprocess.PIPE, stderr=subprocess.PIPE, text=True, start_new_session=True)
 
 
 @contextlib.contextmanager
@@ -93,7 +93,7 @@ class Processes(unittest.TestCase):
     def test_an_interrupt_of_the_terminal_ends_it_in_order(self) -> None:
         with running("--store", self.store, "--writable") as (run, address):
             asked(address, "GET", "/collections/I/items")
-            run.send_signal(signal.SIGINT)
+            os.killpg(run.pid, signal.SIGINT)  # a terminal sends it to all that the front began
             self.assertEqual(self.ended(run), (0, ""))
 
     def test_several_fronts_read_one_store(self) -> None:

@@ -2,11 +2,13 @@
 
 from __future__ import annotations
 
+import functools
 import json
 import multiprocessing
 import threading
 import unittest
 import unittest.mock
+from collections.abc import Callable
 
 import front
 import layer_store
@@ -277,6 +279,14 @@ class Bases(RefusalCase):
         self.assertEqual(self.behind.ask("/collections/N", "DELETE", headers=own).status, 200)
 
 
+def reply_lost(ask: Callable[[str], list[str]], line: str) -> list[str]:
+    """Asks, and gives a reply to a question alone: that to a change does not come."""
+    reply = ask(line)
+    if line.startswith("DEFINE"):
+        raise TimeoutError("no reply")
+    return reply
+
+
 class Failures(unittest.TestCase):
     """Each test has a process of its own, as it harms it."""
 
@@ -344,6 +354,25 @@ class Failures(unittest.TestCase):
         self.assertEqual((status["version"], status["durable"]), (3, 0))
         self.assertEqual(self.client.get("/collections/N")["definition"], "A")
 
+    def test_what_was_answered_is_in_the_file(self) -> None:
+        """The program is killed as soon as a change is answered; each time it is there again."""
+        store = self.enterContext(testing.folder()) / "map.db"
+        for number in range(6):
+            with Server(store, create=number == 0, sessions=2, program=testing.PROGRAM, timeout=60) as server:
+                kept = LayerStore(server, server, testing.map_scale(), version=number, kept=True, writable=True)
+                self.assertEqual(list(kept.layers()), [f"L{n}" for n in range(number)])
+                self.assertEqual((kept.change([f"PUT L{number} {SQUARE}"]), kept.durable), (number + 1, number + 1))
+                server.process.kill()
+                kept.close()
+
+    def test_a_change_without_a_reply_may_have_been_made(self) -> None:
+        self.assertEqual(len(self.client.get("/collections")["collections"]), 2)
+        for one in self.server.sessions:
+            lost = functools.partial(reply_lost, one.ask)
+            self.enterContext(unittest.mock.patch.object(one, "ask", side_effect=lost))
+        self.assertEqual(self.client.ask("/collections/N", "PUT", {"definition": "A"}).status, 503)
+        self.assertEqual(len(self.client.get("/collections")["collections"]), 3)
+
     def test_one_thread_joins_for_all_that_ask(self) -> None:
         real = self.store._join
         counted = self.enterContext(unittest.mock.patch.object(self.store, "_join", side_effect=real))
@@ -353,6 +382,14 @@ class Failures(unittest.TestCase):
         for one in threads:
             one.join()
         self.assertEqual(counted.call_count, 1)
+
+    def test_polygons_of_another_revision_are_asked_again(self) -> None:
+        """The layer changes after its revision was read and before its pieces are: they are not kept as those of it."""
+        real = self.store._boundary
+        answers = [("of a change in between", []), real("I")]
+        asked = self.enterContext(unittest.mock.patch.object(self.store, "_boundary", side_effect=answers))
+        self.assertEqual(self.client.get("/collections/I/items")["numberMatched"], 1)
+        self.assertEqual(asked.call_count, 2)
 
     def test_statuses_of_refusals(self) -> None:
         for number, status in ((10, 404), (11, 409), (21, 409), (7, 400), (20, 400), (31, 503), (40, 503)):
