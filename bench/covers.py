@@ -11,11 +11,15 @@ it once.
 from __future__ import annotations
 
 import argparse
+import pathlib
 import random
 import subprocess
 import sys
 
-COLUMNS = 33
+sys.path.insert(0, str(pathlib.Path(__file__).resolve().parent.parent / "tools"))
+
+from limits import COLUMNS  # noqa: E402
+
 Triangle = tuple[tuple[int, int], tuple[int, int], tuple[int, int]]
 
 

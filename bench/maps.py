@@ -10,8 +10,8 @@ not installed; gdal-bin and python3-shapely are installed by apt-get where they 
 GeoJSON of them, tools/to_script.py scripts, the program stores.
 
 Of each map: how many features, steps, layers and stores; how far a coordinate moved; the area of what was read
-beside that of what the store has, both exact. Then overlays with a star of 720 corners: what GEOS says of the same whole
-numbers in floating point, and the greatest difference, as a part of the area itself. And points at random, of
+beside that of what the store has, both exact. Then overlays with a star of 720 corners: what GEOS says of the same
+whole numbers in floating point, and the greatest difference, as a part of the area itself. And points at random, of
 which tools/which.py and GEOS say in which feature they are.
 
 Status 1: a feature was left out, an area differs by more than 1e-11 of it, or a point is in another feature.
@@ -70,7 +70,8 @@ CHARTS = [
     Chart("boroughs", "python3-geopandas",
           "/vsizip/usr/lib/python3/dist-packages/geopandas/datasets/nybb_16a.zip/nybb.shp", "BoroName",
           ["--split", "--unit", "ft"], 5, False),
-    Chart("counties", "r-cran-spdata", "usr/lib/R/site-library/spData/shapes/sids.shp", "NAME", ["--coded", "--check"], 100, True),
+    Chart("counties", "r-cran-spdata", "usr/lib/R/site-library/spData/shapes/sids.shp", "NAME", ["--coded", "--check"],
+          100, True),
 ]
 
 
@@ -141,7 +142,7 @@ def answers(task: Any) -> dict[str, Any]:
 
 def asked_of_geos(task: Any) -> Any:
     words = [PYTHON, str(pathlib.Path(__file__).resolve()), "--geos"]
-    done = subprocess.run(words, input=json.dumps(task), stdout=subprocess.PIPE, stderr=subprocess.PIPE, text=True, check=False)
+    done = subprocess.run(words, input=json.dumps(task), capture_output=True, text=True, check=False)
     if done.returncode:
         sys.exit(f"GEOS: {done.stderr}")
     return json.loads(done.stdout)
@@ -171,7 +172,8 @@ def star(extent: tuple[int, int, int, int], corners: int = 720) -> rounding.Ring
     for number in range(corners):
         far = 0.45 if number % 2 else 0.3
         angle = 2 * math.pi * number / corners
-        points.append((round(x + far * (right - left) * math.cos(angle)), round(y + far * (high - low) * math.sin(angle))))
+        across, up = far * (right - left) * math.cos(angle), far * (high - low) * math.sin(angle)
+        points.append((round(x + across), round(y + up)))
     return [*points, points[0]]
 
 
@@ -206,8 +208,9 @@ class Result:
     wrong: list[str] = field(default_factory=list)
 
     def row(self) -> str:
-        return (f"| {self.chart.name} | {self.chart.features} | {self.steps:,} | {self.layers} in {self.stores} | {self.moved} "
-                f"| {self.ratio - 1:+.1e} | {self.overlays} | {self.furthest:.1e} | {self.points} |")
+        cells = (self.chart.name, self.chart.features, f"{self.steps:,}", f"{self.layers} in {self.stores}", self.moved,
+                 f"{self.ratio - 1:+.1e}", self.overlays, f"{self.furthest:.1e}", self.points)
+        return f"| {' | '.join(map(str, cells))} |"
 
 
 Plan = tuple[bytes, list[Overlay]]
@@ -240,11 +243,11 @@ def plans_of_names(script: bytes, names: dict[str, str]) -> list[Plan]:
     found = []
     for layer in layers:
         own = [Overlay(layer, [names[layer]])]
-        own += [Overlay(f"{layer} {sign} star", [names[layer]], operation, "star") for sign, operation in OPERATIONS.items()]
+        own += [Overlay(f"{layer} {sign} star", [names[layer]], word, "star") for sign, word in OPERATIONS.items()]
         found.append((needed([layer]), own))
     for at in range(0, len(layers), 8):
-        some = [layer for layer in layers[at : at + 8] if needed(layers[at : at + 8]).count(b"\n") <= limits.LAYERS_MAX - 2]
-        if len(some) > 1:
+        some = layers[at : at + 8]
+        if len(some) > 1 and needed(some).count(b"\n") <= limits.LAYERS_MAX - 2:
             found.append((needed(some), [Overlay(" | ".join(some), [names[layer] for layer in some])]))
     return found
 
@@ -258,8 +261,8 @@ def layer_names(told: str, features: list[str]) -> dict[str, str]:
 def scripts_of(chart: Chart, file: pathlib.Path, folder: pathlib.Path, program: str) -> tuple[list[pathlib.Path], str]:
     for old in folder.glob(f"{chart.name}.*txt"):
         old.unlink()
-    words = [sys.executable, str(TOP / "tools" / "to_script.py"), str(file), "--fit", "--name-by", chart.name_by, *chart.words,
-             "--output", str(folder / f"{chart.name}.txt"), "--program", program]
+    words = [sys.executable, str(TOP / "tools" / "to_script.py"), str(file), "--fit", "--name-by", chart.name_by,
+             *chart.words, "--output", str(folder / f"{chart.name}.txt"), "--program", program]
     done = subprocess.run(words, stdout=subprocess.DEVNULL, stderr=subprocess.PIPE, text=True, check=False)
     if done.returncode:
         sys.exit(f"{' '.join(words)}: {done.stderr}")
@@ -307,9 +310,11 @@ def compare(result: Result, overlays: list[Overlay], ours: list[Fraction], areas
             result.wrong.append(f"{result.chart.name}: {overlay.expression[:60]}: {float(own)}, GEOS {area}")
 
 
-def task_of(shapes: dict[str, Polygons], overlays: list[Overlay], features: list[str], points: list[list[float]]) -> Any:
-    return {"shapes": {name: wkt.write(polygons) for name, polygons in shapes.items()},
-            "overlays": [[one.names, one.operation, one.other] for one in overlays], "features": features, "points": points}
+def task_of(shapes: dict[str, Polygons], overlays: list[Overlay], features: list[str], points: list[list[float]]
+            ) -> Any:
+    texts = {name: wkt.write(polygons) for name, polygons in shapes.items()}
+    asked = [[one.names, one.operation, one.other] for one in overlays]
+    return {"shapes": texts, "overlays": asked, "features": features, "points": points}
 
 
 def tried(chart: Chart, program: str, folder: pathlib.Path) -> tuple[Result, str]:
@@ -338,8 +343,9 @@ def tried(chart: Chart, program: str, folder: pathlib.Path) -> tuple[Result, str
     before = read_area(read)
     held = sum((rounding.area_of(polygons) for polygons in whole.values()), Fraction(0))
     moves = [line.split("largest move ")[1].split(",")[0] for line in told.splitlines() if "largest move" in line]
-    result = Result(chart, sum(map(rounding.steps_of, whole.values())), sum(len(script.splitlines()) for script in base),
-                    len(stores), f"{max(moves, key=float)} {scale.unit}".removesuffix(" 1"), float(scale.area(held)) / before)
+    steps, layers = sum(map(rounding.steps_of, whole.values())), sum(len(script.splitlines()) for script in base)
+    moved = f"{max(moves, key=float)} {scale.unit}".removesuffix(" 1")
+    result = Result(chart, steps, layers, len(stores), moved, float(scale.area(held)) / before)
     if len(whole) != chart.features or any(not polygons for polygons in whole.values()):
         result.wrong.append(f"{chart.name}: {len(whole)} features of {chart.features}")
     compare(result, overlays, [area for own in ours for area in own], geos["areas"])
@@ -356,7 +362,7 @@ def tried(chart: Chart, program: str, folder: pathlib.Path) -> tuple[Result, str
     if different:
         result.wrong.append(f"{chart.name}: {different} points are in another feature")
     if geos["mended"]:
-        print(f"{chart.name}: GEOS calls {len(geos['mended'])} features invalid as rounded, and is given make_valid of them: "
+        print(f"{chart.name}: invalid for GEOS, as rounded, and given to it by make_valid: "
               f"{', '.join(geos['mended'])[:100]}", file=sys.stderr)
     return result, geos["version"]
 
@@ -414,8 +420,8 @@ def main() -> int:
         program = str(pathlib.Path(words.program).resolve())
         results = [tried(chart, program, folder) for chart in CHARTS if chart.name in (words.only or [chart.name])]
     print(f"GEOS {results[0][1]}\n")
-    print("| map | features | steps | layers in stores | moved by at most | area to that read | overlays | furthest from GEOS "
-          "| points |\n|---|---|---|---|---|---|---|---|---|")
+    print("| map | features | steps | layers in stores | moved by at most | area to that read | overlays "
+          "| furthest from GEOS | points |\n|---|---|---|---|---|---|---|---|---|")
     for result, _ in results:
         print(result.row())
     wrong = [text for result, _ in results for text in result.wrong]

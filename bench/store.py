@@ -14,9 +14,14 @@ import pathlib
 import resource
 import struct
 import subprocess
+import sys
 import tempfile
 
 import unproved
+
+sys.path.insert(0, str(pathlib.Path(__file__).resolve().parent.parent / "tools"))
+
+from limits import COLUMNS, COORDINATE_MAX, column_begin  # noqa: E402
 
 HERE = pathlib.Path(__file__).resolve().parent
 CRATES = [
@@ -35,25 +40,21 @@ def zigzag(steps):
     return base_record(points + points[:1])
 
 
-def column_left(column):
-    return -(2**20) + column * 2**16
-
-
 def whole_piece(column, i):
-    left, right = struct.pack(">ii", column_left(column), i), struct.pack(">ii", column_left(column) + 1, i)
+    left, right = struct.pack(">ii", column_begin(column), i), struct.pack(">ii", column_begin(column) + 1, i)
     return left + right + b"\0" + left + b"\0" + right
 
 
 def short_piece(column, i):
     # the last column is a line, so its pieces are vertical
-    if column < 16:
+    if column < COLUMNS - 1:
         return whole_piece(column, i)
-    low, high = struct.pack(">ii", 2**20, i), struct.pack(">ii", 2**20, i + 1)
+    low, high = struct.pack(">ii", COORDINATE_MAX, i), struct.pack(">ii", COORDINATE_MAX, i + 1)
     return low + high + b"\0" + low + b"\0" + high
 
 
 def crossed_piece(column, i):
-    x = column_left(column)
+    x = column_begin(column)
     support = struct.pack(">iiii", x, 4 * i, x + 4, 4 * i)
     across = struct.pack(">iiii", x + 1, 4 * i - 1, x + 2, 4 * i + 1)
     return support + b"\0" + support[:8] + b"\1" + support + across
@@ -74,7 +75,7 @@ def body(sequence, version, block, size):
 def store(layers):
     # layers: name, base record or definition record, and tiles by column (None of a base layer)
     entries = [
-        14 + len(name) + sum(13 if c in tiles else 1 for c in range(33) if tiles is not None)
+        14 + len(name) + sum(13 if c in tiles else 1 for c in range(COLUMNS) if tiles is not None)
         for name, _, tiles in layers
     ]
     records, catalog = [], struct.pack(">H", len(layers))
@@ -89,7 +90,7 @@ def store(layers):
 
     for name, record, tiles in layers:
         catalog += struct.pack(">B", len(name)) + name + struct.pack(">B", tiles is not None) + placed(record)
-        for column in range(33) if tiles is not None else []:
+        for column in range(COLUMNS) if tiles is not None else []:
             catalog += b"\1" + placed(tiles[column]) if column in tiles else b"\0"
     # both gates are open, so that opening writes nothing
     slots = b"".join((b"\xa7" + bytes(15) + body(s, len(layers), 2, len(catalog))).ljust(BLOCK, b"\0") for s in [0, 1])
@@ -146,7 +147,7 @@ def records(programs, folder):
 def files(program, folder):
     base, small = zigzag(2048), zigzag(4)
     tile = {c: tile_record(c, 60000, whole_piece) for c in range(16)}
-    oversize = {c: bytes([1, c]) for c in range(33)}
+    oversize = {c: bytes([1, c]) for c in range(COLUMNS)}
     kinds = {
         "one layer of 4 steps": [(b"A", small, None)],
         "32 layers of 2,048 steps": [(b"A%d" % i, base, None) for i in range(32)],
@@ -173,7 +174,7 @@ def files(program, folder):
 def changes(program, folder):
     """What a commit writes that leads from one file to another."""
     base, other, small = zigzag(2048), zigzag(2047), zigzag(4)
-    tile = {c: tile_record(c, 100, short_piece) for c in range(33)}
+    tile = {c: tile_record(c, 100, short_piece) for c in range(COLUMNS)}
     shorter = {**tile, 8: tile_record(8, 99, whole_piece)}
     layers = [(b"A%d" % i, base, None) for i in range(32)]
     tiled = [(b"A", small, None)] + [(b"I%d" % i, b"A", tile) for i in range(30)]
@@ -194,7 +195,7 @@ def changes(program, folder):
 def beginnings(program, folder):
     """How long the beginning of a commit takes, and how long it takes to find a place."""
     small, path = zigzag(4), folder / "tiled"
-    tile = {c: tile_record(c, 100, short_piece) for c in range(33)}
+    tile = {c: tile_record(c, 100, short_piece) for c in range(COLUMNS)}
     path.write_bytes(store([(b"A", small, None)] + [(b"I%d" % i, b"A", tile) for i in range(30)]))
     words = [program, "begin", path, "200"]
     least = int(subprocess.run(words, stdout=subprocess.PIPE, check=True, text=True).stdout.split()[0])

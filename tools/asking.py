@@ -30,6 +30,7 @@ TOP = pathlib.Path(__file__).resolve().parent.parent
 LIVE, BATCHED = "overlay_live", "overlayd"
 ROOM = ["--max-blocks", str(limits.BLOCKS_MAX)]
 NEEDS_COPY = ("error 30 device", "error 50 words")
+PROGRAM_HELP = "the program to ask (default: overlay_live or overlayd, built in this repository or on the path)"
 GridFor = Callable[[Session], tuple[int, ...] | None]
 
 
@@ -133,8 +134,7 @@ def add_words(parser: argparse.ArgumentParser, many: bool = False) -> None:
                         help="the layers of this store, in the place of a script; it is not changed")
     source = parser.add_mutually_exclusive_group()
     source.add_argument("--program", metavar="PATH",
-                        help="the program to ask (default: overlay_live or overlayd, built in this repository or on the "
-                        "path)")
+                        help=PROGRAM_HELP)
     source.add_argument("--replies", metavar="FILE", type=pathlib.Path,
                         help="ask no program: the replies to the script, which asks EDGES itself")
     source.add_argument("--questions", action="store_true",

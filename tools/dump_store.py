@@ -31,9 +31,7 @@ def lines(program: str, store: pathlib.Path) -> list[str]:
 def main(arguments: list[str], output: TextIO | None = None, errors: TextIO | None = None) -> int:
     parser = argparse.ArgumentParser(description=__doc__, formatter_class=argparse.RawDescriptionHelpFormatter)
     parser.add_argument("store", metavar="STORE", type=pathlib.Path, help="the store's file")
-    parser.add_argument("--program", metavar="PATH",
-                        help="the program to ask (default: overlay_live or overlayd, built in this repository or on the "
-                        "path)")
+    parser.add_argument("--program", metavar="PATH", help=asking.PROGRAM_HELP)
     words = parser.parse_args(arguments)
     output, errors = output or sys.stdout, errors or sys.stderr
     try:

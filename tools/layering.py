@@ -1,4 +1,4 @@
-"""Lays polygons out over layers and stores: rings that are too long are split exactly, and coded layers number features.
+"""Lays polygons out over layers and stores: splits exactly what is too long, and numbers features in coded layers.
 
 A ring is cut into runs, each closed through the ring's first point: the chords stand twice, so that by even-odd the
 runs joined by ^ are the ring, with no new corner and nothing rounded.
@@ -95,7 +95,7 @@ def chunks_of(polygon: Polygon) -> list[Polygon]:
 
 
 def packed(polygons: list[Polygon]) -> list[list[Polygon]]:
-    """Chunks of polygons in as few layers as going through them from the longest down takes, the first that has room."""
+    """Chunks of polygons in layers: from the longest down, each in the first that has room."""
     chunks = [chunk for polygon in polygons for chunk in chunks_of(polygon)]
     bins: list[list[Polygon]] = []
     filled: list[int] = []
@@ -155,7 +155,7 @@ def chords_in(lists: list[list[Polygon]]) -> int:
 
 
 def split(name: str, polygons: list[Polygon], names: Names, union: bool) -> Layout:
-    """The layout of a name over as many layers as it takes; union: polygons may overlap, and all they cover is inside."""
+    """The layout of a name over as many layers as it takes; union: what overlapping polygons cover is inside."""
     lists = apart(polygons) if union else [polygons]
     bins = [packed(one) for one in lists]
     if sum(map(len, bins)) <= 1:

@@ -91,9 +91,9 @@ class Source:
             value = json.loads(text, parse_float=Decimal)
             return self.of_geojson(value, self.name, None, ""), crs_of(value)
         texts = enumerate(wkt.read_all(text), 1)
-        return [shape for number, (kind, coordinates) in texts
-                for shape in self.of_wkt(f"{self.name}, text {number}", kind, coordinates, f"{self.name}, text {number}")
-                ], None
+        labelled = ((f"{self.name}, text {number}", kind, coordinates) for number, (kind, coordinates) in texts)
+        return [shape for label, kind, coordinates in labelled
+                for shape in self.of_wkt(label, kind, coordinates, label)], None
 
 
 def crs_of(value: dict[str, Any]) -> str | None:

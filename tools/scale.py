@@ -138,7 +138,7 @@ def read(path: pathlib.Path) -> Scale:
 
 
 def beside(path: pathlib.Path) -> pathlib.Path:
-    """Where the scale of a script or a store lies: NAME.scale.json beside NAME.txt or NAME.db, one for its parts too."""
+    """Where the scale of a script or a store NAME.* lies: NAME.scale.json beside it, one for NAME.1.*, NAME.2.* too."""
     own = path.with_name(path.stem + ".scale.json")
     shared = path.with_name(re.sub(r"\.[0-9]+$", "", path.stem) + ".scale.json")
     return own if own.exists() else shared

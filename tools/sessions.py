@@ -15,6 +15,7 @@ Corner = tuple[int, int, int]
 Piece = tuple[Corner, Corner]
 Grid = tuple[int, int, int, list[str]]
 REFUSED = re.compile(r"(?:refused ([0-9]+) )?(error [0-9]+ .*)")
+NAME = "[A-Za-z][A-Za-z0-9_]*"
 MARK = "﻿"
 
 
@@ -32,7 +33,7 @@ class Request:
 
 @dataclass(frozen=True)
 class Refusal:
-    """A line that was refused: its place in the script, the line, the refusal, and the place of its batch's first line."""
+    """A line that was refused: its place in the script, the refusal, and the place of the batch that it is of."""
 
     place: int
     line: str
@@ -234,7 +235,7 @@ def matched(pattern: str | re.Pattern[str], text: str) -> tuple[Any, ...]:
 
 
 def names_in(expression: str) -> list[str]:
-    return re.findall(r"[A-Za-z][A-Za-z0-9_]*", expression)
+    return re.findall(NAME, expression)
 
 
 def as_command(line: str) -> str:
@@ -276,14 +277,14 @@ def all_lines(script: bytes) -> list[str]:
 
 def named_by(script: bytes) -> list[str]:
     """The names that PUT and DEFINE of a script give, in their order."""
-    found = [re.match(r"[ \t]*(?:PUT[ \t]+([A-Za-z][A-Za-z0-9_]*)[ \t]|DEFINE[ \t]+([A-Za-z][A-Za-z0-9_]*)[ \t]*=)", line)
-             for line in all_lines(script)]
+    pattern = re.compile(rf"[ \t]*(?:PUT[ \t]+({NAME})[ \t]|DEFINE[ \t]+({NAME})[ \t]*=)")
+    found = [pattern.match(line) for line in all_lines(script)]
     return list(dict.fromkeys(match.group(1) or match.group(2) for match in found if match))
 
 
 def last_defined(script: bytes) -> str:
     """The name that the last DEFINE of a script gives, or where it has none that of its last PUT."""
-    found = [re.match(r"[ \t]*DEFINE[ \t]+([A-Za-z][A-Za-z0-9_]*)[ \t]*=", line) for line in all_lines(script)]
+    found = [re.match(rf"[ \t]*DEFINE[ \t]+({NAME})[ \t]*=", line) for line in all_lines(script)]
     names = [match.group(1) for match in found if match] or named_by(script)
     if not names:
         raise Unusable("the script makes no layer")

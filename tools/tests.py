@@ -15,7 +15,9 @@ import unittest
 
 from testing.common import Programs
 
-MODULES = ("helps", "scales", "scripts", "layouts", "replies", "rings", "pictures", "overlays", "stores", "maps", "pages")
+MODULES = (
+    "helps", "scales", "scripts", "layouts", "replies", "rings", "pictures", "overlays", "stores", "maps", "pages",
+)
 
 
 def main() -> int:

@@ -13,22 +13,23 @@ each value of the property (features without it make one of the file's name).
 Without --factor, --origin, --scale and --fit the factor is 1 where that fits: where rings collapse, or coordinates move
 by more than a 1000th of the extent, or are out of range, nothing is written, and the words to type are told.
 
---fit     factor and origin from the box of the data: the least factor by which nothing is rounded, else the greatest of
-          1, 2 and 5 times a power of ten that is in range. A ring that is smaller than a whole number there is left out.
+--fit     factor and origin from the box of the data: the least factor by which nothing is rounded, else the greatest
+          of 1, 2 and 5 times a power of ten that is in range. A ring that is smaller than a whole number there is left
+          out, and told.
 --split   what has more than 2,048 steps is spread over several layers NAME_1 .. joined by ^ under its name, exactly: a
           long ring is cut into runs, each closed by a chord through the ring's first point, and the chords cancel.
           Price: LOCATE says `edge` on a chord, too.
 --union   where polygons of one layer overlap, what they cover is inside: those that overlap stand in layers of their
           own, joined by |. Without it a layer is even-odd.
---coded   features are numbered from 1, and layer b0, b1 .. holds those whose number has that bit, so that 7 layers carry
-          127 features that do not overlap. NAME.names.csv has numbers, names, the expression of each feature, and areas;
-          tools/which.py tells names by it. Where features overlap their numbers are mixed: --check tells whether they do,
-          exactly, by areas that the program is asked for.
---output  NAME.txt is the script, and NAME.scale.json says what its numbers mean, for the other tools and for web/. Where
-          one store of 32 layers does not suffice, NAME.1.txt, NAME.2.txt .. are each the script of a store.
+--coded   features are numbered from 1, and layer b0, b1 .. holds those whose number has that bit, so that 7 layers
+          carry 127 features. NAME.names.csv has numbers, names, the expression of each feature, and areas;
+          tools/which.py tells names by it. Where features overlap their numbers are mixed: --check tells whether they
+          do, exactly, by areas that the program is asked for.
+--output  NAME.txt is the script, and NAME.scale.json says what its numbers mean, for the other tools and for web/.
+          Where one store of 32 layers does not suffice, NAME.1.txt, NAME.2.txt .. are each the script of a store.
 
-Status 0: all was written; 1: something was refused, the rest was written, or features overlap; 2: a file could not be read, or the factor
-does not fit, and nothing was written.
+Status 0: all was written; 1: something was refused, the rest was written, or features overlap; 2: a file could not be
+read, or the factor does not fit, and nothing was written.
 """
 
 import argparse
@@ -169,8 +170,8 @@ def check_scale(reader: Reader, box: fitting.Box | None, scale: Scale, given: bo
     factor, origin = fitting.proposed(box)
     if (factor, origin) == (scale.factor, scale.origin):
         return []
-    told = (f"at {fitting.words(scale.factor, scale.origin)[2:].replace(' --', ', ')}: {'; '.join(wrong)}; to be fitted: "
-            f"{fitting.words(factor, origin)}, or --fit")
+    used = fitting.words(scale.factor, scale.origin)[2:].replace(" --", ", ")
+    told = f"at {used}: {'; '.join(wrong)}; to be fitted: {fitting.words(factor, origin)}, or --fit"
     if not given:
         raise Stopped(told)
     return [told]
@@ -190,17 +191,24 @@ class Planner:
         layouts = []
         for name, group in given:
             layout = layering.split(name, group.polygons, self.names, self.words.union)
-            if layout.chords + (len(layout.base) > 1) and not self.words.split and not self.words.union:
-                self.refuse(f"layer {name}", f"too many steps: {group.steps()} of at most {limits.STEPS_MAX}; "
-                            "--split writes them exactly, over several layers")
-            elif any(rounding.steps_of([polygon]) > limits.STEPS_MAX for polygon in group.polygons) and not self.words.split:
-                self.refuse(f"layer {name}", f"a polygon of more than {limits.STEPS_MAX} steps; --split cuts it exactly")
-            elif not layering.fits(layout):
-                self.refuse(f"layer {name}", f"{group.steps()} steps need {layout.count()} layers, more than a store has")
+            reason = self.unfit(layout, group)
+            if reason:
+                self.refuse(f"layer {name}", reason)
             else:
                 layouts.append(layout)
                 self.tell(layout, group)
         return layering.in_stores(layouts)
+
+    def unfit(self, layout: Layout, group: Group) -> str | None:
+        """Why a layout is not written, or None."""
+        longest = max(rounding.steps_of([polygon]) for polygon in group.polygons)
+        is_spread = longest > limits.STEPS_MAX or (len(layout.base) > 1 and not self.words.union)
+        if is_spread and not self.words.split:
+            return (f"too many steps: {group.steps()} of at most {limits.STEPS_MAX}; --split writes them exactly, over "
+                    "several layers")
+        if not layering.fits(layout):
+            return f"{group.steps()} steps need {layout.count()} layers, more than a store has"
+        return None
 
     def tell(self, layout: Layout, group: Group) -> None:
         over = f" in {len(layout.base)} layers" if len(layout.base) > 1 else ""
@@ -209,8 +217,8 @@ class Planner:
                          f"{group.tally.text()}")
         pairs = 0 if self.words.union else group.overlaps()
         if pairs:
-            self.told.append(f"layer {layout.name}: {pairs} pairs of polygons with overlapping boxes; where polygons of "
-                             "one layer overlap, the layer is out (even-odd), or in with --union")
+            self.told.append(f"layer {layout.name}: {pairs} pairs of polygons with overlapping boxes; where polygons "
+                             "of one layer overlap, the layer is out (even-odd), or in with --union")
 
     def coded(self, groups: list[Group]) -> list[Store]:
         """Groups as numbered features."""
@@ -233,8 +241,9 @@ class Planner:
         steps = [sum(rounding.steps_of(polygons) for _, polygons in layout.base) for layout in store.layouts]
         chords = sum(layout.chords for layout in store.layouts)
         told = f"; LOCATE says edge on {chords} chords" if chords else ""
-        self.told.append(f"{len(store.features)} features in layers {store.layouts[0].name} to {store.layouts[-1].name}, "
-                         f"{min(steps)} to {max(steps)} steps each, {store.count()} layers in all{told}; {tally.text()}")
+        names = f"{store.layouts[0].name} to {store.layouts[-1].name}"
+        self.told.append(f"{len(store.features)} features in layers {names}, {min(steps)} to {max(steps)} steps each, "
+                         f"{store.count()} layers in all{told}; {tally.text()}")
 
 
 def one_store(stores: list[Store], refuse: Callable[[str, str], None]) -> list[Store]:
@@ -280,7 +289,8 @@ def write_files(words: argparse.Namespace, stores: list[Store], scale: Scale) ->
     try:
         for script, store in zip(scripts, stores):
             script.write_bytes("".join(line + "\n" for line in lines_of(store)).encode())
-            told.append(f"{script}: {store.count()} layers; overlayd --store {script.with_suffix('.db')} --create {script}")
+            made = script.with_suffix(".db")
+            told.append(f"{script}: {store.count()} layers; overlayd --store {made} --create {script}")
         sidecar.write_bytes(text.encode())
         if words.coded:
             write_names(pathlib.Path(f"{base}.names.csv"), stores, scale)
@@ -298,8 +308,8 @@ def overlaps(words: argparse.Namespace, stores: list[Store], say: Callable[[str]
         for store in stores:
             names = checking.overlapping(program, store)
             status = 1 if names else status
-            say(f"features overlap, and numbers are mixed: in the layers another area have {', '.join(names)}" if names else
-                f"of {len(store.features)} features no two overlap")
+            mixed = f"features overlap, and numbers are mixed: in the layers another area have {', '.join(names)}"
+            say(mixed if names else f"of {len(store.features)} features no two overlap")
     except sessions.Unusable as fault:
         say(f"--check: {fault}")
         return 1
@@ -317,7 +327,8 @@ def words_of(arguments: list[str]) -> argparse.Namespace:
     parser.add_argument("--scale", metavar="FILE", type=pathlib.Path,
                         help="factor and origin of another map, NAME.scale.json")
     parser.add_argument("--name", help="the layer's name (default: the file's)")
-    parser.add_argument("--name-by", metavar="PROPERTY", help="a layer for each value of this property of GeoJSON features")
+    parser.add_argument("--name-by", metavar="PROPERTY",
+                        help="a layer for each value of this property of GeoJSON features")
     parser.add_argument("--split", action="store_true", help="spread what is too long for a layer over several")
     parser.add_argument("--union", action="store_true", help="polygons of one layer may overlap")
     parser.add_argument("--coded", action="store_true", help="number the features over few layers (needs --output)")

@@ -6,8 +6,8 @@
 
 The base layers are those that the layer's definition reaches, filled by even-odd. Above each column stands its number
 and how many pieces its tile has. With --grid N, or where the replies hold a GRID of the layer, its points are drawn:
-full where in, a ring where edge, small where out. Where a scale is there, a bar of it and the corners of the picture are
-told. Coordinates of the picture are rounded to a hundredth of a unit.
+full where in, a ring where edge, small where out. Where a scale is there, a bar of it and the corners of the picture
+are told. Coordinates of the picture are rounded to a hundredth of a unit.
 
 Status 0: the picture is whole; 1: it is not, or a line of the script was refused (each is told), or there is none.
 """
@@ -159,8 +159,7 @@ def corners(view: View, scale: scales.Scale) -> str:
 
 
 def bar(view: View, scale: scales.Scale, y: float) -> list[str]:
-    """A bar as long as 1, 2 or 5 times a power of ten in the world's unit, at most a fifth of the picture, and its corners.
-    """
+    """A bar, 1, 2 or 5 times a power of ten long in the world's unit, and the picture's corners."""
     length = (view.right - view.left) / float(scale.factor) / 5
     power = 10.0 ** math.floor(math.log10(length))
     length = max(step * power for step in (1, 2, 5) if step * power <= length)

@@ -7,12 +7,12 @@
 
 Without --names the layers are those that no definition names, and each that has the point is told. With --names the
 answers of layers b0, b1 .. spell the number of the feature in the table that to_script.py --coded wrote; --store may
-stand once for each of its stores, in their order. The point is in coordinates of the world where a scale is there; where
-it cannot be asked exactly the nearest one that can is asked, and told. A store is read and not changed.
+stand once for each of its stores, in their order. The point is in coordinates of the world where a scale is there;
+where it cannot be asked exactly the nearest one that can is asked, and told. A store is read and not changed.
 
 For each point a line: the name, or names with a tab between, or nothing where no layer or feature has it; behind `edge`
-and a tab, where it lies on a segment, those that it may belong to: of coded layers all whose numbers fit, the neighbours
-among them. Status 0: all points are answered; 1: one is not.
+and a tab, where it lies on a segment, those that it may belong to: of coded layers all whose numbers fit, the
+neighbours among them. Status 0: all points are answered; 1: one is not.
 """
 
 import argparse
@@ -28,7 +28,7 @@ import asking
 import scale as scales
 import sessions
 from scale import Scale
-from sessions import Session, Unusable
+from sessions import Corner, Session, Unusable
 
 Point = tuple[Fraction, Fraction]
 OUTSIDE = 0
@@ -77,7 +77,7 @@ def read_table(path: pathlib.Path) -> dict[int, dict[int, str]]:
     return found
 
 
-def asked(program: str, store: pathlib.Path, names: list[str], points: list[tuple[int, int, int]]) -> Iterator[list[str]]:
+def asked(program: str, store: pathlib.Path, names: list[str], points: list[Corner]) -> Iterator[list[str]]:
     """For each point the answers of the layers."""
     lines = [f"LOCATE {name} {x} {y} {w}" for x, y, w in points for name in names]
     replies = sessions.lines_of(asking.store_replies(program, store, "".join(line + "\n" for line in lines).encode()))
@@ -100,7 +100,7 @@ def names_of(session: Session, table: dict[int, str] | None, store: pathlib.Path
 
 
 def answers_of(program: str, store: pathlib.Path, table: dict[int, str] | None,
-               points: list[tuple[int, int, int]]) -> list[Answer]:
+               points: list[Corner]) -> list[Answer]:
     """The answers of one store for all points."""
     session = sessions.read(b"LAYERS\n", asking.store_replies(program, store, b"LAYERS\n"), 0)
     names = names_of(session, table, store)
@@ -139,7 +139,7 @@ def read_points(words: argparse.Namespace) -> list[Point]:
     return points
 
 
-def questions(points: list[Point], scale: Scale, say: list[str]) -> list[tuple[int, int, int]]:
+def questions(points: list[Point], scale: Scale, say: list[str]) -> list[Corner]:
     """The numbers of LOCATE for each point; what is not asked exactly is told."""
     found = []
     for x, y in points:

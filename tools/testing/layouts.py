@@ -98,8 +98,9 @@ class Fitting(InFolder):
         return json.loads((self.folder / "out.scale.json").read_text())
 
     def test_the_file_of_the_scale(self) -> None:
-        told = self.sidecar(geojson(("a", [[square(5000, 7000, 9)]]), crs="urn:ogc:def:crs:EPSG::2263"), "--factor", "0.5",
-                            "--factor-y", 2, "--origin", "5000.5", 7000, "--unit", "ft", "--title", "Plan")
+        text = geojson(("a", [[square(5000, 7000, 9)]]), crs="urn:ogc:def:crs:EPSG::2263")
+        told = self.sidecar(text, "--factor", "0.5", "--factor-y", 2, "--origin", "5000.5", 7000, "--unit", "ft",
+                            "--title", "Plan")
         self.assertEqual(told, {"title": "Plan", "factor": 0.5, "factor_y": 2, "origin": [5000.5, 7000], "unit": "ft",
                                 "crs": "EPSG:2263", "digits": 4})
         self.assertEqual((self.folder / "out.txt").read_text(), "PUT plan POLYGON ((0 0, 4 0, 4 18, 0 18, 0 0))\n")
@@ -194,7 +195,8 @@ class Splitting(InFolder):
     def test_names_of_parts_are_no_others(self) -> None:
         features = [("Long", [[zigzag(3000)]]), ("Long 1", [[square(0, 0, 9)]]), ("x" * 32, [[zigzag(3000)]])]
         layers = self.check(["--split"], features)
-        self.assertEqual(list(layers), ["Long_1_2", "Long_2", "Long", "Long_1", "x" * 30 + "_1", "x" * 30 + "_2", "x" * 32])
+        self.assertEqual(list(layers), [
+            "Long_1_2", "Long_2", "Long", "Long_1", "x" * 30 + "_1", "x" * 30 + "_2", "x" * 32])
 
     def test_more_than_a_store_holds(self) -> None:
         text = geojson(("Huge", [[zigzag(70000)]]))
@@ -224,7 +226,8 @@ class Splitting(InFolder):
         self.assertEqual([line.split()[1] for part in parts for line in part], [f"n{i}" for i in range(40)])
         self.assertEqual([len(part) for part in parts], [32, 8])
         for place, count in ((1, 32), (2, 8)):
-            self.assertIn(f"out.{place}.txt: {count} layers; overlayd --store {self.folder}/out.{place}.db --create", errors)
+            made = self.folder / f"out.{place}"
+            self.assertIn(f"{made}.txt: {count} layers; overlayd --store {made}.db --create {made}.txt", errors)
         self.assertFalse((self.folder / "out.txt").exists())
 
 
@@ -252,7 +255,8 @@ class Coding(InFolder):
 
     def test_features_of_one_name_are_one(self) -> None:
         _, rows = self.coded([("a", [[square(0, 0, 9)]]), ("b", [[square(20, 0, 9)]]), ("a", [[square(40, 0, 9)]])])
-        self.assertEqual([(row["number"], row["name"], row["area"]) for row in rows], [("1", "a", "162"), ("2", "b", "81")])
+        told = [(row["number"], row["name"], row["area"]) for row in rows]
+        self.assertEqual(told, [("1", "a", "162"), ("2", "b", "81")])
 
     def test_features_without_the_property_are_counted_apart(self) -> None:
         text = geojson(("a", [[square(0, 0, 9)]]), ("b", [[square(20, 0, 9)]]))
@@ -287,7 +291,8 @@ class Coding(InFolder):
 
     def test_words_that_go_not_together(self) -> None:
         file = self.file("plan.wkt", SQUARE)
-        for words in (["--coded"], ["--coded", "--union", "--output", "x.txt"], ["--scale", "x", "--fit"], ["--factor", "0"]):
+        for words in (["--coded"], ["--coded", "--union", "--output", "x.txt"], ["--scale", "x", "--fit"], ["--check"],
+                      ["--factor", "0"]):
             with self.assertRaises(SystemExit), unittest.mock.patch("sys.stderr"):
                 to_script.main([str(file), *words])
 

@@ -97,7 +97,8 @@ class RoundTrips(WithProgram):
         layers = [[ring[:-1] for ring in rings] for rings in sessions.put_by(script.encode()).values()]
         wanted = to_rings.polygons_of(overlay(layers, OPERATIONS["&"]))
         told = outcome(to_rings, "--store", store, "--program", self.program, "--exact")[1]
-        corners = [(Fraction(x, w), Fraction(y, w)) for polygon in wanted for ring in polygon for x, y, w in ring.corners]
+        rings = [ring for polygon in wanted for ring in polygon]
+        corners = [(Fraction(x, w), Fraction(y, w)) for ring in rings for x, y, w in ring.corners]
         got = [tuple(map(Fraction, line.split())) for line in told.splitlines() if not line.startswith("polygon")]
         self.assertEqual((len(wanted), got), (2, corners))
 
@@ -136,8 +137,8 @@ class Counties(WithProgram):
         text = "".join(f"{Decimal(x) / 100000} {Decimal(y) / 100000}\n" for x, y in points)
         file = self.file("points.txt", text)
         for program in self.readers():
-            status, output, errors = outcome(which, "--store", self.db, "--names", self.folder / "nc.names.csv", "--points",
-                                             file, "--program", program)
+            words = ["--store", self.db, "--names", self.folder / "nc.names.csv", "--points", file]
+            status, output, errors = outcome(which, *words, "--program", program)
             self.assertEqual((status, errors), (0, ""))
             self.assertEqual([line.split("\t") if line else [] for line in output.splitlines()], wanted)
 
@@ -154,8 +155,8 @@ class Counties(WithProgram):
         script = self.file("any.txt", (self.folder / "nc.txt").read_text()
                            + "DEFINE any = b0 | b1 | b2 | b3 | b4 | b5 | b6\n"
                            + "".join(f"DEFINE c{row['number']} = {row['expression']}\n" for row in self.rows[:20]))
-        told = outcome(to_script, COUNTIES, "--fit", "--coded", "--check", "--name-by", "name", "--program", self.program,
-                       "--output", self.folder / "again.txt")
+        told = outcome(to_script, COUNTIES, "--fit", "--coded", "--check", "--name-by", "name", "--program",
+                       self.program, "--output", self.folder / "again.txt")
         self.assertEqual((told[0], told[2].splitlines()[-1]), (0, "of 100 features no two overlap"))
         told = outcome(to_rings, script, "--program", self.program, "--layer", "any", "--areas")
         self.assertEqual(Fraction(told[1].split()[-2]), sum(areas.values()))
@@ -179,8 +180,8 @@ class Overlaps(WithProgram):
         squares = [f"{x} 0, {x + 10} 0, {x + 10} 10, {x} 10, {x} 0" for x in (0, 10, 20, 29)]
         self.assertEqual(self.checked(*squares[:3]), (0, "of 3 features no two overlap"))
         # Between 29 and 30 lie features 3 and 4, and together they spell 7, which is nobody's.
-        self.assertEqual(self.checked(*squares), (1, "features overlap, and numbers are mixed: in the layers another area "
-                                                     "have FILE, text 3, FILE, text 4"))
+        self.assertEqual(self.checked(*squares), (1, "features overlap, and numbers are mixed: in the layers another "
+                                                     "area have FILE, text 3, FILE, text 4"))
         words = ["--store", self.store("plan.db", (self.folder / "plan.txt").read_bytes()), "--names",
                  self.folder / "plan.names.csv", "--program", self.program]
         self.assertEqual(outcome(which, *words, "29.5", "5")[:2], (1, ""))
@@ -200,11 +201,13 @@ class LargeMaps(WithProgram):
         self.assertEqual(outcome(to_script, file, "--split", "--name-by", "name", "--output", script)[0], 0)
         store = self.store("long.db", script.read_bytes())
         words = ["--store", store, "--program", self.program, "--layer", "Long"]
-        self.assertEqual(Fraction(outcome(to_rings, *words, "--areas")[1].split()[-2]), abs(Fraction(area_twice(ring[:-1]), 2)))
+        area = Fraction(outcome(to_rings, *words, "--areas")[1].split()[-2])
+        self.assertEqual(area, abs(Fraction(area_twice(ring[:-1]), 2)))
         # One ring, and its corners are those at which the given one turns.
         told = outcome(to_rings, *words, "--exact")[1].splitlines()
         self.assertEqual(told[0], "polygons 1")
-        turns = {ring[i] for i in range(len(ring) - 1) if turn((*ring[i - 1 if i else -2], 1), (*ring[i], 1), (*ring[i + 1], 1))}
+        around = zip([ring[-2], *ring], ring, ring[1:])
+        turns = {here for before, here, after in around if turn((*before, 1), (*here, 1), (*after, 1))}
         self.assertEqual({tuple(map(int, line.split())) for line in told[2:]}, turns)
 
     def test_overlapping_polygons_are_united(self) -> None:

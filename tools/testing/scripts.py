@@ -43,8 +43,8 @@ class ToScript(unittest.TestCase):
         text = "POLYGON ((500000 4600000, 500010 4600000, 500010 4600010, 500000 4600000))"
         status, output, errors = on_file(to_script, text)
         self.assertEqual((status, output), (2, ""))
-        self.assertEqual(errors, "at factor 1, origin 0 0: 1 shapes are out of range; to be fitted: --factor 1 --origin "
-                                 "500005 4600005, or --fit\n")
+        self.assertEqual(errors, "at factor 1, origin 0 0: 1 shapes are out of range; to be fitted: --factor 1 "
+                                 "--origin 500005 4600005, or --fit\n")
         status, output, errors = on_file(to_script, text, "--factor", 1, "--origin", 500005, 4600005)
         self.assertEqual((status, output), (0, "PUT input_file POLYGON ((-5 -5, 5 -5, 5 5, -5 -5))\n"))
         status, output, errors = on_file(to_script, text, "--factor", 1)
