@@ -28,8 +28,8 @@ returns-in_default-clause-refused g c = record {
       c.refused.ensures.now c.refused.ensures.disk;
 }
 
-pub run_threads-store-requires : goal.run_threads-store-requires
-run_threads-store-requires g c κs within =
+pub run_threads-store-requires-after_bounds : goal.run_threads-store-requires-after_bounds
+run_threads-store-requires-after_bounds g c κs within =
     let seats = c.in-Some.seats in
     let sessions : map session_of seats.scripts.items ≡ c.args.sessions.items = search rules in
     let ports : map port_of seats.scripts.items ≡ c.args.ports.items = search rules in
@@ -105,8 +105,10 @@ returns-clause-left g c =
       log = closed.log.1;
       sessions = subst (All (HasAllOf c.close-closed.result.seen_log.log)) c.parted-sessions.ensures.sessions closed.sessions;
       number =
-          ap (λ (v : Version). v.number) (sym closed.version) ∙ c.await_number.ensures
-          ∙ ap (λ (n : ℕ). c.args.start.number + n) (c.made_by_all-made.ensures ∙ ap (λ (ks : List Known). made_in ks) c.parted-sessions.ensures.sessions);
+          ap (λ (v : Version). v.number) (sym closed.version) ∙ ap (λ (v : Version). v.number) (sym c.deref-2.ensures) ∙ c.await_number.ensures
+          ∙ ap (λ (n : ℕ). n + c.made_by_all-made.result) c.args.start.same
+          ∙ ap (λ (n : ℕ). c.args.start.version.value.number + n)
+          (c.made_by_all-made.ensures ∙ ap (λ (ks : List Known). made_in ks) (c.deref.ensures.value ∙ c.parted-sessions.ensures.sessions));
       finished = c.parted-sessions.ensures.finished;
       store = record {
         on = begins_with last.reporter.log c.close-closed.result.seen_log.log c.keep_store-reporter.ensures.begun closed.reporter;
