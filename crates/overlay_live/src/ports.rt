@@ -3,7 +3,7 @@ ghost use Rattle.std.specs.Prelude.{◌≡◌, ◌<◌, ◌≤◌, ◌^◌, leng
 
 use overlay_server::outcome::Port;
 use program_store::fault::ProgramFault;
-use std::fs::{File, OpenOptions};
+use std::fs::{File, OpenOptions, TryLockError};
 use std::io::{ErrorKind, Read, Stdin, Stdout, Write};
 use std::rt::Files;
 use std::{fs, io};
@@ -53,7 +53,8 @@ impl Write for Replies {
 
 /// Opens the pairs of paths in their order, of each first where its lines come from: of a named pipe each opening waits
 /// for the other end. Without a pair there is that of standard input and output. The fault is `Script` where a path
-/// can't be opened for another reason than want of memory.
+/// can't be opened for another reason than want of memory, or is a plain file that is in use: lines are read from none
+/// that somebody writes, and replies go into none that somebody has, as the store or another pair.
 pub fn open_ports<Q: Files<File = File> + AllocGlobal>(
     rt: &Q,
     input: Stdin,
@@ -72,7 +73,7 @@ pub fn open_ports<Q: Files<File = File> + AllocGlobal>(
     }
     'pairs: for pair in pairs {
         let (from, to) = pair;
-        let reader = answered(fs::open(rt, from.as_str()))?;
+        let reader = answered(open_to_read(rt, from))?;
         let writer = answered(open_to_write(rt, to))?;
         ports.push(port(Lines::File(reader), Replies::File(writer)))?;
     }
@@ -90,14 +91,41 @@ fn port(reader: Lines, writer: Replies) -> Port<Lines, Replies>
     }
 }
 
-/// The file at a path, to be written from its beginning: one that is there is emptied, else one is made. A pipe that is
-/// there is not asked to be made, which the system may refuse where it belongs to somebody else.
+/// The file at a path, to be read. Nobody writes a plain file meanwhile.
+fn open_to_read<Q: Files<File = File>>(rt: &Q, path: &str) -> io::Result<File> {
+    let file = fs::open(rt, path)?;
+    if file.metadata()?.is_file() {
+        expect_free(file.try_lock_shared())?;
+    }
+    Ok(file)
+}
+
+/// The file at a path, to be written from its beginning: one that is there is emptied, once nobody else has it.
 fn open_to_write<Q: Files<File = File>>(rt: &Q, path: &str) -> io::Result<File> {
-    match OpenOptions::new().write(true).truncate(true).open(rt, path) {
+    let file = there_or_made(rt, path)?;
+    if file.metadata()?.is_file() {
+        expect_free(file.try_lock())?;
+        file.set_len(0)?;
+    }
+    Ok(file)
+}
+
+/// The file at a path as it is, or a new one. A pipe that is there is not asked to be made, which the system may refuse
+/// where it belongs to somebody else.
+fn there_or_made<Q: Files<File = File>>(rt: &Q, path: &str) -> io::Result<File> {
+    match OpenOptions::new().write(true).open(rt, path) {
         Err(error) if error.kind() == ErrorKind::NotFound => {
             OpenOptions::new().write(true).create(true).open(rt, path)
         }
         opened => opened,
+    }
+}
+
+/// That somebody has a lock on a file is an error. Where the system has no locks on it, nobody is kept out.
+fn expect_free(lock: Result<(), TryLockError>) -> io::Result<()> {
+    match lock {
+        Err(TryLockError::WouldBlock) => Err(io::Error::from(ErrorKind::WouldBlock)),
+        _ => Ok(()),
     }
 }
 
