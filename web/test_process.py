@@ -156,6 +156,22 @@ class Processes(unittest.TestCase):
                 self.assertIn(told, text)
                 self.assertEqual(text.count("\n"), 1, text)
 
+    def test_addresses_at_which_nobody_can_listen(self) -> None:
+        with socket.create_server(("127.0.0.1", 0)) as other:
+            taken = other.getsockname()[1]
+            tries: list[tuple[list[str | pathlib.Path], str]] = [
+                (["--writable", "--port", str(taken)], f"127.0.0.1 port {taken}: "),
+                (["--store", self.store, "--port", str(taken)], f"127.0.0.1 port {taken}: "),
+                (["--writable", "--port", "65536"], "127.0.0.1 port 65536: a port is 0 to 65535"),
+                (["--store", self.store, "--host", "192.0.2.1"], "192.0.2.1 port 0: "),  # an address of documents
+                (["--store", self.store, "--host", "a b"], "a b port 0: "),
+            ]
+            for words, told in tries:
+                with running(*words) as (run, address):
+                    status, text = self.ended(run)
+                    self.assertEqual((status, address), (1, ""), words)
+                    self.assertEqual((text[: len(told)], text.count("\n")), (told, 1), text)
+
     def test_words(self) -> None:
         for line in (
             "--store map.db --writable --host 0.0.0.0",
@@ -166,9 +182,13 @@ class Processes(unittest.TestCase):
             "--writable --host map.example.org",
             "--colour",
             "--store map.db --base map.example.org",
+            "--store map.db --base http://[",
+            "--store map.db --base http://",
+            "--store map.db --base https://map.example.org:port",
         ):
             with running(*line.split()) as (run, _):
-                self.assertEqual(self.ended(run)[0], 2, line)
+                status, text = self.ended(run)
+                self.assertEqual((status, "Traceback" in text), (2, False), line)
         words = overlay_web.words_of(["--store", "map.db", "--host", "10.1.2.3", "--name", "Map.Example.Org"])
         self.assertEqual(overlay_web.hosts_of(words), {"10.1.2.3", "map.example.org"})
         self.assertTrue(
