@@ -55,8 +55,28 @@ def serve(front: Front, host: str, port: int) -> None:
 
 
 class Threaded(socketserver.ThreadingMixIn, simple_server.WSGIServer):
+    """A thread for each connection, and THREADS of them at most: the next one waits in the queue of the socket."""
+
     daemon_threads = True
     request_queue_size = 64
+
+    def __init__(self, *given: Any) -> None:
+        self._free = threading.BoundedSemaphore(THREADS)
+        super().__init__(*given)
+
+    def process_request(self, request: Any, client_address: Any) -> None:
+        self._free.acquire()
+        try:
+            super().process_request(request, client_address)
+        except BaseException:  # no thread has begun
+            self._free.release()
+            raise
+
+    def process_request_thread(self, request: Any, client_address: Any) -> None:
+        try:
+            super().process_request_thread(request, client_address)
+        finally:
+            self._free.release()
 
 
 class Threaded6(Threaded):
