@@ -261,7 +261,19 @@ class Refusals(RefusalCase):
         ):
             self.refused(400, f"/locate?{words}")
             self.refused(400, f"/collections/A/locate?{words}")
-        self.assertEqual(self.refused(400, "/locate?x=1048577&y=0").value["code"], "20")
+        for words in ("x=1048577&y=0", "x=0&y=-1048577", "x=1048576.5&y=0", "x=1e30&y=0", "x=0&y=-1e99"):
+            for path in ("/locate", "/collections/A/locate"):
+                told = self.refused(400, f"{path}?{words}").value
+                self.assertEqual(told["code"], "20")
+                self.assertIn("out of the plane", told["description"])
+        self.assertEqual(self.client.get("/locate?x=1048576&y=-1048576")["places"]["A"], "out")
+
+    def test_systems_of_layers_that_have_none(self) -> None:
+        for word in ("crs", "bbox-crs"):
+            told = self.refused(400, f"/collections/I/items?{word}=x").value["description"]
+            self.assertEqual(
+                told, f"{word}: nothing is transformed, and the layers are in a plane without a name: leave it out"
+            )
 
     def test_tiles(self) -> None:
         self.assertEqual(self.refused(409, "/collections/A/tiles").value["code"], "12")
