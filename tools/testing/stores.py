@@ -116,8 +116,11 @@ class OverScripts(InFolder):
                 self.assertEqual(ended.exception.code, 2)
 
     def test_a_script_that_makes_no_layer(self) -> None:
-        for tool in (to_rings, to_svg):
+        for tool in (to_rings, to_svg, to_geojson):
             self.assertEqual(self.asked(tool, "LAYERS\n"), (1, "", "the script makes no layer\n"))
+            self.assertEqual(self.asked(tool, ""), (1, "", "the script makes no layer\n"))
+            status, output, errors = outcome(tool, self.file("a.txt", "SYNC\n"), "--replies", self.file("b", "ok 0\n"))
+            self.assertEqual((status, output, errors), (1, "", "the script makes no layer\n"))
 
 
 class OverStores(WithProgram):
@@ -195,6 +198,13 @@ class OverStores(WithProgram):
         empty = self.store("empty.db", "")
         self.assertEqual(self.each(to_rings, empty), (1, "", f"{empty}: it has no layer\n"))
         self.assertEqual(outcome(dump_store, empty, "--program", self.program), (0, "", ""))
+
+    def test_a_store_in_the_place_of_a_script(self) -> None:
+        for script in ("", CUT):
+            store = self.store(f"map{len(script)}.db", script)
+            for tool in (to_rings, to_svg, to_geojson):
+                self.assertEqual(outcome(tool, store, "--program", self.program),
+                                 (1, "", f"{store}: a store, and no script; say --store {store}\n"))
 
     def test_no_program(self) -> None:
         script = self.file("plan.txt", CUT)
