@@ -170,9 +170,9 @@ def add_scale_words(parser: argparse.ArgumentParser) -> None:
     parser.add_argument("--scale", metavar="FILE", type=pathlib.Path,
                         help="what whole numbers mean (default: NAME.scale.json beside the script or the store NAME.*, "
                         "where it is there)")
-    parser.add_argument("--factor", type=Fraction, help="in its place: the factor that to_script.py was given")
-    parser.add_argument("--factor-y", type=Fraction, help="and that for y")
-    parser.add_argument("--origin", type=Fraction, nargs=2, metavar=("X", "Y"), help="and the origin")
+    parser.add_argument("--factor", type=scales.number, help="in its place: the factor that to_script.py was given")
+    parser.add_argument("--factor-y", type=scales.number, help="and that for y")
+    parser.add_argument("--origin", type=scales.number, nargs=2, metavar=("X", "Y"), help="and the origin")
     parser.add_argument("--digits", type=int,
                         help="digits behind the point, 0 to 100 (default: those of the scale, else 6)")
 

@@ -319,9 +319,9 @@ def overlaps(words: argparse.Namespace, stores: list[Store], say: Callable[[str]
 def words_of(arguments: list[str]) -> argparse.Namespace:
     parser = argparse.ArgumentParser(description=__doc__, formatter_class=argparse.RawDescriptionHelpFormatter)
     parser.add_argument("files", metavar="FILE", nargs="+", help="GeoJSON or Well-Known Text; - is standard input")
-    parser.add_argument("--factor", type=Fraction, help="default 1")
-    parser.add_argument("--factor-y", type=Fraction, help="another factor for y (default: that of x)")
-    parser.add_argument("--origin", type=Fraction, nargs=2, metavar=("X", "Y"),
+    parser.add_argument("--factor", type=scales.number, help="default 1")
+    parser.add_argument("--factor-y", type=scales.number, help="another factor for y (default: that of x)")
+    parser.add_argument("--origin", type=scales.number, nargs=2, metavar=("X", "Y"),
                         help="the point that becomes 0 0 (default 0 0)")
     parser.add_argument("--fit", action="store_true", help="factor and origin from the data, where they are not given")
     parser.add_argument("--scale", metavar="FILE", type=pathlib.Path,
