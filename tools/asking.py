@@ -31,6 +31,8 @@ LIVE, BATCHED = "overlay_live", "overlayd"
 ROOM = ["--max-blocks", str(limits.BLOCKS_MAX)]
 NEEDS_COPY = ("error 30 device", "error 50 words")
 PROGRAM_HELP = "the program to ask (default: overlay_live or overlayd, built in this repository or on the path)"
+MAGIC, SLOTS_END = b"OVLSTORE", 8192
+MAGIC_AT = (16, 4112)  # of the two slots: docs/FORMAT.md
 GridFor = Callable[[Session], tuple[int, ...] | None]
 
 
@@ -61,6 +63,19 @@ def outcome(program: str, words: list[str], script: bytes) -> tuple[int, bytes, 
     except OSError as fault:
         raise Unusable(f"{program}: {fault}") from fault
     return done.returncode, done.stdout, done.stderr.decode("utf-8", "replace").strip()
+
+
+def begins_as_store(data: bytes) -> bool:
+    """Whether one of the two slots at the begin of some bytes has a store's magic."""
+    return any(data[at : at + len(MAGIC)] == MAGIC for at in MAGIC_AT)
+
+
+def is_store(path: pathlib.Path) -> bool:
+    """Whether a file that stands begins as a store does; what is no file, as a pipe, is not read."""
+    if not path.is_file():
+        return False
+    with path.open("rb") as file:
+        return begins_as_store(file.read(SLOTS_END))
 
 
 def share(file: BinaryIO) -> None:
@@ -155,9 +170,9 @@ def add_scale_words(parser: argparse.ArgumentParser) -> None:
     parser.add_argument("--scale", metavar="FILE", type=pathlib.Path,
                         help="what whole numbers mean (default: NAME.scale.json beside the script or the store NAME.*, "
                         "where it is there)")
-    parser.add_argument("--factor", type=Fraction, help="in its place: the factor that to_script.py was given")
-    parser.add_argument("--factor-y", type=Fraction, help="and that for y")
-    parser.add_argument("--origin", type=Fraction, nargs=2, metavar=("X", "Y"), help="and the origin")
+    parser.add_argument("--factor", type=scales.number, help="in its place: the factor that to_script.py was given")
+    parser.add_argument("--factor-y", type=scales.number, help="and that for y")
+    parser.add_argument("--origin", type=scales.number, nargs=2, metavar=("X", "Y"), help="and the origin")
     parser.add_argument("--digits", type=int,
                         help="digits behind the point, 0 to 100 (default: those of the scale, else 6)")
 
@@ -240,7 +255,11 @@ def of_script(words: argparse.Namespace, many: bool, grid: GridFor | None) -> tu
         replies = words.replies.read_bytes() if words.replies else None
     except OSError as fault:
         raise Unusable(str(fault)) from fault
+    if begins_as_store(script):
+        raise Unusable(f"{words.script}: a store, and no script; say --store {words.script}")
     layers = wanted(words, sessions.named_by(script) if many else [sessions.last_defined(script)])
+    if not layers:
+        raise Unusable("the script makes no layer")
     if replies is not None:
         return sessions.read(script, replies), layers
     put = Session()

@@ -18,7 +18,7 @@ import scale as scales
 import wkt
 
 COLLECTIONS = ("FeatureCollection", "GeometryCollection")
-BEYOND = 400  # a number with so many digits before its point is no coordinate
+BEYOND = 200  # a number with more digits than so many before or behind its point is no coordinate
 
 
 class Refused(Exception):
@@ -113,7 +113,8 @@ def number_of(given: Any) -> Fraction:
     """A coordinate, exactly."""
     if isinstance(given, bool) or not isinstance(given, (int, Decimal)):
         raise Refused(f"a coordinate that is no number: {given!r}"[:80])
-    if not Decimal(given).is_finite() or abs(Decimal(given).adjusted()) > BEYOND:
+    _, _, exponent = Decimal(given).as_tuple()
+    if not isinstance(exponent, int) or exponent < -BEYOND or Decimal(given).adjusted() > BEYOND:
         raise Refused("a coordinate that is beyond all bounds")
     return Fraction(given)
 

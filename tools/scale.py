@@ -23,6 +23,8 @@ import limits
 
 CRS84 = "OGC:CRS84"
 NUMBER = re.compile(r"[-+]?(?:[0-9]{1,20}(?:\.[0-9]{0,30})?|\.[0-9]{1,30})(?:[eE][-+]?[0-9]{1,2})?")
+WORD = re.compile(r"[-+]?(?:(?:[0-9]{1,100}(?:\.[0-9]{0,100})?|\.[0-9]{1,100})(?:[eE][-+]?[0-9]{1,2})?"
+                  r"|[0-9]{1,100}/0{0,99}[1-9][0-9]{0,99})")
 DIGITS_MAX = 15
 
 
@@ -35,6 +37,13 @@ def exact(text: Any) -> Fraction:
     if isinstance(text, bool) or not NUMBER.fullmatch(str(text).strip()):
         raise ScaleFault(f"no number, or one that is too long: {str(text)[:40]}")
     return Fraction(str(text).strip())
+
+
+def number(text: str) -> Fraction:
+    """The number that a word of a command line spells, a decimal or a fraction as 5/3. It is bounded as in exact."""
+    if not WORD.fullmatch(text.strip()):
+        raise ValueError(f"no number, or one that is too long: {text[:40]}")
+    return Fraction(text.strip())
 
 
 def decimal_digits(number: Fraction) -> int | None:

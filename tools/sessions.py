@@ -5,12 +5,14 @@ A module for the tools; it is no tool of its own.
 
 import re
 from dataclasses import dataclass
+from decimal import Decimal
 from typing import Any
 
 import limits
 import wkt
 
 COLUMNS = limits.COLUMNS
+EXPONENT_MAX = 100  # a number with a greater one is no coordinate
 Corner = tuple[int, int, int]
 Piece = tuple[Corner, Corner]
 Grid = tuple[int, int, int, list[str]]
@@ -108,6 +110,13 @@ def piece_of(line: str) -> Piece:
     return (x, y, w), (right_x, right_y, right_w)
 
 
+def whole(number: Decimal) -> int:
+    """A coordinate of a PUT line. One with a great exponent would take all memory: it is out of the plane, and none."""
+    if abs(number.adjusted()) > EXPONENT_MAX:
+        raise ValueError(number)
+    return int(number)
+
+
 class Session:
     """The layers after a script, and the last answers of EDGES and GRID that still hold."""
 
@@ -155,7 +164,7 @@ class Session:
     def put(self, rest: str) -> None:
         name, text = matched(r"([^ \t]+)[ \t]+(.*)", rest)
         polygons = wkt.polygons_of(*wkt.read_all(text)[0]) or []
-        self.base[name] = [[(int(x), int(y)) for x, y in ring] for polygon in polygons for ring in polygon]
+        self.base[name] = [[(whole(x), whole(y)) for x, y in ring] for polygon in polygons for ring in polygon]
         self.stands(name)
 
     def define(self, rest: str) -> None:

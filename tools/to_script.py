@@ -29,7 +29,7 @@ by more than a 1000th of the extent, or are out of range, nothing is written, an
           Where one store of 32 layers does not suffice, NAME.1.txt, NAME.2.txt .. are each the script of a store.
 
 Status 0: all was written; 1: something was refused, the rest was written, or features overlap; 2: a file could not be
-read, or the factor does not fit, and nothing was written.
+read, the factor does not fit, or what would be written over is a store, and nothing was written.
 """
 
 import argparse
@@ -275,6 +275,13 @@ def write_names(path: pathlib.Path, stores: list[Store], scale: Scale) -> None:
                                 spelled_area(scale.area(layering.area_of(group)))])
 
 
+def check_targets(paths: list[pathlib.Path]) -> None:
+    """Refuses to write over a store."""
+    for path in paths:
+        if asking.is_store(path):
+            raise Stopped(f"--output: {path} is a store, which a script is not written over")
+
+
 def write_files(words: argparse.Namespace, stores: list[Store], scale: Scale) -> list[str]:
     """Writes the scripts and what goes with them, and tells how to make stores of them."""
     try:
@@ -285,16 +292,17 @@ def write_files(words: argparse.Namespace, stores: list[Store], scale: Scale) ->
     scripts = [words.output]
     if len(stores) > 1:
         scripts = [pathlib.Path(f"{base}.{place}{words.output.suffix}") for place in range(1, len(stores) + 1)]
-    sidecar = pathlib.Path(f"{base}.scale.json")
+    sidecar, names = pathlib.Path(f"{base}.scale.json"), pathlib.Path(f"{base}.names.csv")
     try:
+        check_targets([*scripts, sidecar, *([names] if words.coded else [])])
         for script, store in zip(scripts, stores):
             script.write_bytes("".join(line + "\n" for line in lines_of(store)).encode())
-            made = script.with_suffix(".db")
+            made = script.with_suffix(".store" if script.suffix == ".db" else ".db")
             told.append(f"{script}: {store.count()} layers; overlayd --store {made} --create {script}")
         sidecar.write_bytes(text.encode())
         if words.coded:
-            write_names(pathlib.Path(f"{base}.names.csv"), stores, scale)
-            told.append(f"names in {base}.names.csv")
+            write_names(names, stores, scale)
+            told.append(f"names in {names}")
     except OSError as fault:
         raise Stopped(str(fault)) from fault
     return [f"factor and origin in {sidecar}"] + told
@@ -319,9 +327,9 @@ def overlaps(words: argparse.Namespace, stores: list[Store], say: Callable[[str]
 def words_of(arguments: list[str]) -> argparse.Namespace:
     parser = argparse.ArgumentParser(description=__doc__, formatter_class=argparse.RawDescriptionHelpFormatter)
     parser.add_argument("files", metavar="FILE", nargs="+", help="GeoJSON or Well-Known Text; - is standard input")
-    parser.add_argument("--factor", type=Fraction, help="default 1")
-    parser.add_argument("--factor-y", type=Fraction, help="another factor for y (default: that of x)")
-    parser.add_argument("--origin", type=Fraction, nargs=2, metavar=("X", "Y"),
+    parser.add_argument("--factor", type=scales.number, help="default 1")
+    parser.add_argument("--factor-y", type=scales.number, help="another factor for y (default: that of x)")
+    parser.add_argument("--origin", type=scales.number, nargs=2, metavar=("X", "Y"),
                         help="the point that becomes 0 0 (default 0 0)")
     parser.add_argument("--fit", action="store_true", help="factor and origin from the data, where they are not given")
     parser.add_argument("--scale", metavar="FILE", type=pathlib.Path,

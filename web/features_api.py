@@ -134,8 +134,10 @@ class FeaturesApi:
 
     def _check_systems(self, request: Request) -> None:
         for word in ("crs", "bbox-crs"):
-            if word in request.words and request.words[word] != self.scale.uri():
-                raise Problem(400, f"{word}: nothing is transformed, it is {self.scale.uri()}")
+            own = self.scale.uri()
+            if word in request.words and request.words[word] != own:
+                told = f"it is {own}" if own else "and the layers are in a plane without a name: leave it out"
+                raise Problem(400, f"{word}: nothing is transformed, {told}")
         if not DATETIME.fullmatch(request.words.get("datetime", "../..")):
             raise Problem(400, "datetime: a time of RFC 3339, or two with / between them")
 

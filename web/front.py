@@ -149,13 +149,15 @@ class Front:
         )
 
     def _check(self, request: Request, route: Route) -> None:
+        site = request.header("sec-fetch-site").strip().lower()
         if route.method != "GET":
             if not self.store.writable:
                 raise Problem(403, "it was started without --writable")
             origin, parts = request.header("origin"), urllib.parse.urlsplit(request.root)
-            foreign = request.header("sec-fetch-site") in ("cross-site", "same-site")
-            if foreign or origin not in ("", f"{parts.scheme}://{parts.netloc}"):
+            if site in ("cross-site", "same-site") or origin not in ("", f"{parts.scheme}://{parts.netloc}"):
                 raise Problem(403, "another site's page may change nothing")
+        if site == "cross-site" and route.path != "/":  # a link to the page itself may stand anywhere
+            raise Problem(403, "another site's page may ask nothing")
         for word, value in request.words.items():
             if word not in (*route.words, "f"):
                 raise Problem(400, f"unknown word {word[:40]}")

@@ -6,7 +6,7 @@ import re
 
 import limits  # of tools/
 from layer_store import LayerStore
-from overlay_client import LARGEST_BATCH, NAME, Point, Session
+from overlay_client import LARGEST_BATCH, NAME, OUT_OF_RANGE, Point, Refused, Session
 from shapes import text_of
 from web_request import Answer, Problem, Request, json_answer
 
@@ -45,9 +45,14 @@ class MapApi:
         return json_answer(told)
 
     def _question(self, request: Request) -> tuple[Point, dict[str, object]]:
-        """What LOCATE is asked, and what the answer says of it: the point that was asked, and whether it is the given one."""
+        """What LOCATE is asked, and what the answer says of it: the point that was asked, and whether it is the given one.
+
+        A point out of the plane is refused here, as the program reads no number of so many digits as it may have.
+        """
         x, y = *request.numbers("x", 1), *request.numbers("y", 1)
         question = self.scale.scale.question(x, y)
+        if max(abs(question[0]), abs(question[1])) > limits.COORDINATE_MAX * question[2]:
+            raise Refused(OUT_OF_RANGE, "point out of range: it is out of the plane")
         point = self.scale.scale.world(question)
         return question, {"asked": question, "point": [self.scale.number(n) for n in point], "exact": point == (x, y)}
 

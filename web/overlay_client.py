@@ -37,7 +37,7 @@ from typing import BinaryIO, NamedTuple
 NAME = re.compile(r"[A-Za-z][A-Za-z0-9_]{0,31}\Z")
 LARGEST_BATCH = 64
 MOST_SESSIONS = 4
-UNKNOWN_LAYER, PENDING, OVERSIZE, BAD_COLUMN = 10, 21, 22, 23
+UNKNOWN_LAYER, OUT_OF_RANGE, PENDING, OVERSIZE, BAD_COLUMN = 10, 20, 21, 22, 23
 
 Point = tuple[int, int, int]
 """The point (x / w, y / w), as x, y and w."""

@@ -9,8 +9,8 @@ loopback unless --host says otherwise, and is never writable elsewhere: to serve
 passwords before it. map.scale.json beside map.db, as tools/to_script.py writes it, says what its whole numbers mean.
 web/README.md has more.
 
-Status 0: ended by SIGTERM or an interrupt; 1: the store could not be opened, or overlay_live has ended by itself or by a
-fault, which is told; 2: wrong words.
+Status 0: ended by SIGTERM or an interrupt; 1: the store could not be opened, nobody can listen at the address, or
+overlay_live has ended by itself or by a fault, which is told; 2: wrong words.
 """
 
 from __future__ import annotations
@@ -37,7 +37,7 @@ from front import LEAFLET, LOOPBACK, Front  # noqa: E402
 from layer_store import LayerStore, number_in_file  # noqa: E402
 from map_scale import MapScale  # noqa: E402
 from overlay_client import MOST_SESSIONS, Ended, Refused, Server  # noqa: E402
-from serving import serve  # noqa: E402
+from serving import Unheard, serve  # noqa: E402
 
 PATIENCE = 300.0
 """How many seconds a session waits for a reply before it is given up."""
@@ -47,6 +47,15 @@ def is_loopback(host: str) -> bool:
     with contextlib.suppress(ValueError):
         return ipaddress.ip_address(host).is_loopback
     return host == "localhost"
+
+
+def is_address(text: str) -> bool:
+    """Whether a text is the address of a server of the web."""
+    try:
+        parts = urllib.parse.urlsplit(text)
+        return parts.scheme in ("http", "https") and bool(parts.hostname) and parts.port != 0
+    except ValueError:  # a bracket without its other one, or a port that is none
+        return False
 
 
 def words_of(arguments: Sequence[str]) -> argparse.Namespace:
@@ -76,8 +85,8 @@ def words_of(arguments: Sequence[str]) -> argparse.Namespace:
         parser.error("--writable is for the loopback alone")
     if not words.writable and (words.create or not words.store):
         parser.error("without --writable it reads: name a --store that is there")
-    if words.base and urllib.parse.urlsplit(words.base).scheme not in ("http", "https"):
-        parser.error("--base is an address that begins with http:// or https://")
+    if words.base is not None and not is_address(words.base):
+        parser.error("--base is the address of a server, which begins with http:// or https://")
     return words
 
 
@@ -134,12 +143,17 @@ def main(arguments: Sequence[str]) -> int:
     try:
         with opened(words) as (server, store):
             threading.Thread(target=end_with, args=(server,), daemon=True).start()
-            with contextlib.suppress(SystemExit, KeyboardInterrupt):
-                serve(Front(store, hosts_of(words), words.base, words.leaflet), words.host, words.port)
-            signal.signal(signal.SIGTERM, signal.SIG_IGN)
+            try:
+                with contextlib.suppress(SystemExit, KeyboardInterrupt):
+                    serve(Front(store, hosts_of(words), words.base, words.leaflet), words.host, words.port)
+            finally:  # a fault goes on, and what ends because of it does not end the front
+                signal.signal(signal.SIGTERM, signal.SIG_IGN)
             status, told = server.close()
             for child in multiprocessing.active_children():  # what it joins nobody will ask for
                 child.kill()
+    except Unheard as fault:
+        print(fault, file=sys.stderr)
+        return 1
     except (Refused, Ended, scales.ScaleFault, OSError) as fault:
         print(f"{words.store or 'the front'}: {fault}", file=sys.stderr)
         return 1

@@ -2,6 +2,7 @@
 
 from __future__ import annotations
 
+import concurrent.futures
 import contextlib
 import http.client
 import json
@@ -11,13 +12,17 @@ import signal
 import socket
 import subprocess
 import sys
+import threading
 import time
 import unittest
+import unittest.mock
 import urllib.parse
-from collections.abc import Iterator
+from collections.abc import Callable, Iterator
 from typing import Any
+from wsgiref import simple_server
 
 import overlay_web
+import serving
 import testing
 from overlay_client import Server
 from testing import SQUARE
@@ -156,6 +161,22 @@ class Processes(unittest.TestCase):
                 self.assertIn(told, text)
                 self.assertEqual(text.count("\n"), 1, text)
 
+    def test_addresses_at_which_nobody_can_listen(self) -> None:
+        with socket.create_server(("127.0.0.1", 0)) as other:
+            taken = other.getsockname()[1]
+            tries: list[tuple[list[str | pathlib.Path], str]] = [
+                (["--writable", "--port", str(taken)], f"127.0.0.1 port {taken}: "),
+                (["--store", self.store, "--port", str(taken)], f"127.0.0.1 port {taken}: "),
+                (["--writable", "--port", "65536"], "127.0.0.1 port 65536: a port is 0 to 65535"),
+                (["--store", self.store, "--host", "192.0.2.1"], "192.0.2.1 port 0: "),  # an address of documents
+                (["--store", self.store, "--host", "a b"], "a b port 0: "),
+            ]
+            for words, told in tries:
+                with running(*words) as (run, address):
+                    status, text = self.ended(run)
+                    self.assertEqual((status, address), (1, ""), words)
+                    self.assertEqual((text[: len(told)], text.count("\n")), (told, 1), text)
+
     def test_words(self) -> None:
         for line in (
             "--store map.db --writable --host 0.0.0.0",
@@ -166,9 +187,13 @@ class Processes(unittest.TestCase):
             "--writable --host map.example.org",
             "--colour",
             "--store map.db --base map.example.org",
+            "--store map.db --base http://[",
+            "--store map.db --base http://",
+            "--store map.db --base https://map.example.org:port",
         ):
             with running(*line.split()) as (run, _):
-                self.assertEqual(self.ended(run)[0], 2, line)
+                status, text = self.ended(run)
+                self.assertEqual((status, "Traceback" in text), (2, False), line)
         words = overlay_web.words_of(["--store", "map.db", "--host", "10.1.2.3", "--name", "Map.Example.Org"])
         self.assertEqual(overlay_web.hosts_of(words), {"10.1.2.3", "map.example.org"})
         self.assertTrue(
@@ -184,3 +209,55 @@ class Processes(unittest.TestCase):
             with socket.create_connection((parts.hostname, parts.port or 80)) as stuck:
                 stuck.sendall(b"GET /status HTTP/1.1\r\nHost:")
                 self.assertEqual(asked(address, "GET", "/status")[0], 200)
+
+
+class Waiting:
+    """An application whose questions wait until they may go on, and the most of them that waited at once."""
+
+    def __init__(self) -> None:
+        self.lock, self.go_on = threading.Lock(), threading.Event()
+        self.now = self.most = 0
+
+    def __call__(self, _: object, start: Callable[[str, list[tuple[str, str]]], object]) -> list[bytes]:
+        with self.lock:
+            self.now += 1
+            self.most = max(self.most, self.now)
+        self.go_on.wait(60)
+        with self.lock:
+            self.now -= 1
+        start("200 OK", [("Content-Length", "2")])
+        return [b"{}"]
+
+
+class Threads(unittest.TestCase):
+    """The standard library's server, in this process."""
+
+    def setUp(self) -> None:
+        self.waiting = Waiting()
+        make = simple_server.make_server
+        self.server = self.enterContext(make("127.0.0.1", 0, self.waiting, serving.Threaded, serving.Handler))
+        threading.Thread(target=self.server.serve_forever, args=(0.01,), daemon=True).start()
+        self.addCleanup(self.server.shutdown)
+        self.addCleanup(self.waiting.go_on.set)
+        self.address = f"http://127.0.0.1:{self.server.server_port}/"
+
+    def test_they_are_so_many_at_most_and_each_question_is_answered(self) -> None:
+        count = serving.THREADS + 8
+        with concurrent.futures.ThreadPoolExecutor(count) as pool:
+            answers = [pool.submit(asked, self.address, "GET", "/") for _ in range(count)]
+            end = time.monotonic() + 60
+            while self.waiting.now < serving.THREADS and time.monotonic() < end:
+                time.sleep(0.01)
+            time.sleep(0.5)  # more of them would have come by now
+            self.assertEqual(self.waiting.now, serving.THREADS)
+            self.waiting.go_on.set()
+            self.assertEqual([one.result() for one in answers], [(200, {})] * count)
+        self.assertEqual(self.waiting.most, serving.THREADS)
+
+    def test_a_thread_that_fails_gives_its_place_back(self) -> None:
+        self.waiting.go_on.set()
+        with unittest.mock.patch.object(self.server, "finish_request", side_effect=OSError):
+            with unittest.mock.patch.object(self.server, "handle_error"):
+                for _ in range(serving.THREADS + 2):
+                    self.assertRaises((OSError, http.client.HTTPException), asked, self.address, "GET", "/")
+        self.assertEqual(asked(self.address, "GET", "/"), (200, {}))

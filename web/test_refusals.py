@@ -67,6 +67,32 @@ class Refusals(RefusalCase):
         for site in ("cross-site", "same-site"):
             self.refused(403, "/collections/I", "DELETE", HTTP_SEC_FETCH_SITE=site)
 
+    def test_pages_of_other_sites_ask_nothing_but_for_the_page(self) -> None:
+        asked = unittest.mock.patch.object(self.store, "_server", None)  # who asks the program fails
+        for path in (
+            "/collections",
+            "/collections/I",
+            "/collections/I/items",
+            "/collections/I/items/1",
+            "/collections/I/locate?x=1&y=1",
+            "/collections/I/tiles",
+            "/locate?x=1&y=1",
+            "/status",
+            "/api",
+            "/conformance",
+            "/map.css",
+        ):
+            for method in ("GET", "HEAD"):
+                with asked:
+                    found = self.client.ask(path, method, headers={"HTTP_SEC_FETCH_SITE": "cross-site"})
+                self.assertEqual(found.status, 403, (method, path))
+            for site in ("same-origin", "none", "same-site", ""):
+                found = self.client.ask(path, headers={"HTTP_SEC_FETCH_SITE": site})
+                self.assertEqual(found.status, 200, (site, path))
+        for accepted in ("text/html", "application/json"):
+            headers = {"HTTP_SEC_FETCH_SITE": "cross-site", "HTTP_ACCEPT": accepted}
+            self.assertEqual(self.client.ask("/", headers=headers).status, 200)
+
     def test_bodies_of_another_kind_or_size(self) -> None:
         for kind in ("text/plain", "application/x-www-form-urlencoded", "", "application/jsonp"):
             self.refused(415, "/collections/N", "PUT", {"definition": "A"}, CONTENT_TYPE=kind)
@@ -235,7 +261,19 @@ class Refusals(RefusalCase):
         ):
             self.refused(400, f"/locate?{words}")
             self.refused(400, f"/collections/A/locate?{words}")
-        self.assertEqual(self.refused(400, "/locate?x=1048577&y=0").value["code"], "20")
+        for words in ("x=1048577&y=0", "x=0&y=-1048577", "x=1048576.5&y=0", "x=1e30&y=0", "x=0&y=-1e99"):
+            for path in ("/locate", "/collections/A/locate"):
+                told = self.refused(400, f"{path}?{words}").value
+                self.assertEqual(told["code"], "20")
+                self.assertIn("out of the plane", told["description"])
+        self.assertEqual(self.client.get("/locate?x=1048576&y=-1048576")["places"]["A"], "out")
+
+    def test_systems_of_layers_that_have_none(self) -> None:
+        for word in ("crs", "bbox-crs"):
+            told = self.refused(400, f"/collections/I/items?{word}=x").value["description"]
+            self.assertEqual(
+                told, f"{word}: nothing is transformed, and the layers are in a plane without a name: leave it out"
+            )
 
     def test_tiles(self) -> None:
         self.assertEqual(self.refused(409, "/collections/A/tiles").value["code"], "12")

@@ -129,6 +129,28 @@ class Fitting(InFolder):
         self.assertEqual(outcome(to_script, other, second)[0], 2)
         self.assertEqual(outcome(to_script, second, "--scale", self.folder / "absent")[0], 2)
 
+    def test_a_store_is_not_written_over(self) -> None:
+        file = self.file("plan.wkt", self.degrees)
+        for slot in (0, 4096):  # of either slot the magic stands 16 bytes behind its begin
+            store = bytes(slot + 16) + b"OVLSTORE" + bytes(8192 - slot - 24)
+            for name in ("map.db", "map.scale.json", "map.names.csv"):
+                kept = self.file(name, store)
+                told = outcome(to_script, file, "--fit", "--coded", "--output", self.folder / "map.db")
+                self.assertEqual(told, (2, "", f"--output: {kept} is a store, which a script is not written over\n"))
+                self.assertEqual(kept.read_bytes(), store)
+                kept.unlink()
+                self.assertEqual([path.name for path in self.folder.iterdir()], ["plan.wkt"])
+        for other in (b"", b"OVLSTORE" * 2, bytes(8192)):
+            kept = self.file("map.db", other)
+            self.assertEqual(outcome(to_script, file, "--fit", "--output", kept)[0], 0)
+
+    def test_the_store_that_is_told_is_another_file_than_the_script(self) -> None:
+        file = self.file("plan.wkt", self.degrees)
+        for name, made in (("map.txt", "map.db"), ("map.db", "map.store"), ("map", "map.db")):
+            script = self.folder / name
+            errors = outcome(to_script, file, "--fit", "--output", script)[2]
+            self.assertIn(f"overlayd --store {self.folder / made} --create {script}\n", errors)
+
     def test_a_scale_that_a_file_cannot_say(self) -> None:
         file = self.file("plan.wkt", SQUARE)
         status, _, errors = outcome(to_script, file, "--factor", "1/3", "--output", self.folder / "out.txt")

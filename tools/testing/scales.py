@@ -25,6 +25,16 @@ class Numbers(unittest.TestCase):
             with self.assertRaises(scales.ScaleFault, msg=none):
                 scales.exact(none)
 
+    def test_words_that_are_numbers_and_those_that_are_none(self) -> None:
+        for text, number in (("1", Fraction(1)), ("-.5", Fraction(-1, 2)), (" 25e-1 ", Fraction(5, 2)),
+                             ("5/3", Fraction(5, 3)), ("-4/06", Fraction(-2, 3)), ("1e99", Fraction(10**99)),
+                             ("1" + "0" * 40, Fraction(10**40))):
+            self.assertEqual(scales.number(text), number)
+        for none in ("", "1e100", "1e400000000", "1e-400000000", "1" * 101, "1/0", "1/00", "1/" + "9" * 101, "nan",
+                     "inf", "1/3e5", "1 2", "0x10"):
+            with self.assertRaises(ValueError, msg=none):
+                scales.number(none)
+
     def test_digits_that_spell_a_number(self) -> None:
         for number, digits in ((Fraction(7), 0), (Fraction(1, 8), 3), (Fraction(3, 50), 2), (Fraction(1, 3), None)):
             self.assertEqual(scales.decimal_digits(number), digits)

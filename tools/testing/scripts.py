@@ -2,6 +2,7 @@
 
 import re
 import unittest
+import unittest.mock
 
 import to_script
 from testing.common import SQUARE, content, on_file, outcome, path
@@ -96,6 +97,24 @@ class ToScript(unittest.TestCase):
             status, output, errors = on_file(to_script, text)
             self.assertEqual((status, output), (2, ""), text[:30])
             self.assertIn("not read", errors)
+
+    def test_numbers_with_great_exponents(self) -> None:
+        for number in ("1e99999999", "-1e99999999", "1e-99999999", "1e201", "1e-201", "9" * 202, "0." + "1" * 201):
+            for text in (f"POLYGON ((0 0, {number} 0, 0 9, 0 0))",
+                         f'{{"type": "Polygon", "coordinates": [[[0, 0], [{number}, 0], [0, 9], [0, 0]]]}}'):
+                for words in ([], ["--fit"], ["--factor", 1]):
+                    status, output, errors = on_file(to_script, text, *words)
+                    self.assertEqual((status, output), (1, ""), (text, words))
+                    self.assertIn("a coordinate that is beyond all bounds", errors)
+        for number in ("1e200", "1e-200", "-" + "9" * 200, "0." + "1" * 200):
+            for words in ([], ["--fit"], ["--factor", "1e99"], ["--factor", "1e-99"]):
+                status = on_file(to_script, f"POLYGON ((0 0, {number} 0, 0 {number}, 0 0))", *words)[0]
+                self.assertIn(status, (0, 1, 2), (number, words))
+        for word in ("--factor", "--factor-y"):
+            for number in ("1e400000000", "1e-400000000", "1/0", "inf"):
+                with self.assertRaises(SystemExit) as ended, unittest.mock.patch("sys.stderr"):
+                    on_file(to_script, SQUARE, word, number)
+                self.assertEqual(ended.exception.code, 2)
 
     def test_too_many_steps(self) -> None:
         def zigzag(steps: int) -> str:

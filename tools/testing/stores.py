@@ -62,6 +62,15 @@ class OverScripts(InFolder):
             self.assertEqual((status, output), (1, ""))
             self.assertEqual(errors, "line 2: DEFINE I ..: error 10 unknown layer\nI: no layer has this name\n")
 
+    def test_numbers_with_great_exponents_are_refused_as_other_lines_are(self) -> None:
+        text = f"PUT A {SQUARE}\nPUT B POLYGON ((0 0, 1e99999999 0, 0 1e-99999999, 0 0))\n"
+        for tool, words in ((to_rings, []), (to_svg, ["--grid", 4]), (to_geojson, [])):
+            status, output, errors = self.asked(tool, text, "--layer", "A", *words)
+            self.assertEqual((status, errors.split(" error ")[0]), (1, "line 2: PUT B ..:"))
+            self.assertIn("10", output)
+        script, replies = self.file("b.txt", text), self.file("b.replies", "ok 1\nok 2\n")  # no program replies so
+        self.assertEqual(outcome(to_rings, script, "--replies", replies)[:2], (1, ""))
+
     def test_a_scale_beside_the_script(self) -> None:
         scale = self.file("plan.scale.json", SCALE)
         status, output, errors = self.asked(to_rings, CUT)
@@ -109,15 +118,20 @@ class OverScripts(InFolder):
 
     def test_words_that_go_not_together(self) -> None:
         for words in ([], ["a.txt", "--store", "b"], ["--store", "b", "--replies", "c"], ["a.txt", "--digits", "101"],
-                      ["a.txt", "--factor", "0"], ["a.txt", "--factor", "2", "--scale", "x"]):
+                      ["a.txt", "--factor", "0"], ["a.txt", "--factor", "2", "--scale", "x"],
+                      ["a.txt", "--factor", "1e400000000"], ["a.txt", "--factor-y", "1e-400000000"],
+                      ["a.txt", "--origin", "0", "1e400000000"]):
             for tool in (to_rings, to_svg, to_geojson):
                 with self.assertRaises(SystemExit) as ended, unittest.mock.patch("sys.stderr"):
                     tool.main(words)
                 self.assertEqual(ended.exception.code, 2)
 
     def test_a_script_that_makes_no_layer(self) -> None:
-        for tool in (to_rings, to_svg):
+        for tool in (to_rings, to_svg, to_geojson):
             self.assertEqual(self.asked(tool, "LAYERS\n"), (1, "", "the script makes no layer\n"))
+            self.assertEqual(self.asked(tool, ""), (1, "", "the script makes no layer\n"))
+            status, output, errors = outcome(tool, self.file("a.txt", "SYNC\n"), "--replies", self.file("b", "ok 0\n"))
+            self.assertEqual((status, output, errors), (1, "", "the script makes no layer\n"))
 
 
 class OverStores(WithProgram):
@@ -195,6 +209,13 @@ class OverStores(WithProgram):
         empty = self.store("empty.db", "")
         self.assertEqual(self.each(to_rings, empty), (1, "", f"{empty}: it has no layer\n"))
         self.assertEqual(outcome(dump_store, empty, "--program", self.program), (0, "", ""))
+
+    def test_a_store_in_the_place_of_a_script(self) -> None:
+        for script in ("", CUT):
+            store = self.store(f"map{len(script)}.db", script)
+            for tool in (to_rings, to_svg, to_geojson):
+                self.assertEqual(outcome(tool, store, "--program", self.program),
+                                 (1, "", f"{store}: a store, and no script; say --store {store}\n"))
 
     def test_no_program(self) -> None:
         script = self.file("plan.txt", CUT)
