@@ -352,7 +352,8 @@ def main() -> int:
     words = parser.parse_args()
     words.program = os.path.abspath(words.program)
     if words.install:
-        subprocess.run(["apt-get", "install", "-y", "-q", "--no-upgrade", "--no-install-recommends", *PACKAGES], stdout=sys.stderr, check=True)
+        options = ["-y", "-q", "--no-upgrade", "--no-install-recommends"]
+        subprocess.run(["apt-get", "install", *options, *PACKAGES], stdout=sys.stderr, check=True)
     with tempfile.TemporaryDirectory(prefix="live", dir=words.folder) as place:
         return measure(words, pathlib.Path(place))
 

@@ -109,6 +109,19 @@ class Lane:
     def waiting(self) -> int:
         return len(self.asked) + len(self.told)
 
+    def last_accepted(self) -> int:
+        """The least that the session's next command has to be above."""
+        numbers = [judging.number_of(one.reply) for one in self.told if one.reply[0].startswith("ok ")]
+        return max([self.session.seen, *numbers])
+
+    def kept(self) -> tuple[Any, ...]:
+        """All that judging changes."""
+        return list(self.asked), list(self.told), self.session.seen, dict(self.session.built)
+
+    def restore(self, kept: tuple[Any, ...]) -> None:
+        asked, told, self.session.seen, self.session.built = kept
+        self.asked, self.told = collections.deque(asked), collections.deque(told)
+
     def has_asked_before(self, clock: int) -> bool:
         """Whether a command that was sent before some time has no reply yet."""
         return any(one.sent < clock and isinstance(one.request, judging.CHANGES) for one in self.asked)
@@ -209,8 +222,8 @@ class Judge:
     def cut_off(self, number: int, lines: Sequence[str]) -> None:
         """Judges all that is left of a run that was killed and left this version of these layers.
 
-        Of each session the first line without a reply may have been run, the others not: each of these commands has some
-        place in the history, or none, so that all replies are right.
+        Of each session the first line without a reply may have been run, the others not: each of these commands has
+        some place in the history, or none, so that all replies are right.
         """
         if number < self.durable:
             raise judging.Wrong(f"version {self.durable} was told durable, and the store has {number}")
@@ -232,7 +245,7 @@ class Judge:
     def fault_with(self, lanes: Sequence[Lane], number: int, lines: Sequence[str]) -> str | None:
         """What is wrong where the lost commands of some sessions were run in this order. Then all is as before."""
         last, known = self.history.last(), dict(self.known)
-        before = [(list(lane.asked), list(lane.told), lane.session.seen, dict(lane.session.built)) for lane in self.lanes]
+        before = [lane.kept() for lane in self.lanes]
         try:
             self.fill(lanes)
             for lane in self.lanes:
@@ -247,8 +260,8 @@ class Judge:
             self.history.cut(last)
             del self.sent[last + 1 :]
             self.known = known
-            for lane, (asked, told, lane.session.seen, lane.session.built) in zip(self.lanes, before):
-                lane.asked, lane.told = collections.deque(asked), collections.deque(told)
+            for lane, one in zip(self.lanes, before):
+                lane.restore(one)
             return str(fault)
 
     def fill(self, lanes: Sequence[Lane]) -> None:
@@ -260,8 +273,7 @@ class Judge:
                 self.add(self.known.pop(number))
             elif rest:
                 lane = rest.pop(0)
-                if number <= max((judging.number_of(one.reply) for one in lane.told if one.reply[0].startswith("ok ")),
-                                 default=lane.session.seen):
+                if number <= lane.last_accepted():
                     raise judging.Wrong(f"version {number} is older than what its session saw")
                 self.add(lane.asked[0])
             else:
@@ -536,7 +548,8 @@ class Stress:
         lines = [f"LOCATE {name} {x} {y}" for x, y in points]
         if is_derived:
             columns = [15, 16, self.draw.randrange(model.COLUMNS)]
-            lines += [f"WAIT {name}"] + [f"{word} {name} {column}" for column in columns for word in ("EDGES", "VERIFY")]
+            lines.append(f"WAIT {name}")
+            lines += [f"{word} {name} {column}" for column in columns for word in ("EDGES", "VERIFY")]
         return lines
 
 
@@ -556,8 +569,8 @@ def stressed(words: argparse.Namespace, folder: pathlib.Path) -> tuple[int, int]
         print(f"wrong: {type(fault).__name__}: {fault}; the store is {whole.store}")
         failed = 1
     print(
-        f"runs ended by kill {whole.kills}, by themselves {whole.ends}; accepted {whole.history.last()}, and {whole.lost} "
-        f"lost by kills that nobody was told durable; replies judged {sum(whole.replies.values())}: "
+        f"runs ended by kill {whole.kills}, by themselves {whole.ends}; accepted {whole.history.last()}, and "
+        f"{whole.lost} lost by kills that nobody was told durable; replies judged {sum(whole.replies.values())}: "
         + ", ".join(f"{kind} {count}" for kind, count in sorted(whole.replies.items()))
     )
     return passed, failed
