@@ -21,6 +21,10 @@ import model
 
 UNJUDGED = {30, 31, 35, 36, 40, 43, 44}
 
+Batch = collections.namedtuple("Batch", "commands")  # commands that make one version, or none
+CHANGES = (model.Put, model.Define, model.Drop, Batch)
+REFUSALS = (model.Refused, model.RefusedAt)
+
 
 class Wrong(Exception):
     """What is wrong with a reply."""
@@ -44,6 +48,35 @@ def read_or_refusal(line):
         return model.read_line(line)
     except model.Refused as refusal:
         return refusal
+
+
+def requests_of(lines):
+    """What lines ask, a reply each: those of a batch are one request."""
+    requests, at = [], 0
+    while at < len(lines):
+        line, at = lines[at], at + 1
+        try:
+            size = model.batch_size(line)
+            if size is not None:
+                members, at = lines[at : at + size], at + size
+                requests.append(Batch(tuple(model.commands_of(members, size))))
+            else:
+                requests.append(model.read_line(line))
+        except REFUSALS as refusal:
+            requests.append(refusal)
+    return requests
+
+
+def refusal_of(layers, request):
+    """The line that refuses a command or a batch over some layers, or None."""
+    if not isinstance(request, Batch):
+        code = layers.refusal(request)
+        return None if code is None else model.Refused(code).line()
+    try:
+        model.after_all(layers, request.commands)
+        return None
+    except model.RefusedAt as refusal:
+        return refusal.line()
 
 
 def code_of(reply):
@@ -77,24 +110,33 @@ class History:
         version = len(self.versions) - 1
         content = layers.contents.get(name)
         key = None if content is None else self.meanings.key(content, self.keys)
+        if self.changes[name][-1][0] == version:
+            self.changes[name].pop()
         if self.changes[name][-1][1] != key:
             self.changes[name].append((version, key))
-        if is_touched:
+        if is_touched and self.touched[name][-1] != version:
             self.touched[name].append(version)
         if key is None:
             self.keys.pop(name, None)
         else:
             self.keys[name] = key
 
-    def add(self, command):
+    def add(self, request):
+        """The next version, that of a command or of a batch."""
+        line = refusal_of(self.versions[-1], request)
+        if line is not None:
+            raise Wrong(f"version {len(self.versions)} is of what `{line}` refuses")
+        self.versions.append(self.versions[-1])
+        for command in request.commands if isinstance(request, Batch) else [request]:
+            self.step(command)
+
+    def step(self, command):
+        """Takes a command into the last version."""
         before = self.versions[-1]
-        code = before.refusal(command)
-        if code is not None:
-            raise Wrong(f"version {len(self.versions)} is of a command that {code} refuses")
-        layers = before.after(command)
-        self.versions.append(layers)
-        if not isinstance(command, model.Put) or command.name not in before.contents:
-            self.shapes.append(len(self.versions) - 1)
+        layers = self.versions[-1] = before.after(command)
+        is_new_shape = not isinstance(command, model.Put) or command.name not in before.contents
+        if is_new_shape and self.shapes[-1] != self.last():
+            self.shapes.append(self.last())
         is_other = before.contents.get(command.name) != layers.contents.get(command.name)
         self.renew(command.name, layers, is_other)
         self.renew_those_behind(command.name, layers, is_other)
@@ -108,6 +150,18 @@ class History:
                 reaching.add(name)
                 if name != changed:
                     self.renew(name, layers, is_other)
+
+    def cut(self, last):
+        """Takes back all versions behind one."""
+        del self.versions[last + 1 :], self.shapes[bisect.bisect_right(self.shapes, last) :]
+        for name, changes in self.changes.items():
+            del changes[bisect.bisect_right(changes, last, key=lambda change: change[0]) :]
+            if changes[-1][1] is None:
+                self.keys.pop(name, None)
+            else:
+                self.keys[name] = changes[-1][1]
+        for touched in self.touched.values():
+            del touched[bisect.bisect_right(touched, last) :]
 
     def last(self):
         return len(self.versions) - 1
@@ -182,17 +236,15 @@ class Session:
         raise Wrong(what)
 
     def judge_command(self, command, reply, high):
-        code = code_of(reply)
-        if code is None:
+        if reply[0].startswith("ok "):
             number = number_of(reply)
-            if not reply[0].startswith("ok ") or len(reply) != 1 or number <= self.seen:
+            if len(reply) != 1 or number <= self.seen:
                 raise Wrong(f"version {self.seen} was seen before")
             self.seen = number
             return
-        self.exact(reply, model.Refused(code))
         versions = self.history.versions
         tries = self.history.shapes_between(self.seen, high)
-        self.first(tries, lambda v: versions[v].refusal(command) == code, f"no version to {high} refuses it so")
+        self.first(tries, lambda v: [refusal_of(versions[v], command)] == reply, f"no version to {high} refuses it so")
 
     def exact(self, reply, refusal):
         if reply != [refusal.line()]:
@@ -257,7 +309,7 @@ class Session:
     def judge(self, place):
         """Judges a reply; whether it could be judged."""
         asked, reply, high = self.asked[place], self.replies[place], self.bounds[place]
-        if isinstance(asked, model.Refused):
+        if isinstance(asked, REFUSALS):
             self.exact(reply, asked)
         elif code_of(reply) in UNJUDGED:
             return False
@@ -302,7 +354,7 @@ def accepted_of(asked, replies):
                 number = number_of(reply)
                 if number in accepted:
                     raise Wrong(f"two commands have the number {number}")
-                if isinstance(request, (model.Refused, model.Question)):
+                if not isinstance(request, CHANGES):
                     raise Wrong(f"`ok {number}` is no reply to its line")
                 accepted[number] = request
     return accepted
@@ -330,7 +382,7 @@ def turns_of(replies):
 def place_cut_off(asked, replies, accepted):
     """Takes in a command that may have been accepted though its session was cut off before the reply."""
     for requests, answers in zip(asked, replies):
-        if len(answers) < len(requests) and isinstance(requests[len(answers)], (model.Put, model.Define, model.Drop)):
+        if len(answers) < len(requests) and isinstance(requests[len(answers)], CHANGES):
             missing = [number for number in range(1, len(accepted) + 1) if number not in accepted]
             if missing:
                 accepted[missing[0]] = requests[len(answers)]
@@ -344,7 +396,7 @@ def judge(scripts, output, before=(), has_store=True, is_cut=False):
     Where is_cut, sessions may have ended before all their lines were answered.
     """
     replies = sections(output, len(scripts))
-    asked = [[read_or_refusal(line) for line in model.lines_of(script)] for script in scripts]
+    asked = [requests_of(model.lines_of(script)) for script in scripts]
     for place, (requests, answers) in enumerate(zip(asked, replies)):
         if len(requests) < len(answers) or (len(requests) > len(answers) and not is_cut):
             raise Wrong(f"script {place + 1}: {len(answers)} replies for {len(requests)} lines")
@@ -355,7 +407,7 @@ def judge(scripts, output, before=(), has_store=True, is_cut=False):
     last = list(place_cut_off(asked, replies, accepted))
     history = history_of(accepted, model.Meanings())
     for command in last:
-        if history.versions[-1].refusal(command) is None:
+        if refusal_of(history.versions[-1], command) is None:
             history.add(command)
     judged = Judged(history)
     judged.turns = turns_of(replies)
@@ -388,7 +440,7 @@ def judge_session(session, number, judged):
                 judged.unjudged[kind] += 1
                 judged.outside.append((session, place, code_of(reply)))
         except Wrong as fault:
-            asked = request.line() if isinstance(request, model.Refused) else request
+            asked = request.line() if isinstance(request, REFUSALS) else request
             judged.wrong.append(f"script {number}, reply {place + 1}: {reply[:3]}: {fault}; asked {str(asked)[:200]}")
     judged.seen.append(session.seen)
 

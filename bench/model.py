@@ -355,10 +355,22 @@ def batch_size(line):
 
 def command_of(line):
     """The command of a line of a batch."""
-    asked = read_line(line)
-    if isinstance(asked, Question):
+    if len(line) <= LINE_MAX and re.findall(rb"[^ \t]+", line)[0] not in (b"PUT", b"DEFINE", b"DROP"):
         raise Refused(41)
-    return asked
+    return read_line(line)
+
+
+def commands_of(lines, size):
+    """The commands of as many lines as belong to a batch, or of those that are left of a script."""
+    if len(lines) < size:
+        raise Refused(41)
+    commands = []
+    for place, line in enumerate(lines):
+        try:
+            commands.append(command_of(line))
+        except Refused as refusal:
+            raise RefusedAt(place, refusal) from None
+    return commands
 
 
 # ---- layers
@@ -407,6 +419,16 @@ class Layers:
 
     def lines(self):
         return [layer_line(name, self.contents[name]) for name in self.names]
+
+
+def after_all(layers, commands):
+    """The layers after commands; refused for the first that is refused after those before it."""
+    for place, command in enumerate(commands):
+        code = layers.refusal(command)
+        if code is not None:
+            raise RefusedAt(place, Refused(code))
+        layers = layers.after(command)
+    return layers
 
 
 def is_tree(content):
@@ -683,13 +705,7 @@ class Book:
 
     def submit(self, commands):
         """Accepts commands at once, or is refused for the first that is refused after those before it."""
-        layers = self.layers
-        for place, command in enumerate(commands):
-            code = layers.refusal(command)
-            if code is not None:
-                raise RefusedAt(place, Refused(code))
-            layers = layers.after(command)
-        self.layers = layers
+        self.layers = after_all(self.layers, commands)
         self.number += 1
         self.keys = {}
         for name in self.layers.names:
@@ -715,18 +731,9 @@ class Book:
             return [f"built {self.number}"]
         return answer(self.meanings, asked, self.keys.get(asked.name))
 
-
     def reply_to_batch(self, lines, size):
         """The reply to as many lines as belong to a batch, or to those that are left of a script."""
-        if len(lines) < size:
-            raise Refused(41)
-        commands = []
-        for place, line in enumerate(lines):
-            try:
-                commands.append(command_of(line))
-            except Refused as refusal:
-                raise RefusedAt(place, refusal) from None
-        self.submit(commands)
+        self.submit(commands_of(lines, size))
         return [f"ok {self.number}"]
 
 
