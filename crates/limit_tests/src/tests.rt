@@ -1,0 +1,7 @@
+//! The tests, and what they share.
+mod batch_tests;
+mod call_tests;
+mod device_tests;
+mod edges_tests;
+mod testing;
+mod word_tests;
