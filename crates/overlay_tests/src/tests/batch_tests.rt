@@ -88,9 +88,10 @@ fn with_tile(rt: &impl Abort, alloc: Global, version: &Version) -> Version {
     }
 }
 
-/// Batches on two squares and where both are, with one tile built, and how many tiles of I are pending then.
+/// Batches on two squares and where both are, with one tile built, and how many tiles are pending then: of I all but the
+/// one that is kept and the 33 of J, or all of I.
 const TOUCHING: &[(&[Change], usize)] = &[
-    (&[Change::Put("C", SQUARE), Change::Define("J", "C")], 33),
+    (&[Change::Put("C", SQUARE), Change::Define("J", "C")], 65),
     (&[Change::Remove("I"), Change::Define("I", "A & B")], 33),
     (&[Change::Put("A", SHIFTED), Change::Put("A", SQUARE)], 33),
 ];

@@ -46,7 +46,7 @@ fn five_layers(rt: &impl Abort, alloc: Global) -> Layers {
 #[test]
 fn an_input_has_the_definitions_in_reach(rt: HostRuntime) {
     let layers = five_layers(&rt, rt.alloc());
-    let input = input_in(&rt, rt.alloc(), &layers, "J", 8);
+    let input = input_in(&rt, rt.alloc(), &layers, "J", 16);
     assert!(rt; input.marked().len() == 8);
     assert!(rt; input.steps().bases() == 2);
     check_values(&rt, input.steps(), &[false, true, false, false]);
@@ -54,7 +54,7 @@ fn an_input_has_the_definitions_in_reach(rt: HostRuntime) {
 
 #[test]
 fn two_squares_meet_where_both_bits_are_set(rt: HostRuntime) {
-    let input = input_of(&rt, rt.alloc(), SQUARE, SHIFTED, "A & B", 8);
+    let input = input_of(&rt, rt.alloc(), SQUARE, SHIFTED, "A & B", 16);
     let copy = input.steps().try_copy(rt.alloc()).expect(&rt, "memory");
     assert!(rt; copy == *input.steps());
     check_values(&rt, &copy, &[false, false, false, true]);
