@@ -1,5 +1,5 @@
 //! Names of layers.
-ghost use Rattle.std.specs.Prelude.{◌≡◌, ◌≤◌, List, ℕ, length, take, IfOk, IsTrue, IsOkUnless, true, false};
+ghost use Rattle.std.specs.Prelude.{◌≡◌, ◌≤◌, List, ℕ, length, take, IfOk, IsOk, IsTrue, true, false};
 ghost use Rattle.std.specs.List.{list_all};
 ghost use Rattle.layer_expr.specs.Name.{is_name, is_name_byte, first_is_letter};
 
@@ -27,11 +27,11 @@ impl Model for Name {
 }
 
 impl Name {
-    /// The name with these bytes.
+    /// The name with these bytes. It takes no memory.
     pub fn new(_alloc: Global, bytes: &[u8]) -> Result<Name, ExprFault>
         ensures ok { IfOk result (λ name. name ≡ bytes.now) }
         ensures refused { is_name bytes.now ≡ false → result ≡ Err ExprFault.BadName }
-        ensures accepted { is_name bytes.now ≡ true → IsOkUnless result ExprFault.OutOfMemory }
+        ensures accepted { is_name bytes.now ≡ true → IsOk result }
     {
         if !is_well_formed(bytes) {
             return Err(ExprFault::BadName);
