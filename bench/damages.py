@@ -33,7 +33,7 @@ import stress
 import unproved
 
 HERE = pathlib.Path(__file__).resolve().parent
-CRATES = ["overlay_engine", "test_disks", "wkt_form"]
+CRATES = ["overlay_engine", "version_core", "test_disks", "wkt_form"]
 SESSION_CRATES = ["server_session", "version_book", "script_form"]
 STORES = {
     "one": "the store of one layer", "two": "the store of two", "tiled": "the tiled square's store",

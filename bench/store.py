@@ -25,7 +25,7 @@ from limits import COLUMNS, COORDINATE_MAX, column_begin  # noqa: E402
 
 HERE = pathlib.Path(__file__).resolve().parent
 CRATES = [
-    "plane_base", "wkt_form", "layer_expr", "layer_book", "tile_build", "version_core", "disk_model", "extent_map",
+    "plane_base", "wkt_form", "layer_expr", "layer_book", "tile_build", "versions", "disk_model", "extent_map",
     "record_writing", "record_reading", "root_store", "flush_core",
 ]
 BLOCK = 4096

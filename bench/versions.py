@@ -19,7 +19,7 @@ import turns
 import unproved
 
 HERE = pathlib.Path(__file__).resolve().parent
-CRATES = ["version_core", "wkt_form"]
+CRATES = ["versions", "wkt_form"]
 REACH = 1 << 20
 
 
