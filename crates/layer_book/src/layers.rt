@@ -1,5 +1,5 @@
 //! Layers in order of creation.
-ghost use Rattle.std.specs.Prelude.{◌≡◌, ◌<◌, ◌↔◌, [], length, slice_get, is_some, None, IfSome, IfOk, IsTrue};
+ghost use Rattle.std.specs.Prelude.{◌≡◌, ◌<◌, ◌↔◌, [], length, slice_get, is_some, bytes_eq, None, IfSome, IfOk, IsTrue};
 ghost use Rattle.std.specs.Option.{option_map};
 ghost use Rattle.overlay_terms.specs.Commands.{index_of, stands, with_content, refusal_of, refusal_of_remove};
 ghost use Rattle.layer_book.specs.Layer.{content, content_named, keeping, layers_of, others, IsBook};
@@ -71,7 +71,7 @@ impl Layers {
     {
         for index in 0..self.len() {
             if let Some((own, _)) = self.at(index) {
-                if own == name {
+                if is_named(own, name) {
                     return Some(index);
                 }
             }
@@ -139,4 +139,21 @@ fn copied(map: &IndexMap<Name, Layer>) -> Result<IndexMap<Name, Layer>, AllocErr
     ensures { IfOk result (λ copy. layers_of copy.entries ≡ layers_of map.now.entries) }
 {
     map.clone()
+}
+
+/// Whether a layer's own name is another. Names that differ mostly do in their lengths or their last bytes, and these are
+/// looked at first.
+fn is_named(own: &Name, name: &Name) -> bool
+    ensures { result ≡ bytes_eq own.now name.now }
+{
+    let (bytes, others) = (own.bytes(), name.bytes());
+    if bytes.len() != others.len() {
+        return false;
+    }
+    if let (Some(last), Some(other)) = (bytes.last(), others.last()) {
+        if *last != *other {
+            return false;
+        }
+    }
+    bytes == others
 }
