@@ -1,4 +1,4 @@
--- What is true of the finished tiles of a version.
+-- What is true of finished tiles.
 use Rattle.std.specs.Prelude.{◌≡◌, ℕ, ◌==◌, Bool, false, ◌&&◌, IsTrue, List, Some, bytes_eq}
 use Rattle.std.specs.List.{AllPairs}
 use Rattle.overlay_terms.specs.Layers.{Name}
