@@ -1,4 +1,4 @@
-"""A module for tiles.py: builds a small program over the libraries of this repository by `rt run`.
+"""A module for trials/tiles.py: builds a small program over the libraries of this repository by `rt run`.
 
 The sources stand in a folder of bench/ as NAME.rattle. They are copied, with the sources of the crates that they use
 and of all below these, into a folder of their own, where `rt run` proves what has no proof yet on this machine: all of
@@ -9,20 +9,21 @@ import pathlib
 import shutil
 import subprocess
 
-import unproved
+from bench import unproved
 
 
-def built(sources, crates, folder, words):
-    """Builds the program of a folder of bench/ over these crates, runs it once with these words, and gives its path."""
+def built(sources, folder, words):
+    """Builds the program of a folder of bench/, runs it once with these words, and gives its path."""
     uses, copy, name = unproved.crates(), pathlib.Path(folder) / "copy", f"{sources.name}_bench"
-    own = unproved.below(uses, crates)
+    named = unproved.crates_of(sources)
+    own = unproved.below(uses, named)
     for one in own:
         shutil.copytree(unproved.TOP / "crates" / one, copy / "crates" / one, ignore=shutil.ignore_patterns("out"))
     source = copy / "crates" / name / "src"
     source.mkdir(parents=True)
-    for one in sources.glob("*.rattle"):
-        shutil.copy(one, source / f"{one.stem}.rt")
-    lines = [f"{one}: {' '.join(uses[one])}" for one in own] + [f"{name}: {' '.join(crates)}"]
+    for module, one in unproved.files_of(sources).items():
+        shutil.copy(one, source / f"{module}.rt")
+    lines = [f"{one}: {' '.join(uses[one])}" for one in own] + [f"{name}: {' '.join(named)}"]
     (copy / "crates.txt").write_text("\n".join(lines) + "\n")
     subprocess.run(["rt", "run", "--", *words], cwd=source.parent, stdin=subprocess.DEVNULL, check=True)
     return source.parent / "out" / name

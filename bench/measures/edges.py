@@ -1,0 +1,81 @@
+#!/usr/bin/env python3
+"""How long the reply of EDGES takes beside the building of the tile that WAIT waits for.
+
+python3 bench/measures/edges.py [--built PROGRAM].. [--beside COMMIT]
+
+Maps of two layers of so many edges each in one column, the SymDifference of which is asked for: stars and slivers (ends
+at fractions), parcels and combs (whole ends). WAIT is the input, the tile and the version that keeps it; EDGES is the
+text of the tile. By the program of bench/measures/edges, built unproved (minutes); --beside builds another one over the
+libraries of a commit, --built names ones that were built before. Several run in turns, five times each, the least time
+is taken, and all have to write the same text.
+"""
+
+import argparse
+import pathlib
+import subprocess
+import sys
+import tempfile
+
+sys.path.insert(0, str(pathlib.Path(__file__).resolve().parents[2]))
+
+from bench import tile_texts, unproved  # noqa: E402
+from bench.measures import tiles, turns  # noqa: E402
+
+HERE = pathlib.Path(__file__).resolve().parent
+# 512 edges; the tile of two combs of 512 has too many pieces.
+MAPS = [(tiles.stars, 512, 20), (tiles.slivers, 512, 10), (tiles.parcels, 512, 50), (tiles.combs, 256, 4)]
+
+
+def cases():
+    """The text that the program of bench/measures/edges reads."""
+    for shape, edges, times in MAPS:
+        lines = [f"{shape.__name__}-{edges}", times, *map(tile_texts.text_of, shape(edges))]
+        yield "\n".join(map(str, lines)) + "\n"
+
+
+def told(words):
+    """A line's case, the pieces and the text of its tile, and its times."""
+    case, times, pieces, size, total, *taken = words
+    return case, (pieces, size, total), [(what, int(each) / int(times)) for what, each in zip(("WAIT", "EDGES"), taken)]
+
+
+def built_of(commit, folder):
+    """The program over the libraries of a commit."""
+    tree, place = folder / "tree", folder / "beside"
+    place.mkdir()
+    subprocess.run(["git", "-C", unproved.TOP, "worktree", "add", "--detach", tree, commit], check=True)
+    here, unproved.TOP = unproved.TOP, tree
+    try:
+        return unproved.built(HERE / "edges", place, checked=False)
+    finally:
+        unproved.TOP = here
+        subprocess.run(["git", "-C", here, "worktree", "remove", "--force", tree], check=True)
+
+
+def main():
+    parser = argparse.ArgumentParser(description=__doc__, formatter_class=argparse.RawDescriptionHelpFormatter)
+    parser.add_argument("--built", type=pathlib.Path, action="append", default=[])
+    parser.add_argument("--beside", metavar="COMMIT")
+    words = parser.parse_args()
+    with tempfile.TemporaryDirectory() as place:
+        folder = pathlib.Path(place)
+        programs = [program.resolve() for program in words.built]
+        if not programs:
+            (folder / "built").mkdir()
+            programs = [unproved.built(HERE / "edges", folder / "built", checked=False)]
+        if words.beside:
+            programs.append(built_of(words.beside, folder))
+        file = folder / "cases"
+        file.write_text("".join(cases()))
+        least, seen = turns.least_times(programs, file, told)
+        for case, (pieces, size, _) in seen.items():
+            rows = []
+            for at in range(len(programs)):
+                waited, written = least[at, case, "WAIT"], least[at, case, "EDGES"]
+                share = 100 * written / waited
+                rows.append(f"WAIT {waited / 1000:.2f} ms, EDGES {written / 1000:.3f} ms, {share:.1f} %")
+            print(f"{case}, {pieces} pieces, {size} bytes: " + "; ".join(rows), flush=True)
+
+
+if __name__ == "__main__":
+    main()

@@ -1,0 +1,140 @@
+#!/usr/bin/env python3
+"""Times WAIT with EDGES, and LOCATE, beside what else a user can install: CGAL, Boost.Geometry, GEOS.
+
+python3 bench/measures/peers.py PROGRAM.. [--edges N].. [--only NAME]..
+
+Several programs of this repository run in turns. Of the peers in bench/measures/peers, those are taken that g++ can
+compile (Debian's libcgal-dev libgmp-dev libmpfr-dev, libboost-dev, libgeos++-dev).
+
+- The symmetric difference of two layers of so many edges (families of tiles.py) over all columns: WAIT and EDGES, one
+  worker, beside CGAL's exact arrangement and, where no ring crosses, Boost's sym_difference in floating point; WAIT
+  alone, EDGES alone.
+- A line of LOCATE over one layer, beside GEOS (floating point, no text).
+
+Processor seconds, the least of several runs; ours is the difference of two scripts.
+"""
+
+import argparse
+import pathlib
+import subprocess
+import sys
+import tempfile
+
+sys.path.insert(0, str(pathlib.Path(__file__).resolve().parents[2]))
+
+from bench import tile_texts  # noqa: E402
+from bench.measures import serving, tiles  # noqa: E402
+from tools.limits import COLUMNS, COORDINATE_MAX  # noqa: E402
+
+HERE = pathlib.Path(__file__).resolve().parent
+COMPILE = "g++ -std=c++17 -O2 -DNDEBUG -w".split()
+LIBRARIES = {"cgal": ["-lgmp", "-lmpfr"], "boost": [], "geos": ["-lgeos"]}
+SIMPLE = {"star", "sliver", "comb"}
+LAYERS, POINTS, ROUNDS = 20, 100000, 5
+
+
+def peers(folder):
+    """The programs of the peers that can be compiled here."""
+    built = {}
+    for name, libraries in LIBRARIES.items():
+        program = folder / name
+        words = [*COMPILE, "-o", program, HERE / "peers" / f"{name}.cc", *libraries]
+        if subprocess.run(words, stderr=subprocess.DEVNULL, check=False).returncode == 0:
+            built[name] = program
+        else:
+            print(f"{name} is not there, and left out", file=sys.stderr)
+    return built
+
+
+def told(program, *words):
+    """What a peer found, and its seconds."""
+    done = subprocess.run([program, *map(str, words)], stdout=subprocess.PIPE, check=True, text=True)
+    found, seconds = done.stdout.split()
+    return int(found), float(seconds)
+
+
+def over_all_columns(layers):
+    """The layers, stretched along x as far as they go in whole steps, from the left end of the plane on."""
+    end = max(x for layer in layers for ring in layer for x, _ in ring)
+    factor = 2 * COORDINATE_MAX // end
+    return [[[(factor * x - COORDINATE_MAX, y) for x, y in ring] for ring in layer] for layer in layers]
+
+
+def script(layers, waited, written):
+    """Two layers; the same derived layer so many times, waited for; its edges so many times."""
+    lines = [f"PUT {name} {tile_texts.text_of(layer)}" for name, layer in zip("AB", layers)]
+    for number in range(waited):
+        lines += [f"DEFINE I{number} = A ^ B", f"WAIT I{number}"]
+    for _ in range(written):
+        lines += [f"EDGES I0 {column}" for column in range(COLUMNS)]
+    return lines
+
+
+def least(programs, folder, scripts):
+    """For each program the least processor seconds of each script, in turns, and what the last script wrote."""
+    best, wrote = {}, None
+    for _ in range(ROUNDS):
+        for at, program in enumerate(programs):
+            runs = serving.Runs(program, folder)
+            for which, lines in enumerate(scripts):
+                _, used, wrote = runs.once([lines], 1, False)
+                best[at, which] = min(used, best.get((at, which), used))
+    return best, wrote
+
+
+def overlays(programs, built, folder, sizes, names):
+    for name, family in tiles.FAMILIES.items():
+        for edges in sizes if not names or name in names else []:
+            layers = over_all_columns(tiles.even(family(edges)))
+            path = folder / "map"
+            path.write_text("\n".join(map(tile_texts.text_of, layers)) + "\n")
+            scripts = [script(layers, n, m) for n, m in ((0, 0), (1, 0), (LAYERS, 0), (LAYERS, 5))]
+            best, wrote = least(programs, folder, scripts)
+            rows = []
+            for at in range(len(programs)):
+                wait = (best[at, 2] - best[at, 1]) / (LAYERS - 1)
+                text = (best[at, 3] - best[at, 2]) / 5
+                rows.append((wait, text))
+            cgal = told(built["cgal"], path)[1] if "cgal" in built else None
+            boost = told(built["boost"], path)[1] if "boost" in built and name in SIMPLE else None
+            cells = [
+                f"WAIT {1000 * wait:.2f} ms, EDGES {1000 * text:.2f} ms ({100 * text / wait:.0f} %)"
+                for wait, text in rows
+            ]
+            beside = f"CGAL {1000 * cgal:.2f} ms" if cgal else "no CGAL"
+            beside += f", Boost {1000 * boost:.2f} ms" if boost else ""
+            ratios = ", ".join(f"{(wait + text) / cgal:.2f}" for wait, text in rows) if cgal else "-"
+            pieces = sum(int(line.split()[1]) for line in wrote.splitlines() if line.startswith("edges")) // 5
+            print(f"{name} {edges}, {pieces} pieces: {'; '.join(cells)}; {beside}; of CGAL's time {ratios}", flush=True)
+
+
+def locates(programs, built, folder):
+    for steps in (4, 256, 2000):
+        ring = serving.ring(steps, 0, 0, 1000000)
+        path = folder / "map"
+        path.write_text(ring + "\n")
+        points = [(serving.spread(7919 * n), serving.spread(104729 * n)) for n in range(POINTS)]
+        lines = [f"PUT A {ring}"] + [f"LOCATE A {x} {y}" for x, y in points]
+        best, _ = least(programs, folder, [lines[:1], lines])
+        cells = "; ".join(f"{1e6 * (best[at, 1] - best[at, 0]) / POINTS:.2f} us" for at in range(len(programs)))
+        geos = f"GEOS {1e6 * told(built['geos'], path, 1000000, POINTS)[1]:.2f} us" if "geos" in built else "no GEOS"
+        print(f"a line of LOCATE over {steps} segments: {cells}; {geos}", flush=True)
+
+
+def main():
+    parser = argparse.ArgumentParser(description=__doc__, formatter_class=argparse.RawDescriptionHelpFormatter)
+    parser.add_argument("programs", type=pathlib.Path, nargs="+")
+    parser.add_argument("--edges", type=int, action="append")
+    parser.add_argument("--only", action="append", help="star, parcels, self-crossing, comb, sliver, points")
+    words = parser.parse_args()
+    programs = [program.resolve() for program in words.programs]
+    with tempfile.TemporaryDirectory() as place:
+        folder = pathlib.Path(place)
+        built = peers(folder)
+        overlays(programs, built, folder, words.edges or [64, 512, 2048], words.only)
+        if not words.only or "points" in words.only:
+            locates(programs, built, folder)
+
+
+if __name__ == "__main__":
+    main()

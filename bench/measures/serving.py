@@ -1,0 +1,216 @@
+#!/usr/bin/env python3
+"""Measures the program as a server with a store, and prints a table in Markdown.
+
+python3 bench/measures/serving.py PROGRAM [--quick] [--folder FOLDER]
+python3 bench/measures/serving.py --test
+
+- A commit of one changed layer: 200 times PUT and SYNC less the same script with none, beside the same writes and syncs
+  in C (sync.c).
+- Replies a second of 1 and of 4 sessions with a store.
+- WAIT of all tiles of 30 derived layers, with 1, 2 and 4 workers.
+- LOCATE by layers of 4 to 2,048 steps, and GRID of 256 by 256 points: scripts that differ by these lines.
+
+By the clock, so the machine should be quiet. The store is made in FOLDER.
+"""
+
+import argparse
+import math
+import os
+import pathlib
+import resource
+import subprocess
+import sys
+import tempfile
+import time
+
+HERE = pathlib.Path(__file__).resolve().parent
+SQUARE = "POLYGON ((0 0, 10 0, 10 10, 0 10, 0 0))"
+
+
+def ring(steps, x, y, radius):
+    """A ring of so many steps round a centre."""
+    turns = [2 * math.pi * i / steps for i in range(steps)]
+    points = [(x + round(radius * math.cos(turn)), y + round(radius * math.sin(turn))) for turn in turns]
+    return "POLYGON ((" + ", ".join(f"{a} {b}" for a, b in points + points[:1]) + "))"
+
+
+def processor():
+    used = resource.getrusage(resource.RUSAGE_CHILDREN)
+    return used.ru_utime + used.ru_stime
+
+
+class Runs:
+    """Runs of the program on scripts in a folder."""
+
+    def __init__(self, program, folder):
+        self.program = program
+        self.folder = folder
+
+    def once(self, scripts, workers, has_store):
+        """Seconds by the clock and by the processor, and what was written."""
+        paths = []
+        for place, script in enumerate(scripts):
+            paths.append(self.folder / f"script{place + 1}.txt")
+            paths[-1].write_text("\n".join(script) + "\n")
+        store = self.folder / "store.db"
+        store.unlink(missing_ok=True)
+        words = [self.program, "--workers", str(workers)] + (["--store", str(store), "--create"] if has_store else [])
+        start, used = time.monotonic(), processor()
+        run = subprocess.run(words + list(map(str, paths)), stdin=subprocess.DEVNULL, capture_output=True, check=False)
+        took = time.monotonic() - start, processor() - used
+        if run.returncode != 0 or b"error 40" in run.stdout:
+            sys.exit(f"status {run.returncode}: {run.stderr.decode()}")
+        return took[0], took[1], run.stdout.decode()
+
+    def best(self, scripts, workers, has_store, times=3):
+        """The best clock time, with the processor time of that run, and what it wrote."""
+        return min((self.once(scripts, workers, has_store) for _ in range(times)), key=lambda took: took[0])
+
+    def commit_of_c(self, count, blocks):
+        """The mean of as many rounds of writes and three syncs in C."""
+        path = self.folder / "plain.db"
+        path.unlink(missing_ok=True)
+        done = subprocess.run(
+            [str(self.folder / "sync"), str(path), str(count), str(blocks)], stdout=subprocess.PIPE, check=True
+        )
+        return float(done.stdout)
+
+
+def milliseconds(seconds):
+    return f"{1000 * seconds:.2f} ms"
+
+
+def commits(runs, count):
+    """A commit of one changed layer, alone and beside 16 layers that stay."""
+    rows = []
+    for others in (0, 16):
+        head = [f"PUT B{n} {SQUARE}" for n in range(others)] + ["SYNC"]
+        puts = [line for n in range(count) for line in (f"PUT A {ring(16, n, 0, 900)}", "SYNC")]
+        product, plain, used = [], [], []
+        for _ in range(5):
+            whole, empty = runs.once([head + puts], 1, True), runs.once([head], 1, True)
+            product.append((whole[0] - empty[0]) / count)
+            used.append((whole[1] - empty[1]) / count)
+            plain.append(runs.commit_of_c(count, 2))
+        ours, theirs = min(product), min(plain)
+        rows.append((
+            f"PUT and SYNC of one layer beside {others} others", milliseconds(ours),
+            f"the same writes of two blocks and three syncs in C: {milliseconds(theirs)}; {ours / theirs:.2f} times; "
+            f"of processors {milliseconds(min(used))}",
+        ))
+    return rows
+
+
+def replies(runs, lines):
+    """Replies a second of 1 and of 4 sessions."""
+    rows = []
+    for sessions in (1, 4):
+        scripts = []
+        for session in range(sessions):
+            base, derived = f"A{session}", f"D{session}"
+            script = [f"PUT {base} {SQUARE}", f"DEFINE {derived} = {base}", f"WAIT {derived}"]
+            while len(script) < lines:
+                n = len(script)
+                script += [f"LOCATE {derived} {i % 20} {n % 20}" for i in range(15)]
+                script += [f"EDGES {derived} 3", f"VERIFY {derived} 3", f"DEFINE {derived} = {base}"]
+                script += [f"PUT {base} {ring(8, n % 100, 0, 50)}", f"EDGES {base} 16"]
+            scripts.append(script + ["SYNC"])
+        clock, used, output = runs.best(scripts, 2, True)
+        count = sum(len(script) for script in scripts)
+        rows.append((
+            f"{sessions} session{'s' if sessions > 1 else ''} with a store, {count} replies, a tenth of them commands",
+            f"{count / clock:,.0f} replies a second", f"{clock:.2f} s by the clock, {used:.2f} s of processors",
+        ))
+        if output.count("error 40"):
+            sys.exit("memory was refused")
+    return rows
+
+
+def waits(runs, steps):
+    """WAIT of 510 tiles by 1, 2 and 4 workers."""
+    head = [f"PUT A {ring(steps, -1000, 0, 1000000)}", f"PUT B {ring(steps, 1000, 500, 1000000)}"]
+    defined = [f"DEFINE D{n} = A {'^|&-'[n % 4]} B" for n in range(30)]
+    waited = [f"WAIT D{n}" for n in range(30)]
+    rows, first = [], None
+    for workers in (1, 2, 4):
+        clock, used, _ = runs.best([head + defined + waited], workers, False)
+        first = first or clock
+        rows.append((
+            f"WAIT of 510 tiles, two layers of {steps} steps, {workers} worker{'s' if workers > 1 else ''}",
+            f"{clock:.2f} s", f"{used:.2f} s of processors; {first / clock:.2f} times as fast as one",
+        ))
+    return rows
+
+
+def spread(number):
+    """A coordinate somewhere in the plane."""
+    return number % 2000001 - 1000000
+
+
+def locates(runs, count):
+    """What a LOCATE costs, by the layer's steps."""
+    rows = []
+    for steps in (4, 256, 2048):
+        head = [f"PUT A {ring(steps, 0, 0, 1000000)}", f"PUT B {ring(steps, 500, 0, 1000000)}", "DEFINE D = A & B"]
+        for name, first in (("A", []), ("D", ["WAIT D"])):
+            lines = [f"LOCATE {name} {spread(7919 * n)} {spread(104729 * n)}" for n in range(count)]
+            whole = runs.best([head + first + lines], 1, False)[1]
+            empty = runs.best([head + first], 1, False)[1]
+            what = "a base layer" if name == "A" else "a built layer over two"
+            each = max(0.0, whole - empty) / count
+            rows.append((f"LOCATE of {what} of {steps} steps", f"{1e6 * each:.2f} us", "of processors, a line"))
+    return rows
+
+
+def grids(runs, count):
+    head = [f"PUT A {ring(2048, 0, 0, 1000000)}"]
+    lines = ["GRID A -1000000 -1000000 7800 256 256"] * count
+    whole, empty = runs.best([head + lines], 1, False), runs.best([head], 1, False)
+    clock, used = (whole[i] - empty[i] for i in (0, 1))
+    beside = f"of processors; {milliseconds(clock / count)} by the clock"
+    return [("GRID of 256 by 256 over 2,048 steps", milliseconds(used / count), beside)]
+
+
+def measure(words, folder):
+    runs = Runs(words.program, folder)
+    subprocess.run(["gcc", "-O2", "-o", str(folder / "sync"), str(HERE / "sync.c")], check=True)
+    part = 10 if words.quick else 1
+    print(f"{os.cpu_count()} processors.\n\n| What | Measured | Beside |\n|---|---|---|", flush=True)
+    steps = 256 if words.quick else 1024
+    parts = [
+        lambda: commits(runs, 200 // part), lambda: replies(runs, 40000 // part), lambda: waits(runs, steps),
+        lambda: locates(runs, 20000 // part), lambda: grids(runs, 40 // part),
+    ]
+    for one in parts:
+        for row in one():
+            print("| " + " | ".join(row) + " |", flush=True)
+    return 0
+
+
+def test():
+    """Builds and runs the C part, and looks at a ring."""
+    with tempfile.TemporaryDirectory() as place:
+        folder = pathlib.Path(place)
+        subprocess.run(["gcc", "-O2", "-Wall", "-o", str(folder / "sync"), str(HERE / "sync.c")], check=True)
+        took = Runs("", folder).commit_of_c(3, 2)
+        size = (folder / "plain.db").stat().st_size
+    is_right = took > 0 and size == 64 * 4096 and ring(4, 0, 0, 10) == "POLYGON ((10 0, 0 10, -10 0, 0 -10, 10 0))"
+    print(f"three syncs {milliseconds(took)}, a file of {size} bytes: {'right' if is_right else 'wrong'}")
+    return 0 if is_right else 1
+
+
+def main():
+    if sys.argv[1:] == ["--test"]:
+        return test()
+    parser = argparse.ArgumentParser(description=__doc__, formatter_class=argparse.RawDescriptionHelpFormatter)
+    parser.add_argument("program")
+    parser.add_argument("--quick", action="store_true")
+    parser.add_argument("--folder", help="where the store is made")
+    words = parser.parse_args()
+    words.program = os.path.abspath(words.program)
+    with tempfile.TemporaryDirectory(prefix="serving", dir=words.folder) as place:
+        return measure(words, pathlib.Path(place))
+
+
+if __name__ == "__main__":
+    sys.exit(main())

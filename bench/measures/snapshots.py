@@ -1,0 +1,50 @@
+#!/usr/bin/env python3
+"""Times a snapshot of a book, beside what it costs to take a counted value from behind a lock in C.
+
+python3 bench/measures/snapshots.py [PROGRAM]
+
+Builds the program of bench/measures/snapshots over the libraries, unproved (minutes); PROGRAM is one that was built
+before. It has a book of 32 layers and takes a million snapshots of it, by itself and while another session puts 20,000
+layers; prints the nanoseconds of one by the clock (the best of three runs). Beside it stands lock.c: a mutex is taken,
+a count raised, the mutex given back and the count lowered again.
+"""
+
+import argparse
+import pathlib
+import subprocess
+import sys
+import tempfile
+
+sys.path.insert(0, str(pathlib.Path(__file__).resolve().parents[2]))
+
+from bench import unproved  # noqa: E402
+
+HERE = pathlib.Path(__file__).resolve().parent
+
+
+def best(words):
+    """The least numbers of three runs, column by column."""
+    runs = [subprocess.run(words, stdout=subprocess.PIPE, text=True, check=True).stdout.split() for _ in range(3)]
+    return [min(int(number) for number in column) for column in zip(*runs)]
+
+
+def main():
+    parser = argparse.ArgumentParser(description=__doc__, formatter_class=argparse.RawDescriptionHelpFormatter)
+    parser.add_argument("program", type=pathlib.Path, nargs="?")
+    words = parser.parse_args()
+    with tempfile.TemporaryDirectory() as folder:
+        if words.program:
+            program = words.program.resolve()
+        else:
+            program = unproved.built(HERE / "snapshots", folder, checked=False)
+        lock = pathlib.Path(folder) / "lock"
+        subprocess.run(["gcc", "-O2", "-pthread", "-o", lock, HERE / "lock.c"], check=True)
+        alone, beside = best([program])
+        counted, crowded = best([lock])
+    print(f"a snapshot: {alone} ns, {beside} ns while another session puts layers")
+    print(f"a counted value behind a mutex in C: {counted} ns, {crowded} ns while another thread changes it")
+    return 0
+
+
+if __name__ == "__main__":
+    sys.exit(main())

@@ -1,0 +1,217 @@
+#!/usr/bin/env python3
+"""Measures the store: records to bytes and back, what a commit writes, and opening a big file.
+
+python3 bench/measures/store.py [PROGRAM]..
+
+Builds the program of bench/measures/store over the store's crates, unproved (minutes); PROGRAM is one that was built
+before. Of several the reading and writing of records is told side by side, all else of the first. The files and records
+that it is given are written here, byte by byte, as docs/FORMAT.md has them. Processor times, the best of five runs less
+those without the work, each on a disk in memory.
+"""
+
+import argparse
+import pathlib
+import resource
+import struct
+import subprocess
+import sys
+import tempfile
+
+sys.path.insert(0, str(pathlib.Path(__file__).resolve().parents[2]))
+
+from bench import unproved  # noqa: E402
+from tools.limits import COLUMNS, COORDINATE_MAX, column_begin  # noqa: E402
+
+HERE = pathlib.Path(__file__).resolve().parent
+BLOCK = 4096
+
+
+def base_record(points):
+    return struct.pack(">HH", 1, len(points)) + b"".join(struct.pack(">ii", x, y) for x, y in points)
+
+
+def zigzag(steps):
+    points = [(i, i * 7 % 1000) for i in range(steps)]
+    return base_record(points + points[:1])
+
+
+def whole_piece(column, i):
+    left, right = struct.pack(">ii", column_begin(column), i), struct.pack(">ii", column_begin(column) + 1, i)
+    return left + right + b"\0" + left + b"\0" + right
+
+
+def short_piece(column, i):
+    # the last column is a line, so its pieces are vertical
+    if column < COLUMNS - 1:
+        return whole_piece(column, i)
+    low, high = struct.pack(">ii", COORDINATE_MAX, i), struct.pack(">ii", COORDINATE_MAX, i + 1)
+    return low + high + b"\0" + low + b"\0" + high
+
+
+def crossed_piece(column, i):
+    x = column_begin(column)
+    support = struct.pack(">iiii", x, 4 * i, x + 4, 4 * i)
+    across = struct.pack(">iiii", x + 1, 4 * i - 1, x + 2, 4 * i + 1)
+    return support + b"\0" + support[:8] + b"\1" + support + across
+
+
+def tile_record(column, count, piece):
+    return struct.pack(">BBI", 0, column, count) + b"".join(piece(column, i) for i in range(count))
+
+
+def blocks(record):
+    return max(1, -(-len(record) // BLOCK))
+
+
+def body(sequence, version, block, size):
+    return b"OVLSTORE" + struct.pack(">IQQQI", 1, sequence, version, block, size) + bytes(8)
+
+
+def store(layers):
+    # layers: name, base record or definition record, and tiles by column (None of a base layer)
+    entries = [
+        14 + len(name) + sum(13 if c in tiles else 1 for c in range(COLUMNS) if tiles is not None)
+        for name, _, tiles in layers
+    ]
+    records, catalog = [], struct.pack(">H", len(layers))
+    block = 2 + -(-(2 + sum(entries)) // BLOCK)
+
+    def placed(record):
+        nonlocal block
+        entry = struct.pack(">QI", block, len(record))
+        records.append(record)
+        block += blocks(record)
+        return entry
+
+    for name, record, tiles in layers:
+        catalog += struct.pack(">B", len(name)) + name + struct.pack(">B", tiles is not None) + placed(record)
+        for column in range(COLUMNS) if tiles is not None else []:
+            catalog += b"\1" + placed(tiles[column]) if column in tiles else b"\0"
+    # both gates are open, so that opening writes nothing
+    slots = b"".join((b"\xa7" + bytes(15) + body(s, len(layers), 2, len(catalog))).ljust(BLOCK, b"\0") for s in [0, 1])
+    return slots + b"".join(r.ljust(blocks(r) * BLOCK, b"\0") for r in [catalog] + records)
+
+
+def built(folder):
+    return unproved.built(HERE / "store", folder, checked=False)
+
+
+def processor():
+    used = resource.getrusage(resource.RUSAGE_CHILDREN)
+    return used.ru_utime + used.ru_stime
+
+
+def seconds(program, word, path, times):
+    best = None
+    for _ in range(5):
+        start = processor()
+        subprocess.run([program, word, path, str(times)], stdout=subprocess.DEVNULL, check=True)
+        took = processor() - start
+        best = took if best is None else min(best, took)
+    return best
+
+
+def each(program, word, path, times):
+    return (seconds(program, word, path, times) - seconds(program, word, path, 0)) / times
+
+
+def speeds(programs, word, path, times):
+    """Megabytes a second of each program, in turns."""
+    size, best = path.stat().st_size, {}
+    for _ in range(3):
+        for at, program in enumerate(programs):
+            took = each(program, word, path, times)
+            best[at] = min(took, best.get(at, took))
+    return ", ".join(f"{size / best[at] / 1e6:.0f}" for at in range(len(programs))) + " MB/s"
+
+
+def records(programs, folder):
+    base, whole, crossed = folder / "base", folder / "whole", folder / "crossed"
+    base.write_bytes(zigzag(2048))
+    whole.write_bytes(tile_record(8, 60000, whole_piece))
+    crossed.write_bytes(tile_record(8, 60000, crossed_piece))
+    for name, path, kind, reads, writes in [
+        ("base layer of 2,048 steps", base, "base", 2000, 10000),
+        ("tile of 60,000 pieces, ends on whole points", whole, "tile", 10, 100),
+        ("tile of 60,000 pieces, right ends at crossings", crossed, "tile", 10, 100),
+    ]:
+        read, written = speeds(programs, f"read_{kind}", path, reads), speeds(programs, f"write_{kind}", path, writes)
+        print(f"{name}, {path.stat().st_size} bytes: read {read}, written {written}", flush=True)
+
+
+def files(program, folder):
+    base, small = zigzag(2048), zigzag(4)
+    tile = {c: tile_record(c, 60000, whole_piece) for c in range(16)}
+    oversize = {c: bytes([1, c]) for c in range(COLUMNS)}
+    kinds = {
+        "one layer of 4 steps": [(b"A", small, None)],
+        "32 layers of 2,048 steps": [(b"A%d" % i, base, None) for i in range(32)],
+        "a derived layer with 33 oversize tiles": [(b"A", small, None), (b"I", b"A", oversize)],
+        "a tile of 60,000 pieces": [(b"A", small, None), (b"I", b"A", {8: tile[8]})],
+        "128 tiles of 60,000 pieces": [(b"A", small, None)] + [(b"I%d" % i, b"A", tile) for i in range(8)],
+    }
+    path, empty = folder / "store", folder / "empty"
+    empty.write_bytes(store([]))
+    for name, layers in kinds.items():
+        path.write_bytes(store(layers))
+        size = path.stat().st_size
+        words = [program, "change", empty, "1", path]
+        calls, written = subprocess.run(words, stdout=subprocess.PIPE, check=True, text=True).stdout.split()
+        times = max(1, min(20000, 200000000 // size))
+        opening, committing = each(program, "open", path, times), each(program, "commit", path, times)
+        print(
+            f"{name}, a file of {size} bytes: opened in {1000 * opening:.3f} ms;"
+            f" its first commit makes {calls} device calls and writes {written} bytes;"
+            f" one that changes nothing but the number takes {1000 * (committing - opening):.3f} ms"
+        )
+
+
+def changes(program, folder):
+    """What a commit writes that leads from one file to another."""
+    base, other, small = zigzag(2048), zigzag(2047), zigzag(4)
+    tile = {c: tile_record(c, 100, short_piece) for c in range(COLUMNS)}
+    shorter = {**tile, 8: tile_record(8, 99, whole_piece)}
+    layers = [(b"A%d" % i, base, None) for i in range(32)]
+    tiled = [(b"A", small, None)] + [(b"I%d" % i, b"A", tile) for i in range(30)]
+    one, two = folder / "one", folder / "two"
+    kinds = {
+        "32 layers of 2,048 steps, one of them changed": (layers, layers[:8] + [(b"A8", other, None)] + layers[9:]),
+        "510 tiles of 100 pieces, one of them changed": (tiled, tiled[:8] + [(b"I7", b"A", shorter)] + tiled[9:]),
+        "510 tiles of 100 pieces, nothing but the number": (tiled, tiled),
+    }
+    for name, (before, after) in kinds.items():
+        one.write_bytes(store(before))
+        two.write_bytes(store(after))
+        words = [program, "change", one, "1", two]
+        calls, written = subprocess.run(words, stdout=subprocess.PIPE, check=True, text=True).stdout.split()
+        print(f"{name}: a commit makes {calls} device calls and writes {written} bytes")
+
+
+def beginnings(program, folder):
+    """How long the beginning of a commit takes, and how long it takes to find a place."""
+    small, path = zigzag(4), folder / "tiled"
+    tile = {c: tile_record(c, 100, short_piece) for c in range(COLUMNS)}
+    path.write_bytes(store([(b"A", small, None)] + [(b"I%d" % i, b"A", tile) for i in range(30)]))
+    words = [program, "begin", path, "200"]
+    least = int(subprocess.run(words, stdout=subprocess.PIPE, check=True, text=True).stdout.split()[0])
+    print("the beginning of a commit behind a PUT, beside 30 layers with 510 tiles of 100 pieces:"
+          f" {least / 1e6:.3f} ms")
+    mapping, placing = each(program, "map", path, 5000), each(program, "place", path, 50000)
+    print(f"560 extents: a map of them takes {1000 * mapping:.3f} ms, a copy of it and a place {1000 * placing:.4f} ms")
+
+
+def main():
+    parser = argparse.ArgumentParser(description=__doc__, formatter_class=argparse.RawDescriptionHelpFormatter)
+    parser.add_argument("programs", type=pathlib.Path, nargs="*")
+    words = parser.parse_args()
+    with tempfile.TemporaryDirectory() as folder:
+        programs = [program.resolve() for program in words.programs] or [built(folder)]
+        program = programs[0]
+        records(programs, pathlib.Path(folder))
+        files(program, pathlib.Path(folder))
+        changes(program, pathlib.Path(folder))
+        beginnings(program, pathlib.Path(folder))
+
+
+if __name__ == "__main__":
+    main()

@@ -1,0 +1,76 @@
+#!/usr/bin/env python3
+"""What a version does under 30 derived layers takes so long: a PUT, keeping all tiles, listing those that are pending.
+
+python3 bench/measures/versions.py [--built PROGRAM]..
+
+Cases: a triangle of three steps, and a star of 2,048, each in the place of another; the second changes the tiles of one
+column or of all. Told is a PUT with no tile built and with all built, the building and keeping of a tile, and the list
+of pending tiles. By the program of bench/measures/versions, built unproved (minutes); --built names ones that were
+built before. Several run in turns, five times each, and the least time is taken.
+"""
+
+import argparse
+import math
+import pathlib
+import sys
+import tempfile
+
+sys.path.insert(0, str(pathlib.Path(__file__).resolve().parents[2]))
+
+from bench import unproved  # noqa: E402
+from bench.measures import turns  # noqa: E402
+
+HERE = pathlib.Path(__file__).resolve().parent
+REACH = 1 << 20
+
+
+def polygon(points):
+    return "POLYGON ((" + ", ".join(f"{x} {y}" for x, y in [*points, points[0]]) + "))"
+
+
+def star(steps, shrunk):
+    """A polygon of so many steps over all columns, one corner moved where it is shrunk."""
+    points = []
+    for i in range(steps):
+        turn = 2 * math.pi * i / steps
+        radius = REACH - 1 if i % 2 else REACH // 2
+        points.append((round(radius * math.cos(turn)), round(radius * math.sin(turn))))
+    if shrunk:
+        points[0] = (points[0][0] - 5, points[0][1])
+    return polygon(points)
+
+
+def cases():
+    """The text that the program reads."""
+    wide = [polygon([(-REACH, 0), (REACH, 0), (x, 99)]) for x in (0, 1)]
+    for name, times, texts in (
+        ("three-steps", 2000, wide),
+        ("2048-steps-one-corner", 50, [star(2048, False), star(2048, True)]),
+    ):
+        yield "\n".join([name, str(times), *texts]) + "\n"
+
+
+def told(words):
+    """A line's case and what was timed of it, how many tiles were pending, and the time."""
+    case, what, times, pending, taken = words
+    return f"{case} {what}", pending, [("each", int(taken) / int(times))]
+
+
+def main():
+    parser = argparse.ArgumentParser(description=__doc__, formatter_class=argparse.RawDescriptionHelpFormatter)
+    parser.add_argument("--built", action="append", default=[])
+    words = parser.parse_args()
+    with tempfile.TemporaryDirectory() as folder:
+        programs = [pathlib.Path(one).resolve() for one in words.built]
+        if not programs:
+            programs = [unproved.built(HERE / "versions", folder, checked=False)]
+        file = pathlib.Path(folder) / "cases"
+        file.write_text("".join(cases()))
+        least, seen = turns.least_times(programs, file, told)
+        for case, pending in seen.items():
+            rows = [f"{least[at, case, 'each']:.2f} us" for at in range(len(programs))]
+            print(f"{case}: {', '.join(rows)} ({pending} pending)")
+
+
+if __name__ == "__main__":
+    main()

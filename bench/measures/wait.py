@@ -1,0 +1,50 @@
+#!/usr/bin/env python3
+"""Writes a script that puts two layers and builds their symmetric difference.
+
+python3 bench/measures/wait.py circles 256 | crates/overlayd/out/overlayd
+
+circles: two polygons of so many edges round two centres, in one column.
+combs: so many edges in thin rectangles, those of one layer across those of the other.
+"""
+
+import argparse
+import math
+
+
+def circle(edges, x, y, radius):
+    points = []
+    for i in range(edges):
+        turn = 2 * math.pi * i / edges
+        points.append((x + round(radius * math.cos(turn)), y + round(radius * math.sin(turn))))
+    points.append(points[0])
+    return "POLYGON ((" + ", ".join(f"{x} {y}" for x, y in points) + "))"
+
+
+def comb(edges, upright):
+    rings = []
+    for i in range(edges // 4):
+        low, high = 4 * i, 4 * i + 2
+        ring = [(1, low), (511, low), (511, high), (1, high), (1, low)]
+        if upright:
+            ring = [(y, x) for x, y in ring]
+        rings.append("((" + ", ".join(f"{x} {y}" for x, y in ring) + "))")
+    return "MULTIPOLYGON (" + ", ".join(rings) + ")"
+
+
+def main():
+    parser = argparse.ArgumentParser(description=__doc__, formatter_class=argparse.RawDescriptionHelpFormatter)
+    parser.add_argument("kind", choices=["circles", "combs"])
+    parser.add_argument("edges", type=int)
+    words = parser.parse_args()
+    if words.kind == "circles":
+        first, second = circle(words.edges, 65536, 65536, 60000), circle(words.edges, 75536, 70536, 50000)
+    else:
+        first, second = comb(words.edges, False), comb(words.edges, True)
+    print("PUT A " + first)
+    print("PUT B " + second)
+    print("DEFINE I = A ^ B")
+    print("WAIT I")
+
+
+if __name__ == "__main__":
+    main()

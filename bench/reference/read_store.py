@@ -1,0 +1,503 @@
+#!/usr/bin/env python3
+"""Reads a store's file as docs/FORMAT.md tells it, and by nothing else: beside the program, not of it.
+
+python3 bench/reference/read_store.py FILE
+python3 bench/reference/read_store.py --test
+
+The first prints what the file stands for: `version N`; a line `layer NAME TEXT` or `layer NAME = EXPRESSION` for each
+layer in order; a line `tile NAME COLUMN PIECES` or `tile NAME COLUMN oversize` for each finished tile, by layer and
+column. Of a file with a fault it prints the first one, `32` or `33 CODE`, and ends with status 1. The second reads the
+vectors of docs/FORMAT.md and the damaged files that stand there, and looks whether each gives what the page says.
+"""
+
+import argparse
+import collections
+import fractions
+import pathlib
+import re
+import string
+import sys
+
+sys.path.insert(0, str(pathlib.Path(__file__).resolve().parents[2]))
+
+from tools.limits import (  # noqa: E402
+    COLUMN_WIDTH, COLUMNS, COORDINATE_MAX, LAYERS_MAX, NAME_MAX, PIECES_MAX, STEPS_MAX, TOKENS_MAX,
+)
+
+BLOCK = 4096
+GATE_OPEN = 0xA7
+MAGIC = b"OVLSTORE"
+NUMBER_MAX = 2**62
+FORMAT, OLD_FORMAT, OLD_COLUMNS = 2, 1, 17
+FORMAT_PAGE = pathlib.Path(__file__).resolve().parents[2] / "docs" / "FORMAT.md"
+
+Root = collections.namedtuple("Root", "format sequence version catalog")
+Extent = collections.namedtuple("Extent", "block size")
+Listed = collections.namedtuple("Listed", "name record tiles")  # of a base layer tiles is None
+Segment = collections.namedtuple("Segment", "left right")
+
+
+class Damage(Exception):
+    """The first fault of a file, as it is printed."""
+
+
+class NotOfTheForm(Exception):
+    """Bytes that are no record of their kind."""
+
+
+class Bytes:
+    """The bytes of a record, read from the front."""
+
+    def __init__(self, data):
+        self.data = data
+        self.at = 0
+
+    def take(self, size):
+        if len(self.data) - self.at < size:
+            raise NotOfTheForm
+        self.at += size
+        return self.data[self.at - size : self.at]
+
+    def number(self, size):
+        return int.from_bytes(self.take(size), "big")
+
+    def one_of(self, *values):
+        value = self.number(1)
+        if value not in values:
+            raise NotOfTheForm
+        return value
+
+    def coordinate(self):
+        value = int.from_bytes(self.take(4), "big", signed=True)
+        if abs(value) > COORDINATE_MAX:
+            raise NotOfTheForm
+        return value
+
+    def point(self):
+        return (self.coordinate(), self.coordinate())
+
+    def extent(self):
+        return Extent(self.number(8), self.number(4))
+
+    def segment(self):
+        segment = Segment(self.point(), self.point())
+        if not segment.left < segment.right:
+            raise NotOfTheForm
+        return segment
+
+    def end(self):
+        if self.at != len(self.data):
+            raise NotOfTheForm
+
+
+# ---- points: pairs of exact fractions, which Python compares by x, then by y
+
+
+def border(column):
+    return COLUMN_WIDTH * column - COORDINATE_MAX
+
+
+def direction(segment):
+    return (segment.right[0] - segment.left[0], segment.right[1] - segment.left[1])
+
+
+def turn(first, second):
+    """The cross product of two directions."""
+    return first[0] * second[1] - first[1] * second[0]
+
+
+def is_on(segment, point):
+    way = (point[0] - segment.left[0], point[1] - segment.left[1])
+    return turn(direction(segment), way) == 0 and segment.left <= point <= segment.right
+
+
+def part_way(segment, part):
+    """The point that far from the left end to the right one."""
+    along = direction(segment)
+    return (segment.left[0] + along[0] * part, segment.left[1] + along[1] * part)
+
+
+def crossing(first, second):
+    across = turn(direction(first), direction(second))
+    if across == 0:
+        raise NotOfTheForm
+    gap = (second.left[0] - first.left[0], second.left[1] - first.left[1])
+    point = part_way(first, fractions.Fraction(turn(gap, direction(second)), across))
+    if not (is_on(first, point) and is_on(second, point)):
+        raise NotOfTheForm
+    return point
+
+
+def cut(segment, column):
+    if column >= COLUMNS or not segment.left[0] < border(column) < segment.right[0]:
+        raise NotOfTheForm
+    return part_way(segment, fractions.Fraction(border(column) - segment.left[0], direction(segment)[0]))
+
+
+def named_point(data):
+    """The point of a name."""
+    tag = data.one_of(0, 1, 2)
+    if tag == 0:
+        return data.point()
+    if tag == 1:
+        return crossing(data.segment(), data.segment())
+    return cut(data.segment(), data.number(1))
+
+
+# ---- expressions: a name, or an operator with its two operands
+
+
+def is_name(name):
+    letters = string.ascii_letters.encode()
+    others = letters + string.digits.encode() + b"_"
+    return 1 <= len(name) <= NAME_MAX and name[0] in letters and all(byte in others for byte in name)
+
+
+def parse(tokens):
+    """The tree of some tokens; an operand stands on the stack alone, an operation in a triple."""
+
+    def atom():
+        token = tokens.pop(0) if tokens else b""
+        if token == b"(":
+            inner = chain()
+            if not tokens or tokens.pop(0) != b")":
+                raise NotOfTheForm
+            return inner
+        if not is_name(token):
+            raise NotOfTheForm
+        return token
+
+    def product():
+        tree = atom()
+        while tokens and tokens[0] == b"&":
+            tree = (tokens.pop(0), tree, atom())
+        return tree
+
+    def chain():
+        tree = product()
+        while tokens and tokens[0] in (b"|", b"-", b"^"):
+            tree = (tokens.pop(0), tree, product())
+        return tree
+
+    tree = chain()
+    if tokens:
+        raise NotOfTheForm
+    return tree
+
+
+def bracketed(tree, needs):
+    return b"(" + spelled(tree) + b")" if needs else spelled(tree)
+
+
+def spelled(tree):
+    """The one spelling of a tree."""
+    if isinstance(tree, bytes):
+        return tree
+    operator, left, right = tree
+
+    def is_sum(operand):
+        return isinstance(operand, tuple) and operand[0] != b"&"
+
+    left_needs = operator == b"&" and is_sum(left)
+    right_needs = isinstance(right, tuple) if operator == b"&" else is_sum(right)
+    return bracketed(left, left_needs) + b" " + operator + b" " + bracketed(right, right_needs)
+
+
+def leaves(tree):
+    return [tree] if isinstance(tree, bytes) else leaves(tree[1]) + leaves(tree[2])
+
+
+# ---- records
+
+
+def read_catalog(data, written=FORMAT):
+    """The layers that are listed. In format 1 the tiles are those of other columns, and count as pending."""
+    data, columns = Bytes(data), COLUMNS if written == FORMAT else OLD_COLUMNS
+    listing = []
+    for _ in range(data.number(2)):
+        name = data.take(data.number(1))
+        is_derived = data.one_of(0, 1)
+        record = data.extent()
+        tiles = [data.extent() if data.one_of(0, 1) else None for _ in range(columns)] if is_derived else None
+        if is_derived and written != FORMAT:
+            tiles = [None] * COLUMNS
+        listing.append(Listed(name, record, tiles))
+    data.end()
+    return listing
+
+
+def read_base(data):
+    data = Bytes(data)
+    rings = [[data.point() for _ in range(data.number(2))] for _ in range(data.number(2))]
+    data.end()
+    if any(len(ring) < 4 or ring[0] != ring[-1] for ring in rings):
+        raise NotOfTheForm
+    if sum(len(ring) - 1 for ring in rings) > STEPS_MAX:
+        raise NotOfTheForm
+    return rings
+
+
+def read_definition(data):
+    tokens = re.findall(rb"[A-Za-z0-9_]+|[^ ]", data, re.DOTALL)
+    if len(tokens) > TOKENS_MAX:
+        raise NotOfTheForm
+    tree = parse(tokens)
+    if spelled(tree) != data:
+        raise NotOfTheForm
+    return tree
+
+
+def read_piece(data):
+    support = data.segment()
+    ends = (named_point(data), named_point(data))
+    if not (is_on(support, ends[0]) and is_on(support, ends[1]) and ends[0] < ends[1]):
+        raise NotOfTheForm
+    return ends
+
+
+def read_tile(data, column):
+    """How many pieces a tile has, or `oversize`."""
+    data = Bytes(data)
+    is_oversize = data.one_of(0, 1)
+    if data.number(1) != column:
+        raise NotOfTheForm
+    if is_oversize:
+        data.end()
+        return "oversize"
+    count = data.number(4)
+    if count > PIECES_MAX:
+        raise NotOfTheForm
+    last = None
+    for _ in range(count):
+        piece = read_piece(data)
+        if not border(column) <= piece[0][0] < border(column + 1) or (last is not None and not last < piece):
+            raise NotOfTheForm
+        last = piece
+    data.end()
+    return count
+
+
+# ---- the file
+
+
+def is_open(data, slot):
+    return data[BLOCK * slot] == GATE_OPEN
+
+
+def slot_root(data, slot):
+    """The root in an open slot."""
+    body = Bytes(data[BLOCK * slot + 16 : BLOCK * slot + 64])
+    body.take(len(MAGIC))
+    written = body.number(4)
+    if written not in (OLD_FORMAT, FORMAT):
+        raise Damage("33 1")
+    root = Root(written, body.number(8), body.number(8), body.extent())
+    if root.sequence > NUMBER_MAX or root.version > NUMBER_MAX or root.sequence % 2 != slot:
+        raise Damage("33 2")
+    return root
+
+
+def find_root(data):
+    if len(data) < 2 * BLOCK:
+        raise Damage("32")
+    open_slots = [slot for slot in (0, 1) if is_open(data, slot)]
+    if any(data[BLOCK * slot + 16 : BLOCK * slot + 24] != MAGIC for slot in open_slots):
+        raise Damage("32")
+    roots = [slot_root(data, slot) for slot in open_slots]
+    if not roots:
+        raise Damage("32")
+    return max(roots, key=lambda root: root.sequence)
+
+
+def blocks_of(extent):
+    """The blocks of an extent, from its first to the one behind its last."""
+    return (extent.block, extent.block + max(1, -(-extent.size // BLOCK)))
+
+
+def record_at(data, extent, code):
+    first, end = blocks_of(extent)
+    if first < 2 or end > len(data) // BLOCK:
+        raise Damage(f"33 {code}")
+    return data[BLOCK * first : BLOCK * first + extent.size]
+
+
+def formed(code, read, *given):
+    """What a reader of records gives, or that the record has not its form."""
+    try:
+        return read(*given)
+    except NotOfTheForm:
+        raise Damage(f"33 {code}") from None
+
+
+def check_place_in_list(known, listed, content):
+    """Refuses a layer that no command could have put behind the known ones."""
+    if not is_name(listed.name) or listed.name in known or len(known) >= LAYERS_MAX:
+        raise Damage("33 7")
+    if listed.tiles is not None and any(name not in known for name in leaves(content)):
+        raise Damage("33 7")
+
+
+def check_apart(extents):
+    runs = sorted(blocks_of(extent) for extent in extents)
+    if any(after[0] < before[1] for before, after in zip(runs, runs[1:])):
+        raise Damage("33 9")
+
+
+def read_layers(data, listing):
+    """The layers by name, in order, and how many pieces each finished tile has, by layer and column."""
+    layers, tiles = {}, []
+    for listed in listing:
+        read = read_base if listed.tiles is None else read_definition
+        content = formed(6, read, record_at(data, listed.record, 5))
+        check_place_in_list(layers, listed, content)
+        layers[listed.name] = content
+        for column, extent in enumerate(listed.tiles or []):
+            if extent is not None:
+                tiles.append((listed.name, column, formed(8, read_tile, record_at(data, extent, 5), column)))
+    return layers, tiles
+
+
+def base_text(rings):
+    if not rings:
+        return "MULTIPOLYGON EMPTY"
+    members = ("((" + ", ".join(f"{x} {y}" for x, y in ring) + "))" for ring in rings)
+    return "MULTIPOLYGON (" + ", ".join(members) + ")"
+
+
+def layer_line(name, content):
+    text = base_text(content) if isinstance(content, list) else "= " + spelled(content).decode()
+    return f"layer {name.decode()} {text}"
+
+
+def reading(data):
+    """The lines that tell what a file stands for."""
+    root = find_root(data)
+    listing = formed(4, read_catalog, record_at(data, root.catalog, 3), root.format)
+    layers, tiles = read_layers(data, listing)
+    extents = [extent for listed in listing for extent in [listed.record, *(listed.tiles or [])] if extent is not None]
+    check_apart([root.catalog, *extents])
+    lines = [f"version {root.version}"]
+    lines += [layer_line(name, content) for name, content in layers.items()]
+    lines += [f"tile {name.decode()} {column} {pieces}" for name, column, pieces in tiles]
+    return lines
+
+
+def told(data):
+    """The lines that are printed of a file, faults too."""
+    try:
+        return reading(data)
+    except Damage as fault:
+        return [str(fault)]
+
+
+# ---- the vectors of docs/FORMAT.md
+
+
+def table_behind(page, head):
+    """The rows of the first table behind some text, each as its cells."""
+    lines = page[page.index(head) + len(head) :].splitlines()
+    start = next(i for i, line in enumerate(lines) if line.startswith("|"))
+    rows = []
+    for line in lines[start:]:
+        if not line.startswith("|"):
+            break
+        rows.append([cell.strip() for cell in line.strip("|").split("|")])
+    return rows[2:]
+
+
+def codes(cell):
+    """What a cell has in code."""
+    return re.findall(r"`([^`]*)`", cell)
+
+
+def changed(data, changes):
+    """A file with the bytes of some changes, each `place: bytes`, at their places."""
+    data = bytearray(data)
+    for change in changes:
+        place, _, text = change.partition(": ")
+        new = bytes.fromhex(text)
+        data[int(place) : int(place) + len(new)] = new
+    return bytes(data)
+
+
+def file_of_a_row(data, cell):
+    """The file of a row: cut, or with other bytes."""
+    length = re.search(r"cut to (\d+) bytes", cell)
+    return data[: int(length.group(1))] if length else changed(data, codes(cell))
+
+
+def vectors_of(page):
+    """The bytes that the page gives for a new store, for a layer and for a tile."""
+    return [bytes.fromhex(codes(row[-1])[0]) for row in table_behind(page, "## Vectors")]
+
+
+def six_blocks(vectors):
+    """The file of six blocks that the page tells."""
+    first, empty, base, catalog, second, _, tile = vectors
+    gate = bytes([GATE_OPEN]) + bytes(15)
+    blocks = [gate + first, gate + second, empty, base, catalog, tile]
+    return b"".join(block.ljust(BLOCK, b"\0") for block in blocks)
+
+
+def point_text(data):
+    try:
+        return " ".join(str(value) for value in named_point(Bytes(data)))
+    except NotOfTheForm:
+        return "none"
+
+
+def vector_checks(vectors):
+    """What was read of each vector of a record, and what the page says that it is."""
+    square = [[(0, 0), (10, 0), (10, 10), (0, 10), (0, 0)]]
+    return [
+        (read_catalog(vectors[1]), []),
+        (read_base(vectors[2]), square),
+        (read_catalog(vectors[3]), [Listed(b"A", Extent(3, 44), None)]),
+        (read_definition(vectors[5]), (b"&", b"A", b"B")),
+        (read_tile(vectors[6], 32), 1),
+    ]
+
+
+def page_checks(page):
+    """What is read of each vector and of each file of the page, and what the page says."""
+    vectors = vectors_of(page)
+    checks = vector_checks(vectors)
+    for _, name, point in table_behind(page, "The prover computes these seven."):
+        checks.append((name, point_text(bytes.fromhex(codes(name)[0])), point))
+    plain = six_blocks(vectors)
+    for head in ("A **file of six blocks**", "A **file with a derived layer**", "A **file of format 1**"):
+        told_so = re.split(r"\n\n", page[page.index(head) :])[0].replace("\n", " ")
+        data = changed(plain, codes(told_so))
+        for cell, gives in table_behind(page, head):
+            lines = told(file_of_a_row(data, cell))
+            wanted = codes(gives)
+            checks.append((cell, lines[:1] + lines[-1:] if len(wanted) == 2 else lines[:1], wanted))
+    return checks
+
+
+def test():
+    """Looks whether the page's vectors give what it says, and gives the exit status."""
+    checks = page_checks(FORMAT_PAGE.read_text(encoding="utf-8"))
+    failed = [check for check in checks if check[-2] != check[-1]]
+    for check in failed:
+        print("differs:", *check)
+    print(f"{len(checks) - len(failed)} passed, {len(failed)} failed")
+    return 1 if failed else 0
+
+
+def main():
+    parser = argparse.ArgumentParser(description=__doc__, formatter_class=argparse.RawDescriptionHelpFormatter)
+    parser.add_argument("file", type=pathlib.Path, nargs="?")
+    parser.add_argument("--test", action="store_true", help="reads what stands in docs/FORMAT.md")
+    words = parser.parse_args()
+    if words.test:
+        return test()
+    if words.file is None:
+        parser.error("no file")
+    lines = told(words.file.read_bytes())
+    print("\n".join(lines))
+    return 0 if lines[0].startswith("version") else 1
+
+
+if __name__ == "__main__":
+    sys.exit(main())

@@ -1,0 +1,451 @@
+#!/usr/bin/env python3
+"""Looks at the front's page with a real browser: it draws, clicks, asks, defines and drops a layer.
+
+The picture is compared with the store: at many points of the map the colour has to be that of the layers which have the
+point by LOCATE. It installs chromium and libjs-leaflet of Debian where they are missing. Not of the gate.
+
+    python3 bench/trials/browser.py [--program PATH] [--python PATH] [--pictures FOLDER]
+
+Status 0 and a last line `N passed, 0 failed`, or what fell.
+"""
+
+from __future__ import annotations
+
+import argparse
+import base64
+import json
+import math
+import os
+import pathlib
+import struct
+import subprocess
+import sys
+import tempfile
+import time
+import urllib.request
+import zlib
+from collections.abc import Callable
+from typing import Any
+
+sys.path.insert(0, str(pathlib.Path(__file__).resolve().parents[2]))
+
+from bench import web_front  # noqa: E402
+from bench.web_front import Tries, asked  # noqa: E402
+
+SIZE = (1280, 800)
+STEP = 23
+"""Pixels between two points of the map that are compared."""
+
+
+class Browser:
+    """Chromium without a window, over its debugging pipe: commands to descriptor 3, what it tells from 4, each ended by 0."""
+
+    def __init__(self, folder: pathlib.Path) -> None:
+        (to_in, to_out), (from_in, from_out) = os.pipe(), os.pipe()
+        words = [
+            "chromium",
+            "--headless=new",
+            "--no-sandbox",
+            "--disable-gpu",
+            "--hide-scrollbars",
+            "--force-color-profile=srgb",
+            f"--user-data-dir={folder}/profile",
+            f"--window-size={SIZE[0]},{SIZE[1]}",
+            "--remote-debugging-pipe",
+            "about:blank",
+        ]
+        # The shell gives the pipe the descriptors that chromium looks at.
+        shell = ["sh", "-c", f'exec 3<&{to_in} 4>&{from_out}; exec "$@"', "sh", *words]
+        self.run = subprocess.Popen(shell, pass_fds=(to_in, from_out), stderr=subprocess.DEVNULL)
+        os.close(to_in)
+        os.close(from_out)
+        self.to, self.back, self.rest, self.count, self.session, self.target = to_out, from_in, b"", 0, "", ""
+        self.faults: list[str] = []
+        self.asked: list[str] = []
+
+    def call(self, method: str, **words: object) -> dict[str, Any]:
+        self.count += 1
+        told = {
+            "id": self.count,
+            "method": method,
+            "params": words,
+            **({"sessionId": self.session} if self.session else {}),
+        }
+        os.write(self.to, json.dumps(told).encode() + b"\0")
+        while True:
+            value = self.next()
+            if value.get("id") == self.count:
+                if "error" in value:
+                    raise RuntimeError(value["error"])
+                return dict(value["result"])
+
+    def next(self) -> dict[str, Any]:
+        while b"\0" not in self.rest:
+            more = os.read(self.back, 1 << 20)
+            if not more:
+                sys.exit("chromium has ended")
+            self.rest += more
+        one, self.rest = self.rest.split(b"\0", 1)
+        value: dict[str, Any] = json.loads(one)
+        told = value.get("params", {})
+        if value.get("method") == "Runtime.exceptionThrown":
+            self.faults.append(str(told["exceptionDetails"].get("exception", {}).get("description")))
+        if value.get("method") == "Network.requestWillBeSent":
+            self.asked.append(told["request"]["url"])
+        if value.get("method") == "Log.entryAdded" and told["entry"]["level"] == "error":
+            self.faults.append(f"{told['entry']['text']} {told['entry'].get('url', '')}")
+        return value
+
+    def open(self, address: str) -> None:
+        self.leave()
+        self.target = self.call("Target.createTarget", url="about:blank")["targetId"]
+        self.session = self.call("Target.attachToTarget", targetId=self.target, flatten=True)["sessionId"]
+        for part in ("Runtime", "Page", "Log", "Network"):
+            self.call(f"{part}.enable")
+        self.call(
+            "Emulation.setDeviceMetricsOverride", width=SIZE[0], height=SIZE[1], deviceScaleFactor=1, mobile=False
+        )
+        self.call("Page.navigate", url=address)
+
+    def leave(self) -> None:
+        """Closes the page, which looks at its front now and then."""
+        if self.target:
+            self.session = ""
+            self.call("Target.closeTarget", targetId=self.target)
+            self.target = ""
+
+    def value(self, text: str) -> Any:
+        found = self.call("Runtime.evaluate", expression=text, returnByValue=True, awaitPromise=True)
+        if "exceptionDetails" in found:
+            raise RuntimeError(f"{text}: {found['exceptionDetails']}")
+        return found["result"].get("value")
+
+    def until(self, text: str, seconds: float = 120) -> None:
+        end = time.monotonic() + seconds
+        while not self.value(text):
+            if time.monotonic() > end:
+                raise AssertionError(
+                    f"not within {seconds} s: {text}; told: {self.value('document.body.innerText')}; {self.faults}"
+                )
+            time.sleep(0.05)
+
+    def picture(self) -> bytes:
+        return base64.b64decode(self.call("Page.captureScreenshot")["data"])
+
+    def click(self, x: float, y: float) -> None:
+        for kind in ("mouseMoved", "mousePressed", "mouseReleased"):
+            self.call(
+                "Input.dispatchMouseEvent",
+                type=kind,
+                x=x,
+                y=y,
+                button="none" if kind == "mouseMoved" else "left",
+                clickCount=1,
+            )
+
+    def end(self) -> None:
+        self.run.terminate()
+        self.run.wait(30)
+
+
+def nearest(left: int, up: int, corner: int) -> int:
+    """The one of three that is nearest to left + up - corner, the first of those that are as near (PNG, 9.4)."""
+    to_left, to_up, to_corner = abs(up - corner), abs(left - corner), abs(left + up - 2 * corner)
+    return left if to_left <= to_up and to_left <= to_corner else up if to_up <= to_corner else corner
+
+
+class Picture:
+    """The colours of a PNG of 8 bits a channel, read by the standard alone."""
+
+    def __init__(self, data: bytes) -> None:
+        parts, at = {b"IDAT": b""}, 8
+        while at < len(data):
+            (length,), kind = struct.unpack(">I", data[at : at + 4]), data[at + 4 : at + 8]
+            parts[kind] = parts.get(kind, b"") + data[at + 8 : at + 8 + length]
+            at += 12 + length
+        self.width, self.height, bits, colour = struct.unpack(">IIBB", parts[b"IHDR"][:10])
+        assert bits == 8 and colour in (2, 6), "a picture of another form"
+        self.channels = 3 if colour == 2 else 4
+        self.rows = self._rows(zlib.decompress(parts[b"IDAT"]))
+
+    def _rows(self, raw: bytes) -> list[bytearray]:
+        size, found = self.width * self.channels, [bytearray(self.width * self.channels)]
+        for y in range(self.height):
+            begin = y * (size + 1)
+            found.append(self._unfiltered(raw[begin], bytearray(raw[begin + 1 : begin + 1 + size]), found[-1]))
+        return found[1:]
+
+    def _unfiltered(self, kind: int, row: bytearray, above: bytearray) -> bytearray:
+        back = self.channels
+        for i in range(len(row) if kind else 0):
+            left, up, corner = (row[i - back], above[i], above[i - back]) if i >= back else (0, above[i], 0)
+            row[i] = row[i] + (nearest(left, up, corner) if kind == 4 else (0, left, up, (left + up) // 2)[kind]) & 255
+        return row
+
+    def at(self, x: int, y: int) -> tuple[int, int, int]:
+        red, green, blue = self.rows[y][x * self.channels : x * self.channels + 3]
+        return red, green, blue
+
+
+def over(below: tuple[float, ...], colour: str, opacity: float) -> tuple[float, ...]:
+    """A colour `#rrggbb` laid over another."""
+    parts = [int(colour[i : i + 2], 16) for i in (1, 3, 5)]
+    return tuple(opacity * part + (1 - opacity) * under for part, under in zip(parts, below))
+
+
+# Of each point the world's coordinates, and of each drawn layer how it is filled, in the order of drawing.
+POINTS = """(() => { const {map} = overlayPage.plot, size = map.getSize(), found = [];
+  for (let y = %d; y < size.y - 6; y += %d) for (let x = %d; x < size.x - 6; x += %d) {
+    const places = [[0, 0], [-4, -4], [4, -4], [-4, 4], [4, 4]].map(([i, j]) => {
+      const at = map.containerPointToLatLng([x + .5 + i, y + .5 + j]); return [at.lng, at.lat]; });
+    found.push([x, y, places]); }
+  return found; })()""" % (
+    STEP // 2,
+    STEP,
+    STEP // 2,
+    STEP,
+)
+LAYERS = """[...overlayPage.layers].map(layer => [layer.id, overlayPage.plot.drawn.get(layer.id)])
+  .filter(([name]) => !overlayPage.plot.hidden.has(name))
+  .sort(([, a], [, b]) => a.derived - b.derived).map(([name, {shape}]) => [name, shape.options.color, shape.options.fillOpacity])"""
+BARE = """for (const one of document.querySelectorAll('.leaflet-control-container, .leaflet-lines-pane, .leaflet-marker-pane, '
+  + '.leaflet-popup-pane, .leaflet-overlay-pane')) one.style.visibility = '%s'"""
+
+
+def compared(browser: Browser, address: str, tries: Tries, what: str) -> None:
+    """Compares the map's colours with what LOCATE says, where the point and four others 4 pixels away say the same."""
+    browser.value(BARE % "hidden")
+    picture, layers = Picture(browser.picture()), browser.value(LAYERS)
+    status = asked(f"{address}status")
+    left, low, right, high = (-180, -85, 180, 85) if status["geographic"] else status["limits"]
+    browser.value(BARE % "")
+    same, different, near, kinds = 0, [], 0, set()
+    for x, y, places in browser.value(POINTS):
+        told = [
+            asked(f"{address}locate?x={lng}&y={lat}")["places"]
+            for lng, lat in places
+            if left < lng < right and low < lat < high
+        ]
+        if len(told) < 5 or any(one != told[0] for one in told) or "edge" in told[0].values():
+            near += 1
+            continue
+        colour: tuple[float, ...] = (0xF5, 0xF7, 0xF9)
+        for name, paint, opacity in layers:
+            colour = over(colour, paint, opacity) if told[0][name] == "in" else colour
+        kinds.add(tuple(told[0].values()))
+        if max(abs(a - b) for a, b in zip(colour, picture.at(x, y))) <= 4:
+            same += 1
+        else:
+            different.append((x, y, told[0], picture.at(x, y), colour))
+    for one in different[:5]:
+        print(one)
+    tries.that(
+        not different and same > 300 and len(kinds) > 2,
+        f"{what}: of {same + len(different) + near} points {same} have the colour of LOCATE's answer, "
+        f"{len(different)} another, {near} are too near to an edge; {len(kinds)} answers occur",
+    )
+
+
+READY = (
+    "globalThis.overlayPage !== undefined && document.body.dataset.ready === 'yes' && overlayPage.layers.length > 0 && "
+    "overlayPage.plot.drawn.size === overlayPage.layers.length"
+)
+
+
+def define(browser: Browser, name: str, text: str) -> None:
+    browser.value(
+        f"(() => {{ const form = document.getElementById('define'); form.elements.id.value = {json.dumps(name)}; "
+        f"form.elements.definition.value = {json.dumps(text)}; form.requestSubmit(); }})()"
+    )
+
+
+def told(browser: Browser, part: str) -> str:
+    return str(browser.value(f"document.getElementById({json.dumps(part)}).innerText"))
+
+
+def ask_point(browser: Browser, x: str, y: str) -> None:
+    browser.value(
+        f"(() => {{ const form = document.getElementById('asking'); form.elements.x.value = {json.dumps(x)}; "
+        f"form.elements.y.value = {json.dumps(y)}; form.requestSubmit(); }})()"
+    )
+
+
+def looks(browser: Browser, address: str, tries: Tries) -> None:
+    browser.open(address)
+    browser.until(READY)
+    tries.that(
+        "version 1" in told(browser, "status") and "durable 1" in told(browser, "status"),
+        "it tells the version and what is durable",
+    )
+    compared(browser, address, tries, "drawn")
+
+    browser.click(460, 400)
+    browser.until("document.querySelectorAll('#places tr').length === 4")
+    x, y = browser.value("[...document.querySelectorAll('#asking input')].map(one => one.value)")
+    right = asked(f"{address}locate?x={x}&y={y}")["places"]
+    rows = browser.value(
+        "[...document.querySelectorAll('#places tr')].map(row => [...row.cells].map(one => one.textContent))"
+    )
+    tries.that(dict(rows) == right and "in" in right.values(), f"a click at {x}, {y}: {right}")
+    ask_point(browser, f"{189812 - 19 * 42262}/42262", f"{145589 + 65 * 100000}/100000")
+    browser.until("document.querySelector('#places .edge') !== null")
+    rows = browser.value("[...document.querySelectorAll('#places tr')].map(row => row.innerText)")
+    tries.that(any("iceland_110m" in row and "edge" in row for row in rows), f"a corner by fractions: {rows}")
+
+
+def changes(browser: Browser, address: str, pictures: pathlib.Path, tries: Tries) -> None:
+    define(browser, "N", "iceland_50m - iceland_110m")
+    browser.until("/N is built/.test(document.getElementById('told').textContent)")
+    cells = browser.value(
+        "[document.querySelectorAll('#columns i.built').length, document.querySelectorAll('#columns i').length]"
+    )
+    tries.that(
+        cells[0] == cells[1] == overlay_columns(address),
+        f"{told(browser, 'told')}; {cells[0]} of {cells[1]} cells are green",
+    )
+    browser.until("document.getElementById('columns').hidden")
+    tries.that(
+        "version 2" in told(browser, "status") and "durable 2" in told(browser, "status"), "the new version is durable"
+    )
+    compared(browser, address, tries, "with a layer defined")
+    browser.click(520, 300)
+    browser.until("document.querySelectorAll('#places tr').length === 5")
+    (pictures / "page.png").write_bytes(browser.picture())
+
+    browser.value("document.querySelector('#layers li:nth-child(4) input').click()")
+    compared(browser, address, tries, "with a layer hidden")
+    define(browser, "M", "N - nowhere")
+    browser.until("document.getElementById('told').className === 'bad'")
+    tries.that(
+        "error 10 unknown layer" in told(browser, "told"), f"a definition that is refused: {told(browser, 'told')}"
+    )
+    browser.value("[...document.querySelectorAll('#layers button')].at(-1).click()")
+    browser.until(
+        "document.querySelectorAll('#layers li').length === 4 && /N is dropped/.test(document.getElementById('told').textContent)"
+    )
+    tries.that("version 3" in told(browser, "status"), f"dropped: {told(browser, 'told')}")
+    body = json.dumps({"definition": "iceland_110m | iceland_50m"}).encode()
+    other = urllib.request.Request(
+        f"{address}collections/either", body, {"Content-Type": "application/json"}, method="PUT"
+    )
+    urllib.request.urlopen(other).close()
+    browser.until("overlayPage.plot.drawn.has('either')")
+    tries.that("version 4" in told(browser, "status"), "what another client defines is drawn")
+
+
+def ring(corners: int, x: int, y: int, reach: Callable[[float, int], float]) -> str:
+    """A ring round a place; reach gives the distance at an angle, and at a corner by its number."""
+    turns = [2 * math.pi * i / corners for i in range(corners)]
+    points = [(x + round(reach(t, i) * math.cos(t)), y + round(reach(t, i) * math.sin(t))) for i, t in enumerate(turns)]
+    return "POLYGON ((" + ", ".join(f"{a} {b}" for a, b in points + points[:1]) + "))"
+
+
+def star(x: int, y: int) -> str:
+    """A ring of 400 corners that goes out and in at each."""
+    return ring(400, x, y, lambda _, i: 600_000 * (1 - 0.75 * (i % 2)))
+
+
+def flower(x: int, y: int) -> str:
+    return ring(1000, x, y, lambda turn, _: 500_000 * (1 + 0.3 * math.sin(7 * turn)))
+
+
+def plane(folder: pathlib.Path, program: str, name: str, shape: Callable[[int, int], str]) -> pathlib.Path:
+    """A store of three shapes that cross each other, in a plane that is nowhere on the earth."""
+    store = folder / f"{name}.db"
+    with web_front.overlay_client.Server(store, create=True, program=program) as server, server.session() as one:
+        places = (("A", -150_000, 0), ("B", 170_000, 60_000), ("C", 0, -190_000))
+        one.batch([one.put_line(layer, shape(x, y)) for layer, x, y in places])
+    store.with_suffix(".scale.json").write_text(
+        json.dumps({"title": f"Three {name}", "factor": 100, "unit": "m"}), encoding="utf-8"
+    )
+    return store
+
+
+# Holds up the page's fifth look at the tiles, so that what it draws after four can be looked at.
+HOLD = """(() => { const real = fetch; let looks = 0;
+  globalThis.fetch = async (path, how) => {
+    if (/\\/tiles/.test(path) && ++looks === 5) await new Promise(go => { globalThis.goOn = go; });
+    return real(path, how); }; })()"""
+
+
+def building(browser: Browser, address: str, picture: pathlib.Path, tries: Tries) -> None:
+    """Defines a layer, and looks at its tiles while they are built."""
+    browser.open(address)
+    browser.until(READY)
+    browser.value(HOLD)
+    define(browser, "D", "(A ^ B) & C")
+    browser.until("globalThis.goOn !== undefined")
+    cells = browser.value("[...document.querySelectorAll('#columns i')].map(one => one.className)")
+    picture.write_bytes(browser.picture())
+    browser.value("goOn()")
+    browser.until("/D is built/.test(document.getElementById('told').textContent)")
+    tries.that(
+        0 < cells.count("built") < len(cells),
+        f"while it is built {cells.count('built')} of {len(cells)} cells are green; then {told(browser, 'told')}",
+    )
+    browser.until("document.getElementById('columns').hidden")
+
+
+def overlay_columns(address: str) -> int:
+    return len(asked(f"{address}status")["columns"])
+
+
+def read_only(browser: Browser, address: str, tries: Tries) -> None:
+    browser.open(address)
+    browser.until(READY)
+    shown = browser.value(
+        "[document.getElementById('defining').hidden, document.querySelectorAll('#layers button[title^=drop]').length]"
+    )
+    tries.that(
+        shown == [True, 0] and "read only" in told(browser, "status"),
+        f"a front that reads: {told(browser, 'status')!r}",
+    )
+    tries.that("version 4" in told(browser, "status"), "it tells the file's version")
+
+
+def visits(browser: Browser, words: argparse.Namespace, folder: pathlib.Path, tries: Tries) -> None:
+    """Looks at fronts over three stores, one of them by a front that reads too."""
+    pictures, running = words.pictures or folder, {"program": words.program, "python": words.python}
+    store = web_front.iceland(folder, words.program)
+    with web_front.front("--store", store, "--writable", **running) as address:
+        looks(browser, address, tries)
+        changes(browser, address, pictures, tries)
+        browser.leave()
+    for name, shape in (("stars", star), ("flowers", flower)):
+        three = plane(folder, words.program, name, shape)
+        with web_front.front("--store", three, "--writable", **running) as address:
+            building(browser, address, pictures / f"building-{name}.png", tries)
+            if name == "flowers":
+                compared(browser, address, tries, "a plane that is nowhere on the earth")
+            browser.leave()
+    with web_front.front("--store", store, **running) as address:
+        read_only(browser, address, tries)
+        browser.leave()
+    # A definition that was refused on purpose stands in the log as well.
+    faults = [one for one in browser.faults if "404" not in one]
+    tries.that(not faults, f"no fault in the browser's log: {faults}")
+    own = [one for one in browser.asked if one.startswith(("http://127.0.0.1:", "data:", "about:"))]
+    tries.that(own == browser.asked, f"all of {len(browser.asked)} requests go to the front")
+
+
+def main() -> int:
+    parser = argparse.ArgumentParser(description=__doc__, formatter_class=argparse.RawDescriptionHelpFormatter)
+    parser.add_argument("--program", default=str(web_front.PROGRAM), help="the built overlay_live")
+    parser.add_argument("--python", default=web_front.DEBIAN_PYTHON, help="the Python that runs the front")
+    parser.add_argument("--pictures", type=pathlib.Path, help="a folder for pictures of the page")
+    words = parser.parse_args()
+    web_front.need("chromium", "chromium", "fonts-dejavu-core")
+    web_front.need("/usr/share/javascript/leaflet", "libjs-leaflet")
+    tries = Tries()
+    with tempfile.TemporaryDirectory() as place:
+        browser = Browser(pathlib.Path(place))
+        try:
+            visits(browser, words, pathlib.Path(place), tries)
+        finally:
+            browser.end()
+    print(f"{tries.passed} passed, {tries.failed} failed")
+    return 1 if tries.failed else 0
+
+
+if __name__ == "__main__":
+    sys.exit(main())

@@ -1,0 +1,55 @@
+#!/usr/bin/env python3
+"""Makes each call of the libraries while its growths are refused in turn, and prints a table.
+
+python3 bench/trials/calls.py [PROGRAM]
+
+Builds the program of bench/trials/calls, unproved (minutes); PROGRAM is one that was built before. For each call and
+input the first growth is refused, then the second and so on, until a run meets no refusal. A run is right where it
+answers as with memory, or by 40 (over a disk also 30) with all as before, and then the same call gives the answer. How
+lists, books, sessions and servers are judged stands in bench/trials/calls; the judges are shown wrong ones at last. The
+server's counts differ from run to run. Status 1: a run is wrong.
+"""
+
+import argparse
+import pathlib
+import subprocess
+import sys
+import tempfile
+
+sys.path.insert(0, str(pathlib.Path(__file__).resolve().parents[2]))
+
+from bench import unproved  # noqa: E402
+
+HERE = pathlib.Path(__file__).resolve().parent
+# A call that is wrong on purpose: its first growth refused is right, its second has changed what it was called on.
+WRONG_CALL = "wrong call 1 1 1"
+# What else is wrong on purpose: the program tells how many there are, and how many of them were told as wrong.
+SPOILED = ["lists", "books", "sessions", "servers"]
+
+
+def are_told(line):
+    """Whether there are wrong lists, books, sessions and servers, and each is told as wrong."""
+    words = line.split()[1:]
+    return words[::3] == SPOILED and all(cases == told != "0" for cases, told in zip(words[1::3], words[2::3]))
+
+
+def main():
+    parser = argparse.ArgumentParser(description=__doc__, formatter_class=argparse.RawDescriptionHelpFormatter)
+    parser.add_argument("program", type=pathlib.Path, nargs="?")
+    words = parser.parse_args()
+    with tempfile.TemporaryDirectory() as folder:
+        program = words.program.resolve() if words.program else unproved.built(HERE / "calls", folder)
+        done = subprocess.run([program], stdout=subprocess.PIPE, text=True)
+    *table, call, spoiled = done.stdout.splitlines()
+    print("\n".join(table))
+    rows = [line.split() for line in table[1:] if not line.startswith(" ")]
+    growths, runs, out, device, inside, own, other = (sum(int(row[at]) for row in rows) for at in range(-7, 0))
+    print(f"lines {len(rows)}, growths refused {growths}, runs {runs}: 40 {out}, 30 {device}, inside a list {inside}, "
+          f"its own answer {own}, other {other}")
+    is_told = call == WRONG_CALL and are_told(spoiled)
+    print(f"what is wrong on purpose ({call}; {spoiled}) is told as wrong: {'yes' if is_told else 'no'}")
+    return 1 if other or done.returncode or not is_told else 0
+
+
+if __name__ == "__main__":
+    sys.exit(main())

@@ -1,0 +1,296 @@
+#!/usr/bin/env python3
+"""Stops, failing calls and damaged files: what a store is recovered as after each.
+
+python3 bench/trials/damages.py [PROGRAM SESSIONS]
+
+Builds the programs of bench/trials/damages and sessions, unproved (minutes), or takes built ones. In memory a store is
+made, opened and committed to, one of format 1 too (old_files.py), while the disk stops at each call or one call fails:
+30 comes exactly there, and what the disk may hold is recovered as the old or the new content. Then files are cut to
+each length, altered by name, and each byte and bit of them is changed: answers are those of
+bench/reference/read_store.py, and VERIFY of each tile returns. At last sessions whose reader or writer fails. Status 1:
+anything is wrong.
+"""
+
+import argparse
+import collections
+import pathlib
+import struct
+import subprocess
+import sys
+import tempfile
+
+sys.path.insert(0, str(pathlib.Path(__file__).resolve().parents[2]))
+
+from bench import unproved  # noqa: E402
+from bench.reference import model, read_store  # noqa: E402
+from bench.trials import old_files, stress  # noqa: E402
+
+HERE = pathlib.Path(__file__).resolve().parent
+STORES = {
+    "one": "the store of one layer", "two": "the store of two", "tiled": "the tiled square's store",
+    "crossed": "the store of a tile with crossings",
+}
+# The files that come of one of format 1, each with the format of its root and how many versions it went on.
+LEFT = {"opened": (1, 0), "same": (2, 0), "more": (2, 1)}
+BLOCK = 4096
+SLOT = 64
+CODES = {"not a store": "32"}
+
+
+def root_of(data):
+    """The root's slot, and where its catalog lies."""
+    root = read_store.find_root(data)
+    return root.sequence % 2 * BLOCK, root.catalog
+
+
+def extents_of(data):
+    """The places of the catalog and of all records: offset and length."""
+    _, catalog = root_of(data)
+    written = read_store.find_root(data).format
+    listing = read_store.read_catalog(data[catalog.block * BLOCK :][: catalog.size], written)
+    found = [catalog]
+    for listed in listing:
+        found += [one for one in [listed.record, *(listed.tiles or [])] if one is not None]
+    return [(one.block * BLOCK, one.size) for one in found]
+
+
+def put(at, data):
+    """An alteration: these bytes at an offset."""
+    return [(at + i, byte) for i, byte in enumerate(data)]
+
+
+def apply(data, length, changes):
+    file = bytearray(data[:length])
+    for at, byte in changes:
+        file[at] = byte
+    return bytes(file)
+
+
+def read_by_itself(data):
+    """The answer of the reader that stands by itself: `32`, `33 CODE` or `version N`, and what the version has."""
+    answer, *lines = read_store.told(data)
+    if not answer.startswith("version"):
+        return answer, None
+    layers = [line[len("layer ") :] for line in lines if line.startswith("layer ")]
+    names = [line.split()[0] for line in layers]
+    content = [f"layers {len(layers)}", *layers]
+    for (name, column), pieces in stress.tiles_in(data).items():
+        content.append(f"tile {column} of layer {names.index(name)}")
+        content += ["oversize"] if pieces is None else model.edge_lines(pieces)
+    return answer, "".join(line + ";" for line in content)
+
+
+def plain(answer):
+    """An answer of the program in the same words, with what the version has, and its counts of tiles."""
+    words = answer.split(" ", 5)
+    if words[0] == "version":
+        return (" ".join(words[:2]), words[5]), [int(word) for word in words[2:5]]
+    return ("33 " + words[1] if words[0] == "damaged" else CODES.get(answer, answer), None), None
+
+
+def answers(program, folder, data, cases):
+    """The program's answer to each case of a file, a length and changes."""
+    (folder / "store").write_bytes(data)
+    with open(folder / "cases", "w") as lines:
+        for length, changes in cases:
+            print(length, *(number for change in changes for number in change), file=lines)
+    done = subprocess.run([program, folder / "store", folder / "cases"], stdout=subprocess.PIPE, check=True, text=True)
+    told = done.stdout.splitlines()
+    assert len(told) == len(cases)
+    return told
+
+
+def cuts(program, folder, name, one):
+    """A store whose catalog is its last block, cut to every length."""
+    cases = [(length, []) for length in range(len(one))]
+    counts, wrong = collections.Counter(), 0
+    for (length, _), answer in zip(cases, answers(program, folder, one, cases)):
+        told, _ = plain(answer)
+        counts[told[0]] += 1
+        if told[0] != ("32" if length < 2 * BLOCK else "33 3") or told != read_by_itself(one[:length]):
+            print(f"    cut to {length}: {answer}")
+            wrong += 1
+    print(f"{name} cut to every length below {len(one)}: {shown(counts)}, wrong {wrong}")
+    return wrong
+
+
+def shown(counts):
+    return ", ".join(f"{name} {count}" for name, count in sorted(counts.items()))
+
+
+def named(one, two, tiled):
+    """The named alterations: what each is called, the file, the changes and the wanted answer."""
+    slot, catalog = root_of(one)
+    assert slot == BLOCK
+    at, place = catalog.block * BLOCK, extents_of(one)[1][0]
+    yield "slot 1's gate is 0x00", one, put(slot, b"\0"), "version 0"
+    yield "its first magic byte is 0", one, put(slot + 16, b"\0"), "32"
+    yield "its format is 3", one, put(slot + 24, struct.pack(">I", 3)), "33 1"
+    yield "its sequence is 2", one, put(slot + 28, struct.pack(">Q", 2)), "33 2"
+    yield "its catalog's length is 16", one, put(slot + 52, struct.pack(">I", 16)), "33 4"
+    # count, name length, name, kind, block
+    yield "the catalog's kind byte is 2", one, put(at + 4, b"\2"), "33 4"
+    yield "A's block is 1", one, put(at + 5, struct.pack(">Q", 1)), "33 5"
+    yield "the ring's point count is 4", one, put(place + 2, struct.pack(">H", 4)), "33 6"
+    at = root_of(two)[1].block * BLOCK
+    # an entry of a base layer of one letter has 15 bytes
+    yield "B's name is A", two, put(at + 18, b"A"), "33 7"
+    first = two[at + 5 : at + 17]
+    yield "B's place is A's", two, put(at + 20, first), "33 9"
+    tile = next(place for place, size in extents_of(tiled) if tiled[place : place + 2] == b"\0\17" and size > 6)
+    yield "a tile names another column", tiled, put(tile + 1, b"\20"), "33 8"
+
+
+def named_old(six):
+    """The same of the file of six blocks of format 1, whose root is in slot 1 and whose slot 0 is closed."""
+    slot, catalog = root_of(six)
+    assert (slot, catalog) == (BLOCK, read_store.Extent(5, 61)) and old_files.tiles_of(six) == [(2 * BLOCK, 142)]
+    at = 5 * BLOCK
+    # behind the count A's entry of 15 bytes, the same of I, then a byte for each of the columns 0 to 7, and I's tile
+    entries, tile = at + 2 + 15 + 15, at + 2 + 15 + 15 + 9
+    yield "its gate is 0x00", six, put(slot, b"\0"), "32"
+    yield "its format is 2", six, put(slot + 24, struct.pack(">I", 2)), "33 4"
+    yield "its format is 0", six, put(slot + 24, struct.pack(">I", 0)), "33 1"
+    yield "its catalog's length is 62", six, put(slot + 52, struct.pack(">I", 62)), "33 4"
+    yield "a column's state is 2", six, put(entries, b"\2"), "33 4"
+    yield "another column is finished", six, put(entries, b"\1"), "33 4"
+    for what, block in (("behind the file", 6), ("in a slot", 0), ("in A's block", 3), ("in the catalog's", 5)):
+        yield f"the tile lies {what}", six, put(tile, struct.pack(">Q", block)), "version 2"
+    yield "the tile has another length", six, put(tile + 8, struct.pack(">I", 2**32 - 1)), "version 2"
+    yield "the tile is none", six, put(2 * BLOCK, b"no tile"), "version 2"
+    yield "A's block is 6", six, put(at + 5, struct.pack(">Q", 6)), "33 5"
+    yield "A's block is 2", six, put(at + 5, struct.pack(">Q", 2)), "33 6"
+    yield "I's definition names B", six, put(4 * BLOCK, b"B"), "33 7"
+    yield "I's place is A's", six, put(at + 2 + 15 + 3, struct.pack(">QI", 3, 44)), "33 6"
+
+
+def alterations(program, folder, cases):
+    wrong, cases = 0, list(cases)
+    for name, data, changes, wanted in cases:
+        told, _ = plain(answers(program, folder, data, [(len(data), changes)])[0])
+        alone = read_by_itself(apply(data, len(data), changes))
+        if told[0] != wanted or alone != told:
+            print(f"    {name}: {told}, by itself {alone}, wanted {wanted}")
+            wrong += 1
+    print(f"named alterations {len(cases)}, wrong {wrong}")
+    return wrong
+
+
+def offsets_of(data):
+    """The places of the bytes of both slots, the catalog and the records, tiles of format 1 among them."""
+    places = [(0, SLOT), (BLOCK, SLOT), *extents_of(data), *old_files.tiles_of(data)]
+    return sorted({at + i for at, size in places for i in range(size)})
+
+
+def each_byte(program, folder, name, data, changed):
+    """Each byte of both slots, the catalog and the records changed."""
+    offsets = offsets_of(data)
+    cases = [(len(data), [(at, byte)]) for at in offsets for byte in changed(data[at]) if byte != data[at]]
+    same_bytes = sum(byte == data[at] for at in offsets for byte in changed(data[at]))
+    counts, tiles, wrong = collections.Counter(), [0, 0, 0], 0
+    for (_, changes), answer in zip(cases, answers(program, folder, data, cases)):
+        told, verified = plain(answer)
+        is_right = told == read_by_itself(apply(data, len(data), changes))
+        counts["a version" if verified else told[0]] += 1
+        tiles = [one + other for one, other in zip(tiles, verified or [0, 0, 0])]
+        if not is_right or verified and verified[2]:
+            print(f"    {changes}: {answer}, by itself {read_by_itself(apply(data, len(data), changes))}")
+            wrong += 1
+    same, different, refused = tiles
+    print(f"{name}: bytes {len(offsets)}, so already {same_bytes}, cases {len(cases)}: {shown(counts)}; "
+          f"VERIFY same {same}, different {different}, refused {refused}; wrong {wrong}")
+    return wrong
+
+
+def both_ends(_byte):
+    return (0x00, 0xFF)
+
+
+def turned(byte):
+    return [byte ^ 1 << bit for bit in range(8)]
+
+
+ALTERED = {"each byte set to 0x00 and 0xFF": both_ends, "each bit turned": turned}
+
+
+def programs(folder, given):
+    """The two programs, from the words or built."""
+    if given:
+        return [one.resolve() for one in given]
+    built = []
+    for name in ("damages", "sessions"):
+        place = folder / f"made_{name}"
+        place.mkdir()
+        built.append(unproved.built(HERE / name, place))
+    return built
+
+
+def lists(words, files, of=""):
+    """Prints what a program tells of its lists, keeps the stores that it shows, and counts what is wrong."""
+    done = subprocess.run(words, stdout=subprocess.PIPE, check=True, text=True)
+    wrong = 0
+    for line in done.stdout.splitlines():
+        if line.split()[0] in STORES | LEFT:
+            name, data = line.split()
+            files[name] = bytes.fromhex(data)
+        else:
+            print(of + line)
+            wrong += int(line.split()[-1])
+    return wrong
+
+
+def are_left(name, old, files):
+    """Whether what opening a file of format 1 leaves, and what commits over it, is what it has to be."""
+    number, layers = int(read_store.told(old)[0].split()[1]), read_store.told(old)[1:]
+    wrong = 0
+    for which, (written, more) in LEFT.items():
+        found, root = read_store.told(files[which]), read_store.find_root(files[which])
+        layer, tile = ["layer Z MULTIPOLYGON (((0 0, 10 0, 10 10, 0 10, 0 0)))"] * more, ["tile I 16 4"] * more
+        if (root.format, found) != (written, [f"version {number + more}", *layers, *layer, *tile]):
+            print(f"    {name}, {which}: format {root.format}, {found}")
+            wrong += 1
+    print(f"{name}, opened and two commits: files {len(LEFT)}, wrong {wrong}")
+    return wrong
+
+
+def of_format_1(program, folder):
+    """All of it for the files of format 1, and for those that opening and commits leave of them."""
+    wrong = 0
+    for name, path in old_files.written(folder).items():
+        old, left = path.read_bytes(), {}
+        wrong += lists([program, path], left, f"{name}, ")
+        wrong += are_left(name, old, left)
+        if name == "six blocks":
+            wrong += cuts(program, folder, name, old)
+            wrong += alterations(program, folder, named_old(old))
+        for which, data in {"as it is": old, **left}.items():
+            for how, changed in ALTERED.items():
+                wrong += each_byte(program, folder, f"{name}, {which}, {how}", data, changed)
+    return wrong
+
+
+def main():
+    parser = argparse.ArgumentParser(description=__doc__, formatter_class=argparse.RawDescriptionHelpFormatter)
+    parser.add_argument("program", type=pathlib.Path, nargs="?")
+    parser.add_argument("sessions", type=pathlib.Path, nargs="?")
+    words = parser.parse_args()
+    given = [one for one in (words.program, words.sessions) if one]
+    if len(given) == 1:
+        parser.error("a program without sessions")
+    with tempfile.TemporaryDirectory() as place:
+        folder, files = pathlib.Path(place), {}
+        program, sessions = programs(folder, given)
+        wrong = lists([program], files)
+        wrong += cuts(program, folder, STORES["one"], files["one"])
+        wrong += alterations(program, folder, named(*(files[name] for name in ("one", "two", "tiled"))))
+        for how, changed in ALTERED.items():
+            for name, data in files.items():
+                wrong += each_byte(program, folder, f"{STORES[name]}, {how}", data, changed)
+        wrong += of_format_1(program, folder)
+        wrong += lists([sessions], files)
+    print(f"wrong {wrong}")
+    return 1 if wrong else 0
+
+
+if __name__ == "__main__":
+    sys.exit(main())

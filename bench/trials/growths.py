@@ -1,0 +1,112 @@
+#!/usr/bin/env python3
+"""Refuses each growth of the program in turn: the first, the second and so on, until a run meets no refusal.
+
+python3 bench/trials/growths.py PROGRAM [--live] [--step N] [--seconds N] [--every]
+python3 bench/trials/growths.py --test
+
+The program loads growths.c, which refuses a call for memory or a thread (it sees none of a static program). Each run
+ends; its replies are the model's, but that one growth may be told once (refusing.py); the store holds a version no
+older than what was told durable, and opens. Scripts that wait for nothing also run with all growths refused from each
+one on. --step N takes each Nth, --every many at once. Counts differ by the threads' order. Status 1: a line is wrong.
+"""
+
+import argparse
+import os
+import pathlib
+import subprocess
+import sys
+import tempfile
+
+sys.path.insert(0, str(pathlib.Path(__file__).resolve().parents[2]))
+
+from bench.trials import refusing  # noqa: E402
+from bench.trials.refusing import many_growths, one_growth  # noqa: E402
+
+
+def spread(calls, step, each):
+    """The settings of some runs, somewhat more than there were calls: each growth of a step, and those behind it."""
+    return [{"FIRST": number, "EACH": each} for number in range(1, calls + refusing.MARGIN, step)]
+
+
+def tables(runner, calls, step, every):
+    """The tables of runs of a scenario, each with what it refuses."""
+    if step == 1:
+        yield "one growth", refusing.run_in_turn(runner, "REFUSE", {"EACH": 0}, calls, one_growth)
+    else:
+        yield "one growth", refusing.run_all(runner, "REFUSE", spread(calls, step, 0), one_growth)
+    for each in (2, 3, 100) if every else ():
+        table = refusing.run_all(runner, "REFUSE", spread(calls, 7 * step, each), many_growths, True)
+        yield f"and each {each} behind", table
+
+
+def from_each_on(runner, calls):
+    """The table of runs of a scenario in which memory never comes back from a growth on. They end by themselves."""
+    settings = [{"FIRST": number, "EACH": 1} for number in range(1, calls + refusing.MARGIN)]
+    yield "one growth, and all behind", refusing.run_all(runner, "REFUSE", settings, many_growths)
+
+
+def refuse(words, folder):
+    """Prints the table, and gives how many of its lines are right, and how many are not."""
+    library = refusing.compiled("growths", folder)
+    right = wrong = 0
+    print(refusing.HEAD)
+    waiting = (refusing.MEMORY, refusing.CREATED, refusing.OPENED)
+    for scenario in (*waiting, refusing.QUIET_MEMORY, refusing.QUIET_CREATED):
+        runner = refusing.runner_of(words, scenario, library, folder)
+        runner.count_early("REFUSE")
+        plain = [runner.run({}, "REFUSE") for _ in range(3)]
+        faults = [fault for fault in (refusing.judge(runner, outcome, one_growth) for outcome in plain) if fault]
+        calls = max(outcome.counts[0] for outcome in plain)
+        if faults or not calls:
+            print(f"{scenario.name}: with nothing refused: {faults or 'no growth was counted: is the program static?'}")
+            return right, wrong + 1
+        is_waiting = scenario in waiting
+        found = tables(runner, calls, words.step, words.every) if is_waiting else from_each_on(runner, calls)
+        for which, table in found:
+            refusing.print_table(runner, which, calls, table)
+            right += not table.wrong
+            wrong += bool(table.wrong)
+    return right, wrong
+
+
+FOUR = """
+import ctypes, os
+library = ctypes.CDLL(os.environ["LIBRARY"])
+library.malloc.restype = ctypes.c_void_p
+print("".join("1" if library.malloc(8) else "0" for _ in range(4)))
+"""
+
+
+def test():
+    """Looks whether the shim refuses the call that it is told, of four, and what refusals may be told."""
+    with tempfile.TemporaryDirectory() as place:
+        folder = pathlib.Path(place)
+        given = {"LIBRARY": str(refusing.compiled("growths", folder)), "REFUSE_FIRST": "1", "REFUSE_EACH": "3"}
+        given["REFUSE_COUNTS"] = place + "/counts"
+        words = [sys.executable, "-c", FOUR]
+        done = subprocess.run(words, env={**os.environ, **given}, capture_output=True, check=True, text=True)
+        counts = (folder / "counts").read_bytes()
+        numbers = [int.from_bytes(counts[at : at + 8], "little") for at in (0, 8)]
+    is_right = done.stdout == "0110\n" and numbers == [4, 2]
+    print(f"four growths: {done.stdout.strip()}, counted {numbers}: {'right' if is_right else 'wrong'}")
+    passed, failed = refusing.test(one_growth, many_growths)
+    return refusing.told(passed + is_right, failed + (not is_right))
+
+
+def main():
+    if sys.argv[1:] == ["--test"]:
+        return test()
+    parser = argparse.ArgumentParser(description=__doc__, formatter_class=argparse.RawDescriptionHelpFormatter)
+    parser.add_argument("program")
+    parser.add_argument("--step", type=int, default=1)
+    parser.add_argument("--live", action="store_true", help="the program is overlay_live")
+    parser.add_argument("--seconds", type=int, default=20, help="how long a run may take (20)")
+    parser.add_argument("--every", action="store_true", help="also refuses many growths of a run")
+    words = parser.parse_args()
+    words.program = os.path.abspath(words.program)
+    with tempfile.TemporaryDirectory(prefix="growths") as place:
+        return refusing.told(*refuse(words, pathlib.Path(place)))
+
+
+if __name__ == "__main__":
+    sys.exit(main())

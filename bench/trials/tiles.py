@@ -1,0 +1,205 @@
+#!/usr/bin/env python3
+"""Builds tiles by the pass from node to node and by all pairs, side by side on drawn inputs.
+
+python3 bench/trials/tiles.py [PROGRAM] [--proved]
+
+Builds the program of bench/trials/tiles over tile_build and layer_book, unproved (minutes), or with --proved by a proof
+of all that it reaches (bench/proved.py); PROGRAM is one that was built before. 2,000 inputs from fixed seeds, a quarter
+of them at full coordinates, most with edges that touch, overlap, stand upright or are cut by a border of the column. Of
+each the tiles of `build` and `build_counted` are compared by their ends with that of `build_by_pairs`, where the cap is
+0, one below the size of the tile, and its size. Status 1: one differs.
+"""
+
+import argparse
+import pathlib
+import subprocess
+import sys
+import tempfile
+
+sys.path.insert(0, str(pathlib.Path(__file__).resolve().parents[2]))
+
+from bench import proved, unproved  # noqa: E402
+from bench.tile_texts import Draws, closed, lines_of  # noqa: E402
+from tools.limits import COLUMN_WIDTH as WIDTH  # noqa: E402
+from tools.limits import COLUMNS, COORDINATE_MAX  # noqa: E402
+
+HERE = pathlib.Path(__file__).resolve().parent
+
+
+# Drawn inputs: each kind gives the rings of two layers near (0, 0)
+
+
+def points_of_a_grid(draws, width=None):
+    width = width or draws.among([1, 2, 3, 4, 6])
+
+    def ring():
+        return closed([(draws.below(width + 1), draws.below(width + 1)) for _ in range(3 + draws.below(4))])
+
+    return [[ring() for _ in range(1 + draws.below(2))] for _ in range(2)]
+
+
+def through_one_point(draws):
+    width = draws.among([2, 3, 4])
+
+    def ring():
+        a, b = [(draws.below(2 * width + 1), draws.below(2 * width + 1)) for _ in range(2)]
+        points = [a, (2 * width - a[0], 2 * width - a[1]), b, (2 * width - b[0], 2 * width - b[1])]
+        return closed(points[: 3 + draws.below(2)])
+
+    return [[ring() for _ in range(1 + draws.below(3))] for _ in range(2)]
+
+
+def on_few_lines(draws):
+    width = draws.among([4, 6])
+    places = range(width + 1)
+    lines = [
+        [(t, 0) for t in places], [(width // 2, t) for t in places], [(t, t) for t in places],
+        [(t, width - t) for t in places],
+    ]
+    points = draws.among(lines) + draws.among(lines)
+
+    def ring():
+        return closed([draws.among(points) for _ in range(3 + draws.below(5))])
+
+    return [[ring() for _ in range(1 + draws.below(2))] for _ in range(2)]
+
+
+def doubled(draws):
+    first, second = points_of_a_grid(draws)
+    return [first + first[: draws.below(2)], second + first[: 1 + draws.below(2)]]
+
+
+def rectangles(draws):
+    width, height = draws.among([2, 3, 4]), draws.among([3, 6, 9])
+
+    def ring():
+        a, b, c, d = draws.below(width + 1), draws.below(width + 1), draws.below(height + 1), draws.below(height + 1)
+        return closed([(a, c), (b, c), (b, d), (a, d)])
+
+    def triangle():
+        return closed([(draws.below(width + 1), draws.below(height + 1)) for _ in range(3)])
+
+    return [[ring() for _ in range(1 + draws.below(2))] + [triangle()][: draws.below(2)] for _ in range(2)]
+
+
+def wide(draws):
+    return points_of_a_grid(draws, draws.among([10, 20, 40]))
+
+
+KINDS = [points_of_a_grid, points_of_a_grid, through_one_point, on_few_lines, doubled, rectangles, wide]
+
+
+def border(column):
+    return -COORDINATE_MAX + column * WIDTH
+
+
+def within(coordinate):
+    return max(-COORDINATE_MAX, min(COORDINATE_MAX, coordinate))
+
+
+def near_a_border(draws):
+    """Rings of one kind over the left border of a column, and that column or the one before."""
+    layers = draws.among(KINDS)(draws)
+    column = 1 + draws.below(COLUMNS - 1)
+    before = draws.below(1 + max(a for layer in layers for ring in layer for a, b in ring))
+    x, y = border(column) - before, draws.among([0, -3, COORDINATE_MAX - 4, -COORDINATE_MAX])
+    moved = [[[(within(a + x), within(b + y)) for a, b in ring] for ring in layer] for layer in layers]
+    return column - draws.below(2 if before else 1), moved
+
+
+def at_full_coordinates(draws):
+    """Rings from border to border, many of whose points lie at the greatest coordinates or beside a border."""
+    column = draws.below(COLUMNS)
+
+    def coordinate():
+        kind = draws.below(3)
+        if kind == 0:
+            return draws.among([-COORDINATE_MAX, COORDINATE_MAX, COORDINATE_MAX - 1, 1 - COORDINATE_MAX, 0, 1, -1])
+        if kind == 1:
+            return within(border(column) + draws.among([0, 1, -1, WIDTH, WIDTH - 1, WIDTH + 1, WIDTH // 2]))
+        return draws.below(2 * COORDINATE_MAX + 1) - COORDINATE_MAX
+
+    def ring():
+        return closed([(coordinate(), coordinate()) for _ in range(3 + draws.below(6))])
+
+    return column, [[ring() for _ in range(1 + draws.below(2))] for _ in range(2)]
+
+
+def drawn(number):
+    draws = Draws(number)
+    column, layers = at_full_coordinates(draws) if number % 4 == 0 else near_a_border(draws)
+    return column, draws.among(["A ^ B", "A & B", "A | B", "A - B", "B - A", "(A - B) | (B - A)"]), layers
+
+
+# What is peculiar about an input
+
+
+def edges_in(column, layers):
+    pairs = [tuple(sorted(pair)) for layer in layers for ring in layer for pair in zip(ring, ring[1:])]
+    return [(l, r) for l, r in pairs if l != r and border(column) <= r[0] and l[0] < border(column + 1)]
+
+
+def turn(a, b, p):
+    return (b[0] - a[0]) * (p[1] - a[1]) - (b[1] - a[1]) * (p[0] - a[0])
+
+
+def features(column, layers):
+    edges = edges_in(column, layers)
+    found = set()
+    for l, r in edges:
+        if l[0] == r[0]:
+            found.add("upright edges")
+        if l[0] < border(column) < r[0] or l[0] < border(column + 1) < r[0]:
+            found.add("edges cut by a border")
+        for a, b in edges:
+            on_line = [p for p in (a, b) if turn(l, r, p) == 0]
+            if len(on_line) == 1 and l < on_line[0] < r:
+                found.add("edges that end within others")
+            if len(on_line) == 2 and max(l, a) < min(r, b) and (l, r) != (a, b):
+                found.add("edges that overlap in part")
+    if len(set(edges)) < len(edges):
+        found.add("edges that stand twice")
+    return found or {"none of these" if edges else "no edge"}
+
+
+def compare(program, folder):
+    counts, text = {}, []
+    for number in range(2000):
+        column, definition, layers = drawn(number)
+        text.append(lines_of(column, definition, layers))
+        for feature in features(column, layers):
+            counts[feature] = counts.get(feature, 0) + 1
+    path = folder / "inputs"
+    path.write_text("".join(text))
+    counted = ", ".join(f"{counts[f]} with {f}" for f in sorted(counts))
+    print(f"2000 inputs drawn, 500 of them at full coordinates; {counted}")
+    done = subprocess.run([program, path], stdout=subprocess.PIPE, check=True, text=True)
+    inputs, tiles, pieces, differences = done.stdout.split()
+    print(
+        f"{inputs} inputs, whose tiles have {pieces} pieces; {tiles} tiles by the pass,"
+        f" differences from all pairs: {differences}"
+    )
+    return 0 if differences == "0" else 1
+
+
+def program_of(given, is_proved, folder):
+    """The program: the one that is given, or one that is built."""
+    if given:
+        return given.resolve()
+    if is_proved:
+        return proved.built(HERE / "tiles", folder, ["/dev/null"])
+    return unproved.built(HERE / "tiles", folder)
+
+
+def main():
+    parser = argparse.ArgumentParser(description=__doc__, formatter_class=argparse.RawDescriptionHelpFormatter)
+    parser.add_argument("program", type=pathlib.Path, nargs="?")
+    parser.add_argument("--proved", action="store_true", help="builds a proved program")
+    words = parser.parse_args()
+    with tempfile.TemporaryDirectory() as name:
+        folder = pathlib.Path(name)
+        return compare(program_of(words.program, words.proved, folder), folder)
+
+
+if __name__ == "__main__":
+    sys.exit(main())
