@@ -4,7 +4,7 @@ use Rattle.std.specs.Option.{option_map}
 use Rattle.overlay_terms.specs.Commands.{Command, refusal_at}
 use Rattle.overlay_terms.specs.Histories.{Version}
 use Rattle.layer_book.specs.declared.batch_fault.BatchFault.{BatchFault}
-use Rattle.version_core.specs.Fault.{version_fault_of}
+use Rattle.versions.specs.Fault.{version_fault_of}
 use Rattle.book_history.specs.Fault.{IfBatchGone, IfGone, IsCommandRefused, no_memory}
 use Rattle.book_history.specs.declared.fault.BookFault.{BookFault}
 use Rattle.book_history.specs.declared.fault.BookFault.TheVariants as fault

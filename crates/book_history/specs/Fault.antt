@@ -11,8 +11,8 @@ use Rattle.overlay_terms.specs.Histories.{Version}
 use Rattle.layer_book.specs.declared.fault.LayerFault.TheVariants.{OutOfMemory as NoMemory}
 use Rattle.layer_book.specs.declared.batch_fault.BatchFault.{BatchFault}
 use Rattle.layer_book.specs.declared.batch_fault.BatchFault.TheVariants.{Whole}
-use Rattle.version_core.specs.Fault as version_fault
-use Rattle.version_core.specs.declared.fault.VersionFault.TheVariants.{Layer}
+use Rattle.versions.specs.Fault as version_fault
+use Rattle.versions.specs.declared.fault.VersionFault.TheVariants.{Layer}
 use Rattle.book_history.specs.declared.fault.ToldFault.{ToldFault}
 use Rattle.book_history.specs.declared.fault.ToldFault.TheVariants.{Device, Full, Failed, SequenceLimit, OutOfMemory}
 use Rattle.book_history.specs.declared.fault.BookFault.{BookFault}

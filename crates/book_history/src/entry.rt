@@ -11,7 +11,7 @@ use layer_expr::name::Name;
 use plane_base::Column;
 use std::marker::Model;
 use tile_build::tile::Tile;
-use version_core::version::Version;
+use versions::version::Version;
 
 /// What made a version, as it stands in the logbook. No value of it is made.
 #[derive(Drop)]

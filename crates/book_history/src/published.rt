@@ -11,7 +11,7 @@ use left_right::reader::Reader;
 use left_right::writer::Writer;
 use std::alloc::{AllocError, Global};
 use std::sync::Arc;
-use version_core::version::Version;
+use versions::version::Version;
 
 /// A version, and the log that it ends.
 #[derive(Drop)]

@@ -11,7 +11,7 @@ use crate::entry::{Ask, Cause, Entry};
 use logbook::{Gain, Offer, Opening, Plain, Play, Rule, Seen, Start, Word};
 use std::fmt;
 use std::marker::{Brand, Model};
-use version_core::version::Version;
+use versions::version::Version;
 
 /// The rule of the history.
 pub struct Law;

@@ -5,7 +5,7 @@ use Rattle.overlay_terms.specs.Histories.{Tile, Entry, accepted, commands_of, ke
 use Rattle.overlay_terms.specs.Batches.{Batch}
 use Rattle.overlay_terms.specs.Layers.{Name}
 use Rattle.overlay_terms.specs.Tiles.{Input}
-use Rattle.version_core.specs.Finish.{IsAwaited}
+use Rattle.versions.specs.Finish.{IsAwaited}
 use Rattle.book_history.specs.Known.{Known}
 use Rattle.book_history.specs.Logs.{entry, newest_in, IsLog}
 use Rattle.book_history.specs.BookLogs.{BookLog}

@@ -14,7 +14,7 @@ use layer_expr::name::Name;
 use std::alloc::Global;
 use std::sync::Wait;
 use tile_build::built::Built;
-use version_core::version::Version;
+use versions::version::Version;
 
 impl<J: Naming, R: Wait + Drop> LockedLog<J, R> {
     /// Keeps a built tile where it is awaited: the one entry that this adds, or nothing.

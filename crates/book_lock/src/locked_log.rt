@@ -23,7 +23,7 @@ use book_history::seen_log::{Head, Naming, SeenLog};
 use std::alloc::Global;
 use std::marker::{Model, PhantomData};
 use std::sync::{Arc, Wait};
-use version_core::version::Version;
+use versions::version::Version;
 
 const MOST: u64 = 1 << 60;
 

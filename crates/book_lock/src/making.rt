@@ -5,7 +5,7 @@ ghost use Rattle.overlay_terms.specs.Batches.{batch_refusal_at};
 ghost use Rattle.overlay_terms.specs.Histories.{FollowsBatch, FollowsTile, IsReported};
 ghost use Rattle.layer_book.specs.BatchFault.{RefusedAllBy};
 ghost use Rattle.layer_book.specs.Command.{command};
-ghost use Rattle.version_core.specs.Finish.{IsAwaited};
+ghost use Rattle.versions.specs.Finish.{IsAwaited};
 ghost use Rattle.book_history.specs.Fault.{IfGone, IsCommandRefused, no_memory};
 
 use crate::room::Room;
@@ -17,8 +17,8 @@ use layer_expr::name::Name;
 use std::alloc::Global;
 use std::sync::Arc;
 use tile_build::built::Built;
-use version_core::finishing::Finish;
-use version_core::version::Version;
+use versions::finishing::Finish;
+use versions::version::Version;
 
 /// A version for as many as ask for it.
 pub(crate) fn shared(alloc: Global, version: Version) -> Result<Arc<Version, Global>, BookFault>

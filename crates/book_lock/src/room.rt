@@ -7,7 +7,7 @@ use crate::making::shared;
 use book_history::fault::BookFault;
 use std::alloc::Global;
 use std::sync::Arc;
-use version_core::version::Version;
+use versions::version::Version;
 
 /// Memory for a version, where there was some: so what has to be told can be told where there is none any more.
 #[derive(Drop)]

@@ -20,7 +20,7 @@ use layer_book::command::Command;
 use std::alloc::Global;
 use std::slice;
 use std::sync::{Arc, Wait};
-use version_core::version::Version;
+use versions::version::Version;
 
 impl<J: Naming, R: Wait + Drop> LockedLog<J, R> {
     /// Accepts a command of a session: the one entry that this adds, or nothing.

@@ -20,8 +20,8 @@ use Rattle.layer_book.proofs.Wanted.{index_at}
 use Rattle.tile_build.specs.declared.stored_tile.StoredTile.{StoredTile}
 use Rattle.tile_build.specs.StoredTile.{finished_of}
 use Rattle.tile_build.specs.Tile.{tile_of}
-use Rattle.version_core.specs.Version.{IsVersion}
-use Rattle.version_core.proofs.Restored.{found_is}
+use Rattle.versions.specs.Version.{IsVersion}
+use Rattle.layer_tiles.proofs.Restored.{found_is}
 use Rattle.flush_core.specs.Imaging.{named_tile, tiles_in, tiles_of_layer, tiles_in_order}
 
 -- ---- what is found in lists, one behind the other

@@ -13,7 +13,7 @@ use disk_model::disk::Disk;
 use root_store::commit::Commit;
 use root_store::phase::{Phase, Progress};
 use std::alloc::Global;
-use version_core::version::Version;
+use versions::version::Version;
 
 /// A store to which versions are written.
 #[derive(Debug, Drop)]

@@ -12,7 +12,7 @@ use plane_base::{COLUMN_COUNT, Column};
 use record_writing::image::Image;
 use std::alloc::{AllocError, Global};
 use tile_build::StoredTile;
-use version_core::version::Version;
+use versions::version::Version;
 
 /// What a commit of a version writes: its number, its layers and all its finished tiles. It shares all of them.
 pub fn image_of(alloc: Global, version: &Version) -> Result<Image, AllocError>

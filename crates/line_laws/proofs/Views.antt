@@ -8,8 +8,8 @@ use Rattle.overlay_terms.specs.Commands as terms
 use Rattle.overlay_terms.specs.Histories.{History, Version, newest}
 use Rattle.overlay_terms.proofs.BatchLemmas.{one_is_refused_alike}
 use Rattle.overlay_terms.proofs.NameLemmas.{name_itself}
-use Rattle.version_core.specs.declared.fault.VersionFault.{VersionFault}
-use Rattle.version_core.specs.Building.{wait_refusal}
+use Rattle.versions.specs.declared.fault.VersionFault.{VersionFault}
+use Rattle.versions.specs.Building.{wait_refusal}
 use Rattle.version_core.specs.Edges.{edges_refusal, finished_refusal}
 use Rattle.overlay_grid.specs.declared.fault.GridFault.{GridFault}
 use Rattle.script_form.specs.declared.fault.CommandFault.{CommandFault}

@@ -14,9 +14,9 @@ use Rattle.layer_book.specs.Fault.{code_of, fault_of}
 use Rattle.layer_book.specs.BatchFault.{RefusedAllBy}
 use Rattle.layer_book.specs.declared.batch_fault.BatchFault.TheVariants.{At, Whole}
 use Rattle.layer_book.specs.TileRefusal.{tile_refusal}
-use Rattle.version_core.specs.Finish.{IsAwaited}
-use Rattle.version_core.specs.declared.finishing.Finish.{Finish}
-use Rattle.version_core.specs.declared.finishing.Finish.TheVariants as finish
+use Rattle.versions.specs.Finish.{IsAwaited}
+use Rattle.versions.specs.declared.finishing.Finish.{Finish}
+use Rattle.versions.specs.declared.finishing.Finish.TheVariants as finish
 use Rattle.overlay_engine.specs.declared.engine.Engine.{Engine}
 use Rattle.overlay_engine.specs.declared.engine.HeldJob.{HeldJob}
 use Rattle.overlay_engine.specs.declared.step.Reply.{Reply}

@@ -6,7 +6,7 @@ use disk_model::disk::Disk;
 use flush_core::flusher::Flusher;
 use layer_expr::name::Name;
 use std::fmt;
-use version_core::version::Version;
+use versions::version::Version;
 
 /// The number under which a refusal for want of memory is answered.
 pub(crate) const OUT_OF_MEMORY: u8 = 40;

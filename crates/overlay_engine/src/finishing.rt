@@ -9,9 +9,9 @@ use disk_model::disk::Disk;
 use layer_book::fault::LayerFault;
 use std::alloc::Global;
 use tile_build::built::Built;
-use version_core::fault::VersionFault;
-use version_core::finishing::Finish;
-use version_core::version::Version;
+use versions::fault::VersionFault;
+use versions::finishing::Finish;
+use versions::version::Version;
 
 impl<D: Disk> Engine<D> {
     /// Builds the tile of a job that is held, and gives the job up: the tile is kept where it is still awaited.

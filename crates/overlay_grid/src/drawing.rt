@@ -21,7 +21,7 @@ use plane_base::{BaseLayer, COORD_MAX};
 use rayon::prelude::*;
 use std::alloc::{AllocError, Global};
 use std::thread::Threads;
-use version_core::Version;
+use versions::Version;
 
 /// How many columns at least one thread draws.
 const LEAST_COLUMNS: usize = 32;

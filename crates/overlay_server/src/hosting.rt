@@ -27,7 +27,7 @@ use version_book::reporter::Reporter;
 use version_book::seen_log::{Head, Naming, SeenLog};
 use version_book::session::Session;
 use version_book::shared::Shared;
-use version_core::version::Version;
+use versions::version::Version;
 
 /// A book that is to be opened: the history of one version, and the store that it was read from.
 pub struct Opened<D: Disk> {

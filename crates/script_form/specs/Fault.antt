@@ -5,8 +5,8 @@ use Rattle.fault_texts.specs.declared.common_fault.CommonFault.TheVariants as fa
 use Rattle.wkt_form.specs.Fault as wkt
 use Rattle.layer_expr.specs.Fault as expr
 use Rattle.exact_point.specs.Fault as point
-use Rattle.version_core.specs.Fault as version
-use Rattle.version_core.specs.declared.fault.VersionFault.TheVariants.{Layer}
+use Rattle.versions.specs.Fault as version
+use Rattle.versions.specs.declared.fault.VersionFault.TheVariants.{Layer}
 use Rattle.overlay_grid.specs.Fault as pictures
 use Rattle.overlay_grid.specs.declared.fault.GridFault.{GridFault}
 use Rattle.overlay_grid.specs.declared.fault.GridFault.TheVariants as picture

@@ -22,12 +22,12 @@ use Rattle.wkt_form.specs.declared.fault.WktFault.{WktFault}
 use Rattle.layer_book.specs.Fault.{fault_of}
 use Rattle.layer_book.specs.declared.fault.LayerFault.TheVariants.{UnknownLayer, BatchSize}
 use Rattle.layer_book.specs.Listing.{layers_text}
-use Rattle.version_core.specs.declared.fault.VersionFault.{VersionFault}
-use Rattle.version_core.specs.declared.fault.VersionFault.TheVariants.{Layer}
+use Rattle.versions.specs.declared.fault.VersionFault.{VersionFault}
+use Rattle.versions.specs.declared.fault.VersionFault.TheVariants.{Layer}
 use Rattle.version_core.specs.declared.verifying.Verdict.{Verdict}
 use Rattle.version_core.specs.Edges.{edges_refusal, finished_refusal, AreEdges}
 use Rattle.version_core.specs.Verdict.{IsVerdict}
-use Rattle.version_core.specs.Building.{IsBuilt, wait_refusal}
+use Rattle.versions.specs.Building.{IsBuilt, wait_refusal}
 use Rattle.overlay_grid.specs.Grid.{Grid, IsGridSize, grid_with, grid_refusal, grid_text}
 use Rattle.overlay_grid.specs.declared.fault.GridFault.{GridFault}
 use Rattle.script_form.specs.declared.fault.CommandFault.{CommandFault}

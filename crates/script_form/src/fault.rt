@@ -10,7 +10,7 @@ use layer_expr::fault::ExprFault;
 use overlay_grid::GridFault;
 use std::alloc::AllocError;
 use thiserror::Error;
-use version_core::fault::VersionFault;
+use versions::fault::VersionFault;
 use wkt_form::fault::WktFault;
 
 /// A fault that is printed as a line `error N text`.

@@ -19,9 +19,9 @@ use Rattle.layer_book.specs.BatchFault.{RefusedAllBy}
 use Rattle.layer_book.specs.declared.batch_fault.BatchFault.{BatchFault}
 use Rattle.layer_book.specs.Listing.{layers_text}
 use Rattle.layer_book.specs.declared.fault.LayerFault.TheVariants as layer_fault
-use Rattle.version_core.specs.Fault as version_fault
-use Rattle.version_core.specs.declared.fault.VersionFault.{VersionFault}
-use Rattle.version_core.specs.declared.fault.VersionFault.TheVariants.{Layer}
+use Rattle.versions.specs.Fault as version_fault
+use Rattle.versions.specs.declared.fault.VersionFault.{VersionFault}
+use Rattle.versions.specs.declared.fault.VersionFault.TheVariants.{Layer}
 use Rattle.overlay_grid.specs.Grid.{Grid, IsGridSize, grid_with, grid_refusal, grid_text}
 use Rattle.overlay_grid.specs.declared.fault.GridFault.{GridFault}
 use Rattle.overlay_grid.specs.declared.fault.GridFault.TheVariants as picture

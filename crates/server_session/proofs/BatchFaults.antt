@@ -11,7 +11,7 @@ use Rattle.layer_book.specs.BatchFault.{RefusedAllBy}
 use Rattle.layer_book.specs.declared.batch_fault.BatchFault.{BatchFault}
 use Rattle.layer_book.specs.declared.batch_fault.BatchFault.TheVariants.{At, Whole}
 use Rattle.layer_book.specs.declared.fault.LayerFault.TheVariants as layer
-use Rattle.version_core.specs.declared.fault.VersionFault.TheVariants.{Layer}
+use Rattle.versions.specs.declared.fault.VersionFault.TheVariants.{Layer}
 use Rattle.book_history.specs.Fault.{IsBatchRefused}
 use Rattle.script_form.specs.Fault.{code_of}
 use Rattle.script_form.specs.Replies.{error_line, refused_line}

@@ -7,8 +7,8 @@ use Rattle.overlay_terms.specs.Histories.{BeginsWith, newest}
 use Rattle.layer_expr.specs.Name.{is_name}
 use Rattle.layer_book.specs.Fault.{RefusedBy}
 use Rattle.layer_book.specs.declared.fault.LayerFault.TheVariants as layer_fault
-use Rattle.version_core.specs.declared.fault.VersionFault.{VersionFault}
-use Rattle.version_core.specs.declared.fault.VersionFault.TheVariants.{Layer}
+use Rattle.versions.specs.declared.fault.VersionFault.{VersionFault}
+use Rattle.versions.specs.declared.fault.VersionFault.TheVariants.{Layer}
 use Rattle.version_core.specs.declared.verifying.Verdict.{Verdict}
 use Rattle.version_core.specs.Verdict.{IsVerdict}
 use Rattle.version_core.specs.Edges.{edges_refusal, finished_refusal, AreEdges}

@@ -2,7 +2,7 @@
 use Rattle.std.specs.Prelude.{◌≡◌, ◌⊎◌, ℕ, List}
 use Rattle.overlay_terms.specs.Commands.{Refusal}
 use Rattle.layer_book.specs.Fault.{fault_of}
-use Rattle.version_core.specs.declared.fault.VersionFault.TheVariants.{Layer}
+use Rattle.versions.specs.declared.fault.VersionFault.TheVariants.{Layer}
 use Rattle.book_history.specs.declared.fault.BookFault.{BookFault}
 use Rattle.book_history.specs.declared.fault.BookFault.TheVariants as book
 use Rattle.book_history.specs.declared.fault.ToldFault.{ToldFault}

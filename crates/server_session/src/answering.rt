@@ -29,8 +29,9 @@ use std::thread::Threads;
 use version_book::seen_log::Naming;
 use version_book::session::Session;
 use version_book::shared::Shared;
-use version_core::fault::VersionFault;
-use version_core::version::Version;
+use version_core::Answers;
+use versions::fault::VersionFault;
+use versions::version::Version;
 
 /// What a line makes of the book, of the session and of the batch that waits for lines, and the reply to the turn that
 /// it ends. A line that is too long may be handed in cut off behind its first 65,537 bytes.

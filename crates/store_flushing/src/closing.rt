@@ -19,7 +19,7 @@ use version_book::reporter::Reporter;
 use version_book::seen_log::{Naming, SeenLog};
 use version_book::session::Session;
 use version_book::shared::Shared;
-use version_core::version::Version;
+use versions::version::Version;
 
 /// What is left of a book and its store.
 #[derive(Debug, Drop)]

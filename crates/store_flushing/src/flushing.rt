@@ -14,7 +14,7 @@ use std::sync::Wait;
 use version_book::resting::rest;
 use version_book::seen_log::Naming;
 use version_book::shared::Shared;
-use version_core::version::Version;
+use versions::version::Version;
 
 /// Commits each version that the book gives, and reports it once it is stored, until the book closes or the device
 /// fails.

@@ -23,7 +23,7 @@ use version_book::fault::BookFault;
 use version_book::reporter::Reporter;
 use version_book::seen_log::Naming;
 use version_book::shared::Shared;
-use version_core::version::Version;
+use versions::version::Version;
 
 /// A store, and the one token that may report what it stores. Both are reached by its calls alone. None of them moves the
 /// disk and reports: so what a session was told durable by the end of a call was stored as the call began, whenever within

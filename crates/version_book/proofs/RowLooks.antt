@@ -4,8 +4,8 @@ use Rattle.std.specs.Prelude.{is_some}
 use Rattle.std.proofs.lemmas.Bool.{false≢true}
 use Rattle.overlay_terms.specs.Column.{column_count}
 use Rattle.overlay_terms.specs.Histories.{Tile}
-use Rattle.version_core.specs.Table.{row_by}
-use Rattle.version_core.proofs.Tables.{slot_by}
+use Rattle.layer_tiles.specs.Table.{row_by}
+use Rattle.layer_tiles.proofs.Tables.{slot_by}
 
 empty_or_not : (o : Option Tile) → is_some o ≡ false → o ≡ None
 empty_or_not None e = refl

@@ -4,7 +4,7 @@ use Rattle.overlay_terms.specs.Column.{column_count}
 use Rattle.overlay_terms.specs.Layers.{Layer, Name}
 use Rattle.overlay_terms.specs.Commands.{stands_as_derived}
 use Rattle.overlay_terms.specs.Histories.{Version, tile_at}
-use Rattle.version_core.specs.Finish.{IsPending}
+use Rattle.versions.specs.Finish.{IsPending}
 use Rattle.version_book.specs.HeldTiles.{is_held}
 use Rattle.version_book.specs.declared.held_tiles.HeldTile.{HeldTile}
 

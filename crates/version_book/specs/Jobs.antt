@@ -7,7 +7,7 @@ use Rattle.overlay_terms.specs.Histories.{Entry, Tile, Version}
 use Rattle.overlay_terms.specs.InputCode.{input_code}
 use Rattle.overlay_terms.specs.Layers.{Name}
 use Rattle.overlay_terms.specs.Tiles.{Input, input_of}
-use Rattle.version_core.specs.Finish.{IsPending}
+use Rattle.versions.specs.Finish.{IsPending}
 use Rattle.overlay_terms.specs.CommandCode.{name_code}
 use Rattle.book_history.specs.Codes.{entry_code}
 use Rattle.book_history.specs.Logs.{newest_in, IsLog}

@@ -3,8 +3,8 @@ use Rattle.std.specs.Prelude.{◌≡◌, ◌⊎◌, ◌<◌, ℕ, List, Bool, Is
 use Rattle.overlay_terms.specs.Layers.{Name}
 use Rattle.overlay_terms.specs.Histories.{Entry, Version}
 use Rattle.layer_book.specs.declared.fault.LayerFault.TheVariants.{OutOfMemory as NoMemory}
-use Rattle.version_core.specs.Building.{IsBuilt, wait_refusal}
-use Rattle.version_core.specs.declared.fault.VersionFault.TheVariants.{Layer}
+use Rattle.versions.specs.Building.{IsBuilt, wait_refusal}
+use Rattle.versions.specs.declared.fault.VersionFault.TheVariants.{Layer}
 use Rattle.book_history.specs.declared.fault.BookFault.{BookFault}
 use Rattle.book_history.specs.declared.fault.BookFault.TheVariants as fault
 use Rattle.book_history.specs.Fault.{IfGone}

@@ -4,17 +4,17 @@ ghost use Rattle.overlay_terms.specs.Column.{column_count};
 ghost use Rattle.overlay_terms.specs.Commands.{stands_as_derived};
 ghost use Rattle.overlay_terms.specs.Histories.{tile_at};
 ghost use Rattle.overlay_terms.specs.Tiles.{input_of};
-ghost use Rattle.version_core.specs.Table.{row_by};
+ghost use Rattle.layer_tiles.specs.Table.{row_by};
 ghost use Rattle.version_book.specs.Free.{AllAreHeld, AreHeld, AreHeldAt, AreHeldFrom, IsFree};
 ghost use Rattle.version_book.specs.HeldTiles.{is_held};
 
 use crate::held_tiles::HeldTiles;
 use arrange::tile_input::TileInput;
 use layer_expr::name::Name;
+use layer_tiles::tiles::TileRow;
 use plane_base::{COLUMN_COUNT, Column};
 use std::alloc::{AllocError, Global};
-use version_core::tiles::TileRow;
-use version_core::version::Version;
+use versions::version::Version;
 
 /// A pending tile of a version that is neither handed out nor marked. The layer at a place is looked at first, from a
 /// column on.

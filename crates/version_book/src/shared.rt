@@ -34,7 +34,7 @@ use layer_expr::name::Name;
 use std::alloc::Global;
 use std::sync::{Arc, Wait};
 use tile_build::built::Built;
-use version_core::version::Version;
+use versions::version::Version;
 
 /// The book under its lock, and whether it has a store.
 pub struct Shared<J: Naming, R: Wait + Drop> {

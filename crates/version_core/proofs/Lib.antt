@@ -1,11 +1,3 @@
-pub mod TileLists
-pub mod Restored
-pub mod Tables
-pub mod RowLemmas
-pub mod NextVersion
-pub mod LookLemmas
-pub mod NextBatch
-pub mod PendingLemmas
 pub mod EdgeLemmas
 pub mod LineLemmas
 pub mod VerdictLemmas

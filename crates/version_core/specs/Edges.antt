@@ -7,8 +7,8 @@ use Rattle.overlay_terms.specs.Layers.{Name}
 use Rattle.overlay_terms.specs.Histories.{Tile, pieces, oversize, Version, tile_at}
 use Rattle.exact_point.specs.Reduced.{IsLowest}
 use Rattle.layer_book.specs.TileRefusal.{tile_refusal}
-use Rattle.version_core.specs.declared.fault.VersionFault.{VersionFault}
-use Rattle.version_core.specs.declared.fault.VersionFault.TheVariants.{Layer, Pending, Oversize}
+use Rattle.versions.specs.declared.fault.VersionFault.{VersionFault}
+use Rattle.versions.specs.declared.fault.VersionFault.TheVariants.{Layer, Pending, Oversize}
 
 -- why a tile cannot be had: it is not finished
 abbrev pub tile_absence : Option Tile → Option VersionFault

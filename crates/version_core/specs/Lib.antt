@@ -1,11 +1,2 @@
-pub mod Fault
-pub mod Tiles
-pub mod Table
-pub mod VersionCode
-pub mod Version
-pub mod Content
-pub mod Finish
-pub mod Pending
-pub mod Building
 pub mod Edges
 pub mod Verdict

@@ -1,25 +1,22 @@
 //! The edges of a tile as text.
-ghost use Rattle.std.specs.Prelude.{◌≡◌, ◌++◌, ◌∷◌, ◌≤◌, [], None, Some, codes, decimal, length, map, IfOk, IfErr};
-ghost use Rattle.overlay_terms.specs.Column.{column_numbered};
+ghost use Rattle.std.specs.Prelude.{◌≡◌, ◌++◌, ◌∷◌, ◌≤◌, [], Some, codes, decimal, length, map, IfOk, IfErr};
 ghost use Rattle.overlay_terms.specs.Histories.{tile_at};
 ghost use Rattle.exact_point.specs.NamedPiece.{ends_of};
 ghost use Rattle.exact_point.specs.PlaceOf.{place_of};
 ghost use Rattle.exact_point.specs.PointName.{HasPlace};
-ghost use Rattle.layer_book.specs.Fault.{RefusedBy};
 ghost use Rattle.tile_build.specs.Tile.{tile_of};
-ghost use Rattle.version_core.specs.Edges.{AreEdges, HasEndBefore, IsLineOf, IsTextOf, edges_refusal, tile_absence};
+ghost use Rattle.version_core.specs.Edges.{HasEndBefore, IsLineOf, IsTextOf, tile_absence};
 
 use crate::end_texts::{EndText, EndTexts, mark_of};
-use crate::fault::VersionFault;
 use crate::line_text::LineText;
-use crate::version::Version;
 use exact_point::{PointName, reduced};
 use itoa::Buffer;
-use layer_book::fault::LayerFault;
 use layer_expr::name::Name;
 use plane_base::Column;
 use std::alloc::{AllocError, Global};
 use tile_build::{Piece, Tile};
+use versions::fault::VersionFault;
+use versions::version::Version;
 
 /// How many bytes there is room for at first for the line with the count.
 const HEAD_SIZE: usize = 32;
@@ -27,48 +24,23 @@ const HEAD_SIZE: usize = 32;
 /// How many for each other line: that of two places with small fractions has about as many.
 const LINE_SIZE: usize = 64;
 
-impl Version {
-    /// The pieces of a tile, counted and then a line for each.
-    pub fn edges(&self, alloc: Global, name: &Name, number: u64) -> Result<Vec<u8>, VersionFault>
-        ensures ok { IfOk result (λ text. AreEdges self.now name.now (column_numbered number) text.items) }
-        ensures accepted { IfOk result (λ _. edges_refusal self.now name.now (column_numbered number) ≡ None) }
-        ensures refused { IfErr result (RefusedBy (VersionFault.Layer LayerFault.OutOfMemory) (edges_refusal self.now name.now (column_numbered number))) }
-    {
-        self.edges_in(alloc, name, Column::new(number))
-    }
-
-    /// The same for a column, where it is one.
-    pub fn edges_in(
-        &self,
-        alloc: Global,
-        name: &Name,
-        column: Option<Column>,
-    ) -> Result<Vec<u8>, VersionFault>
-        ensures ok { IfOk result (λ text. AreEdges self.now name.now column text.items) }
-        ensures accepted { IfOk result (λ _. edges_refusal self.now name.now column ≡ None) }
-        ensures refused { IfErr result (RefusedBy (VersionFault.Layer LayerFault.OutOfMemory) (edges_refusal self.now name.now column)) }
-    {
-        let column = self.layers().tile_column(name, column)?;
-        match self.finished_tile(name, column)? {
-            Tile::Pieces(pieces) => Ok(written(alloc, pieces)?),
-            Tile::Oversize => Err(VersionFault::Oversize),
-        }
-    }
-
-    /// The finished tile of a layer in a column.
-    pub(crate) fn finished_tile(&self, name: &Name, column: Column) -> Result<&Tile, VersionFault>
-        ensures ok { IfOk result (λ tile. tile_at self.now.tiles name.now column ≡ Some (tile_of tile.now)) }
-        ensures err { IfErr result (λ fault. tile_absence (tile_at self.now.tiles name.now column) ≡ Some fault) }
-    {
-        match self.tile(name, column.number()) {
-            Some(tile) => Ok(tile),
-            None => Err(VersionFault::Pending),
-        }
+/// The finished tile of a layer in a column.
+pub(crate) fn finished_tile<'a>(
+    version: &'a Version,
+    name: &Name,
+    column: Column,
+) -> Result<&'a Tile, VersionFault>
+    ensures ok { IfOk result (λ tile. tile_at version.now.tiles name.now column ≡ Some (tile_of tile.now)) }
+    ensures err { IfErr result (λ fault. tile_absence (tile_at version.now.tiles name.now column) ≡ Some fault) }
+{
+    match version.tile(name, column.number()) {
+        Some(tile) => Ok(tile),
+        None => Err(VersionFault::Pending),
     }
 }
 
 /// The pieces as text: how many there are, then a line for each.
-fn written(alloc: Global, pieces: &[Piece]) -> Result<Vec<u8>, AllocError>
+pub(crate) fn written(alloc: Global, pieces: &[Piece]) -> Result<Vec<u8>, AllocError>
     ensures { IfOk result (λ text. IsTextOf (map ends_of pieces.now) text.items) }
 {
     let mut text = head_line(alloc, pieces.len())?;

@@ -1,25 +1,13 @@
-//! Versions of the layers, each with its finished tiles.
+//! What a version answers: where a point lies, the edges of a tile, and whether a tile is right.
 #![tactic(auto)]
 
-pub mod awaiting;
-pub mod edges_reply;
+pub mod answers;
+mod edges_reply;
 mod end_texts;
-pub mod fault;
-pub mod finishing;
 mod line_text;
-pub mod locating;
-pub mod pending_tiles;
 mod place_text;
-pub mod reporting;
-pub mod restoring;
-pub mod submitting;
-pub mod submitting_all;
-pub mod table;
-pub mod tiles;
 pub mod verifying;
-pub mod version;
 
-pub use fault::VersionFault;
-pub use finishing::Finish;
+pub use answers::Answers;
 pub use verifying::Verdict;
-pub use version::{VERSION_MAX, Version};
+pub use versions::{Finish, VERSION_MAX, Version, VersionFault};

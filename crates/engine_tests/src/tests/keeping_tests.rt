@@ -7,6 +7,7 @@ use overlay_engine::engine::Engine;
 use overlay_engine::step::Reply;
 use std::alloc::Global;
 use std::test::Fail;
+use version_core::Answers;
 use version_core::verifying::Verdict;
 
 /// How many bytes a block has, and how many of them the slots take.

@@ -8,8 +8,8 @@ use std::alloc::Global;
 use std::process::Abort;
 use std::sync::Arc;
 use tile_build::Built;
-use version_core::finishing::Finish;
-use version_core::version::Version;
+use versions::finishing::Finish;
+use versions::version::Version;
 use wkt_form::reading::read_wkt;
 
 pub const SQUARE: &str = "POLYGON ((0 0, 10 0, 10 10, 0 10, 0 0))";

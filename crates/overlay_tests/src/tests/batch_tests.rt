@@ -9,8 +9,8 @@ use layer_book::layers::Layers;
 use std::alloc::Global;
 use std::process::Abort;
 use tile_build::Built;
-use version_core::finishing::Finish;
-use version_core::version::Version;
+use versions::finishing::Finish;
+use versions::version::Version;
 
 /// Two squares, and where both are.
 const OVERLAP: &[Change] = &[

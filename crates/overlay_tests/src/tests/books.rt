@@ -22,7 +22,8 @@ use version_book::reporter::Reporter;
 use version_book::seen_log::{Head, Naming, SeenLog, open};
 use version_book::session::Session;
 use version_book::shared::Shared;
-use version_core::version::Version;
+use version_core::Answers;
+use versions::version::Version;
 
 /// A call on a book by its first session or its reporter.
 pub enum Call {

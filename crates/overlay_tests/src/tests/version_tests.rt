@@ -7,8 +7,8 @@ use layer_expr::name::Name;
 use std::alloc::Global;
 use std::process::Abort;
 use tile_build::Built;
-use version_core::finishing::Finish;
-use version_core::version::Version;
+use versions::finishing::Finish;
+use versions::version::Version;
 
 const SMALLER: Corners = &[&[(0, 0), (9, 0), (9, 9), (0, 9), (0, 0)]];
 

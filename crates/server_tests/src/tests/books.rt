@@ -14,7 +14,7 @@ use std::sync::Wait;
 use std::thread::Threads;
 use version_book::seen_log::{Head, Naming, SeenLog, open};
 use version_book::shared::Shared;
-use version_core::version::Version;
+use versions::version::Version;
 
 /// A history of one version, which is no book's yet.
 struct History {

@@ -18,7 +18,7 @@ use book_lock::session::Session;
 use layer_expr::name::Name;
 use std::alloc::Global;
 use std::sync::{Arc, Wait};
-use version_core::version::Version;
+use versions::version::Version;
 
 /// What a call waits for.
 #[derive(Clone, Copy)]

@@ -1,8 +1,8 @@
 use Rattle.std.proofs.Common.{ap, sym, ◌↔◌, subst}
 use Rattle.std.proofs.lemmas.Result.{IfOk-from_err}
 use Rattle.overlay_terms.specs.Histories.{FollowsTile}
-use Rattle.version_core.specs.Finish.{IfKept, IsAwaited, IsKept}
-use Rattle.version_core.specs.declared.fault.VersionFault.{VersionFault}
+use Rattle.versions.specs.Finish.{IfKept, IsAwaited, IsKept}
+use Rattle.versions.specs.declared.fault.VersionFault.{VersionFault}
 use Rattle.book_history.specs.declared.fault.BookFault.TheVariants as fault
 use Rattle.book_lock.proofs.making.kept_version.Goals as goal
 

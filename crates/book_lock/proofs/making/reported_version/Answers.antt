@@ -1,7 +1,7 @@
 use Rattle.std.proofs.Common.{ap, sym, subst}
 use Rattle.std.proofs.lemmas.Result.{IfOk-weaker}
 use Rattle.overlay_terms.specs.Histories.{IsReported}
-use Rattle.version_core.specs.declared.fault.VersionFault.{VersionFault}
+use Rattle.versions.specs.declared.fault.VersionFault.{VersionFault}
 use Rattle.book_history.specs.declared.fault.BookFault.TheVariants as fault
 use Rattle.book_lock.proofs.making.reported_version.Goals as goal
 

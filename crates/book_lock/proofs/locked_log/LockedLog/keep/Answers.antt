@@ -2,7 +2,7 @@ use Rattle.std.proofs.Common.{◌≡◌, None, sym, ◌∙◌, subst, refl, inl,
 use Rattle.std.proofs.lemmas.Result.{IfOk-from_err}
 use Rattle.std.specs.Arc.{arc_value}
 use Rattle.overlay_terms.specs.Histories.{kept, tile_at, Follows, FollowsTile}
-use Rattle.version_core.specs.Finish.{IsAwaited}
+use Rattle.versions.specs.Finish.{IsAwaited}
 use Rattle.book_history.specs.Logs.{newest_in}
 use Rattle.book_history.proofs.Gone.{passed}
 use Rattle.book_history.proofs.Holding.{none_kept}

@@ -1,6 +1,6 @@
 use Rattle.std.proofs.Common.{inl, inr, rules, refl, ap, sym, ◌∙◌}
 use Rattle.book_history.specs.Logs.{newest_in}
-use Rattle.version_core.specs.Building.{wait_refusal, IsBuilt}
+use Rattle.versions.specs.Building.{wait_refusal, IsBuilt}
 use Rattle.version_book.proofs.Told.{gone_err, gone_looks, gone_ok, gone_told, keeps_marks, loses_marks, not_false, test_fails, test_holds}
 use Rattle.version_book.proofs.locked_book.telling.tell_built.Goals as goal
 

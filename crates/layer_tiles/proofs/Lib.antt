@@ -1,0 +1,6 @@
+pub mod TileLists
+pub mod Restored
+pub mod Tables
+pub mod RowLemmas
+pub mod FoundLemmas
+pub mod LookLemmas

@@ -1,0 +1,82 @@
+-- Finished tiles as a table: a row for each layer, with a slot for each column.
+use Rattle.std.specs.Prelude.{◌≡◌, refl, ℕ, ◌+◌, IsTrue, List, [], ◌∷◌, ◌++◌, map, Option, Some, None, length, is_some, Bool, not, if◌then◌else◌}
+use Rattle.std.specs.List.{AllPairs, list_all, list_any}
+use Rattle.std.specs.Option.{option_map}
+use Rattle.std.specs.Arc.{arc_value}
+use Rattle.std.specs.Coded.{Coded, code_by, coded_list, coded_option, coded×}
+use Rattle.overlay_terms.specs.Column.{column_count, columns}
+use Rattle.overlay_terms.specs.Layers.{Name, Layer}
+use Rattle.overlay_terms.specs.LayerCode.{layer_code}
+use Rattle.overlay_terms.specs.InputCode.{tile_code}
+use Rattle.overlay_terms.specs.Commands.{Command}
+use Rattle.overlay_terms.specs.Touched.{is_touched}
+use Rattle.overlay_terms.specs.Histories.{Tile, Finished, tile_at}
+use Rattle.overlay_terms.specs.KeptLaws.{AreFitting}
+use Rattle.overlay_terms.specs.StoredTiles.{is_tile_before}
+use Rattle.tile_build.specs.Tile.{tile_of}
+use Rattle.layer_book.specs.Layer.{IsBook}
+use Rattle.layer_tiles.specs.declared.tiles.Slot.{Slot}
+use Rattle.layer_tiles.specs.Tiles.{AreFormed}
+use Rattle.layer_tiles.specs.TileCode.{finished_code}
+
+-- the tile in a slot
+abbrev pub tile_in_slot : Slot → Option Tile
+tile_in_slot slot = option_map (λ held. tile_of (arc_value held)) slot.tile
+
+abbrev pub row_code : Coded (List (Option Tile))
+row_code = coded_list (coded_option tile_code)
+
+-- a slot for each column; and whether each has its tile, and whether none has
+pub record IsRow (slots : List (Option Tile)) (is_full is_bare : Bool) : Type 0 where
+  pub whole : length slots ≡ column_count
+  pub full : is_full ≡ list_all is_some slots
+  pub bare : is_bare ≡ not (list_any is_some slots)
+
+-- the row that has in each column what is found there
+abbrev pub row_by : (ℕ → Option Tile) → List (Option Tile)
+row_by found = map found columns
+
+-- the rows that have for each layer and column what is found there
+abbrev pub rows_by : (Name → ℕ → Option Tile) → List Layer → List (List (Option Tile))
+rows_by found layers = map (λ (layer : Layer). row_by (found layer.name)) layers
+
+-- the tiles in the slots of a layer, from a column on
+abbrev pub row_tiles : Name → ℕ → List (Option Tile) → List Finished
+row_tiles name column [] = []
+row_tiles name column (None ∷ slots) = row_tiles name (column + 1) slots
+row_tiles name column (Some tile ∷ slots) = record { name = name; column = column; tile = tile } ∷ row_tiles name (column + 1) slots
+
+-- the tiles in rows, in the order of their layers, then of the columns
+abbrev pub tiles_of : List Layer → List (List (Option Tile)) → List Finished
+tiles_of [] rows = []
+tiles_of (layer ∷ layers) [] = []
+tiles_of (layer ∷ layers) (row ∷ rows) = row_tiles layer.name 0 row ++ tiles_of layers rows
+
+-- layers with their finished tiles
+pub record Laid : Type 0 where
+  pub layers : List Layer
+  pub tiles : List Finished
+
+abbrev pub laid_code : Coded Laid
+laid_code =
+    code_by (List Layer × List Finished) (coded× (coded_list layer_code) (coded_list finished_code)) (λ l. (l.layers, l.tiles)) (λ t. record { layers = t.0; tiles = t.1 }) (λ _. refl)
+
+-- the layers and tiles of a table
+abbrev pub laid_in : List Layer → List (List (Option Tile)) → Laid
+laid_in layers rows = record { layers = layers; tiles = tiles_of layers rows }
+
+-- layers as commands leave them, and tiles of derived layers that stand, each of its form, in the order of layers and columns
+pub record IsLaid (laid : Laid) : Type 0 where
+  pub book : IsBook laid.layers
+  pub fit : AreFitting laid.layers laid.tiles
+  pub formed : AreFormed laid.tiles
+  pub ordered : AllPairs (λ a b. IsTrue (is_tile_before laid.layers a b)) laid.tiles
+
+-- each layer has its row, and in the slot of each column its tile
+pub record IsTable (layers : List Layer) (rows : List (List (Option Tile))) : Type 0 where
+  pub laid : IsLaid (laid_in layers rows)
+  pub filled : rows ≡ rows_by (tile_at (tiles_of layers rows)) layers
+
+-- what a command leaves of the tile of a layer and column: nothing, where it touches it
+abbrev pub left_at : Laid → Command → Name → ℕ → Option Tile
+left_at laid command name k = if is_touched laid.layers command name k then None else tile_at laid.tiles name k

@@ -1,0 +1,8 @@
+//! Layers with their finished tiles: a row for each layer.
+#![tactic(auto)]
+
+pub mod table;
+pub mod tiles;
+
+pub use table::Table;
+pub use tiles::TileRow;

@@ -1,0 +1,4 @@
+pub mod NextVersion
+pub mod BuiltLemmas
+pub mod NextBatch
+pub mod PendingLemmas

@@ -1,0 +1,105 @@
+//! Keeping a built tile.
+ghost use Rattle.std.specs.Prelude.{◌≡◌, ◌↔◌, ◌<◌, IsTrue, IfOk, IfErr};
+ghost use Rattle.overlay_terms.specs.Column.{column_count};
+ghost use Rattle.overlay_terms.specs.Histories.{FollowsTile, IsTileAt, is_formed, pieces_max};
+ghost use Rattle.tile_build.specs.Tile.{tile_of};
+ghost use Rattle.versions.specs.Finish.{IfKept, IsAwaited, IsKept, IsPending};
+
+use crate::fault::VersionFault;
+use crate::version::Version;
+use arrange::TileInput;
+use layer_book::fault::LayerFault;
+use layer_expr::name::Name;
+use std::alloc::{AllocError, Global};
+use std::sync::Arc;
+use tile_build::{Built, Tile};
+
+/// What became of a built tile.
+#[derive(Debug, Drop)]
+pub enum Finish {
+    /// The version with the tile.
+    Kept(Version),
+    /// Nothing changes: the tile is not awaited any more.
+    Stale,
+}
+
+impl Version {
+    /// Keeps a built tile of a layer, where it is awaited. Where memory runs out it comes back.
+    pub fn finish(
+        &self,
+        alloc: Global,
+        name: &Name,
+        built: Built,
+    ) -> Result<Finish, (Built, VersionFault)>
+        ensures kept { IfOk result (λ finish. IfKept finish (λ next. FollowsTile self.now name.now built.0.column built.1 next)) }
+        ensures exactly { IfOk result (λ finish. IsKept finish ↔ IsAwaited self.now name.now built.0) }
+        ensures err { IfErr result (λ e. (e.0 ≡ built) × (e.1 ≡ VersionFault.Layer LayerFault.OutOfMemory)) }
+        ensures pending { IfErr result (λ _. IsPending self.now name.now built.0.column) }
+    {
+        match self.finish_with(alloc, name, &built) {
+            Ok(finish) => Ok(finish),
+            Err(fault) => Err((built, fault)),
+        }
+    }
+
+    /// The same for a built tile that the caller keeps, until all else that can fail is done.
+    pub fn finish_with(
+        &self,
+        alloc: Global,
+        name: &Name,
+        built: &Built,
+    ) -> Result<Finish, VersionFault>
+        ensures kept { IfOk result (λ finish. IfKept finish (λ next. FollowsTile self.now name.now built.now.0.column built.now.1 next)) }
+        ensures exactly { IfOk result (λ finish. IsKept finish ↔ IsAwaited self.now name.now built.now.0) }
+        ensures err { IfErr result (λ fault. fault ≡ VersionFault.Layer LayerFault.OutOfMemory) }
+        ensures pending { IfErr result (λ _. IsPending self.now name.now built.now.0.column) }
+    {
+        if self.is_awaited(name, built.input()) {
+            Ok(Finish::Kept(self.with_tile(alloc, name, built)?))
+        } else {
+            Ok(Finish::Stale)
+        }
+    }
+
+    /// Whether the tile of an input is awaited: it is pending, and the input is the present one. It takes no memory.
+    pub(crate) fn is_awaited(&self, name: &Name, input: &TileInput) -> bool
+        ensures { IsTrue result ↔ IsAwaited self.now name.now input.now }
+    {
+        let column = input.column().number();
+        if !self.layers().stands_as_derived(name) {
+            return false;
+        }
+        if self.tile(name, column).is_some() {
+            return false;
+        }
+        self.layers().has_input(name, input)
+    }
+
+    /// The version with a built tile more, which is awaited.
+    fn with_tile(&self, alloc: Global, name: &Name, built: &Built) -> Result<Version, AllocError>
+        requires { IsAwaited self.now name.now built.now.0 }
+        ensures { IfOk result (λ next. FollowsTile self.now name.now built.now.0.column built.now.1 next) }
+    {
+        let table = self.table(alloc)?;
+        let tile = kept_tile(alloc, built)?;
+        let column = built.input().column();
+        let made = table.with_tile(alloc, name, column, tile)?;
+        let next = Arc::new(alloc, made)?;
+        let number = self.number();
+        let durable = self.durable();
+        Ok(Version::of(number, durable, next))
+    }
+}
+
+/// A built tile as versions share it.
+fn kept_tile(alloc: Global, built: &Built) -> Result<Arc<Tile>, AllocError>
+    ensures value { IfOk result (λ tile. tile_of tile.value ≡ built.now.1) }
+    ensures formed { IfOk result (λ _. IsTrue (is_formed built.now.1 built.now.0.column)) }
+    ensures right { IsTileAt pieces_max built.now.0 built.now.1 }
+    ensures known { built.now.0.column < column_count }
+{
+    // The tile is one of its input's column by the type: the clauses rest on that.
+    let _ = built.input().column();
+    let copy = built.tile().try_copy(alloc)?;
+    Ok(Arc::new(alloc, copy)?)
+}
