@@ -2,13 +2,13 @@
 """Stops, failing calls and damaged files: what a store is recovered as after each.
 
 python3 bench/trials/damages.py [PROGRAM SESSIONS]
+python3 bench/trials/damages.py --test
 
-Builds the programs of bench/trials/damages and sessions, unproved (minutes), or takes built ones. In memory a store is
-made, opened and committed to, one of format 1 too (old_files.py), while the disk stops at each call or one call fails:
-30 comes exactly there, and what the disk may hold is recovered as the old or the new content. Then files are cut to
-each length, altered by name, and each byte and bit of them is changed: answers are those of
-bench/reference/read_store.py, and VERIFY of each tile returns. At last sessions whose reader or writer fails. Status 1:
-anything is wrong.
+Builds its two programs, unproved (minutes), or takes built ones. In memory a store is made, opened and committed to,
+one of format 1 too (old_files.py), while the disk stops at each call or one call fails: 30 comes exactly there, and
+what the disk may hold is recovered as the old or the new content. Then files are cut to each length, altered by name,
+and each byte and bit of them is changed: answers are those of bench/reference/read_store.py, and VERIFY of each tile
+returns. At last sessions whose reader or writer fails. Status 1: anything is wrong.
 """
 
 import argparse
@@ -269,11 +269,37 @@ def of_format_1(program, folder):
     return wrong
 
 
+def test():
+    """Looks at the files of format 1 by the reader that stands by itself, and at the alterations of one."""
+    six, released = old_files.in_six_blocks(), old_files.released()
+    layers = {name: read_by_itself(data) for name, data in (("six", six), ("released", released))}
+    one = "MULTIPOLYGON (((0 0, 10 0, 10 10, 0 10, 0 0)))"
+    two = "MULTIPOLYGON (((5 5, 15 5, 15 15, 5 15, 5 5)))"
+    checks = [
+        ("six", layers["six"], ("version 2", f"layers 2;A {one};I = A;")),
+        ("released", layers["released"], ("version 3", f"layers 3;A {one};B {two};I = A & B;")),
+        ("tiles of released", len(old_files.tiles_of(released)), read_store.OLD_COLUMNS),
+        ("bytes of six", len(offsets_of(six)), 2 * SLOT + 61 + 44 + 1 + 142),
+    ]
+    checks += [
+        (name, read_by_itself(apply(data, len(data), changes))[0], wanted)
+        for name, data, changes, wanted in named_old(six)
+    ]
+    wrong = [check for check in checks if check[1] != check[2]]
+    for name, found, wanted in wrong:
+        print(f"{name}: {found}, not {wanted}")
+    print(f"{len(checks) - len(wrong)} passed, {len(wrong)} failed")
+    return 1 if wrong else 0
+
+
 def main():
     parser = argparse.ArgumentParser(description=__doc__, formatter_class=argparse.RawDescriptionHelpFormatter)
     parser.add_argument("program", type=pathlib.Path, nargs="?")
     parser.add_argument("sessions", type=pathlib.Path, nargs="?")
+    parser.add_argument("--test", action="store_true", help="test the script itself")
     words = parser.parse_args()
+    if words.test:
+        return test()
     given = [one for one in (words.program, words.sessions) if one]
     if len(given) == 1:
         parser.error("a program without sessions")

@@ -265,9 +265,11 @@ def replies_behind(session, place, word):
     return [reply for reply in session.replies[place + 1 :] if reply[0].startswith(word)]
 
 
-def but_closing(outcome, told, fault):
-    """What was told but for 43: this is right where the server closes, as a thread could not be started (40)."""
-    closes = outcome.is_early and fault == 40
+def but_closing(outcome, judged, told, fault):
+    """What was told but for 43: this is right where the server closes, as a thread could not be started (40): one that
+    comes before the sessions, or that of a session, which has no reply then.
+    """
+    closes = fault == 40 and (outcome.is_early or any(not session.replies for session in cut(judged)))
     return [one for one in told if not (closes and one[2] == 43)]
 
 
@@ -276,7 +278,7 @@ def one_growth(outcome, judged):
     until the next accepted command, and status 1 where none comes; or the run ends with it.
     """
     *told, fault = told_outside(outcome, judged)
-    lines, syncs = (but_closing(outcome, each, fault) for each in told)
+    lines, syncs = (but_closing(outcome, judged, each, fault) for each in told)
     only({code for _, _, code in lines + syncs}, {40})
     only(set() if fault is None else {fault}, {40, 49})
     check_cut(outcome, judged, fault)
@@ -294,7 +296,7 @@ def one_growth(outcome, judged):
 def many_growths(outcome, judged):
     """What growths may do that are refused again and again: whatever is told is 40."""
     lines, syncs, fault = told_outside(outcome, judged)
-    only({code for _, _, code in but_closing(outcome, lines + syncs, fault)}, {40})
+    only({code for _, _, code in but_closing(outcome, judged, lines + syncs, fault)}, {40})
     only(set() if fault is None else {fault}, {40, 49})
 
 
