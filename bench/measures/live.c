@@ -1,4 +1,4 @@
-/* Asks lines over a pair of pipes one at a time, and answers them as a bare pipe's other end does, for bench/measures/live.py.
+/* Asks lines over a pair of pipes one at a time, and answers them as a bare pipe's other end does, for live.py.
 
    live echo: answers each line of standard input by `out`.
    live ask FILE ROUNDS TO BACK: sends the lines of FILE so many times on the descriptor TO, each when the reply to the

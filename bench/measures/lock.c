@@ -1,4 +1,4 @@
-/* Times taking a counted value from behind a mutex, for bench/measures/snapshots.py: prints the nanoseconds of one, alone and
+/* Times taking a counted value from behind a mutex, for snapshots.py: prints the nanoseconds of one, alone and
    while another thread changes the value. */
 #include <pthread.h>
 #include <stdatomic.h>

@@ -1,4 +1,4 @@
-/* Times what one commit costs the file alone: the writes of a commit and its three syncs, for bench/measures/serving.py.
+/* Times what one commit costs the file alone: the writes of a commit and its three syncs, for serving.py.
 
    sync FILE COUNT BLOCKS: makes a file of 64 blocks, then COUNT times writes a byte and syncs, writes BLOCKS blocks and
    a body of 48 bytes and syncs, writes a byte and syncs. Prints the seconds of such a round, the mean of all. */
