@@ -9,3 +9,4 @@ pub mod PendingLemmas
 pub mod EdgeLemmas
 pub mod LineLemmas
 pub mod VerdictLemmas
+pub mod LateLemmas
