@@ -4,3 +4,4 @@ pub mod Tables
 pub mod RowLemmas
 pub mod FoundLemmas
 pub mod LookLemmas
+pub mod LateLemmas

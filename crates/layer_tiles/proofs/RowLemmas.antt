@@ -2,7 +2,6 @@
 use Rattle.std.specs.Prelude.{◌≡◌, ℕ, ◌+◌, ◌<◌, ◌≤◌, ◌&&◌, is_some, Bool, true, false, not, List, [], ◌∷◌, ◌++◌, map, set, take, replicate, slice_get, Option, Some, None, if◌then◌else◌}
 use Rattle.std.specs.List.{range_with_len, list_any}
 use Rattle.std.proofs.Common.{zero, suc, nat_lt, length, get_or, refl, ap, sym, subst, ◌∙◌, add-one, add-zero, arith}
-use Rattle.std.proofs.lemmas.Bool.{not-true}
 use Rattle.std.proofs.lemmas.Bool.Decides.{nat_tests}
 use Rattle.std.proofs.lemmas.List.{map-append}
 use Rattle.overlay_terms.specs.Column.{column_count}
@@ -21,12 +20,6 @@ range_more a (suc n) =
     let last : (a + 1) + n ≡ a + suc n = omega arith in
     ap (λ ks. a ∷ ks) (range_more (a + 1) n) ∙ ap (λ k. a ∷ (range_with_len (a + 1) n ++ k ∷ [])) last
 
--- the tile of a slot in a row
-pub slot_there : (slots : List Slot) (i : ℕ) (slot : Slot) → i < length slots → slot ≡ get_or slots i slot → get_or (map tile_in_slot slots) i None ≡ tile_in_slot slot
-slot_there [] i slot h e = absurd (omega arith)
-slot_there (s ∷ slots) zero slot h e = ap tile_in_slot (sym e)
-slot_there (s ∷ slots) (suc i) slot h e = slot_there slots i slot (omega arith) e
-
 -- the tiles of slots, one of which is replaced
 pub map_set : (slots : List Slot) (i : ℕ) (slot : Slot) → map tile_in_slot (set slots i slot) ≡ set (map tile_in_slot slots) i (tile_in_slot slot)
 map_set [] zero slot = refl
@@ -41,14 +34,13 @@ length_set (s ∷ slots) zero slot = refl
 length_set (s ∷ slots) (suc i) slot = ap suc (length_set slots i slot)
 
 -- one slot more of those that are left
-pub left_more : (slots : List Slot) (marks : List Bool) (made after : List Slot) (slot kept : Slot) (i : ℕ) → i < length slots → slot ≡ get_or slots i slot
-    → tile_in_slot kept ≡ (if get_or marks i false then None else tile_in_slot slot)
-    → map tile_in_slot made ≡ map (λ k. if get_or marks k false then None else get_or (map tile_in_slot slots) k None) (range_with_len 0 i)
-    → after ≡ made ++ kept ∷ [] → map tile_in_slot after ≡ map (λ k. if get_or marks k false then None else get_or (map tile_in_slot slots) k None) (range_with_len 0 (i + 1))
-left_more slots marks made after slot kept i h there left so_far pushed =
-    let at : ℕ → Option Tile = λ k. if get_or marks k false then None else get_or (map tile_in_slot slots) k None in
+pub left_more : (row : List (Option Tile)) (marks : List Bool) (made after : List Slot) (kept : Slot) (i : ℕ)
+    → tile_in_slot kept ≡ (if get_or marks i false then None else get_or row i None)
+    → map tile_in_slot made ≡ map (λ k. if get_or marks k false then None else get_or row k None) (range_with_len 0 i)
+    → after ≡ made ++ kept ∷ [] → map tile_in_slot after ≡ map (λ k. if get_or marks k false then None else get_or row k None) (range_with_len 0 (i + 1))
+left_more row marks made after kept i here so_far pushed =
+    let at : ℕ → Option Tile = λ k. if get_or marks k false then None else get_or row k None in
     let start : 0 + i ≡ i = omega arith in
-    let here : tile_in_slot kept ≡ at i = left ∙ ap (λ o. if get_or marks i false then None else o) (sym (slot_there slots i slot h there)) in
     ap (map tile_in_slot) pushed ∙ map-append tile_in_slot made (kept ∷ []) ∙ (λ x. so_far x ++ here x ∷ [])
     ∙ sym (ap (λ n. map at (range_with_len 0 n)) (add-one i) ∙ ap (map at) (range_more 0 i ∙ ap (λ j. range_with_len 0 i ++ j ∷ []) start) ∙ map-append at (range_with_len 0 i) (i ∷ []))
 
@@ -92,9 +84,9 @@ module _ (marks : List Bool) (row : List (Option Tile)) where
   nothing_there (None ∷ slots) (suc k) e = nothing_there slots k e
   nothing_there (Some tile ∷ slots) k e = absurd (cc)
 
-  pub bare_stays : (is_bare : Bool) → is_bare ≡ not (list_any is_some row) → is_bare ≡ true → (k : ℕ) → left_at_column k ≡ get_or row k None
-  bare_stays is_bare told none k =
-      let nothing = nothing_there row k (not-true (list_any is_some row) (sym told ∙ none)) in
+  pub bare_stays : list_any is_some row ≡ false → (k : ℕ) → left_at_column k ≡ get_or row k None
+  bare_stays none k =
+      let nothing = nothing_there row k none in
       ap (λ (o : Option Tile). if get_or marks k false then None else o) nothing ∙ none_either (get_or marks k false) ∙ sym nothing
     where
       none_either : (b : Bool) → ◌≡◌ {A = Option Tile} (if b then None else None) None

@@ -1,6 +1,6 @@
 -- Finished tiles as a table: a row for each layer, with a slot for each column.
-use Rattle.std.specs.Prelude.{◌≡◌, refl, ℕ, ◌+◌, IsTrue, List, [], ◌∷◌, ◌++◌, map, Option, Some, None, length, is_some, Bool, not, if◌then◌else◌}
-use Rattle.std.specs.List.{AllPairs, list_all, list_any}
+use Rattle.std.specs.Prelude.{◌≡◌, refl, ℕ, ◌+◌, IsTrue, List, [], ◌∷◌, ◌++◌, map, set, Option, Some, None, length, if◌then◌else◌}
+use Rattle.std.specs.List.{AllPairs}
 use Rattle.std.specs.Option.{option_map}
 use Rattle.std.specs.Arc.{arc_value}
 use Rattle.std.specs.Coded.{Coded, code_by, coded_list, coded_option, coded×}
@@ -15,6 +15,8 @@ use Rattle.overlay_terms.specs.KeptLaws.{AreFitting}
 use Rattle.overlay_terms.specs.StoredTiles.{is_tile_before}
 use Rattle.tile_build.specs.Tile.{tile_of}
 use Rattle.layer_book.specs.Layer.{IsBook}
+use Rattle.layer_tiles.specs.declared.tiles.LateTile.{LateTile}
+use Rattle.layer_tiles.specs.declared.tiles.RowParts.{RowParts}
 use Rattle.layer_tiles.specs.declared.tiles.Slot.{Slot}
 use Rattle.layer_tiles.specs.Tiles.{AreFormed}
 use Rattle.layer_tiles.specs.TileCode.{finished_code}
@@ -26,11 +28,25 @@ tile_in_slot slot = option_map (λ held. tile_of (arc_value held)) slot.tile
 abbrev pub row_code : Coded (List (Option Tile))
 row_code = coded_list (coded_option tile_code)
 
--- a slot for each column; and whether each has its tile, and whether none has
-pub record IsRow (slots : List (Option Tile)) (is_full is_bare : Bool) : Type 0 where
-  pub whole : length slots ≡ column_count
-  pub full : is_full ≡ list_all is_some slots
-  pub bare : is_bare ≡ not (list_any is_some slots)
+-- a row after tiles were put into it, the last one first
+abbrev pub put_all : List LateTile → List (Option Tile) → List (Option Tile)
+put_all [] row = row
+put_all (late ∷ earlier) row = set (put_all earlier row) late.column (Some (tile_of (arc_value late.tile)))
+
+-- the row of its parts
+abbrev pub row_of : RowParts → List (Option Tile)
+row_of parts = put_all parts.late.items (map tile_in_slot (arc_value parts.slots).items)
+
+-- how many columns of a row have no tile
+abbrev pub count_missing : List (Option Tile) → ℕ
+count_missing [] = 0
+count_missing (None ∷ row) = count_missing row + 1
+count_missing (Some tile ∷ row) = count_missing row
+
+-- a slot for each column; and how many tiles are missing
+pub record IsRow (parts : RowParts) (missing : ℕ) : Type 0 where
+  pub whole : length (row_of parts) ≡ column_count
+  pub told : missing ≡ count_missing (row_of parts)
 
 -- the row that has in each column what is found there
 abbrev pub row_by : (ℕ → Option Tile) → List (Option Tile)

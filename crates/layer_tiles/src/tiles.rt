@@ -1,10 +1,11 @@
 //! Rows of finished tiles.
-ghost use Rattle.std.specs.Prelude.{◌≡◌, ◌<◌, ◌&&◌, None, Some, false, not, get_or, is_some, length, map, replicate, set, take, IfOk, IsTrue, if◌then◌else◌};
-ghost use Rattle.std.specs.List.{list_all, list_any};
+ghost use Rattle.std.specs.Prelude.{◌≡◌, ◌<◌, ◌&&◌, None, Some, false, not, get_or, is_some, length, map, replicate, set, IfNone, IfOk, IfSome, IsTrue, if◌then◌else◌, List, Option};
+ghost use Rattle.std.specs.List.{list_all};
 ghost use Rattle.std.specs.Option.{option_map};
 ghost use Rattle.overlay_terms.specs.Column.{column_count};
+ghost use Rattle.overlay_terms.specs.Histories as terms;
 ghost use Rattle.tile_build.specs.Tile.{tile_of};
-ghost use Rattle.layer_tiles.specs.Table.{row_by, tile_in_slot};
+ghost use Rattle.layer_tiles.specs.Table.{count_missing, put_all, row_by, row_of, tile_in_slot, IsRow};
 
 use layer_book::touching::COLUMNS;
 use plane_base::Column;
@@ -19,61 +20,43 @@ pub struct Slot {
     tile: Option<Arc<Tile>>,
 }
 
-impl Clone for Slot {
-    ghost is_clone = { λ slot copy. tile_in_slot copy ≡ tile_in_slot slot };
-
-    fn clone(&self) -> Result<Slot, AllocError> {
-        match &self.tile {
-            Some(tile) => Ok(Slot {
-                tile: Some(tile.clone()?),
-            }),
-            None => Ok(Slot { tile: None }),
-        }
-    }
+/// A tile that was put into a row, with its column.
+#[derive(Debug, Drop)]
+pub struct LateTile {
+    column: Column,
+    tile: Arc<Tile>,
 }
 
-impl Slot {
-    fn is_filled(&self) -> bool
-        ensures { result ≡ is_some (tile_in_slot self.now) }
-    {
-        match &self.tile {
-            Some(_) => true,
-            None => false,
-        }
-    }
+/// How many tiles are put beside the slots of a row before all are copied into slots of their own. So a tile more costs
+/// few copies, and not one for each column.
+const LATE_MOST: usize = 6;
 
-    /// The slot, or an empty one where its tile is gone.
-    fn left(&self, is_gone: bool) -> Result<Slot, AllocError>
-        ensures { IfOk result (λ slot. tile_in_slot slot ≡ (if is_gone then None else tile_in_slot self.now)) }
-    {
-        if is_gone {
-            return Ok(Slot { tile: None });
-        }
-        self.clone()
-    }
+/// The slots of a row, which rows share, and the tiles that were put into it since, the last one first.
+#[derive(Debug, Drop)]
+pub struct RowParts {
+    slots: Arc<Vec<Slot>>,
+    late: Vec<LateTile>,
 }
 
-/// The finished tiles of a layer, a slot for each column. Tables share it. It knows whether it has all of them, and
-/// whether it has none.
+/// The finished tiles of a layer, by column. Tables share it. It knows how many are missing.
 #[derive(Debug, Drop)]
 pub struct TileRow {
-    slots: Arc<Vec<Slot>>,
-    is_full: bool,
-    is_bare: bool,
+    parts: Arc<RowParts>,
+    missing: usize,
 }
 
 impl Model for TileRow {
-    ghost use Rattle.std.specs.Prelude.{List, Option, map};
+    ghost use Rattle.std.specs.Prelude.{List, Option};
     ghost use Rattle.overlay_terms.specs.Histories as terms;
-    ghost use Rattle.layer_tiles.specs.Table.{row_code, tile_in_slot, IsRow};
+    ghost use Rattle.layer_tiles.specs.Table.{row_code, row_of, IsRow};
 
     ghost Value = { List (Option terms.Tile) };
 
     ghost coded = { row_code };
 
-    ghost view = { λ r. map tile_in_slot r.slots.value.items };
+    ghost view = { λ r. row_of r.parts.value };
 
-    ghost invariant = { λ r. IsRow (map tile_in_slot r.slots.value.items) r.is_full r.is_bare };
+    ghost invariant = { λ r. IsRow r.parts.value r.missing };
 }
 
 impl TileRow {
@@ -89,14 +72,22 @@ impl TileRow {
         requires { length slots.items ≡ column_count }
         ensures { IfOk result (λ row. row ≡ map tile_in_slot slots.items) }
     {
-        let is_full = are_filled(&slots);
-        let is_bare = are_bare(&slots);
+        let missing = missing_in(&slots);
         let slots = Arc::new(alloc, slots)?;
-        Ok(TileRow {
+        let parts = RowParts {
             slots,
-            is_full,
-            is_bare,
-        })
+            late: Vec::new(alloc),
+        };
+        TileRow::by(alloc, parts, missing)
+    }
+
+    /// The row of its parts, which miss so many tiles.
+    fn by(alloc: Global, parts: RowParts, missing: usize) -> Result<TileRow, AllocError>
+        requires { IsRow parts missing }
+        ensures { IfOk result (λ row. row ≡ row_of parts) }
+    {
+        let parts = Arc::new(alloc, parts)?;
+        Ok(TileRow { parts, missing })
     }
 
     /// The same row, shared by one more.
@@ -105,9 +96,8 @@ impl TileRow {
         ensures whole { length self.now ≡ column_count }
     {
         Ok(TileRow {
-            slots: self.slots.clone()?,
-            is_full: self.is_full,
-            is_bare: self.is_bare,
+            parts: self.parts.clone()?,
+            missing: self.missing,
         })
     }
 
@@ -115,13 +105,7 @@ impl TileRow {
     pub fn tile_at(&self, number: usize) -> Option<&Arc<Tile>>
         ensures { option_map (λ tile. tile_of tile.now.value) result ≡ get_or self.now number None }
     {
-        match self.slots.get(number) {
-            Some(slot) => match &slot.tile {
-                Some(tile) => Some(tile),
-                None => None,
-            },
-            None => None,
-        }
+        self.parts.tile_at(number)
     }
 
     /// Whether a column has its tile.
@@ -135,7 +119,7 @@ impl TileRow {
     pub fn is_full(&self) -> bool
         ensures { result ≡ list_all is_some self.now }
     {
-        self.is_full
+        self.missing == 0
     }
 
     /// The row with a tile more, or in the place of the one that is there.
@@ -147,10 +131,22 @@ impl TileRow {
     ) -> Result<TileRow, AllocError>
         ensures { IfOk result (λ row. row ≡ set self.now column (Some (tile_of tile.value))) }
     {
-        let mut slots = copied(alloc, &self.slots)?;
-        put(&mut slots, column, tile);
-        let row = TileRow::of(alloc, slots)?;
-        Ok(row)
+        let missing = self.missing_with(column);
+        let parts = self.parts.with(alloc, column, tile)?;
+        TileRow::by(alloc, parts, missing)
+    }
+
+    /// How many tiles are missing where a column has one.
+    fn missing_with(&self, column: Column) -> usize
+        ensures { (tile : terms.Tile) → result ≡ count_missing (set self.now column (Some tile)) }
+    {
+        // A column is below their number by its type: the clause rests on that.
+        let _ = column.number();
+        if self.has(column) {
+            self.missing
+        } else {
+            self.missing - 1
+        }
     }
 
     /// The row without the tiles of the columns that are marked. Where it has none of them it is shared; where it has no
@@ -170,7 +166,7 @@ impl TileRow {
         if self.is_left_bare(marks) {
             return bare.share();
         }
-        let slots = left_in(alloc, &self.slots, marks)?;
+        let slots = left_in(alloc, &self.parts, marks)?;
         TileRow::of(alloc, slots)
     }
 
@@ -178,7 +174,7 @@ impl TileRow {
     fn is_left_whole(&self, marks: &[bool; COLUMNS]) -> bool
         ensures { IsTrue result → (k : _) → k < column_count → (if get_or marks.now k false then None else get_or self.now k None) ≡ get_or self.now k None }
     {
-        if self.is_bare {
+        if self.missing == COLUMNS {
             return true;
         }
         for number in 0..COLUMNS {
@@ -230,6 +226,85 @@ impl TileRow {
     }
 }
 
+impl RowParts {
+    /// The tile of the column that has a number, if one has.
+    fn tile_at(&self, number: usize) -> Option<&Arc<Tile>>
+        requires { length (row_of self.now) ≡ column_count }
+        ensures { option_map (λ tile. tile_of tile.now.value) result ≡ get_or (row_of self.now) number None }
+    {
+        match late_at(&self.late, number) {
+            Some(tile) => Some(tile),
+            None => slot_at(&self.slots, number),
+        }
+    }
+
+    /// The parts with a tile more, or in the place of the one that is there.
+    fn with(&self, alloc: Global, column: Column, tile: Arc<Tile>) -> Result<RowParts, AllocError>
+        requires { length (row_of self.now) ≡ column_count }
+        ensures { IfOk result (λ parts. row_of parts ≡ set (row_of self.now) column (Some (tile_of tile.value))) }
+    {
+        if self.late.len() < LATE_MOST {
+            let late = with_late(alloc, &self.late, column, tile)?;
+            return Ok(RowParts {
+                slots: self.slots.clone()?,
+                late,
+            });
+        }
+        let mut slots = left_in(alloc, self, &[false; COLUMNS])?;
+        put(&mut slots, column, tile);
+        Ok(RowParts {
+            slots: Arc::new(alloc, slots)?,
+            late: Vec::new(alloc),
+        })
+    }
+}
+
+/// The tile that was put into the column with a number last, if one was.
+fn late_at(late: &[LateTile], number: usize) -> Option<&Arc<Tile>>
+    ensures some { IfSome result (λ tile. (row : List (Option terms.Tile)) → length row ≡ column_count → get_or (put_all late.now row) number None ≡ Some (tile_of tile.now.value)) }
+    ensures none { IfNone result ((row : List (Option terms.Tile)) → get_or (put_all late.now row) number None ≡ get_or row number None) }
+{
+    for one in late {
+        if usize::from(one.column.number()) == number {
+            return Some(&one.tile);
+        }
+    }
+    None
+}
+
+/// The tile in the slot of the column with a number, if there is one.
+fn slot_at(slots: &[Slot], number: usize) -> Option<&Arc<Tile>>
+    ensures { option_map (λ tile. tile_of tile.now.value) result ≡ get_or (map tile_in_slot slots.now) number None }
+{
+    match slots.get(number) {
+        Some(slot) => match &slot.tile {
+            Some(tile) => Some(tile),
+            None => None,
+        },
+        None => None,
+    }
+}
+
+/// A tile and behind it those that were put into the row before.
+fn with_late(
+    alloc: Global,
+    late: &[LateTile],
+    column: Column,
+    tile: Arc<Tile>,
+) -> Result<Vec<LateTile>, AllocError>
+    ensures { IfOk result (λ with. (row : List (Option terms.Tile)) → put_all with.items row ≡ set (put_all late.now row) column (Some (tile_of tile.value))) }
+{
+    let mut with = Vec::with_capacity(alloc, late.len() + 1)?;
+    with.push(LateTile { column, tile })?;
+    for one in late {
+        with.push(LateTile {
+            column: one.column,
+            tile: one.tile.clone()?,
+        })?;
+    }
+    Ok(with)
+}
+
 /// Puts a tile into the slot of a column.
 fn put(slots: &mut Vec<Slot>, column: Column, tile: Arc<Tile>)
     requires { length slots.old.items ≡ column_count }
@@ -238,17 +313,33 @@ fn put(slots: &mut Vec<Slot>, column: Column, tile: Arc<Tile>)
     slots[usize::from(column.number())] = Slot { tile: Some(tile) };
 }
 
-/// The slots, of which those that are marked are empty.
-fn left_in(alloc: Global, slots: &[Slot], marks: &[bool; COLUMNS]) -> Result<Vec<Slot>, AllocError>
-    requires { length slots.now ≡ column_count }
-    ensures { IfOk result (λ left. map tile_in_slot left.items ≡ row_by (λ k. if get_or marks.now k false then None else get_or (map tile_in_slot slots.now) k None)) }
+/// The tiles of a row in slots of their own, but for those of the columns that are marked.
+fn left_in(
+    alloc: Global,
+    parts: &RowParts,
+    marks: &[bool; COLUMNS],
+) -> Result<Vec<Slot>, AllocError>
+    requires { length (row_of parts.now) ≡ column_count }
+    ensures { IfOk result (λ left. map tile_in_slot left.items ≡ row_by (λ k. if get_or marks.now k false then None else get_or (row_of parts.now) k None)) }
 {
     let mut left = Vec::with_capacity(alloc, COLUMNS)?;
     for i in 0..COLUMNS {
-        let kept = slots[i].left(marks[i])?;
+        let kept = slot_of(parts.tile_at(i), marks[i])?;
         left.push(kept)?;
     }
     Ok(left)
+}
+
+/// The slot of a tile, or an empty one where it is gone.
+fn slot_of(tile: Option<&Arc<Tile>>, is_gone: bool) -> Result<Slot, AllocError>
+    ensures { IfOk result (λ slot. tile_in_slot slot ≡ (if is_gone then None else option_map (λ held. tile_of held.now.value) tile.entry)) }
+{
+    match tile {
+        Some(tile) if !is_gone => Ok(Slot {
+            tile: Some(tile.clone()?),
+        }),
+        _ => Ok(Slot { tile: None }),
+    }
 }
 
 /// A slot for each column, each empty.
@@ -262,37 +353,15 @@ fn no_tiles(alloc: Global) -> Result<Vec<Slot>, AllocError>
     Ok(slots)
 }
 
-/// Whether each slot has a tile.
-fn are_filled(slots: &[Slot]) -> bool
-    ensures { result ≡ list_all is_some (map tile_in_slot slots.now) }
+/// How many slots have no tile.
+fn missing_in(slots: &[Slot]) -> usize
+    ensures { result ≡ count_missing (map tile_in_slot slots.now) }
 {
+    let mut missing = 0;
     for slot in slots {
-        if !slot.is_filled() {
-            return false;
+        if slot.tile.is_none() {
+            missing += 1;
         }
     }
-    true
-}
-
-/// Whether no slot has a tile.
-fn are_bare(slots: &[Slot]) -> bool
-    ensures { result ≡ not (list_any is_some (map tile_in_slot slots.now)) }
-{
-    for slot in slots {
-        if slot.is_filled() {
-            return false;
-        }
-    }
-    true
-}
-
-/// The same slots, whose tiles are shared.
-fn copied(alloc: Global, slots: &[Slot]) -> Result<Vec<Slot>, AllocError>
-    ensures { IfOk result (λ copies. map tile_in_slot copies.items ≡ map tile_in_slot slots.now) }
-{
-    let mut copies = Vec::with_capacity(alloc, slots.len())?;
-    for slot in slots {
-        copies.push(slot.clone()?)?;
-    }
-    Ok(copies)
+    missing
 }

@@ -56,8 +56,10 @@ fn free_at<'a>(
     ensures some { IfSome result (λ r. IsFree version.now held.now.list.items r.0.now r.1) }
     ensures none { IfNone result (AreHeldAt version.now held.now.list.items place) }
 {
-    if let Some((name, _layer, row)) = version.at(place) {
-        if version.layers().stands_as_derived(name) {
+    if let Some((name, layer, row)) = version.at(place) {
+        // The layers of a version are in order by its type: the clauses rest on that.
+        let _ = version.layers().len();
+        if layer.is_derived() {
             if let Some(column) = free_column(version, held, name, row, from) {
                 return Some((name, column));
             }

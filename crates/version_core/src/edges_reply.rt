@@ -94,7 +94,8 @@ fn put_left(line: &mut LineText, texts: &mut EndTexts, name: &PointName)
     texts.take_left(mark);
 }
 
-/// Puts down the place that a name stands for. The text of a whole point is not kept: it is made as fast.
+/// Puts down the place that a name stands for. The text of a whole point is not kept: it is made as fast. That of a place
+/// on a border is not either: mostly one piece of the column ends there.
 fn put_end(line: &mut LineText, texts: &mut EndTexts, name: &PointName, mark: u32)
     requires named { HasPlace name.now }
     requires room { length line.old ≤ 128 }
@@ -104,11 +105,24 @@ fn put_end(line: &mut LineText, texts: &mut EndTexts, name: &PointName, mark: u3
         line.put_whole(*point);
         return;
     }
+    if let PointName::Border(_, _) = name {
+        put_once(line, name);
+        return;
+    }
     if let Some(kept) = texts.find(name, mark) {
         line.put_text(&kept.text);
         return;
     }
     put_made(line, texts, name, mark);
+}
+
+/// Puts down the place of a name whose text is not kept.
+fn put_once(line: &mut LineText, name: &PointName)
+    requires named { HasPlace name.now }
+    requires room { length line.old ≤ 128 }
+    ensures { HasEndBefore line.old line.new (place_of name.now) }
+{
+    let _ = line.put_place(&reduced(&name.known_point()));
 }
 
 /// Puts down the place of a name whose text is not kept, and keeps it.

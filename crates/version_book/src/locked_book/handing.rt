@@ -52,7 +52,8 @@ impl<J: Naming, R: Wait + Drop> LockedBook<J, R> {
             job.end();
             return Err(NO_MEMORY);
         }
-        let place = self.log.last().version.layers().index_of(job.name());
+        let layers = self.log.last().version.layers();
+        let place = layers.index_near(self.near.0, job.name());
         self.near = (place, column.number());
         Ok(Some(job))
     }

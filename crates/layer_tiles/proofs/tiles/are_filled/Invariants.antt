@@ -1,8 +1,0 @@
-use Rattle.std.proofs.Common.{◌≡◌, map, drop, is_some}
-use Rattle.std.specs.List.{list_all}
-use Rattle.layer_tiles.specs.Table.{tile_in_slot}
-use Rattle.layer_tiles.proofs.tiles.are_filled.Given as goal
-
--- each slot so far has a tile
-abbrev pub invariant-loop-slot : goal.invariant-loop-slot
-invariant-loop-slot l = list_all is_some (map tile_in_slot l.slots) ≡ list_all is_some (map tile_in_slot (drop l.slot-index l.slots))
