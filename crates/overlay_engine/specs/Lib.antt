@@ -3,6 +3,7 @@ pub mod Committing
 pub mod Counting
 pub mod Covers
 pub mod Devices
+pub mod HonestEngine
 pub mod Laws
 pub mod Lives
 pub mod NewEngine

@@ -2,16 +2,14 @@
 use Rattle.std.proofs.Common.{arith, ◌≡◌, ℕ, List, length, Result, Ok, Err, refl, subst}
 use Rattle.std.specs.Prelude.{OnOk}
 use Rattle.disk_model.specs.declared.disk.Disk.{Ghosts}
-use Rattle.disk_model.specs.Disk.{Torn, OneStepOn, Fewer, Elapses}
+use Rattle.disk_model.specs.Disk.{Torn, OneStepOn, Fewer, Only}
 use Rattle.disk_model.specs.Moments.{Leaves, LeavesOnly}
 use Rattle.disk_model.proofs.Runs.{goes_on, joined}
-use Rattle.root_store.specs.Creating.{Begun, IsBlank, IsFirstWrite, MadeInPhases}
+use Rattle.commit_plan.specs.Kept.{Rest}
+use Rattle.root_store.specs.Creating.{nothing_kept, Begun, IsBlank, IsFirstWrite, IsNewFile, MadeInPhases}
+use Rattle.root_store.specs.HonestSteps.{IsMade}
 use Rattle.root_store.proofs.Blank.{blank_kept}
-use Rattle.root_store.proofs.Steps.{one_call, leaves_torn}
-
-pub on_ok : {T E : Type 0} (result : Result T E) (P : Type 0) → P → OnOk result P
-on_ok (Ok x) P holds = holds
-on_ok (Err e) P holds = tt
+use Rattle.root_store.proofs.Steps.{Now, Passes, one_call, leaves_torn, leaves_synced}
 
 -- a write that changes nothing
 torn_nothing : (file : List ℕ) → Torn 0 12288 file file
@@ -23,18 +21,12 @@ torn_nothing file = record {
 }
 
 module _ {D : Type 0} (g : Ghosts D) where
-  abbrev pub Now : D → Type 0
-  Now disk = (c : List ℕ) → g.left_since disk (g.moment disk) c → g.may_leave disk c
-
-  abbrev pub Passes : D → D → Type 0
-  Passes old new = Elapses (g.moment old) (g.moment new) (g.left_since old) (g.left_since new) (g.may_leave new)
-
   begun_before : (old : D) → Leaves g old (Begun g old)
   begun_before old c left = (c, left, torn_nothing c)
 
   -- the write of the three blocks and the sync behind it
-  pub begins : (old mid new : D) (bytes : List ℕ) → length bytes ≡ 12288 → Now old → Passes old mid
-      → OneStepOn (Torn 0 (length bytes)) (g.may_leave old) (g.may_leave mid) → Passes mid new
+  pub begins : (old mid new : D) (bytes : List ℕ) → length bytes ≡ 12288 → Now g old → Passes g old mid
+      → OneStepOn (Torn 0 (length bytes)) (g.may_leave old) (g.may_leave mid) → Passes g mid new
       → Fewer (g.may_leave mid) (g.may_leave new) → LeavesOnly g old new (Begun g old)
   begins old mid new bytes size now time crash later fewer =
       let torn : Leaves g mid (Begun g old) =
@@ -44,8 +36,8 @@ module _ {D : Type 0} (g : Ghosts D) where
       (λ c left. torn c (fewer c left))
 
   -- the gate and the last sync
-  pub opens : (old mid new : D) → Leaves g old IsFirstWrite → Now old → Passes old mid
-      → OneStepOn (Torn 0 1) (g.may_leave old) (g.may_leave mid) → Passes mid new
+  pub opens : (old mid new : D) → Leaves g old IsFirstWrite → Now g old → Passes g old mid
+      → OneStepOn (Torn 0 1) (g.may_leave old) (g.may_leave mid) → Passes g mid new
       → Fewer (g.may_leave mid) (g.may_leave new) → LeavesOnly g old new IsBlank
   opens old mid new first now time crash later fewer =
       let blank : Leaves g old IsBlank = λ c left. (first c left).blank in
@@ -54,7 +46,7 @@ module _ {D : Type 0} (g : Ghosts D) where
       (λ c left. kept c (fewer c left))
 
   -- a call before, which looked at the disk alone
-  pub made_on : (old mid new : D) → Now old → Passes old mid → Fewer (g.may_leave old) (g.may_leave mid)
+  pub made_on : (old mid new : D) → Now g old → Passes g old mid → Fewer (g.may_leave old) (g.may_leave mid)
       → MadeInPhases g mid new → MadeInPhases g old new
   made_on old mid new now time fewer made =
       let looked : LeavesOnly g old mid (Begun g old) =
@@ -66,3 +58,14 @@ module _ {D : Type 0} (g : Ghosts D) where
         first = made.first;
         after = made.after;
       }
+
+  -- the last sync, which makes what was seen stay
+  pub made_in : {T E : Type 0} (old new : D) (file : List ℕ) (result : Result T E)
+      → OnOk result (Only file (g.may_leave new)) → Rest nothing_kept file → IsNewFile file → MadeInPhases g old new
+      → OnOk result (IsMade g old new)
+  made_in old new file (Ok x) only rest is phases = record {
+    ready = leaves_synced g new file (Rest nothing_kept) only rest;
+    file = leaves_synced g new file IsNewFile only is;
+    phases = phases;
+  }
+  made_in old new file (Err e) only rest is phases = tt

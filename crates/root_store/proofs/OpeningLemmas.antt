@@ -1,6 +1,6 @@
 -- What opening knows once all is read, and what it leaves.
-use Rattle.std.proofs.Common.{◌≡◌, ◌≢◌, inl, inr, ⊎_elim, arith, ℕ, ◌+◌, ◌<◌, ◌≤◌, Bool, true, false, List, Result, Ok, Err, refl, sym, ◌∙◌, ap, subst}
-use Rattle.std.specs.Prelude.{IsErrAnd, IfErr}
+use Rattle.std.proofs.Common.{◌≡◌, inl, inr, ⊎_elim, arith, ℕ, ◌+◌, ◌<◌, ◌≤◌, Bool, true, false, List, Result, Ok, Err, refl, sym, ◌∙◌, ap, subst}
+use Rattle.std.specs.Prelude.{IsErrAnd}
 use Rattle.std.proofs.lemmas.Result.{err_from_is_err_and}
 use Rattle.disk_model.specs.declared.disk.Disk.{Ghosts}
 use Rattle.disk_model.specs.Disk.{Torn, Only}
@@ -18,11 +18,10 @@ use Rattle.commit_plan.specs.Kept.{Kept, other, Live, Rest, Shut, Calm}
 use Rattle.commit_plan.specs.Loading.{held_in, kept_in}
 use Rattle.root_reading.specs.Looking.{Looks, Refuses, Causes}
 use Rattle.commit_plan.specs.Fault.{fault_told}
-use Rattle.root_store.specs.Opening.{Heals, IsRead, Opened, Loads, IsSettled, InPhases, Stops, Untouched, StandsStill, Writes, IsCompleted, Completes, Tells, FailedBy}
-use Rattle.root_store.specs.Healing.{HoldsTwin}
+use Rattle.root_store.specs.Opening.{IsRead, Opened, Loads, IsSettled, InPhases, Stops, StandsStill, Writes, IsCompleted, Completes, Tells, FailedBy}
+use Rattle.root_store.specs.Healing.{HoldsTwin, Heals}
 use Rattle.commit_plan.specs.declared.fault.StoreFault.{StoreFault}
 use Rattle.commit_plan.specs.declared.fault.StoreFault.TheVariants as stores
-use Rattle.root_reading.proofs.Looked.{if_err}
 use Rattle.root_reading.specs.declared.load_fault.LoadFault.TheVariants.{Device, Damaged, OutOfMemory}
 use Rattle.commit_plan.proofs.Reading.{shut_stands}
 use Rattle.root_store.proofs.Healed.{taken_is_live}
@@ -34,7 +33,7 @@ pub reading_root : (file : List ℕ) (r : Root) → root_of file ≡ Ok r → re
 reading_root file r root = ap (λ (x : Result Root Damage). x >>= λ q. held_of file q) root
 
 module _ {D : Type 0} (g : Ghosts D) (old mid : D) (x : Loaded) (is_alone : Bool)
-    (run : LeavesOnly g old mid (g.may_leave old)) (read : IsRead g old mid x is_alone)
+    (was : Looks g old mid) (read : IsRead g old mid x is_alone)
     (reads : reading (g.seen old) ≡ Ok (held_in x)) where
   kept : Kept
   kept = kept_in x
@@ -44,7 +43,7 @@ module _ {D : Type 0} (g : Ghosts D) (old mid : D) (x : Loaded) (is_alone : Bool
       (sym (reading_root (g.seen old) x.root read.root) ∙ reads)
 
   opened : LeavesOnly g old mid (Opened g old)
-  opened = widened g old mid (g.may_leave old) (Opened g old) (λ c left. inl left) run
+  opened = widened g old mid (g.may_leave old) (Opened g old) (λ c left. inl left) was.run
 
   shut : is_alone ≡ true → Shut (kept_in x) (g.seen old)
   shut alone = record {
@@ -57,8 +56,8 @@ module _ {D : Type 0} (g : Ghosts D) (old mid : D) (x : Loaded) (is_alone : Bool
   shuts alone = leaves_synced g mid (g.seen old) (Shut (kept_in x)) read.only (shut alone)
 
   -- no gate is shut
-  pub both_loads : g.is_honest mid → is_alone ≡ false → Loads g old mid (Ok x)
-  both_loads honest alone =
+  pub both_loads : is_alone ≡ false → Loads g old mid (Ok x)
+  both_loads alone =
       let rest : Rest (kept_in x) (g.seen old) =
       record {
         live = live;
@@ -66,7 +65,7 @@ module _ {D : Type 0} (g : Ghosts D) (old mid : D) (x : Loaded) (is_alone : Bool
             other_harmless (g.seen old) x.root (root_found (g.seen old) x.root read.root) (sym read.alone ∙ alone);
       } in
       record {
-        honest = honest;
+        honest = was.honest;
         gives = reads;
         run = opened;
         ok = (
@@ -78,9 +77,9 @@ module _ {D : Type 0} (g : Ghosts D) (old mid : D) (x : Loaded) (is_alone : Bool
       }
 
   -- the last sequence
-  pub last_loads : g.is_honest mid → is_alone ≡ true → sequence_max ≤ x.root.sequence → Loads g old mid (Ok x)
-  last_loads honest alone last = record {
-    honest = honest;
+  pub last_loads : is_alone ≡ true → sequence_max ≤ x.root.sequence → Loads g old mid (Ok x)
+  last_loads alone last = record {
+    honest = was.honest;
     gives = reads;
     run = opened;
     ok = (
@@ -111,21 +110,15 @@ module _ {D : Type 0} (g : Ghosts D) (old mid : D) (x : Loaded) (is_alone : Bool
     }
 
     -- or the device failed
-    pub failed_loads : (fault : LoadFault) (answer : Result Loaded LoadFault) → IsErrAnd answer (λ e. e ≡ fault)
-        → Refuses fault (reading (g.seen old)) → Leaves g new (Shut (kept_in x))
-        → Loads g old new answer
-    failed_loads fault answer is refuses still =
-        let p = err_from_is_err_and answer is in
-        let same : answer ≡ Err fault = p.1 ∙ ap Err p.2 in
-        subst (Loads g old new) (sym same)
-        (record {
-          honest = heals.honest;
-          gives = refuses;
-          run = whole;
-          ok = tt;
-          err =
-              λ f left. same_stands f (still f left);
-        })
+    pub failed_loads : (fault : LoadFault) → Refuses fault (reading (g.seen old)) → Leaves g new (Shut (kept_in x))
+        → Loads g old new (Err fault)
+    failed_loads fault refuses still = record {
+      honest = heals.honest;
+      gives = refuses;
+      run = whole;
+      ok = tt;
+      err = λ f left. same_stands f (still f left);
+    }
 
 -- a file of which one gate is shut, once the body behind it is written
 pub body_writes : (file now new : List ℕ) (r : Root) → root_of file ≡ Ok r → has_shut_gate file ≡ true → now ≡ file
@@ -225,25 +218,19 @@ last_completes g old new r is last to =
     let same : to.root ≡ r = cc (to.is, is) in
     absurd (omega (arith, last, to.below, ap (λ (q : Root). q.sequence) same))
 
--- a fault of a file that was only read
-pub untouched_err : {D : Type 0} (g : Ghosts D) (old new : D) (fault : LoadFault) (answer : Result Loaded LoadFault)
-    → IsErrAnd answer (λ e. e ≡ fault) → g.seen new ≡ g.seen old
-    → ((c : List ℕ) → g.may_leave new c → g.may_leave old c) → LeavesOnly g old new (g.may_leave old)
-    → IfErr answer (λ e. e ≢ Device → Untouched g old new)
-untouched_err g old new fault answer is seen fewer run =
-    if_err answer fault (λ (e : LoadFault). e ≢ Device → Untouched g old new) is
-    (λ other. record { seen = seen; fewer = fewer; run = run })
+-- the exit of a `?`
+pub at_err : {X : Type 0} (P : Result X LoadFault → Type 0) (answer : Result X LoadFault) (fault : LoadFault)
+    → IsErrAnd answer (λ e. e ≡ fault) → P (Err fault) → P answer
+at_err P answer fault is holds =
+    let p = err_from_is_err_and answer is in subst P (sym (p.1 ∙ ap Err p.2)) holds
 
--- the device's own fault
-pub device_err : (P : Type 0) (fault : LoadFault) (answer : Result Loaded LoadFault) → IsErrAnd answer (λ e. e ≡ fault)
-    → fault ≡ Device → IfErr answer (λ e. e ≢ Device → P)
-device_err P fault answer is device =
-    if_err answer fault (λ (e : LoadFault). e ≢ Device → P) is (λ other. absurd (other device))
-
-pub device_or_memory : (P : Type 0) (fault : LoadFault) (answer : Result Loaded LoadFault)
-    → IsErrAnd answer (λ e. e ≡ fault) → fault ≡ Device → IfErr answer (λ e. e ≡ OutOfMemory → P)
-device_or_memory P fault answer is device =
-    if_err answer fault (λ (e : LoadFault). e ≡ OutOfMemory → P) is (λ memory. absurd (cc (memory, device)))
+-- a fault of another call, behind calls that did not fail
+pub causes_from : (X : Type 0) (fault : LoadFault) (old mid new : ℕ) → mid ≡ old → Causes {X = X} (Err fault) mid new
+    → Causes {X = Loaded} (Err fault) old new
+causes_from X Device old mid new same causes =
+    subst (λ (n : ℕ). Causes {X = Loaded} (Err Device) n new) same causes
+causes_from X OutOfMemory old mid new same causes = causes ∙ same
+causes_from X (Damaged damage) old mid new same causes = causes ∙ same
 
 -- want of memory, as the store tells it
 pub memory_of : (fault : LoadFault) → fault_told fault ≡ stores.OutOfMemory → fault ≡ OutOfMemory
@@ -252,23 +239,15 @@ memory_of OutOfMemory is = refl
 memory_of (Damaged damage) is = absurd (cc is)
 
 -- nothing is read
-pub unread_loads : {D : Type 0} (g : Ghosts D) (old new : D) (fault : LoadFault) (answer : Result Loaded LoadFault)
-    → IsErrAnd answer (λ e. e ≡ fault) → Refuses fault (reading (g.seen old)) → g.is_honest new
-    → ((c : List ℕ) → g.may_leave new c → g.may_leave old c) → LeavesOnly g old new (g.may_leave old)
-    → Loads g old new answer
-unread_loads g old new fault answer is refuses honest fewer run =
-    let p = err_from_is_err_and answer is in
-    let same : answer ≡ Err fault = p.1 ∙ ap Err p.2 in
-    subst (Loads g old new) (sym same)
-    (record {
-      honest = honest;
-      gives = refuses;
-      run =
-          widened g old new (g.may_leave old) (Opened g old) (λ c left. inl left) run;
-      ok = tt;
-      err =
-          λ c left. inl (fewer c left);
-    })
+pub unread_loads : {D : Type 0} (g : Ghosts D) (old new : D) (fault : LoadFault) → Refuses fault (reading (g.seen old))
+    → Looks g old new → Loads g old new (Err fault)
+unread_loads g old new fault refuses was = record {
+  honest = was.honest;
+  gives = refuses;
+  run = widened g old new (g.may_leave old) (Opened g old) (λ c left. inl left) was.run;
+  ok = tt;
+  err = λ c left. inl (was.fewer c left);
+}
 
 -- a fault, as the store tells it
 pub tells_of : (fault : LoadFault) (told : StoreFault) (read : Result Held Damage) → told ≡ fault_told fault

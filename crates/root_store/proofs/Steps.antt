@@ -29,6 +29,18 @@ pub behind_set : (plan : List Write) (i : ℕ) (w : Write) → drop (i + 1) (sli
 behind_set plan i w = drop-set-lt (i + 1) plan i w (omega arith)
 
 module _ {D : Type 0} (g : Ghosts D) where
+  -- a crash now leaves nothing else than one that began now
+  abbrev pub Now : D → Type 0
+  Now disk = (c : List ℕ) → g.left_since disk (g.moment disk) c → g.may_leave disk c
+
+  -- so it is on an honest disk
+  abbrev pub OnlyNow : Type 0
+  OnlyNow = (disk : D) (c : List ℕ) → g.is_honest disk → g.left_since disk (g.moment disk) c → g.may_leave disk c
+
+  -- time goes on over a call
+  abbrev pub Passes : D → D → Type 0
+  Passes old new = Elapses (g.moment old) (g.moment new) (g.left_since old) (g.left_since new) (g.may_leave new)
+
   pub leaves_torn : (old new : D) (P : List ℕ → Type 0) (at n : ℕ) → Leaves g old P
       → OneStepOn (Torn at n) (g.may_leave old) (g.may_leave new) → ((c d : List ℕ) → P c → Torn at n c d → P d)
       → Leaves g new P
@@ -54,9 +66,7 @@ module _ {D : Type 0} (g : Ghosts D) where
   leaves_weaker disk P Q wider all c left = wider c (all c left)
 
   -- one call
-  pub one_call : (old new : D) (P : List ℕ → Type 0)
-      → ((c : List ℕ) → g.left_since old (g.moment old) c → g.may_leave old c) → Leaves g old P
-      → Elapses (g.moment old) (g.moment new) (g.left_since old) (g.left_since new) (g.may_leave new) → Leaves g new P
+  pub one_call : (old new : D) (P : List ℕ → Type 0) → Now old → Leaves g old P → Passes old new → Leaves g new P
       → LeavesOnly g old new P
   one_call old new P now before time after =
       goes_on g old old new P (started g old P (λ c left. before c (now c left))) time after
@@ -110,7 +120,8 @@ module _ {D : Type 0} (g : Ghosts D) where
 
   -- a step whose call failed
   pub failed : (old new : Commit D g) (result : Result Progress StoreFault) (x y : Kept) → IsErr result
-      → new.phase ≡ Failed → LeavesOnly g old.disk new.disk (Either x y) → Leaves g new.disk (Either x y)
+      → new.phase ≡ Failed → LeavesOnly g old.disk new.disk (Either x y) × Leaves g new.disk (Either x y)
       → Stepped g old new result x y
-  failed old new (Ok p) x y is phase moments all = absurd (cc is)
-  failed old new (Err e) x y is phase moments all = record { moments = moments; ok = tt; err = (all, phase) }
+  failed old new (Ok p) x y is phase survives = absurd (cc is)
+  failed old new (Err e) x y is phase survives =
+      record { moments = survives.0; ok = tt; err = (survives.1, phase) }

@@ -1,12 +1,15 @@
 -- What opening knows of a file that it has read, and what the completing write makes of it.
-use Rattle.std.specs.Prelude.{◌≡◌, ◌≢◌, ◌⊎◌, ℕ, ◌+◌, ◌*◌, ◌^◌, ◌<◌, ◌≤◌, List, length, Ok}
+use Rattle.std.specs.Prelude.{◌≡◌, ◌≢◌, ◌⊎◌, ℕ, ◌+◌, ◌*◌, ◌^◌, ◌<◌, ◌≤◌, List, length, Result, Ok, OnOk, OnErr}
 use Rattle.overlay_terms.specs.Commands.{version_max}
+use Rattle.disk_model.specs.declared.disk.Disk.{Ghosts}
 use Rattle.disk_model.specs.Disk.{Holds, Torn}
+use Rattle.disk_model.specs.Moments.{Leaves, LeavesOnly}
 use Rattle.store_terms.specs.Places.{block_size}
 use Rattle.store_terms.specs.declared.root.Root.{Root}
 use Rattle.store_terms.specs.Roots.{body_text, ours, sequence_max}
 use Rattle.store_terms.specs.Image.{listing_of, held_of}
 use Rattle.store_terms.specs.StandsFor.{gate, open_gate, body, body_at}
+use Rattle.root_reading.specs.declared.load_fault.LoadFault.{LoadFault}
 use Rattle.commit_plan.specs.Kept.{Kept, own, other, Harmless, Live, Shut, Rest}
 
 -- what opening has read of the root that it takes
@@ -41,3 +44,13 @@ TwinHeals =
     (x : Kept) (old new : List ℕ) → x.root.sequence < sequence_max → x.root.catalog.block < 2 ^ 64
     → x.root.catalog.size < 2 ^ 32 → Shut x old
     → Torn (body_at (other x.root)) 48 old new → HoldsTwin x.root new → Rest x new
+
+-- the completing write and its sync: a crash at any moment leaves what stands for x behind its one open gate, and in
+-- the end whatever the other gate holds, behind which stands the body of the twin of x's root
+pub record Heals {D : Type 0} (g : Ghosts D) (old new : D) (result : Result (Unit {0}) LoadFault)
+    (x : Kept) : Type 0 where
+  pub honest : g.is_honest new
+  pub run : LeavesOnly g old new (Shut x)
+  pub ok : OnOk result (Leaves g new (Rest x))
+  pub twin : OnOk result (Leaves g new (HoldsTwin x.root))
+  pub err : OnErr result (Leaves g new (Shut x))

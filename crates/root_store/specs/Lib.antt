@@ -4,5 +4,7 @@ pub mod Running
 pub mod Healing
 pub mod Creating
 pub mod Opening
+pub mod HonestSteps
+pub mod HonestStore
 pub mod Beginning
 pub mod Writing

@@ -1,5 +1,5 @@
 -- What opening makes of a disk.
-use Rattle.std.specs.Prelude.{◌≡◌, ◌≢◌, ◌⊎◌, ◌+◌, ◌<◌, Bool, List, ℕ, ◌≤◌, Result, Ok, Err, IfOk, OnOk, OnErr}
+use Rattle.std.specs.Prelude.{◌≡◌, ◌≢◌, ◌⊎◌, ◌+◌, ◌<◌, Bool, List, ℕ, ◌≤◌, Result, Ok, Err, IfOk, OnErr}
 use Rattle.disk_model.specs.declared.disk.Disk.{Ghosts}
 use Rattle.disk_model.specs.Disk.{Only, Failed, FailedCall, Fewer, Torn}
 use Rattle.disk_model.specs.Moments.{Leaves, LeavesOnly}
@@ -13,22 +13,12 @@ use Rattle.commit_plan.specs.declared.fault.StoreFault.{StoreFault}
 use Rattle.commit_plan.specs.declared.fault.StoreFault.TheVariants as stores
 use Rattle.root_reading.specs.declared.load_fault.LoadFault.{LoadFault}
 use Rattle.commit_plan.specs.declared.loading.Loaded.{Loaded}
-use Rattle.commit_plan.specs.Kept.{Kept, extents_in, other, Rest, Shut, Calm}
+use Rattle.commit_plan.specs.Kept.{extents_in, other, Calm}
 use Rattle.commit_plan.specs.Loading.{held_in, kept_in}
 use Rattle.root_reading.specs.Taking.{IsMapOf}
 use Rattle.root_reading.specs.Looking.{Gives}
 use Rattle.root_store.specs.Finding.{has_shut_gate}
 use Rattle.root_store.specs.Healing.{HoldsTwin}
-
--- the completing write and its sync: a crash at any moment leaves what stands for x behind its one open gate, and in
--- the end whatever the other gate holds, behind which stands the body of the twin of x's root
-pub record Heals {D : Type 0} (g : Ghosts D) (old new : D) (result : Result (Unit {0}) LoadFault)
-    (x : Kept) : Type 0 where
-  pub honest : g.is_honest new
-  pub run : LeavesOnly g old new (Shut x)
-  pub ok : OnOk result (Leaves g new (Rest x))
-  pub twin : OnOk result (Leaves g new (HoldsTwin x.root))
-  pub err : OnErr result (Leaves g new (Shut x))
 
 -- after the first sync, all is read: a crash leaves the bytes that were seen, and nothing else
 pub record IsRead {D : Type 0} (g : Ghosts D) (old new : D) (x : Loaded) (is_alone : Bool) : Type 0 where

@@ -1,12 +1,13 @@
 //! Making a store of an empty file.
-ghost use Rattle.std.specs.Prelude.{◌≡◌, ◌≢◌, ◌↔◌, ◌+◌, ◌≤◌, length, None, replicate, OnOk, IfOk, IfErr, IsErrOf, MatchResult};
-ghost use Rattle.disk_model.specs.Disk.{Holds, Torn, Fewer, Elapses, Failed, CountsFailure};
-ghost use Rattle.disk_model.specs.Moments.{Leaves};
+ghost use Rattle.std.specs.Prelude.{◌≡◌, ◌↔◌, ◌+◌, ◌≤◌, length, replicate, IfOk, IfErr, MatchResult};
+ghost use Rattle.disk_model.specs.Disk.{Holds, Torn};
 ghost use Rattle.extent_map.specs.Taken.{taken_of, limit_of};
-ghost use Rattle.commit_plan.specs.Kept.{Rest, extents_in};
-ghost use Rattle.root_store.specs.Running.{Stands, KeepsTo};
+ghost use Rattle.commit_plan.specs.Kept.{extents_in};
 ghost use Rattle.root_reading.specs.Taking.{IsMapOf};
-ghost use Rattle.root_store.specs.Creating.{nothing_kept, first_root, IsFirstWrite, IsNewFile, MadeInPhases, refusal_of_new, IsToldBy, CallsBehind};
+ghost use Rattle.root_store.specs.Running.{KeepsTo};
+ghost use Rattle.root_store.specs.Creating.{nothing_kept, first_root, IsFirstWrite};
+ghost use Rattle.root_store.specs.HonestSteps.{ChecksHonestly, FormatsHonestly, PreparesHonestly};
+ghost use Rattle.root_store.specs.HonestStore.{CreatesHonestly};
 
 use crate::commit::Commit;
 use crate::finding::GATE_OPEN;
@@ -72,19 +73,7 @@ fn blank(alloc: Global) -> Result<Vec<u8>, AllocError>
 /// Refuses a file that is not empty, and a limit that leaves no block for the catalog.
 fn check<D: Disk>(disk: &mut D, max_blocks: u32) -> Result<(), StoreFault>
     ensures honest { D.is_honest disk.new ↔ D.is_honest disk.old }
-    ensures answer { D.is_honest disk.old
-        → MatchResult result (λ _. refusal_of_new (D.seen disk.old) max_blocks ≡ None)
-        (λ fault. IsToldBy fault (refusal_of_new (D.seen disk.old) max_blocks)) }
-    ensures seen { D.is_honest disk.old → D.seen disk.new ≡ D.seen disk.old }
-    ensures crash { D.is_honest disk.old → Fewer (D.may_leave disk.old) (D.may_leave disk.new) }
-    ensures time { D.is_honest disk.old
-        → Elapses (D.moment disk.old) (D.moment disk.new) (D.left_since disk.old) (D.left_since disk.new)
-        (D.may_leave disk.new) }
-    ensures cause { D.is_honest disk.old → IsErrOf result StoreFault.Device
-        → Failed (D.faults disk.old) (D.faults disk.new) }
-    ensures count { D.is_honest disk.old → OnOk result (D.faults disk.new ≡ D.faults disk.old) }
-    ensures calls { D.is_honest disk.old → MatchResult result (λ _. D.calls disk.new ≡ D.calls disk.old + 1)
-        (λ fault. CallsBehind fault (D.calls disk.old) (D.calls disk.new)) }
+    ensures checks { D.is_honest disk.old → ChecksHonestly D.Disk max_blocks disk.old disk.new result }
 {
     if disk.length()? != 0 {
         return Err(StoreFault::NotEmpty);
@@ -99,14 +88,7 @@ fn check<D: Disk>(disk: &mut D, max_blocks: u32) -> Result<(), StoreFault>
 fn format<D: Disk>(disk: &mut D, bytes: &[u8]) -> Result<(), DiskFault>
     requires { IsFirstWrite bytes.now }
     ensures honest { D.is_honest disk.new ↔ D.is_honest disk.old }
-    ensures ready { D.is_honest disk.old → length (D.seen disk.old) ≡ 0
-        → OnOk result (Leaves D.Disk disk.new (Rest nothing_kept)) }
-    ensures file { D.is_honest disk.old → length (D.seen disk.old) ≡ 0 → OnOk result (Leaves D.Disk disk.new IsNewFile) }
-    ensures phases { D.is_honest disk.old → length (D.seen disk.old) ≡ 0
-        → OnOk result (MadeInPhases D.Disk disk.old disk.new) }
-    ensures cause { D.is_honest disk.old → CountsFailure result (D.faults disk.old) (D.faults disk.new) }
-    ensures calls { D.is_honest disk.old → MatchResult result (λ _. D.calls disk.new ≡ D.calls disk.old + 4)
-        (λ _. D.calls disk.new ≤ D.calls disk.old + 4) }
+    ensures formats { D.is_honest disk.old → FormatsHonestly D.Disk disk.old disk.new result }
 {
     disk.write_at(0, bytes)?;
     disk.sync()?;
@@ -136,21 +118,10 @@ fn prepare<D: Disk>(
     max_blocks: u32,
 ) -> Result<(Room, Room), StoreFault>
     ensures honest { D.is_honest disk.new ↔ D.is_honest disk.old }
-    ensures ready { D.is_honest disk.old → IfOk result (λ rooms. Leaves D.Disk disk.new (Rest nothing_kept)) }
-    ensures file { D.is_honest disk.old → IfOk result (λ rooms. Leaves D.Disk disk.new IsNewFile) }
-    ensures phases { D.is_honest disk.old → IfOk result (λ rooms. MadeInPhases D.Disk disk.old disk.new) }
+    ensures prepares { D.is_honest disk.old → PreparesHonestly D.Disk max_blocks disk.old disk.new result }
     ensures room { IfOk result (λ rooms. IsMapOf (extents_in nothing_kept) (taken_of rooms.0.map)) }
     ensures limit { IfOk result (λ rooms. limit_of rooms.0.map ≡ max_blocks) }
     ensures next_limit { IfOk result (λ rooms. limit_of rooms.1.map ≡ max_blocks) }
-    ensures answer { D.is_honest disk.old
-        → MatchResult result (λ _. refusal_of_new (D.seen disk.old) max_blocks ≡ None)
-        (λ fault. IsToldBy fault (refusal_of_new (D.seen disk.old) max_blocks)) }
-    ensures unchanged { D.is_honest disk.old → refusal_of_new (D.seen disk.old) max_blocks ≢ None
-        → (D.seen disk.new ≡ D.seen disk.old) × Fewer (D.may_leave disk.old) (D.may_leave disk.new) }
-    ensures cause { D.is_honest disk.old → IsErrOf result StoreFault.Device
-        → Failed (D.faults disk.old) (D.faults disk.new) }
-    ensures calls { D.is_honest disk.old → MatchResult result (λ _. D.calls disk.new ≡ D.calls disk.old + 5)
-        (λ fault. CallsBehind fault (D.calls disk.old) (D.calls disk.new)) }
 {
     check(disk, max_blocks)?;
     let bytes = blank(alloc)?;
@@ -161,36 +132,28 @@ fn prepare<D: Disk>(
 
 /// Makes a store that holds nothing of a file that is empty, by five device calls. The file may have at most so many
 /// blocks. A crash before the last of them may leave a file that is no store.
+///
+/// What is promised of an honest disk (`CreatesHonestly`):
+/// - `ok`: the store stands for nothing.
+/// - `file`: three blocks that are zero but for the bodies, the catalog and the first gate, which alone is open.
+/// - `phases`: what is written first has both gates shut, and is synced before the first gate opens; from then on a
+///   crash leaves those three blocks, whatever that gate.
+/// - `answer`: a file is refused that is not empty, or has no block for the catalog; memory is asked for behind that.
+/// - `unchanged`: a file that is refused stays as it is.
+/// - `cause`: the device failed where it is said to be at fault.
+/// - `calls`: five device calls are made; of a file that is refused, or without memory, the length alone is asked for.
 pub fn create<D: Disk>(
     alloc: Global,
     mut disk: D,
     max_blocks: u32,
 ) -> Result<Commit<D>, OpenFault<D>>
-    ensures ok { D.is_honest disk → IfOk result (λ store. Stands D.Disk store nothing_kept) }
-    // Three blocks that are zero but for the bodies, each of which is whole, the catalog and the first gate, which alone is
-    // open.
-    ensures file { D.is_honest disk → IfOk result (λ store. Leaves D.Disk store.disk IsNewFile) }
-    // What is written first has both gates shut, and is synced before the first gate opens: from then on a crash leaves
-    // those three blocks, whatever that gate.
-    ensures phases { D.is_honest disk → IfOk result (λ store. MadeInPhases D.Disk disk store.disk) }
+    ensures creates { D.is_honest disk → CreatesHonestly D.Disk max_blocks disk result }
+    ensures honest { MatchResult result (λ store. D.is_honest store.disk ↔ D.is_honest disk)
+        (λ refused. D.is_honest refused.disk ↔ D.is_honest disk) }
     // No commit is under way.
     ensures idle { IfOk result (λ store. store.phase ≡ Phase.Idle) }
     ensures root { IfOk result (λ store. store.root ≡ first_root) }
     ensures limit { IfOk result (λ store. KeepsTo max_blocks store) }
-    ensures answer { D.is_honest disk
-        → MatchResult result (λ _. refusal_of_new (D.seen disk) max_blocks ≡ None)
-        (λ refused. IsToldBy refused.fault (refusal_of_new (D.seen disk) max_blocks)) }
-    ensures honest { MatchResult result (λ store. D.is_honest store.disk ↔ D.is_honest disk)
-        (λ refused. D.is_honest refused.disk ↔ D.is_honest disk) }
-    // A file that is refused stays as it is.
-    ensures unchanged { D.is_honest disk → refusal_of_new (D.seen disk) max_blocks ≢ None
-        → IfErr result
-        (λ refused. (D.seen refused.disk ≡ D.seen disk) × Fewer (D.may_leave disk) (D.may_leave refused.disk)) }
-    ensures cause { D.is_honest disk
-        → IfErr result (λ refused. refused.fault ≡ StoreFault.Device → Failed (D.faults disk) (D.faults refused.disk)) }
-    // Five device calls are made; of a file that is refused, or without memory, the length alone is asked for.
-    ensures calls { D.is_honest disk → MatchResult result (λ store. D.calls store.disk ≡ D.calls disk + 5)
-        (λ refused. CallsBehind refused.fault (D.calls disk) (D.calls refused.disk)) }
 {
     match prepare(alloc, &mut disk, max_blocks) {
         Ok((room, next_room)) => Ok(Commit {

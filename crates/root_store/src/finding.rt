@@ -1,9 +1,9 @@
 //! The root of a file.
-ghost use Rattle.std.specs.Prelude.{◌≡◌, ◌≢◌, ◌↔◌, ◌==◌, ◌&&◌, ◌*◌, ◌^◌, ◌<◌, ◌≤◌, ℕ, List, length, not, IfSome, IfOk, IfErr};
+ghost use Rattle.std.specs.Prelude.{◌≡◌, ◌≢◌, ◌==◌, ◌&&◌, ◌*◌, ◌^◌, ◌<◌, ◌≤◌, ℕ, List, length, not, IfSome, IfOk, IfErr};
 ghost use Rattle.overlay_terms.specs.Commands.{version_max};
 ghost use Rattle.store_terms.specs.Places.{block_size};
 ghost use Rattle.store_terms.specs.StandsFor.{gate, slot, newer_root, root_of, is_foreign, open_gate};
-ghost use Rattle.root_reading.specs.Looking.{Gives, Looks, Causes};
+ghost use Rattle.root_reading.specs.Looking.{Gives, OnlyLooks};
 ghost use Rattle.root_store.specs.Finding.{IsSlot, has_shut_gate};
 
 use disk_model::disk::Disk;
@@ -100,11 +100,9 @@ fn root_in(first: &RootSlot, second: &RootSlot) -> Result<Root, Damage>
 fn read_slot<D: Disk>(disk: &mut D, number: usize) -> Result<RootSlot, LoadFault>
     requires small { number ≤ 1 }
     requires long { D.is_honest disk.old → block_size * 2 ≤ length (D.seen disk.old) }
-    ensures honest { D.is_honest disk.new ↔ D.is_honest disk.old }
-    ensures looks { D.is_honest disk.old → Looks D.Disk disk.old disk.new }
+    ensures looks { OnlyLooks D.Disk result disk.old disk.new }
     ensures read { D.is_honest disk.old → IfOk result (IsSlot (D.seen disk.old) number) }
     ensures err { IfErr result (λ e. e ≡ LoadFault.Device) }
-    ensures cause { D.is_honest disk.old → Causes result (D.faults disk.old) (D.faults disk.new) }
 {
     let mut bytes = [0; 56];
     disk.read(number * BLOCK, &mut bytes)?;
@@ -116,15 +114,13 @@ fn read_slot<D: Disk>(disk: &mut D, number: usize) -> Result<RootSlot, LoadFault
 
 /// The root of the file, whether one of its gates is shut, and how many bytes the file has.
 pub fn find_root<D: Disk>(disk: &mut D) -> Result<(Root, bool, usize), LoadFault>
-    ensures honest { D.is_honest disk.new ↔ D.is_honest disk.old }
-    ensures looks { D.is_honest disk.old → Looks D.Disk disk.old disk.new }
+    ensures looks { OnlyLooks D.Disk result disk.old disk.new }
     ensures gives { D.is_honest disk.old → Gives (λ x. x.0) result (root_of (D.seen disk.old)) }
     ensures numbered { IfOk result (λ x. x.0.version ≤ version_max) }
     ensures small { D.is_honest disk.old → IfOk result (λ x. length (D.seen disk.old) < 2 ^ 64) }
     ensures alone { D.is_honest disk.old → IfOk result (λ x. x.1 ≡ has_shut_gate (D.seen disk.old)) }
     ensures size { D.is_honest disk.old → IfOk result (λ x. x.2 ≡ length (D.seen disk.old)) }
     ensures memory { IfErr result (λ e. e ≢ LoadFault.OutOfMemory) }
-    ensures cause { D.is_honest disk.old → Causes result (D.faults disk.old) (D.faults disk.new) }
 {
     let size = disk.length()?;
     if size < SLOTS {

@@ -8,53 +8,60 @@ returns-then-size-lt-SLOTS-clause-gives g c honest =
     let size = c.in_ok-size.ensures.length honest in
     short_root (g.D.Disk.seen c.args.disk.now) (omega (arith, size))
 
-pub returns-then-size-lt-SLOTS-clause-looks : goal.returns-then-size-lt-SLOTS-clause-looks
-returns-then-size-lt-SLOTS-clause-looks g c honest =
-    let k = g.D.Disk in
-    let old = c.args.disk.now in
-    let looks1 = looked k old c.length.new.self honest (λ f left. g.met.D.Disk.only_now old f honest left)
-    (c.length.ensures.honest.1 honest) (c.length.ensures.seen honest) (c.length.ensures.crash honest)
-    (c.length.ensures.time honest) in
-    looks1
-
 pub returns-in_err-first-clause-looks : goal.returns-in_err-first-clause-looks
-returns-in_err-first-clause-looks g c honest =
-    let k = g.D.Disk in
-    let old = c.args.disk.now in
-    let looks1 = looked k old c.length.new.self honest (λ f left. g.met.D.Disk.only_now old f honest left)
-    (c.length.ensures.honest.1 honest) (c.length.ensures.seen honest) (c.length.ensures.crash honest)
-    (c.length.ensures.time honest) in
-    looks_on k old c.length.new.self c.read_slot.new.disk looks1 (c.read_slot.ensures.looks looks1.honest)
+returns-in_err-first-clause-looks g c = record {
+  honest = search rules;
+  looks = λ honest.
+      let k = g.D.Disk in
+      let old = c.args.disk.now in
+      let l = c.length.ensures in
+      let looks1 = looked k old c.length.new.self honest (λ f left. g.met.D.Disk.only_now old f honest left)
+      (l.honest.1 honest) (l.seen honest) (l.crash honest) (l.time honest) in
+      looks_on k old c.length.new.self c.read_slot.new.disk looks1 (c.read_slot.ensures.looks.looks looks1.honest);
+  cause = search rules;
+}
 
 pub returns-in_err-second-clause-looks : goal.returns-in_err-second-clause-looks
-returns-in_err-second-clause-looks g c honest =
-    let k = g.D.Disk in
-    let old = c.args.disk.now in
-    let looks1 = looked k old c.length.new.self honest (λ f left. g.met.D.Disk.only_now old f honest left)
-    (c.length.ensures.honest.1 honest) (c.length.ensures.seen honest) (c.length.ensures.crash honest)
-    (c.length.ensures.time honest) in
-    let looks2 = looks_on k old c.length.new.self c.read_slot.new.disk looks1 (c.read_slot.ensures.looks looks1.honest) in
-    looks_on k old c.read_slot.new.disk c.read_slot-2.new.disk looks2 (c.read_slot-2.ensures.looks looks2.honest)
+returns-in_err-second-clause-looks g c = record {
+  honest = search rules;
+  looks = λ honest.
+      let k = g.D.Disk in
+      let old = c.args.disk.now in
+      let l = c.length.ensures in
+      let looks1 = looked k old c.length.new.self honest (λ f left. g.met.D.Disk.only_now old f honest left)
+      (l.honest.1 honest) (l.seen honest) (l.crash honest) (l.time honest) in
+      let looks2 = looks_on k old c.length.new.self c.read_slot.new.disk looks1 (c.read_slot.ensures.looks.looks looks1.honest) in
+      looks_on k old c.read_slot.new.disk c.read_slot-2.new.disk looks2 (c.read_slot-2.ensures.looks.looks looks2.honest);
+  cause = search rules;
+}
 
 pub returns-in_err-root-clause-looks : goal.returns-in_err-root-clause-looks
-returns-in_err-root-clause-looks g c honest =
-    let k = g.D.Disk in
-    let old = c.args.disk.now in
-    let looks1 = looked k old c.length.new.self honest (λ f left. g.met.D.Disk.only_now old f honest left)
-    (c.length.ensures.honest.1 honest) (c.length.ensures.seen honest) (c.length.ensures.crash honest)
-    (c.length.ensures.time honest) in
-    let looks2 = looks_on k old c.length.new.self c.read_slot.new.disk looks1 (c.read_slot.ensures.looks looks1.honest) in
-    looks_on k old c.read_slot.new.disk c.read_slot-2.new.disk looks2 (c.read_slot-2.ensures.looks looks2.honest)
+returns-in_err-root-clause-looks g c = record {
+  honest = search rules;
+  looks = λ honest.
+      let k = g.D.Disk in
+      let old = c.args.disk.now in
+      let l = c.length.ensures in
+      let looks1 = looked k old c.length.new.self honest (λ f left. g.met.D.Disk.only_now old f honest left)
+      (l.honest.1 honest) (l.seen honest) (l.crash honest) (l.time honest) in
+      let looks2 = looks_on k old c.length.new.self c.read_slot.new.disk looks1 (c.read_slot.ensures.looks.looks looks1.honest) in
+      looks_on k old c.read_slot.new.disk c.read_slot-2.new.disk looks2 (c.read_slot-2.ensures.looks.looks looks2.honest);
+  cause = search rules;
+}
 
 pub returns-clause-looks : goal.returns-clause-looks
-returns-clause-looks g c honest =
-    let k = g.D.Disk in
-    let old = c.args.disk.now in
-    let looks1 = looked k old c.length.new.self honest (λ f left. g.met.D.Disk.only_now old f honest left)
-    (c.length.ensures.honest.1 honest) (c.length.ensures.seen honest) (c.length.ensures.crash honest)
-    (c.length.ensures.time honest) in
-    let looks2 = looks_on k old c.length.new.self c.read_slot.new.disk looks1 (c.read_slot.ensures.looks looks1.honest) in
-    looks_on k old c.read_slot.new.disk c.read_slot-2.new.disk looks2 (c.read_slot-2.ensures.looks looks2.honest)
+returns-clause-looks g c = record {
+  honest = search rules;
+  looks = λ honest.
+      let k = g.D.Disk in
+      let old = c.args.disk.now in
+      let l = c.length.ensures in
+      let looks1 = looked k old c.length.new.self honest (λ f left. g.met.D.Disk.only_now old f honest left)
+      (l.honest.1 honest) (l.seen honest) (l.crash honest) (l.time honest) in
+      let looks2 = looks_on k old c.length.new.self c.read_slot.new.disk looks1 (c.read_slot.ensures.looks.looks looks1.honest) in
+      looks_on k old c.read_slot.new.disk c.read_slot-2.new.disk looks2 (c.read_slot-2.ensures.looks.looks looks2.honest);
+  cause = search rules;
+}
 
 -- found by search alone: it stands here so that a wrong body is refused without working out what to write
 pub returns-clause-alone : goal.returns-clause-alone

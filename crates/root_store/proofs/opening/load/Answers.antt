@@ -1,206 +1,140 @@
-use Rattle.std.proofs.Common.{◌≡◌, ◌+◌, ◌<◌, ◌≤◌, true, false, inl, inr, refl, sym, ◌∙◌, rules, arith}
+use Rattle.std.proofs.Common.{◌≡◌, ◌+◌, ◌<◌, ◌≤◌, Bool, true, false, inl, inr, Err, refl, sym, ◌∙◌, rules, arith}
 use Rattle.store_terms.specs.StandsFor.{reading}
 use Rattle.store_terms.specs.Roots.{sequence_max}
+use Rattle.commit_plan.specs.declared.loading.Loaded.{Loaded}
 use Rattle.commit_plan.specs.Loading.{kept_in}
-use Rattle.root_reading.specs.declared.load_fault.LoadFault.{LoadFault}
-use Rattle.root_reading.specs.declared.load_fault.LoadFault.TheVariants.{Device, OutOfMemory}
-use Rattle.root_store.specs.Opening.{HasRoot, Stops, Untouched}
-use Rattle.root_reading.proofs.Looked.{refuses_device, if_err}
-use Rattle.root_store.proofs.OpeningLemmas.{phases_read, phases_healed, shuts, both_loads, last_loads, healed_loads, failed_loads, unread_loads, body_writes, none_completed, last_completed, twin_completed, none_completes, last_completes, untouched_err, device_err, device_or_memory}
+use Rattle.root_store.specs.HonestSteps.{LoadsHonestly}
+use Rattle.root_reading.proofs.Looked.{refuses_device}
+use Rattle.root_store.proofs.OpeningLemmas.{phases_read, phases_healed, shuts, both_loads, last_loads, healed_loads, failed_loads, unread_loads, body_writes, none_completed, last_completed, twin_completed, none_completes, last_completes, at_err, causes_from}
 use Rattle.root_store.proofs.opening.load.Goals as goal
 
 pub returns-in_err-loaded-clause-loads : goal.returns-in_err-loaded-clause-loads
 returns-in_err-loaded-clause-loads g c honest =
-    let r = c.read_store.ensures in
-    unread_loads g.D.Disk c.args.disk.now c.read_store.new.disk c.in_err-loaded.field-0.0 c.from_residual.result c.from_residual.ensures.1 (c.in_err-loaded.ensures.gives honest) (r.honest.1 honest) (r.fewer honest) (r.run honest)
+    let k = g.D.Disk in
+    let old = c.args.disk.now in
+    let mid = c.read_store.new.disk in
+    let fault = c.in_err-loaded.field-0.0 in
+    let looks = c.in_err-loaded.ensures.looks in
+    let reads = c.in_err-loaded.ensures.reads honest in
+    let was = looks.looks honest in
+    at_err (LoadsHonestly k old mid) c.from_residual.result fault c.from_residual.ensures.1
+    (record {
+      loads = unread_loads k old mid fault reads.gives was;
+      phases = tt;
+      stops = reads.stops;
+      writes = inl was.seen;
+      completed = tt;
+      completes = tt;
+      untouched = λ other. record { seen = was.seen; fewer = was.fewer; run = was.run };
+      memory = reads.memory;
+      cause = causes_from (Loaded × Bool) fault (k.faults old) (k.faults old) (k.faults mid) refl (looks.cause honest);
+    })
 
 pub returns-then-not-is_alone-clause-loads : goal.returns-then-not-is_alone-clause-loads
 returns-then-not-is_alone-clause-loads g c honest =
-    let r = c.in_ok-loaded.ensures in
-    both_loads g.D.Disk c.args.disk.now c.read_store.new.disk c.in_ok-loaded.loaded c.in_ok-loaded.is_alone
-    (r.run honest) (r.read honest) (r.gives honest) (r.honest.1 honest) (search rules)
+    let k = g.D.Disk in
+    let old = c.args.disk.now in
+    let mid = c.read_store.new.disk in
+    let x = c.in_ok-loaded.loaded in
+    let reads = c.in_ok-loaded.ensures.reads honest in
+    let was = c.in_ok-loaded.ensures.looks.looks honest in
+    let both : c.in_ok-loaded.is_alone ≡ false = search rules in
+    let none = sym reads.read.alone ∙ both in
+    record {
+      loads = both_loads k old mid x c.in_ok-loaded.is_alone was reads.read reads.gives both;
+      phases = phases_read k old mid reads.settled;
+      stops = tt;
+      writes = inl was.seen;
+      completed = none_completed k mid (k.seen old) x.root reads.read.root none;
+      completes = none_completes k old mid none;
+      untouched = tt;
+      memory = tt;
+      cause = c.in_ok-loaded.ensures.looks.cause honest;
+    }
 
 pub returns-then-loaded-ge-NUMBER_MAX-clause-loads : goal.returns-then-loaded-ge-NUMBER_MAX-clause-loads
 returns-then-loaded-ge-NUMBER_MAX-clause-loads g c honest =
-    let r = c.in_ok-loaded.ensures in
-    last_loads g.D.Disk c.args.disk.now c.read_store.new.disk c.in_ok-loaded.loaded c.in_ok-loaded.is_alone
-    (r.run honest) (r.read honest) (r.gives honest) (r.honest.1 honest) (search rules) (omega arith)
+    let k = g.D.Disk in
+    let old = c.args.disk.now in
+    let mid = c.read_store.new.disk in
+    let x = c.in_ok-loaded.loaded in
+    let reads = c.in_ok-loaded.ensures.reads honest in
+    let was = c.in_ok-loaded.ensures.looks.looks honest in
+    let last : sequence_max ≤ x.root.sequence = omega arith in
+    record {
+      loads = last_loads k old mid x c.in_ok-loaded.is_alone was reads.read reads.gives (search rules) last;
+      phases = phases_read k old mid reads.settled;
+      stops = tt;
+      writes = inl was.seen;
+      completed = last_completed k mid (k.seen old) x.root reads.read.root last;
+      completes = last_completes k old mid x.root reads.read.root last;
+      untouched = tt;
+      memory = tt;
+      cause = c.in_ok-loaded.ensures.looks.cause honest;
+    }
 
 pub returns-in_err-heal-clause-loads : goal.returns-in_err-heal-clause-loads
 returns-in_err-heal-clause-loads g c honest =
     let k = g.D.Disk in
     let old = c.args.disk.now in
     let mid = c.read_store.new.disk in
-    let r = c.in_ok-loaded.ensures in
+    let new = c.heal.new.disk in
     let x = c.in_ok-loaded.loaded in
+    let fault = c.in_err-heal.field-0.0 in
+    let reads = c.in_ok-loaded.ensures.reads honest in
+    let was = c.in_ok-loaded.ensures.looks.looks honest in
+    let now = c.in_err-heal.ensures.heals was.honest in
     let alone : c.in_ok-loaded.is_alone ≡ true = search rules in
-    let settled = shuts k old mid x c.in_ok-loaded.is_alone (r.run honest) (r.read honest) (r.gives honest) alone in
-    let heals = c.heal.ensures.heals (r.honest.1 honest) (kept_in x) refl settled in
-    let still = (c.in_err-heal.ensures.heals (r.honest.1 honest)
-    (kept_in x) refl settled).err in
-    failed_loads k old mid x c.in_ok-loaded.is_alone (r.run honest) (r.read honest)
-    (r.gives honest) c.heal.new.disk c.heal.result heals c.in_err-heal.field-0.0 c.from_residual-in_err-heal.result
-    c.from_residual-in_err-heal.ensures.1
-    (refuses_device c.in_err-heal.field-0.0 (reading (k.seen old)) c.in_err-heal.ensures.err) still
+    let shut = sym reads.read.alone ∙ alone in
+    let below : x.root.sequence < sequence_max = omega arith in
+    let heals = now.heals (kept_in x) refl (shuts k old mid x c.in_ok-loaded.is_alone was reads.read reads.gives alone) in
+    let device = c.in_err-heal.ensures.err in
+    at_err (LoadsHonestly k old new) c.from_residual-in_err-heal.result fault c.from_residual-in_err-heal.ensures.1
+    (record {
+      loads =
+          failed_loads k old mid x c.in_ok-loaded.is_alone was reads.read reads.gives new (Err fault) heals fault
+          (refuses_device fault (reading (k.seen old)) device) heals.err;
+      phases = tt;
+      stops =
+          inr (phases_healed k old mid new (kept_in x) reads.gives reads.read.root shut below reads.settled now.calls
+          heals.run (now.elsewhere (k.seen old) reads.read.only));
+      writes =
+          body_writes (k.seen old) (k.seen mid) (k.seen new) x.root reads.read.root shut was.seen below now.torn;
+      completed = tt;
+      completes = tt;
+      untouched = λ other. absurd (other device);
+      memory = λ memory. absurd (cc (memory, device));
+      cause =
+          causes_from (Unit {0}) fault (k.faults old) (k.faults mid) (k.faults new)
+          (c.in_ok-loaded.ensures.looks.cause honest) now.cause;
+    })
 
 pub returns-clause-loads : goal.returns-clause-loads
 returns-clause-loads g c honest =
     let k = g.D.Disk in
     let old = c.args.disk.now in
     let mid = c.read_store.new.disk in
-    let r = c.in_ok-loaded.ensures in
-    let x = c.in_ok-loaded.loaded in
-    let alone : c.in_ok-loaded.is_alone ≡ true = search rules in
-    let settled = shuts k old mid x c.in_ok-loaded.is_alone (r.run honest) (r.read honest) (r.gives honest) alone in
-    let heals = c.heal.ensures.heals (r.honest.1 honest) (kept_in x) refl settled in
-    let rest = (c.in_ok-heal.ensures.heals (r.honest.1 honest)
-    (kept_in x) refl settled).ok in
-    healed_loads k old mid x c.in_ok-loaded.is_alone (r.run honest) (r.read honest)
-    (r.gives honest) c.heal.new.disk c.heal.result heals rest
-
-pub returns-in_err-loaded-clause-writes : goal.returns-in_err-loaded-clause-writes
-returns-in_err-loaded-clause-writes g c honest = inl (c.read_store.ensures.seen honest)
-
-pub returns-then-not-is_alone-clause-writes : goal.returns-then-not-is_alone-clause-writes
-returns-then-not-is_alone-clause-writes g c honest = inl (c.read_store.ensures.seen honest)
-
-pub returns-then-loaded-ge-NUMBER_MAX-clause-writes : goal.returns-then-loaded-ge-NUMBER_MAX-clause-writes
-returns-then-loaded-ge-NUMBER_MAX-clause-writes g c honest = inl (c.read_store.ensures.seen honest)
-
-pub returns-in_err-heal-clause-writes : goal.returns-in_err-heal-clause-writes
-returns-in_err-heal-clause-writes g c honest =
-    let k = g.D.Disk in
-    let r = c.in_ok-loaded.ensures in
-    let alone : c.in_ok-loaded.is_alone ≡ true = search rules in
-    let below : c.in_ok-loaded.loaded.root.sequence < sequence_max = omega arith in
-    body_writes (k.seen c.args.disk.now) (k.seen c.read_store.new.disk) (k.seen c.heal.new.disk) c.in_ok-loaded.loaded.root
-    (r.read honest).root (sym (r.read honest).alone ∙ alone) (r.seen honest) below
-    (c.heal.ensures.torn (r.honest.1 honest))
-
-pub returns-clause-writes : goal.returns-clause-writes
-returns-clause-writes g c honest =
-    let k = g.D.Disk in
-    let r = c.in_ok-loaded.ensures in
-    let alone : c.in_ok-loaded.is_alone ≡ true = search rules in
-    let below : c.in_ok-loaded.loaded.root.sequence < sequence_max = omega arith in
-    body_writes (k.seen c.args.disk.now) (k.seen c.read_store.new.disk) (k.seen c.heal.new.disk) c.in_ok-loaded.loaded.root
-    (r.read honest).root (sym (r.read honest).alone ∙ alone) (r.seen honest) below
-    (c.heal.ensures.torn (r.honest.1 honest))
-
-pub returns-then-not-is_alone-clause-completed : goal.returns-then-not-is_alone-clause-completed
-returns-then-not-is_alone-clause-completed g c honest =
-    let read = c.in_ok-loaded.ensures.read honest in
-    let both : c.in_ok-loaded.is_alone ≡ false = search rules in
-    none_completed g.D.Disk c.read_store.new.disk (g.D.Disk.seen c.args.disk.now) c.in_ok-loaded.loaded.root read.root
-    (sym read.alone ∙ both)
-
-pub returns-then-loaded-ge-NUMBER_MAX-clause-completed : goal.returns-then-loaded-ge-NUMBER_MAX-clause-completed
-returns-then-loaded-ge-NUMBER_MAX-clause-completed g c honest =
-    last_completed g.D.Disk c.read_store.new.disk (g.D.Disk.seen c.args.disk.now) c.in_ok-loaded.loaded.root
-    (c.in_ok-loaded.ensures.read honest).root (omega arith)
-
-pub returns-clause-completed : goal.returns-clause-completed
-returns-clause-completed g c honest =
-    let k = g.D.Disk in
-    let old = c.args.disk.now in
-    let mid = c.read_store.new.disk in
-    let r = c.in_ok-loaded.ensures in
-    let x = c.in_ok-loaded.loaded in
-    let alone : c.in_ok-loaded.is_alone ≡ true = search rules in
-    let settled = shuts k old mid x c.in_ok-loaded.is_alone (r.run honest) (r.read honest) (r.gives honest) alone in
-    twin_completed k c.heal.new.disk (k.seen old) x.root (r.read honest).root
-    (c.in_ok-heal.ensures.heals (r.honest.1 honest) (kept_in x) refl settled).twin
-
-pub returns-in_err-loaded-clause-untouched : goal.returns-in_err-loaded-clause-untouched
-returns-in_err-loaded-clause-untouched g c honest =
-    let r = c.read_store.ensures in
-    untouched_err g.D.Disk c.args.disk.now c.read_store.new.disk c.in_err-loaded.field-0.0 c.from_residual.result
-    c.from_residual.ensures.1 (r.seen honest) (r.fewer honest) (r.run honest)
-
-pub returns-in_err-heal-clause-untouched : goal.returns-in_err-heal-clause-untouched
-returns-in_err-heal-clause-untouched g c honest =
-    device_err (Untouched g.D.Disk c.args.disk.now c.heal.new.disk) c.in_err-heal.field-0.0 c.from_residual-in_err-heal.result c.from_residual-in_err-heal.ensures.1
-    c.in_err-heal.ensures.err
-
-pub returns-in_err-loaded-clause-memory : goal.returns-in_err-loaded-clause-memory
-returns-in_err-loaded-clause-memory g c honest =
-    let file = g.D.Disk.seen c.args.disk.now in
-    if_err c.from_residual.result c.in_err-loaded.field-0.0 (λ (e : LoadFault). e ≡ OutOfMemory → HasRoot file)
-    c.from_residual.ensures.1 (c.in_err-loaded.ensures.memory honest)
-
-pub returns-in_err-heal-clause-memory : goal.returns-in_err-heal-clause-memory
-returns-in_err-heal-clause-memory g c honest =
-    device_or_memory (HasRoot (g.D.Disk.seen c.args.disk.now)) c.in_err-heal.field-0.0 c.from_residual-in_err-heal.result c.from_residual-in_err-heal.ensures.1
-    c.in_err-heal.ensures.err
-
-pub returns-in_err-loaded-clause-stops : goal.returns-in_err-loaded-clause-stops
-returns-in_err-loaded-clause-stops g c honest =
-    let k = g.D.Disk in
-    let old = c.args.disk.now in
-    if_err c.from_residual.result c.in_err-loaded.field-0.0
-    (λ (e : LoadFault). Stops k old (e ≡ Device) c.read_store.new.disk) c.from_residual.ensures.1
-    (c.in_err-loaded.ensures.stops honest)
-
-pub returns-in_err-heal-clause-stops : goal.returns-in_err-heal-clause-stops
-returns-in_err-heal-clause-stops g c honest =
-    let k = g.D.Disk in
-    let old = c.args.disk.now in
-    let mid = c.read_store.new.disk in
     let new = c.heal.new.disk in
-    let r = c.in_ok-loaded.ensures in
     let x = c.in_ok-loaded.loaded in
-    let read = r.read honest in
+    let reads = c.in_ok-loaded.ensures.reads honest in
+    let was = c.in_ok-loaded.ensures.looks.looks honest in
+    let now = c.in_ok-heal.ensures.heals was.honest in
     let alone : c.in_ok-loaded.is_alone ≡ true = search rules in
-    let below : c.in_ok-loaded.loaded.root.sequence < sequence_max = omega arith in
-    let settled = shuts k old mid x c.in_ok-loaded.is_alone (r.run honest) (r.read honest) (r.gives honest) alone in
-    let heals = c.heal.ensures.heals (r.honest.1 honest) (kept_in x) refl settled in
-    let few = c.in_err-heal.ensures.calls (r.honest.1 honest) in
-    if_err c.from_residual-in_err-heal.result c.in_err-heal.field-0.0
-    (λ (e : LoadFault). Stops k old (e ≡ Device) new) c.from_residual-in_err-heal.ensures.1
-    (inr (phases_healed k old mid new (kept_in x) (r.gives honest) read.root (sym read.alone ∙ alone) below
-    (r.settled honest) few heals.run (c.heal.ensures.elsewhere (r.honest.1 honest) (k.seen old) read.only)))
-
-pub returns-clause-phases : goal.returns-clause-phases
-returns-clause-phases g c honest =
-    let k = g.D.Disk in
-    let old = c.args.disk.now in
-    let mid = c.read_store.new.disk in
-    let r = c.in_ok-loaded.ensures in
-    let x = c.in_ok-loaded.loaded in
-    let read = r.read honest in
-    let alone : c.in_ok-loaded.is_alone ≡ true = search rules in
-    let below : c.in_ok-loaded.loaded.root.sequence < sequence_max = omega arith in
-    let settled = shuts k old mid x c.in_ok-loaded.is_alone (r.run honest) (r.read honest) (r.gives honest) alone in
-    let heals = c.heal.ensures.heals (r.honest.1 honest) (kept_in x) refl settled in
-    let few : k.calls c.heal.new.disk ≤ k.calls mid + 2 =
-    omega (arith, c.in_ok-heal.ensures.calls (r.honest.1 honest)) in
-    phases_healed k old mid c.heal.new.disk (kept_in x) (r.gives honest) read.root (sym read.alone ∙ alone) below
-    (r.settled honest) few heals.run (c.heal.ensures.elsewhere (r.honest.1 honest) (k.seen old) read.only)
-
-pub returns-then-not-is_alone-clause-phases : goal.returns-then-not-is_alone-clause-phases
-returns-then-not-is_alone-clause-phases g c honest =
-    phases_read g.D.Disk c.args.disk.now c.read_store.new.disk (c.in_ok-loaded.ensures.settled honest)
-
-pub returns-then-loaded-ge-NUMBER_MAX-clause-phases : goal.returns-then-loaded-ge-NUMBER_MAX-clause-phases
-returns-then-loaded-ge-NUMBER_MAX-clause-phases g c honest =
-    phases_read g.D.Disk c.args.disk.now c.read_store.new.disk (c.in_ok-loaded.ensures.settled honest)
-
-pub returns-then-not-is_alone-clause-completes : goal.returns-then-not-is_alone-clause-completes
-returns-then-not-is_alone-clause-completes g c honest =
-    let both : c.in_ok-loaded.is_alone ≡ false = search rules in
-    none_completes g.D.Disk c.args.disk.now c.read_store.new.disk
-    (sym (c.in_ok-loaded.ensures.read honest).alone ∙ both)
-
-pub returns-then-loaded-ge-NUMBER_MAX-clause-completes : goal.returns-then-loaded-ge-NUMBER_MAX-clause-completes
-returns-then-loaded-ge-NUMBER_MAX-clause-completes g c honest =
-    last_completes g.D.Disk c.args.disk.now c.read_store.new.disk c.in_ok-loaded.loaded.root
-    (c.in_ok-loaded.ensures.read honest).root (omega arith)
-
-pub returns-clause-completes : goal.returns-clause-completes
-returns-clause-completes g c honest to =
-    let r = c.in_ok-loaded.ensures in
+    let shut = sym reads.read.alone ∙ alone in
+    let below : x.root.sequence < sequence_max = omega arith in
+    let heals = now.heals (kept_in x) refl (shuts k old mid x c.in_ok-loaded.is_alone was reads.read reads.gives alone) in
+    let few : k.calls new ≤ k.calls mid + 2 = omega (arith, now.calls) in
     record {
-      read = c.read_store.new.disk;
-      settled = r.settled honest;
-      two = c.in_ok-heal.ensures.calls (r.honest.1 honest);
+      loads = healed_loads k old mid x c.in_ok-loaded.is_alone was reads.read reads.gives new _ heals heals.ok;
+      phases =
+          phases_healed k old mid new (kept_in x) reads.gives reads.read.root shut below reads.settled few heals.run
+          (now.elsewhere (k.seen old) reads.read.only);
+      stops = tt;
+      writes =
+          body_writes (k.seen old) (k.seen mid) (k.seen new) x.root reads.read.root shut was.seen below now.torn;
+      completed = twin_completed k new (k.seen old) x.root reads.read.root heals.twin;
+      completes = λ to. record { read = mid; settled = reads.settled; two = now.calls };
+      untouched = tt;
+      memory = tt;
+      cause = now.cause ∙ c.in_ok-loaded.ensures.looks.cause honest;
     }
