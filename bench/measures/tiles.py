@@ -26,7 +26,7 @@ from bench.tile_texts import Draws, closed, lines_of  # noqa: E402
 HERE = pathlib.Path(__file__).resolve().parent
 
 
-# Families for times: two layers of so many edges each in column 8, on even coordinates
+# Families for times: two layers of so many edges each in column 16
 
 
 def round_about(x, y, step, radii):
@@ -79,7 +79,8 @@ FAMILIES = {"star": stars, "parcels": parcels, "self-crossing": self_crossing, "
 
 
 def even(layers):
-    return [[[(2 * x, 2 * y) for x, y in ring] for ring in layer] for layer in layers]
+    """The same layers on even coordinates, so that each edge has a whole middle."""
+    return [[[(x // 2 * 2, y // 2 * 2) for x, y in ring] for ring in layer] for layer in layers]
 
 
 def halved(layers):
@@ -124,7 +125,7 @@ def in_turns(runs):
 
 def written(folder, name, layers):
     path = folder / name
-    path.write_text(lines_of(8, "A ^ B", layers))
+    path.write_text(lines_of(16, "A ^ B", layers))
     return path
 
 

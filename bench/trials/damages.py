@@ -18,6 +18,7 @@ import struct
 import subprocess
 import sys
 import tempfile
+from collections.abc import Iterator
 
 sys.path.insert(0, str(pathlib.Path(__file__).resolve().parents[2]))
 
@@ -141,7 +142,7 @@ def named(one, two, tiled):
     yield "a tile names another column", tiled, put(tile + 1, b"\20"), "33 8"
 
 
-def named_old(six):
+def named_old(six: bytes) -> Iterator[tuple[str, bytes, list[tuple[int, int]], str]]:
     """The same of the file of six blocks of format 1, whose root is in slot 1 and whose slot 0 is closed."""
     slot, catalog = root_of(six)
     assert (slot, catalog) == (BLOCK, read_store.Extent(5, 61)) and old_files.tiles_of(six) == [(2 * BLOCK, 142)]
@@ -239,7 +240,7 @@ def lists(words, files, of=""):
     return wrong
 
 
-def are_left(name, old, files):
+def are_left(name: str, old: bytes, files: dict[str, bytes]) -> int:
     """Whether what opening a file of format 1 leaves, and what commits over it, is what it has to be."""
     number, layers = int(read_store.told(old)[0].split()[1]), read_store.told(old)[1:]
     wrong = 0
@@ -253,7 +254,7 @@ def are_left(name, old, files):
     return wrong
 
 
-def of_format_1(program, folder):
+def of_format_1(program: pathlib.Path, folder: pathlib.Path) -> int:
     """All of it for the files of format 1, and for those that opening and commits leave of them."""
     wrong = 0
     for name, path in old_files.written(folder).items():
@@ -269,7 +270,7 @@ def of_format_1(program, folder):
     return wrong
 
 
-def test():
+def test() -> int:
     """Looks at the files of format 1 by the reader that stands by itself, and at the alterations of one."""
     six, released = old_files.in_six_blocks(), old_files.released()
     layers = {name: read_by_itself(data) for name, data in (("six", six), ("released", released))}
