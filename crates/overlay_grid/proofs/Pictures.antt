@@ -10,8 +10,8 @@ use Rattle.overlay_terms.specs.Trees.{Steps}
 use Rattle.overlay_terms.specs.Layers.{Name, Layer, Marked, inside, outside, edge, answer_at, value_of, base_of, layers_in_reach, marked_segments, segments_in_reach, steps_in_reach}
 use Rattle.overlay_terms.specs.Orderly.{IsOrderly}
 use Rattle.overlay_terms.proofs.ValueLemmas.{value_is_steps}
-use Rattle.grid_lines.specs.declared.rising.Rise.{Rise}
-use Rattle.grid_lines.specs.Column.{column_text, is_on_marked, mark_at, mark_by}
+use Rattle.overlay_grid.specs.declared.rising.Rise.{Rise}
+use Rattle.overlay_grid.specs.Column.{column_text, is_on_marked, mark_at, mark_by}
 use Rattle.overlay_grid.specs.Grid.{Grid, grid_point, grid_row, grid_text, mark_of}
 use Rattle.overlay_grid.specs.Rows.{column_at, columns_of, row_of, rows_text}
 

@@ -9,7 +9,7 @@ use Rattle.std.proofs.lemmas.List.Folds.{list_all_at}
 use Rattle.std.proofs.lemmas.List.FromFn.{length-range_with_len, get_or-range_with_len}
 use Rattle.std.proofs.Math.Nat.{mul-le-mul_left}
 use Rattle.overlay_terms.specs.Plane.{InRange}
-use Rattle.grid_lines.proofs.RisingLemmas.{first_is}
+use Rattle.overlay_grid.proofs.RisingLemmas.{first_is}
 use Rattle.overlay_grid.specs.Grid.{Grid, all_in_range, in_range, is_within_range}
 
 le_says : (a b : ℤ) → int_le a b ≡ true → a ≤ℤ b

@@ -3,7 +3,7 @@ use Rattle.std.specs.Prelude.{ℕ, List, [], ◌∷◌, ◌++◌, map, flat_map,
 use Rattle.std.specs.List.{range_with_len}
 use Rattle.overlay_terms.specs.Layers.{Marked}
 use Rattle.overlay_terms.specs.Trees.{Steps}
-use Rattle.grid_lines.specs.Column.{mark_at}
+use Rattle.overlay_grid.specs.Column.{mark_at}
 use Rattle.overlay_grid.specs.Grid.{Grid, grid_point}
 
 -- a column of the picture, from below, by the segments and steps in reach

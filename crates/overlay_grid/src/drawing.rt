@@ -8,11 +8,12 @@ ghost use Rattle.layer_book.specs.Layer.{IsBook};
 ghost use Rattle.overlay_grid.specs.Grid.{all_in_range, grid_refusal, grid_text, is_within_range, side_max, step_max};
 ghost use Rattle.overlay_grid.specs.Rows.{column_at, columns_of};
 
+use crate::columns::column;
 use crate::fault::GridFault;
 use crate::grid_spec::GridSpec;
+use crate::rising::Rise;
 use crate::rows::written;
 use exact_point::PointFault;
-use grid_lines::{Rise, column};
 use layer_book::Layers;
 use layer_book::fault::LayerFault;
 use layer_expr::StepList;

@@ -15,7 +15,7 @@ use Rattle.exact_point.specs.declared.point.HPoint.{HPoint}
 use Rattle.exact_point.proofs.ByX.{left_before}
 use Rattle.sweep_line.specs.RightEnds.{lies_right, AreLeftmostLast, IsLast}
 use Rattle.sweep_line.specs.Status.{goes_on, HasEndsFor, HasLostOne}
-use Rattle.sweep_line.specs.declared.status.Entry.{Entry}
+use Rattle.sweep_line.specs.declared.status.StatusEntry.{StatusEntry}
 use Rattle.sweep_line.proofs.ListLemmas.{pairs_insert}
 use Rattle.sweep_line.proofs.Passing.{Order, before, equal, behind, order_of}
 
@@ -86,18 +86,18 @@ one_more_end ends k v ordered point =
     not_right u right = turned ((place v).x *ℤ (place u).w) ((place u).x *ℤ (place v).w) right
 
 -- ---- the pieces that end
-abbrev ended : Point → Entry → ℕ
+abbrev ended : Point → StatusEntry → ℕ
 ended q e = cond (not (goes_on q e)) 1 0
 
 abbrev stays : Point → HPoint → ℕ
 stays q v = cond (not (lies_right q v)) 1 0
 
 -- without some pieces
-pub fewer_pieces : (p : Point) (entries : List Entry) (ends : List HPoint) → HasEndsFor entries ends → HasEndsFor (filter (goes_on p) entries) ends
+pub fewer_pieces : (p : Point) (entries : List StatusEntry) (ends : List HPoint) → HasEndsFor entries ends → HasEndsFor (filter (goes_on p) entries) ends
 fewer_pieces p entries ends have q hq = omega (arith, have q hq, sum_by-filter_both (goes_on p) (λ e. not (goes_on p e)) (λ e. refl) (ended q) entries)
 
 -- a piece less, and the last right end with its x
-pub lost : (old new : List Entry) (ends : List HPoint) (v : HPoint) → HasEndsFor old ends → IsLast ends v → HasLostOne (place v) old new → HasEndsFor new (take (length ends - 1) ends)
+pub lost : (old new : List StatusEntry) (ends : List HPoint) (v : HPoint) → HasEndsFor old ends → IsLast ends v → HasLostOne (place v) old new → HasEndsFor new (take (length ends - 1) ends)
 lost old new ends v have last (k, e, k_in, at, level, is) q hq =
     let rest : List HPoint = take (length ends - 1) ends in
     let one : count_by (λ u. not (lies_right q u)) ends ≡ count_by (λ u. not (lies_right q u)) rest + stays q v =
@@ -138,14 +138,14 @@ module _ {X : Type 0} (p : X → Bool) where
   filter_without (y ∷ ys) (suc k) x l at out = ap (λ zs. cond (p y) (y ∷ zs) zs) (filter_without ys k x (omega (arith, l)) at out)
 
 -- where all right ends lie right of a point, all pieces go on
-pub all_go_on : (q : Point) (entries : List Entry) (ends : List HPoint) → pos 0 <ℤ q.w → HasEndsFor entries ends → All (λ v. lies_right q v ≡ true) ends → filter (goes_on q) entries ≡ entries
+pub all_go_on : (q : Point) (entries : List StatusEntry) (ends : List HPoint) → pos 0 <ℤ q.w → HasEndsFor entries ends → All (λ v. lies_right q v ≡ true) ends → filter (goes_on q) entries ≡ entries
 all_go_on q entries ends hq have all = kept_whole (goes_on q) entries (omega (arith, have q hq, none_counted (lies_right q) ends all))
 
 -- the piece that is taken out did not go on
-pub lost_goes : (q : Point) (v : HPoint) (old new : List Entry) → pos 0 <ℤ q.w → lies_right q v ≡ false → HasLostOne (place v) old new → filter (goes_on q) new ≡ filter (goes_on q) old
+pub lost_goes : (q : Point) (v : HPoint) (old new : List StatusEntry) → pos 0 <ℤ q.w → lies_right q v ≡ false → HasLostOne (place v) old new → filter (goes_on q) new ≡ filter (goes_on q) old
 lost_goes q v old new hq out (k, e, k_in, at, level, is) =
     ap (filter (goes_on q)) is ∙ filter_without (goes_on q) old k e k_in at (one_side q e.to v hq level ∙ out)
 
 -- and there is one less
-pub lost_shorter : (q : Point) (old new : List Entry) → HasLostOne q old new → length new < length old
+pub lost_shorter : (q : Point) (old new : List StatusEntry) → HasLostOne q old new → length new < length old
 lost_shorter q old new (k, e, k_in, at, level, is) = omega (arith, ap length is, length-remove old k k_in)

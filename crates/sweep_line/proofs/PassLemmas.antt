@@ -21,7 +21,7 @@ use Rattle.sweep_line.specs.Label.{IsLabelled}
 use Rattle.sweep_line.specs.Status.{goes_on, is_passed}
 use Rattle.sweep_line.specs.Sweep.{IsEntryOf, IsSwept, IsStatus, Begins, Passes}
 use Rattle.sweep_line.specs.declared.labelled.Labelled.{Labelled}
-use Rattle.sweep_line.specs.declared.status.Entry.{Entry}
+use Rattle.sweep_line.specs.declared.status.StatusEntry.{StatusEntry}
 use Rattle.sweep_line.proofs.InputLemmas.{labelled}
 use Rattle.sweep_line.proofs.SideTests.{IsTestFor, slanted_test, upright_test, goes_nowhere}
 use Rattle.sweep_line.proofs.Sweeping.{IsTurnOf, partitioned, under_is, passed_upright, passed_slanted}
@@ -47,18 +47,18 @@ starts input pieces = (
     first p h = once (border input.column *ℤ p.w) p.x (le_true (border input.column *ℤ p.w) p.x h)
 
 -- what the status says at a place: how many entries stand under a piece, and what lies under it
-pub record Learned (e : Elementary) (q : Point) (status : List Entry) (k under : ℕ) : Type 0 where
+pub record Learned (e : Elementary) (q : Point) (status : List StatusEntry) (k under : ℕ) : Type 0 where
   pub bound : k ≤ length status
   pub point : IsPartitionedBy (is_passed q e.support) status → IsPartitionPoint (λ a. is_passed q e.support a ≡ true) (λ a. is_passed q e.support a ≡ false) status k
   pub lowest : k ≡ 0 → under ≡ 0
-  pub above : (n : ℕ) (d : Entry) → k ≡ suc n → under ≡ (get_or status n d).over
+  pub above : (n : ℕ) (d : StatusEntry) → k ≡ suc n → under ≡ (get_or status n d).over
 
 -- the label of a piece
 abbrev pub label_of : Elementary → ℕ → Labelled
 label_of e under = record { piece = e; under = under; over = bit_xor under e.mask }
 
-module _ (e : Elementary) (old new : List Entry) (k under : ℕ) (learned : Learned e (place_of e.from) (filter (goes_on (place_of e.from)) old) k under) (begins : Begins k (label_of e under) (filter (goes_on (place_of e.from)) old) new) where
-  abbrev on : List Entry
+module _ (e : Elementary) (old new : List StatusEntry) (k under : ℕ) (learned : Learned e (place_of e.from) (filter (goes_on (place_of e.from)) old) k under) (begins : Begins k (label_of e under) (filter (goes_on (place_of e.from)) old) new) where
+  abbrev on : List StatusEntry
   on = filter (goes_on (place_of e.from)) old
 
   module _ (input : Input) (pieces : List Elementary) (i : ℕ) (from : Point) (is_turn : IsTurnOf input pieces i e from old) where
@@ -103,7 +103,7 @@ module _ (e : Elementary) (old new : List Entry) (k under : ℕ) (learned : Lear
       by_direction input pieces i status.0 (record { valid = valid; are = are; inside = inside; here = here; swept = status.1 }) (leads e.support begins.ahead)
 
 -- passing a piece, in its parts
-pub passes : (e : Elementary) (old on new : List Entry) (q : Point) (k under : ℕ) (l : Labelled) → q ≡ place_of e.from → on ≡ filter (goes_on q) old → Learned e q on k under → l ≡ label_of e under → Begins k l on new → Passes e l old new
+pub passes : (e : Elementary) (old on new : List StatusEntry) (q : Point) (k under : ℕ) (l : Labelled) → q ≡ place_of e.from → on ≡ filter (goes_on q) old → Learned e q on k under → l ≡ label_of e under → Begins k l on new → Passes e l old new
 passes e old on new q k under l at left learned is begins =
     let one : Learned e (place_of e.from) on k under = subst (λ p. Learned e p on k under) at learned in
     let there : on ≡ filter (goes_on (place_of e.from)) old = left ∙ ap (λ p. filter (goes_on p) old) at in

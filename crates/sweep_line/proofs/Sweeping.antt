@@ -39,20 +39,20 @@ use Rattle.exact_point.proofs.ByX.{Left, AtMost, left_after, at_most_through}
 use Rattle.exact_point.proofs.OnLine.{on_line}
 use Rattle.sweep_line.specs.Status.{goes_on, passes_under, is_passed}
 use Rattle.sweep_line.specs.Sweep.{IsEntryOf, StandsUnder, IsSwept}
-use Rattle.sweep_line.specs.declared.status.Entry.{Entry}
+use Rattle.sweep_line.specs.declared.status.StatusEntry.{StatusEntry}
 use Rattle.sweep_line.proofs.ListLemmas.{pairs_map, pairs_take, all_first, among_first, all_insert, pairs_insert, any_insert, inserted, image_at}
 use Rattle.sweep_line.proofs.Passing.{Order, before, equal, behind, order_of, not_itself, lies, not_known}
 use Rattle.sweep_line.proofs.SideTests.{IsTestFor, over_begin, slanted_test}
 
 -- what is asked: the number of a piece among all, and the status after those before it
-pub record IsTurnOf (input : Input) (pieces : List Elementary) (i : ℕ) (e : Elementary) (from : Point) (old : List Entry) : Type 0 where
+pub record IsTurnOf (input : Input) (pieces : List Elementary) (i : ℕ) (e : Elementary) (from : Point) (old : List StatusEntry) : Type 0 where
   pub valid : IsInput input
   pub are : ArePieces input pieces
   pub inside : i < length pieces
   pub here : get_or pieces i e ≡ e
   pub swept : IsSwept input (take i pieces) from old
 
-module _ (input : Input) (pieces : List Elementary) (i : ℕ) (e : Elementary) (from : Point) (old : List Entry) (is_turn : IsTurnOf input pieces i e from old) where
+module _ (input : Input) (pieces : List Elementary) (i : ℕ) (e : Elementary) (from : Point) (old : List StatusEntry) (is_turn : IsTurnOf input pieces i e from old) where
   abbrev q : Point
   q = place_of e.from
 
@@ -60,7 +60,7 @@ module _ (input : Input) (pieces : List Elementary) (i : ℕ) (e : Elementary) (
   done = take i pieces
 
   -- the entries that go on
-  abbrev on : List Entry
+  abbrev on : List StatusEntry
   on = filter (goes_on (place_of e.from)) old
 
   is_e : IsElementary input e
@@ -86,14 +86,14 @@ module _ (input : Input) (pieces : List Elementary) (i : ℕ) (e : Elementary) (
   later = is_turn.swept.ahead e is_e come_before
 
   -- ---- an entry that goes on is that of a piece over the x
-  record Origin (a : Entry) : Type 0 where
+  record Origin (a : StatusEntry) : Type 0 where
     pub piece : Elementary
     pub known : Contains done piece
     pub entry : IsEntryOf input piece a
     pub sound : IsElementary input piece
     pub over : IsOver input a.support (place_of piece.from) (place_of piece.to) q
 
-  origin_by : (a : Entry) → goes_on q a ≡ true → Any (λ p. IsEntryOf input p a) done → Origin a
+  origin_by : (a : StatusEntry) → goes_on q a ≡ true → Any (λ p. IsEntryOf input p a) done → Origin a
   origin_by a going (j, p, l, at, entry) =
       let sound : IsElementary input p = All-contains (IsElementary input) done p done_sound (j, l, at) in
       let begun : AtMost (place_of p.from) from = All-contains (λ p. AtMost (place_of p.from) from) done p is_turn.swept.begun (j, l, at) in
@@ -114,12 +114,12 @@ module _ (input : Input) (pieces : List Elementary) (i : ℕ) (e : Elementary) (
         };
       }
 
-  origin : (a : Entry) → Contains on a → Origin a
+  origin : (a : StatusEntry) → Contains on a → Origin a
   origin a c =
       origin_by a (All-contains (λ x. goes_on q x ≡ true) on a (filter_passes (goes_on q) old) c)
       (All-contains (λ a. Any (λ p. IsEntryOf input p a) done) old a is_turn.swept.entries (Contains-from_filter (goes_on q) old a c))
 
-  contains_at : (j : ℕ) (d : Entry) → j < length on → Contains on (get_or on j d)
+  contains_at : (j : ℕ) (d : StatusEntry) → j < length on → Contains on (get_or on j d)
   contains_at j d l = (j, l, get_or_default on j (get_or on j d) d l)
 
   entries_over : All (λ a. is_over_x a.support q ≡ true) on
@@ -130,7 +130,7 @@ module _ (input : Input) (pieces : List Elementary) (i : ℕ) (e : Elementary) (
   still_ordered : AllPairs (StandsUnder from) on
   still_ordered = AllPairs-filter (StandsUnder from) (goes_on q) old is_turn.swept.ordered
 
-  going_at : (j : ℕ) (d : Entry) → j < length on → goes_on q (get_or on j d) ≡ true
+  going_at : (j : ℕ) (d : StatusEntry) → j < length on → goes_on q (get_or on j d) ≡ true
   going_at j d l = filter_passes (goes_on q) old j d l
 
   ordered_there : AllPairs (λ a b. is_under a.support b.support q ≡ true) on
@@ -138,7 +138,7 @@ module _ (input : Input) (pieces : List Elementary) (i : ℕ) (e : Elementary) (
 
   -- ---- what passes under the place stands first
   module _ (test : Segment → Bool) (is_test : IsTestFor input e test) where
-    passed_at : (j : ℕ) (d : Entry) → j < length on → is_passed q e.support (get_or on j d) ≡ test (get_or on j d).support
+    passed_at : (j : ℕ) (d : StatusEntry) → j < length on → is_passed q e.support (get_or on j d) ≡ test (get_or on j d).support
     passed_at j d l = is_test.passed (get_or on j d).support (entries_over j d l)
 
     pub partitioned : IsPartitionedBy (is_passed (place_of e.from) e.support) on
@@ -216,7 +216,7 @@ module _ (input : Input) (pieces : List Elementary) (i : ℕ) (e : Elementary) (
     -- ---- those that stand under the piece
     module _ (k : ℕ) (k_in : k ≤ length on) (point : IsPartitionPoint (λ a. is_passed (place_of e.from) e.support a ≡ true) (λ a. is_passed (place_of e.from) e.support a ≡ false) on k) where
       abbrev below : List Segment
-      below = map (λ (a : Entry). a.support) (take k on)
+      below = map (λ (a : StatusEntry). a.support) (take k on)
 
       entry_there : (t : Segment) (known : Known t) → Any (λ a. IsEntryOf input known.piece a) old → Any (λ s. is_level t s q ≡ true) below
       entry_there t known (j, a, l, at, entry) =
@@ -224,31 +224,31 @@ module _ (input : Input) (pieces : List Elementary) (i : ℕ) (e : Elementary) (
           let c : Contains on a = Contains-filter (goes_on q) old a (j, l, at) going in
           let pass : is_passed q e.support a ≡ true = subst (λ s. passes_under q e.support s ≡ true) (sym entry.support) known.passes in
           let first : Contains (take k on) a = among_first (λ a. is_passed q e.support a ≡ false) k on k_in point.1 a c (λ f. both_ways (is_passed q e.support a) f pass) in
-          let image : Contains below a.support = contains_map (λ (a : Entry). a.support) (take k on) a first in
+          let image : Contains below a.support = contains_map (λ (a : StatusEntry). a.support) (take k on) a first in
           (image.0, a.support, image.1, image.2, subst (λ s. is_level t s q ≡ true) (sym entry.support) known.level)
 
       are_below : AreBelow q is_test.positive input test below
       are_below = record {
-        ordered = pairs_map (λ s t. is_under s t q ≡ true) (λ (a : Entry). a.support) (take k on) (pairs_take (λ (a b : Entry). is_under a.support b.support q ≡ true) k on k_in ordered_there);
-        over = All-map (λ s. is_over_x s q ≡ true) (λ (a : Entry). a.support) (take k on) (All-take (λ (a : Entry). is_over_x a.support q ≡ true) k on entries_over);
-        passes = All-map (λ s. test s ≡ true) (λ (a : Entry). a.support) (take k on) (all_first (λ (a : Entry). test a.support ≡ true) k on k_in (λ j d l m. sym (passed_at j d (omega (arith, m, k_in))) ∙ point.0 j d l m));
+        ordered = pairs_map (λ s t. is_under s t q ≡ true) (λ (a : StatusEntry). a.support) (take k on) (pairs_take (λ (a b : StatusEntry). is_under a.support b.support q ≡ true) k on k_in ordered_there);
+        over = All-map (λ s. is_over_x s q ≡ true) (λ (a : StatusEntry). a.support) (take k on) (All-take (λ (a : StatusEntry). is_over_x a.support q ≡ true) k on entries_over);
+        passes = All-map (λ s. test s ≡ true) (λ (a : StatusEntry). a.support) (take k on) (all_first (λ (a : StatusEntry). test a.support ≡ true) k on k_in (λ j d l m. sym (passed_at j d (omega (arith, m, k_in))) ∙ point.0 j d l m));
         complete = λ t among over_t pass.
             let known_t : Known t = known t among over_t pass in
             entry_there t known_t (is_turn.swept.members known_t.piece known_t.known (left_after from q (place_of known_t.piece.to) is_turn.swept.positive hq known_t.over.lies.piece.to_positive later known_t.over.goes_on));
       }
 
       below_long : length below ≡ k
-      below_long = length-map (take k on) (λ (a : Entry). a.support) ∙ length-take-le k on k_in
+      below_long = length-map (take k on) (λ (a : StatusEntry). a.support) ∙ length-take-le k on k_in
 
       -- the over mask of the highest of them is what lies under the piece
-      over_highest : (n : ℕ) → k ≡ suc n → (a : Entry) → get_or on n a ≡ a → (j : ℕ) → j < 32 → mask_bits a.over j ≡ below_bits input.marked (midpoint (place_of e.from) (place_of e.to)) j
+      over_highest : (n : ℕ) → k ≡ suc n → (a : StatusEntry) → get_or on n a ≡ a → (j : ℕ) → j < 32 → mask_bits a.over j ≡ below_bits input.marked (midpoint (place_of e.from) (place_of e.to)) j
       over_highest n is_n a at j few =
           let n_in : n < length (take k on) = omega (arith, is_n, length-take-le k on k_in) in
           let inside : n < length on = omega (arith, is_n, k_in) in
           let o : Origin a = origin a (n, inside, at) in
-          let image = image_at (λ (a : Entry). a.support) (take k on) n e.support n_in in
+          let image = image_at (λ (a : StatusEntry). a.support) (take k on) n e.support n_in in
           let same_entry : image.0 ≡ a = sym image.1 ∙ get_or-take k on n image.0 (omega (arith, is_n)) ∙ get_or_default on n image.0 a inside ∙ at in
-          let highest : get_or below n e.support ≡ a.support = image.2 ∙ ap (λ (x : Entry). x.support) same_entry in
+          let highest : get_or below n e.support ≡ a.support = image.2 ∙ ap (λ (x : StatusEntry). x.support) same_entry in
           o.entry.over j few
           ∙ (sides_by input a.support (place_of o.piece.from) (place_of o.piece.to) q o.over is_turn.valid o.sound.begins is_e.begins j).1
           ∙ ap (λ s. up_to_bits input.marked s q j) (sym highest)
@@ -256,13 +256,13 @@ module _ (input : Input) (pieces : List Elementary) (i : ℕ) (e : Elementary) (
           ∙ sym (is_test.counts j)
 
       -- so the piece learns its under mask
-      pub under_is : (under : ℕ) → (k ≡ 0 → under ≡ 0) → ((n : ℕ) (d : Entry) → k ≡ suc n → under ≡ (get_or on n d).over) → (j : ℕ) → j < 32 → mask_bits under j ≡ below_bits input.marked (midpoint (place_of e.from) (place_of e.to)) j
+      pub under_is : (under : ℕ) → (k ≡ 0 → under ≡ 0) → ((n : ℕ) (d : StatusEntry) → k ≡ suc n → under ≡ (get_or on n d).over) → (j : ℕ) → j < 32 → mask_bits under j ≡ below_bits input.marked (midpoint (place_of e.from) (place_of e.to)) j
       under_is under lowest above j few = by (order_of 0 k) where
         by_predecessor : (m : ℕ) → k ≡ m → 0 < m → mask_bits under j ≡ below_bits input.marked (midpoint q (place_of e.to)) j
         by_predecessor zero is_m l = absurd (omega (arith, l))
         by_predecessor (suc n) is_m l =
-            let found = image_at (λ (a : Entry). a.support) on n e.support (omega (arith, is_m, k_in)) in
-            ap (λ m. mask_bits m j) (above n found.0 is_m ∙ ap (λ (x : Entry). x.over) found.1) ∙ over_highest n is_m found.0 found.1 j few
+            let found = image_at (λ (a : StatusEntry). a.support) on n e.support (omega (arith, is_m, k_in)) in
+            ap (λ m. mask_bits m j) (above n found.0 is_m ∙ ap (λ (x : StatusEntry). x.over) found.1) ∙ over_highest n is_m found.0 found.1 j few
 
         by : Order 0 k → mask_bits under j ≡ below_bits input.marked (midpoint q (place_of e.to)) j
         by (before l) = by_predecessor k refl l
@@ -281,7 +281,7 @@ module _ (input : Input) (pieces : List Elementary) (i : ℕ) (e : Elementary) (
       All-weaker (λ a. Any (λ p. IsEntryOf input p a) done) (λ a. Any (λ p. IsEntryOf input p a) now) one_longer on
       (All-filter (goes_on q) (λ a. Any (λ p. IsEntryOf input p a) done) old is_turn.swept.entries)
     where
-      one_longer : (a : Entry) → Any (λ p. IsEntryOf input p a) done → Any (λ p. IsEntryOf input p a) now
+      one_longer : (a : StatusEntry) → Any (λ p. IsEntryOf input p a) done → Any (λ p. IsEntryOf input p a) now
       one_longer a (j, p, l, at, entry) = let c = Contains-append_left done (e ∷ []) p (j, l, at) in (c.0, p, c.1, c.2, entry)
 
   begun_now : All (λ p. AtMost (place_of p.from) q) now
@@ -337,13 +337,13 @@ module _ (input : Input) (pieces : List Elementary) (i : ℕ) (e : Elementary) (
       by p right (inr same) = absurd (upright (subst (λ (x : Elementary). Left q (place_of x.to)) (sym same) right))
 
   -- ---- after one that does, with its entry put in
-  module _ (wide : pos 0 <ℤ width e.support) (x : Entry) (of_e : IsEntryOf input e x) (k : ℕ) (k_in : k ≤ length on)
+  module _ (wide : pos 0 <ℤ width e.support) (x : StatusEntry) (of_e : IsEntryOf input e x) (k : ℕ) (k_in : k ≤ length on)
       (point : IsPartitionPoint (λ a. is_passed (place_of e.from) e.support a ≡ true) (λ a. is_passed (place_of e.from) e.support a ≡ false) on k) where
     over_e : IsOver input e.support q (place_of e.to) q
     over_e = over_begin input is_turn.valid e is_e wide
 
     -- which of an entry and the piece stands under the other, from here on
-    module _ (a : Entry) (c : Contains on a) where
+    module _ (a : StatusEntry) (c : Contains on a) where
       o : Origin a
       o = origin a c
 

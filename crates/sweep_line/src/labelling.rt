@@ -9,7 +9,7 @@ ghost use Rattle.sweep_line.specs.Label.{AreLabels};
 ghost use Rattle.sweep_line.specs.Sweep.{Begins, Passes};
 
 use crate::labelled::Labelled;
-use crate::status::{Entry, Status};
+use crate::status::{Status, StatusEntry};
 use arrange::piece::Elementary;
 use arrange::tile_input::TileInput;
 use plane_base::point::Seg;
@@ -67,7 +67,7 @@ fn begin(status: &mut Status, place: usize, label: &Labelled) -> Result<(), Allo
         return Ok(());
     }
     let to = label.piece.to.known_point();
-    let entry = Entry {
+    let entry = StatusEntry {
         to,
         support,
         over: label.over,

@@ -18,7 +18,7 @@ use std::marker::Model;
 /// A piece of the status: its right end, the segment that it lies on, and a bit for each base
 /// layer that holds just over it.
 #[derive(Clone, Copy)]
-pub struct Entry {
+pub struct StatusEntry {
     pub to: HPoint,
     pub support: Seg,
     pub over: u32,
@@ -27,16 +27,16 @@ pub struct Entry {
 /// Pieces that are not vertical, from the lowest to the highest just right of an x.
 #[derive(Drop)]
 pub struct Status {
-    entries: Vec<Entry>,
+    entries: Vec<StatusEntry>,
     ends: RightEnds,
 }
 
 impl Model for Status {
     ghost use Rattle.std.specs.Prelude.{List};
     ghost use Rattle.sweep_line.specs.Status.{HasEndsFor};
-    ghost use Rattle.sweep_line.specs.declared.status.Entry.{Entry};
+    ghost use Rattle.sweep_line.specs.declared.status.StatusEntry.{StatusEntry};
 
-    ghost Value = { List Entry };
+    ghost Value = { List StatusEntry };
 
     ghost view = { λ s. s.entries.items };
 
@@ -96,7 +96,7 @@ impl Status {
     pub fn under(&self, place: usize) -> u32
         requires { place ≤ length self.now }
         ensures lowest { place ≡ 0 → result ≡ 0 }
-        ensures above { (k : ℕ) (d : Entry) → place ≡ suc k → result ≡ (get_or self.now k d).over }
+        ensures above { (k : ℕ) (d : StatusEntry) → place ≡ suc k → result ≡ (get_or self.now k d).over }
     {
         if place == 0 {
             0
@@ -106,7 +106,7 @@ impl Status {
     }
 
     /// Puts a piece at a place of the status.
-    pub fn enter(&mut self, place: usize, entry: Entry) -> Result<(), AllocError>
+    pub fn enter(&mut self, place: usize, entry: StatusEntry) -> Result<(), AllocError>
         requires { place ≤ length self.old }
         ensures { OnOk result (self.new ≡ insert self.old place entry) }
     {
@@ -117,7 +117,7 @@ impl Status {
 }
 
 /// Takes out the lowest piece that does not pass under a point, if it ends over the x of the point.
-fn take_out_at(entries: &mut Vec<Entry>, end: &HPoint) -> bool
+fn take_out_at(entries: &mut Vec<StatusEntry>, end: &HPoint) -> bool
     ensures yes { result ≡ true → HasLostOne (place end.now) entries.old.items entries.new.items }
     ensures no { result ≡ false → entries.new.items ≡ entries.old.items }
 {
@@ -130,14 +130,14 @@ fn take_out_at(entries: &mut Vec<Entry>, end: &HPoint) -> bool
 }
 
 /// Whether a piece ends over the x of a point.
-fn ends_over(entry: &Entry, at: &HPoint) -> bool
+fn ends_over(entry: &StatusEntry, at: &HPoint) -> bool
     ensures { result ≡ int_eq ((place entry.now.to).x *ℤ (place at.now).w) ((place at.now).x *ℤ (place entry.now.to).w) }
 {
     x_cmp(&entry.to, at).is_eq()
 }
 
 /// Whether a piece of the status stands under one of the segment that begins at the point.
-fn stands_under(entry: &Entry, at: &HPoint, support: &Seg) -> bool
+fn stands_under(entry: &StatusEntry, at: &HPoint, support: &Seg) -> bool
     ensures { result ≡ is_passed (place at.now) support.now entry.now }
 {
     match side(&entry.support, at) {

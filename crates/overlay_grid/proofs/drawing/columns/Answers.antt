@@ -4,7 +4,7 @@ use Rattle.std.proofs.Crossing.{frees}
 use Rattle.rayon.specs.Numbers.{nat_range}
 use Rattle.rayon.proofs.ToStd.{nat_range-All}
 use Rattle.overlay_terms.specs.Layers.{marked_segments}
-use Rattle.grid_lines.proofs.ManySegments.{rings_of}
+use Rattle.overlay_grid.proofs.ManySegments.{rings_of}
 use Rattle.overlay_grid.specs.Rows.{column_at}
 use Rattle.overlay_grid.proofs.Collected.{collected}
 use Rattle.overlay_grid.proofs.Sent.{shared}

@@ -1,7 +1,7 @@
 use Rattle.std.proofs.Common.{◌^◌, lit<, arith}
 use Rattle.std.proofs.lemmas.Int.{ints}
 use Rattle.overlay_terms.specs.Within.{IsWithin}
-use Rattle.grid_lines.proofs.Bounds64.{reads, mul_fits, mul_reads, add_fits, add_reads, count_reads}
+use Rattle.overlay_grid.proofs.Bounds64.{reads, mul_fits, mul_reads, add_fits, add_reads, count_reads}
 use Rattle.overlay_grid.proofs.drawing.coordinate.Goals as goal
 
 pub overflow_mul-result : goal.overflow_mul-result

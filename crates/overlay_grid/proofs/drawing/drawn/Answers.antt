@@ -1,5 +1,5 @@
 use Rattle.overlay_terms.specs.Layers.{marked_segments}
-use Rattle.grid_lines.proofs.ManySegments.{rings_of, then_is}
+use Rattle.overlay_grid.proofs.ManySegments.{rings_of, then_is}
 use Rattle.overlay_grid.proofs.Pictures.{column_from}
 use Rattle.overlay_grid.proofs.drawing.drawn.Goals as goal
 

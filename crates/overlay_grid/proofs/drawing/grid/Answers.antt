@@ -1,7 +1,7 @@
 use Rattle.std.proofs.Common.{◌∙◌, ap, map}
 use Rattle.overlay_terms.specs.Layers.{marked_segments}
-use Rattle.grid_lines.specs.Column.{mark_at}
-use Rattle.grid_lines.proofs.ManySegments.{rings_of}
+use Rattle.overlay_grid.specs.Column.{mark_at}
+use Rattle.overlay_grid.proofs.ManySegments.{rings_of}
 use Rattle.overlay_grid.specs.Grid.{grid_point}
 use Rattle.overlay_grid.proofs.Pictures.{columns_long, picture_of}
 use Rattle.overlay_grid.proofs.drawing.grid.Goals as goal

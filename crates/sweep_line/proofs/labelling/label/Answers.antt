@@ -7,7 +7,7 @@ use Rattle.arrange.specs.declared.piece.Elementary.{Elementary}
 use Rattle.sweep_line.specs.Label.{IsLabelled}
 use Rattle.sweep_line.specs.Sweep.{IsStatus}
 use Rattle.sweep_line.specs.declared.labelled.Labelled.{Labelled}
-use Rattle.sweep_line.specs.declared.status.Entry.{Entry}
+use Rattle.sweep_line.specs.declared.status.StatusEntry.{StatusEntry}
 use Rattle.sweep_line.proofs.PassLemmas.{starts}
 use Rattle.sweep_line.proofs.labelling.label.Goals as goal
 
@@ -15,7 +15,7 @@ pub loop-piece-init : goal.loop-piece-init
 loop-piece-init c = record {
   pieces = search rules;
   sides = search rules;
-  status = subst (λ (es : List Entry). IsStatus c.args.input.now (take 0 c.deref-piece-items.result.now) es) (sym c.new-status.ensures) (starts c.args.input.now c.deref-piece-items.result.now);
+  status = subst (λ (es : List StatusEntry). IsStatus c.args.input.now (take 0 c.deref-piece-items.result.now) es) (sym c.new-status.ensures) (starts c.args.input.now c.deref-piece-items.result.now);
 }
 
 pub loop-piece-preserved : goal.loop-piece-preserved

@@ -3,14 +3,14 @@ use Rattle.std.proofs.lemmas.Fn.{filter_same}
 use Rattle.exact_point.specs.Place.{place}
 use Rattle.exact_point.specs.declared.point.HPoint.{HPoint}
 use Rattle.sweep_line.specs.Status.{goes_on, HasEndsFor}
-use Rattle.sweep_line.specs.declared.status.Entry.{Entry}
+use Rattle.sweep_line.specs.declared.status.StatusEntry.{StatusEntry}
 use Rattle.sweep_line.proofs.EndLemmas.{positive, all_go_on, lost, lost_goes, lost_shorter, fewer_pieces}
 use Rattle.sweep_line.proofs.status.Status.take_out_next.Goals as goal
 
 pub returns-in_default-clause-done : goal.returns-in_default-clause-done
 returns-in_default-clause-done c =
     let q = place c.args.at.now in
-    λ h. sym (subst (λ (es : List Entry). filter (goes_on q) es ≡ es) c.self.view_is (all_go_on q c.self.inside.entries.items c.self.inside.ends (positive c.args.at.now) c.self.invariant (c.in_default.ensures.none refl)))
+    λ h. sym (subst (λ (es : List StatusEntry). filter (goes_on q) es ≡ es) c.self.view_is (all_go_on q c.self.inside.entries.items c.self.inside.ends (positive c.args.at.now) c.self.invariant (c.in_default.ensures.none refl)))
 
 pub invariant_of-self : goal.invariant_of-self
 invariant_of-self c =
@@ -27,7 +27,7 @@ returns-then-take_out_at-clause-more c =
 pub returns-then-take_out_at-clause-fewer : goal.returns-then-take_out_at-clause-fewer
 returns-then-take_out_at-clause-fewer c =
     λ h.
-    subst (λ (es : List Entry). length c.take_out_at.new.entries.items < length es) c.self.view_is
+    subst (λ (es : List StatusEntry). length c.take_out_at.new.entries.items < length es) c.self.view_is
     (lost_shorter (place c.in-Some.end) c.self.inside.entries.items c.take_out_at.new.entries.items (c.take_out_at.ensures.yes c.if-take_out_at.true))
 
 pub invariant_of-self-2 : goal.invariant_of-self-2
@@ -35,7 +35,7 @@ invariant_of-self-2 c =
     let q = place c.args.at.now in
     let kept : c.retain.new.self.items ≡ filter (goes_on q) c.take_out_at.new.entries.items =
     filter_same _ (goes_on q) _ (λ x b f' k. search (rules, of_calls)) _ _ c.retain.ensures.filtered in
-    subst (λ (es : List Entry). HasEndsFor es c.self.inside.ends) (sym (kept ∙ ap (filter (goes_on q)) (c.take_out_at.ensures.no c.if-take_out_at.false)))
+    subst (λ (es : List StatusEntry). HasEndsFor es c.self.inside.ends) (sym (kept ∙ ap (filter (goes_on q)) (c.take_out_at.ensures.no c.if-take_out_at.false)))
     (fewer_pieces q c.self.inside.entries.items c.self.inside.ends c.self.invariant)
 
 pub returns-clause-done : goal.returns-clause-done

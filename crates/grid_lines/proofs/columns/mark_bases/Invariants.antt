@@ -1,6 +1,0 @@
-use Rattle.grid_lines.proofs.ManySegments.{AreDoneTo}
-use Rattle.grid_lines.proofs.columns.mark_bases.Given as goal
-
--- what the first base layers change is done
-abbrev pub invariant-loop-k : goal.invariant-loop-k
-invariant-loop-k l = AreDoneTo l.rise l.bases l.initial.turns l.turns l.initial.edges l.edges l.k
