@@ -10,6 +10,7 @@ use crate::version::Version;
 use arrange::TileInput;
 use layer_book::fault::LayerFault;
 use layer_expr::name::Name;
+use plane_base::Column;
 use std::alloc::{AllocError, Global};
 use std::sync::Arc;
 use tile_build::{Built, Tile};
@@ -65,14 +66,22 @@ impl Version {
     pub(crate) fn is_awaited(&self, name: &Name, input: &TileInput) -> bool
         ensures { IsTrue result ↔ IsAwaited self.now name.now input.now }
     {
-        let column = input.column().number();
-        if !self.layers().stands_as_derived(name) {
-            return false;
-        }
-        if self.tile(name, column).is_some() {
+        if !self.is_pending(name, input.column()) {
             return false;
         }
         self.layers().has_input(name, input)
+    }
+
+    /// Whether a tile is pending, by one look at its layer. It takes no memory.
+    fn is_pending(&self, name: &Name, column: Column) -> bool
+        ensures { IsTrue result ↔ IsPending self.now name.now column }
+    {
+        // A column is below their number by its type: the clause rests on that.
+        let _ = column.number();
+        match self.at(self.layers().index_of(name)) {
+            Some((_, layer, row)) => layer.is_derived() & !row.has(column),
+            None => false,
+        }
     }
 
     /// The version with a built tile more, which is awaited.
