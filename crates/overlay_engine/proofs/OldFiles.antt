@@ -1,5 +1,5 @@
 -- A file of the old format is covered from what it stands for on.
-use Rattle.std.proofs.Common.{◌≡◌, ℕ, ◌+◌, ◌-◌, ◌≤◌, zero, suc, List, [], take, arith, Result, Ok, refl, sym, ◌∙◌, ap, subst}
+use Rattle.std.proofs.Common.{◌≡◌, ℕ, ◌-◌, zero, suc, List, [], take, arith, Result, Ok, refl, sym, ◌∙◌, ap, subst}
 use Rattle.disk_model.specs.declared.disk.Disk.{Ghosts}
 use Rattle.disk_model.specs.Moments.{Leaves}
 use Rattle.overlay_terms.specs.Layers.{Layer}
@@ -12,8 +12,8 @@ use Rattle.store_terms.specs.Image.{◌>>=◌, Held, held_of}
 use Rattle.store_terms.specs.StandsFor.{reading}
 use Rattle.store_terms.proofs.OrderlyHeld.{held_is_orderly}
 use Rattle.overlay_engine.specs.declared.engine.Engine.{Engine}
-use Rattle.overlay_engine.specs.Start.{layers_from, up_to}
-use Rattle.overlay_engine.specs.Covers.{version_of, IsStored, Covered, Covers}
+use Rattle.overlay_engine.specs.Start.{layers_from}
+use Rattle.overlay_engine.specs.Covers.{version_of, Covers}
 use Rattle.overlay_engine.specs.Recovery.{Recovered}
 use Rattle.overlay_engine.specs.OldFile.{bare, IsOldFile, start_at, OldFileIsCovered, OldRecovered}
 use Rattle.overlay_engine.proofs.Recovering.{same_held}

@@ -1,5 +1,5 @@
 -- What the calls that make and open a store promise, where the disk is honest.
-use Rattle.std.specs.Prelude.{◌≡◌, ◌≢◌, ℕ, ◌+◌, length, None, Result, Ok, IfOk, IfErr, MatchResult}
+use Rattle.std.specs.Prelude.{◌≡◌, ◌≢◌, ℕ, ◌+◌, None, Result, Ok, IfOk, IfErr, MatchResult}
 use Rattle.disk_model.specs.declared.disk.Disk.{Ghosts}
 use Rattle.disk_model.specs.Disk.{Fewer, Failed}
 use Rattle.disk_model.specs.Moments.{Leaves, LeavesOnly}
