@@ -1,15 +1,13 @@
 -- From what the threads of a server gave back, and what `close` tells, to what the server owes.
-use Rattle.std.proofs.Common.{◌≡◌, ◌+◌, ◌<◌, ◌≤◌, ◌⊎◌, inl, inr, ℕ, Bool, is_some, List, Option, Some, None, IfSome, IfNone, All, length, map, sym, subst, ◌∙◌}
+use Rattle.std.proofs.Common.{◌≡◌, ◌+◌, ◌<◌, ℕ, Bool, is_some, List, [], Option, All, length, map, sym, subst}
 use Rattle.std.specs.Arc.{arc_value}
 use Rattle.std.specs.List.{AllZip}
-use mathlib.Core.List.{IsPrefix}
 use Rattle.logbook.specs.Pages.{Book}
 use Rattle.disk_model.specs.declared.disk.Disk.{Ghosts}
-use Rattle.overlay_terms.specs.Histories.{Version, Entry}
-use Rattle.flush_core.specs.declared.flusher.Flusher.{Flusher}
+use Rattle.overlay_terms.specs.Histories.{Version}
 use Rattle.book_history.specs.Logs.{newest_in, IsLog}
-use Rattle.book_history.proofs.Chains.{begins_with}
 use Rattle.book_lock.specs.Steps.{HasAllOf}
+use Rattle.store_flushing.specs.Told.{told_in}
 use Rattle.overlay_server.specs.Counting.{made_in}
 use Rattle.overlay_server.specs.Keeping.{IsStoreKept}
 use Rattle.overlay_server.specs.Running.{IsRunOf}
@@ -28,6 +26,7 @@ use Rattle.overlay_server.proofs.Strangers.{no_other}
 -- a server began so: its store's log, and the scripts with their sessions
 pub record Began {R W D : Type 0} {g : Ghosts D} (book : Book) (start : Version) (ports : List (Port R W)) (store : Store D g) (scripts : List (Script R W)) : Type 0 where
   pub log : store.reporter.log ≡ first_log start
+  pub none_told : told_in store.told ≡ []
   pub some : 0 < length ports
   pub seated : AreSeated book start ports scripts
 
@@ -44,7 +43,7 @@ pub record IsClosed {R W D : Type 0} (g : Ghosts D) (start : Version) (after : S
   pub sessions : All (HasAllOf left.closed.seen_log.log) (map ended_session ended)
   pub number : (newest_in left.closed.seen_log.log).number ≡ start.number + made_in (map ended_session ended)
   pub finished : left.sessions.items ≡ map finished_of ended
-  pub store : Closes g after.reporter after.flusher left.closed
+  pub store : Closes g after.reporter (told_in after.told) after.flusher left.closed
 
 pub served_from : {R W D : Type 0} (g : Ghosts D) (book : Book) (stored : Bool) (remaining : R → Option (List ℕ)) (contents : W → Option (List ℕ)) (start : Version) (ports : List (Port R W)) (store after : Store D g)
     (scripts : List (Script R W)) (ended : List (Ended R W)) (left : Left W D) → Began book start ports store scripts → Ran g book stored remaining contents store after scripts ended
@@ -60,5 +59,6 @@ served_from {W = W} g book stored remaining contents start ports store after scr
       subst (λ (b : Bool). ArePortsServed b remaining contents start left.closed.seen_log.log ports left.sessions.items) ran.stored_is
       (subst (λ (os : List (Finished W)). ArePortsServed stored remaining contents start left.closed.seen_log.log ports os) (sym closed.finished)
       (are_served book stored remaining contents start ports scripts began.seated ended ran.sessions left.closed.seen_log.log closed.sessions));
-  kept = left_by g start store.reporter after.reporter store.flusher after.flusher left.closed began.log ran.kept.flushed closed.store;
+  kept = left_by g start store.reporter after.reporter (told_in store.told) (told_in after.told) store.flusher after.flusher left.closed
+      began.log began.none_told ran.kept.flushed closed.store;
 }

@@ -1,5 +1,5 @@
 -- The store of a server through its runs, and what is left of it at the end.
-use Rattle.std.proofs.Common.{◌≡◌, ◌⊎◌, inl, inr, ⊎_elim, false, ℕ, ◌≤◌, List, [], ◌∷◌, Option, Some, None, IfSome, IfNone, MatchOption, All, refl, sym, ◌∙◌, ap, subst, arith}
+use Rattle.std.proofs.Common.{◌≡◌, ◌⊎◌, inl, inr, ⊎_elim, false, ℕ, ◌≤◌, List, [], Option, Some, None, IfSome, IfNone, MatchOption, All, refl, sym, ◌∙◌, ap, subst, arith}
 use Rattle.logbook.specs.Pages.{Book}
 use Rattle.disk_model.specs.declared.disk.Disk.{Ghosts}
 use Rattle.disk_model.specs.Moments.{Leaves, LeavesOnly}
@@ -13,13 +13,16 @@ use Rattle.flush_core.specs.declared.flusher.Flusher.{Flusher}
 use Rattle.book_history.specs.Logs.{history_of, newest_in, IsLog}
 use Rattle.version_book.specs.Heard.{Heard}
 use Rattle.store_flushing.specs.Among.{IsFileIn, IsFileExactlyIn}
-use Rattle.store_flushing.specs.Storing.{IsStoreOf, Flushes}
-use Rattle.store_flushing.proofs.Histories.{file_more, begins_self}
-use Rattle.store_flushing.proofs.Storage.{OnlyNow, begun, store_leaves, then}
+use Rattle.store_flushing.specs.Storing.{IsStoreOf}
+use Rattle.store_flushing.specs.Told.{StaysTold, TellsOn, told_in}
+use Rattle.store_flushing.proofs.Histories.{file_more}
+use Rattle.store_flushing.proofs.Storage.{begun, store_leaves, then}
+use Rattle.store_flushing.proofs.ToldLemmas.{none_yet, tells_then}
 use Rattle.store_flushing.specs.declared.closing.Closed.{Closed}
+use Rattle.store_flushing.specs.declared.keeper.told_log.Told.{Told}
 use Rattle.overlay_server.specs.Moments.{HasOnlyNow}
-use Rattle.overlay_server.specs.Keeping.{AreFlushed, IsFlushed, IsStoreKept}
-use Rattle.overlay_server.specs.Serving.{IsLeftOfStore, StoreComesBack, IsLeftBy, IsStoppedBy, first_log}
+use Rattle.overlay_server.specs.Keeping.{AreFlushed, IsStoreKept}
+use Rattle.overlay_server.specs.Serving.{IsLeftOfStore, StoreComesBack, first_log}
 use Rattle.overlay_server.specs.declared.storing.Store.{Store}
 
 -- no commit is under way
@@ -35,16 +38,18 @@ at_rest Failed rests = inr refl
 module _ {D : Type 0} (g : Ghosts D) where
   -- ---- two runs in a row
 
-  flushed_twice : (a b c : Heard) (f h k : Option (Flusher D g)) → AreFlushed g a f b h → AreFlushed g b h c k → AreFlushed g a f c k
-  flushed_twice a b c None None None first second = second ∙ first
-  flushed_twice a b c None None (Some w) first second = absurd second
-  flushed_twice a b c None (Some v) k first second = absurd first
-  flushed_twice a b c (Some u) None k first second = absurd first
-  flushed_twice a b c (Some u) (Some v) None first second = absurd second
-  flushed_twice a b c (Some u) (Some v) (Some w) first second = record {
+  flushed_twice : (a b c : Heard) (x y z : List Told) (f h k : Option (Flusher D g)) → AreFlushed g a x f b y h → AreFlushed g b y h c z k → AreFlushed g a x f c z k
+  flushed_twice a b c x y z None None None first second = second ∙ first
+  flushed_twice a b c x y z None None (Some w) first second = absurd second
+  flushed_twice a b c x y z None (Some v) k first second = absurd first
+  flushed_twice a b c x y z (Some u) None k first second = absurd first
+  flushed_twice a b c x y z (Some u) (Some v) None first second = absurd second
+  flushed_twice a b c x y z (Some u) (Some v) (Some w) first second = record {
     flushes = λ is. let one = first.flushes is in
         then g (history_of a.log) (history_of b.log) (history_of c.log) u v w one (second.flushes one.store);
     rests = second.rests;
+    tells = λ is. tells_then g (history_of a.log) (history_of b.log) (history_of c.log) x y z u.commit.disk v.commit.disk w.commit.disk
+        (first.tells is) (second.tells (first.flushes is).store);
   }
 
   pub kept_twice : (book : Book) (a b c : Store D g) → IsStoreKept book g a b → IsStoreKept book g b c → IsStoreKept book g a c
@@ -52,7 +57,7 @@ module _ {D : Type 0} (g : Ghosts D) where
     of = second.of;
     valid = second.valid;
     begun = second.begun;
-    flushed = flushed_twice a.reporter b.reporter c.reporter a.flusher b.flusher c.flusher first.flushed second.flushed;
+    flushed = flushed_twice a.reporter b.reporter c.reporter (told_in a.told) (told_in b.told) (told_in c.told) a.flusher b.flusher c.flusher first.flushed second.flushed;
   }
 
   -- ---- at the end of a book
@@ -69,7 +74,7 @@ module _ {D : Type 0} (g : Ghosts D) where
       subst (λ (n : ℕ). Leaves g disk (P n)) same (subst (λ (o : Option D). IfSome o (λ (d : D). Leaves g d (P stored))) is left)
 
   -- what `close` tells of a store, where the log goes on from what its reporter has seen
-  pub record Closes (now : Heard) (store : Option (Flusher D g)) (closed : Closed D) : Type 0 where
+  pub record Closes (now : Heard) (written : List Told) (store : Option (Flusher D g)) (closed : Closed D) : Type 0 where
     pub on : BeginsWith (history_of closed.seen_log.log) (history_of now.log)
     pub none : IfNone store ((closed.stored ≡ 0) × (closed.disk ≡ None))
     pub disk : IfSome store (λ (f : Flusher D g). (closed.stored ≡ f.commit.root.version) × (closed.disk ≡ Some f.commit.disk))
@@ -78,20 +83,24 @@ module _ {D : Type 0} (g : Ghosts D) where
         → IfSome closed.disk (λ (d : D). Leaves g d (IsFileIn (history_of closed.seen_log.log) closed.stored)))
     pub exactly : IfSome store (λ (f : Flusher D g). IsStoreOf g (history_of now.log) f → f.commit.phase ≡ Idle
         → IfSome closed.disk (λ (d : D). Leaves g d (IsFileExactlyIn (history_of closed.seen_log.log) closed.stored)))
+    pub told : IfSome store (λ (f : Flusher D g). IfSome closed.disk (λ (d : D). TellsOn g (history_of now.log) written f.commit.disk (history_of closed.seen_log.log) (told_in closed.told) d))
 
-  pub left_by : (start : Version) (was now : Heard) (old new : Option (Flusher D g)) (closed : Closed D) → was.log ≡ first_log start
-      → AreFlushed g was old now new → Closes now new closed → IsLeftOfStore g start old closed
-  left_by start was now None None closed first flushed closes = closes.none
-  left_by start was now None (Some l) closed first flushed closes = absurd flushed
-  left_by start was now (Some f) None closed first flushed closes = absurd flushed
-  left_by start was now (Some f) (Some l) closed first flushed closes = record {
+  pub left_by : (start : Version) (was now : Heard) (x y : List Told) (old new : Option (Flusher D g)) (closed : Closed D) → was.log ≡ first_log start → x ≡ []
+      → AreFlushed g was x old now y new → Closes now y new closed → IsLeftOfStore g start old closed
+  left_by start was now x y None None closed first none flushed closes = closes.none
+  left_by start was now x y None (Some l) closed first none flushed closes = absurd flushed
+  left_by start was now x y (Some f) None closed first none flushed closes = absurd flushed
+  left_by start was now x y (Some f) (Some l) closed first none flushed closes = record {
     last = l;
     disk = closes.disk.1;
     stored = closes.disk.0;
     rests = flushed.rests;
     left = λ is.
-        let run = flushed.flushes (subst (λ (log : List Entry). IsStoreOf g (history_of log) f) (sym first) is) in
+        let was_store = subst (λ (log : List Entry). IsStoreOf g (history_of log) f) (sym first) is in
+        let run = flushed.flushes was_store in
         let log = closed.seen_log.log in
+        let end = subst (λ (o : Option D). IfSome o (λ (d : D). TellsOn g (history_of now.log) y l.commit.disk (history_of log) (told_in closed.told) d)) closes.disk.1 closes.told in
+        let whole = tells_then g (history_of was.log) (history_of now.log) (history_of log) x y (told_in closed.told) f.commit.disk l.commit.disk l.commit.disk (flushed.tells was_store) end in
         record {
           no_less = run.no_less;
           moments = moments_on (history_of now.log) (history_of log) f.commit.root.version f.commit.disk l.commit.disk closes.on run.moments;
@@ -103,17 +112,20 @@ module _ {D : Type 0} (g : Ghosts D) where
               (closes.exactly run.store idle))))
               (λ failed. ⊎_elim inl (λ rose. inr (inl rose)) (run.by_device.failed failed))
               (at_rest l.commit.phase flushed.rests);
+          told = whole.stays f.commit.disk (omega arith)
+              (subst (λ (ts : List Told). StaysTold g (history_of was.log) ts f.commit.disk f.commit.disk) (sym none)
+              (subst (λ (es : List Entry). StaysTold g (history_of es) [] f.commit.disk f.commit.disk) (sym first) (none_yet g start f.commit.disk)));
         };
   }
 
   -- ---- where a server could not run
 
-  pub stopped_by : (start : Version) (was now : Heard) (old new : Option (Flusher D g)) (back : Option D) → was.log ≡ first_log start → IsLog now.log
-      → AreFlushed g was old now new → MatchOption new (back ≡ None) (λ (f : Flusher D g). back ≡ Some f.commit.disk) → StoreComesBack g start old back
-  stopped_by start was now None None back first valid flushed is = is
-  stopped_by start was now None (Some l) back first valid flushed is = absurd flushed
-  stopped_by start was now (Some f) None back first valid flushed is = absurd flushed
-  stopped_by start was now (Some f) (Some l) back first valid flushed is = record {
+  pub stopped_by : (start : Version) (was now : Heard) (x y : List Told) (old new : Option (Flusher D g)) (back : Option D) → was.log ≡ first_log start → IsLog now.log
+      → AreFlushed g was x old now y new → MatchOption new (back ≡ None) (λ (f : Flusher D g). back ≡ Some f.commit.disk) → StoreComesBack g start old back
+  stopped_by start was now x y None None back first valid flushed is = is
+  stopped_by start was now x y None (Some l) back first valid flushed is = absurd flushed
+  stopped_by start was now x y (Some f) None back first valid flushed is = absurd flushed
+  stopped_by start was now x y (Some f) (Some l) back first valid flushed is = record {
     disk = l.commit.disk;
     there = is;
     stopped = λ store.

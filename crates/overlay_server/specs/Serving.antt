@@ -19,7 +19,9 @@ use Rattle.book_lock.specs.Steps.{beginners, HasAllOf}
 use Rattle.server_session.specs.Session.{IsSessionWithin, IsSharedSession}
 use Rattle.store_flushing.specs.Among.{IsFileIn, IsFileExactlyIn}
 use Rattle.store_flushing.specs.Storing.{IsStoreOf}
+use Rattle.store_flushing.specs.Told.{StaysTold, told_in}
 use Rattle.store_flushing.specs.declared.closing.Closed.{Closed}
+use Rattle.store_flushing.specs.declared.keeper.told_log.Told.{Told}
 use Rattle.overlay_server.specs.declared.outcome.Finished.{Finished}
 use Rattle.overlay_server.specs.declared.outcome.Left.{Left}
 use Rattle.overlay_server.specs.declared.outcome.Outcome.{Outcome}
@@ -101,14 +103,16 @@ pub record ArePortsServed {R W : Type 0} (stored : Bool) (remaining : R → Opti
 module _ {D : Type 0} (g : Ghosts D) where
   -- what a run leaves of a store: a crash at any moment of it leaves a file that stands for a version of the log that the
   -- run ended with, no older than what was stored at first, and from then on no older than what is stored; that is no
-  -- older than what was reported durable; and just it, unless a device call failed, before the run or within it
-  pub record IsLeftBy (log : List Entry) (old last : Flusher D g) : Type 0 where
+  -- older than what was reported durable; and just it, unless a device call failed, before the run or within it. What it
+  -- told durable was written down as it was told, and from that moment on a crash leaves no older version
+  pub record IsLeftBy (log : List Entry) (written : List Told) (old last : Flusher D g) : Type 0 where
     pub no_less : old.commit.root.version ≤ last.commit.root.version
     pub moments : LeavesOnly g old.commit.disk last.commit.disk (IsFileIn (history_of log) old.commit.root.version)
     pub reported : All (λ (e : Entry). e.version.durable ≤ last.commit.root.version) log
     pub files : Leaves g last.commit.disk (IsFileIn (history_of log) last.commit.root.version)
     pub exactly : (old.commit.phase ≡ Failed) ⊎ (device.Failed (g.faults old.commit.disk) (g.faults last.commit.disk)
         ⊎ Leaves g last.commit.disk (IsFileExactlyIn (history_of log) last.commit.root.version))
+    pub told : StaysTold g (history_of log) written old.commit.disk last.commit.disk
 
   -- what is left of a store of the first version: its disk, with no commit under way
   pub record IsLeft (start : Version) (old : Flusher D g) (closed : Closed D) : Type 0 where
@@ -116,7 +120,7 @@ module _ {D : Type 0} (g : Ghosts D) where
     pub disk : closed.disk ≡ Some last.commit.disk
     pub stored : closed.stored ≡ last.commit.root.version
     pub rests : is_busy last.commit.phase ≡ false
-    pub left : IsStoreOf g (history_of (first_log start)) old → IsLeftBy closed.seen_log.log old last
+    pub left : IsStoreOf g (history_of (first_log start)) old → IsLeftBy closed.seen_log.log (told_in closed.told) old last
 
   -- the same where there was one
   abbrev pub IsLeftOfStore : Version → Option (Flusher D g) → Closed D → Type 0

@@ -5,6 +5,7 @@ ghost use Rattle.book_history.specs.Logs.{entry, no_event};
 ghost use Rattle.book_history.specs.Rules.{head_of};
 ghost use Rattle.book_lock.specs.Steps.{beginners};
 ghost use Rattle.version_book.specs.Store.{has_store};
+ghost use Rattle.store_flushing.specs.Told.{told_in};
 ghost use Rattle.overlay_server.specs.Serving.{IsLeftFrom, IsRefusedFrom, first_log, refusal_code};
 
 use crate::counting::{await_number, made_by_all};
@@ -21,6 +22,7 @@ use std::snapshot::Snapshot;
 use std::sync::Wait;
 use std::thread::Threads;
 use store_flushing::closing::close;
+use store_flushing::keeper::told_log::ToldLog;
 use tile_workers::gate::Gate;
 use version_book::fault::BookFault;
 use version_book::reporter::Reporter;
@@ -115,7 +117,11 @@ where
 {
     match begun {
         Ok((shared, reporter, sessions)) => {
-            let store = Store { reporter, flusher };
+            let store = Store {
+                reporter,
+                flusher,
+                told: ToldLog::none(),
+            };
             run_book(
                 rt, alloc, workers, gate, start, shared, store, sessions, ports,
             )
@@ -147,6 +153,7 @@ where
     requires ports { 0 < length ports.items }
     requires stored { has_store shared ≡ is_some store.flusher }
     requires reporter { (store.reporter.book ≡ J.book) × (store.reporter.log ≡ first_log start.version.value) }
+    requires told { told_in store.told ≡ [] }
     requires sessions { sessions.items ≡ beginners (record { book = J.book; log = first_log start.version.value }) (length ports.items) }
     ensures left { IfOk result (IsLeftFrom R.remaining W.contents D.Disk start.version.value store.flusher ports.items) }
     ensures refused { IfErr result (IsRefusedFrom D.Disk start.version.value store.flusher) }
@@ -168,13 +175,17 @@ where
     };
     let Returned { store, ended } = run_threads(rt, alloc, gate, &shared, work);
     // What was finished after the last commit is committed now that the workers have returned.
-    let Store { reporter, flusher } = keep_store(rt, alloc, &shared, store);
+    let Store {
+        reporter,
+        flusher,
+        told,
+    } = keep_store(rt, alloc, &shared, store);
     let Some(ended) = ended else {
         return Err(refused(flusher));
     };
     let Parts { sessions, finished } = parted(ended, parts);
     let made = made_by_all(rt, &sessions);
-    let closed = close(rt, alloc, shared, reporter, flusher, sessions);
+    let closed = close(rt, alloc, shared, reporter, flusher, told, sessions);
     await_number(rt, start.number, made, &closed.version);
     Ok(Left {
         sessions: finished,

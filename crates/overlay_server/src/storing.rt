@@ -10,15 +10,17 @@ use std::snapshot::Snapshot;
 use std::sync::Wait;
 use std::thread::{Promise, PromisedHandle, Scope, Threads};
 use store_flushing::keeper::flusher_loop;
+use store_flushing::keeper::told_log::ToldLog;
 use version_book::reporter::Reporter;
 use version_book::seen_log::Naming;
 use version_book::shared::Shared;
 
-/// Who reports durable numbers, and the store that versions are written to, where there is one.
+/// Who reports durable numbers, the store that versions are written to, where there is one, and what was told durable.
 #[derive(Drop)]
 pub struct Store<D: Disk> {
     pub reporter: Reporter,
     pub flusher: Option<Flusher<D>>,
+    pub told: ToldLog,
 }
 
 /// What the store's thread promises: it committed versions of the book alone.
@@ -81,15 +83,25 @@ pub fn keep_store<J: Naming, S: Wait + Drop, Q: Wait, D: Disk>(
     requires { store.reporter.book ≡ J.book }
     ensures { IsStoreKept J.book D.Disk store result }
 {
-    let Store { reporter, flusher } = store;
-    let (reporter, flusher) = match flusher {
+    let Store {
+        reporter,
+        flusher,
+        told,
+    } = store;
+    let (reporter, flusher, told) = match flusher {
         Some(flusher) => {
-            let (reporter, flusher) = flusher_loop(rt, alloc, shared, reporter, flusher);
-            (reporter, Some(flusher))
+            let (reporter, flusher, told) = flusher_loop(
+                rt, alloc, shared, reporter, flusher, told,
+            );
+            (reporter, Some(flusher), told)
         }
-        None => (reporter, None),
+        None => (reporter, None, told),
     };
     // What the reporter has seen is a log with a first entry: the clauses rest on that.
     let _ = reporter.given();
-    Store { reporter, flusher }
+    Store {
+        reporter,
+        flusher,
+        told,
+    }
 }

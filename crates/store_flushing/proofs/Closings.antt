@@ -2,7 +2,7 @@
 use Rattle.std.proofs.Common.{◌≡◌, ℕ, ◌≤◌, List, Option, Some, None, IfSome, All, sym, subst, arith}
 use Rattle.disk_model.specs.declared.disk.Disk.{Ghosts}
 use Rattle.disk_model.specs.Moments.{Leaves}
-use Rattle.overlay_terms.specs.Histories.{Entry, History, BeginsWith}
+use Rattle.overlay_terms.specs.Histories.{Entry, History, IsHistory, BeginsWith, newest}
 use Rattle.root_store.specs.declared.phase.Phase.{Phase}
 use Rattle.root_store.specs.declared.phase.Phase.TheVariants.{Idle}
 use Rattle.commit_plan.proofs.Reading.{calm_stands}
@@ -11,7 +11,10 @@ use Rattle.book_history.specs.Logs.{newest_in}
 use Rattle.version_book.specs.Heard.{Heard, HasHeard}
 use Rattle.store_flushing.specs.Among.{IsFileIn, IsFileExactlyIn}
 use Rattle.store_flushing.specs.Storing.{IsStoreAt, IsStoreOf}
+use Rattle.store_flushing.specs.Told.{TellsOn}
+use Rattle.store_flushing.specs.declared.keeper.told_log.Told.{Told}
 use Rattle.store_flushing.proofs.Histories.{among_more, file_more}
+use Rattle.store_flushing.proofs.ToldLemmas.{told_at_end}
 
 -- the number that is stored, and the disk, of a store if there is one
 abbrev pub IsLeftOf : {D : Type 0} {g : Ghosts D} → Option (Flusher D g) → ℕ → Option D → Type 0
@@ -51,3 +54,10 @@ module _ {D : Type 0} (g : Ghosts D) (was now : History) (on : BeginsWith now wa
       → IfSome o (λ f. IsStoreOf g was f → f.commit.phase ≡ Idle → IfSome disk (λ d. Leaves g d (IsFileExactlyIn now stored)))
   exactly_left None stored disk is = tt
   exactly_left (Some f) stored disk is = λ store idle. left (IsFileExactlyIn now) f stored disk is.0 is.1 (exactly_on f store idle)
+
+  -- what was written down is all that the log tells
+  pub told_left : IsHistory now → (newest now).durable ≡ (newest was).durable → (told : List Told) → (o : Option (Flusher D g)) (stored : ℕ) (disk : Option D) → IsLeftOf o stored disk
+      → IfSome o (λ f. IfSome disk (λ d. TellsOn g was told f.commit.disk now told d))
+  told_left history same told None stored disk is = tt
+  told_left history same told (Some f) stored disk is =
+      subst (λ (q : Option D). IfSome q (λ d. TellsOn g was told f.commit.disk now told d)) (sym is.1) (told_at_end g was now told f.commit.disk on history same)

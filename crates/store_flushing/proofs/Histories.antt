@@ -26,11 +26,11 @@ last_rises : (v : Version) (es : List Entry) → AllFollow v es → v.number ≤
 last_rises v [] f = omega arith
 last_rises v (e ∷ es) f = omega (arith, rises v e.version e.event f.0, last_rises e.version es f.1)
 
-last_append : (v : Version) (xs ys : List Entry) → last_version v (xs ++ ys) ≡ last_version (last_version v xs) ys
+pub last_append : (v : Version) (xs ys : List Entry) → last_version v (xs ++ ys) ≡ last_version (last_version v xs) ys
 last_append v [] ys = refl
 last_append v (x ∷ xs) ys = last_append x.version xs ys
 
-follow_rest : (v : Version) (xs ys : List Entry) → AllFollow v (xs ++ ys) → AllFollow (last_version v xs) ys
+pub follow_rest : (v : Version) (xs ys : List Entry) → AllFollow v (xs ++ ys) → AllFollow (last_version v xs) ys
 follow_rest v [] ys f = f
 follow_rest v (x ∷ xs) ys f = follow_rest x.version xs ys f.1
 

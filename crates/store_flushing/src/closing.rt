@@ -8,8 +8,10 @@ ghost use Rattle.book_history.specs.Logs.{history_of, newest_in, IsLog};
 ghost use Rattle.book_lock.specs.Steps.{HasAllOf};
 ghost use Rattle.store_flushing.specs.Among.{IsFileExactlyIn, IsFileIn};
 ghost use Rattle.store_flushing.specs.Storing.{IsStoreOf};
+ghost use Rattle.store_flushing.specs.Told.{TellsOn, told_in};
 ghost use Rattle.store_flushing.specs.Unstored.{IsUnstoredFor};
 
+use crate::keeper::told_log::ToldLog;
 use commit_plan::fault::StoreFault;
 use disk_model::disk::Disk;
 use flush_core::flusher::Flusher;
@@ -34,6 +36,8 @@ pub struct Closed<D> {
     pub fault: Option<StoreFault>,
     /// The store's disk.
     pub disk: Option<D>,
+    /// What was told durable, and when.
+    pub told: ToldLog,
 }
 
 /// Ends a book once the threads that share it have returned, and gives up its store. The sessions are all that it began
@@ -44,6 +48,7 @@ pub fn close<J: Naming, R: Wait + Drop, D: Disk, W: Wait>(
     shared: Shared<J, R>,
     reporter: Reporter,
     flusher: Option<Flusher<D>>,
+    told: ToldLog,
     sessions: Vec<Session>,
 ) -> Closed<D>
     requires reporter { reporter.book ≡ J.book }
@@ -70,6 +75,10 @@ pub fn close<J: Naming, R: Wait + Drop, D: Disk, W: Wait>(
     ensures exactly { IfSome flusher (λ f. IsStoreOf D.Disk (history_of reporter.log) f → f.commit.phase ≡ phases.Idle
         → IfSome result.disk (λ disk. Leaves D.Disk disk
         (IsFileExactlyIn (history_of result.seen_log.log) result.stored))) }
+    // What was written down as it was told is all that the log tells durable, and it stays told.
+    ensures written { result.told ≡ told }
+    ensures told { IfSome flusher (λ f. IfSome result.disk (λ disk. TellsOn D.Disk (history_of reporter.log) (told_in told) f.commit.disk
+        (history_of result.seen_log.log) (told_in result.told) disk)) }
 {
     // What the reporter has seen is a log with a first entry: the clauses rest on that.
     let _ = reporter.given();
@@ -85,6 +94,7 @@ pub fn close<J: Naming, R: Wait + Drop, D: Disk, W: Wait>(
         stored,
         fault,
         disk,
+        told,
     }
 }
 

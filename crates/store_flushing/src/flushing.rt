@@ -5,6 +5,7 @@ ghost use Rattle.root_store.specs.Running.{is_busy};
 ghost use Rattle.root_store.specs.declared.phase.Phase.TheVariants as phases;
 ghost use Rattle.book_history.specs.Logs.{history_of};
 ghost use Rattle.store_flushing.specs.Storing.{IsStoreOf, Flushes};
+ghost use Rattle.store_flushing.specs.Told.{KeepsTelling};
 
 use crate::keeper::Keeper;
 use disk_model::disk::Disk;
@@ -35,6 +36,7 @@ pub(crate) fn flush<J: Naming, R: Wait + Drop, D: Disk, W: Wait>(
     // older than what was stored at first.
     ensures flushes { IsStoreOf D.Disk (history_of keeper.old.reporter.log) keeper.old.flusher
         → Flushes D.Disk (history_of keeper.old.reporter.log) keeper.old.flusher (history_of keeper.new.reporter.log) keeper.new.flusher }
+    ensures tells { KeepsTelling D.Disk keeper.old keeper.new }
     // No commit is left half done, unless the device failed.
     ensures rests { is_busy keeper.new.flusher.commit.phase ≡ false }
     ensures same { keeper.new.reporter.book ≡ keeper.old.reporter.book }
@@ -58,6 +60,7 @@ fn round<J: Naming, R: Wait + Drop, D: Disk, W: Wait>(
     requires { keeper.old.reporter.book ≡ J.book }
     ensures flushes { IsStoreOf D.Disk (history_of keeper.old.reporter.log) keeper.old.flusher
         → Flushes D.Disk (history_of keeper.old.reporter.log) keeper.old.flusher (history_of keeper.new.reporter.log) keeper.new.flusher }
+    ensures tells { KeepsTelling D.Disk keeper.old keeper.new }
     ensures rests { is_busy keeper.new.flusher.commit.phase ≡ false }
     ensures ends { result ≡ false → (keeper.new.flusher.commit.phase ≡ phases.Failed) ⊎ (keeper.new ≡ keeper.old) }
     ensures same { keeper.new.reporter.book ≡ keeper.old.reporter.book }
@@ -89,6 +92,7 @@ fn commit<J: Naming, R: Wait + Drop, D: Disk, W: Wait>(
     requires newest { version.now ≡ newest (history_of keeper.old.reporter.log) }
     ensures flushes { IsStoreOf D.Disk (history_of keeper.old.reporter.log) keeper.old.flusher
         → Flushes D.Disk (history_of keeper.old.reporter.log) keeper.old.flusher (history_of keeper.new.reporter.log) keeper.new.flusher }
+    ensures tells { KeepsTelling D.Disk keeper.old keeper.new }
     ensures rests { is_busy keeper.new.flusher.commit.phase ≡ false }
     ensures ends { result ≡ false → keeper.new.flusher.commit.phase ≡ phases.Failed }
     ensures same { keeper.new.reporter.book ≡ keeper.old.reporter.book }
@@ -110,6 +114,7 @@ fn end_commit<J: Naming, R: Wait + Drop, D: Disk, W: Wait>(
     requires book { keeper.old.reporter.book ≡ J.book }
     ensures flushes { IsStoreOf D.Disk (history_of keeper.old.reporter.log) keeper.old.flusher
         → Flushes D.Disk (history_of keeper.old.reporter.log) keeper.old.flusher (history_of keeper.new.reporter.log) keeper.new.flusher }
+    ensures tells { KeepsTelling D.Disk keeper.old keeper.new }
     ensures rests { is_busy keeper.new.flusher.commit.phase ≡ false }
     ensures ends { result ≡ false → keeper.new.flusher.commit.phase ≡ phases.Failed }
     ensures same { keeper.new.reporter.book ≡ keeper.old.reporter.book }

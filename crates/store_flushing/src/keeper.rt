@@ -1,5 +1,5 @@
 //! A store, and the one token that may report what it stores, as one value.
-ghost use Rattle.std.specs.Prelude.{◌≡◌, false, IfErr, IfOk, IfSome, IfNone, OnErr};
+ghost use Rattle.std.specs.Prelude.{◌≡◌, ◌++◌, false, IfErr, IfOk, IfSome, IfNone, OnErr};
 ghost use Rattle.std.specs.Arc.{arc_value};
 ghost use Rattle.overlay_terms.specs.Histories.{IsHistory, newest};
 ghost use Rattle.root_store.specs.Beginning.{IsReason};
@@ -10,14 +10,17 @@ ghost use Rattle.book_history.specs.Fault.{passes};
 ghost use Rattle.book_history.specs.Logs.{history_of, newest_in};
 ghost use Rattle.store_flushing.specs.Storing.{AllReported, Flushes, IsStoreOf, Keeps};
 ghost use Rattle.store_flushing.specs.Telling.{told_of};
+ghost use Rattle.store_flushing.specs.Told.{KeepsTelling, TellsOn, news_in, told_at, told_in};
 
 use crate::flushing::flush;
+use crate::keeper::told_log::ToldLog;
 use crate::telling;
 use commit_plan::fault::StoreFault;
 use disk_model::disk::Disk;
 use flush_core::flusher::Flusher;
 use root_store::phase::Progress;
 use std::alloc::Global;
+use std::snapshot::Snapshot;
 use std::sync::{Arc, Wait};
 use version_book::fault::BookFault;
 use version_book::reporter::Reporter;
@@ -25,12 +28,15 @@ use version_book::seen_log::Naming;
 use version_book::shared::Shared;
 use versions::version::Version;
 
+pub mod told_log;
+
 /// A store, and the one token that may report what it stores. Both are reached by its calls alone. None of them moves the
 /// disk and reports: so what a session was told durable by the end of a call was stored as the call began, whenever within
-/// it the session was told.
+/// it the session was told. What it reports it writes down in the same call, with the disk's moment.
 pub struct Keeper<D: Disk> {
     reporter: Reporter,
     flusher: Flusher<D>,
+    told: ToldLog,
 }
 
 /// Commits each version that the book gives, and reports it once it is stored, until the book closes or the device
@@ -41,17 +47,30 @@ pub fn flusher_loop<J: Naming, R: Wait + Drop, D: Disk, W: Wait>(
     shared: &Shared<J, R>,
     reporter: Reporter,
     flusher: Flusher<D>,
-) -> (Reporter, Flusher<D>)
+    told: ToldLog,
+) -> (Reporter, Flusher<D>, ToldLog)
     requires { reporter.book ≡ J.book }
     ensures flushes { IsStoreOf D.Disk (history_of reporter.log) flusher
         → Flushes D.Disk (history_of reporter.log) flusher (history_of result.0.log) result.1 }
     ensures rests { is_busy result.1.commit.phase ≡ false }
     ensures same { result.0.book ≡ reporter.book }
+    // What it tells durable is written down as it is told, and from that moment on a crash leaves no older version.
+    ensures told { IsStoreOf D.Disk (history_of reporter.log) flusher
+        → TellsOn D.Disk (history_of reporter.log) (told_in told) flusher.commit.disk
+        (history_of result.0.log) (told_in result.2) result.1.commit.disk }
 {
-    let mut keeper = Keeper { reporter, flusher };
+    let mut keeper = Keeper {
+        reporter,
+        flusher,
+        told,
+    };
     flush(rt, alloc, shared, &mut keeper);
-    let Keeper { reporter, flusher } = keeper;
-    (reporter, flusher)
+    let Keeper {
+        reporter,
+        flusher,
+        told,
+    } = keeper;
+    (reporter, flusher, told)
 }
 
 impl<D: Disk> Keeper<D> {
@@ -70,14 +89,19 @@ impl<D: Disk> Keeper<D> {
     ) -> Result<Option<Arc<Version, Global>>, BookFault>
         requires { self.old.reporter.book ≡ J.book }
         ensures keeps { Keeps D.Disk self.old.reporter self.old.flusher self.new.reporter self.new.flusher }
+        ensures tells { KeepsTelling D.Disk self.old self.new }
         ensures history { IfOk result (λ o. IfSome o (λ _. IsHistory (history_of self.new.reporter.log))) }
         ensures newest { IfOk result (λ o. IfSome o (λ version. arc_value version ≡ newest_in self.new.reporter.log)) }
         ensures durable { (newest_in self.new.reporter.log).durable ≡ (newest_in self.old.reporter.log).durable }
         ensures none { IfOk result (λ o. IfNone o (self.new ≡ self.old)) }
         ensures flusher { self.new.flusher ≡ self.old.flusher }
+        ensures told { self.new.told ≡ self.old.told }
         ensures same { self.new.reporter.book ≡ self.old.reporter.book }
     {
-        shared.next_version(rt, &mut self.reporter)
+        let looked = shared.next_version(rt, &mut self.reporter);
+        // What the reporter has seen is a history: the clauses rest on that.
+        let _ = self.reporter.given();
+        looked
     }
 
     /// Begins the commit of the newest version that was seen. It makes no device call, and reports nothing.
@@ -86,8 +110,10 @@ impl<D: Disk> Keeper<D> {
         requires history { IsHistory (history_of self.old.reporter.log) }
         requires newest { version.now ≡ newest (history_of self.old.reporter.log) }
         ensures keeps { Keeps D.Disk self.old.reporter self.old.flusher self.new.reporter self.new.flusher }
+        ensures tells { KeepsTelling D.Disk self.old self.new }
         ensures stored { self.new.flusher.commit.root.version ≡ self.old.flusher.commit.root.version }
         ensures reporter { self.new.reporter ≡ self.old.reporter }
+        ensures told { self.new.told ≡ self.old.told }
         ensures err { OnErr result (self.new ≡ self.old) }
         ensures errors { IfErr result (λ fault. IsReason self.old.flusher.commit.phase self.old.flusher.commit.root (HasNoRoomFor self.old.flusher.commit version.now) fault) }
     {
@@ -97,15 +123,19 @@ impl<D: Disk> Keeper<D> {
     /// Makes one device call; none where no commit is under way. It reports nothing.
     pub fn step(&mut self) -> Result<Progress, StoreFault>
         ensures keeps { Keeps D.Disk self.old.reporter self.old.flusher self.new.reporter self.new.flusher }
+        ensures tells { KeepsTelling D.Disk self.old self.new }
         ensures stored { self.new.flusher.commit.root.version ≡ stored_after result self.old.flusher.commit.root.version }
         ensures counted { IfOk result (λ p. Counts p (calls_left self.old.flusher.commit) (calls_left self.new.flusher.commit)) }
         ensures failed { OnErr result (self.new.flusher.commit.phase ≡ phases.Failed) }
         ensures reporter { self.new.reporter ≡ self.old.reporter }
+        ensures told { self.new.told ≡ self.old.told }
     {
+        // What the reporter has seen is a history: the clauses rest on that.
+        let _ = self.reporter.given();
         self.flusher.step()
     }
 
-    /// Reports what is stored. It makes no device call.
+    /// Reports what is stored, and writes down what is told so, with the disk's moment. It makes no device call.
     pub fn report<J: Naming, R: Wait + Drop, W: Wait>(
         &mut self,
         rt: &W,
@@ -114,12 +144,19 @@ impl<D: Disk> Keeper<D> {
     )
         requires { self.old.reporter.book ≡ J.book }
         ensures keeps { Keeps D.Disk self.old.reporter self.old.flusher self.new.reporter self.new.flusher }
+        ensures tells { KeepsTelling D.Disk self.old self.new }
         ensures reported { IsStoreOf D.Disk (history_of self.old.reporter.log) self.old.flusher
             → AllReported (history_of self.new.reporter.log) self.new.flusher }
+        ensures written { told_in self.new.told ≡ told_in self.old.told ++ told_at (D.moment self.old.flusher.commit.disk)
+            (news_in (history_of self.old.reporter.log) (history_of self.new.reporter.log)) }
         ensures flusher { self.new.flusher ≡ self.old.flusher }
         ensures same { self.new.reporter.book ≡ self.old.reporter.book }
     {
+        let was = Snapshot::of(&self.reporter);
         telling::report(rt, alloc, shared, &mut self.reporter, self.flusher.stored());
+        self.told.write(&was, &self.reporter, &self.flusher);
+        // What the reporter has seen is a history: the clauses rest on that.
+        let _ = self.reporter.given();
     }
 
     /// Tells the book of a fault, and says whether the store can go on after it.

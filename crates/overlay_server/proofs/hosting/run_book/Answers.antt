@@ -6,10 +6,11 @@ use Rattle.book_history.proofs.Chains.{begins_with}
 use Rattle.book_lock.specs.Steps.{HasAllOf}
 use Rattle.book_lock.proofs.Beginning.{count_of}
 use Rattle.version_book.specs.Store.{has_store}
+use Rattle.store_flushing.specs.Told.{told_in}
 use Rattle.overlay_server.specs.Counting.{made_in}
 use Rattle.overlay_server.specs.Rooms.{HasParts, HasRooms}
 use Rattle.overlay_server.specs.Running.{IsRunOf}
-use Rattle.overlay_server.specs.Seats.{ended_session, port_of, session_of}
+use Rattle.overlay_server.specs.Seats.{port_of, session_of}
 use Rattle.overlay_server.specs.Serving.{first_log}
 use Rattle.overlay_server.proofs.Lists.{beside_length}
 use Rattle.overlay_server.proofs.Parts.{AreSeated, all_of_book, as_many, of_ended}
@@ -48,7 +49,7 @@ returns-in_default-ended-clause-refused g c =
     let kept = kept_twice g.D.Disk g.J.Naming.book c.args.store after last c.run_threads-store.ensures.store c.keep_store-reporter.ensures in
     record {
       code = inl c.refused-in_default-ended.ensures.code;
-      back = stopped_by g.D.Disk c.args.start.version.value c.args.store.reporter last.reporter c.args.store.flusher last.flusher c.refused-in_default-ended.result.disk
+      back = stopped_by g.D.Disk c.args.start.version.value c.args.store.reporter last.reporter (told_in c.args.store.told) (told_in last.told) c.args.store.flusher last.flusher c.refused-in_default-ended.result.disk
           c.requires.reporter.1 kept.valid kept.flushed c.refused-in_default-ended.ensures.disk;
     }
 
@@ -92,6 +93,7 @@ returns-clause-left g c =
     (record { sessions = c.parted-sessions.result.finished; closed = c.close-closed.result })
     (record {
       log = c.requires.reporter.1;
+      none_told = c.requires.told;
       some = c.requires.ports;
       seated = record { sessions = sessions ∙ c.requires.sessions; ports_are = ports };
     })
@@ -117,5 +119,6 @@ returns-clause-left g c =
         reported = closed.reported;
         files = closed.files;
         exactly = closed.exactly;
+        told = closed.told;
       };
     })

@@ -1,9 +1,11 @@
-use Rattle.std.proofs.Common.{◌∙◌, ap, subst, sym}
+use Rattle.std.proofs.Common.{ap, subst, sym}
 use Rattle.book_history.specs.Logs.{history_of, newest_in}
 use Rattle.version_book.specs.Heard.{Heard}
 use Rattle.store_flushing.specs.Storing.{Flushes}
 use Rattle.store_flushing.specs.declared.keeper.Keeper.{Keeper}
+use Rattle.store_flushing.specs.Told.{KeepsTelling}
 use Rattle.store_flushing.proofs.Storage.{kept_on, then}
+use Rattle.store_flushing.proofs.ToldLemmas.{telling_then}
 use Rattle.store_flushing.proofs.flushing.commit.Goals as goal
 
 pub returns-in-Ok-clause-flushes : goal.returns-in-Ok-clause-flushes
@@ -28,3 +30,11 @@ returns-in-Err-clause-flushes g c is =
     let e = c.begin.ensures in
     let refused = kept_on d h m old.flusher mid.flusher (e.keeps is) (ap (λ (r : Heard). (newest_in r.log).durable) e.reporter) e.stored in
     subst (λ (k : Keeper g.row.D.Denot g.D.Disk). Flushes d h old.flusher (history_of k.reporter.log) k.flusher) (sym c.tell.ensures.nothing) refused
+
+pub returns-in-Ok-clause-tells : goal.returns-in-Ok-clause-tells
+returns-in-Ok-clause-tells g c =
+    telling_then g.D.Disk c.args.keeper.now c.begin.new.self c.end_commit.new.keeper c.begin.ensures.tells (λ is. (c.begin.ensures.keeps is).store) c.end_commit.ensures.tells
+
+pub returns-in-Err-clause-tells : goal.returns-in-Err-clause-tells
+returns-in-Err-clause-tells g c =
+    subst (λ (k : Keeper g.row.D.Denot g.D.Disk). KeepsTelling g.D.Disk c.args.keeper.now k) (sym c.tell.ensures.nothing) c.begin.ensures.tells

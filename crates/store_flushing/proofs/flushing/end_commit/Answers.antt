@@ -1,16 +1,21 @@
-use Rattle.std.proofs.Common.{◌≡◌, Ok, refl, ap, sym, ◌∙◌, subst}
+use Rattle.std.proofs.Common.{Ok, refl, ap, sym, ◌∙◌, subst}
 use Rattle.book_history.specs.Logs.{history_of, newest_in}
 use Rattle.version_book.specs.Heard.{Heard}
 use Rattle.flush_core.specs.Stored.{stored_after}
 use Rattle.store_flushing.specs.Storing.{Flushes}
+use Rattle.store_flushing.specs.Told.{KeepsTelling}
 use Rattle.store_flushing.specs.declared.keeper.Keeper.{Keeper}
 use Rattle.store_flushing.proofs.Storage.{begun, kept_on, then, told_all}
+use Rattle.store_flushing.proofs.ToldLemmas.{telling_self, telling_then}
 use Rattle.store_flushing.proofs.flushing.end_commit.Goals as goal
 
 pub calls-init : goal.calls-init
 calls-init g c =
-    let s = c.args.keeper.now.flusher in
-    (refl, λ is. begun g.D.Disk (history_of c.args.keeper.now.reporter.log) s (λ f left. g.met.D.Disk.only_now s.commit.disk f is.honest left) is)
+    let s = c.args.keeper.now.flusher in (
+      refl,
+      λ is. begun g.D.Disk (history_of c.args.keeper.now.reporter.log) s (λ f left. g.met.D.Disk.only_now s.commit.disk f is.honest left) is,
+      telling_self g.D.Disk c.args.keeper.now,
+    )
 
 pub calls-preserved : goal.calls-preserved
 calls-preserved g c = (
@@ -28,6 +33,7 @@ calls-preserved g c = (
       let stored = e.stored ∙ ap (λ r. stored_after r mid.flusher.commit.root.version) (c.in-Ok-Going.is ∙ ap Ok c.in-Ok-Going.field-0-is) in
       then d (history_of first.reporter.log) m n first.flusher mid.flusher new.flusher was
       (kept_on d m n mid.flusher new.flusher (e.keeps was.store) same stored),
+  telling_then g.D.Disk c.args.keeper.now c.calls.keeper c.step.new.self c.calls.invariant.2 (λ is. (c.calls.invariant.1 is).store) c.step.ensures.tells,
 )
 
 pub returns-in-Ok-Idle-clause-flushes : goal.returns-in-Ok-Idle-clause-flushes
@@ -75,3 +81,20 @@ returns-in-Err-clause-flushes g c is =
     subst (λ (k : Keeper g.row.D.Denot g.D.Disk). Flushes d (history_of first.reporter.log) first.flusher (history_of k.reporter.log) k.flusher) (sym c.tell.ensures.nothing)
     (then d (history_of first.reporter.log) m n first.flusher mid.flusher new.flusher was
     (kept_on d m n mid.flusher new.flusher (e.keeps was.store) same stored))
+
+pub returns-in-Ok-Idle-clause-tells : goal.returns-in-Ok-Idle-clause-tells
+returns-in-Ok-Idle-clause-tells g c =
+    telling_then g.D.Disk c.args.keeper.now c.calls.keeper c.step.new.self c.calls.invariant.2 (λ is. (c.calls.invariant.1 is).store) c.step.ensures.tells
+
+pub returns-in-Ok-Done-clause-tells : goal.returns-in-Ok-Done-clause-tells
+returns-in-Ok-Done-clause-tells g c =
+    let first = c.args.keeper.now in
+    let mid = c.calls.keeper in
+    let done = c.step.new.self in
+    telling_then g.D.Disk first mid c.report.new.self c.calls.invariant.2 (λ is. (c.calls.invariant.1 is).store)
+    (telling_then g.D.Disk mid done c.report.new.self c.step.ensures.tells (λ is. (c.step.ensures.keeps is).store) c.report.ensures.tells)
+
+pub returns-in-Err-clause-tells : goal.returns-in-Err-clause-tells
+returns-in-Err-clause-tells g c =
+    subst (λ (k : Keeper g.row.D.Denot g.D.Disk). KeepsTelling g.D.Disk c.args.keeper.now k) (sym c.tell.ensures.nothing)
+    (telling_then g.D.Disk c.args.keeper.now c.calls.keeper c.step.new.self c.calls.invariant.2 (λ is. (c.calls.invariant.1 is).store) c.step.ensures.tells)

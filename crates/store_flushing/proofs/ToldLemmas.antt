@@ -1,0 +1,193 @@
+-- How what was told durable stays told.
+use Rattle.std.proofs.Common.{◌≡◌, ◌⊎◌, ⊎_elim, ℕ, ◌≤◌, List, [], ◌∷◌, ◌++◌, length, drop, map, All, refl, sym, ap, ◌∙◌, subst, arith}
+use Rattle.std.specs.List.{AllByRecursion, cons_option, slice_index_or}
+use Rattle.std.proofs.lemmas.List.{append-nil, map-append, length-map, get_or-map}
+use Rattle.std.proofs.lemmas.List.Elements.{All-append, All-from_recursion, All-map, All-weaker, filter_map-append}
+use Rattle.std.proofs.Math.Seq.{drop-append_seam}
+use Rattle.disk_model.specs.declared.disk.Disk.{Ghosts}
+use Rattle.disk_model.specs.Moments.{LeavesOnly}
+use Rattle.overlay_terms.specs.Histories.{Version, Event, accepted, kept, durable_to, Entry, History, AllFollow, Follows, IsHistory, BeginsWith, last_version, newest}
+use Rattle.flush_core.specs.declared.flusher.Flusher.{Flusher}
+use Rattle.book_history.specs.Logs.{history_of}
+use Rattle.book_history.proofs.Fronts.{prefix_self, prefix_trans}
+use Rattle.store_flushing.specs.Among.{IsFileIn}
+use Rattle.store_flushing.specs.Storing.{IsStoreOf, KeepsTold}
+use Rattle.store_flushing.specs.Told.{number_of, reported_in, news_in, told_then, told_at, told_in, StaysTold, TellsOn, KeepsTelling}
+use Rattle.store_flushing.specs.declared.keeper.Keeper.{Keeper}
+use Rattle.store_flushing.specs.declared.keeper.told_log.Told.{Told}
+use Rattle.store_flushing.proofs.Histories.{begins_self, file_more, follow_rest, last_append}
+use Rattle.store_flushing.proofs.Storage.{OnlyNow, store_leaves}
+
+-- ---- the numbers that entries tell
+
+told_rises : (old new : Version) (event : Event) → Follows old event new → old.durable ≤ new.durable
+told_rises old new (accepted session batch) f = omega (arith, f.durable)
+told_rises old new (kept name column tile) f = omega (arith, f.durable)
+told_rises old new (durable_to number) f = omega (arith, f.risen, f.durable)
+
+durable_rises : (v : Version) (es : List Entry) → AllFollow v es → v.durable ≤ (last_version v es).durable
+durable_rises v [] f = omega arith
+durable_rises v (e ∷ es) f = omega (arith, told_rises v e.version e.event f.0, durable_rises e.version es f.1)
+
+-- none of them is greater than the durable number at the end
+low_by : (top : ℕ) (old new : Version) (event : Event) (rest : List ℕ) → Follows old event new → new.durable ≤ top
+    → AllByRecursion (λ n. n ≤ top) rest → AllByRecursion (λ n. n ≤ top) (cons_option (number_of event) rest)
+low_by top old new (accepted session batch) rest f low all = all
+low_by top old new (kept name column tile) rest f low all = all
+low_by top old new (durable_to number) rest f low all = (omega (arith, f.durable, low), all)
+
+low_in : (v : Version) (es : List Entry) → AllFollow v es → AllByRecursion (λ n. n ≤ (last_version v es).durable) (reported_in es)
+low_in v [] f = tt
+low_in v (e ∷ es) f =
+    low_by (last_version e.version es).durable v e.version e.event (reported_in es) f.0 (durable_rises e.version es f.1) (low_in e.version es f.1)
+
+-- where as much is durable at the end, none was told
+none_by : (old new : Version) (event : Event) (rest : List ℕ) → Follows old event new → new.durable ≤ old.durable → rest ≡ [] → cons_option (number_of event) rest ≡ []
+none_by old new (accepted session batch) rest f same none = none
+none_by old new (kept name column tile) rest f same none = none
+none_by old new (durable_to number) rest f same none = absurd (omega (arith, f.risen, f.durable, same))
+
+none_in : (v : Version) (es : List Entry) → AllFollow v es → (last_version v es).durable ≤ v.durable → reported_in es ≡ []
+none_in v [] f same = refl
+none_in v (e ∷ es) f same =
+    none_by v e.version e.event (reported_in es) f.0 (omega (arith, durable_rises e.version es f.1, same))
+    (none_in e.version es f.1 (omega (arith, told_rises v e.version e.event f.0, same)))
+
+module _ (was now : History) (on : BeginsWith now was) where
+  -- what a longer history tells: what it told, and its news
+  entries_on : reported_in now.entries ≡ reported_in was.entries ++ reported_in on.0
+  entries_on = ap (λ (h : History). reported_in h.entries) on.1 ∙ filter_map-append (λ (e : Entry). number_of e.event) was.entries on.0
+
+  pub told_on : reported_in now.entries ≡ reported_in was.entries ++ news_in was now
+  told_on =
+      entries_on ∙ ap (λ (ns : List ℕ). reported_in was.entries ++ ns)
+      (sym (ap (drop (length (reported_in was.entries))) entries_on ∙ drop-append_seam (reported_in was.entries) (reported_in on.0)))
+
+  last_on : newest now ≡ last_version (newest was) on.0
+  last_on = ap newest on.1 ∙ last_append was.start was.entries on.0
+
+  -- none, where as much is durable
+  pub told_same : IsHistory now → (newest now).durable ≡ (newest was).durable → reported_in now.entries ≡ reported_in was.entries
+  told_same history same =
+      let rest : AllFollow (newest was) on.0 = follow_rest was.start was.entries on.0 (subst IsHistory on.1 history) in
+      let level : (last_version (newest was) on.0).durable ≤ (newest was).durable = omega (arith, ap (λ (v : Version). v.durable) last_on, same) in
+      entries_on ∙ ap (λ (ns : List ℕ). reported_in was.entries ++ ns) (none_in (newest was) on.0 rest level) ∙ append-nil (reported_in was.entries)
+
+  -- none is greater than what is durable
+  pub news_low : (top : ℕ) → IsHistory now → (newest now).durable ≤ top → All (λ n. n ≤ top) (news_in was now)
+  news_low top history low =
+      let rest : AllFollow (newest was) on.0 = follow_rest was.start was.entries on.0 (subst IsHistory on.1 history) in
+      let news : reported_in on.0 ≡ news_in was now = sym (ap (drop (length (reported_in was.entries))) entries_on ∙ drop-append_seam (reported_in was.entries) (reported_in on.0)) in
+      let all = All-from_recursion (λ n. n ≤ (last_version (newest was) on.0).durable) (reported_in on.0) (low_in (newest was) on.0 rest) in
+      subst (All (λ n. n ≤ top)) news
+      (All-weaker (λ n. n ≤ (last_version (newest was) on.0).durable) (λ n. n ≤ top) (λ n le. omega (arith, le, ap (λ (v : Version). v.durable) last_on, low)) (reported_in on.0) all)
+
+-- no number that a history tells is greater than what is durable
+pub all_low : (h : History) (top : ℕ) → IsHistory h → (newest h).durable ≤ top → All (λ n. n ≤ top) (reported_in h.entries)
+all_low h top history low =
+    All-weaker (λ n. n ≤ (newest h).durable) (λ n. n ≤ top) (λ n le. omega (arith, le, low)) (reported_in h.entries)
+    (All-from_recursion (λ n. n ≤ (newest h).durable) (reported_in h.entries) (low_in h.start h.entries history))
+
+-- ---- what was written down
+
+abbrev number_in : Told → ℕ
+number_in t = t.number
+
+numbers_at : (moment : ℕ) (ns : List ℕ) → map number_in (told_at moment ns) ≡ ns
+numbers_at moment [] = refl
+numbers_at moment (n ∷ ns) = ap (λ (ms : List ℕ). n ∷ ms) (numbers_at moment ns)
+
+small_in : (top : ℕ) (told : List Told) → All (λ n. n ≤ top) (map number_in told) → All (λ (t : Told). t.number ≤ top) told
+small_in top told all k d at =
+    subst (λ n. n ≤ top) (get_or-map number_in told k d (number_in d) at) (all k (number_in d) (omega (arith, at, length-map told number_in)))
+
+module _ {D : Type 0} (g : Ghosts D) where
+  -- a number stays told, from the disk first on, up to this one
+  abbrev Stays : History → D → D → Told → Type 0
+  Stays history first last t =
+      (g.moment first ≤ t.moment) × (t.moment ≤ g.moment last) × ((c : List ℕ) → g.left_since last t.moment c → IsFileIn history t.number c)
+
+  pub tells_self : (h : History) (told : List Told) (disk : D) → TellsOn g h told disk h told disk
+  tells_self h told disk = record { goes_on = prefix_self told; later = omega arith; stays = λ first from is. is }
+
+  pub tells_then : (a b c : History) (x y z : List Told) (s t u : D) → TellsOn g a x s b y t → TellsOn g b y t c z u → TellsOn g a x s c z u
+  tells_then a b c x y z s t u one two = record {
+    goes_on = prefix_trans x y z one.goes_on two.goes_on;
+    later = omega (arith, one.later, two.later);
+    stays = λ first from is. two.stays first (omega (arith, from, one.later)) (one.stays first from is);
+  }
+
+  -- the history goes on where as much is durable, and so does the disk
+  still : (was now : History) (top : ℕ) (first old new : D) (t : Told) → BeginsWith now was → LeavesOnly g old new (IsFileIn now top) → t.number ≤ top
+      → Stays was first old t → Stays now first new t
+  still was now top first old new t on run low is = (
+    is.0,
+    omega (arith, is.1, run.later),
+    λ c left. ⊎_elim (λ before. file_more was now t.number t.number c on (omega arith) (is.2 c before)) (λ file. file_more now now top t.number c (begins_self now) low file)
+        (run.before t.moment c is.1 left),
+  )
+
+  pub none_told : (was now : History) (s t : Flusher D g) (told : List Told) → KeepsTold g was s now t → IsHistory now → (newest now).durable ≡ (newest was).durable
+      → TellsOn g was told s.commit.disk now told t.commit.disk
+  none_told was now s t told call history same = record {
+    goes_on = prefix_self told;
+    later = call.moments.later;
+    stays = λ first from is.
+        let top = s.commit.root.version in
+        let each = told_same was now call.goes_on history same ∙ is.each in
+        let small = small_in top told (subst (All (λ n. n ≤ top)) each (all_low now top history call.told)) in
+        record {
+          each = each;
+          stays = λ k d at. still was now top first s.commit.disk t.commit.disk (slice_index_or told k d) call.goes_on call.moments (small k d at) (is.stays k d at);
+        };
+  }
+
+  -- news are told, with the disk's moment
+  pub news_told : (was now : History) (s : Flusher D g) (told more : List Told) → OnlyNow g s → KeepsTold g was s now s → IsHistory now
+      → more ≡ told ++ told_at (g.moment s.commit.disk) (news_in was now) → TellsOn g was told s.commit.disk now more s.commit.disk
+  news_told was now s told more at call history is_more = subst (λ (l : List Told). TellsOn g was told s.commit.disk now l s.commit.disk) (sym is_more) (record {
+    goes_on = (told_at (g.moment s.commit.disk) (news_in was now), refl);
+    later = omega arith;
+    stays = λ first from is.
+        let top = s.commit.root.version in
+        let m = g.moment s.commit.disk in
+        let news = news_in was now in
+        let disk = s.commit.disk in
+        let P : Told → Type 0 = Stays now first disk in
+        record {
+          each = told_on was now call.goes_on ∙ ap (λ (ns : List ℕ). ns ++ news) is.each
+              ∙ ap (λ (ns : List ℕ). map number_in told ++ ns) (sym (numbers_at m news)) ∙ sym (map-append number_in told (told_at m news));
+          stays = All-append P told (told_at m news)
+              (All-weaker (Stays was first disk) P (λ (t : Told) old. (old.0, old.1, λ c left. file_more was now t.number t.number c call.goes_on (omega arith) (old.2 c left))) told is.stays)
+              (All-map P (told_then m) news (All-weaker (λ n. n ≤ top) (λ n. P (told_then m n))
+              (λ n low. (from, omega arith, λ c left. file_more now now top n c (begins_self now) low (store_leaves g now s call.store c (at c left))))
+              news (news_low was now call.goes_on top history call.told)));
+        };
+  })
+
+  -- of a version alone nothing is told
+  pub none_yet : (start : Version) (disk : D) → StaysTold g (record { start = start; entries = [] }) [] disk disk
+  none_yet start disk = record { each = refl; stays = λ k d at. absurd (omega (arith, at)) }
+
+  -- a book that ends tells no more
+  pub told_at_end : (was now : History) (told : List Told) (disk : D) → BeginsWith now was → IsHistory now → (newest now).durable ≡ (newest was).durable → TellsOn g was told disk now told disk
+  told_at_end was now told disk on history same = record {
+    goes_on = prefix_self told;
+    later = omega arith;
+    stays = λ first from is. record {
+      each = told_same was now on history same ∙ is.each;
+      stays = λ k d at. let old = is.stays k d at in
+          (old.0, old.1, λ c left. file_more was now (slice_index_or told k d).number (slice_index_or told k d).number c on (omega arith) (old.2 c left));
+    };
+  }
+
+  -- ---- calls of a keeper, one after another
+
+  pub telling_self : (k : Keeper D g) → KeepsTelling g k k
+  telling_self k is = tells_self (history_of k.reporter.log) (told_in k.told) k.flusher.commit.disk
+
+  pub telling_then : (a b c : Keeper D g) → KeepsTelling g a b → (IsStoreOf g (history_of a.reporter.log) a.flusher → IsStoreOf g (history_of b.reporter.log) b.flusher)
+      → KeepsTelling g b c → KeepsTelling g a c
+  telling_then a b c one store two is =
+      tells_then (history_of a.reporter.log) (history_of b.reporter.log) (history_of c.reporter.log) (told_in a.told) (told_in b.told) (told_in c.told)
+      a.flusher.commit.disk b.flusher.commit.disk c.flusher.commit.disk (one is) (two (store is))

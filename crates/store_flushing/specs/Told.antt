@@ -1,0 +1,58 @@
+-- The numbers that were told durable, each with the disk's moment as it was told.
+use Rattle.std.specs.Prelude.{◌≡◌, ℕ, ◌≤◌, List, length, drop, map, filter_map, All, Option, Some, None}
+use mathlib.Core.List.{IsPrefix}
+use Rattle.disk_model.specs.declared.disk.Disk.{Ghosts}
+use Rattle.overlay_terms.specs.Histories.{Event, accepted, kept, durable_to, Entry, History}
+use Rattle.book_history.specs.Logs.{history_of}
+use Rattle.store_flushing.specs.Among.{IsFileIn}
+use Rattle.store_flushing.specs.Storing.{IsStoreOf}
+use Rattle.store_flushing.specs.declared.keeper.Keeper.{Keeper}
+use Rattle.store_flushing.specs.declared.keeper.told_log.Told.{Told}
+use Rattle.store_flushing.specs.declared.keeper.told_log.ToldLog.{ToldLog}
+
+-- what was written down
+abbrev pub told_in : ToldLog → List Told
+told_in log = log.seen.log
+
+-- the number that an event tells durable
+abbrev pub number_of : Event → Option ℕ
+number_of (accepted session batch) = None
+number_of (kept name column tile) = None
+number_of (durable_to number) = Some number
+
+-- the numbers that were reported durable in some entries, in order
+abbrev pub reported_in : List Entry → List ℕ
+reported_in entries = filter_map (λ (e : Entry). number_of e.event) entries
+
+-- the numbers that were reported durable since an earlier history
+abbrev pub news_in : History → History → List ℕ
+news_in was now = drop (length (reported_in was.entries)) (reported_in now.entries)
+
+-- a number that is told at this moment
+abbrev pub told_then : ℕ → ℕ → Told
+told_then moment number = record { number = number; moment = moment }
+
+-- numbers that are told at this moment
+abbrev pub told_at : ℕ → List ℕ → List Told
+told_at moment numbers = map (told_then moment) numbers
+
+-- the numbers that a history tells durable are those that were written down as they were told, and a crash at the moment of
+-- one, or at any later one, leaves a version of the history that is no older
+pub record StaysTold {D : Type 0} (g : Ghosts D) (history : History) (told : List Told) (old last : D) : Type 0 where
+  pub each : reported_in history.entries ≡ map (λ (t : Told). t.number) told
+  pub stays : All (λ (t : Told). (g.moment old ≤ t.moment) × (t.moment ≤ g.moment last)
+      × ((c : List ℕ) → g.left_since last t.moment c → IsFileIn history t.number c)) told
+
+-- from a history, what is written down of it and its disk to later ones: nothing is struck out, and where all was so from
+-- some earlier disk on, it is so still
+pub record TellsOn {D : Type 0} (g : Ghosts D) (was : History) (told : List Told) (old : D) (now : History) (more : List Told) (new : D) : Type 0 where
+  pub goes_on : IsPrefix told more
+  pub later : g.moment old ≤ g.moment new
+  pub stays : (first : D) → g.moment first ≤ g.moment old → StaysTold g was told first old → StaysTold g now more first new
+
+-- the same from a keeper to what its calls make of it, where its store is one of the history that its reporter has seen
+abbrev pub KeepsTelling : {D : Type 0} (g : Ghosts D) → Keeper D g → Keeper D g → Type 0
+KeepsTelling g old new =
+    IsStoreOf g (history_of old.reporter.log) old.flusher
+    → TellsOn g (history_of old.reporter.log) (told_in old.told) old.flusher.commit.disk
+    (history_of new.reporter.log) (told_in new.told) new.flusher.commit.disk
