@@ -221,7 +221,7 @@ IsBatchAnswered session before requests after made reply =
     ((place : ℕ) × (fault : CommandFault) × IsFirstUnread requests place fault × IsRefusedAt place fault made reply)
     ⊎ ((commands : Batch) × AreCommandsOf requests commands × IsSubmittedAll session before commands after made reply)
 
--- whether a request takes memory: for the name in it, which has to be one, or for the lines of its reply
+-- whether a request takes memory: for what it makes or waits for, or for the lines of its reply; none for its name
 abbrev pub takes_memory : Request → Bool
 takes_memory nothing = false
 takes_memory too_long = false
@@ -229,7 +229,7 @@ takes_memory malformed = false
 takes_memory (put_text name text) = is_name name
 takes_memory (define_text name text) = is_name name
 takes_memory (remove_name name) = is_name name
-takes_memory (locate name x y w) = is_name name
+takes_memory (locate name x y w) = false
 takes_memory (grid name x y step nx ny) = is_name name
 takes_memory list_layers = true
 takes_memory (edges name k) = is_name name

@@ -12,10 +12,10 @@ use std::alloc::{AllocError, Global};
 use std::sync::Arc;
 use wkt_form::reading::read_wkt;
 
-/// The name with these bytes. Bytes that are no name take no memory.
+/// The name with these bytes. It takes no memory.
 pub fn read_name(alloc: Global, bytes: &[u8]) -> Result<Name, CommandFault>
     ensures ok { IfOk result (λ name. (name ≡ bytes.now) × IsTrue (is_name bytes.now)) }
-    ensures refused { IfErr result (λ fault. IsMemory bytes.now fault ⊎ IsNoName bytes.now fault) }
+    ensures refused { IfErr result (λ fault. IsNoName bytes.now fault) }
 {
     Ok(Name::new(alloc, bytes)?)
 }
@@ -42,10 +42,10 @@ pub fn read_define(alloc: Global, name: &[u8], text: &[u8]) -> Result<Command, C
     Ok(Command::Define(defined, definition))
 }
 
-/// The DROP of a name.
+/// The DROP of a name. It takes no memory.
 pub fn read_remove(alloc: Global, name: &[u8]) -> Result<Command, CommandFault>
     ensures ok { IfOk result (λ change. IsRemove name.now (command change)) }
-    ensures refused { IfErr result (λ fault. IsMemory name.now fault ⊎ IsNoName name.now fault) }
+    ensures refused { IfErr result (λ fault. IsNoName name.now fault) }
 {
     Ok(Command::Remove(read_name(alloc, name)?))
 }

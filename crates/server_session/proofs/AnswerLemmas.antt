@@ -77,11 +77,9 @@ refused_as fault other same = record { nothing_made = refl; told = ap error_line
 pub no_name : (name : List ℕ) (fault : CommandFault) → IsNoName name fault → (is_name name ≡ false) × IsRefused (Expression BadName) [] (error_line fault)
 no_name name fault none = (none.0, refused_as fault (Expression BadName) none.1)
 
--- a line whose name is none, or finds no memory
-pub unnamed : (name : List ℕ) (fault : CommandFault) (T : Type 0) → IsMemory name fault ⊎ IsNoName name fault
-    → (IsTrue (is_name name) × IsRefused OutOfMemory [] (error_line fault)) ⊎ WithName name [] (error_line fault) T
-unnamed name fault T (inl memory) = inl (memory.0, record { nothing_made = refl; told = memory.1 })
-unnamed name fault T (inr none) = inr (inl (no_name name fault none))
+-- a line whose name is none
+pub unnamed : (name : List ℕ) (fault : CommandFault) (T : Type 0) → IsNoName name fault → WithName name [] (error_line fault) T
+unnamed name fault T none = inl (no_name name fault none)
 
 -- ==== Commands
 
@@ -285,8 +283,8 @@ define_refused stored me name text fault refused =
           ])
     ])
 
-pub remove_refused : (stored : Bool) (me : Known) (name : List ℕ) (fault : CommandFault) → IsMemory name fault ⊎ IsNoName name fault → Answers stored me (remove_name name) me (error_line fault)
-remove_refused stored me name fault refused = answers_there stored me (remove_name name) (error_line fault) (unnamed name fault _ refused)
+pub remove_refused : (stored : Bool) (me : Known) (name : List ℕ) (fault : CommandFault) → IsNoName name fault → Answers stored me (remove_name name) me (error_line fault)
+remove_refused stored me name fault refused = answers_there stored me (remove_name name) (error_line fault) (inr (unnamed name fault _ refused))
 
 -- ==== LOCATE
 
@@ -300,8 +298,8 @@ point_read x y w x' y' w' p ex ey ew is =
     let P : ℤ → ℤ → ℤ → Type 0 = λ a b c. p ≡ record { x = a; y = b; w = c } in
     subst (λ (v : ℤ). P v y w) ex (subst (λ (v : ℤ). P x' v w) ey (subst (λ (v : ℤ). P x' y' v) ew is))
 
-pub locate_unnamed : (stored : Bool) (me : Known) (name : List ℕ) (x y w : ℤ) (fault : CommandFault) → IsMemory name fault ⊎ IsNoName name fault → Answers stored me (locate name x y w) me (error_line fault)
-locate_unnamed stored me name x y w fault refused = answers_there stored me (locate name x y w) (error_line fault) (unnamed name fault _ refused)
+pub locate_unnamed : (stored : Bool) (me : Known) (name : List ℕ) (x y w : ℤ) (fault : CommandFault) → IsNoName name fault → Answers stored me (locate name x y w) me (error_line fault)
+locate_unnamed stored me name x y w fault refused = answers_there stored me (locate name x y w) (error_line fault) (inr (unnamed name fault _ refused))
 
 pub locate_out_of_range : (stored : Bool) (me : Known) (name : List ℕ) (x y w : ℤ) → IsTrue (is_name name) → ¬ (IsQuery x y w) → Answers stored me (locate name x y w) me (error_line (Query PointRange))
 locate_out_of_range stored me name x y w named out =
@@ -327,9 +325,9 @@ points_read x y step nx ny x' y' step' nx' ny' g ex ey es ew eh is =
     (subst (λ (v : ℤ). P x' y' step' v ny) ew
     (subst (λ (v : ℤ). P x' y' step' nx' v) eh is))))
 
-pub grid_unnamed : (stored : Bool) (me : Known) (name : List ℕ) (x y step nx ny : ℤ) (fault : CommandFault) → IsMemory name fault ⊎ IsNoName name fault
+pub grid_unnamed : (stored : Bool) (me : Known) (name : List ℕ) (x y step nx ny : ℤ) (fault : CommandFault) → IsNoName name fault
     → Answers stored me (grid name x y step nx ny) me (error_line fault)
-grid_unnamed stored me name x y step nx ny fault refused = answers_there stored me (grid name x y step nx ny) (error_line fault) (unnamed name fault _ refused)
+grid_unnamed stored me name x y step nx ny fault refused = answers_there stored me (grid name x y step nx ny) (error_line fault) (inr (unnamed name fault _ refused))
 
 pub grid_of_no_size : (stored : Bool) (me : Known) (name : List ℕ) (x y step nx ny : ℤ) → IsTrue (is_name name) → ¬ (IsGridSize step nx ny)
     → Answers stored me (grid name x y step nx ny) me (error_line GridSize)

@@ -20,7 +20,7 @@ use Rattle.book_history.specs.declared.fault.ToldFault.TheVariants as store
 use Rattle.version_book.specs.Waits.{IsBuiltAt, IsSyncRefused, IsWaitRefused}
 use Rattle.script_form.specs.declared.fault.CommandFault.{CommandFault}
 use Rattle.script_form.specs.declared.fault.CommandFault.TheVariants.{Version, Closing, Gone, NoStore}
-use Rattle.script_form.specs.Reading.{IsMemory, IsNoName}
+use Rattle.script_form.specs.Reading.{IsNoName}
 use Rattle.script_form.specs.Replies.{error_line, built_line, durable_line, verdict_line}
 use Rattle.script_form.specs.Requests.{edges, wait, verify, sync}
 use Rattle.script_form.specs.Transcript.{Asked, asked_column, IsOutOfMemory, IsAnswered, IsOfStore}
@@ -42,16 +42,16 @@ moved : (P : versions.Version → List ℕ → Option ℕ → Type 0) (version n
 moved P version new known name n k is same number h =
     subst (λ v. P v name k) is (subst (λ m. P version m k) same (subst (λ m. P version known m) number h))
 
--- ==== Lines whose name is none, or finds no memory
+-- ==== Lines whose name is none
 
-pub edges_unnamed : (stored : Bool) (me : Known) (name : List ℕ) (k : ℤ) (fault : CommandFault) → IsMemory name fault ⊎ IsNoName name fault → Answers stored me (edges name k) me (error_line fault)
-edges_unnamed stored me name k fault refused = answers_there stored me (edges name k) (error_line fault) (unnamed name fault _ refused)
+pub edges_unnamed : (stored : Bool) (me : Known) (name : List ℕ) (k : ℤ) (fault : CommandFault) → IsNoName name fault → Answers stored me (edges name k) me (error_line fault)
+edges_unnamed stored me name k fault refused = answers_there stored me (edges name k) (error_line fault) (inr (unnamed name fault _ refused))
 
-pub verify_unnamed : (stored : Bool) (me : Known) (name : List ℕ) (k : ℤ) (fault : CommandFault) → IsMemory name fault ⊎ IsNoName name fault → Answers stored me (verify name k) me (error_line fault)
-verify_unnamed stored me name k fault refused = answers_there stored me (verify name k) (error_line fault) (unnamed name fault _ refused)
+pub verify_unnamed : (stored : Bool) (me : Known) (name : List ℕ) (k : ℤ) (fault : CommandFault) → IsNoName name fault → Answers stored me (verify name k) me (error_line fault)
+verify_unnamed stored me name k fault refused = answers_there stored me (verify name k) (error_line fault) (inr (unnamed name fault _ refused))
 
-pub wait_unnamed : (stored : Bool) (me : Known) (name : List ℕ) (fault : CommandFault) → IsMemory name fault ⊎ IsNoName name fault → Answers stored me (wait name) me (error_line fault)
-wait_unnamed stored me name fault refused = answers_there stored me (wait name) (error_line fault) (unnamed name fault _ refused)
+pub wait_unnamed : (stored : Bool) (me : Known) (name : List ℕ) (fault : CommandFault) → IsNoName name fault → Answers stored me (wait name) me (error_line fault)
+wait_unnamed stored me name fault refused = answers_there stored me (wait name) (error_line fault) (inr (unnamed name fault _ refused))
 
 module _ (was now : Known) (stays : Stays was now) (made : now.made ≡ was.made) where
   -- ==== EDGES

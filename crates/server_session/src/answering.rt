@@ -153,7 +153,7 @@ fn look(me: &mut Session) -> Result<Arc<Version, Global>, CommandFault>
     }
 }
 
-/// Where a point lies. The name alone takes memory.
+/// Where a point lies. It takes no memory.
 fn answer_locate(
     alloc: Global,
     me: &mut Session,
