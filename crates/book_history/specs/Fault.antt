@@ -12,6 +12,7 @@ use Rattle.layer_book.specs.declared.fault.LayerFault.TheVariants.{OutOfMemory a
 use Rattle.layer_book.specs.declared.batch_fault.BatchFault.{BatchFault}
 use Rattle.layer_book.specs.declared.batch_fault.BatchFault.TheVariants.{Whole}
 use Rattle.versions.specs.Fault as version_fault
+use Rattle.versions.specs.declared.fault.VersionFault.{VersionFault}
 use Rattle.versions.specs.declared.fault.VersionFault.TheVariants.{Layer}
 use Rattle.book_history.specs.declared.fault.ToldFault.{ToldFault}
 use Rattle.book_history.specs.declared.fault.ToldFault.TheVariants.{Device, Full, Failed, SequenceLimit, OutOfMemory}
@@ -62,35 +63,30 @@ text_of (fault.Store refused) = store_text_of refused
 abbrev pub no_memory : BookFault
 no_memory = fault.Version (Layer NoMemory)
 
--- why a book refuses a command: the refusal of the definitions, or memory ran out where there is none;
--- or it closes, where it may; or it is behind, which each call says by itself
+-- why a version refuses a command: the refusal of the definitions, or memory ran out where there is none
+abbrev pub RefusesCommand : Version → Command → VersionFault → Type 0
+RefusesCommand version command =
+    RefusedBy (Layer NoMemory) (option_map version_fault.version_fault_of (refusal_at version.number version.layers command))
+
+-- why a version refuses a batch, in the same way
+abbrev pub RefusesBatch : Version → Batch → BatchFault → Type 0
+RefusesBatch version batch = RefusedAllBy (batch_refusal_at version.number version.layers batch)
+
+-- why a book refuses a command: its newest version does; or it closes, where it may; or it is behind, which each call
+-- says by itself
 abbrev pub IsCommandRefused : Bool → Version → Command → BookFault → Type 0
-IsCommandRefused closing version command (fault.Version refused) =
-    RefusedBy (Layer NoMemory) (option_map version_fault.version_fault_of (refusal_at version.number version.layers command)) refused
+IsCommandRefused closing version command (fault.Version refused) = RefusesCommand version command refused
 IsCommandRefused closing version command fault.Closing = IsTrue closing
 IsCommandRefused closing version command fault.Gone = Unit {0}
 IsCommandRefused closing version command fault.NoStore = ⊥
 IsCommandRefused closing version command (fault.Store refused) = ⊥
 
--- one fact where the fault is that the locked book is behind or cannot go on, another at each other fault
-abbrev pub IfGone : BookFault → Type 0 → Type 0 → Type 0
-IfGone (fault.Version refused) gone other = other
-IfGone fault.Closing gone other = other
-IfGone fault.Gone gone other = gone
-IfGone fault.NoStore gone other = other
-IfGone (fault.Store refused) gone other = other
-
 -- the fault of a batch that is refused so, which is no single command's
 abbrev pub whole : BookFault → BatchFault
 whole refused = Whole (code_of refused)
 
--- why a book refuses a batch: it is behind, which each call says by itself; or it closes, where it may;
--- or the refusal of the definitions, or memory ran out where there is none
+-- why a book refuses a batch: it is behind, which each call says by itself; or it closes, where it may; or its newest
+-- version does
 abbrev pub IsBatchRefused : Bool → Version → Batch → BatchFault → Type 0
 IsBatchRefused closing version batch refused =
-    (refused ≡ whole fault.Gone) ⊎ ((IsTrue closing × (refused ≡ whole fault.Closing))
-    ⊎ RefusedAllBy (batch_refusal_at version.number version.layers batch) refused)
-
--- one fact where a batch is refused because the locked book is behind or cannot go on, another at each other fault
-abbrev pub IfBatchGone : BatchFault → Type 0 → Type 0 → Type 0
-IfBatchGone refused gone other = ((refused ≡ whole fault.Gone) × gone) ⊎ (¬ (refused ≡ whole fault.Gone) × other)
+    (refused ≡ whole fault.Gone) ⊎ ((IsTrue closing × (refused ≡ whole fault.Closing)) ⊎ RefusesBatch version batch refused)

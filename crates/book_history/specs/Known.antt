@@ -1,5 +1,5 @@
 -- What a session knows.
-use Rattle.std.specs.Prelude.{◌≡◌, ℕ, List}
+use Rattle.std.specs.Prelude.{◌≡◌, ◌⊎◌, ℕ, List}
 use Rattle.logbook.specs.Pages.{Book}
 use Rattle.overlay_terms.specs.Batches.{Batch}
 use Rattle.overlay_terms.specs.Histories.{Entry, History, commands_of}
@@ -19,3 +19,9 @@ seen known = history_of known.log
 -- the batches of a session in what it has seen are those that it made
 abbrev pub IsOwn : Known → Type 0
 IsOwn known = commands_of known.session (seen known).entries ≡ known.made
+
+-- a refusal leaves a session so: as it was, where the fault is that the book is gone; else it made nothing, and its
+-- batches in what it has seen are those that it made
+abbrev pub LeavesSession : {F : Type 0} → F → Known → Known → F → Type 0
+LeavesSession gone was now fault =
+    ((fault ≡ gone) × (now ≡ was)) ⊎ (¬ (fault ≡ gone) × (now.made ≡ was.made) × IsOwn now)

@@ -1,3 +1,4 @@
 pub mod Beginning
 pub mod Growing
 pub mod SentLog
+pub mod Turning

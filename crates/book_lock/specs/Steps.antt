@@ -1,6 +1,7 @@
 -- What the lock's methods leave a token with.
-use Rattle.std.specs.Prelude.{◌≡◌, ◌⊎◌, ◌++◌, ◌∷◌, ◌<◌, [], ℕ, zero, suc, Bool, true, false, List, None}
+use Rattle.std.specs.Prelude.{◌≡◌, ◌⊎◌, ◌++◌, ◌∷◌, ◌<◌, [], ℕ, zero, suc, Bool, true, false, IsTrue, List, None}
 use mathlib.Core.List.{IsPrefix}
+use Rattle.overlay_terms.specs.Histories as terms
 use Rattle.overlay_terms.specs.Histories.{Tile, Entry, accepted, commands_of, kept, durable_to, tile_at, FollowsBatch, FollowsTile, FollowsReport, StaysAtReport}
 use Rattle.overlay_terms.specs.Batches.{Batch}
 use Rattle.overlay_terms.specs.Layers.{Name}
@@ -9,6 +10,8 @@ use Rattle.versions.specs.Finish.{IsAwaited}
 use Rattle.book_history.specs.Known.{Known}
 use Rattle.book_history.specs.Logs.{entry, newest_in, IsLog}
 use Rattle.book_history.specs.BookLogs.{BookLog}
+use Rattle.book_lock.specs.declared.refused.Refused.{Refused}
+use Rattle.book_lock.specs.declared.refused.Refused.TheVariants.{Gone, Closing, Version}
 
 -- a session has looked: it has seen this log, which goes on from what it saw, and its batches there are those that
 -- it made
@@ -18,11 +21,28 @@ pub record HasLooked (was : Known) (log : List Entry) (now : Known) : Type 0 whe
   pub own : commands_of was.session log ≡ was.made
   pub valid : IsLog log
 
--- a session's batch is accepted: its entry is added, and the newest version then has this number
-abbrev pub IsAcceptedIn : List Entry → ℕ → Batch → List Entry → ℕ → Type 0
-IsAcceptedIn log session batch after number =
-    FollowsBatch (newest_in log) batch (newest_in after)
-    × (after ≡ log ++ entry (accepted session batch) (newest_in after) ∷ []) × ((newest_in after).number ≡ number)
+-- a session's batch is accepted: its entry is added to a log that goes on from what the session saw, the newest version
+-- then has this number, and the session has seen all of it and made the batch
+pub record IsAcceptedIn (log : List Entry) (was : Known) (batch : Batch) (after : List Entry) (now : Known) (number : ℕ) : Type 0 where
+  pub longer : IsPrefix was.log log
+  pub follows : FollowsBatch (newest_in log) batch (newest_in after)
+  pub added : after ≡ log ++ entry (accepted was.session batch) (newest_in after) ∷ []
+  pub numbered : (newest_in after).number ≡ number
+  pub knows : now ≡ record { book = was.book; session = was.session; log = after; made = was.made ++ batch ∷ [] }
+  pub own : commands_of was.session after ≡ was.made ++ batch ∷ []
+  pub valid : IsLog after
+
+-- a session is turned away: it has looked, and is told why; or the log is behind what it saw, and nothing changed
+abbrev pub IsTurnedAway : {F : Type 0} → List Entry → Known → Refused F → Refused F → Known → Type 0
+IsTurnedAway log was why refused now =
+    ((refused ≡ why) × HasLooked was log now) ⊎ ((refused ≡ Gone) × (now ≡ was))
+
+-- what a session submits is refused: the book is gone, and nothing changed; or it closes, where it may, or its newest
+-- version refuses that, and the session has looked
+abbrev pub IsRefusedIn : {F : Type 0} → List Entry → Known → (terms.Version → F → Type 0) → Bool → Refused F → Known → Type 0
+IsRefusedIn log was refuses closing Gone now = now ≡ was
+IsRefusedIn log was refuses closing Closing now = IsTrue closing × HasLooked was log now
+IsRefusedIn log was refuses closing (Version fault) now = refuses (newest_in log) fault × HasLooked was log now
 
 -- a built tile that is awaited is kept, by its entry; or it is not awaited, nor is it there, and nothing changes
 abbrev pub IsFinishedIn : List Entry → Name → Input → Tile → Bool → List Entry → Type 0

@@ -1,18 +1,12 @@
-//! Versions that are shared: after a command or a batch, with a tile, after a report.
-ghost use Rattle.std.specs.Prelude.{◌≡◌, [], ◌∷◌, IfOk, IfErr, IfSome, IfNone, false};
+//! Versions that are shared: with a tile, after a report.
+ghost use Rattle.std.specs.Prelude.{◌≡◌, IfOk, IfErr, IfSome, IfNone};
 ghost use Rattle.std.specs.Arc.{arc_value};
-ghost use Rattle.overlay_terms.specs.Batches.{batch_refusal_at};
-ghost use Rattle.overlay_terms.specs.Histories.{FollowsBatch, FollowsTile, IsReported};
-ghost use Rattle.layer_book.specs.BatchFault.{RefusedAllBy};
-ghost use Rattle.layer_book.specs.Command.{command};
+ghost use Rattle.overlay_terms.specs.Histories.{FollowsTile, IsReported};
 ghost use Rattle.versions.specs.Finish.{IsAwaited};
-ghost use Rattle.book_history.specs.Fault.{IfGone, IsCommandRefused, no_memory};
+ghost use Rattle.book_history.specs.Fault.{no_memory};
 
 use crate::room::Room;
 use book_history::fault::{BookFault, NO_MEMORY};
-use layer_book::batch::Batch;
-use layer_book::batch_fault::BatchFault;
-use layer_book::command::Command;
 use layer_expr::name::Name;
 use std::alloc::Global;
 use std::sync::Arc;
@@ -28,39 +22,6 @@ pub(crate) fn shared(alloc: Global, version: Version) -> Result<Arc<Version, Glo
     match Arc::new(alloc, version) {
         Ok(version) => Ok(version),
         Err(_) => Err(NO_MEMORY),
-    }
-}
-
-/// The version after a command, which is a batch of one.
-#[tactic(auto, using(book_history::proofs::Gone::no_reason))]
-pub(crate) fn next_version(
-    alloc: Global,
-    now: &Version,
-    change: &Command,
-) -> Result<Arc<Version, Global>, BookFault>
-    ensures ok { IfOk result (λ v. FollowsBatch now.now (command change.now ∷ []) (arc_value v)) }
-    ensures err { IfErr result (λ fault. IsCommandRefused false now.now (command change.now) fault) }
-    ensures there { IfErr result (λ fault. IfGone fault ⊥ (Unit {0})) }
-{
-    match now.submit(alloc, change) {
-        Ok(next) => shared(alloc, next),
-        Err(fault) => Err(BookFault::Version(fault)),
-    }
-}
-
-/// The version after a batch.
-pub(crate) fn version_after(
-    alloc: Global,
-    now: &Version,
-    batch: &Batch,
-) -> Result<Arc<Version, Global>, BatchFault>
-    ensures ok { IfOk result (λ v. FollowsBatch now.now batch.now (arc_value v)) }
-    ensures refused { IfErr result (RefusedAllBy (batch_refusal_at now.now.number now.now.layers batch.now)) }
-{
-    let next = now.submit_all(alloc, batch)?;
-    match shared(alloc, next) {
-        Ok(next) => Ok(next),
-        Err(fault) => Err(fault.whole()),
     }
 }
 

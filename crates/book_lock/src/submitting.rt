@@ -1,112 +1,71 @@
-//! Entries that a session makes: a command or a batch of it is accepted.
-ghost use Rattle.std.specs.Prelude.{◌≡◌, [], ◌∷◌, ◌++◌, map, IfOk, IfErr, false};
+//! Entries that a session makes: what it submits is accepted.
+ghost use Rattle.std.specs.Prelude.{◌≡◌, IfOk, IfErr, false};
 ghost use Rattle.std.specs.Arc.{arc_value};
-ghost use mathlib.Core.List.{IsPrefix};
-ghost use Rattle.overlay_terms.specs.Histories.{commands_of, FollowsBatch};
-ghost use Rattle.layer_book.specs.Command.{command};
-ghost use Rattle.book_history.specs.Fault.{IfBatchGone, IfGone, IsBatchRefused, IsCommandRefused};
-ghost use Rattle.book_history.specs.Logs.{newest_in, IsLog};
-ghost use Rattle.book_lock.specs.Steps.{HasLooked, IsAcceptedIn, IsLevel};
+ghost use Rattle.overlay_terms.specs.Histories.{FollowsBatch};
+ghost use Rattle.book_history.specs.Logs.{newest_in};
+ghost use Rattle.book_lock.specs.Steps.{IsAcceptedIn, IsLevel, IsRefusedIn, IsTurnedAway};
 
+use crate::change::Change;
 use crate::locked_log::LockedLog;
-use crate::making::{next_version, version_after};
+use crate::refused::Refused;
 use crate::session::Session;
 use book_history::entry::Cause;
-use book_history::fault::BookFault;
 use book_history::seen_log::Naming;
-use layer_book::batch::Batch;
-use layer_book::batch_fault::BatchFault;
-use layer_book::command::Command;
 use std::alloc::Global;
-use std::slice;
 use std::sync::{Arc, Wait};
 use versions::version::Version;
 
 impl<J: Naming, R: Wait + Drop> LockedLog<J, R> {
-    /// Accepts a command of a session: the one entry that this adds, or nothing.
-    pub fn submit(
+    /// Accepts what a session submits: the one entry that this adds, or nothing.
+    pub fn submit<C: Change>(
         &mut self,
         alloc: Global,
         me: &mut Session,
-        change: &Command,
-    ) -> Result<u64, BookFault>
+        change: &C,
+    ) -> Result<u64, Refused<C::Fault>>
         requires book { me.old.book ≡ J.book }
-        ensures ok { IfOk result (λ n. IsAcceptedIn self.old me.old.session (command change.now ∷ []) self.new n) }
-        ensures seen { IfOk result (λ _. IsPrefix me.old.log self.old × (me.new.log ≡ self.new)) }
-        ensures made { IfOk result (λ _. (me.new.made ≡ me.old.made ++ (command change.now ∷ []) ∷ [])
-            × (commands_of me.old.session self.new ≡ me.new.made) × IsLog self.new) }
-        ensures same { (me.new.book ≡ me.old.book) × (me.new.session ≡ me.old.session) }
-        ensures err { IfErr result (λ fault. (self.new ≡ self.old)
-            × IfGone fault (me.new ≡ me.old) (HasLooked me.old self.old me.new)) }
-        ensures refused { IfErr result (λ fault. IsCommandRefused false (newest_in self.old) (command change.now) fault) }
+        ensures ok { IfOk result (IsAcceptedIn self.old me.old (C.batch change.now) self.new me.new) }
+        ensures err { IfErr result (λ refused. (self.new ≡ self.old)
+            × IsRefusedIn self.old me.old (C.refuses change.now) false refused me.new) }
     {
         if !self.is_level(me) {
-            return Err(BookFault::Gone);
+            return Err(Refused::Gone);
         }
-        let version = match next_version(alloc, &self.last().version, change) {
-            Ok(version) => version,
-            Err(fault) => {
-                self.show(me)?;
-                return Err(fault);
-            }
-        };
-        self.accept(me, slice::from_ref(change), version)
+        match change.version_after(alloc, &self.last().version) {
+            Ok(version) => self.accept(me, change, version),
+            Err(fault) => Err(self.turn_away(me, Refused::Version(fault))),
+        }
     }
 
-    /// Accepts a batch of a session: the one entry that this adds, or nothing.
-    pub fn submit_all(
-        &mut self,
-        alloc: Global,
-        me: &mut Session,
-        batch: &Batch,
-    ) -> Result<u64, BatchFault>
-        requires book { me.old.book ≡ J.book }
-        ensures ok { IfOk result (λ n. IsAcceptedIn self.old me.old.session batch.now self.new n) }
-        ensures seen { IfOk result (λ _. IsPrefix me.old.log self.old × (me.new.log ≡ self.new)) }
-        ensures made { IfOk result (λ _. (me.new.made ≡ me.old.made ++ batch.now ∷ [])
-            × (commands_of me.old.session self.new ≡ me.new.made) × IsLog self.new) }
-        ensures same { (me.new.book ≡ me.old.book) × (me.new.session ≡ me.old.session) }
-        ensures err { IfErr result (λ fault. (self.new ≡ self.old)
-            × IfBatchGone fault (me.new ≡ me.old) (HasLooked me.old self.old me.new)) }
-        ensures refused { IfErr result (λ fault. IsBatchRefused false (newest_in self.old) batch.now fault) }
+    /// A session that is turned away looks, and is told why. Where the log is behind what it saw, that is what it is told.
+    pub fn turn_away<F: Copy>(&self, me: &mut Session, why: Refused<F>) -> Refused<F>
+        requires { me.old.book ≡ J.book }
+        ensures { IsTurnedAway self.now me.old why result me.new }
     {
-        if !self.is_level(me) {
-            return Err(BookFault::Gone.whole());
-        }
-        let version = match version_after(alloc, &self.last().version, batch) {
-            Ok(version) => version,
-            Err(fault) => {
-                return match self.show(me) {
-                    Ok(_) => Err(fault),
-                    Err(gone) => Err(gone.whole()),
-                };
-            }
-        };
-        match self.accept(me, batch.commands(), version) {
-            Ok(number) => Ok(number),
-            Err(gone) => Err(gone.whole()),
+        match self.show(me) {
+            Ok(_) => why,
+            Err(_) => Refused::Gone,
         }
     }
 
     /// Adds the entry of a session's commands, which made a version, or nothing.
-    fn accept(
+    fn accept<C: Change>(
         &mut self,
         me: &mut Session,
-        changes: &[Command],
+        change: &C,
         version: Arc<Version, Global>,
-    ) -> Result<u64, BookFault>
+    ) -> Result<u64, Refused<C::Fault>>
         requires book { me.old.book ≡ J.book }
         requires level { IsLevel self.old me.old }
-        requires follows { FollowsBatch (newest_in self.old) (map command changes.now) (arc_value version) }
-        ensures ok { IfOk result (λ n. IsAcceptedIn self.old me.old.session (map command changes.now) self.new n) }
-        ensures seen { IfOk result (λ _. me.new.log ≡ self.new) }
-        ensures made { IfOk result (λ _. (me.new.made ≡ me.old.made ++ map command changes.now ∷ [])
-            × (commands_of me.old.session self.new ≡ me.new.made) × IsLog self.new) }
-        ensures same { (me.new.book ≡ me.old.book) × (me.new.session ≡ me.old.session) }
-        ensures err { IfErr result (λ fault. (fault ≡ BookFault.Gone) × (self.new ≡ self.old) × (me.new ≡ me.old)) }
+        requires follows { FollowsBatch (newest_in self.old) (C.batch change.now) (arc_value version) }
+        ensures ok { IfOk result (IsAcceptedIn self.old me.old (C.batch change.now) self.new me.new) }
+        ensures err { IfErr result (λ refused. (refused ≡ Refused.Gone) × (self.new ≡ self.old) × (me.new ≡ me.old)) }
     {
         let by = me.number();
-        self.add(Cause::Accepted(by, changes), version)?;
+        let cause = Cause::Accepted(by, change.commands());
+        let Ok(()) = self.add(cause, version) else {
+            return Err(Refused::Gone);
+        };
         let last = self.last();
         let accepted = last.version.number();
         me.made_one(&last.seen_log, accepted);

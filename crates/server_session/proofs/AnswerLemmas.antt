@@ -25,8 +25,8 @@ use Rattle.versions.specs.declared.fault.VersionFault.TheVariants.{Layer}
 use Rattle.overlay_grid.specs.Grid.{Grid, IsGridSize, grid_with, grid_refusal, grid_text}
 use Rattle.overlay_grid.specs.declared.fault.GridFault.{GridFault}
 use Rattle.overlay_grid.specs.declared.fault.GridFault.TheVariants as picture
-use Rattle.book_history.specs.Fault.{IfGone, IfBatchGone, IsBatchRefused, IsCommandRefused}
-use Rattle.book_history.specs.Known.{Known, seen, IsOwn}
+use Rattle.book_history.specs.Fault.{IsBatchRefused, IsCommandRefused, whole as gone_whole}
+use Rattle.book_history.specs.Known.{Known, seen, LeavesSession}
 use Rattle.book_history.specs.Logs.{IsAccepted}
 use Rattle.book_history.specs.declared.fault.BookFault.{BookFault}
 use Rattle.book_history.specs.declared.fault.BookFault.TheVariants as book
@@ -104,12 +104,9 @@ reported None fault e = absurd (cc)
 reported (Some refusal) fault e = (refusal, refl, cc)
 
 -- a session that was refused makes nothing
-pub made_none : (fault : BookFault) (was now : Known) → IfGone fault (now ≡ was) ((now.made ≡ was.made) × IsOwn now) → now.made ≡ was.made
-made_none (book.Version refused) was now other = other.0
-made_none book.Closing was now other = other.0
-made_none book.Gone was now gone = ap (λ (k : Known). k.made) gone
-made_none book.NoStore was now other = other.0
-made_none (book.Store refused) was now other = other.0
+pub made_none : {F : Type 0} (gone fault : F) (was now : Known) → LeavesSession gone was now fault → now.made ≡ was.made
+made_none gone fault was now (inl there) = ap (λ (k : Known). k.made) there.1
+made_none gone fault was now (inr there) = there.1.0
 
 submit_refused : (was now : Known) (command : Command) (fault : BookFault) → IsCommandRefused true (newest (seen now)) command fault
     → IsRefused OutOfMemory [] (error_line (fault_told fault)) ⊎ IsSubmitted was.session (seen was) command (seen now) [] (error_line (fault_told fault))
@@ -123,7 +120,7 @@ submit_refused was now command book.NoStore refused = absurd refused
 submit_refused was now command (book.Store fault) refused = absurd refused
 
 pub submits_refused : (was now : Known) (command : Command) (fault : BookFault) → BeginsWith (seen now) (seen was) → (now.book ≡ was.book) × (now.session ≡ was.session)
-    → IfGone fault (now ≡ was) ((now.made ≡ was.made) × IsOwn now) → IsCommandRefused true (newest (seen now)) command fault
+    → LeavesSession book.Gone was now fault → IsCommandRefused true (newest (seen now)) command fault
     → (told : CommandFault) → told ≡ fault_told fault → Submits was command now (error_line told)
 submits_refused was now command fault on same unchanged refused told is =
     let stays : Stays was now = record { book = same.0; session = same.1; goes_on = on } in
@@ -131,7 +128,7 @@ submits_refused was now command fault on same unchanged refused told is =
       stays = stays;
       made = [];
       submitted = submit_refused was now command fault refused;
-      only = makes_nothing was now stays (made_none fault was now unchanged);
+      only = makes_nothing was now stays (made_none book.Gone fault was now unchanged);
     })
 
 -- ==== Batches
@@ -156,11 +153,6 @@ refusal_told : (refusal : BatchRefusal) → IsRefusedBatch refusal [] (batch_tol
 refusal_told (at place reason) = record { nothing_made = refl; told = ap (refused_line place) (numbered_reason reason) }
 refusal_told (whole reason) = record { nothing_made = refl; told = ap error_line (numbered_reason reason) }
 
--- a batch that was refused makes nothing
-batch_made_none : (fault : BatchFault) (was now : Known) → IfBatchGone fault (now ≡ was) ((now.made ≡ was.made) × IsOwn now) → now.made ≡ was.made
-batch_made_none fault was now (inl gone) = ap (λ (k : Known). k.made) gone.1
-batch_made_none fault was now (inr other) = other.1.0
-
 batch_refused_by : (was now : Known) (commands : Batch) (fault : BatchFault)
     → RefusedAllBy (batch_refusal_at (newest (seen now)).number (newest (seen now)).layers commands) fault
     → IsRefused OutOfMemory [] (batch_told fault) ⊎ IsSubmittedAll was.session (seen was) commands (seen now) [] (batch_told fault)
@@ -176,7 +168,7 @@ submit_all_refused was now commands fault (inr (inl closing)) = inr (inl (record
 submit_all_refused was now commands fault (inr (inr by)) = batch_refused_by was now commands fault by
 
 pub submits_all_refused : (was now : Known) (commands : Batch) (fault : BatchFault) → BeginsWith (seen now) (seen was) → (now.book ≡ was.book) × (now.session ≡ was.session)
-    → IfBatchGone fault (now ≡ was) ((now.made ≡ was.made) × IsOwn now) → IsBatchRefused true (newest (seen now)) commands fault
+    → LeavesSession (gone_whole book.Gone) was now fault → IsBatchRefused true (newest (seen now)) commands fault
     → (reply : List ℕ) → reply ≡ batch_told fault → SubmitsAll was commands now reply
 submits_all_refused was now commands fault on same unchanged refused reply is =
     let stays : Stays was now = record { book = same.0; session = same.1; goes_on = on } in
@@ -184,7 +176,7 @@ submits_all_refused was now commands fault on same unchanged refused reply is =
       stays = stays;
       made = [];
       submitted = submit_all_refused was now commands fault refused;
-      only = makes_nothing was now stays (batch_made_none fault was now unchanged);
+      only = makes_nothing was now stays (made_none (gone_whole book.Gone) fault was now unchanged);
     })
 
 -- the lines of a batch are read, and the batch is submitted

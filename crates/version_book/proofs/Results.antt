@@ -2,15 +2,21 @@
 use Rattle.std.proofs.Common.{◌≡◌, ◌⊎◌, inl, inr, ℕ, ◌<◌, ◌≤◌, Bool, true, List, [], ◌∷◌, ◌++◌, length, refl, ap, sym, ◌∙◌, subst, arith, append_assoc, Option, Some, None, IfSome, IfNone, Result, Ok, Err, IfOk, IfErr}
 use Rattle.std.specs.Prelude.{IsErrAnd}
 use mathlib.Core.List.{IsPrefix}
-use Rattle.overlay_terms.specs.Commands.{Command}
-use Rattle.overlay_terms.specs.Batches.{Batch}
+use Rattle.std.specs.Option.{option_map}
+use Rattle.overlay_terms.specs.Commands.{Command, Refusal, unknown_layer, not_base, not_derived, later_layer, in_use, too_many_layers, version_limit}
+use Rattle.overlay_terms.specs.Batches.{Batch, BatchRefusal, at, whole as wholly, batch_refusal_at}
 use Rattle.overlay_terms.specs.Layers.{Name}
-use Rattle.overlay_terms.specs.Histories.{Version, Entry, accepted, commands_of, newest, BeginsWith, IsHistory}
+use Rattle.overlay_terms.specs.Histories.{Version, Entry, accepted, newest, BeginsWith, IsHistory}
 use Rattle.book_history.specs.Logs.{entry, newest_in, history_of, IsAccepted, IsLog}
+use Rattle.layer_book.specs.BatchFault.{batch_fault_of, code_for, code_of as batch_code}
 use Rattle.layer_book.specs.declared.batch_fault.BatchFault.{BatchFault}
-use Rattle.book_history.specs.Fault.{IfBatchGone, IfGone, IsBatchRefused, IsCommandRefused}
-use Rattle.book_history.specs.Known.{Known, seen, IsOwn}
-use Rattle.book_lock.specs.Steps.{HasLooked, IsReportedIn}
+use Rattle.versions.specs.declared.fault.VersionFault.{VersionFault}
+use Rattle.book_history.specs.Fault.{IsBatchRefused, IsCommandRefused, RefusesBatch, RefusesCommand, whole}
+use Rattle.book_history.specs.Known.{Known, seen, IsOwn, LeavesSession}
+use Rattle.book_lock.specs.Refused.{batch_fault, command_fault}
+use Rattle.book_lock.specs.declared.refused.Refused.{Refused}
+use Rattle.book_lock.specs.declared.refused.Refused.TheVariants.{Gone, Closing, Version as Refuses}
+use Rattle.book_lock.specs.Steps.{HasLooked, IsAcceptedIn, IsRefusedIn, IsReportedIn}
 use Rattle.version_book.specs.Heard.{Heard, HasHeard, IsReportedBy}
 use Rattle.version_book.specs.Waits.{IsSyncRefused, IsSyncRefusedAt, IsWaitRefused, Looks}
 use Rattle.version_book.specs.declared.standing.Standing.{Standing}
@@ -18,7 +24,6 @@ use Rattle.book_history.specs.declared.fault.BookFault.{BookFault}
 use Rattle.book_history.specs.declared.fault.BookFault.TheVariants as fault
 use Rattle.book_history.proofs.Chains.{begins_with, commands_in_log, is_history}
 use Rattle.book_history.proofs.Fronts.{prefix_self, prefix_trans}
-use Rattle.book_history.proofs.Gone.{batch_gone_map, batch_gone_or, gone_or, gone_map}
 use Rattle.book_lock.proofs.Growing.{report_longer, report_reaches}
 
 -- a log that goes on by some entries is that of a history that does
@@ -27,19 +32,6 @@ history_more : (was old new : List Entry) (e : Entry) (p : IsPrefix was old) →
 history_more [] old new e p long is = absurd (omega arith)
 history_more (x ∷ xs) old new e p long is =
     ap history_of (is ∙ ap (λ l. l ++ e ∷ []) (sym p.1) ∙ append_assoc (x ∷ xs) p.0 (e ∷ []))
-
-pub accepts : {F : Type 0} (r : Result ℕ F) (session : ℕ) (c : Batch) (old new : List Entry) (was now : Known) (P : Type 0)
-    → 0 < length was.log
-    → IfOk r (λ n. P × (new ≡ old ++ entry (accepted session c) (newest_in new) ∷ []) × ((newest_in new).number ≡ n))
-    → IfOk r (λ n. IsPrefix was.log old × (now.log ≡ new))
-    → IfOk r (λ n. IsAccepted session (seen was) c (seen now) n)
-accepts (Ok n) session c old new was now P long a b = record {
-  between = b.0.0;
-  version = newest_in new;
-  goes_on = history_more was.log old now.log (entry (accepted session c) (newest_in new)) b.0 long (b.1 ∙ a.1);
-  told = a.2;
-}
-accepts (Err e) session c old new was now P long a b = tt
 
 -- a session that has looked goes on from what it saw, and keeps what it made
 looked_goes : (was now : Known) (log : List Entry) → 0 < length was.log → HasLooked was log now → BeginsWith (seen now) (seen was)
@@ -54,24 +46,31 @@ looked_own was now log h = subst IsOwn (sym h.knows) (sym (commands_in_log was.s
 looked_at : (was now : Known) (log : List Entry) → HasLooked was log now → newest (seen now) ≡ newest_in log
 looked_at was now log h = ap (λ (k : Known). newest (seen k)) h.knows
 
+looked_same : (was now : Known) (log : List Entry) → HasLooked was log now
+    → (now.book ≡ was.book) × (now.session ≡ was.session) × (now.made ≡ was.made)
+looked_same was now log h = (ap (λ k. k.book) h.knows, ap (λ k. k.session) h.knows, ap (λ k. k.made) h.knows)
+
+looked_leaves : {F : Type 0} (gone f : F) (was now : Known) (log : List Entry) → ¬ (f ≡ gone) → HasLooked was log now
+    → LeavesSession gone was now f
+looked_leaves gone f was now log other h = inr (other, ap (λ k. k.made) h.knows, looked_own was now log h)
+
 -- the fault is one at the newest version that was seen
-at_fault : (f : BookFault) (was now : Known) (log : List Entry) (Q : Version → BookFault → Type 0) → ((v : Version) → Q v fault.Gone)
-    → Q (newest_in log) f → IfGone f (now ≡ was) (HasLooked was log now) → Q (newest (seen now)) f
-at_fault (fault.Version r) was now log Q gone q h = subst (λ v. Q v (fault.Version r)) (sym (looked_at was now log h)) q
-at_fault fault.Closing was now log Q gone q h = subst (λ v. Q v fault.Closing) (sym (looked_at was now log h)) q
-at_fault fault.Gone was now log Q gone q h = gone _
-at_fault fault.NoStore was now log Q gone q h = subst (λ v. Q v fault.NoStore) (sym (looked_at was now log h)) q
-at_fault (fault.Store r) was now log Q gone q h = subst (λ v. Q v (fault.Store r)) (sym (looked_at was now log h)) q
+at_fault : (f : BookFault) (was now : Known) (log : List Entry) (Q : Version → BookFault → Type 0)
+    → ((v : Version) → Q v fault.Gone) → Q (newest_in log) f → Looks (Err f) was log now → Q (newest (seen now)) f
+at_fault f was now log Q gone q (inl there) = subst (Q (newest (seen now))) (sym there.0) (gone _)
+at_fault f was now log Q gone q (inr there) = subst (λ v. Q v f) (sym (looked_at was now log there.1)) q
 
 -- ---- of a call that only looks
 module _ (was now : Known) (log : List Entry) where
   pub looks_goes : (r : Result ℕ BookFault) → 0 < length was.log → Looks r was log now → BeginsWith (seen now) (seen was)
   looks_goes (Ok n) long h = looked_goes was now log long h
-  looks_goes (Err f) long h = gone_or f (same_goes was now long) (looked_goes was now log long) h
+  looks_goes (Err f) long (inl h) = same_goes was now long h.1
+  looks_goes (Err f) long (inr h) = looked_goes was now log long h.1
 
   pub looks_same : (r : Result ℕ BookFault) → Looks r was log now → (now.book ≡ was.book) × (now.session ≡ was.session) × (now.made ≡ was.made)
-  looks_same (Ok n) h = (ap (λ k. k.book) h.knows, ap (λ k. k.session) h.knows, ap (λ k. k.made) h.knows)
-  looks_same (Err f) h = gone_or f (λ s. (ap (λ k. k.book) s, ap (λ k. k.session) s, ap (λ k. k.made) s)) (λ l. (ap (λ k. k.book) l.knows, ap (λ k. k.session) l.knows, ap (λ k. k.made) l.knows)) h
+  looks_same (Ok n) h = looked_same was now log h
+  looks_same (Err f) (inl h) = (ap (λ k. k.book) h.1, ap (λ k. k.session) h.1, ap (λ k. k.made) h.1)
+  looks_same (Err f) (inr h) = looked_same was now log h.1
 
   pub looks_own : (r : Result ℕ BookFault) → Looks r was log now → IfOk r (λ _. IsOwn now)
   looks_own (Ok n) h = looked_own was now log h
@@ -81,9 +80,10 @@ module _ (was now : Known) (log : List Entry) where
   looks_history (Ok n) h = subst (λ (k : Known). IsHistory (seen k)) (sym h.knows) (is_history log h.valid)
   looks_history (Err f) h = tt
 
-  pub looks_err : (r : Result ℕ BookFault) → Looks r was log now → IfErr r (λ f. IfGone f (now ≡ was) (IsOwn now))
+  pub looks_err : (r : Result ℕ BookFault) → Looks r was log now → IfErr r (LeavesSession fault.Gone was now)
   looks_err (Ok n) h = tt
-  looks_err (Err f) h = gone_map f (λ s. s) (looked_own was now log) h
+  looks_err (Err f) (inl h) = inl h
+  looks_err (Err f) (inr h) = looked_leaves fault.Gone f was now log h.0 h.1
 
   pub looks_ok : (r : Result ℕ BookFault) (P : Version → ℕ → Type 0) → Looks r was log now → IfOk r (λ n. P (newest_in log) n) → IfOk r (λ n. P (newest (seen now)) n)
   looks_ok (Ok n) P h p = subst (λ v. P v n) (sym (looked_at was now log h)) p
@@ -94,88 +94,114 @@ module _ (was now : Known) (log : List Entry) where
   looks_refused (Ok n) Q gone h q = tt
   looks_refused (Err f) Q gone h q = at_fault f was now log Q gone q h
 
--- a book that may close refuses no less
-pub refused_more : (f : BookFault) (closing : Bool) (v : Version) (c : Command) → IsCommandRefused closing v c f → IsCommandRefused true v c f
-refused_more (fault.Version r) closing v c q = q
-refused_more fault.Closing closing v c q = refl
-refused_more fault.Gone closing v c q = q
-refused_more fault.NoStore closing v c q = q
-refused_more (fault.Store r) closing v c q = q
+-- ---- of the numbers of a batch's faults
+closing_other : whole fault.Closing ≡ whole fault.Gone → ⊥
+closing_other is = let n : 43 ≡ 44 = ap batch_code is in absurd (omega (arith, n))
 
--- the same of a batch
-batch_refused_more : (f : BatchFault) (closing : Bool) (v : Version) (b : Batch) → IsBatchRefused closing v b f → IsBatchRefused true v b f
-batch_refused_more f closing v b (inl gone) = inl gone
-batch_refused_more f closing v b (inr (inl closes)) = inr (inl (refl, closes.1))
-batch_refused_more f closing v b (inr (inr refused)) = inr (inr refused)
+reason_other : (reason : Refusal) → code_for reason ≡ 44 → ⊥
+reason_other unknown_layer e = let n : 10 ≡ 44 = e in absurd (omega (arith, n))
+reason_other not_base e = let n : 11 ≡ 44 = e in absurd (omega (arith, n))
+reason_other not_derived e = let n : 12 ≡ 44 = e in absurd (omega (arith, n))
+reason_other later_layer e = let n : 13 ≡ 44 = e in absurd (omega (arith, n))
+reason_other in_use e = let n : 14 ≡ 44 = e in absurd (omega (arith, n))
+reason_other too_many_layers e = let n : 15 ≡ 44 = e in absurd (omega (arith, n))
+reason_other version_limit e = let n : 16 ≡ 44 = e in absurd (omega (arith, n))
 
--- the fault of a batch is one at the newest version that was seen
-batch_at : (f : BatchFault) (was now : Known) (log : List Entry) (closing : Bool) (b : Batch) → IsBatchRefused closing (newest_in log) b f
-    → IfBatchGone f (now ≡ was) (HasLooked was log now) → IsBatchRefused true (newest (seen now)) b f
-batch_at f was now log closing b q (inl gone) = inl gone.0
-batch_at f was now log closing b q (inr looked) =
-    subst (λ v. IsBatchRefused true v b f) (sym (looked_at was now log looked.1)) (batch_refused_more f closing (newest_in log) b q)
+refusal_other : (refusal : BatchRefusal) → batch_code (batch_fault_of refusal) ≡ 44 → ⊥
+refusal_other (at place reason) e = reason_other reason e
+refusal_other (wholly reason) e = reason_other reason e
+
+reported : (o : Option BatchRefusal) (f : BatchFault) → option_map batch_fault_of o ≡ Some f
+    → (refusal : BatchRefusal) × (f ≡ batch_fault_of refusal)
+reported None f e = absurd (cc)
+reported (Some refusal) f e = (refusal, cc)
+
+-- a version does not refuse a batch by the fault of a book that is gone
+not_gone : (v : Version) (b : Batch) (f : BatchFault) → RefusesBatch v b f → f ≡ whole fault.Gone → ⊥
+not_gone v b f (inl memory) gone =
+    let n : 40 ≡ 44 = sym (ap batch_code memory.0) ∙ ap batch_code gone in
+    absurd (omega (arith, n))
+not_gone v b f (inr by) gone =
+    let r = reported (batch_refusal_at v.number v.layers b) f by in
+    refusal_other r.0 (sym (ap batch_code r.1) ∙ ap batch_code gone)
+
+-- ---- of what a session submits
+module _ (was now : Known) (log after : List Entry) (batch : Batch) (n : ℕ) (a : IsAcceptedIn log was batch after now n) where
+  abbrev last : Entry
+  last = entry (accepted was.session batch) (newest_in after)
+
+  abbrev end : now.log ≡ after
+  end = ap (λ k. k.log) a.knows
+
+  pub accepted_goes : 0 < length was.log → BeginsWith (seen now) (seen was)
+  accepted_goes long =
+      let more = prefix_trans was.log log (log ++ last ∷ []) a.longer (last ∷ [], refl) in
+      begins_with was.log now.log long (subst (IsPrefix was.log) (sym (end ∙ a.added)) more)
+
+  pub accepted_history : IsHistory (seen now)
+  accepted_history = subst (λ l. IsHistory (history_of l)) (sym end) (is_history after a.valid)
+
+  pub accepted_last : 0 < length was.log → IsAccepted was.session (seen was) batch (seen now) n
+  accepted_last long = record {
+    between = a.longer.0;
+    version = newest_in after;
+    goes_on = history_more was.log log now.log last a.longer long (end ∙ a.added);
+    told = a.numbered;
+  }
+
+  pub accepted_own : IsOwn now
+  accepted_own = subst IsOwn (sym a.knows) (sym (commands_in_log was.session after a.valid) ∙ a.own)
 
 -- a session that is refused has looked, or is as it was
-abbrev pub Ended : Known → Known → List Entry → Type 0
+abbrev Ended : Known → Known → List Entry → Type 0
 Ended was now log = (now ≡ was) ⊎ HasLooked was log now
 
-pub ended : (was now : Known) (log : List Entry) (f : BookFault) → IfGone f (now ≡ was) (HasLooked was log now) → Ended was now log
-ended was now log f h = gone_or f (λ same. inl same) (λ looked. inr looked) h
+module _ (was now : Known) (log : List Entry) where
+  refused_ended : {F : Type 0} (refuses : Version → F → Type 0) (r : Refused F) → IsRefusedIn log was refuses true r now
+      → Ended was now log
+  refused_ended refuses Gone same = inl same
+  refused_ended refuses Closing h = inr h.1
+  refused_ended refuses (Refuses f) h = inr h.1
 
-pub batch_ended : (was now : Known) (log : List Entry) (f : BatchFault) → IfBatchGone f (now ≡ was) (HasLooked was log now) → Ended was now log
-batch_ended was now log f h = batch_gone_or f (λ same. inl same) (λ looked. inr looked) h
+  ended_goes : 0 < length was.log → Ended was now log → BeginsWith (seen now) (seen was)
+  ended_goes long (inl same) = same_goes was now long same
+  ended_goes long (inr looked) = looked_goes was now log long looked
 
-ended_goes : (was now : Known) (log : List Entry) → 0 < length was.log → Ended was now log → BeginsWith (seen now) (seen was)
-ended_goes was now log long (inl same) = same_goes was now long same
-ended_goes was now log long (inr looked) = looked_goes was now log long looked
+  ended_same : Ended was now log → (now.book ≡ was.book) × (now.session ≡ was.session)
+  ended_same (inl same) = (ap (λ k. k.book) same, ap (λ k. k.session) same)
+  ended_same (inr looked) = (ap (λ k. k.book) looked.knows, ap (λ k. k.session) looked.knows)
 
--- ---- of a call that may add an entry
-module _ (was now : Known) (old new : List Entry) where
-  pub submit_goes : {F : Type 0} (r : Result ℕ F) (e : Entry) (P Q : ℕ → Type 0) (A B D : F → Type 0) → ((f : F) → D f → Ended was now old) → 0 < length was.log
-      → IfOk r (λ n. P n × (new ≡ old ++ e ∷ []) × Q n) → IfOk r (λ n. IsPrefix was.log old × (now.log ≡ new))
-      → IfErr r (λ f. A f × B f × D f) → BeginsWith (seen now) (seen was)
-  submit_goes (Ok n) e P Q A B D end long a b d =
-      begins_with was.log now.log long (subst (λ l. IsPrefix was.log l) (sym (b.1 ∙ a.1)) (prefix_trans was.log old (old ++ e ∷ []) b.0 (e ∷ [], refl)))
-  submit_goes (Err f) e P Q A B D end long a b d = ended_goes was now old long (end f d.2)
+  pub refused_goes : {F : Type 0} (refuses : Version → F → Type 0) (r : Refused F) → 0 < length was.log
+      → IsRefusedIn log was refuses true r now → BeginsWith (seen now) (seen was)
+  refused_goes refuses r long h = ended_goes long (refused_ended refuses r h)
 
-  pub submit_own : {F : Type 0} (r : Result ℕ F) (A : Type 0) → now.session ≡ was.session → IfOk r (λ n. IsPrefix was.log old × (now.log ≡ new))
-      → IfOk r (λ _. A × (commands_of was.session new ≡ now.made) × IsLog new) → IfOk r (λ _. IsOwn now)
-  submit_own (Ok n) A same b m =
-      let log : now.log ≡ new = b.1 in
-      sym (commands_in_log now.session now.log (subst IsLog (sym log) m.2)) ∙ (ap (λ l. commands_of now.session l) log ∙ ap (λ s. commands_of s new) same) ∙ m.1
-  submit_own (Err f) A same b m = tt
+  pub refused_same : {F : Type 0} (refuses : Version → F → Type 0) (r : Refused F) → IsRefusedIn log was refuses true r now
+      → (now.book ≡ was.book) × (now.session ≡ was.session)
+  refused_same refuses r h = ended_same (refused_ended refuses r h)
 
-  pub submit_history : {F : Type 0} (r : Result ℕ F) (A B : Type 0) → IfOk r (λ n. IsPrefix was.log old × (now.log ≡ new))
-      → IfOk r (λ _. A × B × IsLog new) → IfOk r (λ _. IsHistory (seen now))
-  submit_history (Ok n) A B b m = subst (λ l. IsHistory (history_of l)) (sym b.1) (is_history new m.2)
-  submit_history (Err f) A B b m = tt
+  pub command_leaves : (refuses : Version → VersionFault → Type 0) (r : Refused VersionFault) → IsRefusedIn log was refuses true r now
+      → LeavesSession fault.Gone was now (command_fault r)
+  command_leaves refuses Gone same = inl (refl, same)
+  command_leaves refuses Closing h = looked_leaves fault.Gone fault.Closing was now log (λ is. absurd (cc)) h.1
+  command_leaves refuses (Refuses f) h = looked_leaves fault.Gone (fault.Version f) was now log (λ is. absurd (cc)) h.1
 
-  pub submit_made : {F : Type 0} (r : Result ℕ F) (made : List Batch) (A B : Type 0)
-      → IfOk r (λ _. (now.made ≡ made) × A × B) → IfOk r (λ _. now.made ≡ made)
-  submit_made (Ok n) made A B m = m.0
-  submit_made (Err f) made A B m = tt
+  pub command_refused : (c : Command) (r : Refused VersionFault) → IsRefusedIn log was (λ v. RefusesCommand v c) true r now
+      → IsCommandRefused true (newest (seen now)) c (command_fault r)
+  command_refused c Gone same = tt
+  command_refused c Closing h = refl
+  command_refused c (Refuses f) h = subst (λ v. RefusesCommand v c f) (sym (looked_at was now log h.1)) h.0
 
-  pub submit_err : (r : Result ℕ BookFault) (A B : BookFault → Type 0) → IfErr r (λ f. A f × B f × IfGone f (now ≡ was) (HasLooked was old now))
-      → IfErr r (λ f. IfGone f (now ≡ was) ((now.made ≡ was.made) × IsOwn now))
-  submit_err (Ok n) A B d = tt
-  submit_err (Err f) A B d = gone_map f (λ s. s) (λ h. (ap (λ k. k.made) h.knows, looked_own was now old h)) d.2
+  pub batch_leaves : (b : Batch) (r : Refused BatchFault) → IsRefusedIn log was (λ v. RefusesBatch v b) true r now
+      → LeavesSession (whole fault.Gone) was now (batch_fault r)
+  batch_leaves b Gone same = inl (refl, same)
+  batch_leaves b Closing h = looked_leaves (whole fault.Gone) (whole fault.Closing) was now log closing_other h.1
+  batch_leaves b (Refuses f) h = looked_leaves (whole fault.Gone) f was now log (not_gone (newest_in log) b f h.0) h.1
 
-  pub submit_refused : (r : Result ℕ BookFault) (A B : BookFault → Type 0) (closing : Bool) (c : Command)
-      → IfErr r (λ f. A f × B f × IfGone f (now ≡ was) (HasLooked was old now)) → IfErr r (λ f. IsCommandRefused closing (newest_in old) c f)
-      → IfErr r (λ f. IsCommandRefused true (newest (seen now)) c f)
-  submit_refused (Ok n) A B closing c d q = tt
-  submit_refused (Err f) A B closing c d q = at_fault f was now old (λ v g. IsCommandRefused true v c g) (λ v. tt) (refused_more f closing (newest_in old) c q) d.2
-
-  pub batch_err : (r : Result ℕ BatchFault) (A B : BatchFault → Type 0) → IfErr r (λ f. A f × B f × IfBatchGone f (now ≡ was) (HasLooked was old now))
-      → IfErr r (λ f. IfBatchGone f (now ≡ was) ((now.made ≡ was.made) × IsOwn now))
-  batch_err (Ok n) A B d = tt
-  batch_err (Err f) A B d = batch_gone_map f (λ s. s) (λ h. (ap (λ k. k.made) h.knows, looked_own was now old h)) d.2
-
-  pub batch_refused : (r : Result ℕ BatchFault) (A B : BatchFault → Type 0) (closing : Bool) (b : Batch)
-      → IfErr r (λ f. A f × B f × IfBatchGone f (now ≡ was) (HasLooked was old now)) → IfErr r (λ f. IsBatchRefused closing (newest_in old) b f)
-      → IfErr r (λ f. IsBatchRefused true (newest (seen now)) b f)
-  batch_refused (Ok n) A B closing b d q = tt
-  batch_refused (Err f) A B closing b d q = batch_at f was now old closing b q d.2
+  pub batch_refused : (b : Batch) (r : Refused BatchFault) → IsRefusedIn log was (λ v. RefusesBatch v b) true r now
+      → IsBatchRefused true (newest (seen now)) b (batch_fault r)
+  batch_refused b Gone same = inl refl
+  batch_refused b Closing h = inr (inl (refl, refl))
+  batch_refused b (Refuses f) h = inr (inr (subst (λ v. RefusesBatch v b f) (sym (looked_at was now log h.1)) h.0))
 
 -- ---- of a report
 module _ (was now : Heard) (log after : List Entry) (n : ℕ) where

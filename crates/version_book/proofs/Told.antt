@@ -3,11 +3,9 @@ use Rattle.std.proofs.Common.{◌≡◌, ◌⊎◌, inl, inr, ◌↔◌, ℕ, Bo
 use Rattle.std.specs.Prelude.{IsErrAnd, OnErr, OnOk, is_err}
 use mathlib.Core.Bool.{true≢false}
 use Rattle.logbook.specs.Pages.{Book}
-use Rattle.overlay_terms.specs.Commands.{Command}
 use Rattle.overlay_terms.specs.Histories.{Version, Entry}
 use Rattle.overlay_terms.specs.Layers.{Name}
 use Rattle.overlay_terms.specs.Tiles.{Input, input_of}
-use Rattle.book_history.specs.Fault.{IfGone, IsCommandRefused}
 use Rattle.version_book.specs.Free.{IsFree}
 use Rattle.book_history.specs.Known.{Known}
 use Rattle.book_history.specs.Logs.{newest_in, IsLog}
@@ -16,7 +14,9 @@ use Rattle.version_book.specs.declared.held_tiles.HeldTile.{HeldTile}
 use Rattle.version_book.specs.declared.standing.Standing.{Standing}
 use Rattle.book_history.specs.declared.fault.BookFault.{BookFault}
 use Rattle.book_history.specs.declared.fault.BookFault.TheVariants as fault
-use Rattle.book_lock.specs.Steps.{HasLooked}
+use Rattle.book_lock.specs.Steps.{IsTurnedAway}
+use Rattle.book_lock.specs.declared.refused.Refused.{Refused}
+use Rattle.book_lock.specs.declared.refused.Refused.TheVariants.{Gone}
 use Rattle.version_book.specs.Heard.{Heard}
 use Rattle.version_book.specs.Jobs.{IsHandedOut, IsJob}
 use Rattle.version_book.specs.Waits.{IsAfterTold, Looks}
@@ -48,58 +48,25 @@ pub err_and : {T : Type 0} (r : Result T BookFault) (x : BookFault) (Q : BookFau
 err_and (Ok n) x Q is q = absurd is
 err_and (Err f) x Q is q = subst Q (sym is) q
 
--- a fact stands beside every other fault
-pub where_else : (f : BookFault) {B : Type 0} → B → IfGone f (Unit {0}) B
-where_else (fault.Version r) x = x
-where_else fault.Closing x = x
-where_else fault.Gone x = tt
-where_else fault.NoStore x = x
-where_else (fault.Store r) x = x
-
 pub gone_looks : (r : Result ℕ BookFault) (x : BookFault) (was now : Known) (log : List Entry)
     → IsErrAnd r (λ y. y ≡ x) → x ≡ fault.Gone → now ≡ was → Looks r was log now
 gone_looks (Ok n) x was now log is gone same = absurd is
-gone_looks (Err f) x was now log is gone same = subst (λ y. IfGone y (now ≡ was) (HasLooked was log now)) (sym (is ∙ gone)) same
+gone_looks (Err f) x was now log is gone same = inl (is ∙ gone, same)
 
 pub gone_told : (r : Result ℕ BookFault) (x : BookFault) (v : Version) (old : Standing) (name : Name)
     → IsErrAnd r (λ y. y ≡ x) → x ≡ fault.Gone → IsAfterTold v old name r old
 gone_told (Ok n) x v old name is gone = refl
 gone_told (Err f) x v old name is gone = subst (λ y. IsAfterTold v old name (Err y) old) (sym (is ∙ gone)) refl
 
--- ---- of a command
--- what refuses it in a book that is open refuses it in one that may close
-pub open_refused : (f : BookFault) (closing : Bool) (v : Version) (c : Command) → IsCommandRefused false v c f → IsCommandRefused closing v c f
-open_refused (fault.Version x) closing v c q = q
-open_refused fault.Closing closing v c q = absurd (true≢false (sym q))
-open_refused fault.Gone closing v c q = q
-open_refused fault.NoStore closing v c q = q
-open_refused (fault.Store x) closing v c q = q
+-- ---- of what a session submits
+abbrev refused_for : {F : Type 0} → Refused F → Result ℕ (Refused F)
+refused_for why = Err why
 
--- a session that asked a book that closes: it has looked, or the book is behind it
-abbrev pub IsTurnedAway : Known → Known → List Entry → BookFault → Type 0
-IsTurnedAway was now log f = ((f ≡ fault.Closing) × HasLooked was log now) ⊎ ((f ≡ fault.Gone) × (now ≡ was))
-
-pub away_same : (was now : Known) (log : List Entry) (f : BookFault) → IsTurnedAway was now log f → (now.book ≡ was.book) × (now.session ≡ was.session)
-away_same was now log f (inl h) = (ap (λ k. k.book) h.1.knows, ap (λ k. k.session) h.1.knows)
-away_same was now log f (inr h) = (ap (λ k. k.book) h.1, ap (λ k. k.session) h.1)
-
-pub away_looks : (was now : Known) (log : List Entry) (f : BookFault) → IsTurnedAway was now log f → IfGone f (now ≡ was) (HasLooked was log now)
-away_looks was now log f (inl h) = subst (λ f. IfGone f (now ≡ was) (HasLooked was log now)) (sym h.0) h.1
-away_looks was now log f (inr h) = subst (λ f. IfGone f (now ≡ was) (HasLooked was log now)) (sym h.0) h.1
-
-pub away_refused : (was now : Known) (log : List Entry) (f : BookFault) (closing : Bool) (v : Version) (c : Command)
-    → IsTurnedAway was now log f → IsTrue closing → IsCommandRefused closing v c f
-away_refused was now log f closing v c (inl h) is = subst (λ f. IsCommandRefused closing v c f) (sym h.0) is
-away_refused was now log f closing v c (inr h) is = subst (λ f. IsCommandRefused closing v c f) (sym h.0) tt
-
--- ---- of what is passed up
-abbrev refused_by : BookFault → Result ℕ BookFault
-refused_by f = Err f
-
--- what is passed up is the fault that came
-pub passed_as : (r : Result ℕ BookFault) (x y : BookFault) → IsErrAnd r (λ z. z ≡ x) → x ≡ y → r ≡ refused_by y
-passed_as (Ok n) x y and is = absurd and
-passed_as (Err z) x y and is = ap refused_by (and ∙ is)
+-- who is turned away is told why, or that the book is gone
+pub away_told : {F : Type 0} (log : List Entry) (was now : Known) {why : Refused F} (told : Refused F)
+    → IsTurnedAway log was why told now → (refused_for told ≡ Err why) ⊎ (refused_for told ≡ Err Gone)
+away_told log was now told (inl h) = inl (ap refused_for h.0)
+away_told log was now told (inr h) = inr (ap refused_for h.0)
 
 -- ---- of the marks after a wait
 pub keeps_marks : {A : Type 0} (o : Option A) (x : A) (P Q : Type 0) → o ≡ Some x → P → IfSome o (λ _. P) × IfNone o Q

@@ -7,7 +7,6 @@ use Rattle.versions.specs.Building.{IsBuilt, wait_refusal}
 use Rattle.versions.specs.declared.fault.VersionFault.TheVariants.{Layer}
 use Rattle.book_history.specs.declared.fault.BookFault.{BookFault}
 use Rattle.book_history.specs.declared.fault.BookFault.TheVariants as fault
-use Rattle.book_history.specs.Fault.{IfGone}
 use Rattle.version_book.specs.Free.{AllAreHeld}
 use Rattle.book_history.specs.Known.{Known}
 use Rattle.version_book.specs.HeldTiles.{has_mark, unmarked_of}
@@ -88,7 +87,8 @@ IsSyncRefusedAt standing version number (fault.Store refused) =
 -- a session has looked at this log; or the book was behind it, and nothing changed
 abbrev pub Looks : Result ℕ BookFault → Known → List Entry → Known → Type 0
 Looks (Ok number) was log now = HasLooked was log now
-Looks (Err fault) was log now = IfGone fault (now ≡ was) (HasLooked was log now)
+Looks (Err refused) was log now =
+    ((refused ≡ fault.Gone) × (now ≡ was)) ⊎ (¬ (refused ≡ fault.Gone) × HasLooked was log now)
 
 -- the marks of a layer, of which there are some, go
 abbrev pub LosesMarks : Standing → Name → Standing → Type 0

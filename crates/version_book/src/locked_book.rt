@@ -1,23 +1,20 @@
 //! The book under its lock: the log, and where the book stands beside it.
-ghost use Rattle.std.specs.Prelude.{◌≡◌, ◌⊎◌, [], ◌∷◌, ◌++◌, ◌<◌, IsTrue, Err, IfOk, IfErr};
+ghost use Rattle.std.specs.Prelude.{◌≡◌, ◌⊎◌, IsTrue, Err, IfOk, IfErr};
 ghost use mathlib.Core.List.{IsPrefix};
-ghost use Rattle.overlay_terms.specs.Histories.{commands_of};
-ghost use Rattle.layer_book.specs.Command.{command};
-ghost use Rattle.book_history.specs.Fault.{IfBatchGone, IfGone, IsBatchRefused, IsCommandRefused, no_memory, whole};
-ghost use Rattle.book_history.specs.Logs.{newest_in, IsLog};
+ghost use Rattle.book_history.specs.Fault.{no_memory};
+ghost use Rattle.book_history.specs.Logs.{IsLog};
 ghost use Rattle.version_book.specs.Standing.{IsAfterCommand, IsAfterFinish};
-ghost use Rattle.book_lock.specs.Steps.{HasLooked, IsAcceptedIn, IsFinishedIn};
+ghost use Rattle.book_lock.specs.Steps.{IsAcceptedIn, IsFinishedIn, IsRefusedIn};
 
 use crate::locked_book::job::Job;
 use crate::standing::Standing;
 use book_history::fault::BookFault;
 use book_history::seen_log::{Naming, SeenLog};
+use book_lock::change::Change;
 use book_lock::locked_log::LockedLog;
+use book_lock::refused::Refused;
 use book_lock::room::Room;
 use book_lock::session::Session;
-use layer_book::batch::Batch;
-use layer_book::batch_fault::BatchFault;
-use layer_book::command::Command;
 use std::alloc::Global;
 use std::sync::Wait;
 use tile_build::built::Built;
@@ -50,64 +47,25 @@ impl<J: Naming, R: Wait + Drop> LockedBook<J, R> {
         }
     }
 
-    /// Accepts a command of a session: one entry, or none.
-    pub fn submit(
+    /// Accepts what a session submits: one entry, or none.
+    pub fn submit<C: Change>(
         &mut self,
         alloc: Global,
         me: &mut Session,
-        change: &Command,
-    ) -> Result<u64, BookFault>
+        change: &C,
+    ) -> Result<u64, Refused<C::Fault>>
         requires { me.old.book ≡ J.book }
-        ensures ok { IfOk result (λ n. IsAcceptedIn self.old.log me.old.session (command change.now ∷ []) self.new.log n) }
+        ensures ok { IfOk result (IsAcceptedIn self.old.log me.old (C.batch change.now) self.new.log me.new) }
         ensures accepted { IfOk result (λ _. IsAfterCommand self.old.standing self.new.standing) }
-        ensures seen { IfOk result (λ _. IsPrefix me.old.log self.old.log × (me.new.log ≡ self.new.log)) }
-        ensures made { IfOk result (λ _. (me.new.made ≡ me.old.made ++ (command change.now ∷ []) ∷ [])
-            × (commands_of me.old.session self.new.log ≡ me.new.made) × IsLog self.new.log) }
-        ensures same { (me.new.book ≡ me.old.book) × (me.new.session ≡ me.old.session) }
-        ensures err { IfErr result (λ fault. (self.new.log ≡ self.old.log) × (self.new.standing ≡ self.old.standing)
-            × IfGone fault (me.new ≡ me.old) (HasLooked me.old self.old.log me.new)) }
-        ensures refused { IfErr result
-            (λ fault. IsCommandRefused self.old.standing.closing (newest_in self.old.log) (command change.now) fault) }
+        ensures err { IfErr result (λ refused. (self.new.log ≡ self.old.log) × (self.new.standing ≡ self.old.standing)
+            × IsRefusedIn self.old.log me.old (C.refuses change.now) self.old.standing.closing refused me.new) }
         ensures closing { IsTrue self.old.standing.closing
-            → (result ≡ Err BookFault.Closing) ⊎ (result ≡ Err BookFault.Gone) }
+            → (result ≡ Err Refused.Closing) ⊎ (result ≡ Err Refused.Gone) }
     {
         if self.standing.closing {
-            self.log.show(me)?;
-            return Err(BookFault::Closing);
+            return Err(self.log.turn_away(me, Refused::Closing));
         }
         let number = self.log.submit(alloc, me, change)?;
-        self.standing.command_accepted();
-        Ok(number)
-    }
-
-    /// Accepts a batch of a session: one entry, or none.
-    pub fn submit_all(
-        &mut self,
-        alloc: Global,
-        me: &mut Session,
-        batch: &Batch,
-    ) -> Result<u64, BatchFault>
-        requires { me.old.book ≡ J.book }
-        ensures ok { IfOk result (λ n. IsAcceptedIn self.old.log me.old.session batch.now self.new.log n) }
-        ensures accepted { IfOk result (λ _. IsAfterCommand self.old.standing self.new.standing) }
-        ensures seen { IfOk result (λ _. IsPrefix me.old.log self.old.log × (me.new.log ≡ self.new.log)) }
-        ensures made { IfOk result (λ _. (me.new.made ≡ me.old.made ++ batch.now ∷ [])
-            × (commands_of me.old.session self.new.log ≡ me.new.made) × IsLog self.new.log) }
-        ensures same { (me.new.book ≡ me.old.book) × (me.new.session ≡ me.old.session) }
-        ensures err { IfErr result (λ fault. (self.new.log ≡ self.old.log) × (self.new.standing ≡ self.old.standing)
-            × IfBatchGone fault (me.new ≡ me.old) (HasLooked me.old self.old.log me.new)) }
-        ensures refused { IfErr result
-            (λ fault. IsBatchRefused self.old.standing.closing (newest_in self.old.log) batch.now fault) }
-        ensures closing { IsTrue self.old.standing.closing
-            → (result ≡ Err (whole BookFault.Closing)) ⊎ (result ≡ Err (whole BookFault.Gone)) }
-    {
-        if self.standing.closing {
-            return match self.log.show(me) {
-                Ok(_) => Err(BookFault::Closing.whole()),
-                Err(gone) => Err(gone.whole()),
-            };
-        }
-        let number = self.log.submit_all(alloc, me, batch)?;
         self.standing.command_accepted();
         Ok(number)
     }

@@ -1,14 +1,14 @@
 //! What threads share: the book under its lock, and the calls on it.
 ghost use Rattle.std.specs.Prelude.{◌≡◌, ◌⊎◌, ◌<◌, ◌≤◌, [], ◌∷◌, ◌++◌, IfOk, IfErr, IfSome, IfNone, All};
-ghost use Rattle.std.specs.Prelude.{length, true, false, Err, IsErrAnd};
+ghost use Rattle.std.specs.Prelude.{List, length, true, false, Err, IsErrAnd};
 ghost use Rattle.std.specs.Arc.{arc_value};
-ghost use Rattle.overlay_terms.specs.Histories.{newest, BeginsWith, IsHistory};
+ghost use Rattle.overlay_terms.specs.Histories.{newest, BeginsWith, Entry, IsHistory};
 ghost use Rattle.layer_book.specs.Command.{command};
-ghost use Rattle.book_history.specs.Fault.{IfBatchGone, IfGone, IsBatchRefused, IsCommandRefused, no_memory};
-ghost use Rattle.book_history.specs.Known.{seen, IsOwn};
+ghost use Rattle.book_history.specs.Fault.{IsBatchRefused, IsCommandRefused, no_memory, whole};
+ghost use Rattle.book_history.specs.Known.{seen, IsOwn, LeavesSession};
 ghost use Rattle.book_history.specs.Logs.{entry, history_of, newest_in, no_event, IsAccepted, IsLog};
 ghost use Rattle.book_history.specs.Rules.{head_of};
-ghost use Rattle.book_lock.specs.Steps.{beginners, HasAllOf};
+ghost use Rattle.book_lock.specs.Steps.{beginners, HasAllOf, IsAcceptedIn, IsRefusedIn};
 ghost use Rattle.version_book.specs.Heard.{HasHeard, IsReportedBy};
 ghost use Rattle.version_book.specs.Jobs.{IsFinishedBy, IsJob};
 ghost use Rattle.version_book.specs.Store.{has_store};
@@ -25,7 +25,9 @@ use crate::reporter::Reporter;
 use crate::turns::{TurnKind, Turns};
 use book_history::fault::{BookFault, ToldFault};
 use book_history::seen_log::{Head, Naming, SeenLog};
+use book_lock::change::Change;
 use book_lock::locked_log::LockedLog;
+use book_lock::refused::Refused;
 use book_lock::session::Session;
 use layer_book::batch::Batch;
 use layer_book::batch_fault::BatchFault;
@@ -94,15 +96,11 @@ impl<J: Naming, R: Wait + Drop> Shared<J, R> {
         ensures ok { IfOk result (λ n. IsAccepted me.old.session (seen me.old) (command change.now ∷ []) (seen me.new) n) }
         ensures made { IfOk result (λ _. me.new.made ≡ me.old.made ++ (command change.now ∷ []) ∷ []) }
         ensures own { IfOk result (λ _. IsOwn me.new) }
-        ensures err { IfErr result (λ fault. IfGone fault (me.new ≡ me.old) ((me.new.made ≡ me.old.made)
-            × IsOwn me.new)) }
+        ensures err { IfErr result (LeavesSession BookFault.Gone me.old me.new) }
         ensures refused { IfErr result (λ fault. IsCommandRefused true (newest (seen me.new)) (command change.now) fault) }
         ensures same { (me.new.book ≡ me.old.book) × (me.new.session ≡ me.old.session) }
     {
-        // It has seen some version: the clauses rest on that.
-        let _ = me.number();
-        let mut turn = self.turns.next(rt, TurnKind::Commanded);
-        turn.book.submit(alloc, me, change)
+        Ok(self.accept(rt, alloc, me, change)?)
     }
 
     /// Accepts a batch of a session as one version, and answers its number. Where it is refused, none of its commands
@@ -120,15 +118,32 @@ impl<J: Naming, R: Wait + Drop> Shared<J, R> {
         ensures ok { IfOk result (λ n. IsAccepted me.old.session (seen me.old) batch.now (seen me.new) n) }
         ensures made { IfOk result (λ _. me.new.made ≡ me.old.made ++ batch.now ∷ []) }
         ensures own { IfOk result (λ _. IsOwn me.new) }
-        ensures err { IfErr result (λ fault. IfBatchGone fault (me.new ≡ me.old) ((me.new.made ≡ me.old.made)
-            × IsOwn me.new)) }
+        ensures err { IfErr result (LeavesSession (whole BookFault.Gone) me.old me.new) }
         ensures refused { IfErr result (λ fault. IsBatchRefused true (newest (seen me.new)) batch.now fault) }
         ensures same { (me.new.book ≡ me.old.book) × (me.new.session ≡ me.old.session) }
+    {
+        Ok(self.accept(rt, alloc, me, batch)?)
+    }
+
+    /// Accepts what a session submits.
+    fn accept<W: Wait, C: Change>(
+        &self,
+        rt: &W,
+        alloc: Global,
+        me: &mut Session,
+        change: &C,
+    ) -> Result<u64, Refused<C::Fault>>
+        requires book { me.old.book ≡ J.book }
+        ensures begun { 0 < length me.old.log }
+        ensures ok { IfOk result (λ n. (log after : List Entry)
+            × IsAcceptedIn log me.old (C.batch change.now) after me.new n) }
+        ensures err { IfErr result (λ refused. (log : List Entry)
+            × IsRefusedIn log me.old (C.refuses change.now) true refused me.new) }
     {
         // It has seen some version: the clauses rest on that.
         let _ = me.number();
         let mut turn = self.turns.next(rt, TurnKind::Commanded);
-        turn.book.submit_all(alloc, me, batch)
+        turn.book.submit(alloc, me, change)
     }
 
     /// Hands out a pending tile that is neither handed out nor marked. It waits for one; None comes at closing.
@@ -192,7 +207,7 @@ impl<J: Naming, R: Wait + Drop> Shared<J, R> {
         ensures history { IfOk result (λ _. IsHistory (seen me.new)) }
         ensures ok { IfOk result (λ n. IsBuiltAt (newest (seen me.new)) name.now n) }
         ensures own { IfOk result (λ _. IsOwn me.new) }
-        ensures err { IfErr result (λ fault. IfGone fault (me.new ≡ me.old) (IsOwn me.new)) }
+        ensures err { IfErr result (LeavesSession BookFault.Gone me.old me.new) }
         ensures refused { IfErr result (λ fault. IsWaitRefused true (newest (seen me.new)) name.now fault) }
         ensures same { (me.new.book ≡ me.old.book) × (me.new.session ≡ me.old.session) × (me.new.made ≡ me.old.made) }
     {
@@ -215,7 +230,7 @@ impl<J: Naming, R: Wait + Drop> Shared<J, R> {
         ensures history { IfOk result (λ _. IsHistory (seen me.new)) }
         ensures ok { IfOk result (λ n. ((newest (seen me.new)).durable ≡ n) × ((newest (seen me.old)).number ≤ n)) }
         ensures own { IfOk result (λ _. IsOwn me.new) }
-        ensures err { IfErr result (λ fault. IfGone fault (me.new ≡ me.old) (IsOwn me.new)) }
+        ensures err { IfErr result (LeavesSession BookFault.Gone me.old me.new) }
         ensures refused { IfErr result
             (λ fault. IsSyncRefused (newest (seen me.old)).number (newest (seen me.new)) fault) }
         ensures only_without { result ≡ Err BookFault.NoStore → has_store self.now ≡ false }

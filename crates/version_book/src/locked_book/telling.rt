@@ -1,7 +1,7 @@
 //! What the calls that wait decide by, and what the reporter is told, under the lock.
-ghost use Rattle.std.specs.Prelude.{◌≡◌, ◌⊎◌, ◌<◌, ◌≤◌, ◌↔◌, IsTrue, length, IfOk, IfErr, IfSome, IfNone, IsErrAnd};
+ghost use Rattle.std.specs.Prelude.{◌≡◌, ◌⊎◌, ◌<◌, ◌≤◌, ◌↔◌, IsTrue, length, IfOk, IfErr, IfSome, IfNone, Err, IsErrAnd};
 ghost use Rattle.std.specs.Arc.{arc_value};
-ghost use Rattle.book_history.specs.Fault.{IfGone, no_memory};
+ghost use Rattle.book_history.specs.Fault.{no_memory};
 ghost use Rattle.book_history.specs.Logs.{newest_in, IsLog};
 ghost use Rattle.version_book.specs.Standing.{IsAfterFailure};
 ghost use Rattle.book_lock.specs.Steps.{IsLevel, IsReportedIn};
@@ -94,7 +94,7 @@ pub(crate) fn tell_built<J: Naming, R: Wait + Drop>(
     ensures refused { IfErr result
         (λ fault. IsWaitRefused locked.old.standing.closing (newest_in locked.old.log) name.now fault) }
     ensures seen { Looks result me.old locked.old.log me.new }
-    ensures gone { IfErr result (λ fault. IfGone fault (¬ (IsLevel locked.old.log me.old)) (Unit {0})) }
+    ensures gone { result ≡ Err BookFault.Gone → ¬ (IsLevel locked.old.log me.old) }
     ensures log { locked.new.log ≡ locked.old.log }
     ensures standing { IsAfterTold (newest_in locked.old.log) locked.old.standing name.now result locked.new.standing }
 {
@@ -125,7 +125,7 @@ pub(crate) fn tell_durable<J: Naming, R: Wait + Drop>(
     ensures refused { IfErr result
         (λ fault. IsSyncRefusedAt locked.now.standing (newest_in locked.now.log) number fault) }
     ensures seen { Looks result me.old locked.now.log me.new }
-    ensures gone { IfErr result (λ fault. IfGone fault (¬ (IsLevel locked.now.log me.old)) (Unit {0})) }
+    ensures gone { result ≡ Err BookFault.Gone → ¬ (IsLevel locked.now.log me.old) }
 {
     locked.log.show(me)?;
     let durable = locked.log.last().version.durable();
@@ -146,7 +146,7 @@ pub(crate) fn tell_no_store<J: Naming, R: Wait + Drop>(
     requires book { me.old.book ≡ J.book }
     ensures refused { IsErrAnd result (λ fault. (fault ≡ BookFault.NoStore) ⊎ (fault ≡ BookFault.Gone)) }
     ensures seen { Looks result me.old locked.now.log me.new }
-    ensures gone { IfErr result (λ fault. IfGone fault (¬ (IsLevel locked.now.log me.old)) (Unit {0})) }
+    ensures gone { result ≡ Err BookFault.Gone → ¬ (IsLevel locked.now.log me.old) }
 {
     locked.log.show(me)?;
     Err(BookFault::NoStore)
@@ -166,7 +166,8 @@ pub(crate) fn tell_news<J: Naming, R: Wait + Drop>(
     ensures none { IfOk result (λ o. IfNone o (IsTrue locked.now.standing.closing
         × (locked.now.standing.news ≡ me.old.given) × (me.new ≡ me.old))) }
     ensures err { IfErr result (λ fault. (me.new ≡ me.old) × ((fault ≡ no_memory) ⊎ (fault ≡ BookFault.Gone))) }
-    ensures gone { IfErr result (λ fault. IfGone fault (¬ (HasHeard locked.now.log me.old)) (HasHeard locked.now.log me.old)) }
+    ensures gone { result ≡ Err BookFault.Gone → ¬ (HasHeard locked.now.log me.old) }
+    ensures heard { result ≡ Err no_memory → HasHeard locked.now.log me.old }
 {
     let last = locked.log.last();
     let durable = last.version.durable();
@@ -201,7 +202,7 @@ pub(crate) fn report<J: Naming, R: Wait + Drop>(
     ensures standing { locked.new.standing ≡ locked.old.standing }
     ensures err { IfErr result (λ fault. (locked.new.log ≡ locked.old.log) × (me.new ≡ me.old)
         × ((fault ≡ no_memory) ⊎ (fault ≡ BookFault.Gone))) }
-    ensures heard { IfErr result (λ fault. IfGone fault (Unit {0}) (HasHeard locked.old.log me.old)) }
+    ensures heard { result ≡ Err no_memory → HasHeard locked.old.log me.old }
 {
     let given = me.given();
     let last = locked.log.last();

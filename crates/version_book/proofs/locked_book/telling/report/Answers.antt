@@ -7,7 +7,7 @@ use Rattle.book_history.specs.BookLogs.{BookLog}
 use Rattle.book_history.proofs.Fronts.{prefix_trans}
 use Rattle.book_history.proofs.Gone.{passed}
 use Rattle.book_lock.proofs.Growing.{report_longer}
-use Rattle.version_book.proofs.Told.{durable_there, moved, where_else}
+use Rattle.version_book.proofs.Told.{durable_there, moved}
 use Rattle.version_book.proofs.locked_book.telling.report.Goals as goal
 
 pub is_level-requires : goal.is_level-requires
@@ -32,7 +32,7 @@ move_on-requires g c =
 
 pub returns-then-not-is_level : goal.returns-then-not-is_level
 returns-then-not-is_level g c =
-    record { ok = tt; seen = tt; begun = c.given-given.ensures.begun; standing = refl; err = (refl, refl, inr refl); heard = tt }
+    record { ok = tt; seen = tt; begun = c.given-given.ensures.begun; standing = refl; err = (refl, refl, inr refl); heard = λ is. absurd (cc) }
 
 pub returns-in_err-durable : goal.returns-in_err-durable
 returns-in_err-durable g c =
@@ -45,7 +45,7 @@ returns-in_err-durable g c =
       begun = c.given-given.ensures.begun;
       standing = refl;
       err = passed _ _ _ failed.1 (e.0, refl, e.1);
-      heard = passed _ _ _ failed.1 (where_else _ (subst (λ l. HasHeard l c.args.me.now) log (c.if-not-is_level.ensures.0 refl)));
+      heard = λ _. subst (λ l. HasHeard l c.args.me.now) log (c.if-not-is_level.ensures.0 refl);
     }
 
 pub returns : goal.returns
@@ -62,5 +62,5 @@ returns g c =
       begun = c.given-given.ensures.begun;
       standing = refl;
       err = tt;
-      heard = tt;
+      heard = λ is. absurd (cc);
     }

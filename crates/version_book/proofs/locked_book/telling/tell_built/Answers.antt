@@ -12,7 +12,7 @@ returns-in_err-number g c =
       ok = gone_ok r _ _ c.from_residual.ensures.1;
       refused = gone_err r _ _ c.from_residual.ensures.1 gone.0 tt;
       seen = gone_looks r _ _ _ _ c.from_residual.ensures.1 gone.0 gone.1;
-      gone = gone_err r _ _ c.from_residual.ensures.1 gone.0 c.in_err-number.ensures.behind;
+      gone = λ _. c.in_err-number.ensures.behind;
       log = refl;
       standing = gone_told r _ (newest_in c.args.locked.now.log) _ c.args.name.now c.from_residual.ensures.1 gone.0;
     }
@@ -21,7 +21,7 @@ pub returns-in-Some : goal.returns-in-Some
 returns-in-Some g c =
     let name = c.args.name.now in
     let some = ap (λ v. wait_refusal v name) (sym (c.deref.ensures ∙ c.last.ensures.version)) ∙ sym c.wait_refusal.ensures ∙ c.in-Some.is in
-    record { ok = tt; refused = inl some; seen = c.in_ok-number.ensures.ok.0; gone = tt; log = refl; standing = keeps_marks _ _ _ _ some refl }
+    record { ok = tt; refused = inl some; seen = inr (λ is. absurd (cc), c.in_ok-number.ensures.ok.0); gone = λ is. absurd (cc); log = refl; standing = keeps_marks _ _ _ _ some refl }
 
 pub returns-then-is_built : goal.returns-then-is_built
 returns-then-is_built g c =
@@ -36,7 +36,7 @@ returns-then-is_built g c =
       };
       refused = tt;
       seen = c.in_ok-number.ensures.ok.0;
-      gone = tt;
+      gone = λ is. absurd (cc);
       log = refl;
       standing = refl;
     }
@@ -49,8 +49,8 @@ returns-then-has_mark g c =
     record {
       ok = tt;
       refused = inr (refl, none, test_fails (λ v. IsBuilt v name) _ _ _ newest c.is_built.ensures c.if-is_built.false);
-      seen = c.in_ok-number.ensures.ok.0;
-      gone = tt;
+      seen = inr (λ is. absurd (cc), c.in_ok-number.ensures.ok.0);
+      gone = λ is. absurd (cc);
       log = refl;
       standing = loses_marks _ _ _ none (sym c.has_mark.ensures ∙ c.if-has_mark.true, search rules);
     }
@@ -69,8 +69,8 @@ returns g c =
         none,
         pending,
       );
-      seen = c.in_ok-number.ensures.ok.0;
-      gone = tt;
+      seen = inr (λ is. absurd (cc), c.in_ok-number.ensures.ok.0);
+      gone = λ is. absurd (cc);
       log = refl;
       standing = (refl, unmarked);
     }

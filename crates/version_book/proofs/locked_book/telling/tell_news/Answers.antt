@@ -29,8 +29,9 @@ returns-then-not-is_level g c =
       news = tt;
       none = tt;
       err = (refl, inr refl);
-      gone = λ p. true≢false
+      gone = λ _ p. true≢false
           (sym (c.is_level.ensures.1 (subst (λ l. HasHeard l c.args.me.now) (sym log) p)) ∙ c.if-not-is_level.true);
+      heard = λ is. absurd (cc);
     }
 
 pub returns-in_default : goal.returns-in_default
@@ -41,7 +42,8 @@ returns-in_default g c =
       news = tt;
       none = tt;
       err = (refl, inl refl);
-      gone = subst (λ l. HasHeard l c.args.me.now) log (c.if-not-is_level.ensures.0 refl);
+      gone = λ is. absurd (cc);
+      heard = λ _. subst (λ l. HasHeard l c.args.me.now) log (c.if-not-is_level.ensures.0 refl);
     }
 
 pub returns : goal.returns
@@ -56,5 +58,6 @@ returns g c =
       news = (search rules, moved c.args.me.now _ _ _ _ _ _ c.move_on.ensures c.last-last.ensures.seen_log refl);
       none = tt;
       err = tt;
-      gone = tt;
+      gone = λ is. absurd (cc);
+      heard = λ is. absurd (cc);
     }

@@ -1,5 +1,5 @@
 use Rattle.std.proofs.Common.{inl, inr, refl}
-use Rattle.version_book.proofs.Told.{gone_err, gone_looks, err_and}
+use Rattle.version_book.proofs.Told.{gone_looks, err_and}
 use Rattle.version_book.proofs.locked_book.telling.tell_no_store.Goals as goal
 
 pub returns-in_err-show : goal.returns-in_err-show
@@ -9,8 +9,8 @@ returns-in_err-show g c =
     record {
       refused = err_and r _ _ c.from_residual.ensures.1 (inr gone.0);
       seen = gone_looks r _ _ _ _ c.from_residual.ensures.1 gone.0 gone.1;
-      gone = gone_err r _ _ c.from_residual.ensures.1 gone.0 c.in_err-show.ensures.behind;
+      gone = λ _. c.in_err-show.ensures.behind;
     }
 
 pub returns : goal.returns
-returns g c = record { refused = inl refl; seen = c.in_ok-show.ensures.ok.0; gone = tt }
+returns g c = record { refused = inl refl; seen = inr (λ is. absurd (cc), c.in_ok-show.ensures.ok.0); gone = λ is. absurd (cc) }

@@ -1,24 +1,44 @@
-use Rattle.version_book.proofs.Results.{accepts, batch_ended, batch_err, batch_refused, submit_goes, submit_history, submit_made, submit_own}
+use Rattle.std.proofs.Common.{ap}
+use Rattle.std.proofs.lemmas.Result.{IfOk-from_err}
+use Rattle.overlay_terms.specs.Histories.{Version}
+use Rattle.layer_book.specs.declared.batch_fault.BatchFault.{BatchFault}
+use Rattle.book_history.specs.Fault.{RefusesBatch}
+use Rattle.book_history.proofs.Gone.{passed}
+use Rattle.version_book.proofs.Results.{accepted_goes, accepted_history, accepted_last, accepted_own, batch_leaves, batch_refused, refused_goes, refused_same}
 use Rattle.version_book.proofs.shared.Shared.submit_all.Goals as goal
+
+pub returns-in_err-accept : goal.returns-in_err-accept
+returns-in_err-accept g c =
+    let failed = c.from_residual.ensures in
+    let me = c.args.me.now in
+    let now = c.accept.new.me in
+    let there = c.in_err-accept.ensures.err in
+    let batch = c.args.batch.now in
+    let refuses : Version → BatchFault → Type 0 = λ v. RefusesBatch v batch in
+    record {
+      goes_on = refused_goes me now there.0 refuses _ c.accept.ensures.begun there.1;
+      history = IfOk-from_err _ _ failed.0;
+      ok = IfOk-from_err _ _ failed.0;
+      made = IfOk-from_err _ _ failed.0;
+      own = IfOk-from_err _ _ failed.0;
+      err = passed _ _ _ failed.1 (batch_leaves me now there.0 batch _ there.1);
+      refused = passed _ _ _ failed.1 (batch_refused me now there.0 batch _ there.1);
+      same = refused_same me now there.0 refuses _ there.1;
+    }
 
 pub returns : goal.returns
 returns g c =
-    let s = c.submit_all in
     let me = c.args.me.now in
-    let new = s.new.me in
-    let batch = c.args.batch.now in
-    let locked = c.deref_mut.result.now in
-    let log = locked.log in
-    let after = s.new.self.log in
-    let r = s.result in
-    let e = s.ensures in
+    let now = c.accept.new.me in
+    let there = c.in_ok-accept.ensures.ok in
+    let is = there.2 in
     record {
-      goes_on = submit_goes me new log after r _ _ _ _ _ _ (batch_ended me new log) c.number.ensures.begun e.ok e.seen e.err;
-      history = submit_history me new log after r _ _ e.seen e.made;
-      ok = accepts r me.session batch log after me new _ c.number.ensures.begun e.ok e.seen;
-      made = submit_made me new log after r _ _ _ e.made;
-      own = submit_own me new log after r _ e.same.1 e.seen e.made;
-      err = batch_err me new log after r _ _ e.err;
-      refused = batch_refused me new log after r _ _ locked.standing.closing batch e.err e.refused;
-      same = e.same;
+      goes_on = accepted_goes me now _ _ _ _ is c.accept.ensures.begun;
+      history = accepted_history me now _ _ _ _ is;
+      ok = accepted_last me now _ _ _ _ is c.accept.ensures.begun;
+      made = ap (λ k. k.made) is.knows;
+      own = accepted_own me now _ _ _ _ is;
+      err = tt;
+      refused = tt;
+      same = (ap (λ k. k.book) is.knows, ap (λ k. k.session) is.knows);
     }
