@@ -4,6 +4,7 @@ pub mod Durable
 pub mod Listened
 pub mod Lists
 pub mod Parts
+mod Refusals
 pub mod Sent
 pub mod SentStore
 pub mod ServedParts

@@ -1,4 +1,5 @@
 pub mod Alone
+pub mod Answering
 pub mod Counting
 pub mod Durability
 pub mod Keeping

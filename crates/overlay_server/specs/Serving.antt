@@ -1,5 +1,5 @@
 -- What a server leaves: its sessions' replies, and its store.
-use Rattle.std.specs.Prelude.{◌≡◌, ◌⊎◌, ◌∷◌, ◌<◌, ◌≤◌, ℕ, Bool, false, is_some, List, [], length, map, All, Option, Some, None, Result, Ok, Err}
+use Rattle.std.specs.Prelude.{◌≡◌, ◌⊎◌, ◌∷◌, ◌<◌, ◌≤◌, ℕ, Bool, false, is_some, List, [], length, map, All, Option, Some, None}
 use Rattle.std.specs.Arc.{arc_value}
 use Rattle.std.specs.List.{AllByRecursion}
 use Rattle.logbook.specs.Pages.{Book}
@@ -11,8 +11,6 @@ use Rattle.root_store.specs.Running.{is_busy}
 use Rattle.root_store.specs.declared.phase.Phase.TheVariants.{Failed}
 use Rattle.flush_core.specs.declared.flusher.Flusher.{Flusher}
 use Rattle.overlay_engine.specs.declared.engine.Engine.{Engine}
-use Rattle.book_history.specs.Fault.{code_of}
-use Rattle.book_history.specs.declared.fault.BookFault.{BookFault}
 use Rattle.book_history.specs.Known.{Known, seen}
 use Rattle.book_history.specs.Logs.{entry, no_event, history_of, newest_in, IsLog}
 use Rattle.book_lock.specs.Steps.{beginners, HasAllOf}
@@ -22,6 +20,7 @@ use Rattle.store_flushing.specs.Storing.{IsStoreOf}
 use Rattle.store_flushing.specs.Told.{StaysTold, told_in}
 use Rattle.store_flushing.specs.declared.closing.Closed.{Closed}
 use Rattle.store_flushing.specs.declared.keeper.told_log.Told.{Told}
+use Rattle.overlay_server.specs.Answering.{answer_in, refusal_code}
 use Rattle.overlay_server.specs.declared.outcome.Finished.{Finished}
 use Rattle.overlay_server.specs.declared.outcome.Left.{Left}
 use Rattle.overlay_server.specs.declared.outcome.Outcome.{Outcome}
@@ -167,13 +166,9 @@ pub record IsLeftFrom {R W D : Type 0} (remaining : R → Option (List ℕ)) (co
   pub sessions : ArePortsServed (is_some store) remaining contents start left.closed.seen_log.log ports left.sessions.items
   pub kept : IsLeftOfStore g start store left.closed
 
--- the number under which a server tells why it did not run: that of the book's refusal, or 40 where the book was opened and
--- memory or a thread was refused
-abbrev pub refusal_code : {B : Type 0} → Result B BookFault → ℕ
-refusal_code (Ok begun) = 40
-refusal_code (Err fault) = code_of fault
-
--- a server could not run: for want of memory or of a thread, or of places in the book; the disk comes back
+-- a server could not run: for want of memory or of a thread, or of places in the book. Its number is that of what the book
+-- answered as it was to be opened, and 40 where it was opened; the disk comes back
 pub record IsRefusedFrom {D : Type 0} (g : Ghosts D) (start : Version) (store : Option (Flusher D g)) (fault : ServerFault D) : Type 0 where
   pub code : (fault.code ≡ 40) ⊎ (fault.code ≡ 44)
+  pub exactly : fault.code ≡ refusal_code (answer_in fault.answer)
   pub back : StoreComesBack g start store fault.disk

@@ -1,16 +1,19 @@
 //! The book of a server, from its opening to its end.
-ghost use Rattle.std.specs.Prelude.{◌≡◌, ◌⊎◌, ◌<◌, ◌≤◌, ◌∷◌, [], length, IfOk, IfErr, is_some};
+ghost use Rattle.std.specs.Prelude.{◌≡◌, ◌⊎◌, ◌<◌, ◌≤◌, ◌∷◌, [], None, length, IfOk, IfErr, is_some};
 ghost use Rattle.book_history.specs.Fault.{no_memory};
 ghost use Rattle.book_history.specs.Logs.{entry, no_event};
 ghost use Rattle.book_history.specs.Rules.{head_of};
 ghost use Rattle.book_lock.specs.Steps.{beginners};
 ghost use Rattle.version_book.specs.Store.{has_store};
 ghost use Rattle.store_flushing.specs.Told.{told_in};
-ghost use Rattle.overlay_server.specs.Serving.{IsLeftFrom, IsRefusedFrom, first_log, refusal_code};
+ghost use Rattle.overlay_server.specs.Answering.{answer_in, fault_of, refusal_code};
+ghost use Rattle.overlay_server.specs.Serving.{IsLeftFrom, IsRefusedFrom, IsServedFrom, first_log};
 
 use crate::counting::{await_number, made_by_all};
-use crate::outcome::{Left, Port, ServerFault};
-use crate::refusing::{not_opened, refused};
+use crate::listening::{Listeners, gathered, listened};
+use crate::opening::{Begun, BookAnswer, open_book};
+use crate::outcome::{Left, Port, Served, ServerFault};
+use crate::refusing::refused;
 use crate::seating::{Parts, Seats, parted, seated};
 use crate::storing::{Store, keep_store};
 use crate::threads::{Returned, Work, run_threads};
@@ -49,6 +52,85 @@ struct Start {
     ghost same: { number ≡ version.value.number },
 }
 
+/// A book that was opened, or was refused, what it answered, and its store.
+struct Asked<J: Naming, S: Wait + Drop, D: Disk> {
+    start: Start,
+    begun: Result<Begun<J, S>, BookFault>,
+    answer: BookAnswer,
+    flusher: Option<Flusher<D>>,
+}
+
+/// Opens the book that is named by its history, for so many sessions.
+fn ask_book<J: Naming, S: Wait + Drop, D: Disk>(
+    rt: S,
+    alloc: Global,
+    opened: Opened<D>,
+    sessions: usize,
+) -> Asked<J, S, D>
+    requires book { opened.seen_log.book ≡ J.book }
+    requires sessions { (0 < sessions) × (sessions ≤ 4) }
+    ensures start { result.start.version.value ≡ opened.version }
+    ensures flusher { result.flusher ≡ opened.flusher }
+    ensures stored { IfOk result.begun (λ b. has_store b.0 ≡ is_some opened.flusher) }
+    ensures reporter { IfOk result.begun (λ b. (b.1.book ≡ J.book) × (b.1.log ≡ first_log opened.version)) }
+    ensures sessions { IfOk result.begun (λ b. b.2.items ≡ beginners (record { book = J.book; log = first_log opened.version }) sessions) }
+    ensures fault { IfErr result.begun (λ fault. (fault ≡ no_memory) ⊎ (fault ≡ BookFault.Gone)) }
+    ensures answer { answer_in result.answer ≡ fault_of result.begun }
+{
+    let Opened {
+        head,
+        seen_log,
+        version,
+        flusher,
+    } = opened;
+    let start = Start {
+        number: version.number(),
+        version: Snapshot::of(&version),
+    };
+    let stored = flusher.is_some();
+    let (begun, answer) = open_book::<J, S>(rt, alloc, head, seen_log, version, stored, sessions);
+    Asked {
+        start,
+        begun,
+        answer,
+        flusher,
+    }
+}
+
+/// The server of a book that is named by its history, over lists of bytes.
+pub fn listen_in<J, D, R, G, Q>(
+    rt: &Q,
+    alloc: Global,
+    workers: usize,
+    gate: &G,
+    opened: Opened<D>,
+    readers: Vec<R>,
+) -> Result<Served<D>, ServerFault<D>>
+where
+    J: Naming + Send + Sync,
+    D: Disk + Send + Drop,
+    R: Read + Send + Drop,
+    G: Gate + Sync,
+    Q: Threads + Wait + Sync,
+    requires book { opened.seen_log.book ≡ J.book }
+    requires readers { (0 < length readers.items) × (length readers.items ≤ 4) }
+    ensures served { IfOk result (IsServedFrom R.remaining D.Disk opened.version opened.flusher readers.items) }
+    ensures refused { IfErr result (IsRefusedFrom D.Disk opened.version opened.flusher) }
+{
+    let asked = ask_book::<J, &Q, D>(rt, alloc, opened, readers.len());
+    let Some(Listeners { ports, outcomes }) = listened(alloc, readers) else {
+        let Asked {
+            start: _start,
+            begun: _begun,
+            answer,
+            flusher,
+        } = asked;
+        return Err(refused(answer, flusher));
+    };
+    let left = serve_asked(rt, alloc, workers, gate, asked, ports)?;
+    Ok(gathered(left, outcomes))
+}
+
 /// The server of a book that is named by its history.
 pub fn serve_in<J, D, R, W, G, Q>(
     rt: &Q,
@@ -70,31 +152,17 @@ where
     ensures left { IfOk result (IsLeftFrom R.remaining W.contents D.Disk opened.version opened.flusher ports.items) }
     ensures refused { IfErr result (IsRefusedFrom D.Disk opened.version opened.flusher) }
 {
-    let Opened {
-        head,
-        seen_log,
-        version,
-        flusher,
-    } = opened;
-    let start = Start {
-        number: version.number(),
-        version: Snapshot::of(&version),
-    };
-    let stored = flusher.is_some();
-    let sessions = ports.len();
-    let begun = Shared::<J, &Q>::start(rt, alloc, head, seen_log, version, stored, sessions);
-    serve_begun(rt, alloc, workers, gate, start, begun, flusher, ports)
+    let asked = ask_book::<J, &Q, D>(rt, alloc, opened, ports.len());
+    serve_asked(rt, alloc, workers, gate, asked, ports)
 }
 
 /// The server of a book that was opened, or was refused.
-fn serve_begun<J, S, D, R, W, G, Q>(
+fn serve_asked<J, S, D, R, W, G, Q>(
     rt: &Q,
     alloc: Global,
     workers: usize,
     gate: &G,
-    start: Start,
-    begun: Result<(Shared<J, S>, Reporter, Vec<Session>), BookFault>,
-    flusher: Option<Flusher<D>>,
+    asked: Asked<J, S, D>,
     ports: Vec<Port<R, W>>,
 ) -> Result<Left<W, D>, ServerFault<D>>
 where
@@ -106,15 +174,22 @@ where
     G: Gate + Sync,
     Q: Threads + Wait + Sync,
     requires ports { 0 < length ports.items }
-    requires stored { IfOk begun (λ b. has_store b.0 ≡ is_some flusher) }
-    requires reporter { IfOk begun (λ b. (b.1.book ≡ J.book) × (b.1.log ≡ first_log start.version.value)) }
-    requires sessions { IfOk begun (λ b. b.2.items ≡ beginners (record { book = J.book; log = first_log start.version.value }) (length ports.items)) }
-    requires fault { IfErr begun (λ fault. (fault ≡ no_memory) ⊎ (fault ≡ BookFault.Gone)) }
-    ensures left { IfOk result (IsLeftFrom R.remaining W.contents D.Disk start.version.value flusher ports.items) }
-    ensures refused { IfErr result (IsRefusedFrom D.Disk start.version.value flusher) }
+    requires stored { IfOk asked.begun (λ b. has_store b.0 ≡ is_some asked.flusher) }
+    requires reporter { IfOk asked.begun (λ b. (b.1.book ≡ J.book) × (b.1.log ≡ first_log asked.start.version.value)) }
+    requires sessions { IfOk asked.begun (λ b. b.2.items ≡ beginners (record { book = J.book; log = first_log asked.start.version.value }) (length ports.items)) }
+    requires fault { IfErr asked.begun (λ fault. (fault ≡ no_memory) ⊎ (fault ≡ BookFault.Gone)) }
+    requires answer { answer_in asked.answer ≡ fault_of asked.begun }
+    ensures left { IfOk result (IsLeftFrom R.remaining W.contents D.Disk asked.start.version.value asked.flusher ports.items) }
+    ensures refused { IfErr result (IsRefusedFrom D.Disk asked.start.version.value asked.flusher) }
     // Of a book that was refused it is that refusal's number: so 44 tells that it gave no places, and nothing else.
-    ensures code { IfErr result (λ fault. fault.code ≡ refusal_code begun) }
+    ensures code { IfErr result (λ fault. fault.code ≡ refusal_code (fault_of asked.begun)) }
 {
+    let Asked {
+        start,
+        begun,
+        answer,
+        flusher,
+    } = asked;
     match begun {
         Ok((shared, reporter, sessions)) => {
             let store = Store {
@@ -123,10 +198,10 @@ where
                 told: ToldLog::none(),
             };
             run_book(
-                rt, alloc, workers, gate, start, shared, store, sessions, ports,
+                rt, alloc, workers, gate, start, answer, shared, store, sessions, ports,
             )
         }
-        Err(fault) => Err(not_opened(fault, flusher)),
+        Err(_) => Err(refused(answer, flusher)),
     }
 }
 
@@ -137,6 +212,7 @@ fn run_book<J, S, D, R, W, G, Q>(
     workers: usize,
     gate: &G,
     start: Start,
+    answer: BookAnswer,
     shared: Shared<J, S>,
     store: Store<D>,
     sessions: Vec<Session>,
@@ -151,6 +227,7 @@ where
     G: Gate + Sync,
     Q: Threads + Wait + Sync,
     requires ports { 0 < length ports.items }
+    requires answer { answer_in answer ≡ None }
     requires stored { has_store shared ≡ is_some store.flusher }
     requires reporter { (store.reporter.book ≡ J.book) × (store.reporter.log ≡ first_log start.version.value) }
     requires told { told_in store.told ≡ [] }
@@ -160,7 +237,7 @@ where
     ensures code { IfErr result (λ fault. fault.code ≡ 40) }
 {
     let Some(seats) = seated::<J, R, W>(alloc, sessions, ports) else {
-        return Err(refused(store.flusher));
+        return Err(refused(answer, store.flusher));
     };
     let Seats {
         scripts,
@@ -181,7 +258,7 @@ where
         told,
     } = keep_store(rt, alloc, &shared, store);
     let Some(ended) = ended else {
-        return Err(refused(flusher));
+        return Err(refused(answer, flusher));
     };
     let Parts { sessions, finished } = parted(ended, parts);
     let made = made_by_all(rt, &sessions);

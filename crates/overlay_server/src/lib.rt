@@ -5,6 +5,7 @@ mod counting;
 mod hosting;
 pub mod laws;
 mod listening;
+mod opening;
 pub mod outcome;
 mod refusing;
 mod running;
@@ -13,6 +14,7 @@ pub mod serving;
 mod storing;
 mod threads;
 
+pub use opening::BookAnswer;
 pub use outcome::{Finished, Left, Outcome, Port, ServeOptions, Served, ServerFault};
 pub use overlay_grid::{GridSpec, grid};
 pub use script_form::{CommandFault, SessionEnd};

@@ -1,6 +1,7 @@
 //! What a server is run with, and what it leaves.
 ghost use Rattle.std.specs.Prelude.{◌<◌, ◌≤◌, ◌^◌};
 
+use crate::opening::BookAnswer;
 use script_form::SessionEnd;
 use store_flushing::closing::Closed;
 
@@ -52,11 +53,13 @@ pub struct Served<D> {
     pub closed: Closed<D>,
 }
 
-/// Why a server could not run: 40 where memory or a thread was refused, 44 where the book gives no places. Memory is
+/// Why a server could not run: 44 where the book gives no places, and 40 where memory or a thread was refused. Memory is
 /// refused before the first thread starts.
 #[derive(Debug, Drop)]
 pub struct ServerFault<D> {
     pub code: u8,
     /// The disk, as the server left it. None without an engine.
     pub disk: Option<D>,
+    /// What the book answered as it was to be opened.
+    pub answer: BookAnswer,
 }

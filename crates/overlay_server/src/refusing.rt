@@ -1,34 +1,24 @@
 //! A server that could not run: why, and the disk that comes back.
 ghost use Rattle.std.specs.Prelude.{◌≡◌, None, Some, MatchOption};
-ghost use Rattle.book_history.specs.Fault.{code_of};
+ghost use Rattle.overlay_server.specs.Answering.{answer_in, refusal_code};
 ghost use Rattle.overlay_server.specs.Moments.{HasOnlyNow};
 
+use crate::opening::BookAnswer;
 use crate::outcome::ServerFault;
 use disk_model::disk::Disk;
 use flush_core::flusher::Flusher;
-use version_book::fault::BookFault;
 
-/// No memory, or no thread: the disk comes back.
-pub fn refused<D: Disk>(flusher: Option<Flusher<D>>) -> ServerFault<D>
-    ensures code { result.code ≡ 40 }
+/// No memory, no thread, or no places, by what the book answered: the disk comes back.
+pub fn refused<D: Disk>(answer: BookAnswer, flusher: Option<Flusher<D>>) -> ServerFault<D>
+    ensures code { result.code ≡ refusal_code (answer_in answer) }
+    ensures answer { result.answer ≡ answer }
     ensures disk { MatchOption flusher (result.disk ≡ None) (λ f. result.disk ≡ Some f.commit.disk) }
     ensures now { HasOnlyNow D.Disk }
 {
     ServerFault {
-        code: 40,
+        code: answer.code(),
         disk: disk_of(flusher),
-    }
-}
-
-/// The book was not opened, for what it says: the disk comes back.
-pub fn not_opened<D: Disk>(fault: BookFault, flusher: Option<Flusher<D>>) -> ServerFault<D>
-    ensures code { result.code ≡ code_of fault }
-    ensures disk { MatchOption flusher (result.disk ≡ None) (λ f. result.disk ≡ Some f.commit.disk) }
-    ensures now { HasOnlyNow D.Disk }
-{
-    ServerFault {
-        code: fault.code(),
-        disk: disk_of(flusher),
+        answer,
     }
 }
 

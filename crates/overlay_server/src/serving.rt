@@ -2,12 +2,9 @@
 ghost use Rattle.std.specs.Prelude.{◌≡◌, ◌<◌, ◌≤◌, length, IfOk, IfErr};
 ghost use Rattle.overlay_server.specs.Serving.{IsLeftFrom, IsServedFrom, IsRefusedFrom, flusher_of, start_of};
 
-use crate::hosting::{Opened, serve_in};
-use crate::listening::{Listeners, gathered, listened};
+use crate::hosting::{Opened, listen_in, serve_in};
 use crate::outcome::{Left, Port, ServeOptions, Served, ServerFault};
-use crate::refusing::refused;
 use disk_model::disk::Disk;
-use flush_core::flusher::Flusher;
 use overlay_engine::engine::Engine;
 use std::alloc::Global;
 use std::io::{Read, Write};
@@ -24,8 +21,8 @@ use versions::version::Version;
 ///
 /// Before it returns, it commits once more what the workers finished, so that each finished tile is in the store, unless
 /// that commit was refused: by the device (30, 35), for want of blocks (31), of sequence numbers (36) or of memory (40).
-/// Where memory or a thread is refused it fails with 40, and where the book gives no places for its sessions with 44;
-/// the disk comes back then. A script that was begun meanwhile ends as in a book that closes.
+/// Where the book gives no places for its sessions it fails with 44, and else, where memory or a thread is refused, with
+/// 40; the disk comes back then. A script that was begun meanwhile ends as in a book that closes.
 pub fn serve<D, R, G, Q>(
     rt: &Q,
     alloc: Global,
@@ -42,14 +39,12 @@ where
     requires readers { (0 < length readers.items) × (length readers.items ≤ 4) }
     // Each reader has its replies; what is left of book and store stands for the log that has all that was seen.
     ensures served { IfOk result (IsServedFrom R.remaining D.Disk (start_of engine) (flusher_of engine) readers.items) }
-    // The disk comes back, and a crash at any moment left a file that stands for a version of the book.
+    // The number is that of what the book answered as it was to be opened, and 40 where it was opened. The disk comes back,
+    // and a crash at any moment left a file that stands for a version of the book.
     ensures refused { IfErr result (IsRefusedFrom D.Disk (start_of engine) (flusher_of engine)) }
 {
-    let Some(Listeners { ports, outcomes }) = listened(alloc, readers) else {
-        return Err(refused(store_of(engine)));
-    };
-    let left = serve_ports(rt, alloc, options, gate, engine, ports)?;
-    Ok(gathered(left, outcomes))
+    let opened = history_of_engine(alloc, engine);
+    listen_in::<Brand, D, R, G, Q>(rt, alloc, options.workers, gate, opened, readers)
 }
 
 /// The same where the replies of each session go to the writer beside its reader: each reply is written before more of the
@@ -94,18 +89,5 @@ fn history_of_engine<D: Disk>(alloc: Global, engine: Option<Engine<D>>) -> Opene
         seen_log,
         version,
         flusher,
-    }
-}
-
-/// The store of an engine, where there is one.
-fn store_of<D: Disk>(engine: Option<Engine<D>>) -> Option<Flusher<D>>
-    ensures { result ≡ flusher_of engine }
-{
-    match engine {
-        Some(engine) => {
-            let (_version, flusher) = engine.into_parts();
-            Some(flusher)
-        }
-        None => None,
     }
 }

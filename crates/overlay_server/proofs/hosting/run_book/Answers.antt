@@ -1,4 +1,4 @@
-use Rattle.std.proofs.Common.{rules, ◌≡◌, ◌+◌, ◌∙◌, ℕ, inl, List, All, length, map, ap, sym, subst}
+use Rattle.std.proofs.Common.{rules, ◌≡◌, ◌+◌, ◌∙◌, ℕ, List, All, length, map, ap, sym, subst}
 use Rattle.std.specs.List.{AllZip}
 use Rattle.overlay_terms.specs.Histories.{Version}
 use Rattle.book_history.specs.Known.{Known}
@@ -13,6 +13,7 @@ use Rattle.overlay_server.specs.Running.{IsRunOf}
 use Rattle.overlay_server.specs.Seats.{port_of, session_of}
 use Rattle.overlay_server.specs.Serving.{first_log}
 use Rattle.overlay_server.proofs.Lists.{beside_length}
+use Rattle.overlay_server.proofs.Refusals.{MayAnswer, refused_from}
 use Rattle.overlay_server.proofs.Parts.{AreSeated, all_of_book, as_many, of_ended}
 use Rattle.overlay_server.proofs.Stores.{kept_twice, stopped_at_once, stopped_by}
 use Rattle.overlay_server.proofs.ServedParts.{served_from}
@@ -23,11 +24,10 @@ seated-requires g c =
     ap (λ (ks : List Known). length ks) c.requires.sessions ∙ count_of (record { book = g.J.Naming.book; log = first_log c.args.start.version.value }) (length c.args.ports.items)
 
 pub returns-in_default-clause-refused : goal.returns-in_default-clause-refused
-returns-in_default-clause-refused g c = record {
-  code = inl c.refused.ensures.code;
-  back = stopped_at_once g.D.Disk c.args.start.version.value c.args.store.flusher c.refused.result.disk
-      c.refused.ensures.now c.refused.ensures.disk;
-}
+returns-in_default-clause-refused g c =
+    refused_from g.D.Disk c.args.start.version.value c.args.store.flusher c.refused.result c.args.answer c.refused.ensures.code c.refused.ensures.answer
+    (subst MayAnswer (sym c.requires.answer) tt)
+    (stopped_at_once g.D.Disk c.args.start.version.value c.args.store.flusher c.refused.result.disk c.refused.ensures.now c.refused.ensures.disk)
 
 pub run_threads-store-requires-after_bounds : goal.run_threads-store-requires-after_bounds
 run_threads-store-requires-after_bounds g c κs within =
@@ -47,11 +47,10 @@ returns-in_default-ended-clause-refused g c =
     let after = c.run_threads-store.result.store in
     let last = c.keep_store-reporter.result in
     let kept = kept_twice g.D.Disk g.J.Naming.book c.args.store after last c.run_threads-store.ensures.store c.keep_store-reporter.ensures in
-    record {
-      code = inl c.refused-in_default-ended.ensures.code;
-      back = stopped_by g.D.Disk c.args.start.version.value c.args.store.reporter last.reporter (told_in c.args.store.told) (told_in last.told) c.args.store.flusher last.flusher c.refused-in_default-ended.result.disk
-          c.requires.reporter.1 kept.valid kept.flushed c.refused-in_default-ended.ensures.disk;
-    }
+    refused_from g.D.Disk c.args.start.version.value c.args.store.flusher c.refused-in_default-ended.result c.args.answer
+    c.refused-in_default-ended.ensures.code c.refused-in_default-ended.ensures.answer (subst MayAnswer (sym c.requires.answer) tt)
+    (stopped_by g.D.Disk c.args.start.version.value c.args.store.reporter last.reporter (told_in c.args.store.told) (told_in last.told) c.args.store.flusher last.flusher c.refused-in_default-ended.result.disk
+    c.requires.reporter.1 kept.valid kept.flushed c.refused-in_default-ended.ensures.disk)
 
 pub parted-sessions-requires : goal.parted-sessions-requires
 parted-sessions-requires g c =

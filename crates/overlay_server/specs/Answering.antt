@@ -1,0 +1,20 @@
+-- What a book answered as it was to be opened, and the number that a server tells of it.
+use Rattle.std.specs.Prelude.{ℕ, Option, Some, None, Result, Ok, Err}
+use Rattle.book_history.specs.Fault.{code_of}
+use Rattle.book_history.specs.declared.fault.BookFault.{BookFault}
+use Rattle.overlay_server.specs.declared.opening.BookAnswer.{BookAnswer}
+
+-- why a book was not opened, if it was not
+abbrev pub fault_of : {B : Type 0} → Result B BookFault → Option BookFault
+fault_of (Ok begun) = None
+fault_of (Err fault) = Some fault
+
+-- what a book answered: why it was not opened, if it was not
+abbrev pub answer_in : BookAnswer → Option BookFault
+answer_in answer = answer.fault
+
+-- the number under which a server tells why it did not run: that of the book's refusal, or 40 where the book was opened and
+-- memory or a thread was refused
+abbrev pub refusal_code : Option BookFault → ℕ
+refusal_code None = 40
+refusal_code (Some fault) = code_of fault
