@@ -106,7 +106,7 @@ reported (Some refusal) fault e = (refusal, refl, cc)
 -- a session that was refused makes nothing
 pub made_none : {F : Type 0} (gone fault : F) (was now : Known) → LeavesSession gone was now fault → now.made ≡ was.made
 made_none gone fault was now (inl there) = ap (λ (k : Known). k.made) there.1
-made_none gone fault was now (inr there) = there.1.0
+made_none gone fault was now (inr there) = there.1
 
 submit_refused : (was now : Known) (command : Command) (fault : BookFault) → IsCommandRefused true (newest (seen now)) command fault
     → IsRefused OutOfMemory [] (error_line (fault_told fault)) ⊎ IsSubmitted was.session (seen was) command (seen now) [] (error_line (fault_told fault))
