@@ -10,9 +10,10 @@ use overlay_engine::engine::Engine;
 use overlay_engine::step::{Reply, Step};
 use std::alloc::Global;
 use std::process::Abort;
-use tile_build::{Built, Tile};
+use tile_build::Tile;
+use version_core::Answers;
 use version_core::verifying::Verdict;
-use version_core::version::Version;
+use versions::version::Version;
 
 /// How many rectangles lie, and how many stand.
 const LYING: u32 = 49;
