@@ -23,7 +23,7 @@ use Rattle.versions.specs.contracts.version.Version.TheInside as inside
 use Rattle.versions.specs.contracts.version.VersionContent as content
 use Rattle.layer_tiles.specs.contracts.table.Table as tiles
 use Rattle.layer_tiles.specs.contracts.tiles.TileRow as row
-use Rattle.layer_tiles.proofs.tiles.Slot.TheSendSync as slot
+use Rattle.layer_tiles.proofs.tiles.RowParts.TheSendSync as parts
 use Rattle.book_history.specs.contracts.published.PublishedAbsorb.TheImpl as absorb
 use Rattle.book_history.specs.contracts.published.Published as published
 use Rattle.book_history.specs.contracts.published.OnlyGrows as only_grows
@@ -56,10 +56,10 @@ pub layers_sync : IsSync layers.the_row
 layers_sync = search (all, layer_sync) depth 20
 
 pub row_send : IsSend row.the_row
-row_send = search (all, slot.the_send, slot.the_sync) depth 20
+row_send = search (all, parts.the_send, parts.the_sync) depth 20
 
 pub row_sync : IsSync row.the_row
-row_sync = search (all, slot.the_send, slot.the_sync) depth 20
+row_sync = search (all, parts.the_send, parts.the_sync) depth 20
 
 pub tiles_send : IsSend tiles.the_row
 tiles_send = search (all, layers_send, layers_sync, row_send) depth 20
