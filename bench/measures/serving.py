@@ -23,6 +23,10 @@ import sys
 import tempfile
 import time
 
+sys.path.insert(0, str(pathlib.Path(__file__).resolve().parents[2]))
+
+from tools.limits import COLUMNS  # noqa: E402
+
 HERE = pathlib.Path(__file__).resolve().parent
 SQUARE = "POLYGON ((0 0, 10 0, 10 10, 0 10, 0 0))"
 
@@ -127,16 +131,18 @@ def replies(runs, lines):
 
 
 def waits(runs, steps):
-    """WAIT of 510 tiles by 1, 2 and 4 workers."""
+    """WAIT of all tiles of some derived layers by 1, 2 and 4 workers."""
+    names = [f"D{n}" for n in range(30)]
     head = [f"PUT A {ring(steps, -1000, 0, 1000000)}", f"PUT B {ring(steps, 1000, 500, 1000000)}"]
-    defined = [f"DEFINE D{n} = A {'^|&-'[n % 4]} B" for n in range(30)]
-    waited = [f"WAIT D{n}" for n in range(30)]
+    defined = [f"DEFINE {name} = A {'^|&-'[n % 4]} B" for n, name in enumerate(names)]
+    waited = [f"WAIT {name}" for name in names]
     rows, first = [], None
     for workers in (1, 2, 4):
         clock, used, _ = runs.best([head + defined + waited], workers, False)
         first = first or clock
         rows.append((
-            f"WAIT of 510 tiles, two layers of {steps} steps, {workers} worker{'s' if workers > 1 else ''}",
+            f"WAIT of {len(names) * COLUMNS} tiles, two layers of {steps} steps, {workers} worker"
+            f"{'s' if workers > 1 else ''}",
             f"{clock:.2f} s", f"{used:.2f} s of processors; {first / clock:.2f} times as fast as one",
         ))
     return rows

@@ -2,6 +2,7 @@
 """Measures the store: records to bytes and back, what a commit writes, and opening a big file.
 
 python3 bench/measures/store.py [PROGRAM]..
+python3 bench/measures/store.py --test
 
 Builds the program of bench/measures/store over the store's crates, unproved (minutes); PROGRAM is one that was built
 before. Of several the reading and writing of records is told side by side, all else of the first. The files and records
@@ -20,10 +21,14 @@ import tempfile
 sys.path.insert(0, str(pathlib.Path(__file__).resolve().parents[2]))
 
 from bench import unproved  # noqa: E402
-from tools.limits import COLUMNS, COORDINATE_MAX, column_begin  # noqa: E402
+from bench.reference import read_store  # noqa: E402
+from tools.limits import COLUMNS, COORDINATE_MAX, LAYERS_MAX, column_begin  # noqa: E402
 
 HERE = pathlib.Path(__file__).resolve().parent
 BLOCK = 4096
+DERIVED = 30
+# a catalog, the layers, and all tiles but those of one: as bench/measures/store/extents.rattle has them
+EXTENTS = 1 + LAYERS_MAX + (LAYERS_MAX - 1) * COLUMNS
 
 
 def base_record(points):
@@ -64,7 +69,7 @@ def blocks(record):
 
 
 def body(sequence, version, block, size):
-    return b"OVLSTORE" + struct.pack(">IQQQI", 1, sequence, version, block, size) + bytes(8)
+    return b"OVLSTORE" + struct.pack(">IQQQI", read_store.FORMAT, sequence, version, block, size) + bytes(8)
 
 
 def store(layers):
@@ -146,7 +151,7 @@ def files(program, folder):
     kinds = {
         "one layer of 4 steps": [(b"A", small, None)],
         "32 layers of 2,048 steps": [(b"A%d" % i, base, None) for i in range(32)],
-        "a derived layer with 33 oversize tiles": [(b"A", small, None), (b"I", b"A", oversize)],
+        f"a derived layer with {COLUMNS} oversize tiles": [(b"A", small, None), (b"I", b"A", oversize)],
         "a tile of 60,000 pieces": [(b"A", small, None), (b"I", b"A", {8: tile[8]})],
         "128 tiles of 60,000 pieces": [(b"A", small, None)] + [(b"I%d" % i, b"A", tile) for i in range(8)],
     }
@@ -172,12 +177,13 @@ def changes(program, folder):
     tile = {c: tile_record(c, 100, short_piece) for c in range(COLUMNS)}
     shorter = {**tile, 8: tile_record(8, 99, whole_piece)}
     layers = [(b"A%d" % i, base, None) for i in range(32)]
-    tiled = [(b"A", small, None)] + [(b"I%d" % i, b"A", tile) for i in range(30)]
+    tiled = [(b"A", small, None)] + [(b"I%d" % i, b"A", tile) for i in range(DERIVED)]
     one, two = folder / "one", folder / "two"
+    tiles = f"{DERIVED * COLUMNS} tiles of 100 pieces"
     kinds = {
         "32 layers of 2,048 steps, one of them changed": (layers, layers[:8] + [(b"A8", other, None)] + layers[9:]),
-        "510 tiles of 100 pieces, one of them changed": (tiled, tiled[:8] + [(b"I7", b"A", shorter)] + tiled[9:]),
-        "510 tiles of 100 pieces, nothing but the number": (tiled, tiled),
+        f"{tiles}, one of them changed": (tiled, tiled[:8] + [(b"I7", b"A", shorter)] + tiled[9:]),
+        f"{tiles}, nothing but the number": (tiled, tiled),
     }
     for name, (before, after) in kinds.items():
         one.write_bytes(store(before))
@@ -191,16 +197,33 @@ def beginnings(program, folder):
     """How long the beginning of a commit takes, and how long it takes to find a place."""
     small, path = zigzag(4), folder / "tiled"
     tile = {c: tile_record(c, 100, short_piece) for c in range(COLUMNS)}
-    path.write_bytes(store([(b"A", small, None)] + [(b"I%d" % i, b"A", tile) for i in range(30)]))
+    path.write_bytes(store([(b"A", small, None)] + [(b"I%d" % i, b"A", tile) for i in range(DERIVED)]))
     words = [program, "begin", path, "200"]
     least = int(subprocess.run(words, stdout=subprocess.PIPE, check=True, text=True).stdout.split()[0])
-    print("the beginning of a commit behind a PUT, beside 30 layers with 510 tiles of 100 pieces:"
-          f" {least / 1e6:.3f} ms")
+    print(
+        f"the beginning of a commit behind a PUT, beside {DERIVED} layers with {DERIVED * COLUMNS} tiles of 100 pieces:"
+        f" {least / 1e6:.3f} ms"
+    )
     mapping, placing = each(program, "map", path, 5000), each(program, "place", path, 50000)
-    print(f"560 extents: a map of them takes {1000 * mapping:.3f} ms, a copy of it and a place {1000 * placing:.4f} ms")
+    print(
+        f"{EXTENTS} extents: a map of them takes {1000 * mapping:.3f} ms, a copy of it and a place"
+        f" {1000 * placing:.4f} ms"
+    )
+
+
+def test():
+    """Looks whether the reader of files takes one that is written here, with all its tiles."""
+    tile = {c: tile_record(c, 3, short_piece) for c in range(COLUMNS)} | {9: tile_record(9, 3, crossed_piece)}
+    lines = read_store.told(store([(b"A", zigzag(4), None), (b"I", b"A", tile)]))
+    wanted = [f"tile I {c} 3" for c in range(COLUMNS)]
+    is_right = lines[0] == "version 2" and [line for line in lines if line.startswith("tile ")] == wanted
+    print(f"a file of {len(wanted)} tiles is read as {lines[0]}: {'right' if is_right else 'wrong'}")
+    return 0 if is_right else 1
 
 
 def main():
+    if sys.argv[1:] == ["--test"]:
+        return test()
     parser = argparse.ArgumentParser(description=__doc__, formatter_class=argparse.RawDescriptionHelpFormatter)
     parser.add_argument("programs", type=pathlib.Path, nargs="*")
     words = parser.parse_args()
@@ -211,7 +234,8 @@ def main():
         files(program, pathlib.Path(folder))
         changes(program, pathlib.Path(folder))
         beginnings(program, pathlib.Path(folder))
+    return 0
 
 
 if __name__ == "__main__":
-    main()
+    sys.exit(main())

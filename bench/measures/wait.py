@@ -37,7 +37,7 @@ def main():
     parser.add_argument("edges", type=int)
     words = parser.parse_args()
     if words.kind == "circles":
-        first, second = circle(words.edges, 65536, 65536, 60000), circle(words.edges, 75536, 70536, 50000)
+        first, second = circle(words.edges, 32768, 32768, 30000), circle(words.edges, 37768, 35268, 25000)
     else:
         first, second = comb(words.edges, False), comb(words.edges, True)
     print("PUT A " + first)

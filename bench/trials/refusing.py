@@ -1,6 +1,7 @@
 """A module for growths.py and faults.py: runs in which something is refused, and what may come of them."""
 
 import concurrent.futures
+import itertools
 import os
 import pathlib
 import re
@@ -22,7 +23,7 @@ WORDS = [
     "DEFINE J = I ^ B", "WAIT J", "DROP J", "SYNC", "LOCATE A 9 1",
 ]
 FIRST = [f"PUT A {SQUARE}", "DEFINE I = A", "WAIT I", "EDGES I 16", "SYNC", "GRID A 0 0 5 3 3", "LAYERS"]
-SECOND = [f"PUT B {OTHER}", "SYNC", "DEFINE J = A ^ B", "WAIT J", "VERIFY J 8", "DROP I", "SYNC"]
+SECOND = [f"PUT B {OTHER}", "SYNC", "DEFINE J = A ^ B", "WAIT J", "VERIFY J 16", "DROP I", "SYNC"]
 BEFORE = [f"PUT A {SQUARE}", f"PUT B {OTHER}", "DEFINE I = A & B"]
 AFTER = ["LOCATE I 7 7", "EDGES I 16", f"PUT C {SQUARE}", "SYNC", "DROP I", "VERIFY I 16"]
 
@@ -80,7 +81,7 @@ def compiled(name, folder):
 class Outcome:
     """What a run left."""
 
-    def __init__(self, sessions, status, output, fault, store, counts, is_early):
+    def __init__(self, sessions, status, output, fault, store, counts, is_early, is_live=False):
         self.sessions = sessions
         self.status = status  # None where it did not end by itself
         self.output = output
@@ -88,11 +89,14 @@ class Outcome:
         self.store = store
         self.counts = counts
         self.is_early = is_early  # whether it was refused something before a session read a line
+        self.is_live = is_live  # whether a session's replies are written though the run is refused a thread
         self.is_lost = False
 
 
 class Runner:
     """Runs a scenario, each time in a folder of its own."""
+
+    is_live = False
 
     def __init__(self, program, scenario, library, folder, seconds):
         self.program = program
@@ -146,7 +150,7 @@ class Runner:
             data = store.read_bytes() if store.exists() else None
             texts = self.replies(output, pathlib.Path(place)), fault.decode(errors="replace")
             is_early = settings.get("FIRST", 0) <= self.early
-            return Outcome(len(self.paths), status, *texts, data, counted, is_early)
+            return Outcome(len(self.paths), status, *texts, data, counted, is_early, self.is_live)
 
     def replies(self, output, _folder):
         """The replies that a run wrote: on standard output."""
@@ -168,6 +172,8 @@ class Runner:
 
 class LiveRunner(Runner):
     """The same for overlay_live, whose sessions write their replies each into a file of its own."""
+
+    is_live = True
 
     def words(self, store):
         words = super().words(store)
@@ -216,6 +222,19 @@ def has_store(judged):
     return judged is not None and judged.sessions[0].has_store
 
 
+def word_of(session, place):
+    """The word of a question, none of a command."""
+    return getattr(session.asked[place], "word", "")
+
+
+def check_memory(told):
+    """Looks that 40 is told of no line that takes no memory: a LOCATE, or a SYNC without a store."""
+    for session, place, code in told:
+        word = word_of(session, place)
+        if code == 40 and (word == "LOCATE" or word == "SYNC" and not session.has_store):
+            raise judging.Wrong(f"40 is told of a {word}, which takes no memory")
+
+
 def told_outside(outcome, judged):
     """The refusals that were told: the lines that no SYNC asked, the SYNCs, and the number on standard error.
 
@@ -225,8 +244,8 @@ def told_outside(outcome, judged):
         raise judging.Wrong(f"status {outcome.status}, standard error {outcome.fault[:100]!r}")
     lines, syncs = [], []
     for session, place, code in judged.outside if judged else []:
-        is_sync = getattr(session.asked[place], "word", "") == "SYNC"
-        (syncs if is_sync else lines).append((session, place, code))
+        (syncs if word_of(session, place) == "SYNC" else lines).append((session, place, code))
+    check_memory(lines + syncs)
     fault = int(FAULT_LINE.fullmatch(outcome.fault)[1]) if outcome.fault else None
     if outcome.counts[1] == 0 and (lines or syncs or outcome.status == 1):
         raise judging.Wrong("nothing was refused, and a refusal is told")
@@ -265,12 +284,36 @@ def replies_behind(session, place, word):
     return [reply for reply in session.replies[place + 1 :] if reply[0].startswith(word)]
 
 
-def but_closing(outcome, judged, told, fault):
-    """What was told but for 43: this is right where the server closes, as a thread could not be started (40): one that
-    comes before the sessions, or that of a session, which has no reply then.
+def has_closed(outcome, judged, fault):
+    """Whether the server may have closed while sessions ran: the thread of a later one was refused (40), so the last
+    one has no reply. overlayd prints nothing then; before the sessions there is nobody who could be told.
     """
-    closes = fault == 40 and (outcome.is_early or any(not session.replies for session in cut(judged)))
-    return [one for one in told if not (closes and one[2] == 43)]
+    last = judged.sessions[-1] if judged else None
+    return outcome.is_live and fault == 40 and last is not None and bool(last.asked) and not last.replies
+
+
+def may_tell_closing(session, place):
+    """Whether 43 may be told of a line: of a command, a WAIT, or a SYNC of a store."""
+    word = word_of(session, place)
+    return isinstance(session.asked[place], judging.CHANGES) or word == "WAIT" or word == "SYNC" and session.has_store
+
+
+def check_closed(session, place):
+    """Looks that no command behind a 43 is accepted, or refused by what stands behind 43."""
+    for asked, reply in zip(session.asked[place + 1 :], session.replies[place + 1 :]):
+        if isinstance(asked, judging.CHANGES) and judging.code_of(reply) not in (40, 43):
+            raise judging.Wrong(f"a command behind 43 is answered by {reply[0]}")
+
+
+def but_closing(outcome, judged, told, fault):
+    """What was told but for 43, where that is right."""
+    others = []
+    for session, place, code in told:
+        if code == 43 and has_closed(outcome, judged, fault) and may_tell_closing(session, place):
+            check_closed(session, place)
+        else:
+            others.append((session, place, code))
+    return others
 
 
 def one_growth(outcome, judged):
@@ -483,16 +526,15 @@ def told(passed, failed):
 
 # ---- self-test
 
-TOLD = Scenario("replies", [[f"PUT A {SQUARE}", "LOCATE A 2 2", "SYNC", f"PUT B {OTHER}", "SYNC"]], 1)
-REPLIES = ["ok 1", "in", "durable 1", "ok 2", "durable 2"]
+TOLD = Scenario("replies", [[f"PUT A {SQUARE}", "GRID A 2 2 1 1 1", "SYNC", f"PUT B {OTHER}", "SYNC"]], 1)
+REPLIES = ["ok 1", "grid 1 1\n#", "durable 1", "ok 2", "durable 2"]
 OUT = "error 40 out of memory"
 DEVICE = "error 30 device"
 WRITE = "error 49 write"
 # No reply: where something was refused before a session read a line, or behind.
 EARLY, LATE = "early", "late"
 CUT = {3: None, 4: None}
-# Each line behind the first where the server began to close.
-CLOSING = {place: "error 43 closing" for place in (1, 2, 3, 4)}
+CLOSING = "error 43 closing"
 # What may be told by a run of these lines, by what was refused: the replies that differ or lack, by their places,
 # whether something was refused, what is on standard error (None: nothing, with status 1), and whether that is right.
 CASES = {
@@ -502,7 +544,7 @@ CASES = {
         ({1: OUT}, 1, "", True),
         ({1: OUT}, 0, "", False),
         ({1: DEVICE}, 1, "", False),
-        ({1: "out"}, 1, "", False),
+        ({1: "grid 1 1\n."}, 1, "", False),
         ({2: OUT}, 1, "", True),
         ({2: DEVICE}, 1, "", False),
         ({2: OUT, 4: OUT}, 1, "", False),
@@ -524,15 +566,14 @@ CASES = {
         ({}, 0, None, False),
         ({1: OUT}, 1, None, False),
         ({1: OUT}, 1, OUT, False),
-        (CLOSING | {EARLY: True}, 1, OUT, True),
-        (CLOSING | {EARLY: True, 1: OUT}, 1, OUT, False),
-        (CLOSING | {EARLY: True}, 1, WRITE, False),
-        (CLOSING, 1, OUT, False),
+        ({3: CLOSING, 4: CLOSING}, 1, OUT, False),
+        ({3: CLOSING, 4: CLOSING, EARLY: True}, 1, OUT, False),
     ],
     many_growths: [
         ({1: OUT, 2: OUT, 4: OUT}, 2, "", True),
         ({1: OUT, 2: OUT, 4: OUT}, 0, "", False),
         ({2: DEVICE}, 2, "", False),
+        ({3: CLOSING, 4: CLOSING, EARLY: True}, 2, OUT, False),
     ],
     device: [
         ({}, 0, "", True),
@@ -578,6 +619,36 @@ PAIRS = [
     (device, (2, 1), DEVICE, False),
     (device, (2, 0), DEVICE, False),
     (device, None, DEVICE, False),
+]
+
+
+# Two scripts of overlay_live, the second of which has no thread in most: which replies of the first differ, how many
+# the second has, what is on standard error, and whether that is right.
+CLOSED = [[f"PUT A {SQUARE}", "DEFINE I = A", "LOCATE A 2 2", "WAIT I", f"PUT B {OTHER}", "SYNC", "DROP A"], ["HELLO"]]
+STORED, UNSTORED = Scenario("closed", CLOSED, 1), Scenario("closed, in memory", CLOSED, 1, None)
+CLOSED_REPLIES = ["ok 1", "ok 2", "in", "built 2", "ok 3", "durable 3", "error 14 in use"]
+NO_STORE = {5: "error 46 no store"}
+CLOSES = {place: CLOSING for place in (3, 4, 5, 6)}
+UNKNOWN = "error 10 unknown layer"
+CLOSES_FIRST = {0: CLOSING, 1: CLOSING, 2: UNKNOWN, 3: UNKNOWN, 4: CLOSING, 5: "durable 0", 6: CLOSING}
+CLOSED_CASES = [
+    (STORED, {}, 1, "", True),
+    (STORED, {2: OUT}, 1, "", False),
+    (STORED, {3: OUT}, 1, "", True),
+    (STORED, CLOSES, 0, OUT, True),
+    (STORED, CLOSES_FIRST, 0, OUT, True),
+    (STORED, {4: CLOSING, 5: "durable 2", 6: CLOSING}, 0, OUT, True),
+    (STORED, CLOSES, 1, OUT, False),
+    (STORED, CLOSES, 1, "", False),
+    (STORED, CLOSES, 0, WRITE, False),
+    (STORED, CLOSES | {2: CLOSING}, 0, OUT, False),
+    (STORED, CLOSES | {4: "ok 3"}, 0, OUT, False),
+    (STORED, CLOSES | {6: "error 14 in use"}, 0, OUT, False),
+    (STORED, CLOSES_FIRST | {1: UNKNOWN}, 0, OUT, False),
+    (UNSTORED, NO_STORE, 1, "", True),
+    (UNSTORED, {5: OUT}, 1, "", False),
+    (UNSTORED, CLOSES | NO_STORE, 0, OUT, True),
+    (UNSTORED, CLOSES, 0, OUT, False),
 ]
 
 
@@ -635,6 +706,15 @@ def outcome_of_pair(counts, fault):
     return Outcome(2, 0 if fault == "" else 1, output, fault + "\n" if fault else "", None, (9, 1), False)
 
 
+def outcome_closed(changed, count, fault, is_live):
+    """The outcome of a run of two scripts the second of which may have no thread."""
+    replies = [changed.get(place, reply) for place, reply in enumerate(CLOSED_REPLIES)]
+    lines = ["# script 1", *replies, "# script 2", *[BAD] * count]
+    output = "".join(line + "\n" for line in lines)
+    fault_line = fault + "\n" if fault else ""
+    return Outcome(2, 0 if fault == "" else 1, output, fault_line, None, (9, 1), False, is_live)
+
+
 def is_right(allows, scenario, outcome):
     """Whether a run is taken as right."""
     try:
@@ -663,6 +743,11 @@ def test(*kinds):
         if allows in kinds:
             found = is_right(allows, PAIR, outcome_of_pair(counts, fault))
             checks.append((found, wanted, allows.__name__, counts, fault))
+    for scenario, changed, count, fault, wanted in CLOSED_CASES:
+        for allows, is_live in itertools.product({one_growth, many_growths}.intersection(kinds), (True, False)):
+            found = is_right(allows, scenario, outcome_closed(changed, count, fault, is_live))
+            is_wanted = wanted and (is_live or CLOSING not in changed.values())
+            checks.append((found, is_wanted, allows.__name__, changed, count, fault, is_live))
     for scenario, allows, changed, fault, name, wanted in STORES:
         if allows in kinds:
             found = is_store_right(scenario, allows, changed, fault, name)
