@@ -1,6 +1,6 @@
 -- How what was told durable stays told.
-use Rattle.std.proofs.Common.{◌≡◌, ◌⊎◌, ⊎_elim, ℕ, ◌≤◌, List, [], ◌∷◌, ◌++◌, length, drop, map, All, refl, sym, ap, ◌∙◌, subst, arith}
-use Rattle.std.specs.List.{AllByRecursion, cons_option, slice_index_or}
+use Rattle.std.proofs.Common.{◌≡◌, ◌⊎◌, inl, inr, ⊎_elim, ℕ, suc, ◌≤◌, List, [], ◌∷◌, ◌++◌, length, drop, map, All, refl, sym, ap, ◌∙◌, subst, arith}
+use Rattle.std.specs.List.{AllByRecursion, Contains, cons_option, slice_index_or}
 use Rattle.std.proofs.lemmas.List.{append-nil, map-append, length-map, get_or-map}
 use Rattle.std.proofs.lemmas.List.Elements.{All-append, All-from_recursion, All-map, All-weaker, filter_map-append}
 use Rattle.std.proofs.Math.Seq.{drop-append_seam}
@@ -11,6 +11,7 @@ use Rattle.flush_core.specs.declared.flusher.Flusher.{Flusher}
 use Rattle.book_history.specs.Logs.{history_of}
 use Rattle.book_history.proofs.Fronts.{prefix_self, prefix_trans}
 use Rattle.store_flushing.specs.Among.{IsFileIn}
+use Rattle.store_flushing.specs.Laws.{DurableIsReported}
 use Rattle.store_flushing.specs.Storing.{IsStoreOf, KeepsTold}
 use Rattle.store_flushing.specs.Told.{number_of, reported_in, news_in, told_then, told_at, told_in, StaysTold, TellsOn, KeepsTelling}
 use Rattle.store_flushing.specs.declared.keeper.Keeper.{Keeper}
@@ -87,6 +88,21 @@ pub all_low : (h : History) (top : ℕ) → IsHistory h → (newest h).durable �
 all_low h top history low =
     All-weaker (λ n. n ≤ (newest h).durable) (λ n. n ≤ top) (λ n le. omega (arith, le, low)) (reported_in h.entries)
     (All-from_recursion (λ n. n ≤ (newest h).durable) (reported_in h.entries) (low_in h.start h.entries history))
+
+-- the durable number at the end is that of the beginning, or was told
+told_by : (old new : Version) (event : Event) (rest : List ℕ) (last : ℕ) → Follows old event new → (last ≡ new.durable) ⊎ Contains rest last
+    → (last ≡ old.durable) ⊎ Contains (cons_option (number_of event) rest) last
+told_by old new (accepted session batch) rest last f is = ⊎_elim (λ same. inl (same ∙ f.durable)) inr is
+told_by old new (kept name column tile) rest last f is = ⊎_elim (λ same. inl (same ∙ f.durable)) inr is
+told_by old new (durable_to number) rest last f is =
+    inr (⊎_elim (λ same. (0, omega arith, sym (same ∙ f.durable))) (λ there. (suc there.0, omega (arith, there.1), there.2)) is)
+
+told_last : (v : Version) (es : List Entry) → AllFollow v es → ((last_version v es).durable ≡ v.durable) ⊎ Contains (reported_in es) (last_version v es).durable
+told_last v [] f = inl refl
+told_last v (e ∷ es) f = told_by v e.version e.event (reported_in es) (last_version e.version es).durable f.0 (told_last e.version es f.1)
+
+pub durable_is_reported : DurableIsReported
+durable_is_reported h history = told_last h.start h.entries history
 
 -- ---- what was written down
 

@@ -1,8 +1,8 @@
 -- How a store of a history begins, and what a crash may leave of it.
-use Rattle.std.specs.Prelude.{◌≡◌, ◌≤◌, []}
+use Rattle.std.specs.Prelude.{◌≡◌, ◌⊎◌, ◌≤◌, [], Contains}
 use Rattle.disk_model.specs.declared.disk.Disk.{Ghosts}
 use Rattle.disk_model.specs.Moments.{Leaves, LeavesOnly}
-use Rattle.overlay_terms.specs.Histories.{Version, History, newest}
+use Rattle.overlay_terms.specs.Histories.{Version, History, IsHistory, newest}
 use Rattle.commit_plan.specs.Kept.{Kept}
 use Rattle.root_store.specs.declared.phase.Phase.TheVariants.{Idle}
 use Rattle.root_store.specs.Running.{Stands}
@@ -10,6 +10,7 @@ use Rattle.flush_core.specs.declared.flusher.Flusher.{Flusher}
 use Rattle.flush_core.specs.Stored.{IsImageOf}
 use Rattle.store_flushing.specs.Among.{IsFileIn}
 use Rattle.store_flushing.specs.Storing.{IsStoreOf, KeepsTold}
+use Rattle.store_flushing.specs.Told.{reported_in}
 
 -- a store that stands for a version, of which no more is durable than is stored, is one of the history that begins with
 -- it
@@ -38,3 +39,10 @@ abbrev pub ToldIsLeft : {D : Type 0} → Ghosts D → Type 0
 ToldIsLeft {D = D} g =
     (was now : History) (old new : Flusher D g) → KeepsTold g was old now new
     → LeavesOnly g old.commit.disk new.commit.disk (IsFileIn now (newest now).durable)
+
+-- the number that the newest version of a history tells durable is that of its start, or among those that were reported in
+-- its entries
+abbrev pub DurableIsReported : Type 0
+DurableIsReported =
+    (history : History) → IsHistory history
+    → ((newest history).durable ≡ history.start.durable) ⊎ Contains (reported_in history.entries) (newest history).durable

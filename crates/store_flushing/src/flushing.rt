@@ -5,17 +5,45 @@ ghost use Rattle.root_store.specs.Running.{is_busy};
 ghost use Rattle.root_store.specs.declared.phase.Phase.TheVariants as phases;
 ghost use Rattle.book_history.specs.Logs.{history_of};
 ghost use Rattle.store_flushing.specs.Storing.{IsStoreOf, Flushes};
-ghost use Rattle.store_flushing.specs.Told.{KeepsTelling};
+ghost use Rattle.store_flushing.specs.Told.{KeepsTelling, TellsOn, told_in};
 
 use crate::keeper::Keeper;
+use crate::keeper::told_log::ToldLog;
 use disk_model::disk::Disk;
+use flush_core::flusher::Flusher;
 use root_store::phase::Progress;
 use std::alloc::Global;
 use std::sync::Wait;
+use version_book::reporter::Reporter;
 use version_book::resting::rest;
 use version_book::seen_log::Naming;
 use version_book::shared::Shared;
 use versions::version::Version;
+
+/// Commits each version that the book gives, and reports it once it is stored, until the book closes or the device
+/// fails. Meanwhile reporter, store and list are a keeper's: a number told by a reporter alone nobody can write down.
+pub fn flusher_loop<J: Naming, R: Wait + Drop, D: Disk, W: Wait>(
+    rt: &W,
+    alloc: Global,
+    shared: &Shared<J, R>,
+    reporter: Reporter,
+    flusher: Flusher<D>,
+    told: ToldLog,
+) -> (Reporter, Flusher<D>, ToldLog)
+    requires { reporter.book ≡ J.book }
+    ensures flushes { IsStoreOf D.Disk (history_of reporter.log) flusher
+        → Flushes D.Disk (history_of reporter.log) flusher (history_of result.0.log) result.1 }
+    ensures rests { is_busy result.1.commit.phase ≡ false }
+    ensures same { result.0.book ≡ reporter.book }
+    // What it tells durable is written down as it is told, and from that moment on a crash leaves no older version.
+    ensures told { IsStoreOf D.Disk (history_of reporter.log) flusher
+        → TellsOn D.Disk (history_of reporter.log) (told_in told) flusher.commit.disk
+        (history_of result.0.log) (told_in result.2) result.1.commit.disk }
+{
+    let mut keeper = Keeper::of(reporter, flusher, told);
+    flush(rt, alloc, shared, &mut keeper);
+    keeper.into_parts()
+}
 
 /// Commits each version that the book gives, and reports it once it is stored, until the book closes or the device
 /// fails.
@@ -25,7 +53,7 @@ use versions::version::Version;
 /// fails (30, 35) ends the loop, and the book is told too. At closing the commit under way is ended, and what the book
 /// still gives is committed. Called once more then, when the workers have returned, it commits the tiles that they
 /// finished meanwhile.
-pub(crate) fn flush<J: Naming, R: Wait + Drop, D: Disk, W: Wait>(
+fn flush<J: Naming, R: Wait + Drop, D: Disk, W: Wait>(
     rt: &W,
     alloc: Global,
     shared: &Shared<J, R>,

@@ -8,11 +8,10 @@ ghost use Rattle.root_store.specs.declared.phase.Phase.TheVariants as phases;
 ghost use Rattle.flush_core.specs.Stored.{HasNoRoomFor, stored_after};
 ghost use Rattle.book_history.specs.Fault.{passes};
 ghost use Rattle.book_history.specs.Logs.{history_of, newest_in};
-ghost use Rattle.store_flushing.specs.Storing.{AllReported, Flushes, IsStoreOf, Keeps};
+ghost use Rattle.store_flushing.specs.Storing.{AllReported, IsStoreOf, Keeps};
 ghost use Rattle.store_flushing.specs.Telling.{told_of};
-ghost use Rattle.store_flushing.specs.Told.{KeepsTelling, TellsOn, news_in, told_at, told_in};
+ghost use Rattle.store_flushing.specs.Told.{KeepsTelling, news_in, told_at, told_in};
 
-use crate::flushing::flush;
 use crate::keeper::told_log::ToldLog;
 use crate::telling;
 use commit_plan::fault::StoreFault;
@@ -28,52 +27,48 @@ use version_book::seen_log::Naming;
 use version_book::shared::Shared;
 use versions::version::Version;
 
+pub use crate::flushing::flusher_loop;
+
 pub mod told_log;
 
 /// A store, and the one token that may report what it stores. Both are reached by its calls alone. None of them moves the
 /// disk and reports: so what a session was told durable by the end of a call was stored as the call began, whenever within
-/// it the session was told. What it reports it writes down in the same call, with the disk's moment.
+/// it the session was told. What it reports it writes down in the same call, with the disk's moment, and nothing else can
+/// write there.
 pub struct Keeper<D: Disk> {
     reporter: Reporter,
     flusher: Flusher<D>,
     told: ToldLog,
 }
 
-/// Commits each version that the book gives, and reports it once it is stored, until the book closes or the device
-/// fails.
-pub fn flusher_loop<J: Naming, R: Wait + Drop, D: Disk, W: Wait>(
-    rt: &W,
-    alloc: Global,
-    shared: &Shared<J, R>,
-    reporter: Reporter,
-    flusher: Flusher<D>,
-    told: ToldLog,
-) -> (Reporter, Flusher<D>, ToldLog)
-    requires { reporter.book ≡ J.book }
-    ensures flushes { IsStoreOf D.Disk (history_of reporter.log) flusher
-        → Flushes D.Disk (history_of reporter.log) flusher (history_of result.0.log) result.1 }
-    ensures rests { is_busy result.1.commit.phase ≡ false }
-    ensures same { result.0.book ≡ reporter.book }
-    // What it tells durable is written down as it is told, and from that moment on a crash leaves no older version.
-    ensures told { IsStoreOf D.Disk (history_of reporter.log) flusher
-        → TellsOn D.Disk (history_of reporter.log) (told_in told) flusher.commit.disk
-        (history_of result.0.log) (told_in result.2) result.1.commit.disk }
-{
-    let mut keeper = Keeper {
-        reporter,
-        flusher,
-        told,
-    };
-    flush(rt, alloc, shared, &mut keeper);
-    let Keeper {
-        reporter,
-        flusher,
-        told,
-    } = keeper;
-    (reporter, flusher, told)
-}
-
 impl<D: Disk> Keeper<D> {
+    /// A keeper of a reporter, a store, and what was told durable.
+    pub(crate) fn of(reporter: Reporter, flusher: Flusher<D>, told: ToldLog) -> Keeper<D>
+        ensures reporter { result.reporter ≡ reporter }
+        ensures flusher { result.flusher ≡ flusher }
+        ensures told { result.told ≡ told }
+    {
+        Keeper {
+            reporter,
+            flusher,
+            told,
+        }
+    }
+
+    /// What it was made of, as its calls left it.
+    pub(crate) fn into_parts(self) -> (Reporter, Flusher<D>, ToldLog)
+        ensures reporter { result.0 ≡ self.reporter }
+        ensures flusher { result.1 ≡ self.flusher }
+        ensures told { result.2 ≡ self.told }
+    {
+        let Keeper {
+            reporter,
+            flusher,
+            told,
+        } = self;
+        (reporter, flusher, told)
+    }
+
     /// Whether a commit is under way.
     pub fn busy(&self) -> bool
         ensures { result ≡ is_busy self.now.flusher.commit.phase }

@@ -1,5 +1,5 @@
 //! Laws over the definitions: each function does nothing, and its contract is the law.
-ghost use Rattle.store_flushing.specs.Laws.{StoreBegins, StoreLeaves, StoreIsKnown, ToldIsLeft};
+ghost use Rattle.store_flushing.specs.Laws.{DurableIsReported, StoreBegins, StoreLeaves, StoreIsKnown, ToldIsLeft};
 
 use disk_model::disk::Disk;
 
@@ -23,4 +23,10 @@ pub fn store_is_known<D: Disk>()
 /// by the call's end.
 pub fn told_is_left<D: Disk>()
     ensures { ToldIsLeft D.Disk }
+{}
+
+/// The number that the newest version of a history tells durable is that of its start, or among those that were reported
+/// in its entries: so of a book's own history it is among those that were written down as they were told.
+pub fn durable_is_reported()
+    ensures { DurableIsReported }
 {}

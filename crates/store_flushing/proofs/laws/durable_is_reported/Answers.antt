@@ -1,0 +1,5 @@
+use Rattle.store_flushing.proofs.ToldLemmas as lemmas
+use Rattle.store_flushing.proofs.laws.durable_is_reported.Goals as goal
+
+pub returns : goal.returns
+returns c = lemmas.durable_is_reported
