@@ -1,23 +1,19 @@
 -- A book whose commands are all of its first session: what was accepted are the batches that the session made.
-use Rattle.std.proofs.Common.{◌≡◌, ◌<◌, ◌≤◌, ◌+◌, ◌++◌, ◌∷◌, ◌==◌, [], ℕ, Bool, true, List, Option, All, cond, filter, length, map, length-append, refl, ap, sym, ◌∙◌, subst, arith}
+use Rattle.std.proofs.Common.{◌≡◌, ◌<◌, ◌≤◌, ◌+◌, ◌++◌, ◌∷◌, ◌==◌, [], ℕ, Bool, List, All, cond, filter, length, map, length-append, refl, ap, sym, ◌∙◌, subst, arith}
 use mathlib.Core.List.{IsPrefix}
 use Rattle.std.proofs.lemmas.Bool.{eq-eqb}
 use Rattle.std.proofs.lemmas.List.{append-nil}
 use Rattle.std.proofs.lemmas.List.Elements.{All-head, All-tail}
-use Rattle.logbook.specs.Pages.{Book}
 use Rattle.overlay_terms.specs.Batches.{Batch}
-use Rattle.overlay_terms.specs.Histories.{Version, Entry, History, IsHistory, accepted_in, commands_in, commands_of}
+use Rattle.overlay_terms.specs.Histories.{Entry, History, IsHistory, accepted_in, commands_in, commands_of}
 use Rattle.overlay_terms.proofs.HistoryFolds.{own_are_among_all}
-use Rattle.book_history.specs.Known.{Known, seen}
+use Rattle.book_history.specs.Known.{seen}
 use Rattle.book_history.specs.Logs.{history_of, IsLog}
 use Rattle.book_history.proofs.Chains.{begins_with, commands_in_log, is_history}
-use Rattle.book_lock.specs.Steps.{HasAllOf}
-use Rattle.script_form.specs.Turns.{Turn}
-use Rattle.line_laws.specs.Deciding.{Answered, AreTurnsOf, history_after, made_by}
+use Rattle.line_laws.specs.Deciding.{AreTurnsOf, made_by}
 use Rattle.line_laws.proofs.Entries.{accepted_more, count, history_front}
 use Rattle.line_laws.proofs.Runs.{transcripts_have_turns, turns_grow}
-use Rattle.server_session.specs.Session.{IsSharedRun}
-use Rattle.overlay_server.specs.Alone.{OneSessionIsAlone, WasAlone, first_session}
+use Rattle.overlay_server.specs.Alone.{OneSessionIsAlone, first_session}
 
 -- all that are numbered below 1 have the number 0
 keep_all : (cs : List (ℕ × Batch)) → All (λ (c : ℕ × Batch). c.0 < 1) cs → filter (λ c. c.0 == 0) cs ≡ cs

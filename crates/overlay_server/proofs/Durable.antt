@@ -1,5 +1,5 @@
 -- What stands for a version of a history is covered for its batches.
-use Rattle.std.proofs.Common.{◌≡◌, ℕ, ◌+◌, ◌-◌, ◌≤◌, List, [], ◌∷◌, ◌++◌, length, map, take, refl, sym, ap, subst, ◌∙◌, length-append, arith}
+use Rattle.std.proofs.Common.{◌≡◌, ℕ, ◌+◌, ◌-◌, List, [], ◌∷◌, ◌++◌, length, take, refl, sym, ap, subst, ◌∙◌, length-append, arith}
 use Rattle.overlay_terms.specs.Batches.{Batch}
 use Rattle.overlay_terms.specs.Histories.{Version, Event, accepted, kept, durable_to, Entry, History, AllFollow, IsHistory, BeginsWith, newest, accepted_in}
 use Rattle.overlay_terms.specs.KeptLaws.{IsExact}
@@ -7,7 +7,6 @@ use Rattle.overlay_terms.proofs.HistoryFolds.{newest_has_commands}
 use Rattle.overlay_terms.proofs.KeptHistories.{history_is_exact}
 use Rattle.overlay_engine.specs.Start.{layers_from, up_to}
 use Rattle.overlay_engine.proofs.Recovering.{image_exact}
-use Rattle.store_flushing.specs.Among.{IsVersionIn, IsFileIn}
 use Rattle.overlay_server.specs.Durability.{FilesAreCovered, VersionsAreExact, start_of_batches}
 
 -- versions that follow one another, and the first of them

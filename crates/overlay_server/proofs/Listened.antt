@@ -1,5 +1,5 @@
 -- From what a server of ports leaves, where the replies are kept as lists of bytes, to what `serve` owes.
-use Rattle.std.proofs.Common.{◌≡◌, ◌++◌, ◌∷◌, ◌<◌, [], ℕ, suc, All, Bool, List, Option, Some, is_some, length, map, refl, ap, sym, ◌∙◌, subst, arith}
+use Rattle.std.proofs.Common.{◌≡◌, ◌∷◌, ◌<◌, [], ℕ, suc, All, Bool, List, Option, Some, is_some, length, map, refl, ap, sym, ◌∙◌, subst}
 use Rattle.std.specs.Arc.{arc_value}
 use Rattle.std.specs.List.{AllByRecursion}
 use Rattle.std.proofs.lemmas.List.{length-map}

@@ -1,9 +1,9 @@
 -- The sessions of a server, their ports, and what they left, side by side.
-use Rattle.std.proofs.Common.{◌≡◌, ◌++◌, ◌∷◌, [], ℕ, zero, suc, Bool, ◌<◌, ◌+◌, List, Option, Some, None, length, map, refl, ap, sym, ◌∙◌, subst, arith}
+use Rattle.std.proofs.Common.{◌≡◌, ◌∷◌, [], ℕ, zero, suc, Bool, ◌<◌, List, Option, length, map, refl, ap, sym, ◌∙◌, subst, arith}
 use Rattle.std.specs.List.{All, AllZip, AllByRecursion}
 use Rattle.std.proofs.lemmas.List.Elements.{All-append, All-cons, All-nil, All-head, All-tail}
 use Rattle.logbook.specs.Pages.{Book}
-use Rattle.overlay_terms.specs.Histories.{Version, Entry, History, BeginsWith}
+use Rattle.overlay_terms.specs.Histories.{Version, Entry, History}
 use Rattle.book_history.specs.Known.{Known, seen}
 use Rattle.book_history.specs.Logs.{history_of}
 use Rattle.book_history.proofs.Chains.{begins_with}

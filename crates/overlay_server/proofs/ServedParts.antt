@@ -1,14 +1,11 @@
 -- From what the threads of a server gave back, and what `close` tells, to what the server owes.
-use Rattle.std.proofs.Common.{◌≡◌, ◌+◌, ◌<◌, ◌≤◌, ◌⊎◌, inl, inr, ℕ, Bool, is_some, List, [], Option, Some, None, IfSome, IfNone, All, length, map, sym, subst, ◌∙◌}
+use Rattle.std.proofs.Common.{◌≡◌, ◌+◌, ◌<◌, ℕ, Bool, is_some, List, [], Option, All, length, map, sym, subst}
 use Rattle.std.specs.Arc.{arc_value}
 use Rattle.std.specs.List.{AllZip}
-use mathlib.Core.List.{IsPrefix}
 use Rattle.logbook.specs.Pages.{Book}
 use Rattle.disk_model.specs.declared.disk.Disk.{Ghosts}
-use Rattle.overlay_terms.specs.Histories.{Version, Entry}
-use Rattle.flush_core.specs.declared.flusher.Flusher.{Flusher}
+use Rattle.overlay_terms.specs.Histories.{Version}
 use Rattle.book_history.specs.Logs.{newest_in, IsLog}
-use Rattle.book_history.proofs.Chains.{begins_with}
 use Rattle.book_lock.specs.Steps.{HasAllOf}
 use Rattle.store_flushing.specs.Told.{told_in}
 use Rattle.overlay_server.specs.Counting.{made_in}

@@ -1,5 +1,5 @@
 -- The store of a server through its runs, and what is left of it at the end.
-use Rattle.std.proofs.Common.{◌≡◌, ◌⊎◌, inl, inr, ⊎_elim, false, ℕ, ◌≤◌, List, [], ◌∷◌, Option, Some, None, IfSome, IfNone, MatchOption, All, refl, sym, ◌∙◌, ap, subst, arith}
+use Rattle.std.proofs.Common.{◌≡◌, ◌⊎◌, inl, inr, ⊎_elim, false, ℕ, ◌≤◌, List, [], Option, Some, None, IfSome, IfNone, MatchOption, All, refl, sym, ◌∙◌, ap, subst, arith}
 use Rattle.logbook.specs.Pages.{Book}
 use Rattle.disk_model.specs.declared.disk.Disk.{Ghosts}
 use Rattle.disk_model.specs.Moments.{Leaves, LeavesOnly}
@@ -13,16 +13,16 @@ use Rattle.flush_core.specs.declared.flusher.Flusher.{Flusher}
 use Rattle.book_history.specs.Logs.{history_of, newest_in, IsLog}
 use Rattle.version_book.specs.Heard.{Heard}
 use Rattle.store_flushing.specs.Among.{IsFileIn, IsFileExactlyIn}
-use Rattle.store_flushing.specs.Storing.{IsStoreOf, Flushes}
+use Rattle.store_flushing.specs.Storing.{IsStoreOf}
 use Rattle.store_flushing.specs.Told.{StaysTold, TellsOn, told_in}
-use Rattle.store_flushing.proofs.Histories.{file_more, begins_self}
-use Rattle.store_flushing.proofs.Storage.{OnlyNow, begun, store_leaves, then}
+use Rattle.store_flushing.proofs.Histories.{file_more}
+use Rattle.store_flushing.proofs.Storage.{begun, store_leaves, then}
 use Rattle.store_flushing.proofs.ToldLemmas.{none_yet, tells_then}
 use Rattle.store_flushing.specs.declared.closing.Closed.{Closed}
 use Rattle.store_flushing.specs.declared.keeper.told_log.Told.{Told}
 use Rattle.overlay_server.specs.Moments.{HasOnlyNow}
-use Rattle.overlay_server.specs.Keeping.{AreFlushed, IsFlushed, IsStoreKept}
-use Rattle.overlay_server.specs.Serving.{IsLeftOfStore, StoreComesBack, IsLeftBy, IsStoppedBy, first_log}
+use Rattle.overlay_server.specs.Keeping.{AreFlushed, IsStoreKept}
+use Rattle.overlay_server.specs.Serving.{IsLeftOfStore, StoreComesBack, first_log}
 use Rattle.overlay_server.specs.declared.storing.Store.{Store}
 
 -- no commit is under way

@@ -1,5 +1,5 @@
 -- How a session ran in its thread.
-use Rattle.std.specs.Prelude.{◌≡◌, ◌<◌, ℕ, Bool, List, [], length, Option, Some}
+use Rattle.std.specs.Prelude.{◌≡◌, ◌<◌, ℕ, Bool, List, length, Option}
 use Rattle.logbook.specs.Pages.{Book}
 use Rattle.overlay_terms.specs.Histories.{BeginsWith}
 use Rattle.book_history.specs.Known.{seen}

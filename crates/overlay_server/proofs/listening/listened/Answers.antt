@@ -1,4 +1,4 @@
-use Rattle.std.proofs.Common.{rules, ◌≡◌, ◌∷◌, [], ℕ, ◌+◌, length, length-append, refl, ap, sym, arith, ◌∙◌}
+use Rattle.std.proofs.Common.{rules, ◌∷◌, [], ℕ, ◌+◌, length-append, refl, ap, sym, arith, ◌∙◌}
 use Rattle.std.specs.Vec.{vec_len, vec_capacity}
 use Rattle.overlay_server.specs.Listening.{bytes_in, limit_in, no_bytes, reader_in, script_limit}
 use Rattle.overlay_server.proofs.Lists.{one_on, pushed, pushed_one, room_left}

@@ -1,4 +1,4 @@
-use Rattle.std.proofs.Common.{rules, ◌≡◌, ◌++◌, ◌∷◌, [], ℕ, ◌+◌, length, length-append, ap, sym, subst, arith, ◌∙◌}
+use Rattle.std.proofs.Common.{rules, ◌++◌, ◌∷◌, [], ℕ, ◌+◌, length-append, ap, sym, subst, arith, ◌∙◌}
 use Rattle.std.specs.List.{AllZip}
 use Rattle.overlay_server.specs.Running.{IsRunOf}
 use Rattle.overlay_server.proofs.Lists.{beside_push, one_on}

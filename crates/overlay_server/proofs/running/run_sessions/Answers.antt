@@ -1,4 +1,4 @@
-use Rattle.std.proofs.Common.{rules, ◌≡◌, sym, subst, length}
+use Rattle.std.proofs.Common.{rules, ◌≡◌, subst}
 use Rattle.std.specs.List.{AllZip}
 use Rattle.version_book.specs.Store.{has_store}
 use Rattle.overlay_server.specs.Rooms.{IsReserved}

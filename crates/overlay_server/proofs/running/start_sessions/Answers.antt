@@ -1,4 +1,4 @@
-use Rattle.std.proofs.Common.{rules, All, ◌≡◌, ◌++◌, ◌∷◌, [], ℕ, ◌+◌, length, length-append, ap, sym, subst, arith, ◌∙◌}
+use Rattle.std.proofs.Common.{rules, All, ◌≡◌, ◌++◌, ◌∷◌, [], ℕ, ◌+◌, length-append, ap, sym, subst, arith, ◌∙◌}
 use Rattle.std.specs.List.{AllZip}
 use Rattle.std.specs.Vec.Iter.{into_iter_items}
 use Rattle.tile_build.proofs.StoredLemmas.{in_middle}
