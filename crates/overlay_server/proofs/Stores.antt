@@ -85,6 +85,13 @@ module _ {D : Type 0} (g : Ghosts D) where
         → IfSome closed.disk (λ (d : D). Leaves g d (IsFileExactlyIn (history_of closed.seen_log.log) closed.stored)))
     pub told : IfSome store (λ (f : Flusher D g). IfSome closed.disk (λ (d : D). TellsOn g (history_of now.log) written f.commit.disk (history_of closed.seen_log.log) (told_in closed.told) d))
 
+  -- nothing was told as the book began
+  none_yet_by : (start : Version) (was : Heard) (told : List Told) (disk : D) → was.log ≡ first_log start → told ≡ []
+      → StaysTold g (history_of was.log) told disk disk
+  none_yet_by start was told disk first none =
+      subst (λ (ts : List Told). StaysTold g (history_of was.log) ts disk disk) (sym none)
+      (subst (λ (es : List Entry). StaysTold g (history_of es) [] disk disk) (sym first) (none_yet g start disk))
+
   pub left_by : (start : Version) (was now : Heard) (x y : List Told) (old new : Option (Flusher D g)) (closed : Closed D) → was.log ≡ first_log start → x ≡ []
       → AreFlushed g was x old now y new → Closes now y new closed → IsLeftOfStore g start old closed
   left_by start was now x y None None closed first none flushed closes = closes.none
@@ -112,29 +119,30 @@ module _ {D : Type 0} (g : Ghosts D) where
               (closes.exactly run.store idle))))
               (λ failed. ⊎_elim inl (λ rose. inr (inl rose)) (run.by_device.failed failed))
               (at_rest l.commit.phase flushed.rests);
-          told = whole.stays f.commit.disk (omega arith)
-              (subst (λ (ts : List Told). StaysTold g (history_of was.log) ts f.commit.disk f.commit.disk) (sym none)
-              (subst (λ (es : List Entry). StaysTold g (history_of es) [] f.commit.disk f.commit.disk) (sym first) (none_yet g start f.commit.disk)));
+          told = whole.stays f.commit.disk (omega arith) (none_yet_by start was x f.commit.disk first none);
         };
   }
 
   -- ---- where a server could not run
 
-  pub stopped_by : (start : Version) (was now : Heard) (x y : List Told) (old new : Option (Flusher D g)) (back : Option D) → was.log ≡ first_log start → IsLog now.log
+  pub stopped_by : (start : Version) (was now : Heard) (x y : List Told) (old new : Option (Flusher D g)) (back : Option D) → was.log ≡ first_log start → x ≡ [] → IsLog now.log
       → AreFlushed g was x old now y new → MatchOption new (back ≡ None) (λ (f : Flusher D g). back ≡ Some f.commit.disk) → StoreComesBack g start old back
-  stopped_by start was now x y None None back first valid flushed is = is
-  stopped_by start was now x y None (Some l) back first valid flushed is = absurd flushed
-  stopped_by start was now x y (Some f) None back first valid flushed is = absurd flushed
-  stopped_by start was now x y (Some f) (Some l) back first valid flushed is = record {
+  stopped_by start was now x y None None back first none valid flushed is = is
+  stopped_by start was now x y None (Some l) back first none valid flushed is = absurd flushed
+  stopped_by start was now x y (Some f) None back first none valid flushed is = absurd flushed
+  stopped_by start was now x y (Some f) (Some l) back first none valid flushed is = record {
     disk = l.commit.disk;
     there = is;
     stopped = λ store.
-        let run = flushed.flushes (subst (λ (log : List Entry). IsStoreOf g (history_of log) f) (sym first) store) in
+        let was_store = subst (λ (log : List Entry). IsStoreOf g (history_of log) f) (sym first) store in
+        let run = flushed.flushes was_store in
         record {
           log = now.log;
           valid = valid;
           begins = ap (λ (h : History). h.start) run.goes_on.1 ∙ ap (λ (log : List Entry). (history_of log).start) first;
           moments = run.moments;
+          written = y;
+          told = (flushed.tells was_store).stays f.commit.disk (omega arith) (none_yet_by start was x f.commit.disk first none);
         };
   }
 
@@ -150,5 +158,7 @@ module _ {D : Type 0} (g : Ghosts D) where
       valid = (refl, tt);
       begins = refl;
       moments = (begun g (history_of (first_log start)) f (λ c left. now f.commit.disk c store.honest left) store).moments;
+      written = [];
+      told = none_yet g start f.commit.disk;
     };
   }

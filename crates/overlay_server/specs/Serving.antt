@@ -127,12 +127,15 @@ module _ {D : Type 0} (g : Ghosts D) where
   IsLeftOfStore start (Some old) closed = IsLeft start old closed
 
   -- a server that could not run left a store: a crash at any moment left a file that stands for a version of a log that
-  -- begins with the first version
+  -- begins with the first version; and from moments that the refusal does not give, a crash leaves none older than what
+  -- that log tells durable
   pub record IsStoppedBy (start : Version) (old : Flusher D g) (disk : D) : Type 0 where
     pub log : List Entry
     pub valid : IsLog log
     pub begins : (history_of log).start ≡ start
     pub moments : LeavesOnly g old.commit.disk disk (IsFileIn (history_of log) old.commit.root.version)
+    pub written : List Told
+    pub told : StaysTold g (history_of log) written old.commit.disk disk
 
   -- the disk comes back
   pub record ComesBack (start : Version) (old : Flusher D g) (back : Option D) : Type 0 where

@@ -40,8 +40,8 @@ ToldIsLeft {D = D} g =
     (was now : History) (old new : Flusher D g) → KeepsTold g was old now new
     → LeavesOnly g old.commit.disk new.commit.disk (IsFileIn now (newest now).durable)
 
--- the number that the newest version of a history tells durable is that of its start, or among those that were reported in
--- its entries
+-- the number that the newest version of a history tells durable is that of its start, or among those that were reported
+-- in its entries
 abbrev pub DurableIsReported : Type 0
 DurableIsReported =
     (history : History) → IsHistory history

@@ -31,10 +31,10 @@ pub use crate::flushing::flusher_loop;
 
 pub mod told_log;
 
-/// A store, and the one token that may report what it stores. Both are reached by its calls alone. None of them moves the
-/// disk and reports: so what a session was told durable by the end of a call was stored as the call began, whenever within
-/// it the session was told. What it reports it writes down in the same call, with the disk's moment, and nothing else can
-/// write there.
+/// A store, and the one token that may report what it stores. Both are reached by its calls alone. None of them moves
+/// the disk and reports: so what a session was told durable by the end of a call was stored as the call began, whenever
+/// within it the session was told. What it reports it writes down in the same call, with the disk's moment, and nothing
+/// else can write there.
 pub struct Keeper<D: Disk> {
     reporter: Reporter,
     flusher: Flusher<D>,

@@ -25,8 +25,8 @@ pub fn told_is_left<D: Disk>()
     ensures { ToldIsLeft D.Disk }
 {}
 
-/// The number that the newest version of a history tells durable is that of its start, or among those that were reported
-/// in its entries: so of a book's own history it is among those that were written down as they were told.
+/// The number that the newest version of a history tells durable is that of its start, or among those that were
+/// reported in its entries: all of these were written down as they were told, where they stay told.
 pub fn durable_is_reported()
     ensures { DurableIsReported }
 {}

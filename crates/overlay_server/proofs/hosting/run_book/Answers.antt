@@ -50,7 +50,7 @@ returns-in_default-ended-clause-refused g c =
     refused_from g.D.Disk c.args.start.version.value c.args.store.flusher c.refused-in_default-ended.result c.args.answer
     c.refused-in_default-ended.ensures.code c.refused-in_default-ended.ensures.answer (subst MayAnswer (sym c.requires.answer) tt)
     (stopped_by g.D.Disk c.args.start.version.value c.args.store.reporter last.reporter (told_in c.args.store.told) (told_in last.told) c.args.store.flusher last.flusher c.refused-in_default-ended.result.disk
-    c.requires.reporter.1 kept.valid kept.flushed c.refused-in_default-ended.ensures.disk)
+    c.requires.reporter.1 c.requires.told kept.valid kept.flushed c.refused-in_default-ended.ensures.disk)
 
 pub parted-sessions-requires : goal.parted-sessions-requires
 parted-sessions-requires g c =
