@@ -12,6 +12,7 @@ ghost use Rattle.store_flushing.specs.Storing.{AllReported, IsStoreOf, Keeps};
 ghost use Rattle.store_flushing.specs.Telling.{told_of};
 ghost use Rattle.store_flushing.specs.Told.{KeepsTelling, news_in, told_at, told_in};
 
+pub use crate::flushing::flusher_loop;
 use crate::keeper::told_log::ToldLog;
 use crate::telling;
 use commit_plan::fault::StoreFault;
@@ -26,8 +27,6 @@ use version_book::reporter::Reporter;
 use version_book::seen_log::Naming;
 use version_book::shared::Shared;
 use versions::version::Version;
-
-pub use crate::flushing::flusher_loop;
 
 pub mod told_log;
 
