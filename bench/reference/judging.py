@@ -13,6 +13,7 @@ since. Refusals of UNJUDGED are counted apart.
 
 import bisect
 import collections
+import itertools
 import pathlib
 import sys
 
@@ -380,15 +381,31 @@ def turns_of(replies):
     return sum(before != after for before, after in zip(order, order[1:]))
 
 
-def place_cut_off(asked, replies, accepted):
-    """Takes in a command that may have been accepted though its session was cut off before the reply."""
-    for requests, answers in zip(asked, replies):
-        if len(answers) < len(requests) and isinstance(requests[len(answers)], CHANGES):
-            missing = [number for number in range(1, len(accepted) + 1) if number not in accepted]
-            if missing:
-                accepted[missing[0]] = requests[len(answers)]
-            else:
-                yield requests[len(answers)]
+def cut_off(asked, replies):
+    """The commands that may have been accepted though their sessions were cut off before the replies."""
+    return [
+        requests[len(answers)]
+        for requests, answers in zip(asked, replies)
+        if len(answers) < len(requests) and isinstance(requests[len(answers)], CHANGES)
+    ]
+
+
+def history_with(accepted, unanswered):
+    """The history of accepted commands, with those of the unanswered ones that have to fill its gaps, or fit at its end."""
+    missing = [number for number in range(1, max(accepted, default=0)) if number not in accepted]
+    first = None
+    for chosen in itertools.permutations(range(len(unanswered)), min(len(missing), len(unanswered))):
+        filled = accepted | dict(zip(missing, (unanswered[place] for place in chosen)))
+        try:
+            history = history_of(filled, model.Meanings())
+        except Wrong as wrong:
+            first = first or wrong
+            continue
+        for place, command in enumerate(unanswered):
+            if place not in chosen and refusal_of(history.versions[-1], command) is None:
+                history.add(command)
+        return history
+    raise first
 
 
 def judge(scripts, output, before=(), has_store=True, is_cut=False):
@@ -405,11 +422,7 @@ def judge(scripts, output, before=(), has_store=True, is_cut=False):
     if any(number <= len(before) for number in accepted):
         raise Wrong(f"a command has a number that isn't above {len(before)}")
     accepted |= dict(enumerate(before, 1))
-    last = list(place_cut_off(asked, replies, accepted))
-    history = history_of(accepted, model.Meanings())
-    for command in last:
-        if refusal_of(history.versions[-1], command) is None:
-            history.add(command)
+    history = history_with(accepted, cut_off(asked, replies))
     judged = Judged(history)
     judged.turns = turns_of(replies)
     take_down_built(history, asked, replies)
@@ -493,20 +506,36 @@ CHANGED = [
     ("ok 2", "error 11 not a base layer", None),
 ]
 
+# Each: scripts whose sessions were cut off, what they wrote, and how many replies are wrong (None: the output as a whole).
+CUT_OFF = [
+    ([b"DROP A\n", b"PUT A " + SQUARE, b"PUT B " + OTHER], "# script 1\n# script 2\n# script 3\nok 2\n", 0),
+    ([b"PUT A " + SQUARE, b"DROP A\n", b"PUT B " + OTHER], "# script 1\n# script 2\n# script 3\nok 3\n", 0),
+    ([b"DROP A\n", b"PUT B " + OTHER], "# script 1\n# script 2\nok 2\n", None),
+]
+
+
+def found_wrong(scripts, output, is_cut=False):
+    """How many replies are wrong, or None where the output is as a whole."""
+    try:
+        return len(judge(scripts, output, is_cut=is_cut).wrong)
+    except Wrong:
+        return None
+
 
 def test():
     """Judges the outputs above, and gives the exit status."""
     wrong = 0
+    for scripts, output, count in CUT_OFF:
+        found = found_wrong(scripts, output, is_cut=True)
+        if found != count:
+            print(f"{scripts!r} cut off: {found} wrong replies, not {count}")
+            wrong += 1
     for old, new, count in CHANGED:
-        output = RIGHT.replace(old, new, 1) if old else RIGHT
-        try:
-            found = len(judge([FIRST, SECOND], output).wrong)
-        except Wrong:
-            found = None
+        found = found_wrong([FIRST, SECOND], RIGHT.replace(old, new, 1) if old else RIGHT)
         if found != count:
             print(f"{old!r} as {new!r}: {found} wrong replies, not {count}")
             wrong += 1
-    print(f"{len(CHANGED) - wrong} passed, {wrong} failed")
+    print(f"{len(CHANGED) + len(CUT_OFF) - wrong} passed, {wrong} failed")
     return 1 if wrong else 0
 
 
