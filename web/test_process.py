@@ -31,9 +31,11 @@ WEB = pathlib.Path(overlay_web.__file__).resolve().parent
 
 
 def started(*words: str | pathlib.Path) -> subprocess.Popen[str]:
-    """A front with a free port. Waitress is hidden from it, as the tests need no package."""
+    """A front with a free port. Waitress is hidden from it, as the tests need no package; an interrupt reaches it as from
+    a terminal, also where the tests run behind a shell that ignores interrupts."""
     code = (
-        "import sys; sys.modules['waitress'] = None; sys.argv[0] = 'overlay_web.py'; "
+        "import signal, sys; signal.signal(signal.SIGINT, signal.default_int_handler); "
+        "sys.modules['waitress'] = None; sys.argv[0] = 'overlay_web.py'; "
         f"sys.path.insert(0, {str(WEB)!r}); import overlay_web; sys.exit(overlay_web.main(sys.argv[1:]))"
     )
     given = [sys.executable, "-c", code, "--program", testing.PROGRAM, "--port", "0", *map(str, words)]
