@@ -337,6 +337,7 @@ class Judged:
 
     def __init__(self, history):
         self.history = history
+        self.histories = []  # all by which the replies are right, where sessions were cut off
         self.replies = collections.Counter()
         self.unjudged = collections.Counter()
         self.outside = []  # the replies that can't be judged: session, place and number of the refusal
@@ -390,22 +391,25 @@ def cut_off(asked, replies):
     ]
 
 
-def history_with(accepted, unanswered):
-    """The history of accepted commands, with those of the unanswered ones that have to fill its gaps, or fit at its end."""
+def histories_with(accepted, unanswered):
+    """The histories of accepted commands, with those of the unanswered ones that fill its gaps, and all others that fit
+    at its end, in any order: nobody was told which came first."""
     missing = [number for number in range(1, max(accepted, default=0)) if number not in accepted]
-    first = None
-    for chosen in itertools.permutations(range(len(unanswered)), min(len(missing), len(unanswered))):
-        filled = accepted | dict(zip(missing, (unanswered[place] for place in chosen)))
+    histories, first = [], None
+    for order in itertools.permutations(unanswered):
+        filled = accepted | dict(zip(missing, order))
         try:
             history = history_of(filled, model.Meanings())
         except Wrong as wrong:
             first = first or wrong
             continue
-        for place, command in enumerate(unanswered):
-            if place not in chosen and refusal_of(history.versions[-1], command) is None:
+        for command in order[len(missing) :]:
+            if refusal_of(history.versions[-1], command) is None:
                 history.add(command)
-        return history
-    raise first
+        histories.append(history)
+    if not histories:
+        raise first
+    return histories
 
 
 def judge(scripts, output, before=(), has_store=True, is_cut=False):
@@ -422,7 +426,16 @@ def judge(scripts, output, before=(), has_store=True, is_cut=False):
     if any(number <= len(before) for number in accepted):
         raise Wrong(f"a command has a number that isn't above {len(before)}")
     accepted |= dict(enumerate(before, 1))
-    history = history_with(accepted, cut_off(asked, replies))
+    histories = histories_with(accepted, cut_off(asked, replies))
+    tried = [judged_by(history, asked, replies, before, has_store) for history in histories]
+    right = [judged for judged in tried if not judged.wrong]
+    judged = (right or tried)[0]
+    judged.histories = [each.history for each in right]
+    return judged
+
+
+def judged_by(history, asked, replies, before, has_store):
+    """What comes of judging all sessions by a history."""
     judged = Judged(history)
     judged.turns = turns_of(replies)
     take_down_built(history, asked, replies)

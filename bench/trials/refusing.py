@@ -392,11 +392,24 @@ def check_lost(outcome, made):
         raise judging.Wrong("no replies, though more than one line was run")
 
 
+def layers_told(lines):
+    """The layers among the lines that tell what a store holds."""
+    return [line[len("layer ") :] for line in lines if line.startswith("layer ")]
+
+
+def history_stored(judged, number, lines):
+    """The history by which the replies are right and whose version of a number has the layers of the store, if one is."""
+    for history in judged.histories:
+        if number <= history.last() and history.versions[number].lines() == layers_told(lines):
+            return history
+    return judged.history
+
+
 def judge_content(runner, outcome, history, number):
     """Looks whether a store has the layers of a version, and right tiles, and is opened by the program."""
     right = history.versions[number].lines()
     lines = read_store.told(outcome.store)
-    if [line[len("layer ") :] for line in lines if line.startswith("layer ")] != right:
+    if layers_told(lines) != right:
         raise judging.Wrong(f"the store has other layers than those of version {number}")
     for (name, column), pieces in stress.tiles_in(outcome.store).items():
         if pieces != history.meanings.tile(history.key_at(name, number), column):
@@ -419,7 +432,7 @@ def judge_store(runner, outcome, judged):
             return
         raise judging.Wrong(f"the store is refused by {lines[0]}")
     number, least = int(lines[0].split()[1]), len(runner.scenario.commands())
-    history = judged.history if judged else history_before(runner.scenario)
+    history = history_stored(judged, number, lines) if judged else history_before(runner.scenario)
     if judged is None and number > least:
         outcome.is_lost = True  # what a session made is in the store, and its replies were not printed
         check_lost(outcome, number - least)
