@@ -5,3 +5,4 @@ pub mod RowLemmas
 pub mod FoundLemmas
 pub mod LookLemmas
 pub mod LateLemmas
+pub mod Placed

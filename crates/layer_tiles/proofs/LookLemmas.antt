@@ -28,10 +28,10 @@ row_of_table layers rows i valid =
     ap (λ rs. slice_get rs i) valid.filled ∙ slice_get-map (λ (layer : Layer). row_by (tile_at (tiles_of layers rows) layer.name)) layers i
 
 -- a read within rows, and behind them
-pub row_read : (rows : List (List (Option Tile))) (i : ℕ) (row : List (Option Tile)) → i < length rows → row ≡ get_or rows i row → Some row ≡ slice_get rows i
+pub row_read : {X : Type 0} (rows : List X) (i : ℕ) (row : X) → i < length rows → row ≡ get_or rows i row → Some row ≡ slice_get rows i
 row_read rows i row h e = sym (slice_get_read rows (length rows) i row refl h e)
 
-pub row_missed : (rows : List (List (Option Tile))) (i : ℕ) → length rows ≤ i → None ≡ slice_get rows i
+pub row_missed : {X : Type 0} (rows : List X) (i : ℕ) → length rows ≤ i → None ≡ slice_get rows i
 row_missed rows i h = sym (slice_get_past rows i h)
 
 pub marks_read : (rows : List (List Bool)) (i : ℕ) (marks : List Bool) → i < length rows → marks ≡ get_or rows i marks → marks ≡ unwrap_or (slice_get rows i) (replicate column_count false)

@@ -6,7 +6,8 @@ use Rattle.std.proofs.lemmas.Bool.Decides.{nat_tests}
 use Rattle.std.proofs.lemmas.List.{map-append}
 use Rattle.overlay_terms.specs.Column.{column_count}
 use Rattle.overlay_terms.specs.Layers.{Name, Layer}
-use Rattle.overlay_terms.specs.Histories.{Tile}
+use Rattle.overlay_terms.specs.Histories as terms
+use Rattle.layer_tiles.specs.TileCode.{Named}
 use Rattle.layer_book.specs.Layer.{IsBook}
 use Rattle.layer_book.proofs.Answering.{take_there}
 use Rattle.layer_tiles.specs.declared.tiles.Slot.{Slot}
@@ -34,22 +35,22 @@ length_set (s ∷ slots) zero slot = refl
 length_set (s ∷ slots) (suc i) slot = ap suc (length_set slots i slot)
 
 -- one slot more of those that are left
-pub left_more : (row : List (Option Tile)) (marks : List Bool) (made after : List Slot) (kept : Slot) (i : ℕ)
+pub left_more : (row : List (Option Named)) (marks : List Bool) (made after : List Slot) (kept : Slot) (i : ℕ)
     → tile_in_slot kept ≡ (if get_or marks i false then None else get_or row i None)
     → map tile_in_slot made ≡ map (λ k. if get_or marks k false then None else get_or row k None) (range_with_len 0 i)
     → after ≡ made ++ kept ∷ [] → map tile_in_slot after ≡ map (λ k. if get_or marks k false then None else get_or row k None) (range_with_len 0 (i + 1))
 left_more row marks made after kept i here so_far pushed =
-    let at : ℕ → Option Tile = λ k. if get_or marks k false then None else get_or row k None in
+    let at : ℕ → Option Named = λ k. if get_or marks k false then None else get_or row k None in
     let start : 0 + i ≡ i = omega arith in
     ap (map tile_in_slot) pushed ∙ map-append tile_in_slot made (kept ∷ []) ∙ (λ x. so_far x ++ here x ∷ [])
     ∙ sym (ap (λ n. map at (range_with_len 0 n)) (add-one i) ∙ ap (map at) (range_more 0 i ∙ ap (λ j. range_with_len 0 i ++ j ∷ []) start) ∙ map-append at (range_with_len 0 i) (i ∷ []))
 
 -- the tiles of a row that no mark takes away
-module _ (marks : List Bool) (row : List (Option Tile)) where
-  abbrev left_at_column : ℕ → Option Tile
+module _ (marks : List Bool) (row : List (Option Named)) where
+  abbrev left_at_column : ℕ → Option Named
   left_at_column k = if get_or marks k false then None else get_or row k None
 
-  unmarked : (is_marked : Bool) (slot : Option Tile) → (is_marked && is_some slot) ≡ false → (if is_marked then None else slot) ≡ slot
+  unmarked : (is_marked : Bool) (slot : Option Named) → (is_marked && is_some slot) ≡ false → (if is_marked then None else slot) ≡ slot
   unmarked true None e = refl
   unmarked true (Some tile) e = absurd (cc)
   unmarked false slot e = refl
@@ -63,7 +64,7 @@ module _ (marks : List Bool) (row : List (Option Tile)) where
         let last : n ≡ k = omega arith in
         subst (λ m. left_at_column m ≡ get_or row m None) last (unmarked (get_or marks n false) (get_or row n None) here)
 
-  emptied : (is_marked : Bool) (slot : Option Tile) → (not is_marked && is_some slot) ≡ false → (if is_marked then None else slot) ≡ None
+  emptied : (is_marked : Bool) (slot : Option Named) → (not is_marked && is_some slot) ≡ false → (if is_marked then None else slot) ≡ None
   emptied true slot e = refl
   emptied false None e = refl
   emptied false (Some tile) e = absurd (cc)
@@ -78,7 +79,7 @@ module _ (marks : List Bool) (row : List (Option Tile)) where
         subst (λ m. left_at_column m ≡ None) last (emptied (get_or marks n false) (get_or row n None) here)
 
   -- a row without a tile, whatever is marked
-  nothing_there : (slots : List (Option Tile)) (k : ℕ) → list_any is_some slots ≡ false → get_or slots k None ≡ None
+  nothing_there : (slots : List (Option Named)) (k : ℕ) → list_any is_some slots ≡ false → get_or slots k None ≡ None
   nothing_there [] k e = refl
   nothing_there (None ∷ slots) zero e = refl
   nothing_there (None ∷ slots) (suc k) e = nothing_there slots k e
@@ -87,9 +88,9 @@ module _ (marks : List Bool) (row : List (Option Tile)) where
   pub bare_stays : list_any is_some row ≡ false → (k : ℕ) → left_at_column k ≡ get_or row k None
   bare_stays none k =
       let nothing = nothing_there row k none in
-      ap (λ (o : Option Tile). if get_or marks k false then None else o) nothing ∙ none_either (get_or marks k false) ∙ sym nothing
+      ap (λ (o : Option Named). if get_or marks k false then None else o) nothing ∙ none_either (get_or marks k false) ∙ sym nothing
     where
-      none_either : (b : Bool) → ◌≡◌ {A = Option Tile} (if b then None else None) None
+      none_either : (b : Bool) → ◌≡◌ {A = Option Named} (if b then None else None) None
       none_either true = refl
       none_either false = refl
 
@@ -103,7 +104,7 @@ module _ (marks : List Bool) (row : List (Option Tile)) where
         let rest = all_none n (a + 1) (λ k less. let next : (a + 1) + k ≡ a + suc k = omega arith in ap left_at_column next ∙ h (suc k) (omega (arith, less))) in
         λ i. first i ∷ rest i
 
-  by_column : (f : ℕ → Option Tile) (slots : List (Option Tile)) (a : ℕ) → ((k : ℕ) → k < length slots → f (a + k) ≡ get_or slots k None) → map f (range_with_len a (length slots)) ≡ slots
+  by_column : (f : ℕ → Option Named) (slots : List (Option Named)) (a : ℕ) → ((k : ℕ) → k < length slots → f (a + k) ≡ get_or slots k None) → map f (range_with_len a (length slots)) ≡ slots
   by_column f [] a h = refl
   by_column f (slot ∷ slots) a h =
       let start : a ≡ a + 0 = omega arith in
@@ -118,7 +119,7 @@ module _ (marks : List Bool) (row : List (Option Tile)) where
       ∙ by_column left_at_column row 0 (λ k less. let start : 0 + k ≡ k = omega arith in ap left_at_column start ∙ each k (omega (arith, size, less))))
 
 -- one row more, and all
-pub rows_more : (found : Name → ℕ → Option Tile) (layers : List Layer) (i : ℕ) (layer : Layer) (old new : List (List (Option Tile))) (row : List (Option Tile))
+pub rows_more : (found : Name → ℕ → Option terms.Tile) (layers : List Layer) (i : ℕ) (layer : Layer) (old new : List (List (Option terms.Tile))) (row : List (Option terms.Tile))
     → slice_get layers i ≡ Some layer → old ≡ rows_by found (take i layers) → row ≡ row_by (found layer.name) → new ≡ old ++ row ∷ []
     → new ≡ rows_by found (take (i + 1) layers)
 rows_more found layers i layer old new row e before is made =
@@ -129,11 +130,11 @@ take_whole : (layers : List Layer) → take (length layers) layers ≡ layers
 take_whole [] = refl
 take_whole (l ∷ layers) = ap (λ ls. l ∷ ls) (take_whole layers)
 
-pub rows_whole : (found : Name → ℕ → Option Tile) (layers : List Layer) (i : ℕ) (rows : List (List (Option Tile))) → i ≡ length layers → rows ≡ rows_by found (take i layers) → rows ≡ rows_by found layers
+pub rows_whole : (found : Name → ℕ → Option terms.Tile) (layers : List Layer) (i : ℕ) (rows : List (List (Option terms.Tile))) → i ≡ length layers → rows ≡ rows_by found (take i layers) → rows ≡ rows_by found layers
 rows_whole found layers i rows e is = is ∙ ap (rows_by found) (ap (λ k. take k layers) e ∙ take_whole layers)
 
 -- nothing is found
-abbrev pub nowhere : Name → ℕ → Option Tile
+abbrev pub nowhere : Name → ℕ → Option terms.Tile
 nowhere name k = None
 
 -- empty rows are those in which nothing is found, and have no tile
@@ -152,7 +153,7 @@ tiles_nowhere (l ∷ ls) = (λ i. row_nowhere l.name column_count 0 i ++ tiles_n
 nowhere_found : (layers : List Layer) → IsFound layers nowhere
 nowhere_found layers = record { fit = λ name k tile e. absurd (cc); formed = λ name k tile e. absurd (cc) }
 
-module _ (layers shared : List Layer) (count : ℕ) (rows : List (List (Option Tile))) (all : count ≡ length layers) (same : shared ≡ layers) (made : rows ≡ replicate count (replicate column_count None)) where
+module _ (layers shared : List Layer) (count : ℕ) (rows : List (List (Option terms.Tile))) (all : count ≡ length layers) (same : shared ≡ layers) (made : rows ≡ replicate count (replicate column_count None)) where
   made_empty : rows ≡ rows_by nowhere layers
   made_empty = made ∙ ap (λ n. replicate n (replicate column_count None)) all ∙ rows_nowhere layers
 

@@ -1,3 +1,4 @@
 pub mod Tiles
 pub mod TileCode
 pub mod Table
+pub mod Filling

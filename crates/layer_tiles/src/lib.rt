@@ -1,6 +1,7 @@
 //! Layers with their finished tiles: a row for each layer.
 #![tactic(auto)]
 
+pub mod filling;
 pub mod table;
 pub mod tiles;
 

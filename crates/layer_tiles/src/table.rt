@@ -7,11 +7,12 @@ ghost use Rattle.overlay_terms.specs.Commands as commands;
 ghost use Rattle.overlay_terms.specs.Layers as terms;
 ghost use Rattle.overlay_terms.specs.Commands.{applied, refusal_of, stands_as_derived};
 ghost use Rattle.overlay_terms.specs.Histories.{is_formed, tile_at};
-ghost use Rattle.tile_build.specs.Tile.{tile_of};
+ghost use Rattle.tile_build.specs.Tile.{named_pieces, tile_of};
 ghost use Rattle.layer_book.specs.Command.{command};
 ghost use Rattle.layer_book.specs.Layer.{content};
 ghost use Rattle.layer_book.specs.Touching.{touched_rows};
-ghost use Rattle.layer_tiles.specs.Table.{left_at, row_by, rows_by, IsLaid};
+ghost use Rattle.layer_tiles.specs.Filling.{IsLonger};
+ghost use Rattle.layer_tiles.specs.Table.{laid, left_at, places_in, placed_rows, row_by, rows_by, tiles_in, IsLaid};
 
 use crate::tiles::TileRow;
 use layer_book::MAX_LAYERS;
@@ -34,23 +35,23 @@ pub struct Table {
 }
 
 impl Model for Table {
-    ghost use Rattle.layer_tiles.specs.Table.{laid_code, laid_in, Laid, IsTable};
+    ghost use Rattle.layer_tiles.specs.Table.{placed_rows, tabled_code, Tabled, IsTable};
 
-    ghost Value = { Laid };
+    ghost Value = { Tabled };
 
-    ghost coded = { laid_code };
+    ghost coded = { tabled_code };
 
-    ghost view = { λ t. laid_in t.layers.value t.rows.items };
+    ghost view = { λ t. record { layers = t.layers.value; rows = t.rows.items } };
 
-    ghost invariant = { λ t. IsTable t.layers.value t.rows.items };
+    ghost invariant = { λ t. IsTable t.layers.value (placed_rows t.rows.items) };
 }
 
 impl Table {
     /// Layers of which no tile is finished.
     pub fn of(alloc: Global, layers: Layers) -> Result<Table, AllocError>
         ensures layers { IfOk result (λ table. table.layers ≡ layers) }
-        ensures tiles { IfOk result (λ table. table.tiles ≡ []) }
-        ensures valid { IfOk result IsLaid }
+        ensures tiles { IfOk result (λ table. tiles_in table ≡ []) }
+        ensures valid { IfOk result (λ table. IsLaid (laid table)) }
     {
         let rows = empty_rows(alloc, layers.len())?;
         let shared = Arc::new(alloc, layers)?;
@@ -62,14 +63,15 @@ impl Table {
 
     pub fn layers(&self) -> &Layers
         ensures value { result.now ≡ self.now.layers }
-        ensures valid { IsLaid self.now }
+        ensures valid { IsLaid (laid self.now) }
     {
         &self.layers
     }
 
     /// The row of the layer at an index, counted from 0.
     fn row(&self, place: usize) -> Option<&TileRow>
-        ensures { option_map (λ row. row.now) result ≡ option_map (λ (layer : terms.Layer). row_by (tile_at self.now.tiles layer.name)) (slice_get self.now.layers place) }
+        ensures value { option_map (λ row. row.now) result ≡ slice_get self.now.rows place }
+        ensures places { option_map (λ row. places_in row.now) result ≡ option_map (λ (layer : terms.Layer). row_by (tile_at (tiles_in self.now) layer.name)) (slice_get self.now.layers place) }
     {
         match self.rows.get(place) {
             Some(row) => Some(row),
@@ -80,7 +82,8 @@ impl Table {
     /// The layer at an index, counted from 0, with its name and its row of tiles.
     pub fn at(&self, place: usize) -> Option<(&Name, &Layer, &TileRow)>
         ensures layer { option_map (λ entry. record { name = entry.0.now; content = content entry.1.now }) result ≡ slice_get self.now.layers place }
-        ensures row { IfSome result (λ entry. entry.2.now ≡ row_by (tile_at self.now.tiles entry.0.now)) }
+        ensures row { option_map (λ entry. entry.2.now) result ≡ slice_get self.now.rows place }
+        ensures places { IfSome result (λ entry. places_in entry.2.now ≡ row_by (tile_at (tiles_in self.now) entry.0.now)) }
     {
         match self.row(place) {
             Some(row) => match self.layers().at(place) {
@@ -93,7 +96,7 @@ impl Table {
 
     /// The finished tile of a layer and column.
     pub fn tile(&self, name: &Name, column: u8) -> Option<&Arc<Tile>>
-        ensures { option_map (λ tile. tile_of tile.now.value) result ≡ tile_at self.now.tiles name.now column }
+        ensures { option_map (λ tile. tile_of tile.now.value) result ≡ tile_at (tiles_in self.now) name.now column }
     {
         let place = self.layers().index_of(name);
         match self.row(place) {
@@ -106,8 +109,8 @@ impl Table {
     pub fn after(&self, alloc: Global, change: &Command) -> Result<Table, AllocError>
         requires { refusal_of self.now.layers (command change.now) ≡ None }
         ensures layers { IfOk result (λ next. next.layers ≡ applied self.now.layers (command change.now)) }
-        ensures tiles { IfOk result (λ next. (name : Name) (k : _) → tile_at next.tiles name k ≡ left_at self.now (command change.now) name k) }
-        ensures valid { IfOk result IsLaid }
+        ensures tiles { IfOk result (λ next. (name : Name) (k : _) → tile_at (tiles_in next) name k ≡ left_at (laid self.now) (command change.now) name k) }
+        ensures valid { IfOk result (λ table. IsLaid (laid table)) }
     {
         let layers = self.layers().applied(alloc, change)?;
         let rows = self.rows_left(alloc, change, &layers)?;
@@ -128,7 +131,7 @@ impl Table {
     ) -> Result<Vec<TileRow>, AllocError>
         requires accepted { refusal_of self.now.layers (command change.now) ≡ None }
         requires made { after.now ≡ applied self.now.layers (command change.now) }
-        ensures { IfOk result (λ rows. rows.items ≡ rows_by (left_at self.now (command change.now)) after.now) }
+        ensures { IfOk result (λ rows. placed_rows rows.items ≡ rows_by (left_at (laid self.now) (command change.now)) after.now) }
     {
         let touched = self.layers().touched_rows(alloc, change, after)?;
         let marks = touched.as_slice();
@@ -154,7 +157,7 @@ impl Table {
         bare: &TileRow,
     ) -> Result<TileRow, AllocError>
         requires { bare.now ≡ replicate column_count None }
-        ensures { (change : commands.Command) → touched.now ≡ touched_rows self.now.layers change → IfOk result (λ row. row ≡ row_by (left_at self.now change name.now)) }
+        ensures { (change : commands.Command) → touched.now ≡ touched_rows self.now.layers change → IfOk result (λ row. places_in row ≡ row_by (left_at (laid self.now) change name.now)) }
     {
         let place = self.layers().index_near(near, name);
         let marks = marks_at(touched, place);
@@ -175,14 +178,40 @@ impl Table {
         requires derived_layer { stands_as_derived self.now.layers name.now ≡ true }
         requires formed { IsTrue (is_formed (tile_of tile.value) column) }
         ensures layers { IfOk result (λ next. next.layers ≡ self.now.layers) }
-        ensures tiles { IfOk result (λ next. (other : Name) (k : _) → tile_at next.tiles other k ≡ (if bytes_eq name.now other && (column == k) then Some (tile_of tile.value) else tile_at self.now.tiles other k)) }
-        ensures valid { IfOk result IsLaid }
+        ensures tiles { IfOk result (λ next. (other : Name) (k : _) → tile_at (tiles_in next) other k ≡ (if bytes_eq name.now other && (column == k) then Some (tile_of tile.value) else tile_at (tiles_in self.now) other k)) }
+        ensures valid { IfOk result (λ table. IsLaid (laid table)) }
     {
         let place = self.layers.index_of(name);
         // A column is below their number by its type: the clauses rest on that.
         let _ = column.number();
         let rows = rows_with(alloc, &self.rows, place, column, tile)?;
         let shared = self.layers.clone()?;
+        Ok(Table {
+            layers: shared,
+            rows,
+        })
+    }
+}
+
+impl Table {
+    /// The same tiles over layers of which the last one is new, and has the row that is handed in.
+    pub(crate) fn with_row(
+        &self,
+        alloc: Global,
+        layers: Layers,
+        bare: TileRow,
+    ) -> Result<Table, AllocError>
+        requires more { IsLonger self.now.layers layers }
+        requires bare { bare ≡ replicate column_count None }
+        ensures layers { IfOk result (λ next. next.layers ≡ layers) }
+        ensures tiles { IfOk result (λ next. tiles_in next ≡ tiles_in self.now) }
+        ensures valid { IfOk result (λ next. IsLaid (laid next)) }
+    {
+        // The layers are a book by their type: the clauses rest on that.
+        let _ = layers.len();
+        let mut rows = shared_rows(alloc, &self.rows)?;
+        rows.push(bare)?;
+        let shared = Arc::new(alloc, layers)?;
         Ok(Table {
             layers: shared,
             rows,
@@ -209,7 +238,7 @@ fn rows_with(
     tile: Arc<Tile>,
 ) -> Result<Vec<TileRow>, AllocError>
     requires { place < length rows.now }
-    ensures { IfOk result (λ with. with.items ≡ set rows.now place (set (get_or rows.now place []) column (Some (tile_of tile.value)))) }
+    ensures { IfOk result (λ with. with.items ≡ set rows.now place (set (get_or rows.now place []) column (Some (named_pieces tile.value)))) }
 {
     let mut with = shared_rows(alloc, rows)?;
     let row = rows[place].with(alloc, column, tile)?;

@@ -3,8 +3,8 @@ ghost use Rattle.std.specs.Prelude.{◌≡◌, ◌<◌, ◌&&◌, None, Some, fa
 ghost use Rattle.std.specs.List.{list_all};
 ghost use Rattle.std.specs.Option.{option_map};
 ghost use Rattle.overlay_terms.specs.Column.{column_count};
-ghost use Rattle.overlay_terms.specs.Histories as terms;
-ghost use Rattle.tile_build.specs.Tile.{tile_of};
+ghost use Rattle.tile_build.specs.Tile.{named_pieces};
+ghost use Rattle.layer_tiles.specs.TileCode.{Named};
 ghost use Rattle.layer_tiles.specs.Table.{count_missing, put_all, row_by, row_of, tile_in_slot, IsRow};
 
 use layer_book::touching::COLUMNS;
@@ -47,10 +47,10 @@ pub struct TileRow {
 
 impl Model for TileRow {
     ghost use Rattle.std.specs.Prelude.{List, Option};
-    ghost use Rattle.overlay_terms.specs.Histories as terms;
+    ghost use Rattle.layer_tiles.specs.TileCode.{Named};
     ghost use Rattle.layer_tiles.specs.Table.{row_code, row_of, IsRow};
 
-    ghost Value = { List (Option terms.Tile) };
+    ghost Value = { List (Option Named) };
 
     ghost coded = { row_code };
 
@@ -103,7 +103,7 @@ impl TileRow {
 
     /// The tile of the column that has a number, if one has.
     pub fn tile_at(&self, number: usize) -> Option<&Arc<Tile>>
-        ensures { option_map (λ tile. tile_of tile.now.value) result ≡ get_or self.now number None }
+        ensures { option_map (λ tile. named_pieces tile.now.value) result ≡ get_or self.now number None }
     {
         self.parts.tile_at(number)
     }
@@ -129,7 +129,7 @@ impl TileRow {
         column: Column,
         tile: Arc<Tile>,
     ) -> Result<TileRow, AllocError>
-        ensures { IfOk result (λ row. row ≡ set self.now column (Some (tile_of tile.value))) }
+        ensures { IfOk result (λ row. row ≡ set self.now column (Some (named_pieces tile.value))) }
     {
         let missing = self.missing_with(column);
         let parts = self.parts.with(alloc, column, tile)?;
@@ -138,7 +138,7 @@ impl TileRow {
 
     /// How many tiles are missing where a column has one.
     fn missing_with(&self, column: Column) -> usize
-        ensures { (tile : terms.Tile) → result ≡ count_missing (set self.now column (Some tile)) }
+        ensures { (tile : Named) → result ≡ count_missing (set self.now column (Some tile)) }
     {
         // A column is below their number by its type: the clause rests on that.
         let _ = column.number();
@@ -230,7 +230,7 @@ impl RowParts {
     /// The tile of the column that has a number, if one has.
     fn tile_at(&self, number: usize) -> Option<&Arc<Tile>>
         requires { length (row_of self.now) ≡ column_count }
-        ensures { option_map (λ tile. tile_of tile.now.value) result ≡ get_or (row_of self.now) number None }
+        ensures { option_map (λ tile. named_pieces tile.now.value) result ≡ get_or (row_of self.now) number None }
     {
         match late_at(&self.late, number) {
             Some(tile) => Some(tile),
@@ -241,7 +241,7 @@ impl RowParts {
     /// The parts with a tile more, or in the place of the one that is there.
     fn with(&self, alloc: Global, column: Column, tile: Arc<Tile>) -> Result<RowParts, AllocError>
         requires { length (row_of self.now) ≡ column_count }
-        ensures { IfOk result (λ parts. row_of parts ≡ set (row_of self.now) column (Some (tile_of tile.value))) }
+        ensures { IfOk result (λ parts. row_of parts ≡ set (row_of self.now) column (Some (named_pieces tile.value))) }
     {
         if self.late.len() < LATE_MOST {
             let late = with_late(alloc, &self.late, column, tile)?;
@@ -261,8 +261,8 @@ impl RowParts {
 
 /// The tile that was put into the column with a number last, if one was.
 fn late_at(late: &[LateTile], number: usize) -> Option<&Arc<Tile>>
-    ensures some { IfSome result (λ tile. (row : List (Option terms.Tile)) → length row ≡ column_count → get_or (put_all late.now row) number None ≡ Some (tile_of tile.now.value)) }
-    ensures none { IfNone result ((row : List (Option terms.Tile)) → get_or (put_all late.now row) number None ≡ get_or row number None) }
+    ensures some { IfSome result (λ tile. (row : List (Option Named)) → length row ≡ column_count → get_or (put_all late.now row) number None ≡ Some (named_pieces tile.now.value)) }
+    ensures none { IfNone result ((row : List (Option Named)) → get_or (put_all late.now row) number None ≡ get_or row number None) }
 {
     for one in late {
         if usize::from(one.column.number()) == number {
@@ -274,7 +274,7 @@ fn late_at(late: &[LateTile], number: usize) -> Option<&Arc<Tile>>
 
 /// The tile in the slot of the column with a number, if there is one.
 fn slot_at(slots: &[Slot], number: usize) -> Option<&Arc<Tile>>
-    ensures { option_map (λ tile. tile_of tile.now.value) result ≡ get_or (map tile_in_slot slots.now) number None }
+    ensures { option_map (λ tile. named_pieces tile.now.value) result ≡ get_or (map tile_in_slot slots.now) number None }
 {
     match slots.get(number) {
         Some(slot) => match &slot.tile {
@@ -292,7 +292,7 @@ fn with_late(
     column: Column,
     tile: Arc<Tile>,
 ) -> Result<Vec<LateTile>, AllocError>
-    ensures { IfOk result (λ with. (row : List (Option terms.Tile)) → put_all with.items row ≡ set (put_all late.now row) column (Some (tile_of tile.value))) }
+    ensures { IfOk result (λ with. (row : List (Option Named)) → put_all with.items row ≡ set (put_all late.now row) column (Some (named_pieces tile.value))) }
 {
     let mut with = Vec::with_capacity(alloc, late.len() + 1)?;
     with.push(LateTile { column, tile })?;
@@ -332,7 +332,7 @@ fn left_in(
 
 /// The slot of a tile, or an empty one where it is gone.
 fn slot_of(tile: Option<&Arc<Tile>>, is_gone: bool) -> Result<Slot, AllocError>
-    ensures { IfOk result (λ slot. tile_in_slot slot ≡ (if is_gone then None else option_map (λ held. tile_of held.now.value) tile.entry)) }
+    ensures { IfOk result (λ slot. tile_in_slot slot ≡ (if is_gone then None else option_map (λ kept. named_pieces kept.now.value) tile.entry)) }
 {
     match tile {
         Some(tile) if !is_gone => Ok(Slot {

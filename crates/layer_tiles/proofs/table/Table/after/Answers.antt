@@ -1,6 +1,7 @@
 use Rattle.std.proofs.Common.{ap, ◌∙◌}
 use Rattle.overlay_terms.specs.Commands.{refusal_of, applied}
 use Rattle.layer_book.specs.Command.{command}
+use Rattle.layer_tiles.specs.Table.{laid, placed_rows}
 use Rattle.layer_tiles.proofs.LookLemmas.{after_is_table, after_finds}
 use Rattle.layer_tiles.proofs.table.Table.after.Goals as goal
 
@@ -12,15 +13,15 @@ rows_left-requires-clause-made c = c.in_ok-layers.ensures ∙ ap (λ ls. applied
 
 pub invariant_of-result : goal.invariant_of-result
 invariant_of-result c =
-    after_is_table c.args.self.now (command c.args.change.now) c.layers.ensures.valid c.in_ok-layers.layers c.in_ok-shared.shared.value c.in_ok-rows.rows.items
+    after_is_table (laid c.args.self.now) (command c.args.change.now) c.layers.ensures.valid c.in_ok-layers.layers c.in_ok-shared.shared.value (placed_rows c.in_ok-rows.rows.items)
     (c.in_ok-layers.ensures ∙ ap (λ ls. applied ls (command c.args.change.now)) c.layers.ensures.value) c.in_ok-shared.ensures.ok c.in_ok-rows.ensures c.len.ensures.valid
 
 pub returns-clause-tiles : goal.returns-clause-tiles
 returns-clause-tiles c =
-    after_finds c.args.self.now (command c.args.change.now) c.layers.ensures.valid c.in_ok-layers.layers c.in_ok-shared.shared.value c.in_ok-rows.rows.items
+    after_finds (laid c.args.self.now) (command c.args.change.now) c.layers.ensures.valid c.in_ok-layers.layers c.in_ok-shared.shared.value (placed_rows c.in_ok-rows.rows.items)
     (c.in_ok-layers.ensures ∙ ap (λ ls. applied ls (command c.args.change.now)) c.layers.ensures.value) c.in_ok-shared.ensures.ok c.in_ok-rows.ensures
 
 pub returns-clause-valid : goal.returns-clause-valid
 returns-clause-valid c =
-    (after_is_table c.args.self.now (command c.args.change.now) c.layers.ensures.valid c.in_ok-layers.layers c.in_ok-shared.shared.value c.in_ok-rows.rows.items
+    (after_is_table (laid c.args.self.now) (command c.args.change.now) c.layers.ensures.valid c.in_ok-layers.layers c.in_ok-shared.shared.value (placed_rows c.in_ok-rows.rows.items)
     (c.in_ok-layers.ensures ∙ ap (λ ls. applied ls (command c.args.change.now)) c.layers.ensures.value) c.in_ok-shared.ensures.ok c.in_ok-rows.ensures c.len.ensures.valid).laid

@@ -1,0 +1,107 @@
+//! Tables of tiles in the order of a file, and their tiles in that order.
+ghost use Rattle.std.specs.Prelude.{◌≡◌, ◌<◌, ◌++◌, ◌∷◌, [], length, map, slice_get, true, All, IfOk, IsTrue, OnOk};
+ghost use Rattle.overlay_terms.specs.Column.{column_count};
+ghost use Rattle.overlay_terms.specs.Commands.{stands_as_derived};
+ghost use Rattle.overlay_terms.specs.Histories.{is_formed};
+ghost use Rattle.overlay_terms.specs.StoredTiles.{AreStored};
+ghost use Rattle.tile_build.specs.Tile.{finished_of, tile_of};
+ghost use Rattle.layer_tiles.specs.Table.{laid, places_in, row_tiles, tiles_in, IsLaid};
+ghost use Rattle.layer_tiles.specs.Filling.{named, AreBefore, IsLonger};
+
+use crate::table::Table;
+use crate::tiles::TileRow;
+use layer_book::layers::Layers;
+use layer_book::touching::COLUMNS;
+use layer_expr::name::Name;
+use plane_base::Column;
+use std::alloc::{AllocError, Global};
+use std::sync::Arc;
+use tile_build::Tile;
+
+impl Table {
+    /// The table of layers and of tiles in the order of a file, each under the name of its layer and the number of its
+    /// column.
+    pub fn filled(
+        alloc: Global,
+        layers: Layers,
+        tiles: Vec<(Name, u8, Tile)>,
+    ) -> Result<Table, AllocError>
+        requires { AreStored layers (map finished_of tiles.items) }
+        ensures layers { IfOk result (λ table. table.layers ≡ layers) }
+        ensures tiles { IfOk result (λ table. tiles_in table ≡ map finished_of tiles.items) }
+        ensures valid { IfOk result (λ table. IsLaid (laid table)) }
+    {
+        let mut table = Table::of(alloc, layers)?;
+        for (name, number, tile) in tiles {
+            let Some(column) = Column::new(u64::from(number)) else {
+                unreachable!()
+            };
+            let made = table.with_next(alloc, &name, column, tile)?;
+            table = made;
+        }
+        Ok(table)
+    }
+
+    /// The table with a tile behind all that it has.
+    pub fn with_next(
+        &self,
+        alloc: Global,
+        name: &Name,
+        column: Column,
+        tile: Tile,
+    ) -> Result<Table, AllocError>
+        requires derived_layer { stands_as_derived self.now.layers name.now ≡ true }
+        requires formed { IsTrue (is_formed (tile_of tile) column) }
+        requires behind { AreBefore self.now.layers (tiles_in self.now) name.now column }
+        ensures layers { IfOk result (λ next. next.layers ≡ self.now.layers) }
+        ensures tiles { IfOk result (λ next. tiles_in next ≡ tiles_in self.now ++ named name.now column (tile_of tile) ∷ []) }
+        ensures valid { IfOk result (λ next. IsLaid (laid next)) }
+    {
+        let tile = Arc::new(alloc, tile)?;
+        self.with_tile(alloc, name, column, tile)
+    }
+
+    /// The same tiles over layers of which the last one is new.
+    pub fn with_layer(&self, alloc: Global, layers: Layers) -> Result<Table, AllocError>
+        requires { IsLonger self.now.layers layers }
+        ensures layers { IfOk result (λ next. next.layers ≡ layers) }
+        ensures tiles { IfOk result (λ next. tiles_in next ≡ tiles_in self.now) }
+        ensures valid { IfOk result (λ next. IsLaid (laid next)) }
+    {
+        let bare = TileRow::empty(alloc)?;
+        self.with_row(alloc, layers, bare)
+    }
+
+    /// The finished tiles in order, each under the name of its layer and the number of its column, for one owner: all are
+    /// copied.
+    pub fn all_tiles(&self, alloc: Global) -> Result<Vec<(Name, u8, Tile)>, AllocError>
+        ensures { IfOk result (λ list. map finished_of list.items ≡ tiles_in self.now) }
+    {
+        let mut list = Vec::new(alloc);
+        for place in 0..self.layers().len() {
+            if let Some((name, _, row)) = self.at(place) {
+                add_row(alloc, &mut list, name, row)?;
+            }
+        }
+        Ok(list)
+    }
+}
+
+/// Adds the tiles of a layer, by column.
+fn add_row(
+    alloc: Global,
+    list: &mut Vec<(Name, u8, Tile)>,
+    name: &Name,
+    row: &TileRow,
+) -> Result<(), AllocError>
+    requires { length row.now ≡ column_count }
+    ensures { OnOk result (map finished_of list.new.items ≡ map finished_of list.old.items ++ row_tiles name.now 0 (places_in row.now)) }
+{
+    for number in 0..COLUMNS {
+        if let Some(tile) = row.tile_at(number) {
+            let copy = tile.try_copy(alloc)?;
+            list.push((name.clone()?, number as u8, copy))?;
+        }
+    }
+    Ok(())
+}
