@@ -14,7 +14,7 @@ use Rattle.overlay_terms.proofs.OrderlyLemmas.{orderly_splits}
 use Rattle.store_terms.specs.declared.root.RecordExtent.{RecordExtent}
 use Rattle.store_terms.specs.Places.{blocks, is_apart_from, all_apart, some_extents, extents_of_records, extents_listed}
 use Rattle.root_reading.specs.Taking.{AreRunsOf, IsNear, AllNear}
-use Rattle.commit_plan.specs.Staying.{Standing, is_near, near_ones, AreHeldApart}
+use Rattle.commit_plan.specs.Staying.{LiveContent, is_near, near_ones, AreHeldApart}
 use Rattle.commit_plan.specs.Filing.{Filed, Record, fresh, stays, extent_of, fresh_of, FiledLayer, a_base, a_definition, listed_of, filed_tiles, filed_of, SpellTiles, SpellLayer, SpellLayers}
 use Rattle.commit_plan.specs.Drafting.{extents_of_filed}
 use Rattle.commit_plan.proofs.Placed.{IsNew, Beside, beside_turned, AllBeside, all_beside, last_first, planned_new, planned_apart}
@@ -147,7 +147,7 @@ no_name n known (l ∷ ls) orderly among =
           (is_among-push known l.name n ∙ or_left (is_among known n) (bytes_eq l.name n) among),
     )
 
-module _ (live : Standing) (apart : all_apart (near_ones (extents_listed live.listing)) ≡ true) where
+module _ (live : LiveContent) (apart : all_apart (near_ones (extents_listed live.listing)) ≡ true) where
   -- tiles of a name, from a column on
   abbrev SitFrom : Name → ℕ → RecordExtent → Type 0
   SitFrom n k e = (j : ℕ) × (k ≤ j) × Sits live.listing n (Some j) e
@@ -280,10 +280,10 @@ module _ (live : Standing) (apart : all_apart (near_ones (extents_listed live.li
 
 -- ---- all of them
 
-abbrev IsFree : Standing → Filed → Type 0
+abbrev IsFree : LiveContent → Filed → Type 0
 IsFree live f = is_apart_from f.extent (near_ones (extents_listed live.listing)) ≡ true
 
-all_free : (live : Standing) (given : List runs.Extent) (fs : List Filed) (rs : List runs.Extent)
+all_free : (live : LiveContent) (given : List runs.Extent) (fs : List Filed) (rs : List runs.Extent)
     → AreHeldApart (extents_listed live.listing) given → AllByRecursion (IsNew given) rs
     → AreRunsOf (extents_of_filed fs) rs → AllByRecursion (IsFree live) fs
 all_free live given [] rs held new are = tt
@@ -295,7 +295,7 @@ all_free live given (f ∷ fs) (r ∷ rs) held new are = (
 )
 
 -- the records of a draft, those that stay among them, and the catalog
-pub records_apart : (live : Standing) (given : List runs.Extent) (limit : ℕ) (sizes : List ℕ) (ls : List FiledLayer)
+pub records_apart : (live : LiveContent) (given : List runs.Extent) (limit : ℕ) (sizes : List ℕ) (ls : List FiledLayer)
     (catalog : Filed) (layers : List Layer) (tiles : List Finished) (rs : List runs.Extent)
     → AreHeldApart (extents_listed live.listing) given → SpellLayers live ls layers tiles
     → is_orderly_after [] layers ≡ true → IsPlanned given limit sizes rs
@@ -356,7 +356,7 @@ near_last : (es : List RecordExtent) (c : RecordExtent) → AllNear (es ++ c ∷
 near_last [] c near = near
 near_last (e ∷ es) c near = let rest = near_last es c near.1 in (rest.0, (near.0, rest.1))
 
-pub records_near : (live : Standing) (given : List runs.Extent) (limit : ℕ) (sizes : List ℕ) (ls : List FiledLayer)
+pub records_near : (live : LiveContent) (given : List runs.Extent) (limit : ℕ) (sizes : List ℕ) (ls : List FiledLayer)
     (catalog : Filed) (layers : List Layer) (tiles : List Finished) (rs : List runs.Extent)
     → AreHeldApart (extents_listed live.listing) given → SpellLayers live ls layers tiles → limit < 2 ^ 32
     → IsPlanned given limit sizes rs

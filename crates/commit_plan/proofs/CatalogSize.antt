@@ -20,7 +20,7 @@ use Rattle.record_writing.specs.declared.catalog.Listed as code
 use Rattle.record_writing.specs.declared.catalog.Records.{Records}
 use Rattle.record_writing.specs.declared.catalog.Records.TheVariants.{Base, Derived}
 use Rattle.commit_plan.specs.Filing.{Record, extent_of, FiledLayer, a_base, a_definition, listed_of, SpellTiles, SpellLayer, SpellLayers}
-use Rattle.commit_plan.specs.Staying.{Standing}
+use Rattle.commit_plan.specs.Staying.{LiveContent}
 use Rattle.commit_plan.specs.Sizes.{entry_size, catalog_size}
 
 pub extent_long : (e : RecordExtent) → length (extent.text e) ≡ 12
@@ -56,7 +56,7 @@ tiles_long (Some r ∷ ts) =
     length-append (extent.text (extent_of r)) rest in
     omega (arith, both, extent_long (extent_of r), tiles_long ts)
 
-tiles_count : (live : Standing) (name : Name) (k : ℕ) (os : List (Option Record)) (own : List Finished)
+tiles_count : (live : LiveContent) (name : Name) (k : ℕ) (os : List (Option Record)) (own : List Finished)
     → SpellTiles live name k os own → length (present os) ≡ length own
 tiles_count live name k [] own spelled = ap length (sym spelled)
 tiles_count live name k (None ∷ os) own spelled = tiles_count live name (k + 1) os own spelled
@@ -68,7 +68,7 @@ abbrev pub HasColumns : FiledLayer → Type 0
 HasColumns (a_base name f) = Unit {0}
 HasColumns (a_definition name f ts) = length ts ≡ column_count
 
-layer_long : (live : Standing) (l : FiledLayer) (layer : Layer) (own : List Finished) → SpellLayer live l layer own → HasColumns l
+layer_long : (live : LiveContent) (l : FiledLayer) (layer : Layer) (own : List Finished) → SpellLayer live l layer own → HasColumns l
     → length ((listed column_count).text (listed_of l)) ≡ entry_size layer + 12 * length own
 layer_long live (a_base name f) layer own spelled columns =
     let is : entry_size layer ≡ 14 + length name + 0 = ap entry_size spelled.1 in
@@ -96,7 +96,7 @@ layer_long live (a_definition name f ts) layer own spelled columns =
       columns,
     )
 
-layers_long : (live : Standing) (ls : List FiledLayer) (layers : List Layer) (tiles : List Finished) → SpellLayers live ls layers tiles
+layers_long : (live : LiveContent) (ls : List FiledLayer) (layers : List Layer) (tiles : List Finished) → SpellLayers live ls layers tiles
     → AllByRecursion HasColumns ls
     → length (flat_map (listed column_count).text (map listed_of ls)) ≡ sum_by entry_size layers + 12 * length tiles
 layers_long live [] layers tiles spelled columns = sym ((λ i. sum_by entry_size (spelled.0 i) + 12 * length (spelled.1 i)))
@@ -109,7 +109,7 @@ layers_long live (l ∷ ls) layers tiles spelled columns =
     length-append ((listed column_count).text (listed_of l)) (flat_map (listed column_count).text (map listed_of ls))
     ∙ omega (arith, first, rest, sizes, count)
 
-pub catalog_long : (live : Standing) (ls : List FiledLayer) (layers : List Layer) (tiles : List Finished) → SpellLayers live ls layers tiles
+pub catalog_long : (live : LiveContent) (ls : List FiledLayer) (layers : List Layer) (tiles : List Finished) → SpellLayers live ls layers tiles
     → AllByRecursion HasColumns ls
     → length ((catalog column_count).text (map listed_of ls)) ≡ catalog_size layers (length tiles)
 catalog_long live ls layers tiles spelled columns =

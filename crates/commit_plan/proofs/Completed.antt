@@ -24,8 +24,8 @@ use Rattle.commit_plan.specs.declared.draft.Draft.{Draft}
 use Rattle.commit_plan.specs.declared.next.Next.{Next}
 use Rattle.commit_plan.specs.Kept.{Kept, extents_in, other}
 use Rattle.commit_plan.specs.Planning.{IsPlan, Plans}
-use Rattle.commit_plan.specs.Staying.{Standing, standing_of, AreHeldApart}
-use Rattle.commit_plan.specs.Live.{standing}
+use Rattle.commit_plan.specs.Staying.{LiveContent, kept_content, AreHeldApart}
+use Rattle.commit_plan.specs.Live.{live_content}
 use Rattle.commit_plan.specs.Filing.{Filed, FiledLayer, listed_of, filed_of, Files}
 use Rattle.root_reading.specs.Taking.{AllNear, IsMapOf, if_apart}
 use Rattle.commit_plan.specs.Drafting.{IsDraft, IsLaidOut, Spell, IsNext}
@@ -46,7 +46,7 @@ pub record IsCompleted (x : Kept) (held : Held) (listing : List Listed) (catalog
   pub small : next.root.catalog.size < 2 ^ 32
   pub there : b.at ≡ body_at (other x.root)
   pub spelled : b.bytes.items ≡ body_text next.root
-  pub stands : standing next.live ≡ record { listing = listing; layers = held.layers; tiles = held.tiles }
+  pub stands : live_content next.live ≡ record { listing = listing; layers = held.layers; tiles = held.tiles }
   pub taken : AllNear (catalog.extent ∷ extents_listed listing)
       → IsMapOf (catalog.extent ∷ extents_listed listing) (taken_of next.live.room.map)
   pub plan : next.plan.items ≡ d.writes.items ++ b ∷ []
@@ -55,7 +55,7 @@ module _ (x : Kept) (given : List runs.Extent) (limit : ℕ) (layers : List File
     (listing : List Listed) (catalog : Filed) (b : Write) (d : Draft) (next : Next)
     (room : IsMapOf (extents_in x) given) (apart : AreHeldApart (extents_listed x.listing) given) (low : limit < 2 ^ 32)
     (draft : IsDraft given limit (flat_map filed_of layers ++ catalog ∷ []) d)
-    (spell : Spell (standing_of x) layers listing held) (c : IsCompleted x held listing catalog b d next) where
+    (spell : Spell (kept_content x) layers listing held) (c : IsCompleted x held listing catalog b d next) where
   abbrev y : Kept
   y = record { root = next.root; listing = listing; held = held }
 
@@ -68,7 +68,7 @@ module _ (x : Kept) (given : List runs.Extent) (limit : ℕ) (layers : List File
     number = c.version;
     lists = sym spell.listed;
     apart = subst (λ (e : RecordExtent). all_apart (e ∷ extents_listed (map listed_of layers)) ≡ true) (sym c.catalog_is)
-        (records_apart (standing_of x) given limit _ layers catalog held.layers held.tiles d.runs.items apart
+        (records_apart (kept_content x) given limit _ layers catalog held.layers held.tiles d.runs.items apart
         spell.spelled spell.stored.orderly draft.placed.planned draft.runs);
   }
 
@@ -90,7 +90,7 @@ module _ (x : Kept) (given : List runs.Extent) (limit : ℕ) (layers : List File
 
   near : AllNear (catalog.extent ∷ extents_listed listing)
   near = subst (λ (ls : List Listed). AllNear (catalog.extent ∷ extents_listed ls)) spell.listed
-      (records_near (standing_of x) given limit _ layers catalog held.layers held.tiles d.runs.items apart spell.spelled
+      (records_near (kept_content x) given limit _ layers catalog held.layers held.tiles d.runs.items apart spell.spelled
       low draft.placed.planned draft.runs)
 
   pub completes : IsNext x held next
@@ -105,7 +105,7 @@ module _ (x : Kept) (given : List runs.Extent) (limit : ℕ) (layers : List File
   }
 
 -- the writes of a draft with its catalog, and the body behind them
-pub laid_out : (live : Standing) (given : List runs.Extent) (limit : ℕ) (layers : List FiledLayer) (held : Held) (sizes : List ℕ) (listing : List Listed) (catalog : Filed) (b : Write) (body : ℕ) (d : Draft) (root : Root)
+pub laid_out : (live : LiveContent) (given : List runs.Extent) (limit : ℕ) (layers : List FiledLayer) (held : Held) (sizes : List ℕ) (listing : List Listed) (catalog : Filed) (b : Write) (body : ℕ) (d : Draft) (root : Root)
     (plan : List Write) → IsPlanned given limit sizes d.runs.items → IsDraft given limit (flat_map filed_of layers ++ catalog ∷ []) d → Spell live layers listing held → root.is_old ≡ false → catalog_of_record false catalog.bytes ≡ Some listing
     → root.catalog ≡ catalog.extent → b.at ≡ body → b.bytes.items ≡ body_text root → plan ≡ d.writes.items ++ b ∷ [] → IsLaidOut live given limit held sizes body root plan
 laid_out live given limit layers held sizes listing catalog b body d root plan sized draft spell present read named there spelled order = record {

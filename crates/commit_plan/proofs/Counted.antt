@@ -5,11 +5,11 @@ use Rattle.std.proofs.lemmas.List.{length-append}
 use Rattle.std.proofs.lemmas.List.Sums.{sum_by-cons, sum_by-append}
 use Rattle.overlay_terms.specs.Layers.{Name, Layer}
 use Rattle.overlay_terms.specs.Histories.{Finished}
-use Rattle.commit_plan.specs.Staying.{Standing, layer_stays, tile_stays}
+use Rattle.commit_plan.specs.Staying.{LiveContent, layer_stays, tile_stays}
 use Rattle.commit_plan.specs.Filing.{Record, fresh, stays, fresh_of, FiledLayer, a_base, a_definition, filed_tiles, filed_of, SaysLayer, SaysTile, SpellTiles, SpellLayer, SpellLayers}
 use Rattle.commit_plan.specs.Sizes.{new_count}
 
-module _ (live : Standing) where
+module _ (live : LiveContent) where
   abbrev layer_count : Layer → ℕ
   layer_count layer = new_count (layer_stays live layer)
 

@@ -20,7 +20,7 @@ use Rattle.store_terms.proofs.SpelledLemmas.{spelled_is_held, listing_spelled}
 use Rattle.store_terms.proofs.RecordLemmas.{held_is_placed}
 use Rattle.commit_plan.specs.declared.write.Write.{Write}
 use Rattle.commit_plan.specs.Planning.{IsWritten}
-use Rattle.commit_plan.specs.Staying.{Standing, standing_of, layer_named}
+use Rattle.commit_plan.specs.Staying.{LiveContent, kept_content, layer_named}
 use Rattle.commit_plan.proofs.Stays.{OwnSpells, StayReads, stay_reads}
 use Rattle.commit_plan.specs.Filing.{Filed, Record, fresh, stays, extent_of, fresh_of, FiledLayer, a_base, a_definition, listed_of, filed_tiles, filed_of, SpellsContent, SaysLayer, SaysTile, SpellTiles, SpellLayer, SpellLayers, IsWriteOf, AreWritesOf, FilingMakes}
 
@@ -74,7 +74,7 @@ filed_spells : {A : Type 0} (file : List ℕ) (f : Filed) (read : List ℕ → O
     → read f.bytes ≡ Some value → Spells file f.extent read value
 filed_spells file f read value filed is = record { placed = filed.placed; is = ap read filed.bytes ∙ is }
 
-module _ (live : Standing) (file : List ℕ) (reads : StayReads live file) where
+module _ (live : LiveContent) (file : List ℕ) (reads : StayReads live file) where
   own_filed : (f : Filed) (content : Content) → IsFiled file f → SpellsContent content f.bytes
       → OwnSpells file f.extent content
   own_filed f (base rings) filed says = filed_spells file f base_of_record rings filed says
@@ -143,7 +143,7 @@ filing_makes x y layers listing ws file shut files writes puts =
     let holds : held_of file y.root ≡ Ok y.held = spelled_is_held file y.root y.held files.stored (record {
       listing = map listed_of layers;
       catalog = catalog_spells;
-      layers = layers_filed (standing_of x) file (stay_reads x file shut) layers y.held.layers y.held.tiles records files.spelled;
+      layers = layers_filed (kept_content x) file (stay_reads x file shut) layers y.held.layers y.held.tiles records files.spelled;
       apart = files.apart;
       number = files.number;
     }) in

@@ -12,7 +12,7 @@ use Rattle.record_writing.specs.Image.{IsImage}
 use Rattle.store_terms.specs.Catalog.{Listed}
 use Rattle.store_terms.specs.Image.{Held}
 use Rattle.commit_plan.specs.declared.draft.Draft.{Draft}
-use Rattle.commit_plan.specs.Staying.{Standing}
+use Rattle.commit_plan.specs.Staying.{LiveContent}
 use Rattle.commit_plan.specs.Filing.{SpellLayers}
 use Rattle.commit_plan.specs.Drafting.{Spell}
 use Rattle.commit_plan.specs.Walking.{AreFrom, AreOrdered, AreLeft, AreLayersFiled}
@@ -50,7 +50,7 @@ pub nothing_behind : (ts : List Finished) → ts ++ [] ≡ ts
 nothing_behind [] = refl
 nothing_behind (t ∷ ts) = ap (λ (l : List Finished). t ∷ l) (nothing_behind ts)
 
-pub spell_of : (live : Standing) (x : Held) (given : List runs.Extent) (limit : ℕ) (ls : List Listed) (d : Draft) → IsImage x
+pub spell_of : (live : LiveContent) (x : Held) (given : List runs.Extent) (limit : ℕ) (ls : List Listed) (d : Draft) → IsImage x
     → IsBook x.layers → (a : AreLayersFiled live given limit x.layers x.tiles [] ls d) → Spell live a.filed ls x
 spell_of live x given limit ls d image book a = record {
   spelled = subst (λ (ts : List Finished). SpellLayers live a.filed x.layers ts)

@@ -11,7 +11,7 @@ use Rattle.record_writing.specs.declared.image.Image.{Image}
 use Rattle.record_writing.specs.Listing.{entries_of, IsListable}
 use Rattle.record_writing.specs.declared.catalog.Listed as code
 use Rattle.commit_plan.specs.declared.room.Room.{Room}
-use Rattle.commit_plan.specs.Staying.{Standing}
+use Rattle.commit_plan.specs.Staying.{LiveContent}
 use Rattle.commit_plan.specs.declared.draft.Draft.{Draft}
 use Rattle.commit_plan.specs.Sizes.{sizes_of_layer, catalog_size, sizes_of}
 use Rattle.commit_plan.specs.Walking.{AreLayersFiled}
@@ -25,7 +25,7 @@ of_room room copy P taken limit is =
     subst (λ (l : List runs.Extent). P l room.max_blocks) taken (subst (P (taken_of copy.map)) limit is)
 
 -- the catalog that lists the records of an image has its size
-pub catalog_sized : (live : Standing) (image : Image) (given : List runs.Extent) (limit : ℕ) (listing : List code.Listed)
+pub catalog_sized : (live : LiveContent) (image : Image) (given : List runs.Extent) (limit : ℕ) (listing : List code.Listed)
     (d : Draft) → AreLayersFiled live given limit image.layers (map finished_of image.tiles.items) [] (entries_of listing) d
     → All IsListable listing
     → flat_map (sizes_of_layer live image.tiles.items) image.layers

@@ -18,7 +18,7 @@ use Rattle.store_terms.specs.TileRecord.{named_tile}
 use Rattle.store_terms.specs.declared.root.RecordExtent.{RecordExtent}
 use Rattle.commit_plan.specs.declared.draft.Draft.{Draft}
 use Rattle.commit_plan.specs.Drafting.{ArePlaced}
-use Rattle.commit_plan.specs.Staying.{Standing, layer_stays, tile_stays}
+use Rattle.commit_plan.specs.Staying.{LiveContent, layer_stays, tile_stays}
 use Rattle.commit_plan.specs.Sizes.{tile_size, own_record, if_new, own_sizes, tile_sizes, sizes_of_layer}
 use Rattle.commit_plan.specs.Walking.{AreFrom, IsHere}
 use Rattle.commit_plan.specs.Placing.{AreTaken, FindNone, IsTaken, FindsNone}
@@ -82,7 +82,7 @@ new_sizes stays n none = ap (λ (s : Option RecordExtent). if_new s n) none
 kept_sizes : (stays : Option RecordExtent) (n : ℕ) (e : RecordExtent) → stays ≡ Some e → if_new stays n ≡ []
 kept_sizes stays n e is = ap (λ (s : Option RecordExtent). if_new s n) is
 
-module _ (live : Standing) where
+module _ (live : LiveContent) where
   module _ (layers : List Layer) (place : ℕ) (layer : Layer) (orderly : is_orderly_after [] layers ≡ true)
       (there : slice_get layers place ≡ Some layer) where
     has_name : (n : Name) → index_of layers n ≡ place → bytes_eq layer.name n ≡ true

@@ -13,7 +13,7 @@ use Rattle.store_terms.specs.Catalog.{Records, Listed}
 use Rattle.store_terms.specs.Spelled.{Spells, TilesAre, LayerIs, LayersAre}
 use Rattle.store_terms.proofs.HeldLemmas.{held_is_spelled}
 use Rattle.commit_plan.specs.Kept.{Kept, Shut}
-use Rattle.commit_plan.specs.Staying.{Standing, standing_of, own_extent, entry_at, tile_extent, records_named, holds_content, holds_tile, layer_stays, tile_stays}
+use Rattle.commit_plan.specs.Staying.{LiveContent, kept_content, own_extent, entry_at, tile_extent, records_named, holds_content, holds_tile, layer_stays, tile_stays}
 use Rattle.commit_plan.proofs.EqualityTests.{content_decides, tile_decides}
 use Rattle.commit_plan.proofs.Sitting.{layer_sits, layer_holds, tile_sits, tile_holds}
 
@@ -150,7 +150,7 @@ module _ (file : List ℕ) where
       (λ rest more. tile_spells ls are.1 are.3 are.7 n r k e t rest lies more)
 
 -- what stays is read where it stays
-pub record StayReads (live : Standing) (file : List ℕ) : Type 0 where
+pub record StayReads (live : LiveContent) (file : List ℕ) : Type 0 where
   pub own : (layer : Layer) (e : RecordExtent) → layer_stays live layer ≡ Some e → OwnSpells file e layer.content
   pub tile : (t : Finished) (e : RecordExtent) → tile_stays live t ≡ Some e
       → Spells file e (tile_of_record t.column) t.tile
@@ -163,11 +163,11 @@ held_tile : (o : Option Tile) (t : Tile) → holds_tile o t ≡ true → o ≡ S
 held_tile None t is = absurd (cc)
 held_tile (Some held) t is = ap Some ((tile_decides held t).0 is)
 
-pub stay_reads : (x : Kept) (file : List ℕ) → Shut x file → StayReads (standing_of x) file
+pub stay_reads : (x : Kept) (file : List ℕ) → Shut x file → StayReads (kept_content x) file
 stay_reads x file shut =
     let named = shut.live.named in
     let are = (held_is_spelled file x.root x.held x.listing named.listing named.holds).0 in
-    let live = standing_of x in
+    let live = kept_content x in
     record {
       own = λ layer e is.
           let s = layer_sits live layer e is in

@@ -26,7 +26,7 @@ use Rattle.record_writing.specs.Listing.{entry_of as listed_code, entries_of}
 use Rattle.commit_plan.specs.declared.write.Write.{Write}
 use Rattle.commit_plan.specs.declared.draft.Draft.{Draft}
 use Rattle.commit_plan.specs.Drafting.{IsDraft}
-use Rattle.commit_plan.specs.Staying.{Standing, layer_named}
+use Rattle.commit_plan.specs.Staying.{LiveContent, layer_named}
 use Rattle.commit_plan.specs.Filing.{Filed, Record, extent_of, fresh_of, FiledLayer, a_base, a_definition, listed_of, filed_tiles, filed_of, AreWritesOf, SaysTile, SpellTiles, SpellLayer, SpellLayers}
 use Rattle.commit_plan.specs.Walking.{IsElsewhere, IsHere, Takes, TakesAll, IsFrom, AreFrom, AreLeft, IsOwnFiled, IsTileFiled, AreTilesFiled, IsLayerFiled, AreLayersFiled}
 
@@ -258,7 +258,7 @@ all_known layers (t ∷ ts) all = (derived_known layers t all.0, all_known layer
 pub nothing_left : (layers : List Layer) (ts : List Finished) → AreLeft layers (length layers) 0 ts → ts ≡ []
 nothing_left layers ts left = none_left layers ts (all_known layers ts left.derived) left.from
 
-module _ (live : Standing) where
+module _ (live : LiveContent) where
   pub takes_more : (layers : List Layer) (place k : ℕ) (os : List (Option Record)) (o : Option Record)
       (ts mid rest : List Finished) → TakesAll live layers place k os ts mid
       → Takes live layers place (k + length os) o mid rest → TakesAll live layers place k (os ++ o ∷ []) ts rest

@@ -17,8 +17,8 @@ use Rattle.commit_plan.specs.declared.next.Next.{Next}
 use Rattle.commit_plan.specs.Kept.{Kept, extents_in}
 use Rattle.commit_plan.specs.Planning.{Plans}
 use Rattle.commit_plan.specs.Filing.{Filed, FiledLayer, listed_of, filed_of, SpellLayers, AreWritesOf}
-use Rattle.commit_plan.specs.Staying.{Standing, standing_of}
-use Rattle.commit_plan.specs.Live.{standing}
+use Rattle.commit_plan.specs.Staying.{LiveContent, kept_content}
+use Rattle.commit_plan.specs.Live.{live_content}
 use Rattle.root_reading.specs.Taking.{AreRunsOf, IsMapOf}
 
 abbrev pub lengths_of : List Filed → List ℕ
@@ -44,14 +44,14 @@ pub record IsDraft (given : List runs.Extent) (limit : ℕ) (fs : List Filed) (d
   pub writes : AreWritesOf fs d.writes.items
 
 -- filed layers that a catalog lists, and that say what a version holds
-pub record Spell (live : Standing) (layers : List FiledLayer) (listing : List Listed) (x : Held) : Type 0 where
+pub record Spell (live : LiveContent) (layers : List FiledLayer) (listing : List Listed) (x : Held) : Type 0 where
   pub spelled : SpellLayers live layers x.layers x.tiles
   pub stored : MayBeStored x.layers
   pub small : x.number ≤ version_max
   pub listed : map listed_of layers ≡ listing
 
 -- how the writes of a commit lie, whose records are to have these sizes, and whose root is of the present format: first each new record, layer by layer, in the lowest run that is free, in whole blocks of which the rest is zero; behind them the catalog that lists them, likewise; and last the body of the root, where it is to be put
-pub record IsLaidOut (live : Standing) (given : List runs.Extent) (limit : ℕ) (held : Held) (sizes : List ℕ) (body : ℕ)
+pub record IsLaidOut (live : LiveContent) (given : List runs.Extent) (limit : ℕ) (held : Held) (sizes : List ℕ) (body : ℕ)
     (root : Root) (plan : List Write) : Type 0 where
   pub layers : List FiledLayer
   pub catalog : Filed
@@ -75,6 +75,6 @@ pub record IsNext (x : Kept) (held : Held) (next : Next) : Type 0 where
   pub kept : Kept
   pub holds : kept.held ≡ held
   pub root : next.root ≡ kept.root
-  pub stands : standing next.live ≡ standing_of kept
+  pub stands : live_content next.live ≡ kept_content kept
   pub room : IsMapOf (extents_in kept) (taken_of next.live.room.map)
   pub plans : Plans x kept next.plan.items

@@ -16,7 +16,7 @@ use Rattle.store_terms.specs.Places.{block_size, blocks, all_apart, extents_list
 use Rattle.store_terms.specs.Spelled.{MayBeStored}
 use Rattle.commit_plan.specs.declared.write.Write.{Write}
 use Rattle.commit_plan.specs.Kept.{Kept, Shut}
-use Rattle.commit_plan.specs.Staying.{Standing, standing_of, layer_stays, tile_stays}
+use Rattle.commit_plan.specs.Staying.{LiveContent, kept_content, layer_stays, tile_stays}
 use Rattle.commit_plan.specs.Planning.{IsWritten, Makes}
 
 -- the bytes of a record, and where they go
@@ -63,7 +63,7 @@ abbrev pub SpellsContent : Content → List ℕ → Type 0
 SpellsContent (base rings) bytes = base_of_record bytes ≡ Some rings
 SpellsContent (derived tree) bytes = definition_of_record bytes ≡ Some tree
 
-module _ (live : Standing) where
+module _ (live : LiveContent) where
   -- a layer's own record: it stays where the live root has one that is equal; else its bytes spell the layer
   abbrev pub SaysLayer : Layer → Record → Type 0
   SaysLayer layer (fresh f) = SpellsContent layer.content f.bytes × (layer_stays live layer ≡ None)
@@ -115,7 +115,7 @@ AreWritesOf (f ∷ fs) (w ∷ ws) = IsWriteOf f w × AreWritesOf fs ws
 
 -- what a commit from x to y files: the records of all layers, and a catalog that lists them
 pub record Files (x y : Kept) (layers : List FiledLayer) (listing : Filed) : Type 0 where
-  pub spelled : SpellLayers (standing_of x) layers y.held.layers y.held.tiles
+  pub spelled : SpellLayers (kept_content x) layers y.held.layers y.held.tiles
   pub stored : MayBeStored y.held.layers
   pub catalog : catalog_of_record y.root.is_old listing.bytes ≡ Some (map listed_of layers)
   pub there : y.root.catalog ≡ listing.extent

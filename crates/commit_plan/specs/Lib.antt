@@ -9,6 +9,5 @@ pub mod Filing
 pub mod Drafting
 pub mod Sizes
 pub mod Walking
-pub mod Placing
 pub mod Fitting
 pub mod Loading

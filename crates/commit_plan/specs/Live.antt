@@ -1,9 +1,26 @@
 -- What the code holds of the live root, as what the root holds.
-use Rattle.std.specs.Prelude.{map}
-use Rattle.tile_build.specs.StoredTile.{finished_of}
+use Rattle.std.specs.Prelude.{List, [], Option, Some, None}
+use Rattle.std.specs.Option.{option_map}
+use Rattle.std.specs.Arc.{arc_value}
+use Rattle.overlay_terms.specs.Layers.{Layer}
+use Rattle.overlay_terms.specs.Histories.{Finished}
+use Rattle.layer_tiles.specs.Table.{tiles_in, Tabled}
 use Rattle.record_writing.specs.Listing.{entries_of}
 use Rattle.commit_plan.specs.declared.live_records.LiveRecords.{LiveRecords}
-use Rattle.commit_plan.specs.Staying.{Standing}
+use Rattle.commit_plan.specs.Staying.{LiveContent}
 
-abbrev pub standing : LiveRecords → Standing
-standing live = record { listing = entries_of live.listing.items; layers = live.layers; tiles = map finished_of live.tiles.items }
+-- the layers of a table, and its tiles; none where there is no table
+abbrev pub layers_held : Option Tabled → List Layer
+layers_held None = []
+layers_held (Some table) = table.layers
+
+abbrev pub tiles_held : Option Tabled → List Finished
+tiles_held None = []
+tiles_held (Some table) = tiles_in table
+
+-- the table that is held, if one is
+abbrev pub table_of : LiveRecords → Option Tabled
+table_of live = option_map (λ shared. arc_value shared) live.held
+
+abbrev pub live_content : LiveRecords → LiveContent
+live_content live = record { listing = entries_of live.listing.items; layers = layers_held (table_of live); tiles = tiles_held (table_of live) }

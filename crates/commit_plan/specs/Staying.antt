@@ -14,13 +14,13 @@ use Rattle.commit_plan.specs.Kept.{Kept}
 use Rattle.commit_plan.specs.Same.{same_content, same_tile}
 
 -- what the live root holds, and where: what its catalog lists, its layers and its finished tiles
-pub record Standing : Type 0 where
+pub record LiveContent : Type 0 where
   pub listing : List Listed
   pub layers : List Layer
   pub tiles : List Finished
 
-abbrev pub standing_of : Kept → Standing
-standing_of x = record { listing = x.listing; layers = x.held.layers; tiles = x.held.tiles }
+abbrev pub kept_content : Kept → LiveContent
+kept_content x = record { listing = x.listing; layers = x.held.layers; tiles = x.held.tiles }
 
 abbrev pub layer_named : Name → Content → Layer
 layer_named name content = record { name = name; content = content }
@@ -74,20 +74,16 @@ holds_tile None tile = false
 holds_tile (Some held) tile = same_tile held tile
 
 -- where a layer's own record stays: the live root has a layer of this name with an equal content
-abbrev pub layer_stays : Standing → Layer → Option RecordExtent
+abbrev pub layer_stays : LiveContent → Layer → Option RecordExtent
 layer_stays live layer =
     if holds_content (content_named live.layers layer.name) layer.content
     then if_near (own_named (records_named live.listing layer.name)) else None
 
 -- where a tile's record stays: the live root has a tile of this name and column that is equal
-abbrev pub tile_stays : Standing → Finished → Option RecordExtent
+abbrev pub tile_stays : LiveContent → Finished → Option RecordExtent
 tile_stays live t =
     if holds_tile (tile_at live.tiles t.name t.column) t.tile
     then if_near (tile_named (records_named live.listing t.name) t.column) else None
-
--- a tile is that of a name and column
-abbrev pub is_of : Name → ℕ → Finished → Bool
-is_of name k t = (t.column == k) && bytes_eq t.name name
 
 -- ---- what it takes
 

@@ -12,7 +12,7 @@ ghost use Rattle.store_terms.specs.Roots.{sequence_max};
 ghost use Rattle.store_terms.specs.StandsFor.{body_at};
 ghost use Rattle.commit_plan.specs.Kept.{Kept, extents_in, other};
 ghost use Rattle.commit_plan.specs.Filing.{FiledLayer, filed_of};
-ghost use Rattle.commit_plan.specs.Staying.{Standing, standing_of, AreHeldApart};
+ghost use Rattle.commit_plan.specs.Staying.{LiveContent, kept_content, AreHeldApart};
 ghost use Rattle.root_reading.specs.Taking.{IsMapOf};
 ghost use Rattle.commit_plan.specs.Drafting.{ArePlanned, ArePlaced, IsDraft, IsLaidOut, Spell, IsNext};
 
@@ -44,9 +44,9 @@ pub(crate) fn completed(
     ensures ok { (x : Kept) (given : List runs.Extent) (limit : ℕ) (layers : List FiledLayer)
         → x.root ≡ root → body ≡ body_at (other root) → IsMapOf (extents_in x) given
         → AreHeldApart (extents_listed x.listing) given → IsDraft given limit (flat_map filed_of layers) draft
-        → Spell (standing_of x) layers (entries_of listing.items) (image_held image)
+        → Spell (kept_content x) layers (entries_of listing.items) (image_held image)
         → IfOk result (λ next. IsNext x (image_held image) next) }
-    ensures laid { (live : Standing) (given : List runs.Extent) (limit : ℕ) (layers : List FiledLayer) (sizes : List ℕ)
+    ensures laid { (live : LiveContent) (given : List runs.Extent) (limit : ℕ) (layers : List FiledLayer) (sizes : List ℕ)
         → IsDraft given limit (flat_map filed_of layers) draft
         → Spell live layers (entries_of listing.items) (image_held image) → ArePlaced given limit sizes draft
         → IfOk result
@@ -64,14 +64,14 @@ pub(crate) fn completed(
     ensures full { (given : List runs.Extent) (limit : ℕ) (sizes : List ℕ) → ArePlaced given limit sizes draft
         → IsErrOf result StoreFault.Full
         → IsFull given limit (sizes ++ length ((catalog column_count).text (entries_of listing.items)) ∷ []) }
-    ensures err { (live : Standing) (given : List runs.Extent) (limit : ℕ) (layers : List FiledLayer)
+    ensures err { (live : LiveContent) (given : List runs.Extent) (limit : ℕ) (layers : List FiledLayer)
         → AreHeldApart (extents_listed live.listing) given → IsDraft given limit (flat_map filed_of layers) draft
         → Spell live layers (entries_of listing.items) (image_held image)
         → IfErr result (λ fault. (fault ≡ StoreFault.Full) ⊎ (fault ≡ StoreFault.OutOfMemory)) }
 {
     let bytes = write_catalog(alloc, &listing)?;
     let catalog = draft.file(bytes)?;
-    let (number, layers, tiles) = image.into_shared();
+    let (number, table) = image.into_table();
     let next = Root {
         is_old: false,
         sequence: root.sequence + 1,
@@ -79,7 +79,7 @@ pub(crate) fn completed(
         catalog,
     };
     let limit = draft.room.max_blocks;
-    let live = match LiveRecords::new(alloc, catalog, listing, layers, tiles, limit) {
+    let live = match LiveRecords::new(alloc, catalog, listing, table, limit) {
         Ok(live) => live,
         Err(fault) => return Err(told(fault)),
     };

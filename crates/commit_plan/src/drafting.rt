@@ -8,8 +8,8 @@ ghost use Rattle.root_reading.specs.Taking.{IsMapOf};
 ghost use Rattle.commit_plan.specs.Kept.{Kept, extents_in, other};
 ghost use Rattle.commit_plan.specs.Drafting.{IsLaidOut, IsNext};
 ghost use Rattle.commit_plan.specs.Fitting.{HasRoom, HasNoRoom};
-ghost use Rattle.commit_plan.specs.Staying.{standing_of};
-ghost use Rattle.commit_plan.specs.Live.{standing};
+ghost use Rattle.commit_plan.specs.Staying.{kept_content};
+ghost use Rattle.commit_plan.specs.Live.{live_content};
 ghost use Rattle.commit_plan.specs.Sizes.{new_records, sizes_of};
 
 use crate::completing::completed;
@@ -32,15 +32,15 @@ pub fn drafted(
     body: usize,
 ) -> Result<Next, StoreFault>
     requires { root.sequence < sequence_max }
-    ensures ok { (x : Kept) → x.root ≡ root → body ≡ body_at (other root) → standing live.now ≡ standing_of x
+    ensures ok { (x : Kept) → x.root ≡ root → body ≡ body_at (other root) → live_content live.now ≡ kept_content x
         → IsMapOf (extents_in x) (taken_of live.now.room.map) → IfOk result (λ next. IsNext x (image_held image) next) }
     // The new records, the catalog and the body, in this order; each record and the catalog in the lowest free run, in
     // whole blocks. A record stays where the live root has an equal one, and only there.
     ensures laid { IfOk result
-        (λ next. IsLaidOut (standing live.now) (taken_of live.now.room.map) live.now.room.max_blocks
-        (image_held image) (sizes_of (standing live.now) image) body next.root next.plan.items) }
+        (λ next. IsLaidOut (live_content live.now) (taken_of live.now.room.map) live.now.room.max_blocks
+        (image_held image) (sizes_of (live_content live.now) image) body next.root next.plan.items) }
     // One write for each new record, the catalog and the body.
-    ensures calls { IfOk result (λ next. length next.plan.items ≡ new_records (standing live.now) (image_held image) + 2) }
+    ensures calls { IfOk result (λ next. length next.plan.items ≡ new_records (live_content live.now) (image_held image) + 2) }
     ensures number { IfOk result (λ next. next.root.version ≡ image.number) }
     ensures room { IfOk result (λ _. HasRoom live.now image) }
     // The blocks that the file may have stay as many.
@@ -51,6 +51,6 @@ pub fn drafted(
     // The layers are a book by their type: the clauses rest on that.
     let _ = image.layers().len();
     let mut draft = Draft::new(alloc, live.room.try_copy(alloc)?);
-    let listing = file_layers(alloc, &mut draft, live, image.layers(), image.tiles())?;
+    let listing = file_layers(alloc, &mut draft, live, image.table())?;
     completed(alloc, draft, listing, image, root, body)
 }

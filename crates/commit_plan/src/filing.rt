@@ -1,52 +1,39 @@
 //! The records of an image, each put in its place.
-ghost use Rattle.std.specs.Prelude.{◌≡◌, ◌⊎◌, ◌+◌, ◌^◌, ◌<◌, ◌++◌, ℕ, List, [], length, map, flat_map, All, IfOk, IfErr, IsErrOf, IsTrue, IsFalse};
+ghost use Rattle.std.specs.Prelude.{◌≡◌, ◌⊎◌, ◌^◌, ◌<◌, ◌++◌, ◌∷◌, ℕ, List, [], None, Some, false, length, replicate, All, IfOk, IfErr, IsErrOf, IsTrue};
+ghost use Rattle.std.specs.Option.{option_map};
 ghost use Rattle.overlay_terms.specs.Column.{column_count};
+ghost use Rattle.overlay_terms.specs.Commands.{is_derived};
+ghost use Rattle.overlay_terms.specs.Histories.{is_formed};
 ghost use Rattle.extent_map.specs.declared.extent.Extent as runs;
 ghost use Rattle.extent_map.specs.FirstFit.{IsFull};
-ghost use Rattle.tile_build.specs.StoredTile.{finished_of};
-ghost use Rattle.record_writing.specs.Listing.{entry_of, entries_of, IsListable};
-ghost use Rattle.commit_plan.specs.Filing.{Filed, SpellsContent};
-ghost use Rattle.commit_plan.specs.Staying.{layer_named};
-ghost use Rattle.commit_plan.specs.Live.{standing};
-ghost use Rattle.commit_plan.specs.Drafting.{ArePlaced, IsDraft};
-ghost use Rattle.commit_plan.specs.Sizes.{own_record, own_sizes, sizes_of_layer};
+ghost use Rattle.tile_build.specs.Tile.{named_pieces, tile_of};
 ghost use Rattle.layer_book.specs.Layer.{content};
-ghost use Rattle.commit_plan.specs.Walking.{IsHere, IsElsewhere, AreLeft, IsOwnFiled, IsTileFiled, AreTilesFiled, IsLayerFiled, AreLayersFiled};
-ghost use Rattle.commit_plan.specs.Placing.{AreTaken, FindNone, IsTaken, FindsNone};
+ghost use Rattle.layer_tiles.specs.Filling.{named};
+ghost use Rattle.layer_tiles.specs.Table.{places_in, row_tiles, tiles_in};
+ghost use Rattle.layer_tiles.specs.TileCode.{by_places, Named};
+ghost use Rattle.record_writing.specs.Listing.{entry_of, entries_of, IsListable};
+ghost use Rattle.commit_plan.specs.Filing.{Filed, SaysLayer, SaysTile, SpellsContent};
+ghost use Rattle.commit_plan.specs.Staying.{layer_named};
+ghost use Rattle.commit_plan.specs.Live.{live_content};
+ghost use Rattle.commit_plan.specs.Drafting.{ArePlaced, IsDraft};
+ghost use Rattle.commit_plan.specs.Sizes.{layer_sizes, own_record, own_sizes, row_sizes, sizes_of_layers, tile_sizes};
+ghost use Rattle.commit_plan.specs.Walking.{AreFormedIn, AreLayersFiled, AreTilesFiled, IsFiled, IsLayerFiled, IsSlotFiled};
 
 use crate::draft::Draft;
 use crate::fault::StoreFault;
 use crate::live_records::LiveRecords;
 use layer_book::layer::Layer;
-use layer_book::layers::Layers;
 use layer_expr::name::Name;
+use layer_tiles::{Table, TileRow};
 use plane_base::{COLUMN_COUNT, Column};
 use record_writing::base_writing::write_base;
 use record_writing::catalog::{Listed, Records};
 use record_writing::definition_writing::write_definition;
 use record_writing::tile_writing::write_tile;
 use std::alloc::{AllocError, Global};
+use std::sync::Arc;
 use store_terms::root::RecordExtent;
-use tile_build::StoredTile;
-
-/// Whether the first of some tiles is that of a layer and column.
-fn is_here(layers: &Layers, place: usize, column: Column, tiles: &[StoredTile]) -> bool
-    requires { place < length layers.now }
-    ensures here { IsTrue result → IsHere layers.now place column (map finished_of tiles.now) }
-    ensures elsewhere { IsFalse result → IsElsewhere layers.now place column (map finished_of tiles.now) }
-{
-    if tiles.is_empty() {
-        return false;
-    }
-    let tile = &tiles[0];
-    if tile.column != column {
-        return false;
-    }
-    match layers.find(&tile.name) {
-        Some(found) => found == place,
-        None => false,
-    }
-}
+use tile_build::Tile;
 
 /// The bytes of a layer's own record: its rings, or its expression.
 fn own_bytes(alloc: Global, layer: &Layer) -> Result<Vec<u8>, AllocError>
@@ -78,14 +65,14 @@ fn file_own(
 ) -> Result<RecordExtent, StoreFault>
     ensures ok { (given : List runs.Extent) (limit : ℕ) (fs : List Filed) → IsDraft given limit fs draft.old
         → IfOk result
-        (λ e. IsOwnFiled (standing live.now) given limit fs (layer_named name.now (content layer.now)) e draft.new) }
+        (λ e. IsFiled given limit fs (SaysLayer (live_content live.now) (layer_named name.now (content layer.now))) e draft.new) }
     ensures taken { (given : List runs.Extent) (limit : ℕ) (sizes : List ℕ) → ArePlaced given limit sizes draft.old
         → IfOk result
         (λ _. ArePlaced given limit
-        (sizes ++ own_sizes (standing live.now) (layer_named name.now (content layer.now))) draft.new) }
+        (sizes ++ own_sizes (live_content live.now) (layer_named name.now (content layer.now))) draft.new) }
     ensures full { (given : List runs.Extent) (limit : ℕ) (sizes : List ℕ) → ArePlaced given limit sizes draft.old
         → IsErrOf result StoreFault.Full
-        → IsFull given limit (sizes ++ own_sizes (standing live.now) (layer_named name.now (content layer.now))) }
+        → IsFull given limit (sizes ++ own_sizes (live_content live.now) (layer_named name.now (content layer.now))) }
     ensures err { IfErr result (λ fault. (fault ≡ StoreFault.Full) ⊎ (fault ≡ StoreFault.OutOfMemory)) }
 {
     if let Some(extent) = live.layer_stays(name, layer) {
@@ -95,115 +82,138 @@ fn file_own(
     draft.file(bytes)
 }
 
-/// The place of the first tile's record, if the tile is that of a layer and column: where it stays, or the lowest that is
-/// free for it. Gives the tiles behind it.
-fn file_tile<'a>(
+/// Where the record of a layer and column's tile lies: where it stays, or the lowest place that is free for it.
+fn file_tile(
     alloc: Global,
     draft: &mut Draft,
     live: &LiveRecords,
-    layers: &Layers,
-    place: usize,
+    name: &Name,
     column: Column,
-    tiles: &'a [StoredTile],
-) -> Result<(Option<RecordExtent>, &'a [StoredTile]), StoreFault>
-    requires place { place < length layers.now }
-    requires left { AreLeft layers.now place column (map finished_of tiles.now) }
+    tile: &Tile,
+) -> Result<RecordExtent, StoreFault>
+    requires { IsTrue (is_formed (tile_of tile.now) column) }
     ensures ok { (given : List runs.Extent) (limit : ℕ) (fs : List Filed) → IsDraft given limit fs draft.old
         → IfOk result
-        (λ r. IsTileFiled (standing live.now) given limit fs layers.now place column (map finished_of tiles.now)
-        (map finished_of r.1.now) r.0 draft.new) }
-    ensures left { IfOk result (λ r. AreLeft layers.now place (column + 1) (map finished_of r.1.now)) }
+        (λ e. IsFiled given limit fs (SaysTile (live_content live.now) (named name.now column (tile_of tile.now))) e draft.new) }
     ensures taken { (given : List runs.Extent) (limit : ℕ) (sizes : List ℕ) → ArePlaced given limit sizes draft.old
-        → IfOk result (λ r. AreTaken (standing live.now) given limit sizes layers.now place tiles.now r.1.now draft.new) }
+        → IfOk result
+        (λ _. ArePlaced given limit (sizes ++ tile_sizes (live_content live.now) name.now column (named_pieces tile.now)) draft.new) }
     ensures full { (given : List runs.Extent) (limit : ℕ) (sizes : List ℕ) → ArePlaced given limit sizes draft.old
-        → IsErrOf result StoreFault.Full → FindNone (standing live.now) given limit sizes layers.now place tiles.now }
+        → IsErrOf result StoreFault.Full
+        → IsFull given limit (sizes ++ tile_sizes (live_content live.now) name.now column (named_pieces tile.now)) }
     ensures err { IfErr result (λ fault. (fault ≡ StoreFault.Full) ⊎ (fault ≡ StoreFault.OutOfMemory)) }
 {
-    if !is_here(layers, place, column, tiles) {
-        return Ok((None, tiles));
+    if let Some(extent) = live.tile_stays(name, column, tile) {
+        return Ok(extent);
     }
-    let first = &tiles[0];
-    if let Some(extent) = live.tile_stays(first) {
-        return Ok((Some(extent), &tiles[1..]));
-    }
-    let bytes = write_tile(alloc, first.column, &first.tile)?;
-    let extent = draft.file(bytes)?;
-    Ok((Some(extent), &tiles[1..]))
+    let bytes = write_tile(alloc, column, tile)?;
+    draft.file(bytes)
 }
 
-/// Puts the records of a layer's tiles in their places, and gives the tiles behind them.
-fn file_tiles<'a>(
+/// The same of a column that may have no tile.
+fn file_slot(
     alloc: Global,
     draft: &mut Draft,
     live: &LiveRecords,
-    layers: &Layers,
-    place: usize,
-    tiles: &'a [StoredTile],
-) -> Result<(Vec<Option<RecordExtent>>, &'a [StoredTile]), StoreFault>
-    requires place { place < length layers.now }
-    requires left { AreLeft layers.now place 0 (map finished_of tiles.now) }
+    name: &Name,
+    column: Column,
+    tile: Option<&Arc<Tile>>,
+) -> Result<Option<RecordExtent>, StoreFault>
+    requires { (held : Named) → option_map (λ t. named_pieces t.now.value) tile.entry ≡ Some held → IsTrue (is_formed (by_places held) column) }
     ensures ok { (given : List runs.Extent) (limit : ℕ) (fs : List Filed) → IsDraft given limit fs draft.old
         → IfOk result
-        (λ r. AreTilesFiled (standing live.now) given limit fs layers.now place column_count (map finished_of tiles.now)
-        (map finished_of r.1.now) r.0.items draft.new) }
-    ensures left { IfOk result (λ r. AreLeft layers.now place column_count (map finished_of r.1.now)) }
-    ensures count { IfOk result (λ r. length r.0.items ≡ column_count) }
+        (λ e. IsSlotFiled (live_content live.now) given limit fs name.now column (option_map (λ t. named_pieces t.now.value) tile.entry) e draft.new) }
     ensures taken { (given : List runs.Extent) (limit : ℕ) (sizes : List ℕ) → ArePlaced given limit sizes draft.old
-        → IfOk result (λ r. AreTaken (standing live.now) given limit sizes layers.now place tiles.now r.1.now draft.new) }
+        → IfOk result
+        (λ _. ArePlaced given limit (sizes ++ row_sizes (live_content live.now) name.now column (option_map (λ t. named_pieces t.now.value) tile.entry ∷ [])) draft.new) }
     ensures full { (given : List runs.Extent) (limit : ℕ) (sizes : List ℕ) → ArePlaced given limit sizes draft.old
-        → IsErrOf result StoreFault.Full → FindNone (standing live.now) given limit sizes layers.now place tiles.now }
+        → IsErrOf result StoreFault.Full
+        → IsFull given limit (sizes ++ row_sizes (live_content live.now) name.now column (option_map (λ t. named_pieces t.now.value) tile.entry ∷ [])) }
+    ensures err { IfErr result (λ fault. (fault ≡ StoreFault.Full) ⊎ (fault ≡ StoreFault.OutOfMemory)) }
+{
+    match tile {
+        Some(tile) => {
+            let extent = file_tile(alloc, draft, live, name, column, tile)?;
+            Ok(Some(extent))
+        }
+        None => Ok(None),
+    }
+}
+
+/// Puts the records of a layer's tiles in their places, by column.
+fn file_tiles(
+    alloc: Global,
+    draft: &mut Draft,
+    live: &LiveRecords,
+    name: &Name,
+    row: &TileRow,
+) -> Result<Vec<Option<RecordExtent>>, StoreFault>
+    requires whole { length row.now ≡ column_count }
+    requires formed { AreFormedIn row.now }
+    ensures ok { (given : List runs.Extent) (limit : ℕ) (fs : List Filed) → IsDraft given limit fs draft.old
+        → IfOk result
+        (λ v. AreTilesFiled (live_content live.now) given limit fs name.now (row_tiles name.now 0 (places_in row.now)) v.items draft.new) }
+    ensures count { IfOk result (λ v. length v.items ≡ column_count) }
+    ensures taken { (given : List runs.Extent) (limit : ℕ) (sizes : List ℕ) → ArePlaced given limit sizes draft.old
+        → IfOk result (λ _. ArePlaced given limit (sizes ++ row_sizes (live_content live.now) name.now 0 row.now) draft.new) }
+    ensures full { (given : List runs.Extent) (limit : ℕ) (sizes : List ℕ) → ArePlaced given limit sizes draft.old
+        → IsErrOf result StoreFault.Full → IsFull given limit (sizes ++ row_sizes (live_content live.now) name.now 0 row.now) }
     ensures err { IfErr result (λ fault. (fault ≡ StoreFault.Full) ⊎ (fault ≡ StoreFault.OutOfMemory)) }
 {
     let mut entries = Vec::new(alloc);
-    let mut rest = tiles;
     for number in 0..COLUMN_COUNT {
         let Some(column) = Column::new(u64::from(number)) else {
             unreachable!()
         };
-        let (entry, after) = file_tile(alloc, draft, live, layers, place, column, rest)?;
+        let tile = row.tile_at(usize::from(number));
+        let entry = file_slot(alloc, draft, live, name, column, tile)?;
         entries.push(entry)?;
-        rest = after;
     }
-    Ok((entries, rest))
+    Ok(entries)
 }
 
-/// Puts the records of a layer in their places, and gives its entry in the catalog and the tiles behind its own.
-fn file_layer<'a>(
+/// Puts the records of a layer in their places, and gives its entry in the catalog.
+fn file_layer(
     alloc: Global,
     draft: &mut Draft,
     live: &LiveRecords,
-    layers: &Layers,
-    place: usize,
-    tiles: &'a [StoredTile],
-) -> Result<(Listed, &'a [StoredTile]), StoreFault>
-    requires place { place < length layers.now }
-    requires left { AreLeft layers.now place 0 (map finished_of tiles.now) }
+    name: &Name,
+    layer: &Layer,
+    row: &TileRow,
+) -> Result<Listed, StoreFault>
+    requires whole { length row.now ≡ column_count }
+    requires formed { AreFormedIn row.now }
+    requires bare { is_derived (content layer.now) ≡ false → row.now ≡ replicate column_count None }
     ensures ok { (given : List runs.Extent) (limit : ℕ) (fs : List Filed) → IsDraft given limit fs draft.old
         → IfOk result
-        (λ r. IsLayerFiled (standing live.now) given limit fs layers.now place (map finished_of tiles.now) (map finished_of r.1.now)
-        (entry_of r.0) draft.new) }
-    ensures left { IfOk result (λ r. AreLeft layers.now (place + 1) 0 (map finished_of r.1.now)) }
-    ensures listable { IfOk result (λ r. IsListable r.0) }
+        (λ l. IsLayerFiled (live_content live.now) given limit fs (layer_named name.now (content layer.now))
+        (row_tiles name.now 0 (places_in row.now)) (entry_of l) draft.new) }
+    ensures listable { IfOk result IsListable }
     ensures taken { (given : List runs.Extent) (limit : ℕ) (sizes : List ℕ) → ArePlaced given limit sizes draft.old
-        → IfOk result (λ r. IsTaken (standing live.now) given limit sizes layers.now place tiles.now r.1.now draft.new) }
+        → IfOk result
+        (λ _. ArePlaced given limit
+        (sizes ++ layer_sizes (live_content live.now) (layer_named name.now (content layer.now)) row.now) draft.new) }
     ensures full { (given : List runs.Extent) (limit : ℕ) (sizes : List ℕ) → ArePlaced given limit sizes draft.old
-        → IsErrOf result StoreFault.Full → FindsNone (standing live.now) given limit sizes layers.now place tiles.now }
+        → IsErrOf result StoreFault.Full
+        → IsFull given limit (sizes ++ layer_sizes (live_content live.now) (layer_named name.now (content layer.now)) row.now) }
     ensures err { IfErr result (λ fault. (fault ≡ StoreFault.Full) ⊎ (fault ≡ StoreFault.OutOfMemory)) }
 {
-    // The layers are a book by their type: the clauses rest on that.
-    let _ = layers.len();
-    let Some((named, layer)) = layers.at(place) else {
-        unreachable!()
-    };
-    let name = Vec::from_slice(alloc, named.bytes())?;
-    let extent = file_own(alloc, draft, live, named, layer)?;
+    // It is a name by its type: that it can be listed rests on that.
+    let bytes = Vec::from_slice(alloc, name.bytes())?;
+    let extent = file_own(alloc, draft, live, name, layer)?;
     if !layer.is_derived() {
         let records = Records::Base(extent);
-        return Ok((Listed { name, records }, tiles));
+        return Ok(Listed {
+            name: bytes,
+            records,
+        });
     }
-    let (entries, rest) = file_tiles(alloc, draft, live, layers, place, tiles)?;
+    let entries = file_tiles(alloc, draft, live, name, row)?;
     let records = Records::Derived(extent, entries);
-    Ok((Listed { name, records }, rest))
+    Ok(Listed {
+        name: bytes,
+        records,
+    })
 }
 
 /// Puts the records of all layers and tiles in their places, and gives what the catalog lists.
@@ -211,27 +221,26 @@ pub(crate) fn file_layers(
     alloc: Global,
     draft: &mut Draft,
     live: &LiveRecords,
-    layers: &Layers,
-    tiles: &[StoredTile],
+    table: &Table,
 ) -> Result<Vec<Listed>, StoreFault>
-    requires { AreLeft layers.now 0 0 (map finished_of tiles.now) }
     ensures ok { (given : List runs.Extent) (limit : ℕ) → IsDraft given limit [] draft.old
         → IfOk result
-        (λ v. AreLayersFiled (standing live.now) given limit layers.now (map finished_of tiles.now) [] (entries_of v.items) draft.new) }
+        (λ v. AreLayersFiled (live_content live.now) given limit table.now.layers (tiles_in table.now) (entries_of v.items) draft.new) }
     ensures listable { IfOk result (λ v. All IsListable v.items) }
-    ensures count { IfOk result (λ v. length v.items ≡ length layers.now) }
+    ensures count { IfOk result (λ v. length v.items ≡ length table.now.layers) }
     ensures taken { (given : List runs.Extent) (limit : ℕ) → ArePlaced given limit [] draft.old
-        → IfOk result (λ _. ArePlaced given limit (flat_map (sizes_of_layer (standing live.now) tiles.now) layers.now) draft.new) }
+        → IfOk result (λ _. ArePlaced given limit (sizes_of_layers (live_content live.now) table.now.layers table.now.rows) draft.new) }
     ensures full { (given : List runs.Extent) (limit : ℕ) → ArePlaced given limit [] draft.old
-        → IsErrOf result StoreFault.Full → IsFull given limit (flat_map (sizes_of_layer (standing live.now) tiles.now) layers.now) }
+        → IsErrOf result StoreFault.Full → IsFull given limit (sizes_of_layers (live_content live.now) table.now.layers table.now.rows) }
     ensures err { IfErr result (λ fault. (fault ≡ StoreFault.Full) ⊎ (fault ≡ StoreFault.OutOfMemory)) }
 {
     let mut listing = Vec::new(alloc);
-    let mut rest = tiles;
-    for place in 0..layers.len() {
-        let (listed, after) = file_layer(alloc, draft, live, layers, place, rest)?;
+    for place in 0..table.layers().len() {
+        let Some((name, layer, row)) = table.at(place) else {
+            unreachable!()
+        };
+        let listed = file_layer(alloc, draft, live, name, layer, row)?;
         listing.push(listed)?;
-        rest = after;
     }
     Ok(listing)
 }

@@ -1,17 +1,17 @@
 //! The records of the live root: what it holds, and where.
-ghost use Rattle.std.specs.Prelude.{◌≡◌, [], map, true, Some, IfOk};
+ghost use Rattle.std.specs.Prelude.{◌≡◌, [], true, Some, IfOk};
 ghost use Rattle.std.specs.Option.{option_map};
 ghost use Rattle.extent_map.specs.Extents.{IsUnused};
 ghost use Rattle.extent_map.specs.Taken.{taken_of};
-ghost use Rattle.overlay_terms.specs.Histories.{tile_at};
 ghost use Rattle.layer_book.specs.Layer.{content};
 ghost use Rattle.record_writing.specs.Listing.{entries_of, records_of};
 ghost use Rattle.store_terms.specs.Places.{blocks, is_apart_from, all_apart, extents_listed};
 ghost use Rattle.store_terms.specs.declared.root.RecordExtent as terms;
-ghost use Rattle.tile_build.specs.StoredTile.{finished_of};
+ghost use Rattle.layer_tiles.specs.Filling.{named};
 ghost use Rattle.tile_build.specs.Tile.{tile_of};
 ghost use Rattle.commit_plan.specs.Taking.{TakesRoom};
-ghost use Rattle.commit_plan.specs.Staying.{own_extent, tile_extent, records_named, if_near, layer_named, layer_stays, tile_stays, near_ones, is_of};
+ghost use Rattle.commit_plan.specs.Loading.{read_content};
+ghost use Rattle.commit_plan.specs.Staying.{own_extent, tile_extent, records_named, if_near, layer_named, layer_stays, tile_stays, near_ones};
 
 use crate::comparing::{same_layer, same_tile};
 use crate::room::Room;
@@ -19,14 +19,14 @@ use crate::taking::room_of;
 use extent_map::blocks_of;
 use extent_map::extent::Extent as Run;
 use layer_book::layer::Layer;
-use layer_book::layers::Layers;
 use layer_expr::name::Name;
+use layer_tiles::Table;
 use plane_base::Column;
 use record_writing::catalog::{Listed, Records};
 use root_reading::load_fault::LoadFault;
 use std::alloc::Global;
+use std::sync::Arc;
 use store_terms::root::RecordExtent;
-use tile_build::stored_tile::StoredTile;
 use tile_build::tile::Tile;
 
 /// What the live root's catalog lists, the blocks that the root takes, and the layers and finished tiles that it holds,
@@ -35,8 +35,7 @@ use tile_build::tile::Tile;
 pub struct LiveRecords {
     pub(crate) listing: Vec<Listed>,
     pub(crate) room: Room,
-    pub(crate) layers: Layers,
-    pub(crate) tiles: Vec<StoredTile>,
+    pub(crate) held: Option<Arc<Table>>,
     ghost apart: { all_apart (near_ones (extents_listed (entries_of listing.items))) ≡ true },
     ghost free: { (e : terms.RecordExtent) → IsUnused (taken_of room.map) e.block (blocks e.size)
         → is_apart_from e (near_ones (extents_listed (entries_of listing.items))) ≡ true },
@@ -88,81 +87,59 @@ fn if_near(extent: RecordExtent) -> Option<RecordExtent>
     Some(extent)
 }
 
-/// Whether a tile is that of a name and column.
-fn is_of(tile: &StoredTile, name: &Name, column: Column) -> bool
-    ensures { result ≡ is_of name.now column (finished_of tile.now) }
-{
-    tile.column == column && tile.name.bytes() == name.bytes()
-}
-
-/// The first tile of a name and column.
-fn tile_among<'a>(tiles: &'a [StoredTile], name: &Name, column: Column) -> Option<&'a Tile>
-    ensures { option_map (λ tile. tile_of tile.now) result ≡ tile_at (map finished_of tiles.now) name.now column }
-{
-    for tile in tiles {
-        if is_of(tile, name, column) {
-            return Some(&tile.tile);
-        }
-    }
-    None
-}
-
 impl LiveRecords {
-    ghost use Rattle.commit_plan.specs.Live.{standing};
+    ghost use Rattle.commit_plan.specs.Live.{live_content};
 
     /// Those of a root that lists nothing, and takes this room.
     pub fn empty(alloc: Global, room: Room) -> LiveRecords
-        ensures stands { standing result ≡ record { listing = []; layers = []; tiles = [] } }
+        ensures stands { live_content result ≡ record { listing = []; layers = []; tiles = [] } }
         ensures room { result.room ≡ room }
     {
         LiveRecords {
             listing: Vec::new(alloc),
             room,
-            layers: Layers::new(alloc),
-            tiles: Vec::new(alloc),
+            held: None,
         }
     }
 
-    /// Those of a root with a catalog here, which lists these records of these layers and tiles.
+    /// Those of a root with a catalog here, which lists these records of these layers and their tiles.
     pub fn new(
         alloc: Global,
         catalog: RecordExtent,
         listing: Vec<Listed>,
-        layers: Layers,
-        tiles: Vec<StoredTile>,
+        table: Arc<Table>,
         max_blocks: u32,
     ) -> Result<LiveRecords, LoadFault>
         ensures stands { IfOk result
-            (λ live. standing live
-            ≡ record { listing = entries_of listing.items; layers = layers; tiles = map finished_of tiles.items }) }
+            (λ live. live_content live ≡ read_content (entries_of listing.items) table.value) }
         ensures room { TakesRoom (λ live. live.room) catalog (entries_of listing.items) max_blocks result }
     {
         let room = room_of(alloc, catalog, &listing, max_blocks)?;
         Ok(LiveRecords {
             listing,
             room,
-            layers,
-            tiles,
+            held: Some(table),
         })
     }
 
     /// Lets go of what the root lists and holds. The blocks that it takes stay.
     pub fn let_go(&mut self)
-        ensures stands { standing self.new ≡ record { listing = []; layers = []; tiles = [] } }
+        ensures stands { live_content self.new ≡ record { listing = []; layers = []; tiles = [] } }
         ensures room { self.new.room ≡ self.old.room }
     {
-        let alloc = *self.listing.allocator();
         self.listing.clear();
-        self.layers = Layers::new(alloc);
-        self.tiles.clear();
+        self.held = None;
     }
 
     /// Where a layer's own record stays, if the root holds an equal one under its name.
     pub(crate) fn layer_stays(&self, name: &Name, layer: &Layer) -> Option<RecordExtent>
         ensures { result
-            ≡ layer_stays (standing self.now) (layer_named name.now (content layer.now)) }
+            ≡ layer_stays (live_content self.now) (layer_named name.now (content layer.now)) }
     {
-        let Some(held) = self.layers.get(name) else {
+        let Some(table) = &self.held else {
+            return None;
+        };
+        let Some(held) = table.layers().get(name) else {
             return None;
         };
         if !same_layer(held, layer) {
@@ -174,20 +151,28 @@ impl LiveRecords {
         if_near(own_extent(records))
     }
 
-    /// Where a tile's record stays, if the root holds an equal one under its name and column.
-    pub(crate) fn tile_stays(&self, tile: &StoredTile) -> Option<RecordExtent>
-        ensures { result ≡ tile_stays (standing self.now) (finished_of tile.now) }
+    /// Where the record of a layer and column's tile stays, if the root holds an equal one.
+    pub(crate) fn tile_stays(
+        &self,
+        name: &Name,
+        column: Column,
+        tile: &Tile,
+    ) -> Option<RecordExtent>
+        ensures { result ≡ tile_stays (live_content self.now) (named name.now column (tile_of tile.now)) }
     {
-        let Some(held) = tile_among(&self.tiles, &tile.name, tile.column) else {
+        let Some(table) = &self.held else {
             return None;
         };
-        if !same_tile(held, &tile.tile) {
+        let Some(held) = table.tile(name, column.number()) else {
+            return None;
+        };
+        if !same_tile(held, tile) {
             return None;
         }
-        let Some(records) = records_named(&self.listing, &tile.name) else {
+        let Some(records) = records_named(&self.listing, name) else {
             return None;
         };
-        let Some(extent) = tile_extent(records, tile.column) else {
+        let Some(extent) = tile_extent(records, column) else {
             return None;
         };
         if_near(extent)

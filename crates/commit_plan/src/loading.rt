@@ -1,37 +1,35 @@
 //! What a root of a file holds, and the blocks that it takes.
-ghost use Rattle.std.specs.Prelude.{◌≡◌, ◌↔◌, ◌^◌, ◌<◌, length, map, Ok, IfOk, IfErr};
+ghost use Rattle.std.specs.Prelude.{◌≡◌, ◌↔◌, ◌^◌, ◌<◌, length, Ok, IfOk, IfErr};
 ghost use Rattle.overlay_terms.specs.StoredTiles.{AreStored};
 ghost use Rattle.extent_map.specs.Taken.{taken_of, limit_of};
-ghost use Rattle.tile_build.specs.StoredTile.{finished_of};
+ghost use Rattle.layer_tiles.specs.Table.{tiles_in};
 ghost use Rattle.store_terms.specs.Image.{held_of};
 ghost use Rattle.store_terms.specs.Image as terms;
-ghost use Rattle.record_writing.specs.Listing.{entries_of};
 ghost use Rattle.root_reading.specs.Taking.{IsMapOf};
 ghost use Rattle.root_reading.specs.Looking.{Gives, Looks, Causes};
-ghost use Rattle.commit_plan.specs.Loading.{held_in, kept_in, standing_in};
-ghost use Rattle.commit_plan.specs.Staying.{standing_of};
-ghost use Rattle.commit_plan.specs.Live.{standing};
-ghost use Rattle.commit_plan.specs.Taking.{TakesRoom};
+ghost use Rattle.commit_plan.specs.Loading.{held_in, kept_in};
+ghost use Rattle.commit_plan.specs.Staying.{kept_content};
+ghost use Rattle.commit_plan.specs.Live.{live_content};
 ghost use Rattle.commit_plan.specs.Kept.{extents_in};
 
 use crate::live_records::LiveRecords;
 use crate::room::Room;
 use disk_model::disk::Disk;
-use record_writing::catalog::Listed;
+use layer_tiles::Table;
 use root_reading::load_fault::LoadFault;
-use root_reading::loading::{RootContent, content_of};
+use root_reading::loading::content_of;
 use root_reading::records::listing_at;
 use std::alloc::Global;
-use store_terms::root::{RecordExtent, Root};
-use tile_build::stored_tile::shared_again;
+use std::sync::Arc;
+use store_terms::root::Root;
 
 /// What is read of a file: its root, what the root holds, and the blocks that it takes.
 #[derive(Debug, Drop)]
 pub struct Loaded {
     pub root: Root,
     /// What it holds, for the version that is opened.
-    pub content: RootContent,
-    /// The same, with its tiles shared, and where it lies, for the store.
+    pub content: Arc<Table>,
+    /// The same, which it shares, and where it lies, for the store.
     pub live: LiveRecords,
     /// Records of nothing, in whose place those of the commit to come are put.
     pub next_live: LiveRecords,
@@ -46,22 +44,6 @@ fn no_room(alloc: Global, max_blocks: u32) -> Result<Room, LoadFault>
         Ok(room) => Ok(room),
         Err(_) => Err(LoadFault::OutOfMemory),
     }
-}
-
-/// The records of a root with a catalog here, which lists those of some layers and tiles. It shares them.
-fn live_of(
-    alloc: Global,
-    catalog: RecordExtent,
-    listing: Vec<Listed>,
-    content: &RootContent,
-    max_blocks: u32,
-) -> Result<LiveRecords, LoadFault>
-    ensures stands { IfOk result (λ live. standing live ≡ standing_in (entries_of listing.items) content.now) }
-    ensures room { TakesRoom (λ live. live.room) catalog (entries_of listing.items) max_blocks result }
-{
-    let layers = content.layers.try_copy(alloc)?;
-    let tiles = shared_again(alloc, &content.tiles)?;
-    LiveRecords::new(alloc, catalog, listing, layers, tiles, max_blocks)
 }
 
 /// What a root of a file of this size holds, and the blocks that it takes.
@@ -79,18 +61,19 @@ pub fn read_root<D: Disk>(
         → Gives held_in result (held_of (D.seen disk.old) root) }
     ensures listing { D.is_honest disk.old
         → IfOk result (λ x. terms.listing_of (D.seen disk.old) root ≡ Ok (kept_in x).listing) }
-    ensures stands { IfOk result (λ x. standing x.live ≡ standing_of (kept_in x)) }
+    ensures stands { IfOk result (λ x. live_content x.live ≡ kept_content (kept_in x)) }
     ensures room { D.is_honest disk.old → length (D.seen disk.old) < 2 ^ 64
         → IfOk result (λ x. IsMapOf (extents_in (kept_in x)) (taken_of x.live.room.map)) }
     ensures root { IfOk result (λ x. x.root ≡ root) }
     ensures limit { IfOk result (λ x. limit_of x.live.room.map ≡ max_blocks) }
     ensures next_limit { IfOk result (λ x. limit_of x.next_live.room.map ≡ max_blocks) }
-    ensures stored { IfOk result (λ x. AreStored x.content.layers (map finished_of x.content.tiles.items)) }
+    ensures stored { IfOk result (λ x. AreStored x.content.value.layers (tiles_in x.content.value)) }
     ensures cause { D.is_honest disk.old → Causes result (D.faults disk.old) (D.faults disk.new) }
 {
     let listing = listing_at(alloc, disk, size, root)?;
-    let content = content_of(alloc, disk, size, &listing)?;
-    let live = live_of(alloc, root.catalog, listing, &content, max_blocks)?;
+    let table = content_of(alloc, disk, size, &listing)?;
+    let content = Arc::new(alloc, table)?;
+    let live = LiveRecords::new(alloc, root.catalog, listing, content.clone()?, max_blocks)?;
     let next_room = no_room(alloc, max_blocks)?;
     Ok(Loaded {
         root,

@@ -8,7 +8,7 @@ use Rattle.record_writing.specs.declared.image.Image.{Image}
 use Rattle.record_writing.specs.ImageHeld.{image_held}
 use Rattle.commit_plan.specs.declared.fault.StoreFault.{StoreFault}
 use Rattle.root_store.specs.declared.commit.Commit.{Commit}
-use Rattle.commit_plan.specs.Live.{standing}
+use Rattle.commit_plan.specs.Live.{live_content}
 use Rattle.commit_plan.specs.Sizes.{new_records}
 use Rattle.commit_plan.specs.Fitting.{HasRoom, HasNoRoom}
 use Rattle.commit_plan.specs.Kept.{Kept}
@@ -51,4 +51,4 @@ HasNoRoomFor commit version = IsOfSome (version_held version) (HasNoRoom commit.
 -- the device calls of the commit of a version: one for each record that the store does not hold already, one for the
 -- catalog, and six more
 abbrev pub calls_of : {D : Type 0} {g : Ghosts D} → Commit D g → Version → ℕ
-calls_of commit version = new_records (standing commit.live) (version_held version) + 7
+calls_of commit version = new_records (live_content commit.live) (version_held version) + 7

@@ -47,31 +47,20 @@ impl<D: Disk> Engine<D> {
         ensures stored { IfOk result (λ e. e.flusher.commit.root.version ≡ e.version.number) }
         ensures jobs { IfOk result (λ e. (e.jobs.items ≡ []) × (e.next_job ≡ 0)) }
     {
-        let (commit, image) = match open(alloc, disk, max_blocks) {
-            Ok(opened) => opened,
-            Err(refused) => return Err(refused),
-        };
-        match restored(alloc, image) {
-            Ok(version) => {
-                Ok(Engine {
-                    version,
-                    flusher: Flusher::new(commit),
-                    jobs: Vec::new(alloc),
-                    next_job: 0,
-                })
-            }
-            Err(_) => Err(OpenFault {
-                fault: StoreFault::OutOfMemory,
-                disk: commit.into_disk(),
-            }),
-        }
+        let (commit, image) = open(alloc, disk, max_blocks)?;
+        Ok(Engine {
+            version: restored(image),
+            flusher: Flusher::new(commit),
+            jobs: Vec::new(alloc),
+            next_job: 0,
+        })
     }
 }
 
 /// The version of an image, all of it durable.
-fn restored(alloc: Global, image: Image) -> Result<Version, VersionFault>
-    ensures { IfOk result (λ version. version ≡ version_of (image_held image)) }
+fn restored(image: Image) -> Version
+    ensures { result ≡ version_of (image_held image) }
 {
-    let (number, layers, tiles) = image.into_shared();
-    Version::restore_shared(alloc, number, layers, tiles)
+    let (number, table) = image.into_table();
+    Version::restore_table(number, table)
 }

@@ -4,18 +4,17 @@ use Rattle.overlay_terms.specs.Layers.{Name, Layer}
 use Rattle.overlay_terms.specs.Commands.{version_max}
 use Rattle.overlay_terms.specs.StoredTiles.{AreStored}
 use Rattle.tile_build.specs.declared.tile.Tile.{Tile}
-use Rattle.tile_build.specs.declared.stored_tile.StoredTile.{StoredTile}
-use Rattle.tile_build.specs.StoredTile.{finished_of}
-use Rattle.tile_build.specs.Tile.{finished_of as finished_named}
+use Rattle.tile_build.specs.Tile.{finished_of}
+use Rattle.layer_tiles.specs.Table.{tiles_in, Tabled}
 use Rattle.store_terms.specs.Image.{Held}
 
 -- number, layers and tiles of the code as what a store holds
 abbrev pub held : ℕ → List Layer → List (Name × ℕ × Tile) → Held
-held number layers tiles = record { number = number; layers = layers; tiles = map finished_named tiles }
+held number layers tiles = record { number = number; layers = layers; tiles = map finished_of tiles }
 
--- the same with tiles that are shared
-abbrev pub shared_held : ℕ → List Layer → List StoredTile → Held
-shared_held number layers tiles = record { number = number; layers = layers; tiles = map finished_of tiles }
+-- the same of a table; the names of the ends of its tiles' pieces are left out
+abbrev pub table_held : ℕ → Tabled → Held
+table_held number table = record { number = number; layers = table.layers; tiles = tiles_in table }
 
 -- what a store may hold: no number that is too great, and tiles of their form in their order
 pub record IsImage (x : Held) : Type 0 where

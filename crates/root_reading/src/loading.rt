@@ -1,17 +1,17 @@
 //! The layers and finished tiles of a file.
-ghost use Rattle.std.specs.Prelude.{◌↔◌, [], List, map, IfOk, OnOk, IfErr, length, ◌≡◌};
+ghost use Rattle.std.specs.Prelude.{◌↔◌, [], IfOk, OnOk, IfErr, length, ◌≡◌};
 ghost use Rattle.std.proofs.Common.{inl, inr};
-ghost use Rattle.overlay_terms.specs.Histories.{Finished};
 ghost use Rattle.overlay_terms.specs.Layers.{base};
 ghost use Rattle.overlay_terms.specs.StoredTiles.{AreStored};
-ghost use Rattle.tile_build.specs.StoredTile.{finished_of};
+ghost use Rattle.layer_tiles.specs.Filling.{IsLonger};
+ghost use Rattle.layer_tiles.specs.Table.{laid, tiles_in, IsLaid, Tabled};
 ghost use Rattle.record_writing.specs.Answers.{Reads};
 ghost use Rattle.record_writing.specs.Listing.{entry_of, entries_of};
 ghost use Rattle.store_terms.specs.Image.{layers_of, with_layer};
 ghost use Rattle.root_reading.specs.Looking.{Gives, Looks, Causes, OnlyLooks};
 ghost use Rattle.root_reading.specs.Loading.{layers_with_derived};
-ghost use Rattle.root_reading.specs.Stored.{AreStoredTo};
-ghost use Rattle.root_reading.specs.Contents.{Adds, RefusesLayer, IsAsStored};
+ghost use Rattle.root_reading.specs.Stored.{IsNextTo};
+ghost use Rattle.root_reading.specs.Contents.{Adds, RefusesLayer};
 
 use crate::keeping::{keep, name_in};
 use crate::load_fault::LoadFault;
@@ -20,20 +20,13 @@ use crate::tiles::add_tiles;
 use disk_model::disk::Disk;
 use layer_book::command::Command;
 use layer_book::layers::Layers;
+use layer_tiles::Table;
 use plane_base::base_layer::BaseLayer;
 use record_writing::catalog::{Listed, Records};
 use record_writing::fault::RecordFault;
 use std::alloc::Global;
 use std::sync::Arc;
 use store_terms::root::RecordExtent;
-use tile_build::stored_tile::StoredTile;
-
-/// What is read so far: layers, and the finished tiles of them.
-#[derive(Debug, Drop)]
-pub struct RootContent {
-    pub layers: Layers,
-    pub tiles: Vec<StoredTile>,
-}
 
 /// The layers with a base layer more, of these rings.
 fn with_base(
@@ -43,7 +36,7 @@ fn with_base(
     rings: BaseLayer,
 ) -> Result<Layers, RecordFault>
     ensures reads { Reads (λ l. l) result (with_layer layers.now name.now (base rings)) }
-    ensures stored { (tiles : List Finished) → AreStored layers.now tiles → IfOk result (λ l. AreStored l tiles) }
+    ensures longer { IfOk result (λ l. IsLonger layers.now l) }
 {
     let name = name_in(alloc, name)?;
     let rings = match Arc::new(alloc, rings) {
@@ -67,8 +60,9 @@ fn with_derived<D: Disk>(
     ensures looks { OnlyLooks D.Disk result disk.old disk.new }
     ensures gives { D.is_honest disk.old
         → Gives (λ l. l) result (layers_with_derived (D.seen disk.old) layers.now name.now extent) }
-    ensures stored { (tiles : List Finished) → AreStored layers.now tiles
-        → IfOk result (λ l. AreStoredTo l tiles name.now 0) }
+    ensures longer { IfOk result (λ l. IsLonger layers.now l) }
+    ensures next { (table : Tabled) → IsLaid (laid table) → table.layers ≡ layers.now
+        → IfOk result (λ l. (longer : Tabled) → longer.layers ≡ l → tiles_in longer ≡ tiles_in table → IsNextTo longer name.now 0) }
 {
     let expression = expression_at(alloc, disk, size, extent)?;
     let name = name_in(alloc, name)?;
@@ -84,21 +78,21 @@ fn add_base<D: Disk>(
     size: usize,
     name: &[u8],
     extent: RecordExtent,
-    content: &mut RootContent,
+    table: &mut Table,
 ) -> Result<(), LoadFault>
     requires { D.is_honest disk.old → size ≡ length (D.seen disk.old) }
     ensures looks { OnlyLooks D.Disk result disk.old disk.new }
     ensures adds { D.is_honest disk.old
         → OnOk result
-        (Adds (D.seen disk.old) content.old content.new (record { name = name.now; records = inl extent })) }
+        (Adds (D.seen disk.old) table.old table.new (record { name = name.now; records = inl extent })) }
     ensures refuses { D.is_honest disk.old
         → IfErr result
-        (λ e. RefusesLayer e (D.seen disk.old) content.old (record { name = name.now; records = inl extent })) }
-    ensures stored { IsAsStored content.old → OnOk result (IsAsStored content.new) }
+        (λ e. RefusesLayer e (D.seen disk.old) table.old (record { name = name.now; records = inl extent })) }
 {
     let rings = base_at(alloc, disk, size, extent)?;
-    let layers = with_base(alloc, &content.layers, name, rings)?;
-    content.layers = layers;
+    let layers = with_base(alloc, table.layers(), name, rings)?;
+    let longer = table.with_layer(alloc, layers)?;
+    *table = longer;
     Ok(())
 }
 
@@ -110,25 +104,24 @@ fn add_derived<D: Disk>(
     name: &[u8],
     extent: RecordExtent,
     entries: &[Option<RecordExtent>],
-    content: &mut RootContent,
+    table: &mut Table,
 ) -> Result<(), LoadFault>
     requires { D.is_honest disk.old → size ≡ length (D.seen disk.old) }
     ensures looks { OnlyLooks D.Disk result disk.old disk.new }
     ensures adds { D.is_honest disk.old
         → OnOk result
-        (Adds (D.seen disk.old) content.old content.new
+        (Adds (D.seen disk.old) table.old table.new
         (record { name = name.now; records = inr (extent, entries.now) })) }
     ensures refuses { D.is_honest disk.old
         → IfErr result
-        (λ e. RefusesLayer e (D.seen disk.old) content.old
+        (λ e. RefusesLayer e (D.seen disk.old) table.old
         (record { name = name.now; records = inr (extent, entries.now) })) }
-    ensures stored { IsAsStored content.old → OnOk result (IsAsStored content.new) }
 {
-    let layers = with_derived(alloc, disk, size, &content.layers, name, extent)?;
+    let layers = with_derived(alloc, disk, size, table.layers(), name, extent)?;
     let own = name_in(alloc, name)?;
-    add_tiles(alloc, disk, size, &own, entries, &mut content.tiles)?;
-    content.layers = layers;
-    Ok(())
+    let longer = table.with_layer(alloc, layers)?;
+    *table = longer;
+    add_tiles(alloc, disk, size, &own, entries, table)
 }
 
 /// Adds a layer that the catalog lists.
@@ -137,20 +130,19 @@ fn add_layer<D: Disk>(
     disk: &mut D,
     size: usize,
     entry: &Listed,
-    content: &mut RootContent,
+    table: &mut Table,
 ) -> Result<(), LoadFault>
     requires { D.is_honest disk.old → size ≡ length (D.seen disk.old) }
     ensures looks { OnlyLooks D.Disk result disk.old disk.new }
     ensures adds { D.is_honest disk.old
-        → OnOk result (Adds (D.seen disk.old) content.old content.new (entry_of entry.now)) }
+        → OnOk result (Adds (D.seen disk.old) table.old table.new (entry_of entry.now)) }
     ensures refuses { D.is_honest disk.old
-        → IfErr result (λ e. RefusesLayer e (D.seen disk.old) content.old (entry_of entry.now)) }
-    ensures stored { IsAsStored content.old → OnOk result (IsAsStored content.new) }
+        → IfErr result (λ e. RefusesLayer e (D.seen disk.old) table.old (entry_of entry.now)) }
 {
     match &entry.records {
-        Records::Base(extent) => add_base(alloc, disk, size, &entry.name, *extent, content),
+        Records::Base(extent) => add_base(alloc, disk, size, &entry.name, *extent, table),
         Records::Derived(extent, entries) => {
-            add_derived(alloc, disk, size, &entry.name, *extent, entries, content)
+            add_derived(alloc, disk, size, &entry.name, *extent, entries, table)
         }
     }
 }
@@ -161,22 +153,20 @@ pub fn content_of<D: Disk>(
     disk: &mut D,
     size: usize,
     listing: &[Listed],
-) -> Result<RootContent, LoadFault>
+) -> Result<Table, LoadFault>
     requires { D.is_honest disk.old → size ≡ length (D.seen disk.old) }
     ensures honest { D.is_honest disk.new ↔ D.is_honest disk.old }
     ensures looks { D.is_honest disk.old → Looks D.Disk disk.old disk.new }
     ensures gives { D.is_honest disk.old
-        → Gives (λ x. (x.layers, map finished_of x.tiles.items)) result
-        (layers_of (D.seen disk.old) [] (entries_of listing.now)) }
-    ensures stored { IfOk result (λ x. AreStored x.layers (map finished_of x.tiles.items)) }
+        → Gives (λ x. (x.layers, tiles_in x)) result (layers_of (D.seen disk.old) [] (entries_of listing.now)) }
+    ensures stored { IfOk result (λ x. AreStored x.layers (tiles_in x)) }
     ensures cause { D.is_honest disk.old → Causes result (D.faults disk.old) (D.faults disk.new) }
 {
-    let mut content = RootContent {
-        layers: Layers::new(alloc),
-        tiles: Vec::new(alloc),
-    };
+    let mut table = Table::of(alloc, Layers::new(alloc))?;
     for entry in listing {
-        add_layer(alloc, disk, size, entry, &mut content)?;
+        add_layer(alloc, disk, size, entry, &mut table)?;
     }
-    Ok(content)
+    // A table is laid out as its layers are by its type: that its tiles are as a file holds them rests on that.
+    let _ = table.layers();
+    Ok(table)
 }

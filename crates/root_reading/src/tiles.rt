@@ -1,28 +1,25 @@
 //! The finished tiles of a layer, as the disk has them.
-ghost use Rattle.std.specs.Prelude.{◌≡◌, ◌+◌, ◌<◌, ◌∷◌, List, Option, map, true, IfOk, OnOk, IfErr, length};
+ghost use Rattle.std.specs.Prelude.{◌≡◌, ◌+◌, ◌<◌, ◌∷◌, List, Option, true, IfOk, OnOk, IfErr, length};
 ghost use Rattle.overlay_terms.specs.Column.{column_count};
 ghost use Rattle.overlay_terms.specs.Histories.{is_formed};
-ghost use Rattle.overlay_terms.specs.Layers.{Layer};
-ghost use Rattle.overlay_terms.specs.StoredTiles.{AreStored};
-ghost use Rattle.tile_build.specs.StoredTile.{finished_of};
+ghost use Rattle.layer_tiles.specs.Table.{tiles_in};
 ghost use Rattle.tile_build.specs.Tile.{tile_of};
 ghost use Rattle.store_terms.specs.Image.{tiles_of};
 ghost use Rattle.store_terms.specs.declared.root.RecordExtent as terms;
 ghost use Rattle.root_reading.specs.Looking.{Gives, Refuses, OnlyLooks};
 ghost use Rattle.root_reading.specs.Loading.{tile_at, then_tiles};
-ghost use Rattle.root_reading.specs.Stored.{AreStoredTo};
+ghost use Rattle.root_reading.specs.Stored.{IsNextTo};
 
 use crate::fetching::fetch;
 use crate::load_fault::LoadFault;
 use disk_model::disk::Disk;
 use layer_expr::name::Name;
+use layer_tiles::Table;
 use plane_base::Column;
 use record_reading::tile_record::read_tile;
 use std::alloc::Global;
-use std::sync::Arc;
 use store_terms::damage::Damage;
 use store_terms::root::RecordExtent;
-use tile_build::stored_tile::StoredTile;
 use tile_build::tile::Tile;
 
 /// The column of a number, and its tile, whose record lies in an extent.
@@ -51,7 +48,6 @@ fn tile_at<D: Disk>(
 }
 
 /// Adds the tile of a column, if its entry says where its record lies.
-#[tactic(auto, using(crate::proofs::StoredLemmas::next_column))]
 fn add_tile<D: Disk>(
     alloc: Global,
     disk: &mut D,
@@ -59,32 +55,30 @@ fn add_tile<D: Disk>(
     name: &Name,
     column: usize,
     entry: Option<RecordExtent>,
-    tiles: &mut Vec<StoredTile>,
+    table: &mut Table,
 ) -> Result<(), LoadFault>
-    requires { D.is_honest disk.old → size ≡ length (D.seen disk.old) }
+    requires size { D.is_honest disk.old → size ≡ length (D.seen disk.old) }
+    requires next { IsNextTo table.old name.now column }
     ensures looks { OnlyLooks D.Disk result disk.old disk.new }
     ensures adds { D.is_honest disk.old
         → OnOk result
         ((rest : List (Option terms.RecordExtent))
-        → then_tiles (map finished_of tiles.old.items) (tiles_of (D.seen disk.old) name.now column (entry ∷ rest))
-        ≡ then_tiles (map finished_of tiles.new.items) (tiles_of (D.seen disk.old) name.now (column + 1) rest)) }
+        → then_tiles (tiles_in table.old) (tiles_of (D.seen disk.old) name.now column (entry ∷ rest))
+        ≡ then_tiles (tiles_in table.new) (tiles_of (D.seen disk.old) name.now (column + 1) rest)) }
     ensures refuses { D.is_honest disk.old
         → IfErr result
         (λ e. (rest : List (Option terms.RecordExtent))
-        → Refuses e (then_tiles (map finished_of tiles.old.items)
+        → Refuses e (then_tiles (tiles_in table.old)
         (tiles_of (D.seen disk.old) name.now column (entry ∷ rest)))) }
-    ensures stored { (layers : List Layer) → AreStoredTo layers (map finished_of tiles.old.items) name.now column
-        → OnOk result (AreStoredTo layers (map finished_of tiles.new.items) name.now (column + 1)) }
+    ensures layers { OnOk result (table.new.layers ≡ table.old.layers) }
+    ensures next { OnOk result (IsNextTo table.new name.now (column + 1)) }
 {
     let Some(extent) = entry else {
         return Ok(());
     };
     let (column, tile) = tile_at(alloc, disk, size, column, extent)?;
-    tiles.push(StoredTile {
-        name: name.clone()?,
-        column,
-        tile: Arc::new(alloc, tile)?,
-    })?;
+    let longer = table.with_next(alloc, name, column, tile)?;
+    *table = longer;
     Ok(())
 }
 
@@ -95,23 +89,23 @@ pub(crate) fn add_tiles<D: Disk>(
     size: usize,
     name: &Name,
     entries: &[Option<RecordExtent>],
-    tiles: &mut Vec<StoredTile>,
+    table: &mut Table,
 ) -> Result<(), LoadFault>
-    requires { D.is_honest disk.old → size ≡ length (D.seen disk.old) }
+    requires size { D.is_honest disk.old → size ≡ length (D.seen disk.old) }
+    requires next { IsNextTo table.old name.now 0 }
     ensures looks { OnlyLooks D.Disk result disk.old disk.new }
     ensures adds { D.is_honest disk.old
         → OnOk result
-        (then_tiles (map finished_of tiles.old.items) (tiles_of (D.seen disk.old) name.now 0 entries.now)
-        ≡ Ok (map finished_of tiles.new.items)) }
+        (then_tiles (tiles_in table.old) (tiles_of (D.seen disk.old) name.now 0 entries.now)
+        ≡ Ok (tiles_in table.new)) }
     ensures refuses { D.is_honest disk.old
         → IfErr result
         (λ e. Refuses e
-        (then_tiles (map finished_of tiles.old.items) (tiles_of (D.seen disk.old) name.now 0 entries.now))) }
-    ensures stored { (layers : List Layer) → AreStoredTo layers (map finished_of tiles.old.items) name.now 0
-        → OnOk result (AreStored layers (map finished_of tiles.new.items)) }
+        (then_tiles (tiles_in table.old) (tiles_of (D.seen disk.old) name.now 0 entries.now))) }
+    ensures layers { OnOk result (table.new.layers ≡ table.old.layers) }
 {
     for (column, entry) in entries.iter().enumerate() {
-        add_tile(alloc, disk, size, name, column, *entry, tiles)?;
+        add_tile(alloc, disk, size, name, column, *entry, table)?;
     }
     Ok(())
 }

@@ -17,8 +17,8 @@ use Rattle.commit_plan.specs.declared.write.Write.{Write}
 use Rattle.commit_plan.specs.Kept.{Kept, own, other, extents_in, Named, Harmless, Live, Rest, Shut, Calm, Ready}
 use Rattle.commit_plan.specs.Planning.{Leads, Spare}
 use Rattle.commit_plan.specs.declared.live_records.LiveRecords.{LiveRecords}
-use Rattle.commit_plan.specs.Staying.{standing_of}
-use Rattle.commit_plan.specs.Live.{standing}
+use Rattle.commit_plan.specs.Staying.{kept_content}
+use Rattle.commit_plan.specs.Live.{live_content}
 use Rattle.disk_model.specs.Moments.{Leaves}
 use Rattle.extent_map.specs.Taken.{taken_of}
 use Rattle.root_store.specs.declared.phase.Phase.{Phase}
@@ -139,7 +139,7 @@ spare_stable P stable (w ∷ ws) there = (
 
 module _ {D : Type 0} (g : Ghosts D) where
   rest_known : (disk : D) (root : Root) (live : LiveRecords) (x : Kept) → root ≡ x.root
-      → standing live ≡ standing_of x → g.is_honest disk → IsStable (IsAtRest g disk Idle root live x)
+      → live_content live ≡ kept_content x → g.is_honest disk → IsStable (IsAtRest g disk Idle root live x)
   rest_known disk root live x is holds honest there = record {
     honest = honest;
     idle = refl;
@@ -228,7 +228,7 @@ module _ {D : Type 0} (g : Ghosts D) where
       }
 
 -- what follows on a root is the content of the fields that it is put in
-pub content_is : (root : Root) (live : LiveRecords) (y : Kept) → root ≡ y.root → standing live ≡ standing_of y
+pub content_is : (root : Root) (live : LiveRecords) (y : Kept) → root ≡ y.root → live_content live ≡ kept_content y
     → y.held.number ≡ root.version → content_of root live ≡ y
 content_is root live y is holds number =
     let numbered : root.version ≡ y.held.number = sym number in

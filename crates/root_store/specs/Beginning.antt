@@ -10,7 +10,7 @@ use Rattle.record_writing.specs.ImageHeld.{image_held}
 use Rattle.commit_plan.specs.Drafting.{IsLaidOut}
 use Rattle.commit_plan.specs.Sizes.{sizes_of}
 use Rattle.commit_plan.specs.Kept.{other}
-use Rattle.commit_plan.specs.Live.{standing}
+use Rattle.commit_plan.specs.Live.{live_content}
 use Rattle.commit_plan.specs.declared.write.Write.{Write}
 use Rattle.root_store.specs.Running.{KeepsTo}
 use Rattle.root_store.specs.declared.commit.Commit.{Commit}
@@ -40,8 +40,8 @@ IsReason phase root no_room fault = IsRefusal phase root fault
 -- the writes of a commit of an image: the new records, as long as its own tiles and layers make them, the catalog and the body of the other slot; each but the body in the lowest run that is free of what the live root takes and of the runs before it
 abbrev pub IsLaid : {D : Type 0} {g : Ghosts D} → Commit D g → Image → Commit D g → Type 0
 IsLaid old image new =
-    IsLaidOut (standing old.live) (taken_of old.live.room.map) old.live.room.max_blocks (image_held image)
-    (sizes_of (standing old.live) image) (body_at (other old.root)) new.next_root new.plan.items
+    IsLaidOut (live_content old.live) (taken_of old.live.room.map) old.live.room.max_blocks (image_held image)
+    (sizes_of (live_content old.live) image) (body_at (other old.root)) new.next_root new.plan.items
 
 -- a write ends at or below a block limit
 abbrev pub EndsBelow : ℕ → Write → Type 0

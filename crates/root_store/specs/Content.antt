@@ -8,8 +8,8 @@ use Rattle.store_terms.specs.declared.root.Root.{Root}
 use Rattle.root_reading.specs.Taking.{IsMapOf}
 use Rattle.commit_plan.specs.declared.live_records.LiveRecords.{LiveRecords}
 use Rattle.commit_plan.specs.declared.write.Write.{Write}
-use Rattle.commit_plan.specs.Staying.{standing_of}
-use Rattle.commit_plan.specs.Live.{standing}
+use Rattle.commit_plan.specs.Staying.{kept_content}
+use Rattle.commit_plan.specs.Live.{live_content}
 use Rattle.commit_plan.specs.Kept.{Kept, extents_in, other, Rest, Shut, Calm, Ready, Either}
 use Rattle.commit_plan.specs.Planning.{Leads, Spare}
 use Rattle.root_store.specs.declared.phase.Phase.{Phase}
@@ -19,8 +19,8 @@ use Rattle.root_store.specs.declared.phase.Phase.TheVariants.{Idle, Close, Settl
 abbrev pub content_of : Root → LiveRecords → Kept
 content_of root live = record {
   root = root;
-  listing = (standing live).listing;
-  held = record { number = root.version; layers = (standing live).layers; tiles = (standing live).tiles };
+  listing = (live_content live).listing;
+  held = record { number = root.version; layers = (live_content live).layers; tiles = (live_content live).tiles };
 }
 
 module _ {D : Type 0} (g : Ghosts D) where
@@ -29,7 +29,7 @@ module _ {D : Type 0} (g : Ghosts D) where
     pub honest : g.is_honest disk
     pub idle : phase ≡ Idle
     pub root : live_root ≡ x.root
-    pub holds : standing live ≡ standing_of x
+    pub holds : live_content live ≡ kept_content x
     pub room : IsMapOf (extents_in x) (taken_of live.room.map)
     pub leaves : Leaves g disk (Calm x)
 
@@ -53,7 +53,7 @@ module _ {D : Type 0} (g : Ghosts D) where
     pub honest : g.is_honest disk
     pub root : live_root ≡ x.root
     pub next_root : root_after ≡ y.root
-    pub next_holds : standing live_after ≡ standing_of y
+    pub next_holds : live_content live_after ≡ kept_content y
     pub next_room : IsMapOf (extents_in y) (taken_of live_after.room.map)
     pub before : IsBefore phase disk writes x y
 

@@ -8,7 +8,7 @@ ghost use Rattle.commit_plan.specs.Kept.{Kept};
 ghost use Rattle.root_store.specs.Running.{Stands, Runs, LeadsTo, KeepsTo, calls_left, is_busy};
 ghost use Rattle.commit_plan.specs.Drafting.{IsNext};
 ghost use Rattle.commit_plan.specs.Fitting.{HasRoom, HasNoRoom};
-ghost use Rattle.commit_plan.specs.Live.{standing};
+ghost use Rattle.commit_plan.specs.Live.{live_content};
 ghost use Rattle.commit_plan.specs.Sizes.{new_records};
 ghost use Rattle.root_store.specs.Beginning.{IsRefusal, IsReason, IsLaid};
 ghost use Rattle.root_store.specs.Writing.{writes_left};
@@ -95,7 +95,7 @@ impl<D: Disk> Commit<D> {
         // None of them is made.
         ensures left { OnOk result (writes_left self.new ≡ self.new.plan.items) }
         // One for each new record and the catalog, and six more.
-        ensures calls { OnOk result (calls_left self.new ≡ new_records (standing self.old.live) (image_held image) + 7) }
+        ensures calls { OnOk result (calls_left self.new ≡ new_records (live_content self.old.live) (image_held image) + 7) }
         ensures disk { self.new.disk ≡ self.old.disk }
         // The blocks that the file may have stay as many.
         ensures blocks { (limit : ℕ) → KeepsTo limit self.old → KeepsTo limit self.new }

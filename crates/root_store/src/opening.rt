@@ -3,11 +3,11 @@ ghost use Rattle.std.specs.Prelude.{◌≡◌, ◌↔◌, ◌≤◌, map, IfOk, 
 ghost use Rattle.disk_model.specs.Disk.{Only, CountsCall};
 ghost use Rattle.overlay_terms.specs.Commands.{version_max};
 ghost use Rattle.overlay_terms.specs.StoredTiles.{AreStored};
-ghost use Rattle.tile_build.specs.StoredTile.{finished_of};
+ghost use Rattle.layer_tiles.specs.Table.{tiles_in};
 ghost use Rattle.extent_map.specs.Taken.{limit_of};
 ghost use Rattle.commit_plan.specs.Loading.{kept_in};
-ghost use Rattle.commit_plan.specs.Staying.{standing_of};
-ghost use Rattle.commit_plan.specs.Live.{standing};
+ghost use Rattle.commit_plan.specs.Staying.{kept_content};
+ghost use Rattle.commit_plan.specs.Live.{live_content};
 ghost use Rattle.root_reading.specs.Looking.{OnlyLooks};
 ghost use Rattle.root_store.specs.Running.{KeepsTo};
 ghost use Rattle.root_store.specs.HonestSteps.{ReadsHonestly, LoadsHonestly};
@@ -47,8 +47,8 @@ fn read_store<D: Disk>(
     ensures reads { D.is_honest disk.old → ReadsHonestly D.Disk disk.old disk.new result }
     ensures limit { IfOk result (λ x. limit_of x.0.live.room.map ≡ max_blocks) }
     ensures next_limit { IfOk result (λ x. limit_of x.0.next_live.room.map ≡ max_blocks) }
-    ensures stored { IfOk result (λ x. AreStored x.0.content.layers (map finished_of x.0.content.tiles.items)) }
-    ensures stands { IfOk result (λ x. standing x.0.live ≡ standing_of (kept_in x.0)) }
+    ensures stored { IfOk result (λ x. AreStored x.0.content.value.layers (tiles_in x.0.content.value)) }
+    ensures stands { IfOk result (λ x. live_content x.0.live ≡ kept_content (kept_in x.0)) }
     ensures numbered { IfOk result (λ x. x.0.root.version ≤ version_max) }
 {
     settle(disk)?;
@@ -67,8 +67,8 @@ pub(crate) fn load<D: Disk>(
     ensures loads { D.is_honest disk.old → LoadsHonestly D.Disk disk.old disk.new result }
     ensures limit { IfOk result (λ x. limit_of x.live.room.map ≡ max_blocks) }
     ensures next_limit { IfOk result (λ x. limit_of x.next_live.room.map ≡ max_blocks) }
-    ensures stored { IfOk result (λ x. AreStored x.content.layers (map finished_of x.content.tiles.items)) }
-    ensures stands { IfOk result (λ x. standing x.live ≡ standing_of (kept_in x)) }
+    ensures stored { IfOk result (λ x. AreStored x.content.value.layers (tiles_in x.content.value)) }
+    ensures stands { IfOk result (λ x. live_content x.live ≡ kept_content (kept_in x)) }
     ensures numbered { IfOk result (λ x. x.root.version ≤ version_max) }
 {
     let (loaded, is_alone) = read_store(alloc, disk, max_blocks)?;
@@ -114,7 +114,7 @@ pub fn open<D: Disk>(
     match load(alloc, &mut disk, max_blocks) {
         Ok(loaded) => {
             let root = loaded.root;
-            let image = Image::of_shared(root.version, loaded.content.layers, loaded.content.tiles);
+            let image = Image::of_table(root.version, loaded.content);
             let commit = Commit {
                 disk,
                 root,

@@ -1,7 +1,7 @@
 use Rattle.commit_plan.specs.Kept.{extents_in}
 use Rattle.store_terms.specs.Places.{extents_listed}
-use Rattle.commit_plan.specs.Staying.{Standing, standing_of, AreHeldApart}
-use Rattle.commit_plan.specs.Live.{standing}
+use Rattle.commit_plan.specs.Staying.{LiveContent, kept_content, AreHeldApart}
+use Rattle.commit_plan.specs.Live.{live_content}
 use Rattle.commit_plan.specs.Sizes.{new_records}
 use Rattle.commit_plan.proofs.Counted.{records_count}
 use Rattle.commit_plan.proofs.Drafted.{held_in_room}
@@ -43,7 +43,7 @@ file_layers-requires c =
 pub returns-clause-ok : goal.returns-clause-ok
 returns-clause-ok c x root there stands room =
     let image = c.args.image in
-    let live = standing c.args.live.now in
+    let live = live_content c.args.live.now in
     let copy = c.in_ok-try_copy.field-0 in
     let d = c.file_layers.new.draft in
     let given = taken_of copy.map in
@@ -58,16 +58,16 @@ returns-clause-ok c x root there stands room =
     let spell = spell_of live (image_held image) given copy.max_blocks ls d (record { small = image.small; stored = image.stored }) book filed in
     let mapped : IsMapOf (extents_in x) given =
     subst (λ (l : List runs.Extent). IsMapOf (extents_in x) l) (sym c.in_ok-try_copy.ensures.taken) room in
-    let own : Spell (standing_of x) filed.filed ls (image_held image) =
-    subst (λ (s : Standing). Spell s filed.filed ls (image_held image)) stands spell in
-    let apart = subst (λ (s : Standing). AreHeldApart (extents_listed s.listing) given) stands
+    let own : Spell (kept_content x) filed.filed ls (image_held image) =
+    subst (λ (s : LiveContent). Spell s filed.filed ls (image_held image)) stands spell in
+    let apart = subst (λ (s : LiveContent). AreHeldApart (extents_listed s.listing) given) stands
     (held_in_room c.args.live.now given (sym c.in_ok-try_copy.ensures.taken)) in
     c.completed.ensures.ok x given copy.max_blocks filed.filed root there mapped apart filed.draft own
 
 pub returns-clause-calls : goal.returns-clause-calls
 returns-clause-calls c =
     let image = c.args.image in
-    let live = standing c.args.live.now in
+    let live = live_content c.args.live.now in
     let copy = c.in_ok-try_copy.field-0 in
     let d = c.file_layers.new.draft in
     let given = taken_of copy.map in
@@ -89,7 +89,7 @@ returns-clause-calls c =
 pub returns-clause-err : goal.returns-clause-err
 returns-clause-err c =
     let image = c.args.image in
-    let live = standing c.args.live.now in
+    let live = live_content c.args.live.now in
     let copy = c.in_ok-try_copy.field-0 in
     let d = c.file_layers.new.draft in
     let given = taken_of copy.map in
@@ -108,7 +108,7 @@ returns-clause-err c =
 pub returns-in_err-listing-clause-full : goal.returns-in_err-listing-clause-full
 returns-in_err-listing-clause-full c u =
     let image = c.args.image in
-    let live = standing c.args.live.now in
+    let live = live_content c.args.live.now in
     let copy = c.in_ok-try_copy.field-0 in
     let given = taken_of copy.map in
     let limit = copy.max_blocks in
@@ -125,7 +125,7 @@ returns-in_err-listing-clause-full c u =
 pub returns-clause-room : goal.returns-clause-room
 returns-clause-room c =
     let image = c.args.image in
-    let live = standing c.args.live.now in
+    let live = live_content c.args.live.now in
     let copy = c.in_ok-try_copy.field-0 in
     let given = taken_of copy.map in
     let limit = copy.max_blocks in
@@ -153,7 +153,7 @@ returns-clause-room c =
 pub returns-clause-full : goal.returns-clause-full
 returns-clause-full c u =
     let image = c.args.image in
-    let live = standing c.args.live.now in
+    let live = live_content c.args.live.now in
     let copy = c.in_ok-try_copy.field-0 in
     let given = taken_of copy.map in
     let limit = copy.max_blocks in
@@ -176,7 +176,7 @@ returns-clause-full c u =
 
 pub returns-clause-blocks : goal.returns-clause-blocks
 returns-clause-blocks c =
-    let live = standing c.args.live.now in
+    let live = live_content c.args.live.now in
     let room = c.args.live.now.room in
     let copy = c.in_ok-try_copy.field-0 in
     let placed = c.in_ok-listing.ensures.taken (taken_of copy.map) copy.max_blocks c.new-draft.ensures.placed in
@@ -189,7 +189,7 @@ returns-clause-blocks c =
 pub returns-clause-laid : goal.returns-clause-laid
 returns-clause-laid c =
     let image = c.args.image in
-    let live = standing c.args.live.now in
+    let live = live_content c.args.live.now in
     let room = c.args.live.now.room in
     let copy = c.in_ok-try_copy.field-0 in
     let d = c.file_layers.new.draft in

@@ -5,7 +5,7 @@ use Rattle.layer_book.specs.Layer.{content}
 use Rattle.tile_build.specs.StoredTile.{finished_of}
 use Rattle.commit_plan.specs.declared.fault.StoreFault.TheVariants.{Full}
 use Rattle.commit_plan.specs.Staying.{layer_named}
-use Rattle.commit_plan.specs.Live.{standing}
+use Rattle.commit_plan.specs.Live.{live_content}
 use Rattle.commit_plan.specs.Filing.{fresh_of}
 use Rattle.commit_plan.specs.Sizes.{own_sizes}
 use Rattle.commit_plan.specs.Walking.{IsLayerFiled}
@@ -17,14 +17,14 @@ use Rattle.commit_plan.proofs.filing.file_layer.Goals as goal
 pub returns-in_err-extent-clause-full : goal.returns-in_err-extent-clause-full
 returns-in_err-extent-clause-full c given limit sizes placed u =
     let layer = layer_named c.in-Some.named.now (content c.in-Some.layer.now) in
-    record_finds_none (standing c.args.live.now) c.args.layers.now c.args.place layer c.len.ensures.valid.sound.orderly
+    record_finds_none (live_content c.args.live.now) c.args.layers.now c.args.place layer c.len.ensures.valid.sound.orderly
     (sym c.in-Some.ensures) given limit sizes c.args.tiles.now
     (c.in_err-extent.ensures.full given limit sizes placed
     (passed_error _ c.from_residual-in_err-extent.result c.in_err-extent.field-0.0 Full c.from_residual-in_err-extent.ensures.1 u))
 
 pub returns-then-not-is_derived-clause-ok : goal.returns-then-not-is_derived-clause-ok
 returns-then-not-is_derived-clause-ok c given limit fs draft =
-    let live = standing c.args.live.now in
+    let live = live_content c.args.live.now in
     let ts = map finished_of c.args.tiles.now in
     let named : c.in-Some.named.now ≡ c.in_ok-name.name.items =
     sym (c.in_ok-name.ensures.items ∙ c.bytes.ensures.value) in
@@ -52,7 +52,7 @@ returns-then-not-is_derived-clause-left c =
 
 pub returns-in_err-entries-clause-full : goal.returns-in_err-entries-clause-full
 returns-in_err-entries-clause-full c given limit sizes placed u =
-    let live = standing c.args.live.now in
+    let live = live_content c.args.live.now in
     let layer = layer_named c.in-Some.named.now (content c.in-Some.layer.now) in
     tiles_find_none live c.args.layers.now c.args.place layer c.len.ensures.valid.sound.orderly
     (sym c.in-Some.ensures) given limit sizes c.args.tiles.now
@@ -62,7 +62,7 @@ returns-in_err-entries-clause-full c given limit sizes placed u =
 
 pub returns-clause-ok : goal.returns-clause-ok
 returns-clause-ok c given limit fs draft =
-    let live = standing c.args.live.now in
+    let live = live_content c.args.live.now in
     let ts = map finished_of c.args.tiles.now in
     let rest = map finished_of c.in_ok-entries.rest.now in
     let es = c.in_ok-entries.entries.items in

@@ -1,7 +1,7 @@
 use Rattle.std.proofs.Common.{◌≡◌, ◌++◌, ◌∷◌, [], List, None, refl, sym, subst, rules}
 use Rattle.layer_book.specs.Layer.{content}
 use Rattle.commit_plan.specs.Staying.{layer_named, layer_stays}
-use Rattle.commit_plan.specs.Live.{standing}
+use Rattle.commit_plan.specs.Live.{live_content}
 use Rattle.commit_plan.specs.Filing.{Filed, fresh, stays}
 use Rattle.commit_plan.specs.Drafting.{IsDraft}
 use Rattle.commit_plan.specs.Walking.{IsOwnFiled}
@@ -20,10 +20,10 @@ returns-in-Some-clause-ok c given limit fs draft = record {
 pub returns-clause-ok : goal.returns-clause-ok
 returns-clause-ok c given limit fs draft =
     let layer = layer_named c.args.name.now (content c.args.layer.now) in
-    let none : layer_stays (standing c.args.live.now) layer ≡ None = search rules in
+    let none : layer_stays (live_content c.args.live.now) layer ≡ None = search rules in
     let bytes = c.in_ok-bytes.bytes.items in
     if_ok c.file.result (λ e. IsDraft given limit (fs ++ record { extent = e; bytes = bytes } ∷ []) c.file.new.self)
-    (λ e. IsOwnFiled (standing c.args.live.now) given limit fs layer e c.file.new.self)
+    (λ e. IsOwnFiled (live_content c.args.live.now) given limit fs layer e c.file.new.self)
     (λ e is. record {
       filed = fresh (record { extent = e; bytes = bytes });
       extent = refl;

@@ -10,7 +10,7 @@ use Rattle.store_terms.specs.TileRecord.{named_tile, tile_of_record}
 use Rattle.store_terms.specs.declared.root.RecordExtent.{RecordExtent}
 use Rattle.commit_plan.specs.declared.fault.StoreFault.TheVariants.{Full}
 use Rattle.commit_plan.specs.Staying.{tile_stays}
-use Rattle.commit_plan.specs.Live.{standing}
+use Rattle.commit_plan.specs.Live.{live_content}
 use Rattle.commit_plan.specs.Filing.{Filed, fresh, stays}
 use Rattle.commit_plan.specs.Drafting.{ArePlaced, IsDraft}
 use Rattle.commit_plan.proofs.Drafts.{passed_error}
@@ -33,7 +33,7 @@ returns-then-not-is_here-clause-left c =
 
 pub returns-in-Some-clause-ok : goal.returns-in-Some-clause-ok
 returns-in-Some-clause-ok c given limit fs draft =
-    let live = standing c.args.live.now in
+    let live = live_content c.args.live.now in
     let layers = c.args.layers.now in
     let tiles = c.args.tiles.now in
     let e = c.in-Some.extent in
@@ -50,7 +50,7 @@ returns-in-Some-clause-ok c given limit fs draft =
 
 pub returns-in-Some-clause-left : goal.returns-in-Some-clause-left
 returns-in-Some-clause-left c =
-    let live = standing c.args.live.now in
+    let live = live_content c.args.live.now in
     let layers = c.args.layers.now in
     let tiles = c.args.tiles.now in
     let takes = takes_first live layers c.args.place c.args.column tiles c.index-tiles-0.result (stays c.in-Some.extent)
@@ -61,7 +61,7 @@ returns-in-Some-clause-left c =
 
 pub returns-in-Some-clause-taken : goal.returns-in-Some-clause-taken
 returns-in-Some-clause-taken c given limit sizes placed =
-    let live = standing c.args.live.now in
+    let live = live_content c.args.live.now in
     let tiles = c.args.tiles.now in
     let t = c.index-tiles-0.result in
     let one = one_is live c.args.layers.now c.args.place c.args.column tiles _ t [] c.index-tiles-0.is
@@ -71,7 +71,7 @@ returns-in-Some-clause-taken c given limit sizes placed =
 
 pub returns-clause-ok : goal.returns-clause-ok
 returns-clause-ok c given limit fs draft =
-    let live = standing c.args.live.now in
+    let live = live_content c.args.live.now in
     let layers = c.args.layers.now in
     let tiles = c.args.tiles.now in
     let t = c.index-tiles-0.result in
@@ -92,7 +92,7 @@ returns-clause-ok c given limit fs draft =
 
 pub returns-clause-left : goal.returns-clause-left
 returns-clause-left c =
-    let live = standing c.args.live.now in
+    let live = live_content c.args.live.now in
     let layers = c.args.layers.now in
     let tiles = c.args.tiles.now in
     let t = c.index-tiles-0.result in
@@ -123,11 +123,11 @@ file-requires c =
 
 pub returns-then-not-is_here-clause-taken : goal.returns-then-not-is_here-clause-taken
 returns-then-not-is_here-clause-taken c given limit sizes placed =
-    none_taken (standing c.args.live.now) given limit sizes c.args.layers.now c.args.place c.args.tiles.now c.args.draft.now placed
+    none_taken (live_content c.args.live.now) given limit sizes c.args.layers.now c.args.place c.args.tiles.now c.args.draft.now placed
 
 pub returns-clause-taken : goal.returns-clause-taken
 returns-clause-taken c given limit sizes placed =
-    let live = standing c.args.live.now in
+    let live = live_content c.args.live.now in
     let tiles = c.args.tiles.now in
     let t = c.index-tiles-0.result in
     let bytes = c.in_ok-bytes.bytes.items in
@@ -140,7 +140,7 @@ returns-clause-taken c given limit sizes placed =
 
 pub returns-in_err-extent-clause-full : goal.returns-in_err-extent-clause-full
 returns-in_err-extent-clause-full c given limit sizes placed u =
-    let live = standing c.args.live.now in
+    let live = live_content c.args.live.now in
     let tiles = c.args.tiles.now in
     let t = c.index-tiles-0.result in
     let bytes = c.in_ok-bytes.bytes.items in

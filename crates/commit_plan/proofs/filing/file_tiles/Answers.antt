@@ -4,7 +4,7 @@ use Rattle.std.proofs.lemmas.List.{length-append}
 use Rattle.tile_build.specs.StoredTile.{finished_of}
 use Rattle.commit_plan.specs.Filing.{filed_tiles}
 use Rattle.commit_plan.specs.declared.fault.StoreFault.TheVariants.{Full}
-use Rattle.commit_plan.specs.Live.{standing}
+use Rattle.commit_plan.specs.Live.{live_content}
 use Rattle.commit_plan.specs.Sizes.{tile_sizes}
 use Rattle.commit_plan.specs.Walking.{AreLeft, IsTileFiled}
 use Rattle.commit_plan.proofs.Drafts.{passed_error}
@@ -19,18 +19,18 @@ loop-number-preserved c =
     record {
       ok = λ given limit fs draft.
           let before = so_far.ok given limit fs draft in
-          tiles_more (standing c.args.live.now) given limit fs c.args.layers.now c.args.place c.loop-number.number
+          tiles_more (live_content c.args.live.now) given limit fs c.args.layers.now c.args.place c.loop-number.number
           (map finished_of c.args.tiles.now) (map finished_of c.loop-number.rest.now)
           (map finished_of c.in_ok-entry.after.now)
-          c.loop-number.entries.items c.push.new.self.items c.in_ok-entry.entry c.loop-number.draft c.file_tile.new.draft before (subst (λ k. IsTileFiled (standing c.args.live.now) given limit (fs ++ filed_tiles before.filed) c.args.layers.now
+          c.loop-number.entries.items c.push.new.self.items c.in_ok-entry.entry c.loop-number.draft c.file_tile.new.draft before (subst (λ k. IsTileFiled (live_content c.args.live.now) given limit (fs ++ filed_tiles before.filed) c.args.layers.now
           c.args.place k (map finished_of c.loop-number.rest.now) (map finished_of c.in_ok-entry.after.now)
           c.in_ok-entry.entry c.file_tile.new.draft) is
           (c.in_ok-entry.ensures.ok given limit (fs ++ filed_tiles before.filed) before.draft))
           c.in_ok-push.ensures.items;
       taken = λ given limit sizes placed.
           let before = so_far.taken given limit sizes placed in
-          taken_more (standing c.args.live.now) given limit sizes c.args.layers.now c.args.place c.args.tiles.now c.loop-number.rest.now c.loop-number.draft before c.in_ok-entry.after.now c.file_tile.new.draft
-          (c.in_ok-entry.ensures.taken given limit (sizes ++ flat_map (tile_sizes (standing c.args.live.now)) before.own) before.placed);
+          taken_more (live_content c.args.live.now) given limit sizes c.args.layers.now c.args.place c.args.tiles.now c.loop-number.rest.now c.loop-number.draft before c.in_ok-entry.after.now c.file_tile.new.draft
+          (c.in_ok-entry.ensures.taken given limit (sizes ++ flat_map (tile_sizes (live_content c.args.live.now)) before.own) before.placed);
       left = subst (λ k. AreLeft c.args.layers.now c.args.place (k + 1) (map finished_of c.in_ok-entry.after.now)) is
           c.in_ok-entry.ensures.left;
       count = ap length c.in_ok-push.ensures.items
@@ -40,8 +40,8 @@ loop-number-preserved c =
 pub returns-in_err-entry-clause-full : goal.returns-in_err-entry-clause-full
 returns-in_err-entry-clause-full c given limit sizes placed u =
     let before = c.loop-number.invariant.taken given limit sizes placed in
-    none_behind (standing c.args.live.now) given limit sizes c.args.layers.now c.args.place c.args.tiles.now c.loop-number.rest.now c.loop-number.draft before
-    (c.in_err-entry.ensures.full given limit (sizes ++ flat_map (tile_sizes (standing c.args.live.now)) before.own) before.placed
+    none_behind (live_content c.args.live.now) given limit sizes c.args.layers.now c.args.place c.args.tiles.now c.loop-number.rest.now c.loop-number.draft before
+    (c.in_err-entry.ensures.full given limit (sizes ++ flat_map (tile_sizes (live_content c.args.live.now)) before.own) before.placed
     (passed_error _ c.from_residual.result c.in_err-entry.field-0.0 Full c.from_residual.ensures.1 u))
 
 pub file_tile-requires-clause-left : goal.file_tile-requires-clause-left

@@ -8,7 +8,7 @@ use Rattle.store_terms.specs.Catalog.{Listed}
 use Rattle.store_terms.specs.Places.{extents_listed}
 use Rattle.store_terms.specs.Image.{Held, listing_of, layers_of, held_of}
 use Rattle.root_reading.specs.Looking.{Refuses}
-use Rattle.commit_plan.specs.Staying.{Standing}
+use Rattle.commit_plan.specs.Staying.{LiveContent}
 use Rattle.commit_plan.specs.Loading.{held_in}
 use Rattle.root_reading.specs.Taking.{IsMapOf}
 use Rattle.root_reading.specs.Taking.{AllNear}
@@ -84,7 +84,7 @@ returns-clause-room g c honest short =
     let near : AllNear (root.catalog ∷ extents_listed ls) =
     (near_catalog file short root ls listing, near_layers file short [] ls x layers) in
     subst (λ (l : List Listed). IsMapOf (root.catalog ∷ extents_listed l) (taken_of c.in_ok-live.live.room.map))
-    (sym (ap (λ (s : Standing). s.listing) c.in_ok-live.ensures.stands)) (c.in_ok-live.ensures.room.taken near)
+    (sym (ap (λ (s : LiveContent). s.listing) c.in_ok-live.ensures.stands)) (c.in_ok-live.ensures.room.taken near)
 
 pub returns-in_err-content-clause-looks : goal.returns-in_err-content-clause-looks
 returns-in_err-content-clause-looks g c honest =
@@ -113,7 +113,7 @@ returns-clause-looks g c honest =
 pub returns-clause-listing : goal.returns-clause-listing
 returns-clause-listing g c honest =
     c.in_ok-listing.ensures.gives honest
-    ∙ ap (λ (l : List Listed). Ok l) (sym (ap (λ (s : Standing). s.listing) c.in_ok-live.ensures.stands))
+    ∙ ap (λ (l : List Listed). Ok l) (sym (ap (λ (s : LiveContent). s.listing) c.in_ok-live.ensures.stands))
 
 pub returns-clause-stands : goal.returns-clause-stands
 returns-clause-stands g c =

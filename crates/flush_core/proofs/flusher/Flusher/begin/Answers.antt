@@ -2,7 +2,7 @@ use Rattle.std.proofs.Common.{◌≡◌, ◌+◌, Result, Ok, Err, OnOk, ap, sym
 use Rattle.std.proofs.lemmas.Result.{on_ok_weaker}
 use Rattle.store_terms.specs.Image.{Held}
 use Rattle.store_terms.specs.declared.root.Root.{Root}
-use Rattle.commit_plan.specs.Live.{standing}
+use Rattle.commit_plan.specs.Live.{live_content}
 use Rattle.commit_plan.specs.Sizes.{new_records}
 use Rattle.commit_plan.specs.Fitting.{HasNoRoom}
 use Rattle.root_store.specs.Running.{calls_left}
@@ -48,7 +48,7 @@ returns-clause-errors g c =
 
 pub returns-clause-calls : goal.returns-clause-calls
 returns-clause-calls g c =
-    subst (λ (x : Held). OnOk c.begin.result (calls_left c.begin.new.self ≡ new_records (standing c.args.self.now.commit.live) x + 7)) c.in_ok-image.ensures.value c.begin.ensures.calls
+    subst (λ (x : Held). OnOk c.begin.result (calls_left c.begin.new.self ≡ new_records (live_content c.args.self.now.commit.live) x + 7)) c.in_ok-image.ensures.value c.begin.ensures.calls
 
 pub returns-clause-number : goal.returns-clause-number
 returns-clause-number g c =

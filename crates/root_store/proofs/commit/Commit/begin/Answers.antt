@@ -6,7 +6,7 @@ use Rattle.record_writing.specs.ImageHeld.{image_held}
 use Rattle.commit_plan.specs.Drafting.{IsLaidOut}
 use Rattle.commit_plan.specs.Fitting.{HasNoRoom}
 use Rattle.commit_plan.specs.Kept.{other}
-use Rattle.commit_plan.specs.Live.{standing}
+use Rattle.commit_plan.specs.Live.{live_content}
 use Rattle.commit_plan.specs.Sizes.{sizes_of}
 use Rattle.commit_plan.specs.declared.write.Write.{Write}
 use Rattle.root_store.specs.Beginning.{IsReason}
@@ -39,7 +39,7 @@ returns-clause-begun g c = search rules
 pub returns-clause-laid : goal.returns-clause-laid
 returns-clause-laid g c =
     let s = c.args.self.now in
-    let laid = IsLaidOut (standing s.live) (taken_of s.live.room.map) s.live.room.max_blocks (image_held c.args.image) (sizes_of (standing s.live) c.args.image) in
+    let laid = IsLaidOut (live_content s.live) (taken_of s.live.room.map) s.live.room.max_blocks (image_held c.args.image) (sizes_of (live_content s.live) c.args.image) in
     let other_one = body_at (other s.root) in
     let next = c.in_ok-next.next in
     let there = subst (λ (at : ℕ). laid at next.root next.plan.items) c.other_body-body.ensures c.in_ok-next.ensures.laid in

@@ -5,7 +5,7 @@ use Rattle.extent_map.specs.Taken.{taken_of, limit_of}
 use Rattle.root_reading.specs.Taking.{IsMapOf}
 use Rattle.commit_plan.specs.declared.live_records.LiveRecords.{LiveRecords}
 use Rattle.commit_plan.specs.declared.room.Room.{Room}
-use Rattle.commit_plan.specs.Live.{standing}
+use Rattle.commit_plan.specs.Live.{live_content}
 use Rattle.commit_plan.specs.Kept.{extents_in}
 use Rattle.root_store.specs.declared.phase.Phase.TheVariants as phases
 use Rattle.root_store.specs.declared.phase.Progress.TheVariants as prog
@@ -167,7 +167,7 @@ returns-in_ok-sync-in-Finish-clause-moves g c x y runs =
           honest = w.honest.1 runs.honest;
           idle = refl;
           root = runs.next_root;
-          holds = ap standing c.swap.ensures.x_after ∙ runs.next_holds;
+          holds = ap live_content c.swap.ensures.x_after ∙ runs.next_holds;
           room =
               subst (λ (r : LiveRecords). IsMapOf (extents_in y) (taken_of r.room.map)) (sym c.swap.ensures.x_after) runs.next_room;
           leaves = λ f left. inl (all f left);
