@@ -6,3 +6,4 @@ pub mod FoundLemmas
 pub mod LookLemmas
 pub mod LateLemmas
 pub mod Placed
+pub mod Stored
