@@ -1,6 +1,7 @@
 -- The sizes of records, as layers and rows of tiles take their runs.
 use Rattle.std.proofs.Common.{◌≡◌, ℕ, ◌+◌, ◌<◌, zero, suc, List, [], ◌∷◌, ◌++◌, length, take, drop, replicate, slice_get, get_or, Option, Some, None, refl, sym, ◌∙◌, ap, subst, add-one, add-zero, append_assoc, arith}
 use Rattle.std.proofs.lemmas.List.{append-nil, take-append-drop}
+use Rattle.std.proofs.lemmas.Option.{same_Some}
 use Rattle.overlay_terms.specs.Layers.{Name, Layer}
 use Rattle.extent_map.specs.declared.extent.Extent as runs
 use Rattle.extent_map.specs.FirstFit.{IsFull}
@@ -16,7 +17,7 @@ use Rattle.commit_plan.specs.declared.draft.Draft.{Draft}
 use Rattle.commit_plan.specs.Drafting.{ArePlaced}
 use Rattle.commit_plan.specs.Staying.{LiveContent, layer_stays, tile_stays}
 use Rattle.commit_plan.specs.Sizes.{tile_size, own_record, if_new, own_sizes, tile_sizes, row_sizes, layer_sizes, sizes_of_layers}
-use Rattle.commit_plan.proofs.Walked.{row_more, row_front, some_same}
+use Rattle.commit_plan.proofs.Walked.{row_more, row_front}
 
 -- where a record finds no run, others behind it change nothing
 pub full_more : (given : List runs.Extent) (limit : ℕ) (sizes more : List ℕ) → IsFull given limit sizes
@@ -152,7 +153,7 @@ module _ (live : LiveContent) where
       ≡ (sizes_of_layers live (take i layers) (take i rows) ++ layer_sizes live layer row) ++ sizes_of_layers live (drop (suc i) layers) (drop (suc i) rows)
   layers_there [] rows i layer row is has = absurd (cc)
   layers_there (l ∷ layers) [] i layer row is has = absurd (cc)
-  layers_there (l ∷ layers) (r ∷ rows) zero layer row is has = λ j. layer_sizes live (some_same l layer is j) (some_same r row has j) ++ sizes_of_layers live layers rows
+  layers_there (l ∷ layers) (r ∷ rows) zero layer row is has = λ j. layer_sizes live (same_Some l layer is j) (same_Some r row has j) ++ sizes_of_layers live layers rows
   layers_there (l ∷ layers) (r ∷ rows) (suc i) layer row is has =
       let own = layer_sizes live l r in
       let front = sizes_of_layers live (take i layers) (take i rows) in
@@ -165,7 +166,7 @@ module _ (live : LiveContent) where
   layers_next [] rows i layer row is has = absurd (cc)
   layers_next (l ∷ layers) [] i layer row is has = absurd (cc)
   layers_next (l ∷ layers) (r ∷ rows) zero layer row is has =
-      sym (append-nil (layer_sizes live l r) ∙ (λ j. layer_sizes live (some_same l layer is j) (some_same r row has j)))
+      sym (append-nil (layer_sizes live l r) ∙ (λ j. layer_sizes live (same_Some l layer is j) (same_Some r row has j)))
   layers_next (l ∷ layers) (r ∷ rows) (suc i) layer row is has =
       append_assoc (layer_sizes live l r) (sizes_of_layers live (take i layers) (take i rows)) (layer_sizes live layer row)
       ∙ ap (λ (ns : List ℕ). layer_sizes live l r ++ ns) (layers_next layers rows i layer row is has)

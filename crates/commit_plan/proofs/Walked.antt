@@ -5,6 +5,7 @@ use Rattle.std.specs.Option.{option_map}
 use Rattle.std.proofs.Math.Seq.{take-suc}
 use Rattle.std.proofs.lemmas.List.{append-nil, length-map, length-take, map-append}
 use Rattle.std.proofs.lemmas.List.Concat.{flat_map-append}
+use Rattle.std.proofs.lemmas.Option.{same_Some}
 use Rattle.overlay_terms.specs.Column.{column_count}
 use Rattle.overlay_terms.specs.Layers.{Name, Content, base, derived, Layer}
 use Rattle.overlay_terms.specs.Commands.{is_derived}
@@ -76,15 +77,12 @@ bare_tiles name (suc n) k = bare_tiles name n (k + 1)
 
 -- ---- layers
 
-pub some_same : {A : Type 0} (x y : A) → Some x ≡ Some y → x ≡ y
-some_same x y is = cc
-
 tiles_there : (layers : List Layer) (rows : List (List (Option Named))) (i : ℕ) (layer : Layer) (row : List (Option Named)) → slice_get layers i ≡ Some layer → slice_get rows i ≡ Some row
     → tiles_of (take (suc i) layers) (placed_rows (take (suc i) rows)) ≡ tiles_of (take i layers) (placed_rows (take i rows)) ++ row_tiles layer.name 0 (places_in row)
 tiles_there [] rows i layer row is has = absurd (cc)
 tiles_there (l ∷ layers) [] i layer row is has = absurd (cc)
 tiles_there (l ∷ layers) (r ∷ rows) zero layer row is has =
-    append-nil (row_tiles l.name 0 (places_in r)) ∙ (λ j. row_tiles (some_same l layer is j).name 0 (places_in (some_same r row has j)))
+    append-nil (row_tiles l.name 0 (places_in r)) ∙ (λ j. row_tiles (same_Some l layer is j).name 0 (places_in (same_Some r row has j)))
 tiles_there (l ∷ layers) (r ∷ rows) (suc i) layer row is has =
     let own = row_tiles l.name 0 (places_in r) in
     ap (λ (l : List Finished). own ++ l) (tiles_there layers rows i layer row is has)
