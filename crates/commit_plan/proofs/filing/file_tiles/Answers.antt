@@ -1,5 +1,5 @@
 -- One column after another has its record.
-use Rattle.std.proofs.Common.{◌≡◌, ◌+◌, ◌<◌, ◌++◌, ◌∷◌, [], ℕ, List, Option, length, take, get_or, None, Some, ap, subst, sym, ◌∙◌, rules, arith}
+use Rattle.std.proofs.Common.{◌≡◌, ◌+◌, ◌<◌, ◌++◌, ◌∷◌, [], ℕ, List, Option, length, take, get_or, None, ap, subst, sym, ◌∙◌, rules, arith}
 use Rattle.std.specs.Prelude.{IsTrue}
 use Rattle.std.specs.Option.{option_map}
 use Rattle.std.proofs.lemmas.List.{append-nil, length-append, take_all}
@@ -15,7 +15,7 @@ use Rattle.commit_plan.specs.Drafting.{ArePlaced}
 use Rattle.extent_map.specs.FirstFit.{IsFull}
 use Rattle.commit_plan.specs.Walking.{AreTilesFiled, IsSlotFiled}
 use Rattle.commit_plan.proofs.Drafts.{passed_error}
-use Rattle.commit_plan.proofs.Sized.{placed_still, column_placed, column_full}
+use Rattle.commit_plan.proofs.Sized.{column_placed, column_full}
 use Rattle.commit_plan.proofs.Walked.{no_tiles, tiles_more}
 use Rattle.commit_plan.proofs.filing.file_tiles.Goals as goal
 
