@@ -6,3 +6,5 @@ pub mod FoundLemmas
 pub mod LookLemmas
 pub mod LateLemmas
 pub mod Placed
+pub mod FillingLemmas
+pub mod Stored

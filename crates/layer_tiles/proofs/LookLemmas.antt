@@ -55,7 +55,7 @@ module _ (laid : Laid) (valid : IsLaid laid) where
   nothing_far : (name : Name) (k : ℕ) → column_count ≤ k → tile_at laid.tiles name k ≡ None
   nothing_far name k far = nothing name k (λ tile e. let near : k < column_count = (valid.fit name k tile e).1 in omega arith)
 
-  nothing_strange : (name : Name) (k : ℕ) → stands laid.layers name ≡ false → tile_at laid.tiles name k ≡ None
+  pub nothing_strange : (name : Name) (k : ℕ) → stands laid.layers name ≡ false → tile_at laid.tiles name k ≡ None
   nothing_strange name k strange =
       nothing name k (λ tile e. both_ways (stands laid.layers name) strange (derived_stands laid.layers name (valid.fit name k tile e).0))
 

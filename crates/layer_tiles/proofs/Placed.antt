@@ -1,7 +1,7 @@
 -- Rows by the places of their tiles' ends: what is done to a row is done to its places.
-use Rattle.std.specs.Prelude.{◌≡◌, ℕ, ◌<◌, Bool, true, false, List, [], ◌∷◌, ◌++◌, map, replicate, set, slice_get, Option, Some, None, is_some, if◌then◌else◌}
+use Rattle.std.specs.Prelude.{◌≡◌, ℕ, ◌<◌, Bool, true, false, List, [], ◌∷◌, ◌++◌, map, replicate, set, Option, Some, None, is_some, if◌then◌else◌}
 use Rattle.std.specs.Option.{option_map}
-use Rattle.std.specs.List.{range_with_len}
+use Rattle.std.specs.List.{list_all, range_with_len}
 use Rattle.std.proofs.Common.{zero, suc, length, get_or, refl, ap, sym, ◌∙◌, subst}
 use Rattle.std.proofs.lemmas.List.{length-map, map-append, map-set}
 use Rattle.overlay_terms.specs.Column.{column_count}
@@ -30,6 +30,12 @@ placed_there row k = ap (λ o. is_some o) (places_at row k) ∙ either (get_or r
   either : (slot : Option Named) → is_some (place_of slot) ≡ is_some slot
   either None = refl
   either (Some tile) = refl
+
+-- each column has a tile in both or not in both
+pub full_there : (row : List (Option Named)) → list_all is_some (places_in row) ≡ list_all is_some row
+full_there [] = refl
+full_there (None ∷ row) = refl
+full_there (Some tile ∷ row) = full_there row
 
 pub places_none : (n : ℕ) → places_in (replicate n None) ≡ replicate n None
 places_none zero = refl

@@ -34,7 +34,7 @@ pub all_got : (P : Finished → Type 0) (all : List Finished) (i : ℕ) (f : Fin
 all_got P all i f each h e = subst P (sym e) (each i f h)
 
 -- no tile stands before itself
-never_before : (layers : List Layer) (a b : Finished) → is_of b.name b.column a ≡ true → is_tile_before layers a b ≡ false
+pub never_before : (layers : List Layer) (a b : Finished) → is_of b.name b.column a ≡ true → is_tile_before layers a b ≡ false
 never_before layers a b same =
     let parts = and_parts (bytes_eq a.name b.name) (a.column == b.column) same in
     ap (λ n. nat_lt (index_of layers n) (index_of layers b.name) || (bytes_eq n b.name && nat_lt a.column b.column)) (same_name a.name b.name parts.0)
@@ -89,7 +89,7 @@ module _ (layers : List Layer) where
     by_found (Some tile) e =
         absurd (both_ways (is_tile_before layers f (record { name = name; column = k; tile = tile })) (never_before layers f (record { name = name; column = k; tile = tile }) same) (found_is (Before f) fs name k tile behind e))
 
-  is_own : (f : Finished) → is_of f.name f.column f ≡ true
+  pub is_own : (f : Finished) → is_of f.name f.column f ≡ true
   is_own f = let level : (f.column == f.column) ≡ true = grind (arith, nat_tests) in and_from (bytes_eq f.name f.name) (f.column == f.column) (name_itself f.name) level
 
   -- tiles in which the same is found begin with the same
@@ -123,10 +123,10 @@ module _ (layers : List Layer) where
     split false away e =
         sym (ap (λ b. cond b (Some f.tile) (tile_at fs name k)) away) ∙ e ∙ ap (λ b. cond b (Some g.tile) (tile_at gs name k)) (sym (ap (is_of name k) alike) ∙ away)
 
-  behind_first : (f : Finished) (fs : List Finished) → AllPairs Before (f ∷ fs) → All (Before f) fs
+  pub behind_first : (f : Finished) (fs : List Finished) → AllPairs Before (f ∷ fs) → All (Before f) fs
   behind_first f fs ordered k d h = ordered zero (suc k) d (omega arith) (omega arith)
 
-  behind_rest : (f : Finished) (fs : List Finished) → AllPairs Before (f ∷ fs) → AllPairs Before fs
+  pub behind_rest : (f : Finished) (fs : List Finished) → AllPairs Before (f ∷ fs) → AllPairs Before fs
   behind_rest f fs ordered i j d less h = ordered (suc i) (suc j) d (omega arith) (omega arith)
 
   pub same_in_order : (xs ys : List Finished) → AllPairs Before xs → AllPairs Before ys → ((name : Name) (k : ℕ) → tile_at xs name k ≡ tile_at ys name k) → xs ≡ ys

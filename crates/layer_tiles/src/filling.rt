@@ -1,12 +1,12 @@
 //! Tables of tiles in the order of a file, and their tiles in that order.
-ghost use Rattle.std.specs.Prelude.{◌≡◌, ◌<◌, ◌++◌, ◌∷◌, [], length, map, slice_get, true, All, IfOk, IsTrue, OnOk};
+ghost use Rattle.std.specs.Prelude.{◌≡◌, ◌<◌, ◌++◌, ◌∷◌, [], None, get_or, length, map, true, IfOk, IsTrue, OnOk};
 ghost use Rattle.overlay_terms.specs.Column.{column_count};
 ghost use Rattle.overlay_terms.specs.Commands.{stands_as_derived};
 ghost use Rattle.overlay_terms.specs.Histories.{is_formed};
 ghost use Rattle.overlay_terms.specs.StoredTiles.{AreStored};
 ghost use Rattle.tile_build.specs.Tile.{finished_of, tile_of};
 ghost use Rattle.layer_tiles.specs.Table.{laid, places_in, row_tiles, tiles_in, IsLaid};
-ghost use Rattle.layer_tiles.specs.Filling.{named, AreBefore, IsLonger};
+ghost use Rattle.layer_tiles.specs.Filling.{named, AreBefore, IsLonger, IsNext};
 
 use crate::table::Table;
 use crate::tiles::TileRow;
@@ -32,14 +32,25 @@ impl Table {
         ensures valid { IfOk result (λ table. IsLaid (laid table)) }
     {
         let mut table = Table::of(alloc, layers)?;
-        for (name, number, tile) in tiles {
-            let Some(column) = Column::new(u64::from(number)) else {
-                unreachable!()
-            };
-            let made = table.with_next(alloc, &name, column, tile)?;
+        for tile in tiles {
+            let made = table.with_stored(alloc, tile)?;
             table = made;
         }
         Ok(table)
+    }
+
+    /// The table with a tile behind all that it has, under the number of its column.
+    fn with_stored(&self, alloc: Global, tile: (Name, u8, Tile)) -> Result<Table, AllocError>
+        requires { IsNext self.now.layers (tiles_in self.now) (finished_of tile) }
+        ensures layers { IfOk result (λ next. next.layers ≡ self.now.layers) }
+        ensures tiles { IfOk result (λ next. tiles_in next ≡ tiles_in self.now ++ finished_of tile ∷ []) }
+        ensures valid { IfOk result (λ next. IsLaid (laid next)) }
+    {
+        let (name, number, tile) = tile;
+        match Column::new(u64::from(number)) {
+            Some(column) => self.with_next(alloc, &name, column, tile),
+            None => unreachable!(),
+        }
     }
 
     /// The table with a tile behind all that it has.
@@ -57,6 +68,8 @@ impl Table {
         ensures tiles { IfOk result (λ next. tiles_in next ≡ tiles_in self.now ++ named name.now column (tile_of tile) ∷ []) }
         ensures valid { IfOk result (λ next. IsLaid (laid next)) }
     {
+        // A table's tiles are in order by its type: the clause rests on that.
+        let _ = self.layers();
         let tile = Arc::new(alloc, tile)?;
         self.with_tile(alloc, name, column, tile)
     }
@@ -98,10 +111,25 @@ fn add_row(
     ensures { OnOk result (map finished_of list.new.items ≡ map finished_of list.old.items ++ row_tiles name.now 0 (places_in row.now)) }
 {
     for number in 0..COLUMNS {
-        if let Some(tile) = row.tile_at(number) {
-            let copy = tile.try_copy(alloc)?;
-            list.push((name.clone()?, number as u8, copy))?;
-        }
+        add_tile(alloc, list, name, row, number)?;
     }
+    Ok(())
+}
+
+/// Adds the tile of a layer in the column with a number, if it is there.
+fn add_tile(
+    alloc: Global,
+    list: &mut Vec<(Name, u8, Tile)>,
+    name: &Name,
+    row: &TileRow,
+    number: usize,
+) -> Result<(), AllocError>
+    requires { number < column_count }
+    ensures { OnOk result (map finished_of list.new.items ≡ map finished_of list.old.items ++ row_tiles name.now number (get_or (places_in row.now) number None ∷ [])) }
+{
+    let Some(tile) = row.tile_at(number) else {
+        return Ok(());
+    };
+    list.push((name.clone()?, number as u8, tile.try_copy(alloc)?))?;
     Ok(())
 }

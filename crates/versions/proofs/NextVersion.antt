@@ -11,7 +11,7 @@ use Rattle.overlay_terms.specs.Histories.{Tile, Version, tile_at, IsTileAt, piec
 use Rattle.overlay_terms.proofs.AcceptedLemmas.{not_when}
 use Rattle.overlay_terms.proofs.Options.{both_absent}
 use Rattle.layer_book.specs.Fault.{fault_of}
-use Rattle.layer_tiles.specs.Table.{left_at, Laid, IsLaid}
+use Rattle.layer_tiles.specs.Table.{laid, left_at, tiles_in, Laid, IsLaid, Tabled}
 use Rattle.versions.specs.Laid.{laid_of, numbered}
 use Rattle.versions.specs.Finish.{IsAwaited}
 use Rattle.versions.specs.Version.{IsVersion}
@@ -30,6 +30,10 @@ accepted_parts number layers command e =
 -- a number that is not the last may be raised
 pub raised : (number top : ℕ) → number ≤ top → number ≢ top → number + 1 ≤ top
 raised number top low other = omega arith
+
+-- a table of a version's layers and tiles
+pub laid_out : (table : Tabled) (version : Version) → table.layers ≡ version.layers → tiles_in table ≡ version.tiles → laid table ≡ laid_of version
+laid_out table version layers tiles = λ i. record { layers = layers i; tiles = tiles i }
 
 -- layers with tiles, under a number
 pub laid_is_version : (number durable : ℕ) (laid : Laid) → number ≤ version_max → durable ≤ number → IsLaid laid → IsVersion (numbered number laid durable)

@@ -2,14 +2,14 @@
 use Rattle.std.specs.Prelude.{◌≡◌, ℕ, []}
 use Rattle.versions.specs.declared.version.VersionContent.{VersionContent}
 use Rattle.versions.specs.declared.version.VersionContent.TheVariants.{Nothing, Tiled}
-use Rattle.layer_tiles.specs.Table.{Laid}
+use Rattle.layer_tiles.specs.Table.{laid, Laid}
 use Rattle.versions.specs.Laid.{nothing_laid, numbered}
 use Rattle.versions.specs.Version.{IsVersion}
 
 -- its layers and tiles
 abbrev pub laid_by : VersionContent → Laid
 laid_by (Nothing layers) = nothing_laid
-laid_by (Tiled table) = table.value
+laid_by (Tiled table) = laid table.value
 
 -- no layer stands where there is no table
 abbrev pub IsBare : VersionContent → Type 0

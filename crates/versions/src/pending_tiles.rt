@@ -1,7 +1,7 @@
 //! The tiles that are not finished.
 ghost use Rattle.std.specs.Prelude.{◌≡◌, ◌++◌, IfOk, IfErr, OnOk};
 ghost use Rattle.overlay_terms.specs.Histories.{tile_at};
-ghost use Rattle.layer_tiles.specs.Table.{row_by};
+ghost use Rattle.layer_tiles.specs.Table.{places_in, row_by};
 ghost use Rattle.versions.specs.Pending.{pending_of, pending_tiles};
 
 use crate::fault::VersionFault;
@@ -39,7 +39,7 @@ impl Version {
         name: &Name,
         row: &TileRow,
     ) -> Result<(), AllocError>
-        requires { row.now ≡ row_by (tile_at self.now.tiles name.now) }
+        requires { places_in row.now ≡ row_by (tile_at self.now.tiles name.now) }
         ensures { OnOk result (list.new.items ≡ list.old.items ++ pending_of self.now name.now) }
     {
         for column in 0..COLUMN_COUNT {

@@ -2,8 +2,7 @@
 ghost use Rattle.std.specs.Prelude.{◌≡◌, ◌≤◌, IfOk, IfErr, map};
 ghost use Rattle.overlay_terms.specs.Commands.{version_max};
 ghost use Rattle.overlay_terms.specs.StoredTiles.{AreStored};
-ghost use Rattle.layer_tiles.specs.Table.{IsLaid};
-ghost use Rattle.tile_build.specs.StoredTile.{finished_of};
+ghost use Rattle.layer_tiles.specs.Table.{tiles_in};
 ghost use Rattle.tile_build.specs.Tile.{finished_of as finished_named};
 
 use crate::fault::VersionFault;
@@ -15,7 +14,6 @@ use layer_tiles::table::Table;
 use std::alloc::{AllocError, Global};
 use std::sync::Arc;
 use tile_build::Tile;
-use tile_build::stored_tile::{StoredTile, shared};
 
 impl Version {
     /// The version of a number, layers and finished tiles, all of it durable. The tiles may be wrong,
@@ -31,42 +29,31 @@ impl Version {
         ensures ok { IfOk result (λ version. version ≡ record { number = number; layers = layers; tiles = map finished_named tiles.items; durable = number }) }
         ensures err { IfErr result (λ fault. fault ≡ VersionFault.Layer LayerFault.OutOfMemory) }
     {
-        let tiles = shared(alloc, tiles)?;
-        Version::restore_shared(alloc, number, layers, tiles)
+        let table = filled_table(alloc, layers, tiles)?;
+        Ok(Version::restore_table(number, table))
     }
 
-    /// The same of tiles that others share: no tile is copied.
-    pub fn restore_shared(
-        alloc: Global,
-        number: u64,
-        layers: Layers,
-        tiles: Vec<StoredTile>,
-    ) -> Result<Version, VersionFault>
+    /// The version of a number and a table, which others may share, all of it durable. It takes no memory.
+    pub fn restore_table(number: u64, table: Arc<Table>) -> Version
         requires small { number ≤ version_max }
-        requires stored { AreStored layers (map finished_of tiles.items) }
-        ensures ok { IfOk result (λ version. version ≡ record { number = number; layers = layers; tiles = map finished_of tiles.items; durable = number }) }
-        ensures err { IfErr result (λ fault. fault ≡ VersionFault.Layer LayerFault.OutOfMemory) }
+        ensures { result ≡ record { number = number; layers = table.value.layers; tiles = tiles_in table.value; durable = number } }
     {
-        let table = filled(alloc, layers, &tiles)?;
-        Ok(Version::of(number, number, table))
+        // A table is laid out as its layers are by its type: the clause rests on that.
+        let _ = table.layers();
+        Version::of(number, number, table)
     }
 }
 
-/// The table of layers and of tiles in order, which it shares.
-fn filled(alloc: Global, layers: Layers, tiles: &[StoredTile]) -> Result<Arc<Table>, AllocError>
-    requires { AreStored layers (map finished_of tiles.now) }
+/// The table of layers and of tiles in the order of a file, to be shared.
+fn filled_table(
+    alloc: Global,
+    layers: Layers,
+    tiles: Vec<(Name, u8, Tile)>,
+) -> Result<Arc<Table>, AllocError>
+    requires { AreStored layers (map finished_named tiles.items) }
     ensures layers { IfOk result (λ table. table.value.layers ≡ layers) }
-    ensures tiles { IfOk result (λ table. table.value.tiles ≡ map finished_of tiles.now) }
-    ensures valid { IfOk result (λ table. IsLaid table.value) }
+    ensures tiles { IfOk result (λ table. tiles_in table.value ≡ map finished_named tiles.items) }
 {
-    let mut table = Table::of(alloc, layers)?;
-    for stored in tiles {
-        let tile = stored.tile.clone()?;
-        let made = table.with_tile(alloc, &stored.name, stored.column, tile)?;
-        table = made;
-    }
-    // A table is laid out as its layers are by its type: the clause rests on that.
-    let _ = table.layers();
-    let shared = Arc::new(alloc, table)?;
-    Ok(shared)
+    let table = Table::filled(alloc, layers, tiles)?;
+    Ok(Arc::new(alloc, table)?)
 }

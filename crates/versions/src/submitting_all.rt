@@ -7,7 +7,7 @@ ghost use Rattle.overlay_terms.specs.Histories.{tile_at, FollowsBatch};
 ghost use Rattle.overlay_terms.specs.Batches.{applied_all, batch_refusal_at};
 ghost use Rattle.layer_book.specs.Command.{command};
 ghost use Rattle.layer_book.specs.BatchFault.{RefusedAllBy, batch_fault_of};
-ghost use Rattle.layer_tiles.specs.Table.{IsLaid};
+ghost use Rattle.layer_tiles.specs.Table.{laid, tiles_in, IsLaid};
 ghost use Rattle.versions.specs.Laid.{left_by_all};
 
 use crate::version::{VERSION_MAX, Version};
@@ -58,10 +58,10 @@ fn after_all(
     commands: &[Command],
 ) -> Result<Arc<Table>, AllocError>
     requires accepted { AllAccepted table.value.layers (map command commands.now) }
-    requires valid { IsLaid table.value }
+    requires valid { IsLaid (laid table.value) }
     ensures layers { IfOk result (λ next. next.value.layers ≡ applied_all table.value.layers (map command commands.now)) }
-    ensures tiles { IfOk result (λ next. (name : Name) (k : _) → tile_at next.value.tiles name k ≡ left_by_all table.value (map command commands.now) name k) }
-    ensures valid { IfOk result (λ next. IsLaid next.value) }
+    ensures tiles { IfOk result (λ next. (name : Name) (k : _) → tile_at (tiles_in next.value) name k ≡ left_by_all (laid table.value) (map command commands.now) name k) }
+    ensures valid { IfOk result (λ next. IsLaid (laid next.value)) }
 {
     let mut now = table;
     for change in commands {

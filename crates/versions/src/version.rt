@@ -5,8 +5,8 @@ ghost use Rattle.overlay_terms.specs.Commands.{version_max};
 ghost use Rattle.overlay_terms.specs.Histories.{empty_version, tile_at};
 ghost use Rattle.tile_build.specs.Tile.{tile_of};
 ghost use Rattle.layer_book.specs.Layer.{content};
-ghost use Rattle.layer_tiles.specs.Table.{row_by, IsLaid};
-ghost use Rattle.versions.specs.Laid.{laid_of, numbered};
+ghost use Rattle.layer_tiles.specs.Table.{laid, places_in, row_by, tiles_in, IsLaid};
+ghost use Rattle.versions.specs.Laid.{numbered};
 ghost use Rattle.versions.specs.Version.{IsVersion};
 
 use layer_book::layer::Layer;
@@ -80,8 +80,8 @@ impl Version {
 
     /// The version of a table.
     pub(crate) fn of(number: u64, durable: u64, table: Arc<Table>) -> Version
-        requires { IsVersion (numbered number table.value durable) }
-        ensures { result ≡ numbered number table.value durable }
+        requires { IsVersion (numbered number (laid table.value) durable) }
+        ensures { result ≡ numbered number (laid table.value) durable }
     {
         Version {
             number,
@@ -91,9 +91,10 @@ impl Version {
     }
 
     /// The layers and tiles as a table, which is shared by one more.
-    pub(crate) fn table(&self, alloc: Global) -> Result<Arc<Table>, AllocError>
-        ensures laid { IfOk result (λ table. table.value ≡ laid_of self.now) }
-        ensures valid { IfOk result (λ table. IsLaid table.value) }
+    pub fn table(&self, alloc: Global) -> Result<Arc<Table>, AllocError>
+        ensures layers { IfOk result (λ table. table.value.layers ≡ self.now.layers) }
+        ensures tiles { IfOk result (λ table. tiles_in table.value ≡ self.now.tiles) }
+        ensures valid { IfOk result (λ table. IsLaid (laid table.value)) }
     {
         match &self.content {
             VersionContent::Nothing(_) => {
@@ -137,7 +138,7 @@ impl Version {
     /// The layer at an index, counted from 0, with its name and its row of tiles.
     pub fn at(&self, place: usize) -> Option<(&Name, &Layer, &TileRow)>
         ensures layer { option_map (λ entry. record { name = entry.0.now; content = content entry.1.now }) result ≡ slice_get self.now.layers place }
-        ensures row { IfSome result (λ entry. entry.2.now ≡ row_by (tile_at self.now.tiles entry.0.now)) }
+        ensures row { IfSome result (λ entry. places_in entry.2.now ≡ row_by (tile_at self.now.tiles entry.0.now)) }
     {
         match &self.content {
             VersionContent::Nothing(_) => None,

@@ -1,6 +1,5 @@
 use Rattle.std.proofs.Common.{Option, None, get_or, ap, sym, ◌∙◌}
 use Rattle.std.specs.Option.{option_map}
-use Rattle.tile_build.specs.Tile.{tile_of}
 use Rattle.layer_tiles.specs.TileCode.{by_places, Named}
 use Rattle.overlay_terms.specs.Commands.{index_of}
 use Rattle.layer_tiles.specs.Table.{laid, places_in}

@@ -1,5 +1,8 @@
-use Rattle.std.proofs.Common.{rules, ◌≡◌, ◌++◌, ◌∷◌, [], None, cond, get_or, not, ap, sym, ◌∙◌, append-nil, arith}
+use Rattle.std.proofs.Common.{rules, ◌≡◌, ◌++◌, ◌∷◌, [], Option, None, cond, get_or, not, ap, sym, ◌∙◌, append-nil, arith}
+use Rattle.std.specs.Option.{option_map}
 use Rattle.overlay_terms.specs.Histories.{tile_at}
+use Rattle.layer_tiles.specs.TileCode.{by_places, Named}
+use Rattle.layer_tiles.proofs.Placed.{placed_once, places_at}
 use Rattle.versions.proofs.PendingLemmas.{tile_in, columns_more, missing_in, twice}
 use Rattle.layer_tiles.proofs.Tables.{slot_by}
 use Rattle.versions.proofs.version.Version.add_pending.Goals as goal
@@ -11,7 +14,9 @@ loop-column-preserved c =
     let name = c.args.name.now in
     let k = c.loop-column.column in
     let list = c.loop-column.list.items in
-    let found = c.tile_at.ensures ∙ ap (λ j. get_or c.args.row.now j None) c.from.ensures ∙ ap (λ r. get_or r k None) c.requires ∙ slot_by (tile_at version.tiles name) k (omega (arith, c.loop-column-test.true)) in
+    let row = c.args.row.now in
+    let found = placed_once (λ b. b.now.value) c.tile_at.result ∙ ap (λ (o : Option Named). option_map by_places o) (c.tile_at.ensures ∙ ap (λ j. get_or row j None) c.from.ensures) ∙ sym (places_at row k)
+    ∙ ap (λ r. get_or r k None) c.requires ∙ slot_by (tile_at version.tiles name) k (omega (arith, c.loop-column-test.true)) in
     let missing = missing_in c.tile_at.result (tile_at version.tiles name k) found ∙ ap not c.is_none.ensures ∙ twice c.is_none.result in
     columns_more version name c.args.list.now.items list k c.if-is_none.list.items c.loop-column.invariant
     (elim c.if-is_none.branch [

@@ -1,23 +1,25 @@
 use Rattle.std.proofs.Common.{ap, ◌+◌, ◌∙◌, sym, subst, arith}
 use Rattle.overlay_terms.specs.Commands.{refusal_of}
 use Rattle.layer_book.specs.Command.{command}
-use Rattle.layer_tiles.specs.Table.{Laid, IsLaid}
-use Rattle.versions.proofs.NextVersion.{accepted_parts, laid_is_version, next_small, next_follows}
+use Rattle.layer_tiles.specs.Table.{laid, IsLaid, Tabled}
+use Rattle.versions.proofs.NextVersion.{accepted_parts, laid_is_version, laid_out, next_small, next_follows}
 use Rattle.versions.proofs.version.Version.after.Goals as goal
 
 pub after-requires : goal.after-requires
 after-requires c =
     let old = c.args.self.now in
-    ap (λ (l : Laid). refusal_of l.layers (command c.args.change.now)) (c.deref.ensures ∙ c.in_ok-table.ensures.laid) ∙ (accepted_parts old.number old.layers (command c.args.change.now) c.requires).by_layers
+    ap (λ (t : Tabled). refusal_of t.layers (command c.args.change.now)) c.deref.ensures ∙ ap (λ ls. refusal_of ls (command c.args.change.now)) c.in_ok-table.ensures.layers
+    ∙ (accepted_parts old.number old.layers (command c.args.change.now) c.requires).by_layers
 
 pub of-requires : goal.of-requires
 of-requires c =
-    laid_is_version (c.number-number.result + 1) c.durable-durable.result c.in_ok-next.next.value
+    laid_is_version (c.number-number.result + 1) c.durable-durable.result (laid c.in_ok-next.next.value)
     (next_small c.args.self.now (command c.args.change.now) c.number-number.result c.requires c.number-number.ensures.value c.number-number.ensures.small)
     (omega (arith, c.number-number.ensures.value, c.durable-durable.ensures.reported))
-    (subst IsLaid (sym c.in_ok-next.ensures.ok) c.in_ok-made.ensures.valid)
+    (subst (λ (t : Tabled). IsLaid (laid t)) (sym c.in_ok-next.ensures.ok) c.in_ok-made.ensures.valid)
 
 pub returns : goal.returns
 returns c =
-    next_follows c.args.self.now (command c.args.change.now) c.number-number.result c.durable-durable.result c.deref.result.now c.in_ok-made.made c.in_ok-next.next.value c.of.result
-    c.requires c.number-number.ensures.value c.durable-durable.ensures.value (c.deref.ensures ∙ c.in_ok-table.ensures.laid) c.in_ok-made.ensures.layers c.in_ok-made.ensures.tiles c.in_ok-next.ensures.ok c.of.ensures
+    next_follows c.args.self.now (command c.args.change.now) c.number-number.result c.durable-durable.result (laid c.deref.result.now) (laid c.in_ok-made.made) (laid c.in_ok-next.next.value) c.of.result
+    c.requires c.number-number.ensures.value c.durable-durable.ensures.value (ap laid c.deref.ensures ∙ laid_out c.in_ok-table.table.value c.args.self.now c.in_ok-table.ensures.layers c.in_ok-table.ensures.tiles)
+    c.in_ok-made.ensures.layers c.in_ok-made.ensures.tiles (ap laid c.in_ok-next.ensures.ok) c.of.ensures
