@@ -1,33 +1,26 @@
--- Tiles that are read in the order of a catalog are as a file holds them.
-use Rattle.std.proofs.Common.{◌≡◌, inl, inr, ⊎_elim, ℕ, ◌+◌, ◌<◌, ◌&&◌, ◌||◌, not, nat_lt, Bool, true, false, cond, List, [], ◌∷◌, ◌++◌, length, get_or, map, Ok, Err, refl, sym, ◌∙◌, ap, subst, arith}
+-- What a layer or a tile more leaves of the place behind the tiles of a table.
+use Rattle.std.proofs.Common.{◌≡◌, inl, inr, ⊎_elim, ℕ, ◌+◌, ◌<◌, ◌&&◌, not, nat_lt, Bool, true, false, cond, List, [], ◌∷◌, ◌++◌, length, get_or, Ok, Err, refl, sym, ◌∙◌, ap, subst, arith}
 use Rattle.std.specs.Prelude.{bytes_eq, IsTrue}
 use Rattle.std.proofs.lemmas.Bool.{cases_Bool, and_parts, and_from, or_cases, or_parts, or_left, or_right, cond-true, cond-false}
 use Rattle.std.proofs.lemmas.Bool.Decides.{nat_tests}
 use Rattle.std.proofs.lemmas.List.Elements.{All-push}
-use Rattle.std.proofs.lemmas.List.Quantifiers.{all_pairs_push}
-use Rattle.std.proofs.lemmas.Slice.Eq.{bytes_eq-Decides}
-use Rattle.overlay_terms.specs.Column.{column_count}
 use Rattle.overlay_terms.specs.Trees.{Tree}
 use Rattle.overlay_terms.specs.Layers.{Name, Layer, Content, derived}
 use Rattle.overlay_terms.specs.Commands.{index_of, is_derived, stands, stands_as_derived}
-use Rattle.overlay_terms.specs.Histories.{Tile, Finished, oversize, is_formed}
-use Rattle.overlay_terms.specs.StoredTiles.{is_tile_before, AreStored}
+use Rattle.overlay_terms.specs.Histories.{Tile, Finished, oversize}
+use Rattle.overlay_terms.specs.StoredTiles.{is_tile_before}
 use Rattle.overlay_terms.proofs.KeptDerived.{derived_stands}
+use Rattle.overlay_terms.proofs.NameLemmas.{name_itself}
 use Rattle.layer_book.proofs.Closing.{near_index}
 use Rattle.layer_expr.specs.Name.{is_name}
+use Rattle.layer_tiles.proofs.Stored.{laid_is_stored}
+use Rattle.layer_tiles.specs.Filling.{named, AreBefore, IsLonger}
+use Rattle.layer_tiles.specs.Table.{laid, tiles_in, IsLaid, Tabled}
 use Rattle.store_terms.specs.declared.damage.Damage.TheVariants.{LayerRefused}
-use Rattle.tile_build.specs.declared.tile.Tile as code
-use Rattle.tile_build.specs.declared.stored_tile.StoredTile.{StoredTile}
-use Rattle.tile_build.specs.StoredTile.{finished_of}
-use Rattle.tile_build.specs.Tile.{tile_of as code_tile}
-use Rattle.std.proofs.lemmas.List.{map-append}
 use Rattle.store_terms.specs.Image.{may_stand, is_accepted, refusal_of_keeping, with_layer}
-use Rattle.root_reading.specs.Stored.{AreStoredTo}
+use Rattle.root_reading.specs.Stored.{IsNextTo}
 
 -- ---- a layer more
-
-same_bytes : (name : Name) → bytes_eq name name ≡ true
-same_bytes name = (bytes_eq-Decides name name).1 refl
 
 index_front : (known : List Layer) (l : Layer) (name : Name) → stands known name ≡ true
     → index_of (known ++ l ∷ []) name ≡ index_of known name
@@ -45,25 +38,16 @@ index_front (x ∷ known) l name is = elim (cases_Bool (bytes_eq x.name name)) [
 
 index_last : (known : List Layer) (l : Layer) → stands known l.name ≡ false
     → index_of (known ++ l ∷ []) l.name ≡ length known
-index_last [] l none = cond-true (bytes_eq l.name l.name) 0 (0 + 1) (same_bytes l.name)
+index_last [] l none = cond-true (bytes_eq l.name l.name) 0 (0 + 1) (name_itself l.name)
 index_last (x ∷ known) l none =
     let p = or_parts (bytes_eq x.name l.name) (stands known l.name) none in
     cond-false (bytes_eq x.name l.name) 0 (index_of (known ++ l ∷ []) l.name + 1) p.0
     ∙ omega (arith, index_last known l p.1)
 
-derived_front : (known : List Layer) (l : Layer) (name : Name) → stands_as_derived known name ≡ true
-    → stands_as_derived (known ++ l ∷ []) name ≡ true
-derived_front [] l name is = absurd (cc is)
-derived_front (x ∷ known) l name is = ⊎_elim
-    (λ here. or_left (bytes_eq x.name name && is_derived x.content) (stands_as_derived (known ++ l ∷ []) name) here)
-    (λ later. or_right (bytes_eq x.name name && is_derived x.content) (stands_as_derived (known ++ l ∷ []) name)
-    (derived_front known l name later))
-    (or_cases (bytes_eq x.name name && is_derived x.content) (stands_as_derived known name) is)
-
 derived_last : (known : List Layer) (name : Name) (tree : Tree Name)
     → stands_as_derived (known ++ record { name = name; content = derived tree } ∷ []) name ≡ true
 derived_last [] name tree =
-    or_left (bytes_eq name name && true) false (and_from (bytes_eq name name) true (same_bytes name) refl)
+    or_left (bytes_eq name name && true) false (and_from (bytes_eq name name) true (name_itself name) refl)
 derived_last (x ∷ known) name tree =
     or_right (bytes_eq x.name name && is_derived x.content)
     (stands_as_derived (known ++ record { name = name; content = derived tree } ∷ []) name)
@@ -90,51 +74,31 @@ grown known name content layers is =
     turned true is = sym is
     turned false is = refl
 
-before_front : (known : List Layer) (l : Layer) (a b : Finished) → stands_as_derived known a.name ≡ true
-    → stands_as_derived known b.name ≡ true → is_tile_before known a b ≡ true
-    → is_tile_before (known ++ l ∷ []) a b ≡ true
-before_front known l a b derived_a derived_b is =
-    let one = index_front known l a.name (derived_stands known a.name derived_a) in
-    let two = index_front known l b.name (derived_stands known b.name derived_b) in
-    (λ i. nat_lt (one i) (two i) || (bytes_eq a.name b.name && nat_lt a.column b.column)) ∙ is
+pub longer_by : (known : List Layer) (name : Name) (content : Content) (layers : List Layer)
+    → with_layer known name content ≡ Ok layers → IsLonger known layers
+longer_by known name content layers is = (record { name = name; content = content }, sym (grown known name content layers is).1)
 
-stored_front : (known : List Layer) (l : Layer) (tiles : List Finished) → AreStored known tiles
-    → AreStored (known ++ l ∷ []) tiles
-stored_front known l tiles stored = record {
-  derived_layers = λ k d lt. derived_front known l (get_or tiles k d).name (stored.derived_layers k d lt);
-  known_columns = stored.known_columns;
-  formed = stored.formed;
-  ordered = λ i j d lt within. before_front known l (get_or tiles i d) (get_or tiles j d)
-      (stored.derived_layers i d (omega (arith, lt, within))) (stored.derived_layers j d within)
-      (stored.ordered i j d lt within);
-}
-
-pub stored_grows : (known : List Layer) (name : Name) (content : Content) (layers : List Layer) (tiles : List Finished)
-    → with_layer known name content ≡ Ok layers → AreStored known tiles → AreStored layers tiles
-stored_grows known name content layers tiles is stored =
-    let g = grown known name content layers is in
-    subst (λ (ls : List Layer). AreStored ls tiles) g.1
-    (stored_front known (record { name = name; content = content }) tiles stored)
-
-pub next_grows : (known : List Layer) (name : Name) (tree : Tree Name) (layers : List Layer) (tiles : List Finished)
-    → with_layer known name (derived tree) ≡ Ok layers → AreStored known tiles → AreStoredTo layers tiles name 0
-next_grows known name tree layers tiles is stored =
-    let g = grown known name (derived tree) layers is in
+-- the tiles of a table stand before those of a derived layer behind its layers
+pub next_grows : (name : Name) (tree : Tree Name) (layers : List Layer) (table longer : Tabled) → IsLaid (laid table)
+    → with_layer table.layers name (derived tree) ≡ Ok layers → longer.layers ≡ layers → tiles_in longer ≡ tiles_in table
+    → IsNextTo longer name 0
+next_grows name tree layers table longer valid is same kept =
+    let g = grown table.layers name (derived tree) layers is in
     let l : Layer = record { name = name; content = derived tree } in
-    let last : index_of (known ++ l ∷ []) name ≡ length known =
-    index_last known (record { name = name; content = derived tree }) g.0 in
-    subst (λ (ls : List Layer). AreStoredTo ls tiles name 0) g.1 (record {
-      stored = stored_front known (record { name = name; content = derived tree }) tiles stored;
-      next = record {
-        derived_layer = derived_last known name tree;
-        before = λ k d lt. first known name (record { name = name; content = derived tree }) (get_or tiles k d) last
-            (stored.derived_layers k d lt);
-      };
-    })
+    let whole : table.layers ++ l ∷ [] ≡ longer.layers = g.1 ∙ sym same in
+    let last : index_of (table.layers ++ l ∷ []) name ≡ length table.layers =
+    index_last table.layers (record { name = name; content = derived tree }) g.0 in
+    let stored = laid_is_stored (laid table) valid in
+    record {
+      derived_layer = subst (λ (ls : List Layer). IsTrue (stands_as_derived ls name)) whole (derived_last table.layers name tree);
+      before = subst (λ (ls : List Layer). AreBefore ls (tiles_in longer) name 0) whole
+          (subst (λ (fs : List Finished). AreBefore (table.layers ++ l ∷ []) fs name 0) (sym kept)
+          (λ k d lt. first table.layers name l (get_or (tiles_in table) k d) last (stored.derived_layers k d lt)));
+    }
   where
     first : (known : List Layer) (name : Name) (l : Layer) (f : Finished)
         → index_of (known ++ l ∷ []) name ≡ length known → stands_as_derived known f.name ≡ true
-        → is_tile_before (known ++ l ∷ []) f (record { name = name; column = 0; tile = oversize }) ≡ true
+        → is_tile_before (known ++ l ∷ []) f (named name 0 oversize) ≡ true
     first known name l f last as_derived =
         let standing = derived_stands known f.name as_derived in
         let near : index_of known f.name < length known = near_index known f.name standing in
@@ -147,20 +111,15 @@ next_grows known name tree layers tiles is stored =
 -- ---- a tile more
 
 -- a column later
-pub next_column : (layers : List Layer) (tiles : List Finished) (name : Name) (k : ℕ) → AreStoredTo layers tiles name k
-    → AreStoredTo layers tiles name (k + 1)
-next_column layers tiles name k to = record {
-  stored = to.stored;
-  next = record {
-    derived_layer = to.next.derived_layer;
-    before =
-        λ i d lt. later (get_or tiles i d) (to.next.before i d lt);
-  };
+next_column : (table : Tabled) (name : Name) (k : ℕ) → IsNextTo table name k → IsNextTo table name (k + 1)
+next_column table name k to = record {
+  derived_layer = to.derived_layer;
+  before = λ i d lt. later table.layers (get_or (tiles_in table) i d) (to.before i d lt);
 }
   where
-    later : (f : Finished) → is_tile_before layers f (record { name = name; column = k; tile = oversize }) ≡ true
-        → is_tile_before layers f (record { name = name; column = k + 1; tile = oversize }) ≡ true
-    later f is = ⊎_elim
+    later : (layers : List Layer) (f : Finished) → is_tile_before layers f (named name k oversize) ≡ true
+        → is_tile_before layers f (named name (k + 1) oversize) ≡ true
+    later layers f is = ⊎_elim
         (λ one. or_left (nat_lt (index_of layers f.name) (index_of layers name))
         (bytes_eq f.name name && nat_lt f.column (k + 1)) one)
         (λ two.
@@ -172,49 +131,18 @@ next_column layers tiles name k to = record {
         (or_cases (nat_lt (index_of layers f.name) (index_of layers name))
         (bytes_eq f.name name && nat_lt f.column k) is)
 
-pub next_tile : (layers : List Layer) (tiles : List Finished) (name : Name) (k : ℕ) (tile : Tile)
-    → is_formed tile k ≡ true → k < column_count → AreStoredTo layers tiles name k
-    → AreStoredTo layers (tiles ++ record { name = name; column = k; tile = tile } ∷ []) name (k + 1)
-next_tile layers tiles name k tile formed known to =
-    let f : Finished = record { name = name; column = k; tile = tile } in
-    let later = next_column layers tiles name k to in
+-- the tile of the column itself is there
+pub next_tile : (table more : Tabled) (name : Name) (k : ℕ) (tile : Tile) → more.layers ≡ table.layers
+    → tiles_in more ≡ tiles_in table ++ named name k tile ∷ [] → IsNextTo table name k → IsNextTo more name (k + 1)
+next_tile table more name k tile same is to =
+    let later = next_column table name k to in
     let less : nat_lt k (k + 1) ≡ true = grind (arith, nat_tests) in
     record {
-      stored = record {
-        derived_layers =
-            All-push (λ (g : Finished). IsTrue
-            (stands_as_derived layers g.name)) tiles f to.stored.derived_layers to.next.derived_layer;
-        known_columns = All-push (λ (g : Finished). g.column < column_count) tiles f to.stored.known_columns known;
-        formed = All-push (λ (g : Finished). IsTrue (is_formed g.tile g.column)) tiles f to.stored.formed formed;
-        ordered = all_pairs_push
-            (λ (a b : Finished). IsTrue (is_tile_before layers a b)) tiles f to.stored.ordered to.next.before;
-      };
-      next = record {
-        derived_layer = to.next.derived_layer;
-        before = All-push
-            (λ (g : Finished). IsTrue
-            (is_tile_before layers g
-            (record { name = name; column = k + 1; tile = oversize }))) tiles f later.next.before
-            (or_right (nat_lt (index_of layers name) (index_of layers name)) (bytes_eq name name && nat_lt k (k + 1))
-            (and_from (bytes_eq name name) (nat_lt k (k + 1)) (same_bytes name) less));
-      };
+      derived_layer = subst (λ (ls : List Layer). IsTrue (stands_as_derived ls name)) (sym same) to.derived_layer;
+      before = subst (λ (ls : List Layer). AreBefore ls (tiles_in more) name (k + 1)) (sym same)
+          (subst (λ (fs : List Finished). AreBefore table.layers fs name (k + 1)) (sym is)
+          (All-push (λ (g : Finished). IsTrue (is_tile_before table.layers g (named name (k + 1) oversize)))
+          (tiles_in table) (named name k tile) later.before
+          (or_right (nat_lt (index_of table.layers name) (index_of table.layers name)) (bytes_eq name name && nat_lt k (k + 1))
+          (and_from (bytes_eq name name) (nat_lt k (k + 1)) (name_itself name) less))));
     }
-
-pub nothing_stored : AreStored [] []
-nothing_stored = record {
-  derived_layers = λ k d lt. absurd (omega (arith, lt));
-  known_columns = λ k d lt. absurd (omega (arith, lt));
-  formed = λ k d lt. absurd (omega (arith, lt));
-  ordered = λ i j d lt within. absurd (omega (arith, within));
-}
-
--- the same of tiles of the code
-pub tile_pushed : (layers : List Layer) (olds news : List StoredTile) (t : StoredTile) (name : Name) (k : ℕ)
-    (tile : code.Tile) → news ≡ olds ++ t ∷ [] → finished_of t ≡ record { name = name; column = k; tile = code_tile tile }
-    → is_formed (code_tile tile) k ≡ true → k < column_count → AreStoredTo layers (map finished_of olds) name k
-    → AreStoredTo layers (map finished_of news) name (k + 1)
-tile_pushed layers olds news t name k tile is same formed known to =
-    subst (λ (fs : List Finished). AreStoredTo layers fs name (k + 1))
-    (sym (ap (map finished_of) is ∙ map-append finished_of olds (t ∷ [])
-    ∙ ap (λ (f : Finished). map finished_of olds ++ f ∷ []) same))
-    (next_tile layers (map finished_of olds) name k (code_tile tile) formed known to)

@@ -1,36 +1,51 @@
-use Rattle.std.proofs.Common.{map, subst, sym, rules}
-use Rattle.overlay_terms.specs.Layers.{Name}
-use Rattle.tile_build.specs.StoredTile.{finished_of}
-use Rattle.root_reading.specs.Stored.{AreStoredTo}
-use Rattle.root_reading.proofs.Looked.{looks_on, size_stays}
+use Rattle.std.proofs.Common.{◌≡◌, List, Result, Ok, Err, refl, ◌∙◌, sym, subst}
+use Rattle.std.specs.Prelude.{OnOk}
+use Rattle.std.proofs.lemmas.Result.{IfErr-weaker}
+use Rattle.overlay_terms.specs.Layers.{Layer}
+use Rattle.layer_tiles.specs.Table.{tiles_in}
+use Rattle.store_terms.specs.Image.{tiles_of}
+use Rattle.root_reading.specs.Looking.{Refuses}
+use Rattle.root_reading.specs.Loading.{layers_with_derived, then_tiles}
+use Rattle.root_reading.proofs.LoadingLemmas.{derived_added, derived_refused}
 use Rattle.root_reading.proofs.loading.add_derived.Goals as goal
 
-pub returns-clause-stored : goal.returns-clause-stored
-returns-clause-stored g c stored =
-    c.in_ok-add_tiles.ensures.stored c.in_ok-layers.layers
-    (subst (λ (n : Name). AreStoredTo c.in_ok-layers.layers (map finished_of c.args.content.now.tiles.items) n 0)
-    (sym c.in_ok-own.ensures.ok)
-    (c.in_ok-layers.ensures.stored (map finished_of c.args.content.now.tiles.items) stored))
+-- of two facts of a call that succeeds follows a third
+on_both : {T E P Q R : Type 0} (r : Result T E) → (P → Q → R) → OnOk r P → OnOk r Q → OnOk r R
+on_both (Ok x) so p q = so p q
+on_both (Err e) so p q = tt
 
-pub returns-in_err-add_tiles-clause-looks : goal.returns-in_err-add_tiles-clause-looks
-returns-in_err-add_tiles-clause-looks g c = record {
-  honest = search rules;
-  looks = λ honest.
-      let looks1 = c.with_derived.ensures.looks.looks honest in
-      looks_on g.D.Disk c.args.disk.now c.with_derived.new.disk c.add_tiles.new.disk looks1 (c.add_tiles.ensures.looks.looks looks1.honest);
-  cause = search rules;
-}
+pub returns-clause-adds : goal.returns-clause-adds
+returns-clause-adds g c honest =
+    let k = g.D.Disk in
+    let looks = c.with_derived.ensures.looks.looks honest in
+    let longer = c.in_ok-longer.longer in
+    let layers = c.in_ok-layers.layers in
+    let entries = c.args.entries.now in
+    let file = k.seen c.args.disk.now in
+    let there = subst (λ (ls : List Layer). layers_with_derived file ls c.args.name.now c.args.extent ≡ Ok layers) c.layers.ensures.value
+    (c.in_ok-layers.ensures.gives honest) in
+    let read : then_tiles (tiles_in longer) (tiles_of (k.seen c.with_derived.new.disk) c.in_ok-own.own 0 entries)
+    ≡ then_tiles (tiles_in c.args.table.now) (tiles_of file c.args.name.now 0 entries) =
+    (λ i. then_tiles (c.in_ok-longer.ensures.tiles i) (tiles_of (looks.seen i) (c.in_ok-own.ensures.ok i) 0 entries)) in
+    on_both c.add_tiles.result
+    (λ adds same. derived_added file c.args.table.now.layers layers c.add_tiles.new.table.layers (tiles_in c.args.table.now) c.args.name.now
+    c.args.extent (same ∙ c.in_ok-longer.ensures.layers) entries there (tiles_in c.add_tiles.new.table) (sym read ∙ adds))
+    (c.add_tiles.ensures.adds looks.honest) c.add_tiles.ensures.layers
 
-pub returns-clause-looks : goal.returns-clause-looks
-returns-clause-looks g c = record {
-  honest = search rules;
-  looks = λ honest.
-      let looks1 = c.with_derived.ensures.looks.looks honest in
-      looks_on g.D.Disk c.args.disk.now c.with_derived.new.disk c.add_tiles.new.disk looks1 (c.add_tiles.ensures.looks.looks looks1.honest);
-  cause = search rules;
-}
-
-pub add_tiles-requires : goal.add_tiles-requires
-add_tiles-requires g c =
-    size_stays g.D.Disk c.args.disk.now c.with_derived.new.disk c.args.size c.with_derived.ensures.looks.honest
-    c.with_derived.ensures.looks.looks c.requires
+pub returns-clause-refuses : goal.returns-clause-refuses
+returns-clause-refuses g c honest =
+    let k = g.D.Disk in
+    let looks = c.with_derived.ensures.looks.looks honest in
+    let longer = c.in_ok-longer.longer in
+    let layers = c.in_ok-layers.layers in
+    let entries = c.args.entries.now in
+    let file = k.seen c.args.disk.now in
+    let there = subst (λ (ls : List Layer). layers_with_derived file ls c.args.name.now c.args.extent ≡ Ok layers) c.layers.ensures.value
+    (c.in_ok-layers.ensures.gives honest) in
+    let read : then_tiles (tiles_in longer) (tiles_of (k.seen c.with_derived.new.disk) c.in_ok-own.own 0 entries)
+    ≡ then_tiles (tiles_in c.args.table.now) (tiles_of file c.args.name.now 0 entries) =
+    (λ i. then_tiles (c.in_ok-longer.ensures.tiles i) (tiles_of (looks.seen i) (c.in_ok-own.ensures.ok i) 0 entries)) in
+    IfErr-weaker c.add_tiles.result _ _
+    (λ e refuses. derived_refused file c.args.table.now.layers layers layers (tiles_in c.args.table.now) c.args.name.now
+    c.args.extent refl entries there e (subst (Refuses e) read refuses))
+    (c.add_tiles.ensures.refuses looks.honest)

@@ -10,9 +10,6 @@ returns-in-Base-clause-adds g c = search rules
 pub returns-in-Base-clause-refuses : goal.returns-in-Base-clause-refuses
 returns-in-Base-clause-refuses g c = search rules
 
-pub returns-in-Base-clause-stored : goal.returns-in-Base-clause-stored
-returns-in-Base-clause-stored g c = search rules
-
 pub returns-in-Derived-clause-looks : goal.returns-in-Derived-clause-looks
 returns-in-Derived-clause-looks g c = search rules
 
@@ -21,6 +18,3 @@ returns-in-Derived-clause-adds g c = search rules
 
 pub returns-in-Derived-clause-refuses : goal.returns-in-Derived-clause-refuses
 returns-in-Derived-clause-refuses g c = search rules
-
-pub returns-in-Derived-clause-stored : goal.returns-in-Derived-clause-stored
-returns-in-Derived-clause-stored g c = search rules

@@ -1,6 +1,5 @@
-use Rattle.std.proofs.Common.{◌≡◌, ◌↔◌, [], drop, map}
-use Rattle.overlay_terms.specs.StoredTiles.{AreStored}
-use Rattle.tile_build.specs.StoredTile.{finished_of}
+use Rattle.std.proofs.Common.{◌≡◌, ◌↔◌, [], drop}
+use Rattle.layer_tiles.specs.Table.{tiles_in}
 use Rattle.record_writing.specs.Listing.{entries_of}
 use Rattle.store_terms.specs.Image.{layers_of}
 use Rattle.root_reading.specs.Looking.{Looks}
@@ -12,9 +11,8 @@ invariant-loop-entry g l = record {
   honest : g.D.Disk.is_honest l.disk ↔ g.D.Disk.is_honest l.fn.disk;
   looks : g.D.Disk.is_honest l.fn.disk → Looks g.D.Disk l.fn.disk l.disk;
   faults : g.D.Disk.is_honest l.fn.disk → g.D.Disk.faults l.disk ≡ g.D.Disk.faults l.fn.disk;
-  stored : AreStored l.content.layers (map finished_of l.content.tiles.items);
   rest : g.D.Disk.is_honest l.fn.disk
-      → then_layers (map finished_of l.content.tiles.items)
-      (layers_of (g.D.Disk.seen l.fn.disk) l.content.layers (drop l.entry-index (entries_of l.listing)))
+      → then_layers (tiles_in l.table)
+      (layers_of (g.D.Disk.seen l.fn.disk) l.table.layers (drop l.entry-index (entries_of l.listing)))
       ≡ layers_of (g.D.Disk.seen l.fn.disk) [] (entries_of l.listing);
 }

@@ -1,6 +1,6 @@
-use Rattle.std.proofs.Common.{◌<◌, length, refl, ◌∙◌, map}
+use Rattle.std.proofs.Common.{◌<◌, length, refl, ◌∙◌}
 use Rattle.std.proofs.lemmas.List.{get_or_default}
-use Rattle.tile_build.specs.StoredTile.{finished_of}
+use Rattle.layer_tiles.specs.Table.{tiles_in}
 use Rattle.store_terms.specs.Image.{tiles_of}
 use Rattle.root_reading.specs.declared.load_fault.LoadFault.{LoadFault}
 use Rattle.root_reading.specs.Looking.{Refuses}
@@ -15,7 +15,8 @@ loop-column-init g c = record {
   looks = λ honest. looks_none g.D.Disk c.args.disk.now honest
       (λ f left. g.met.D.Disk.only_now c.args.disk.now f honest left);
   faults = λ honest. refl;
-  stored = λ layers to. to;
+  layers = refl;
+  next = c.requires.next;
   rest = λ honest. refl;
 }
 
@@ -29,14 +30,14 @@ loop-column-preserved g c =
       looks = λ honest. looks_on k c.args.disk.now c.loop-column.disk c.add_tile.new.disk (was.looks honest)
           (c.add_tile.ensures.looks.looks (was.honest.1 honest));
       faults = λ honest. c.in_ok-add_tile.ensures.looks.cause (was.honest.1 honest) ∙ was.faults honest;
-      stored = λ layers to. c.in_ok-add_tile.ensures.stored layers (was.stored layers to);
+      layers = c.in_ok-add_tile.ensures.layers ∙ was.layers;
+      next = c.in_ok-add_tile.ensures.next;
       rest = λ honest.
           tiles_go_on (k.seen c.args.disk.now)
           (k.seen c.loop-column.disk) c.args.name.now c.loop-column.column _ c.args.entries.now
-          (map finished_of c.loop-column.tiles.items) (map finished_of c.add_tile.new.tiles.items)
-          (then_tiles (map finished_of c.args.tiles.now.items)
-          (tiles_of (k.seen c.args.disk.now) c.args.name.now 0 c.args.entries.now)) (was.looks honest).seen lt
-          (get_or_default c.args.entries.now c.loop-column.column _ _ lt)
+          (tiles_in c.loop-column.table) (tiles_in c.add_tile.new.table)
+          (then_tiles (tiles_in c.args.table.now) (tiles_of (k.seen c.args.disk.now) c.args.name.now 0 c.args.entries.now))
+          (was.looks honest).seen lt (get_or_default c.args.entries.now c.loop-column.column _ _ lt)
           (c.in_ok-add_tile.ensures.adds (was.honest.1 honest)) (was.rest honest);
     }
 
@@ -45,20 +46,16 @@ returns-in_err-add_tile-clause-refuses g c honest =
     let k = g.D.Disk in
     let was = c.loop-column.invariant in
     let lt : c.loop-column.column < length c.args.entries.now = c.loop-column-test.true in
-    let total = then_tiles (map finished_of c.args.tiles.now.items)
-    (tiles_of (k.seen c.args.disk.now) c.args.name.now 0 c.args.entries.now) in
+    let total = then_tiles (tiles_in c.args.table.now) (tiles_of (k.seen c.args.disk.now) c.args.name.now 0 c.args.entries.now) in
     if_err c.from_residual.result c.in_err-add_tile.field-0.0
     (λ (e : LoadFault). Refuses e total) c.from_residual.ensures.1
     (tiles_end (k.seen c.args.disk.now)
     (k.seen c.loop-column.disk) c.args.name.now c.loop-column.column _ c.args.entries.now
-    (map finished_of c.loop-column.tiles.items) total c.in_err-add_tile.field-0.0
+    (tiles_in c.loop-column.table) total c.in_err-add_tile.field-0.0
     (was.looks honest).seen lt (get_or_default c.args.entries.now c.loop-column.column _ _ lt)
     (c.in_err-add_tile.ensures.refuses (was.honest.1 honest)) (was.rest honest))
 
-pub returns-clause-stored : goal.returns-clause-stored
-returns-clause-stored g c layers to = (c.loop-column.invariant.stored layers to).stored
-
-pub add_tile-requires : goal.add_tile-requires
-add_tile-requires g c =
+pub add_tile-requires-clause-size : goal.add_tile-requires-clause-size
+add_tile-requires-clause-size g c =
     let was = c.loop-column.invariant in
-    size_stays g.D.Disk c.args.disk.now c.loop-column.disk c.args.size was.honest was.looks c.requires
+    size_stays g.D.Disk c.args.disk.now c.loop-column.disk c.args.size was.honest was.looks c.requires.size
