@@ -14,6 +14,7 @@ pub mod Counted
 pub mod Completed
 mod Drafted
 pub mod Walked
+mod Rows
 pub mod Imaged
 pub mod Sized
 mod CatalogSize

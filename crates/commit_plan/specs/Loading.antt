@@ -1,12 +1,8 @@
 -- What is read of a root, as what a file holds.
-use Rattle.std.specs.Prelude.{List}
-use Rattle.layer_tiles.specs.Table.{tiles_in, Tabled}
 use Rattle.record_writing.specs.Image.{table_held}
 use Rattle.record_writing.specs.Listing.{entries_of}
 use Rattle.store_terms.specs.Image.{Held}
-use Rattle.store_terms.specs.Catalog.{Listed}
 use Rattle.commit_plan.specs.Kept.{Kept}
-use Rattle.commit_plan.specs.Staying.{LiveContent}
 use Rattle.commit_plan.specs.declared.loading.Loaded.{Loaded}
 
 -- what is read, as what a file holds
@@ -16,7 +12,3 @@ held_in x = table_held x.root.version x.content.value
 -- the root that is read, with what its catalog lists and what it holds
 abbrev pub kept_in : Loaded → Kept
 kept_in x = record { root = x.root; listing = entries_of x.live.listing.items; held = held_in x }
-
--- what is listed and read
-abbrev pub read_content : List Listed → Tabled → LiveContent
-read_content listing table = record { listing = listing; layers = table.layers; tiles = tiles_in table }

@@ -7,6 +7,7 @@ use Rattle.extent_map.specs.Extents.{IsUnused}
 use Rattle.overlay_terms.specs.Layers.{Name, Content, Layer}
 use Rattle.overlay_terms.specs.Histories.{Tile, Finished, tile_at}
 use Rattle.layer_book.specs.Layer.{content_named}
+use Rattle.layer_tiles.specs.Table.{tiles_in, Tabled}
 use Rattle.store_terms.specs.declared.root.RecordExtent.{RecordExtent}
 use Rattle.store_terms.specs.Catalog.{Records, Listed}
 use Rattle.store_terms.specs.Places.{blocks, is_apart_from, all_apart}
@@ -21,6 +22,10 @@ pub record LiveContent : Type 0 where
 
 abbrev pub kept_content : Kept → LiveContent
 kept_content x = record { listing = x.listing; layers = x.held.layers; tiles = x.held.tiles }
+
+-- the same of what is listed, and of a table of layers and tiles
+abbrev pub read_content : List Listed → Tabled → LiveContent
+read_content listing table = record { listing = listing; layers = table.layers; tiles = tiles_in table }
 
 abbrev pub layer_named : Name → Content → Layer
 layer_named name content = record { name = name; content = content }

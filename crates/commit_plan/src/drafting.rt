@@ -48,8 +48,6 @@ pub fn drafted(
     ensures full { IsErrOf result StoreFault.Full → HasNoRoom live.now image }
     ensures err { IfErr result (λ fault. (fault ≡ StoreFault.Full) ⊎ (fault ≡ StoreFault.OutOfMemory)) }
 {
-    // The layers are a book by their type: the clauses rest on that.
-    let _ = image.layers().len();
     let mut draft = Draft::new(alloc, live.room.try_copy(alloc)?);
     let listing = file_layers(alloc, &mut draft, live, image.table())?;
     completed(alloc, draft, listing, image, root, body)

@@ -119,7 +119,7 @@ fn file_slot(
     column: Column,
     tile: Option<&Arc<Tile>>,
 ) -> Result<Option<RecordExtent>, StoreFault>
-    requires { (held : Named) → option_map (λ t. named_pieces t.now.value) tile.entry ≡ Some held → IsTrue (is_formed (by_places held) column) }
+    requires { (held : Named) → option_map (λ t. named_pieces t.now.value) tile ≡ Some held → IsTrue (is_formed (by_places held) column) }
     ensures ok { (given : List runs.Extent) (limit : ℕ) (fs : List Filed) → IsDraft given limit fs draft.old
         → IfOk result
         (λ e. IsSlotFiled (live_content live.now) given limit fs name.now column (option_map (λ t. named_pieces t.now.value) tile.entry) e draft.new) }

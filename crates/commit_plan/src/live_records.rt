@@ -10,8 +10,7 @@ ghost use Rattle.store_terms.specs.declared.root.RecordExtent as terms;
 ghost use Rattle.layer_tiles.specs.Filling.{named};
 ghost use Rattle.tile_build.specs.Tile.{tile_of};
 ghost use Rattle.commit_plan.specs.Taking.{TakesRoom};
-ghost use Rattle.commit_plan.specs.Loading.{read_content};
-ghost use Rattle.commit_plan.specs.Staying.{own_extent, tile_extent, records_named, if_near, layer_named, layer_stays, tile_stays, near_ones};
+ghost use Rattle.commit_plan.specs.Staying.{read_content, own_extent, tile_extent, records_named, if_near, layer_named, layer_stays, tile_stays, near_ones};
 
 use crate::comparing::{same_layer, same_tile};
 use crate::room::Room;

@@ -1,4 +1,4 @@
-use Rattle.std.proofs.Common.{false, ◌≡◌, true, Some, ◌+◌, ◌^◌, ◌<◌, ◌++◌, ◌∷◌, [], ℕ, List, length, map, inr, refl, sym, ◌∙◌, ap, subst, arith}
+use Rattle.std.proofs.Common.{false, ◌≡◌, true, Some, ◌+◌, ◌^◌, ◌<◌, ◌++◌, ◌∷◌, [], ℕ, List, length, inr, refl, sym, ◌∙◌, ap, subst, arith}
 use Rattle.std.specs.List.{flat_map}
 use Rattle.extent_map.specs.FirstFit.{IsPlanned, IsFull}
 use Rattle.record_writing.specs.ImageHeld.{image_held}
@@ -10,7 +10,7 @@ use Rattle.store_terms.specs.Places.{all_apart, extents_listed}
 use Rattle.store_terms.specs.Roots.{sequence_max}
 use Rattle.store_terms.specs.StandsFor.{body_at}
 use Rattle.root_reading.specs.Taking.{AllNear}
-use Rattle.tile_build.specs.StoredTile.{finished_of}
+use Rattle.commit_plan.specs.Staying.{read_content}
 use Rattle.commit_plan.specs.declared.fault.StoreFault.TheVariants.{Full}
 use Rattle.commit_plan.specs.declared.write.Write.{Write}
 use Rattle.commit_plan.specs.declared.next.Next.{Next}
@@ -25,7 +25,7 @@ use Rattle.commit_plan.proofs.completing.completed.Goals as goal
 pub returns-clause-ok : goal.returns-clause-ok
 returns-clause-ok c x given limit layers root there room apart draft spell =
     let image = image_held c.args.image in
-    let parts = c.into_shared-number.ensures in
+    let parts = c.into_table-number.ensures in
     let cat : Filed = record { extent = c.in_ok-catalog.catalog; bytes = c.in_ok-bytes.bytes.items } in
     let d = c.file.new.self in
     let drafted = c.in_ok-catalog.ensures.ok given limit (flat_map filed_of layers) draft in
@@ -35,7 +35,7 @@ returns-clause-ok c x given limit layers root there room apart draft spell =
       root = record {
         is_old = false;
         sequence = c.args.root.sequence + 1;
-        version = c.into_shared-number.result.0;
+        version = c.into_table-number.result.0;
         catalog = c.in_ok-catalog.catalog;
       };
       live = c.in-Ok.live;
@@ -54,7 +54,7 @@ returns-clause-ok c x given limit layers root there room apart draft spell =
       there = there ∙ ap (λ (r : Root). body_at (other r)) (sym root);
       spelled = c.in_ok-from_slice.ensures.items ∙ c.write_body.ensures.spelled;
       stands = c.in-Ok.ensures.stands
-          ∙ (λ i. record { listing = listing; layers = (parts i).1; tiles = map finished_of (parts i).2.items });
+          ∙ (λ i. read_content listing (parts i).1.value);
       taken = c.in-Ok.ensures.room.taken;
       plan = c.in_ok-push.ensures.items;
     })
@@ -117,7 +117,7 @@ returns-clause-laid c live given limit layers sizes draft spell placed =
     let root : Root = record {
       is_old = false;
       sequence = c.args.root.sequence + 1;
-      version = c.into_shared-number.result.0;
+      version = c.into_table-number.result.0;
       catalog = c.in_ok-catalog.catalog;
     } in
     let b : Write = record { at = c.args.body; bytes = c.in_ok-from_slice.field-0 } in
@@ -131,4 +131,4 @@ returns-clause-laid c live given limit layers sizes draft spell placed =
     (c.in_ok-from_slice.ensures.items ∙ c.write_body.ensures.spelled) c.in_ok-push.ensures.items
 
 pub returns-clause-number : goal.returns-clause-number
-returns-clause-number c = λ i. (c.into_shared-number.ensures i).0
+returns-clause-number c = λ i. (c.into_table-number.ensures i).0

@@ -15,10 +15,10 @@ pub returns-in-Ok-clause-opens : goal.returns-in-Ok-clause-opens
 returns-in-Ok-clause-opens g c honest =
     let l = c.in-Ok.ensures.loads honest in
     record {
-      gives = l.loads.gives ∙ ap Ok (sym c.of_shared-image.ensures.held);
+      gives = l.loads.gives ∙ ap Ok (sym c.of_table-image.ensures.held);
       ok = (
         kept_in c.in-Ok.loaded,
-        sym c.of_shared-image.ensures.held,
+        sym c.of_table-image.ensures.held,
         record {
           honest = l.loads.honest;
           idle = refl;
@@ -61,7 +61,7 @@ returns-in-Err-clause-opens g c honest =
     }
 
 pub returns-in-Ok-clause-number : goal.returns-in-Ok-clause-number
-returns-in-Ok-clause-number g c = ap (λ (h : Held). h.number) c.of_shared-image.ensures.held
+returns-in-Ok-clause-number g c = ap (λ (h : Held). h.number) c.of_table-image.ensures.held
 
 pub invariant_of-commit : goal.invariant_of-commit
 invariant_of-commit g c = record {
