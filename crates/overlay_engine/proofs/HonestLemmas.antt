@@ -1,5 +1,6 @@
 -- What the calls that make and recover an engine promise, from what their stores promise.
-use Rattle.std.proofs.Common.{◌≡◌, ℕ, List, [], ◌++◌, Ok, Err, refl, sym, ◌∙◌, ap, subst}
+use Rattle.std.proofs.Common.{◌≡◌, ℕ, List, [], ◌++◌, Result, Ok, Err, refl, sym, ◌∙◌, ap, subst}
+use Rattle.std.specs.Prelude.{IsErrAnd}
 use Rattle.disk_model.specs.declared.disk.Disk.{Ghosts}
 use Rattle.disk_model.specs.Moments.{Leaves}
 use Rattle.overlay_terms.specs.Batches.{Batch}
@@ -7,11 +8,10 @@ use Rattle.overlay_terms.specs.Histories.{Version, empty_version}
 use Rattle.store_terms.specs.declared.root.Root.{Root}
 use Rattle.record_writing.specs.declared.image.Image.{Image}
 use Rattle.record_writing.specs.ImageHeld.{image_held}
-use Rattle.commit_plan.specs.declared.fault.StoreFault.TheVariants.{OutOfMemory}
 use Rattle.root_store.specs.declared.open_fault.OpenFault.{OpenFault}
 use Rattle.root_store.specs.declared.commit.Commit.{Commit}
 use Rattle.root_store.specs.Creating.{nothing_kept, first_root, IsNewFile, MadeInPhases}
-use Rattle.root_store.specs.Opening.{Writes, IsCompleted, Completes}
+use Rattle.root_store.specs.Opening.{IsCompleted, Completes}
 use Rattle.root_store.specs.HonestStore.{CreatesHonestly, OpensHonestly}
 use Rattle.flush_core.specs.declared.flusher.Flusher.{Flusher}
 use Rattle.overlay_engine.specs.declared.engine.Engine.{Engine}
@@ -22,7 +22,7 @@ use Rattle.overlay_engine.specs.Recovery.{Recovered, Refused}
 use Rattle.overlay_engine.specs.Runs.{accepted_in}
 use Rattle.overlay_engine.specs.HonestEngine.{MakesHonestly, RecoversHonestly}
 use Rattle.overlay_engine.proofs.Running.{crash_covered}
-use Rattle.overlay_engine.proofs.Opened.{new_covers, recovered_with, rests_as, refused_as, given_up, writes_of, root_read}
+use Rattle.overlay_engine.proofs.Opened.{new_covers, recovered_with, rests_as, refused_as, writes_of}
 use Rattle.overlay_engine.proofs.OldFiles.{old_file_is_covered, old_recovered}
 
 -- a new engine over a new store
@@ -42,67 +42,38 @@ makes g max_blocks disk s e creates root flusher empty = record {
   calls = ap (λ (f : Flusher _ _). g.calls f.commit.disk) flusher ∙ creates.calls;
 }
 
--- the store of a file is opened
+-- the store of a file is opened, and its version is restored
 module _ {D : Type 0} (g : Ghosts D) (disk : D) (stays : g.may_leave disk (g.seen disk)) (s : Commit D g)
-    (image : Image) (opens : OpensHonestly g disk (Ok (s, image))) where
-  -- and its version is restored
-  module _ (e : Engine D g) (flusher : e.flusher ≡ record { commit = s }) (number : s.root.version ≡ e.version.number)
-      (version : e.version ≡ version_of (image_held image)) where
-    recovered : (start : Start) (least : ℕ) (batches : List Batch) → Leaves g disk (Covered start least batches)
-        → Recovered g start disk e least batches
-    recovered start least batches all =
-        recovered_with g start disk least batches all stays e s opens.ok.0 (image_held image) flusher number version
-        opens.gives opens.ok.1 opens.ok.2 opens.ok.3 opens.phases
+    (image : Image) (opens : OpensHonestly g disk (Ok (s, image))) (e : Engine D g)
+    (flusher : e.flusher ≡ record { commit = s }) (number : s.root.version ≡ e.version.number)
+    (version : e.version ≡ version_of (image_held image)) where
+  recovered : (start : Start) (least : ℕ) (batches : List Batch) → Leaves g disk (Covered start least batches)
+      → Recovered g start disk e least batches
+  recovered start least batches all =
+      recovered_with g start disk least batches all stays e s opens.ok.0 (image_held image) flusher number version
+      opens.gives opens.ok.1 opens.ok.2 opens.ok.3 opens.phases
 
-    pub recovers : RecoversHonestly g disk (Ok e)
-    recovers = record {
-      ok = recovered;
-      err = tt;
-      crashed = λ start batches run each crash.
-          recovered start crash.made.old.version.durable (batches ++ accepted_in crash.before)
-          (crash_covered g start batches run disk crash each);
-      old = λ number layers all.
-          old_recovered g number layers disk e (image_held image) all stays opens.gives version
-          (recovered (start_at number layers) number [] (λ file left. old_file_is_covered number layers file (all file left)));
-      gives = (image_held image, opens.gives, version);
-      rests =
-          rests_as g e.version e.flusher s opens.ok.0 (image_held image) flusher number version opens.ok.1 opens.ok.2;
-      cause = ap (λ (f : Flusher _ _). g.faults f.commit.disk) flusher ∙ opens.cause;
-      writes = writes_of g (g.seen disk) e.flusher s flusher opens.writes;
-      completed =
-          subst (λ (f : Flusher _ _). Leaves g f.commit.disk (IsCompleted (g.seen disk))) (sym flusher) opens.completed;
-      completes = subst (λ (f : Flusher _ _). Completes g disk f.commit.disk) (sym flusher) opens.completes;
-      untouched = tt;
-      memory = tt;
-    }
-
-  -- or memory runs out, and the disk is handed back
-  module _ (back : D) (same : back ≡ s.disk) where
-    stopped : (start : Start) (least : ℕ) (batches : List Batch) → Leaves g disk (Covered start least batches)
-        → Refused g start disk (record { fault = OutOfMemory; disk = back }) least batches
-    stopped start least batches all =
-        subst (λ (d : D). Refused g start disk (record { fault = OutOfMemory; disk = d }) least batches) (sym same)
-        (given_up g start disk least batches all stays s opens.ok.0 (image_held image) opens.gives opens.ok.1 opens.ok.2
-        opens.ok.3 opens.phases)
-
-    pub gives_up : RecoversHonestly g disk (Err (record { fault = OutOfMemory; disk = back }))
-    gives_up = record {
-      ok = tt;
-      err = stopped;
-      crashed = λ start batches run each crash.
-          stopped start crash.made.old.version.durable (batches ++ accepted_in crash.before)
-          (crash_covered g start batches run disk crash each);
-      old = λ number layers all.
-          stopped (start_at number layers) number [] (λ file left. old_file_is_covered number layers file (all file left));
-      gives = tt;
-      rests = tt;
-      cause = ap g.faults same ∙ opens.cause;
-      writes = subst (λ (d : D). Writes (g.seen disk) (g.seen d)) (sym same) opens.writes;
-      completed = tt;
-      completes = tt;
-      untouched = λ damage is. absurd (cc is);
-      memory = λ is. root_read (g.seen disk) (image_held image) opens.gives;
-    }
+  pub recovers : RecoversHonestly g disk (Ok e)
+  recovers = record {
+    ok = recovered;
+    err = tt;
+    crashed = λ start batches run each crash.
+        recovered start crash.made.old.version.durable (batches ++ accepted_in crash.before)
+        (crash_covered g start batches run disk crash each);
+    old = λ number layers all.
+        old_recovered g number layers disk e (image_held image) all stays opens.gives version
+        (recovered (start_at number layers) number [] (λ file left. old_file_is_covered number layers file (all file left)));
+    gives = (image_held image, opens.gives, version);
+    rests =
+        rests_as g e.version e.flusher s opens.ok.0 (image_held image) flusher number version opens.ok.1 opens.ok.2;
+    cause = ap (λ (f : Flusher _ _). g.faults f.commit.disk) flusher ∙ opens.cause;
+    writes = writes_of g (g.seen disk) e.flusher s flusher opens.writes;
+    completed =
+        subst (λ (f : Flusher _ _). Leaves g f.commit.disk (IsCompleted (g.seen disk))) (sym flusher) opens.completed;
+    completes = subst (λ (f : Flusher _ _). Completes g disk f.commit.disk) (sym flusher) opens.completes;
+    untouched = tt;
+    memory = tt;
+  }
 
 -- the store is not opened
 module _ {D : Type 0} (g : Ghosts D) (disk : D) (stays : g.may_leave disk (g.seen disk)) (refused : OpenFault D)
@@ -112,7 +83,7 @@ module _ {D : Type 0} (g : Ghosts D) (disk : D) (stays : g.may_leave disk (g.see
   failed start least batches all =
       refused_as g start disk least batches all stays refused opens.gives opens.err.0 opens.err.1 opens.err.2 opens.stops
 
-  pub refuses : RecoversHonestly g disk (Err refused)
+  refuses : RecoversHonestly g disk (Err refused)
   refuses = record {
     ok = tt;
     err = failed;
@@ -130,3 +101,8 @@ module _ {D : Type 0} (g : Ghosts D) (disk : D) (stays : g.may_leave disk (g.see
     untouched = λ damage is. opens.untouched (λ device. absurd (cc (is, device)));
     memory = opens.memory;
   }
+
+  -- a refusal is told as it is
+  pub tells_on : (result : Result (Engine D g) (OpenFault D)) → IsErrAnd result (λ told. told ≡ refused) → RecoversHonestly g disk result
+  tells_on (Ok e) same = absurd same
+  tells_on (Err told) same = subst (λ (x : OpenFault D). RecoversHonestly g disk (Err x)) (sym same) refuses

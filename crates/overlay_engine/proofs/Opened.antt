@@ -1,5 +1,5 @@
 -- What recovery makes of what opening gives.
-use Rattle.std.proofs.Common.{rules, ◌≡◌, ◌⊎◌, inl, inr, ℕ, ◌≤◌, List, [], arith, Result, Ok, Err, refl, sym, ◌∙◌, ap, subst}
+use Rattle.std.proofs.Common.{rules, ◌≡◌, ◌⊎◌, inl, inr, ℕ, ◌≤◌, List, [], arith, Result, Ok, refl, sym, ◌∙◌, ap, subst}
 use Rattle.disk_model.specs.declared.disk.Disk.{Ghosts}
 use Rattle.disk_model.specs.Moments.{Leaves, LeavesOnly}
 use Rattle.disk_model.proofs.Runs.{widened}
@@ -9,8 +9,8 @@ use Rattle.overlay_terms.specs.Histories.{Version, empty_version}
 use Rattle.overlay_terms.specs.KeptLaws.{IsExact}
 use Rattle.store_terms.specs.declared.damage.Damage.{Damage}
 use Rattle.store_terms.specs.declared.root.Root.{Root}
-use Rattle.store_terms.specs.Image.{◌>>=◌, Held, held_of}
-use Rattle.store_terms.specs.StandsFor.{root_of, reading}
+use Rattle.store_terms.specs.Image.{Held}
+use Rattle.store_terms.specs.StandsFor.{reading}
 use Rattle.commit_plan.specs.declared.fault.StoreFault.{StoreFault}
 use Rattle.commit_plan.specs.declared.fault.StoreFault.TheVariants.{Device, Full, Damaged, NotEmpty, Failed, SequenceLimit, OutOfMemory}
 use Rattle.root_store.specs.declared.open_fault.OpenFault.{OpenFault}
@@ -19,8 +19,7 @@ use Rattle.commit_plan.specs.Kept.{Kept}
 use Rattle.root_store.specs.declared.phase.Phase.{Phase}
 use Rattle.root_store.specs.Creating.{nothing_kept}
 use Rattle.root_store.specs.Running.{Stands}
-use Rattle.root_store.specs.Opening.{Opened, InPhases, Stops, Writes, HasRoot, Tells}
-use Rattle.commit_plan.proofs.Reading.{calm_stands}
+use Rattle.root_store.specs.Opening.{Opened, InPhases, Stops, Writes, Tells}
 use Rattle.flush_core.specs.declared.flusher.Flusher.{Flusher}
 use Rattle.flush_core.specs.Stored.{IsImageOf}
 use Rattle.overlay_engine.specs.declared.engine.Engine.{Engine}
@@ -76,17 +75,6 @@ module _ {D : Type 0} (g : Ghosts D) (start : Start) (disk : D) (least : ℕ) (b
     cause = let here = all (g.seen disk) stays in only_failing refused.fault (reading (g.seen disk)) here.held here.stands tells;
   }
 
-  -- memory runs out once the store is opened
-  pub given_up : (s : Commit D g) (k : Kept) (x : Held) → reading (g.seen disk) ≡ Ok x → k.held ≡ x → Stands g s k → LeavesOnly g disk s.disk (Opened g disk)
-      → InPhases g disk s.disk → Refused g start disk (record { fault = OutOfMemory; disk = s.disk }) least batches
-  given_up s k x reads same stands moments phases = record {
-    honest = stands.honest;
-    leaves = λ c left. covered c (inr (calm_stands k c (stands.leaves c left) ∙ ap Ok same ∙ sym reads));
-    moments = widened g disk s.disk (Opened g disk) (Covered start least batches) covered moments;
-    stops = inr phases;
-    cause = inr refl;
-  }
-
 -- a store that stands for what a version is made of stands for just that version
 pub rests_as : {D : Type 0} (g : Ghosts D) (version : Version) (f : Flusher D g) (s : Commit D g) (k : Kept) (x : Held) → f ≡ record { commit = s } → s.root.version ≡ version.number
     → version ≡ version_of x → k.held ≡ x → Stands g s k → IsNewStore g version f
@@ -121,16 +109,6 @@ new_covers g version f s flusher empty stands =
     } in
     subst (λ (h : Flusher _ _). Covers g from_nothing h version []) (sym flusher)
     (subst (λ (v : Version). Covers g from_nothing (record { commit = s }) v []) (sym empty) covers)
-
--- a file that is read has a root
-pub root_read : (file : List ℕ) (x : Held) → reading file ≡ Ok x → HasRoot file
-root_read file x is = found (root_of file) refl
-  where
-    found : (o : Result Root Damage) → root_of file ≡ o → HasRoot file
-    found (Ok r) root = (r, root)
-    found (Err damage) root =
-        let none : reading file ≡ Err damage = ap (λ (o : Result Root Damage). o >>= λ q. held_of file q) root in
-        absurd (cc (none, is))
 
 -- the disk of a store that was opened, as an engine or a refusal hands it on
 pub writes_of : {D : Type 0} (g : Ghosts D) (old : List ℕ) (f : Flusher D g) (s : Commit D g) → f ≡ record { commit = s } → Writes old (g.seen s.disk) → Writes old (g.seen f.commit.disk)

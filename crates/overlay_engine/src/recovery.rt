@@ -6,7 +6,6 @@ ghost use Rattle.overlay_engine.specs.Covers.{version_of};
 ghost use Rattle.overlay_engine.specs.HonestEngine.{RecoversHonestly};
 
 use crate::engine::Engine;
-use commit_plan::fault::StoreFault;
 use disk_model::disk::Disk;
 use flush_core::flusher::Flusher;
 use record_writing::image::Image;
@@ -15,7 +14,6 @@ use root_store::open_fault::OpenFault;
 use root_store::opening::open;
 use root_store::phase::Phase;
 use std::alloc::Global;
-use versions::fault::VersionFault;
 use versions::version::Version;
 
 impl<D: Disk> Engine<D> {

@@ -4,8 +4,7 @@ use denote.Struct.Declared.{shape}
 use denote.Param.Send.{IsSend, recorded_send, struct_send, plain_send, sendable}
 use Rattle.std.proofs.Crossing.{crosses}
 use Rattle.disk_model.specs.declared.disk.Disk.{Ghosts}
-use Rattle.book_history.proofs.Sent.{layers_send}
-use Rattle.tile_build.proofs.stored_tile.StoredTile.TheSendSync as tiles
+use Rattle.book_history.proofs.Sent.{tiles_send, tiles_sync}
 use Rattle.record_writing.proofs.catalog.Listed.TheSendSync as entries
 use Rattle.store_terms.proofs.root.Root.TheSendSync as roots
 use Rattle.commit_plan.proofs.room.Room.TheSendSync as rooms
@@ -21,7 +20,7 @@ use Rattle.overlay_server.specs.contracts.storing.Store as store
 live_send : IsSend (live.the_field).row
 live_send = struct_send (shape live.the_type) (
   search (sendable, crosses, entries.the_send) depth 20,
-  (rooms.the_field_send, (layers_send, (search (sendable, crosses, tiles.the_send) depth 20, tt))),
+  (rooms.the_field_send, (search (sendable, crosses, tiles_send, tiles_sync) depth 20, tt)),
 )
 
 commit_send : (D : RattleType) (g : Ghosts D.Denot) → IsSend D → IsSend (commit.the_field D g).row

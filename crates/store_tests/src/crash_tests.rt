@@ -23,7 +23,7 @@ fn number_after(
     choice: Choice,
 ) -> Option<u64> {
     let left = disk.image(calls, choice).expect(rt, "memory");
-    match opened_disk(alloc, left) {
+    match opened_disk(rt, alloc, left) {
         (_, Ok((number, _, _))) => Some(number),
         (_, Err(_)) => None,
     }

@@ -56,11 +56,18 @@ pub fn created(
 pub type Counts = (u64, usize, usize);
 
 /// A disk that was opened, and what it is opened as, or the fault.
-pub fn opened_disk(alloc: Global, disk: MemDisk) -> (MemDisk, Result<Counts, StoreFault>) {
+pub fn opened_disk(
+    rt: &impl Abort,
+    alloc: Global,
+    disk: MemDisk,
+) -> (MemDisk, Result<Counts, StoreFault>) {
     match open(alloc, disk, 100) {
         Ok((store, image)) => {
-            let counts = (image.number(), image.layers().len(), image.tiles().len());
-            (store.into_disk(), Ok(counts))
+            let (number, layers, tiles) = image.into_parts(alloc).expect(rt, "memory");
+            (
+                store.into_disk(),
+                Ok((number, layers.len(), tiles.len())),
+            )
         }
         Err(refused) => (refused.disk, Err(refused.fault)),
     }
@@ -72,7 +79,7 @@ pub fn opened(
     alloc: Global,
     bytes: &[u8],
 ) -> (MemDisk, Result<Counts, StoreFault>) {
-    opened_disk(alloc, disk_of(rt, alloc, bytes))
+    opened_disk(rt, alloc, disk_of(rt, alloc, bytes))
 }
 
 /// The ring through the corners of the square.
