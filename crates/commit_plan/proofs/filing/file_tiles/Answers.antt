@@ -71,7 +71,9 @@ pub returns-clause-ok : goal.returns-clause-ok
 returns-clause-ok c given limit fs draft =
     let row = c.args.row.now in
     let whole : take c.loop-number.number row ≡ row = take_all c.loop-number.number row (omega (arith, c.loop-number-test.false, c.requires.whole)) in
-    subst (λ (r : List (Option Named)). AreTilesFiled (live_content c.args.live.now) given limit fs c.args.name.now (row_tiles c.args.name.now 0 (places_in r)) c.loop-number.entries.items c.loop-number.draft)
+    let live = live_content c.args.live.now in
+    let name = c.args.name.now in
+    subst (λ (r : List (Option Named)). AreTilesFiled live given limit fs name (row_tiles name 0 (places_in r)) c.loop-number.entries.items c.loop-number.draft)
     whole (c.loop-number.invariant.ok given limit fs draft)
 
 pub returns-clause-taken : goal.returns-clause-taken
