@@ -1,5 +1,5 @@
 -- What the rows of a table are: whole, formed, and bare where a layer is not derived.
-use Rattle.std.proofs.Common.{◌≡◌, ⊎_elim, ℕ, ◌<◌, zero, suc, false, true, List, [], ◌∷◌, length, replicate, slice_get, get_or, Option, Some, None, refl, sym, ◌∙◌, ap, arith}
+use Rattle.std.proofs.Common.{◌≡◌, ⊎_elim, ℕ, ◌<◌, zero, suc, false, List, [], ◌∷◌, length, replicate, slice_get, get_or, Option, Some, None, refl, sym, ◌∙◌, ap, arith}
 use Rattle.std.specs.Option.{option_map}
 use Rattle.std.proofs.Math.ListN.{get_or-eq_default}
 use Rattle.std.proofs.lemmas.Bool.{cases_lt, false≢true}
@@ -7,7 +7,7 @@ use Rattle.std.proofs.lemmas.List.{length-map}
 use Rattle.std.proofs.lemmas.List.FromFn.{length-map-range_with_len}
 use Rattle.overlay_terms.specs.Column.{column_count}
 use Rattle.overlay_terms.specs.Layers.{Name, Layer}
-use Rattle.overlay_terms.specs.Commands.{is_derived, index_of, stands_as_derived}
+use Rattle.overlay_terms.specs.Commands.{is_derived, stands_as_derived}
 use Rattle.overlay_terms.specs.Histories.{tile_at}
 use Rattle.layer_book.specs.Layer.{content_named}
 use Rattle.layer_book.proofs.Lookups.{as_derived}

@@ -1,5 +1,5 @@
 -- The sizes of records, as layers and rows of tiles take their runs.
-use Rattle.std.proofs.Common.{◌≡◌, ℕ, ◌+◌, ◌<◌, zero, suc, List, [], ◌∷◌, ◌++◌, length, take, drop, replicate, slice_get, get_or, Option, Some, None, refl, sym, ◌∙◌, ap, subst, add-one, add-zero, append_assoc, arith}
+use Rattle.std.proofs.Common.{◌≡◌, ℕ, ◌+◌, ◌<◌, zero, suc, List, [], ◌∷◌, ◌++◌, length, take, drop, slice_get, get_or, Option, Some, None, refl, sym, ◌∙◌, ap, subst, add-one, add-zero, append_assoc, arith}
 use Rattle.std.proofs.lemmas.List.{append-nil, take-append-drop}
 use Rattle.std.proofs.lemmas.Option.{same_Some}
 use Rattle.overlay_terms.specs.Layers.{Name, Layer}
@@ -15,8 +15,8 @@ use Rattle.store_terms.specs.TileRecord.{named_tile}
 use Rattle.store_terms.specs.declared.root.RecordExtent.{RecordExtent}
 use Rattle.commit_plan.specs.declared.draft.Draft.{Draft}
 use Rattle.commit_plan.specs.Drafting.{ArePlaced}
-use Rattle.commit_plan.specs.Staying.{LiveContent, layer_stays, tile_stays}
-use Rattle.commit_plan.specs.Sizes.{tile_size, own_record, if_new, own_sizes, tile_sizes, row_sizes, layer_sizes, sizes_of_layers}
+use Rattle.commit_plan.specs.Staying.{LiveContent, tile_stays}
+use Rattle.commit_plan.specs.Sizes.{tile_size, if_new, own_sizes, tile_sizes, row_sizes, layer_sizes, sizes_of_layers}
 use Rattle.commit_plan.proofs.Walked.{row_more, row_front}
 
 -- where a record finds no run, others behind it change nothing
@@ -54,14 +54,6 @@ kept_sizes stays n e is = ap (λ (s : Option RecordExtent). if_new s n) is
 module _ (live : LiveContent) where
   -- ---- one record
 
-  pub new_own : (layer : Layer) (bytes : List ℕ) → layer_stays live layer ≡ None → bytes ≡ own_record layer.content
-      → length bytes ∷ [] ≡ own_sizes live layer
-  new_own layer bytes none spelled =
-      ap (λ (n : ℕ). n ∷ []) (ap length spelled) ∙ sym (new_sizes (layer_stays live layer) (length (own_record layer.content)) none)
-
-  pub kept_own : (layer : Layer) (e : RecordExtent) → layer_stays live layer ≡ Some e → own_sizes live layer ≡ []
-  kept_own layer e is = kept_sizes (layer_stays live layer) (length (own_record layer.content)) e is
-
   -- the tile of the code, by the names of its ends
   stays_same : (name : Name) (k : ℕ) (tile : Tile) → tile_stays live (named name k (by_places (named_pieces tile))) ≡ tile_stays live (named name k (tile_of tile))
   stays_same name k tile = ap (λ t. tile_stays live (named name k t)) (by_its_names tile)
@@ -77,9 +69,6 @@ module _ (live : LiveContent) where
       kept_sizes (tile_stays live (named name k (by_places (named_pieces tile)))) (tile_size k (named_pieces tile)) e (stays_same name k tile ∙ is)
 
   -- ---- rows
-
-  pub slot_sizes : (name : Name) (k : ℕ) (tile : Named) → row_sizes live name k (Some tile ∷ []) ≡ tile_sizes live name k tile
-  slot_sizes name k tile = append-nil (tile_sizes live name k tile)
 
   sizes_both : (name : Name) (k : ℕ) (xs ys : List (Option Named)) → row_sizes live name k (xs ++ ys) ≡ row_sizes live name k xs ++ row_sizes live name (k + length xs) ys
   sizes_both name k [] ys = ap (λ n. row_sizes live name n ys) (sym (add-zero k))
@@ -124,26 +113,12 @@ module _ (live : LiveContent) where
         ∙ append_assoc sizes (row_sizes live name 0 (take (i + 1) row)) back ∙ ap (λ (l : List ℕ). sizes ++ l) whole in
         subst (λ (l : List ℕ). IsFull given limit l) grouped (full_more given limit ((sizes ++ front) ++ slot) back full)
 
-    -- the records of a layer have their runs, its own and those of its row
-    pub layer_placed : (layer : Layer) (row : List (Option Named)) (d : Draft)
-        → ArePlaced given limit ((sizes ++ own_sizes live layer) ++ row_sizes live layer.name 0 row) d → ArePlaced given limit (sizes ++ layer_sizes live layer row) d
-    layer_placed layer row d placed =
-        subst (λ (l : List ℕ). ArePlaced given limit l d) (append_assoc sizes (own_sizes live layer) (row_sizes live layer.name 0 row)) placed
-
-    -- or one of its row finds none, or its own does
-    pub layer_full : (layer : Layer) (row : List (Option Named))
-        → IsFull given limit ((sizes ++ own_sizes live layer) ++ row_sizes live layer.name 0 row) → IsFull given limit (sizes ++ layer_sizes live layer row)
-    layer_full layer row full = subst (λ (l : List ℕ). IsFull given limit l) (append_assoc sizes (own_sizes live layer) (row_sizes live layer.name 0 row)) full
-
+    -- where the own record of a layer finds none, the layer finds none
     pub own_full : (layer : Layer) (row : List (Option Named)) → IsFull given limit (sizes ++ own_sizes live layer) → IsFull given limit (sizes ++ layer_sizes live layer row)
-    own_full layer row full = layer_full layer row (full_more given limit (sizes ++ own_sizes live layer) (row_sizes live layer.name 0 row) full)
-
-  -- a row without a tile has no record
-  pub bare_sizes : (name : Name) (n k : ℕ) (row : List (Option Named)) → row ≡ replicate n None → row_sizes live name k row ≡ []
-  bare_sizes name n k row bare = ap (row_sizes live name k) bare ∙ none n k where
-    none : (n k : ℕ) → row_sizes live name k (replicate n None) ≡ []
-    none zero k = refl
-    none (suc n) k = none n (k + 1)
+    own_full layer row full =
+        let own = own_sizes live layer in
+        let behind = row_sizes live layer.name 0 row in
+        subst (λ (l : List ℕ). IsFull given limit l) (append_assoc sizes own behind) (full_more given limit (sizes ++ own) behind full)
 
   -- ---- layers
 

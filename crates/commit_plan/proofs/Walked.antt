@@ -1,5 +1,5 @@
 -- Records of layers and of their rows of tiles, one behind another.
-use Rattle.std.proofs.Common.{◌≡◌, inl, inr, ℕ, ◌+◌, ◌<◌, zero, suc, false, true, List, [], ◌∷◌, ◌++◌, length, map, take, replicate, slice_get, get_or, Option, Some, None, refl, sym, ◌∙◌, ap, subst, add-one, add-zero, append_assoc, arith}
+use Rattle.std.proofs.Common.{◌≡◌, inl, inr, ℕ, ◌+◌, ◌<◌, zero, suc, false, true, List, [], ◌∷◌, ◌++◌, length, take, replicate, slice_get, get_or, Option, Some, None, refl, sym, ◌∙◌, ap, subst, add-one, add-zero, append_assoc, arith}
 use Rattle.std.specs.List.{flat_map}
 use Rattle.std.specs.Option.{option_map}
 use Rattle.std.proofs.Math.Seq.{take-suc}
@@ -202,9 +202,6 @@ module _ (live : LiveContent) where
       draft = subst (λ (l : List Filed). IsDraft given limit l d) (append_assoc fs (fresh_of own.filed) (filed_tiles are.filed)) are.draft;
       spelled = (tree, refl, own.says, are.spelled);
     }
-
-    pub no_layers : (d : Draft) → IsDraft given limit [] d → AreLayersFiled live given limit [] [] [] d
-    no_layers d draft = record { filed = []; listed = refl; draft = draft; spelled = (refl, refl) }
 
     -- one layer more has its records
     pub layers_more : (layers : List Layer) (rows : List (List (Option Named))) (i : ℕ) (layer : Layer) (row : List (Option Named)) (ls more : List Listed) (l : Listed) (old new : Draft)

@@ -1,5 +1,5 @@
 -- The plan of a commit: its records, the catalog and the body.
-use Rattle.std.proofs.Common.{◌≡◌, ◌+◌, ◌^◌, ◌<◌, [], ◌∷◌, ◌++◌, ℕ, List, length, ap, sym, ◌∙◌, subst, arith}
+use Rattle.std.proofs.Common.{◌≡◌, ◌+◌, [], ◌∷◌, ◌++◌, ℕ, List, length, sym, ◌∙◌, subst, arith}
 use Rattle.std.specs.List.{flat_map}
 use Rattle.overlay_terms.specs.Column.{column_count}
 use Rattle.extent_map.specs.declared.extent.Extent as runs
@@ -19,7 +19,7 @@ use Rattle.commit_plan.specs.Fitting.{HasRoom}
 use Rattle.commit_plan.specs.Kept.{extents_in}
 use Rattle.commit_plan.specs.Live.{live_content}
 use Rattle.commit_plan.specs.Sizes.{catalog_size, new_records, sizes_of, sizes_of_layers}
-use Rattle.commit_plan.specs.Staying.{LiveContent, kept_content, AreHeldApart}
+use Rattle.commit_plan.specs.Staying.{LiveContent, AreHeldApart}
 use Rattle.commit_plan.specs.Walking.{AreLayersFiled}
 use Rattle.commit_plan.proofs.Counted.{records_count}
 use Rattle.commit_plan.proofs.Drafted.{held_in_room}

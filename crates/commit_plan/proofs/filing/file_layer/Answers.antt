@@ -26,7 +26,8 @@ returns-then-not-is_derived-clause-ok c given limit fs draft =
     let content = content c.args.layer.now in
     let plain = sym c.is_derived.ensures ∙ c.if-not-is_derived.true in
     let named : name ≡ c.in_ok-bytes.bytes.items = sym (c.in_ok-bytes.ensures.items ∙ c.bytes.ensures.value) in
-    subst (λ (n : Name). IsLayerFiled live given limit fs (layer_named name content) (row_tiles name 0 (places_in c.args.row.now)) (record { name = n; records = inl c.in_ok-extent.extent }) c.file_own.new.draft) named
+    let tiles = row_tiles name 0 (places_in c.args.row.now) in
+    subst (λ (n : Name). IsLayerFiled live given limit fs (layer_named name content) tiles (record { name = n; records = inl c.in_ok-extent.extent }) c.file_own.new.draft) named
     (plain_filed live given limit fs name content c.args.row.now c.in_ok-extent.extent c.file_own.new.draft plain (c.requires.bare plain) (c.in_ok-extent.ensures.ok given limit fs draft))
 
 pub returns-clause-ok : goal.returns-clause-ok

@@ -1,12 +1,11 @@
 -- The tile of a column, where it has one, has its record.
-use Rattle.std.proofs.Common.{◌≡◌, Some, sym, ap, ◌∙◌, subst}
+use Rattle.std.proofs.Common.{Some, sym, ap, ◌∙◌, subst}
 use Rattle.std.specs.Prelude.{IsTrue}
 use Rattle.std.specs.Option.{option_map}
 use Rattle.overlay_terms.specs.Histories.{Tile, is_formed}
 use Rattle.tile_build.specs.Tile.{named_pieces, tile_of}
 use Rattle.layer_tiles.proofs.Placed.{by_its_names}
 use Rattle.commit_plan.specs.Live.{live_content}
-use Rattle.commit_plan.specs.Filing.{SaysTile}
 use Rattle.commit_plan.proofs.Walked.{slot_filed}
 use Rattle.commit_plan.proofs.filing.file_slot.Goals as goal
 

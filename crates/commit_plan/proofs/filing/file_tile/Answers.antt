@@ -1,5 +1,5 @@
 -- The record of a tile stays, or has its place.
-use Rattle.std.proofs.Common.{◌≡◌, ◌^◌, ◌<◌, ◌++◌, ◌∷◌, [], ℕ, List, length, Some, None, refl, sym, subst, rules}
+use Rattle.std.proofs.Common.{◌≡◌, ◌^◌, ◌<◌, ◌++◌, ◌∷◌, [], ℕ, List, length, None, refl, sym, subst, rules}
 use Rattle.tile_build.specs.Tile.{named_pieces, tile_of}
 use Rattle.layer_tiles.specs.Filling.{named}
 use Rattle.commit_plan.specs.Staying.{tile_stays}

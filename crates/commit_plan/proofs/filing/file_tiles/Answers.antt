@@ -1,5 +1,5 @@
 -- One column after another has its record.
-use Rattle.std.proofs.Common.{◌≡◌, ◌+◌, ◌<◌, ◌++◌, ◌∷◌, [], ℕ, List, Option, length, take, get_or, None, Some, ap, subst, sym, ◌∙◌, rules, arith}
+use Rattle.std.proofs.Common.{◌≡◌, ◌+◌, ◌<◌, ◌++◌, ◌∷◌, [], ℕ, List, Option, length, take, get_or, None, ap, subst, sym, ◌∙◌, rules, arith}
 use Rattle.std.specs.Prelude.{IsTrue}
 use Rattle.std.specs.Option.{option_map}
 use Rattle.std.proofs.lemmas.List.{append-nil, length-append, take_all}
@@ -15,7 +15,7 @@ use Rattle.commit_plan.specs.Drafting.{ArePlaced}
 use Rattle.extent_map.specs.FirstFit.{IsFull}
 use Rattle.commit_plan.specs.Walking.{AreTilesFiled, IsSlotFiled}
 use Rattle.commit_plan.proofs.Drafts.{passed_error}
-use Rattle.commit_plan.proofs.Sized.{placed_still, column_placed, column_full}
+use Rattle.commit_plan.proofs.Sized.{column_placed, column_full}
 use Rattle.commit_plan.proofs.Walked.{no_tiles, tiles_more}
 use Rattle.commit_plan.proofs.filing.file_tiles.Goals as goal
 
@@ -71,7 +71,9 @@ pub returns-clause-ok : goal.returns-clause-ok
 returns-clause-ok c given limit fs draft =
     let row = c.args.row.now in
     let whole : take c.loop-number.number row ≡ row = take_all c.loop-number.number row (omega (arith, c.loop-number-test.false, c.requires.whole)) in
-    subst (λ (r : List (Option Named)). AreTilesFiled (live_content c.args.live.now) given limit fs c.args.name.now (row_tiles c.args.name.now 0 (places_in r)) c.loop-number.entries.items c.loop-number.draft)
+    let live = live_content c.args.live.now in
+    let name = c.args.name.now in
+    subst (λ (r : List (Option Named)). AreTilesFiled live given limit fs name (row_tiles name 0 (places_in r)) c.loop-number.entries.items c.loop-number.draft)
     whole (c.loop-number.invariant.ok given limit fs draft)
 
 pub returns-clause-taken : goal.returns-clause-taken

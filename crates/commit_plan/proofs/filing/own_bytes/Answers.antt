@@ -1,3 +1,4 @@
+-- The bytes of a layer's own record are few.
 use Rattle.std.proofs.Common.{◌≡◌, ◌^◌, ◌<◌, List, ℕ, length, sym, ◌∙◌, ap, subst}
 use Rattle.overlay_terms.specs.Plane.{WholePoint}
 use Rattle.plane_base.specs.BaseLayer.{rings_fault}
