@@ -29,8 +29,8 @@ returns-clause-begun g c x held stands below next = (
 pub returns-clause-blocks : goal.returns-clause-blocks
 returns-clause-blocks g c limit room next = (room, next)
 
-pub invariant_of-self : goal.invariant_of-self
-invariant_of-self g c = record {
+pub invariant_of-self-2 : goal.invariant_of-self-2
+invariant_of-self-2 g c = record {
   keeps = λ honest.
       let k = g.D.Disk in
       let s = c.args.self.now in
