@@ -1,4 +1,7 @@
 mod DefinitionLemmas
+mod Failing
+mod NameBytes
 mod NamedPieceLemmas
 mod PointLemmas
 mod StandingLemmas
+mod Tails

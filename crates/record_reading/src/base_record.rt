@@ -7,11 +7,11 @@ ghost use Rattle.store_terms.specs.BaseRecord.{whole_point, ring as spelled, bas
 ghost use Rattle.store_terms.specs.Image.{or_fault};
 ghost use Rattle.store_terms.specs.declared.damage.Damage.TheVariants.{LayerForm};
 
+use crate::bytes::two_bytes_at;
 use crate::points::point_at;
 use plane_base::base_layer::{BaseLayer, Ring};
 use plane_base::fault::PlaneFault;
 use plane_base::point::Pt;
-use record_writing::bytes::two_bytes_at;
 use record_writing::fault::{ReadFault, RecordFault};
 use std::alloc::Global;
 use store_terms::damage::Damage;

@@ -6,10 +6,10 @@ ghost use Rattle.overlay_terms.specs.Plane.{whole_cmp};
 ghost use Rattle.record_writing.specs.Answers.{Gives};
 ghost use Rattle.store_terms.specs.TileRecord.{segment, point_name};
 
+use crate::bytes::byte_at;
 use crate::points::{point_at, point_in};
 use exact_point::PointName;
 use plane_base::{Pt, Seg};
-use record_writing::bytes::byte_at;
 use record_writing::fault::ReadFault;
 
 /// The segment that 16 bytes spell, its left end first, and what follows them. In this file and in

@@ -8,9 +8,9 @@ ghost use Rattle.store_terms.specs.TileRecord.{tile_of_record};
 ghost use Rattle.store_terms.specs.declared.damage.Damage.TheVariants.{TileForm};
 ghost use Rattle.tile_build.specs.Tile.{tile_of};
 
+use crate::bytes::{byte_at, four_bytes_at};
 use crate::pieces::pieces_at;
 use plane_base::Column;
-use record_writing::bytes::{byte_at, four_bytes_at};
 use record_writing::fault::{ReadFault, RecordFault};
 use std::alloc::Global;
 use store_terms::damage::Damage;

@@ -1,57 +1,14 @@
-//! Numbers at the front of some bytes, and behind them.
-ghost use Rattle.std.specs.Prelude.{◌≡◌, ◌++◌, ◌∷◌, true, IfOk, OnOk};
+//! Numbers written behind some bytes.
+ghost use Rattle.std.specs.Prelude.{◌≡◌, ◌++◌, true, OnOk};
 ghost use Rattle.byteorder.specs.Endian.{big_bytes};
 ghost use Rattle.overlay_terms.specs.Plane.{InRange};
-ghost use Rattle.record_writing.specs.Answers.{Gives};
 ghost use Rattle.record_writing.specs.Putting.{IsPut};
 ghost use Rattle.store_terms.specs.Fields.{number};
 ghost use Rattle.store_terms.specs.BaseRecord.{coordinate, whole_point};
 
-use crate::fault::ReadFault;
 use byteorder::{BigEndian, ByteOrder};
 use plane_base::Pt;
 use std::alloc::AllocError;
-
-/// The first byte, and what follows it.
-pub fn byte_at(bytes: &[u8]) -> Result<(u8, &[u8]), ReadFault>
-    ensures front { IfOk result (λ x. bytes.now ≡ x.0 ∷ x.1.now) }
-    ensures gives { Gives (λ x. (x.0, x.1.now)) result ((number 1).read bytes.now) }
-{
-    if bytes.is_empty() {
-        return Err(ReadFault::Form);
-    }
-    Ok((bytes[0], &bytes[1..]))
-}
-
-/// The number that two bytes spell, and what follows them.
-pub fn two_bytes_at(bytes: &[u8]) -> Result<(u16, &[u8]), ReadFault>
-    ensures { Gives (λ x. (x.0, x.1.now)) result ((number 2).read bytes.now) }
-{
-    if bytes.len() < 2 {
-        return Err(ReadFault::Form);
-    }
-    Ok((BigEndian::read_u16(bytes), &bytes[2..]))
-}
-
-/// The number that four bytes spell, and what follows them.
-pub fn four_bytes_at(bytes: &[u8]) -> Result<(u32, &[u8]), ReadFault>
-    ensures { Gives (λ x. (x.0, x.1.now)) result ((number 4).read bytes.now) }
-{
-    if bytes.len() < 4 {
-        return Err(ReadFault::Form);
-    }
-    Ok((BigEndian::read_u32(bytes), &bytes[4..]))
-}
-
-/// The number that eight bytes spell, and what follows them.
-pub(crate) fn eight_bytes_at(bytes: &[u8]) -> Result<(u64, &[u8]), ReadFault>
-    ensures { Gives (λ x. (x.0, x.1.now)) result ((number 8).read bytes.now) }
-{
-    if bytes.len() < 8 {
-        return Err(ReadFault::Form);
-    }
-    Ok((BigEndian::read_u64(bytes), &bytes[8..]))
-}
 
 /// Writes a number of two bytes behind some bytes.
 pub(crate) fn put_two_bytes(out: &mut Vec<u8>, n: u16) -> Result<(), AllocError>

@@ -1,9 +1,8 @@
-//! The bytes of records: numbers, catalogs and bodies of roots read and written, records of layers and tiles
-//! written, the faults of readers, and images.
+//! The bytes of records, catalogs and bodies of roots written, the faults of their readers, and images.
 #![tactic(auto)]
 
 pub mod base_writing;
-pub mod bytes;
+mod bytes;
 pub mod catalog;
 pub mod catalog_writing;
 pub mod definition_writing;

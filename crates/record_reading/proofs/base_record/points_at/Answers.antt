@@ -2,7 +2,7 @@ use Rattle.std.proofs.lemmas.Result.{err_from_is_err_and}
 use Rattle.store_terms.specs.Fields.{read_many}
 use Rattle.store_terms.specs.BaseRecord.{whole_point}
 use Rattle.store_terms.proofs.Loops.{goes_on, is_done}
-use Rattle.record_writing.proofs.Failing.{fails, starts}
+use Rattle.record_reading.proofs.Failing.{fails, starts}
 use Rattle.record_reading.proofs.base_record.points_at.Goals as goal
 
 pub returns-in_err-rest : goal.returns-in_err-rest

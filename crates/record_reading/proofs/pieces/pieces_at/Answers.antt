@@ -3,7 +3,7 @@ use Rattle.std.proofs.lemmas.Result.{err_from_is_err_and}
 use Rattle.store_terms.specs.Fields.{read_many}
 use Rattle.store_terms.specs.TileRecord.{piece}
 use Rattle.store_terms.proofs.Loops.{goes_on}
-use Rattle.record_writing.proofs.Failing.{fails}
+use Rattle.record_reading.proofs.Failing.{fails}
 use Rattle.record_reading.specs.Standing.{stand_in}
 use Rattle.record_reading.proofs.pieces.pieces_at.Goals as goal
 

@@ -3,8 +3,8 @@ use Rattle.store_terms.specs.Fields.{read_many}
 use Rattle.store_terms.specs.Choices.{optional}
 use Rattle.store_terms.specs.Catalog.{extent}
 use Rattle.store_terms.proofs.Loops.{goes_on, is_done}
-use Rattle.record_writing.proofs.Failing.{fails, starts}
-use Rattle.record_writing.proofs.catalog.tiles_at.Goals as goal
+use Rattle.record_reading.proofs.Failing.{fails, starts}
+use Rattle.record_reading.proofs.catalog_record.tiles_at.Goals as goal
 
 pub returns-in_err-tile : goal.returns-in_err-tile
 returns-in_err-tile c =

@@ -3,7 +3,7 @@ use Rattle.store_terms.specs.Fields.{read_many}
 use Rattle.store_terms.specs.Choices.{optional}
 use Rattle.store_terms.specs.Catalog.{extent}
 use Rattle.store_terms.proofs.Loops.{with_front}
-use Rattle.record_writing.proofs.catalog.tiles_at.Given as goal
+use Rattle.record_reading.proofs.catalog_record.tiles_at.Given as goal
 
 abbrev pub invariant-loop : goal.invariant-loop
 invariant-loop l =

@@ -5,8 +5,8 @@ use Rattle.store_terms.specs.Fields.{read_many}
 use Rattle.store_terms.specs.Catalog.{listed}
 use Rattle.store_terms.proofs.Loops.{goes_on, is_done}
 use Rattle.record_writing.specs.Listing.{entry_of, entries_of}
-use Rattle.record_writing.proofs.Failing.{fails, starts}
-use Rattle.record_writing.proofs.catalog.listing_at.Goals as goal
+use Rattle.record_reading.proofs.Failing.{fails, starts}
+use Rattle.record_reading.proofs.catalog_record.listing_at.Goals as goal
 
 pub returns-in_err-layer : goal.returns-in_err-layer
 returns-in_err-layer c =

@@ -1,8 +1,8 @@
 use Rattle.std.proofs.Common.{◌∙◌, ◌==◌, ap}
 use Rattle.byteorder.specs.Endian.{big_number}
 use Rattle.store_terms.specs.Roots.{body_in}
-use Rattle.record_writing.proofs.Tails.{tail_is}
-use Rattle.record_writing.proofs.root_body.read_body.Goals as goal
+use Rattle.record_reading.proofs.Tails.{tail_is}
+use Rattle.record_reading.proofs.root_body.read_body.Goals as goal
 
 pub returns : goal.returns
 unfolding body_in

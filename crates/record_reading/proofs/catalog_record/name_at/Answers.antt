@@ -1,7 +1,7 @@
 use Rattle.std.proofs.Common.{arith}
-use Rattle.record_writing.proofs.NameBytes.{name_read, name_short}
-use Rattle.record_writing.proofs.Tails.{tail_is}
-use Rattle.record_writing.proofs.catalog.name_at.Goals as goal
+use Rattle.record_reading.proofs.NameBytes.{name_read, name_short}
+use Rattle.record_reading.proofs.Tails.{tail_is}
+use Rattle.record_reading.proofs.catalog_record.name_at.Goals as goal
 
 pub returns-then-rest-size : goal.returns-then-rest-size
 returns-then-rest-size c =
