@@ -4,7 +4,7 @@ ghost use Rattle.overlay_terms.specs.Column.{column_count};
 ghost use Rattle.overlay_terms.specs.Commands.{stands_as_derived};
 ghost use Rattle.overlay_terms.specs.Histories.{tile_at};
 ghost use Rattle.overlay_terms.specs.Tiles.{input_of};
-ghost use Rattle.layer_tiles.specs.Table.{row_by};
+ghost use Rattle.layer_tiles.specs.Table.{places_in, row_by};
 ghost use Rattle.version_book.specs.Free.{AllAreHeld, AreHeld, AreHeldAt, AreHeldFrom, IsFree};
 ghost use Rattle.version_book.specs.HeldTiles.{is_held};
 
@@ -77,7 +77,7 @@ fn free_column(
     row: &TileRow,
     from: u8,
 ) -> Option<Column>
-    requires { row.now ≡ row_by (tile_at version.now.tiles name.now) }
+    requires { places_in row.now ≡ row_by (tile_at version.now.tiles name.now) }
     ensures pending { IfSome result (λ column. tile_at version.now.tiles name.now column ≡ None) }
     ensures column { IfSome result (λ column. column < column_count) }
     ensures free { IfSome result (λ column. is_held name.now column held.now.list.items ≡ false) }
@@ -100,7 +100,7 @@ fn free_from(
     row: &TileRow,
     from: u8,
 ) -> Option<Column>
-    requires { row.now ≡ row_by (tile_at version.now.tiles name.now) }
+    requires { places_in row.now ≡ row_by (tile_at version.now.tiles name.now) }
     ensures pending { IfSome result (λ column. tile_at version.now.tiles name.now column ≡ None) }
     ensures column { IfSome result (λ column. column < column_count) }
     ensures free { IfSome result (λ column. is_held name.now column held.now.list.items ≡ false) }
