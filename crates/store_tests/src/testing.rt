@@ -64,10 +64,7 @@ pub fn opened_disk(
     match open(alloc, disk, 100) {
         Ok((store, image)) => {
             let (number, layers, tiles) = image.into_parts(alloc).expect(rt, "memory");
-            (
-                store.into_disk(),
-                Ok((number, layers.len(), tiles.len())),
-            )
+            (store.into_disk(), Ok((number, layers.len(), tiles.len())))
         }
         Err(refused) => (refused.disk, Err(refused.fault)),
     }
