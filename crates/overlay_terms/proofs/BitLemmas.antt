@@ -6,10 +6,12 @@ use Rattle.std.proofs.lemmas.Bool.{eq-eqb, ne_eqb, cases_eq}
 use Rattle.std.proofs.lemmas.List.Folds.{fold-map, fold_stays}
 use Rattle.std.proofs.lemmas.List.Sums.{sum_by-append}
 use Rattle.std.proofs.Math.Nat.{zero-add, add-zero}
+use Rattle.std.proofs.lemmas.Nat.Bits.{bit_at-zero}
 use Rattle.overlay_terms.specs.Plane.{WholePoint, Point, Segment, segments_of, is_below, is_inside}
 use Rattle.overlay_terms.specs.Layers.{Name, Marked, marked_segments}
 use Rattle.overlay_terms.specs.Tiles.{below_bits}
 use Rattle.overlay_terms.proofs.SourceLemmas.{Matches}
+use Rattle.overlay_terms.specs.Trees.{mask_bits}
 
 -- the segments of a base layer with its number
 abbrev marked_by : ℕ → List (List WholePoint) → List Marked
@@ -18,6 +20,14 @@ marked_by k rings = map (λ s. record { layer = k; segment = s }) (segments_of r
 -- the same for base layers, counted on from a number
 abbrev marked_from : ℕ → List (List (List WholePoint)) → List Marked
 marked_from k bases = flat_map (λ numbered. map (λ s. record { layer = numbered.0; segment = s }) (segments_of numbered.1)) (enumerate_from k bases)
+
+-- a mask of no bits has none
+pub mask_bits-zero : (k : ℕ) → mask_bits 0 k ≡ false
+mask_bits-zero k = ap (λ bit. bit == 1) (bit_at-zero k)
+
+-- a bit with nothing added
+pub bit_stays : (bit : ℕ) → bit < 2 → (bit + 0) % 2 ≡ bit
+bit_stays bit h = omega arith
 
 module _ (p : Point) where
   -- how many segments of a layer are below the point
