@@ -5,7 +5,6 @@ use Rattle.std.proofs.lemmas.Int.{ints}
 use Rattle.std.proofs.lemmas.Bool.{and_parts, and_from, cases_lt, cases_eq}
 use Rattle.std.proofs.lemmas.List.{get_or_read}
 use Rattle.std.proofs.lemmas.List.Elements.{All-contains, All-map}
-use Rattle.std.proofs.Math.IntN.{*ℤ_comm}
 use Rattle.std.specs.declared.cmp.Ordering.TheVariants.{Less}
 use Rattle.overlay_terms.specs.Plane.{Point, Segment, point_cmp, same_place, is_on}
 use Rattle.overlay_terms.specs.Column.{border, is_in_column}
@@ -14,6 +13,7 @@ use Rattle.overlay_terms.specs.Tiles.{is_node, IsPiece, Input}
 use Rattle.overlay_terms.specs.TileLaws.{IsInput, IsProper}
 use Rattle.overlay_terms.proofs.InputNumbers.{true_le, lt_true, x_in_order, least_through}
 use Rattle.overlay_terms.proofs.InputNodes.{IsIn, is_in, ends_within}
+use Rattle.overlay_terms.proofs.Whole.{no_turn}
 use Rattle.exact_point.proofs.OnLine.{parallel_from_turn}
 use Rattle.exact_point.proofs.PlaceOrder.{same_self, alike_left, alike_right, not_before_self, not_after_less}
 use Rattle.exact_point.proofs.Nodes.{left_among, right_among}
@@ -22,9 +22,6 @@ use Rattle.arrange.specs.NamedPlaces.{spot, AreAlong}
 use Rattle.arrange.specs.declared.named_place.NamedPlace.{NamedPlace}
 use Rattle.arrange.proofs.NodeSound.{IsKnown, named_is_node}
 use Rattle.arrange.proofs.SortedPlaces.{spot_positive}
-
-no_turn : (a b : ℤ) → (a *ℤ b) -ℤ (b *ℤ a) ≡ pos 0
-no_turn a b = omega (arith, ints, *ℤ_comm a b)
 
 -- a segment of an input is proper
 pub proper_among : (input : Input) (s : Segment) → IsInput input → Contains (segments_in input) s → IsProper s

@@ -15,6 +15,7 @@ use Rattle.overlay_terms.specs.Trees.{mask_bits}
 use Rattle.overlay_terms.specs.Layers.{Marked}
 use Rattle.overlay_terms.proofs.Lists.{Contains-cons_cases, in_flat_map, from_flat_map, contains_first, contains_rest, none_in_empty}
 use Rattle.overlay_terms.proofs.PointOrder.{whole_cmp_total}
+use Rattle.overlay_terms.proofs.Tests.{less_told}
 use Rattle.exact_point.proofs.OnLine.{within_on, after_left, before_right}
 use Rattle.exact_point.proofs.PlaceOrder.{one_positive}
 use Rattle.arrange.specs.LineEnds.{left_end, right_end, both_ends, AreInOrder, IsCounted}
@@ -38,11 +39,6 @@ up_to_less a b c h less = by (whole_cmp a b) refl where
   by Less e = whole_cmp_total.trans a b c e less
   by Equal e = whole_cmp_total.congr a b c e ∙ less
   by Greater e = absurd (h (whole_cmp_total.antisymm b a ∙ ap ordering_reverse e))
-
-less_test : (o : Ordering) → is_lt o ≡ true → o ≡ Less
-less_test Less e = refl
-less_test Equal e = cc
-less_test Greater e = cc
 
 both_off : (a b : Bool) → (a ≡ true → b ≡ true → ⊥) → (a && b) ≡ false
 both_off true b h = false_from_ne_true b (λ e. h refl e)
@@ -123,14 +119,14 @@ module _ (marked : List Marked) (ends : List LineEnd) (along : AreEndsAlong mark
       by : (a b : Bool) → before m.segment.left ≡ a → before m.segment.right ≡ b → covers m.segment (stretch_at ends d n) ≡ (a && not b)
       by true true e f =
           both_off (is_on m.segment (whole (place_at n))) (is_on m.segment (whole (place_at (n + 1))))
-          (λ on_p on_q. before_right m.segment (whole (place_at (n + 1))) one_positive on_q (sym (whole_order m.segment.right (place_at (n + 1))) ∙ less_test (whole_cmp m.segment.right (place_at (n + 1))) f))
+          (λ on_p on_q. before_right m.segment (whole (place_at (n + 1))) one_positive on_q (sym (whole_order m.segment.right (place_at (n + 1))) ∙ less_told (whole_cmp m.segment.right (place_at (n + 1))) f))
       by true false e f =
           and_from (is_on m.segment (whole (place_at n))) (is_on m.segment (whole (place_at (n + 1))))
           (within_on m.segment (whole (place_at n)) one_positive (level n (omega (arith, within)))
-          (λ l. none_between n within m c m.segment.left (inl refl) (whole_order (place_at n) m.segment.left ∙ l) (less_test (whole_cmp m.segment.left (place_at (n + 1))) e))
+          (λ l. none_between n within m c m.segment.left (inl refl) (whole_order (place_at n) m.segment.left ∙ l) (less_told (whole_cmp m.segment.left (place_at (n + 1))) e))
           (λ l. not_closed (whole_cmp_total.trans m.segment.right (place_at n) (place_at (n + 1)) (whole_order m.segment.right (place_at n) ∙ l) apart)))
           (within_on m.segment (whole (place_at (n + 1))) one_positive (level (n + 1) within)
-          (λ l. not_back m.segment.left (place_at (n + 1)) (less_test (whole_cmp m.segment.left (place_at (n + 1))) e) (whole_order (place_at (n + 1)) m.segment.left ∙ l))
+          (λ l. not_back m.segment.left (place_at (n + 1)) (less_told (whole_cmp m.segment.left (place_at (n + 1))) e) (whole_order (place_at (n + 1)) m.segment.left ∙ l))
           (λ l. not_closed (whole_order m.segment.right (place_at (n + 1)) ∙ l)))
         where
           not_closed : whole_cmp m.segment.right (place_at (n + 1)) ≡ Less → ⊥
@@ -143,14 +139,14 @@ module _ (marked : List Marked) (ends : List LineEnd) (along : AreEndsAlong mark
     -- one that has closed has opened
     opened_first : (m : Marked) → Contains marked m → before m.segment.right ≡ true → before m.segment.left ≡ true
     opened_first m c e =
-        ap is_lt (whole_cmp_total.trans m.segment.left m.segment.right (place_at (n + 1)) (along.ahead m c) (less_test (whole_cmp m.segment.right (place_at (n + 1))) e))
+        ap is_lt (whole_cmp_total.trans m.segment.left m.segment.right (place_at (n + 1)) (along.ahead m c) (less_told (whole_cmp m.segment.right (place_at (n + 1))) e))
 
     -- the ends up to the first are those before the second
     first_ends : (f : LineEnd → Bool) → count_by f (take (n + 1) ends) ≡ count_by (λ m. f (left_end m) && before m.segment.left) marked + count_by (λ m. f (right_end m) && before m.segment.right) marked
     first_ends f =
         count_first f (λ (x : LineEnd). before x.at) (n + 1) ends
         (λ k e h l. ap (λ (x : LineEnd). before x.at) (defaults k e l) ∙ ap is_lt (passed_before k h))
-        (λ k e h l. ap (λ (x : LineEnd). before x.at) (defaults k e l) ∙ false_from_ne_true (before (place_at k)) (λ b. in_turn (n + 1) k h l (less_test (whole_cmp (place_at k) (place_at (n + 1))) b)))
+        (λ k e h l. ap (λ (x : LineEnd). before x.at) (defaults k e l) ∙ false_from_ne_true (before (place_at k)) (λ b. in_turn (n + 1) k h l (less_told (whole_cmp (place_at k) (place_at (n + 1))) b)))
         ∙ sum_by-IsPermutation (λ (x : LineEnd). cond (f x && before x.at) 1 0) (both_ends marked) ends along.moved
         ∙ ends_counted (λ (x : LineEnd). f x && before x.at) marked
       where

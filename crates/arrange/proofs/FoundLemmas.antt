@@ -16,6 +16,8 @@ use Rattle.exact_point.specs.PointName.{HasPlace, IsPlaceOf, IsOnlyPlaceOf}
 use Rattle.exact_point.specs.declared.point_name.PointName.{PointName}
 use Rattle.exact_point.specs.declared.point_name.PointName.TheVariants.{Vertex, Cross, Border}
 use Rattle.exact_point.proofs.PlaceOrder.{on_same, same_turned}
+use Rattle.exact_point.specs.Place.{place}
+use Rattle.exact_point.specs.declared.point.HPoint.{HPoint}
 use Rattle.arrange.specs.Arrangement.{is_in_closed_column}
 use Rattle.arrange.specs.NamedPlaces.{spot, IsFound, AreFound, names_with}
 use Rattle.arrange.specs.declared.marked_seg.MarkedSeg.{MarkedSeg}
@@ -28,6 +30,10 @@ closed_same k p q h l e c =
     let x : p.x *ℤ q.w ≡ q.x *ℤ p.w = (places_alike p q h l e).x_level in
     and_from _ _ (true_le (border k *ℤ q.w) q.x (least_through p q (border k) h l (omega (arith, ints, x)) (le_true _ _ parts.0)))
     (true_le q.x (border (k + 1) *ℤ q.w) (most_through q p (border (k + 1)) l h (omega (arith, ints, x)) (le_true _ _ parts.1)))
+
+-- a named place has a positive denominator
+pub place_positive : (at : HPoint) → pos 0 <ℤ (place at).w
+place_positive at = omega (arith, ints)
 
 -- what stands for a place has one
 pub has_place : (name : PointName) (p : Point) → pos 0 <ℤ p.w → IsPlaceOf name p → HasPlace name

@@ -13,6 +13,7 @@ use Rattle.std.proofs.lemmas.List.Sorted.{sorted_far, ranks_by}
 use Rattle.overlay_terms.specs.Plane.{Segment, whole, whole_cmp, height_over}
 use Rattle.overlay_terms.specs.Layers.{Marked}
 use Rattle.overlay_terms.specs.TileLaws.{IsProper}
+use Rattle.overlay_terms.proofs.Lists.{from_map}
 use Rattle.exact_point.proofs.OnLine.{one_direction, left_on_line, right_on_line}
 use Rattle.exact_point.proofs.PlaceOrder.{level_from}
 use Rattle.arrange.specs.Marked.{marked_of, AllProper}
@@ -24,7 +25,6 @@ use Rattle.arrange.specs.declared.unit.Unit.{Unit}
 use Rattle.arrange.proofs.SortedPlaces.{equal_from_test}
 use Rattle.arrange.proofs.UnitLineLemmas.{whole_order}
 use Rattle.arrange.proofs.UnitParts.{units_joined}
-use Rattle.arrange.proofs.UnitNodes.{from_map}
 
 -- segments on one line are equal by their order
 pub on_one_line : (a b : LineSeg) → is_collinear a.marked.seg b.marked.seg ≡ true → line_cmp a b ≡ Equal

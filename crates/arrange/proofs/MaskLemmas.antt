@@ -1,5 +1,5 @@
 -- A mask with one bit turned, against a count that grows by one.
-use Rattle.std.proofs.Common.{◌≡◌, ◌≢◌, ℕ, ◌+◌, ◌*◌, ◌%◌, ◌^◌, ◌<◌, ◌==◌, Bool, true, false, ◌&&◌, ◌⊎◌, inl, inr, List, [], ◌∷◌, map, fold, cond, suc, length, get_or, take, bit_xor, refl, ap, sym, ◌∙◌, arith}
+use Rattle.std.proofs.Common.{◌≡◌, ◌≢◌, ℕ, ◌+◌, ◌*◌, ◌%◌, ◌^◌, ◌<◌, ◌==◌, Bool, true, false, ◌&&◌, ◌⊎◌, inl, inr, List, [], ◌∷◌, map, fold, cond, length, get_or, take, bit_xor, refl, ap, sym, ◌∙◌, arith}
 use Rattle.std.specs.Prelude.{Contains}
 use Rattle.std.specs.Int.{bit_at}
 use Rattle.std.proofs.lemmas.Bool.{cases_eq, eq-eqb, ne_eqb, and_from}
@@ -11,6 +11,8 @@ use Rattle.overlay_terms.specs.Plane.{Point, is_on}
 use Rattle.overlay_terms.specs.Trees.{mask_bits}
 use Rattle.overlay_terms.specs.Layers.{Marked}
 use Rattle.overlay_terms.specs.Tiles.{midpoint}
+use Rattle.overlay_terms.proofs.BitLemmas.{bit_stays}
+use Rattle.overlay_terms.proofs.Lists.{contains_first, contains_rest}
 use Rattle.arrange.specs.Arrangement.{on_bits}
 use Rattle.arrange.specs.Marked.{marked_of}
 use Rattle.arrange.specs.Masks.{holding_count, holding_bits}
@@ -19,9 +21,6 @@ use Rattle.arrange.specs.declared.marked_seg.MarkedSeg.{MarkedSeg}
 -- an odd number is one whose bit is 1
 odd_flips : (b n : ℕ) → b < 2 → (b == 1) ≡ (n % 2 == 1) → ((b + 1) % 2 == 1) ≡ ((n + 1) % 2 == 1)
 odd_flips b n h e = grind (arith, nat_tests)
-
-stays : (b : ℕ) → b < 2 → (b + 0) % 2 ≡ b
-stays b h = omega arith
 
 -- a bit that is turned
 pub turned_bit : (mask k n : ℕ) → mask_bits mask k ≡ (n % 2 == 1) → mask_bits (bit_xor mask (2 ^ k)) k ≡ ((n + 1) % 2 == 1)
@@ -32,7 +31,7 @@ turned_bit mask k n e =
 -- the other bits stay
 pub other_bit : (mask j k : ℕ) → k ≢ j → mask_bits (bit_xor mask (2 ^ j)) k ≡ mask_bits mask k
 other_bit mask j k n =
-    ap (λ b. b == 1) (bit_at_xor mask (2 ^ j) k ∙ ap (λ b. (bit_at mask k + b) % 2) (bit_at-pow_other j k n) ∙ stays (bit_at mask k) (bit_at-lt mask k))
+    ap (λ b. b == 1) (bit_at_xor mask (2 ^ j) k ∙ ap (λ b. (bit_at mask k + b) % 2) (bit_at-pow_other j k n) ∙ bit_stays (bit_at mask k) (bit_at-lt mask k))
 
 module _ (marked : List MarkedSeg) (p r : Point) (k i : ℕ) (x : MarkedSeg) (within : i < length marked) (is : x ≡ get_or marked i x) (mask : ℕ)
     (so_far : mask_bits mask k ≡ holding_bits (take i marked) p r k) where
@@ -77,20 +76,13 @@ shifted j h =
     let below : 2 ^ j < 2 ^ 32 = pow-lt h in
     ap (λ n. n % 4294967296) (one_factor (2 ^ j)) ∙ small_rest (2 ^ j) 4294967296 below
 
--- the first of a list, and one of the rest
-first_in : {X : Type 0} (x : X) (xs : List X) → Contains (x ∷ xs) x
-first_in x xs = (0, omega arith, refl)
-
-rest_in : {X : Type 0} (x y : X) (xs : List X) → Contains xs y → Contains (x ∷ xs) y
-rest_in x y xs c = (suc c.0, omega (arith, c.1), c.2)
-
 -- counts by tests that agree
 counts : {X Y : Type 0} (p : X → Bool) (q : Y → Bool) (v : X → Y) (xs : List X) (a : ℕ) → ((x : X) → Contains xs x → p x ≡ q (v x))
     → fold (λ (n : ℕ) (x : X). n + cond (p x) 1 0) a xs ≡ fold (λ (n : ℕ) (y : Y). n + cond (q y) 1 0) a (map v xs)
 counts p q v [] a h = refl
 counts {X} {Y} p q v (x ∷ xs) a h =
-    ap (λ b. fold (λ (n : ℕ) (x : X). n + cond (p x) 1 0) (a + cond b 1 0) xs) (h x (first_in x xs))
-    ∙ counts p q v xs (a + cond (q (v x)) 1 0) (λ y c. h y (rest_in x y xs c))
+    ap (λ b. fold (λ (n : ℕ) (x : X). n + cond (p x) 1 0) (a + cond b 1 0) xs) (h x (contains_first x xs))
+    ∙ counts p q v xs (a + cond (q (v x)) 1 0) (λ y c. h y (contains_rest x xs y c))
 
 -- where the segments that hold both points are those that hold their middle, the mask is that of the middle
 pub middle_mask : (items : List MarkedSeg) (p r : Point) (k : ℕ) → ((m : MarkedSeg) → Contains items m → (is_on m.seg p && is_on m.seg r) ≡ is_on m.seg (midpoint p r))

@@ -9,8 +9,9 @@ use Rattle.std.specs.declared.cmp.Ordering.TheVariants.{Less}
 use Rattle.overlay_terms.specs.Plane.{Point, Segment, whole, whole_cmp, same_place}
 use Rattle.overlay_terms.specs.Column.{border, columns, column_count}
 use Rattle.overlay_terms.specs.Tiles.{Input}
-use Rattle.overlay_terms.proofs.InputNumbers.{le_true, most_back, between_from_on}
+use Rattle.overlay_terms.proofs.InputNumbers.{le_true, most_back, between_from_on, times_one}
 use Rattle.overlay_terms.proofs.Lists.{in_flat_map}
+use Rattle.overlay_terms.proofs.Whole.{same_most}
 use Rattle.exact_point.proofs.BorderLemmas.{one_over_x}
 use Rattle.exact_point.specs.PointName.{IsPlaceOf, IsCutOf}
 use Rattle.exact_point.specs.declared.point_name.PointName.{PointName}
@@ -29,10 +30,6 @@ one_of_two j k low high = by (cases_eq j k) where
   by (inl e) = inl e
   by (inr n) = inr (omega (arith, ints))
 
--- a number once
-pub once_more : (x : ℤ) → x *ℤ pos 1 ≡ x
-once_more x = omega (arith, ints)
-
 module _ (input : Input) (s : Segment) (ahead : whole_cmp s.left s.right ≡ Less) (found : List NamedPlace) (h : AreFound input.column s (names_along input s) found) (p : Point) (n : IsNodeOn input s p) where
   abbrev There : Type 0
   There = Any (λ z. IsTrue (same_place p (spot z))) found
@@ -49,12 +46,12 @@ module _ (input : Input) (s : Segment) (ahead : whole_cmp s.left s.right ≡ Les
   at_left_end : s.left.x <ℤ s.right.x → p.x ≡ s.left.x *ℤ p.w → There
   at_left_end wide e =
       there (Vertex s.left) (own (Vertex s.left) (0, lit< tt, refl))
-      (one_over_x s (whole s.left) p wide (left_on_line s) (on_line s p n.on_segment) (sym e ∙ sym (once_more p.x)))
+      (one_over_x s (whole s.left) p wide (left_on_line s) (on_line s p n.on_segment) (sym e ∙ sym (times_one p.x)))
 
   at_right_end : s.left.x <ℤ s.right.x → p.x ≡ s.right.x *ℤ p.w → There
   at_right_end wide e =
       there (Vertex s.right) (own (Vertex s.right) (1, lit< tt, refl))
-      (one_over_x s (whole s.right) p wide (right_on_line s) (on_line s p n.on_segment) (sym e ∙ sym (once_more p.x)))
+      (one_over_x s (whole s.right) p wide (right_on_line s) (on_line s p n.on_segment) (sym e ∙ sym (times_one p.x)))
 
   at_cut : (j : ℕ) → j < column_count → p.x ≡ border j *ℤ p.w → s.left.x <ℤ (border j) → (border j) <ℤ s.right.x → There
   at_cut j known e low high = by (one_of_two j input.column (most_back _ _ p.w n.positive lower) (most_back _ _ p.w n.positive higher)) where
@@ -76,12 +73,9 @@ module _ (input : Input) (s : Segment) (ahead : whole_cmp s.left s.right ≡ Les
   at_border j known e wide =
       by_lt_z s.left.x (border j)
       (λ low. by_lt_z (border j) s.right.x (λ high. at_cut j known e low high)
-      (λ high. at_right_end wide (e ∙ ap (λ z. z *ℤ p.w) (meet (border j) s.right.x (most_back (border j) s.right.x p.w n.positive (rw (← e) right)) high))))
-      (λ low. at_left_end wide (e ∙ ap (λ z. z *ℤ p.w) (sym (meet s.left.x (border j) (most_back s.left.x (border j) p.w n.positive (rw (← e) left)) low))))
+      (λ high. at_right_end wide (e ∙ ap (λ z. z *ℤ p.w) (same_most (border j) s.right.x (most_back (border j) s.right.x p.w n.positive (rw (← e) right)) high))))
+      (λ low. at_left_end wide (e ∙ ap (λ z. z *ℤ p.w) (sym (same_most s.left.x (border j) (most_back s.left.x (border j) p.w n.positive (rw (← e) left)) low))))
     where
-      meet : (a b : ℤ) → a ≤ℤ b → b ≤ℤ a → a ≡ b
-      meet a b l m = omega (arith, ints)
-
       left : (s.left.x *ℤ p.w) ≤ℤ p.x
       left = (between_from_on s p n.on_segment).from_left
 

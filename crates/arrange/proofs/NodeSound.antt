@@ -1,11 +1,11 @@
 -- The places that the names along a known segment stand for are nodes.
-use Rattle.std.proofs.Common.{◌≡◌, ℕ, ℤ, pos, ◌+◌, ◌-ℤ◌, ◌*ℤ◌, ◌<ℤ◌, true, false, ◌&&◌, ◌||◌, ◌⊎◌, inl, inr, List, [], ◌∷◌, map, get_or, suc, ap, sym, ◌∙◌, subst, arith}
+use Rattle.std.proofs.Common.{◌≡◌, ℕ, ℤ, pos, ◌+◌, ◌-ℤ◌, ◌*ℤ◌, ◌<ℤ◌, true, false, ◌&&◌, ◌||◌, ◌⊎◌, inl, inr, List, [], ◌∷◌, map, get_or, ap, sym, ◌∙◌, subst, arith}
 use Rattle.std.specs.Prelude.{IsTrue, Bool, filter, All, Any, Contains, flat_map}
 use Rattle.std.specs.List.{AllPairs}
 use Rattle.std.proofs.lemmas.Int.{ints}
 use Rattle.std.proofs.lemmas.Bool.{or_cases, or_left, or_right, and_parts, false_from_ne_true, both_ways}
 use Rattle.std.proofs.lemmas.List.Elements.{Contains-append_cases, All-contains, All-filter, All-map, All-weaker, filter_passes}
-use Rattle.std.proofs.lemmas.List.Kept.{AllPairs-cons, AllPairs-filter}
+use Rattle.std.proofs.lemmas.List.Kept.{AllPairs-filter}
 use Rattle.overlay_terms.proofs.Lists.{any_from, any_contains, Contains-cons_cases, from_flat_map, contains_map}
 use Rattle.overlay_terms.proofs.InputLists.{Contains-filter}
 use Rattle.overlay_terms.proofs.PointOrder.{same_points}
@@ -23,6 +23,7 @@ use Rattle.overlay_terms.specs.Column.{border}
 use Rattle.overlay_terms.specs.Layers.{Marked}
 use Rattle.overlay_terms.specs.Tiles.{is_node, is_end, is_parallel, is_vertical, Input}
 use Rattle.overlay_terms.proofs.Difference.{split, differences, same}
+use Rattle.overlay_terms.proofs.Pairs.{pairs_map}
 use Rattle.exact_point.specs.Crossing.{turn_of, IsCrossingOf}
 use Rattle.exact_point.specs.PointName.{HasPlace, IsPlaceOf, IsCutOf}
 use Rattle.exact_point.specs.declared.point_name.PointName.{PointName}
@@ -157,18 +158,6 @@ covering_holds t s ahead on_left on_right p hp on_s =
     between_on t (whole s.left) p (whole s.right) one_positive hp one_positive on_left on_right level (after_left s p on_s) (before_right s p hp on_s)
 
 -- ---- all of them
-rest_pairs : {X : Type 0} (R : X → X → Type 0) (x : X) (xs : List X) → AllPairs R (x ∷ xs) → AllPairs R xs
-rest_pairs R x xs h = λ i j d l m. h (suc i) (suc j) d (omega arith) (omega (arith, m))
-
-first_pairs : {X : Type 0} (R : X → X → Type 0) (x : X) (xs : List X) → AllPairs R (x ∷ xs) → All (R x) xs
-first_pairs R x xs h = λ k d l. h 0 (suc k) d (omega arith) (omega (arith, l))
-
--- a list of images in order
-pub pairs_mapped : {X Y : Type 0} (f : X → Y) (R : Y → Y → Type 0) (xs : List X) → AllPairs (λ a b. R (f a) (f b)) xs → AllPairs R (map f xs)
-pairs_mapped f R [] h = λ i j d l m. absurd (omega (arith, m))
-pairs_mapped f R (x ∷ xs) h =
-    AllPairs-cons R (f x) (map f xs) (All-map (R (f x)) f xs (first_pairs (λ a b. R (f a) (f b)) x xs h)) (pairs_mapped f R xs (rest_pairs (λ a b. R (f a) (f b)) x xs h))
-
 -- what is told of each element may stand for it
 pairs_told : (k : ℕ) (s : Segment) (names : List PointName) (xs : List NamedPlace) → All (IsFound k s names) xs → AllPairs (λ a b. point_cmp (spot a) (spot b) ≡ Less) xs
     → AllPairs (λ a b. point_cmp (place_of a.name) (place_of b.name) ≡ Less) xs
@@ -181,7 +170,7 @@ nodes_from_along input s list along =
     record {
       named = All-map HasPlace name kept (All-weaker Found (λ z. HasPlace z.name) (λ z f. f.named) kept found);
       sound = All-map (λ n. IsNodeOn input s (place_of n)) name kept (λ i d l. node (get_or kept i d) (found i d l) (passing i d l));
-      ordered = pairs_mapped name (λ a b. point_cmp (place_of a) (place_of b) ≡ Less) kept (pairs_told input.column s names kept found (AllPairs-filter (λ a b. point_cmp (spot a) (spot b) ≡ Less) is_one list along.ordered));
+      ordered = pairs_map (λ a b. point_cmp (place_of a) (place_of b) ≡ Less) name kept (pairs_told input.column s names kept found (AllPairs-filter (λ a b. point_cmp (spot a) (spot b) ≡ Less) is_one list along.ordered));
       complete = λ p n. told p n (along.complete p n);
     }
   where

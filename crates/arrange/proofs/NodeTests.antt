@@ -3,10 +3,11 @@ use Rattle.std.specs.Prelude.{◌≡◌, ℕ, pos, ◌+◌, ◌<◌, Bool, true,
 use Rattle.std.specs.List.{list_any}
 use Rattle.std.specs.Cmp.{both_ways}
 use Rattle.std.specs.Ordering.{int_eq, int_cmp, is_eq}
-use Rattle.std.proofs.Common.{refl, ap, sym, ◌∙◌, get_or, take, arith}
+use Rattle.std.proofs.Common.{refl, ap, sym, ◌∙◌, get_or, take}
 use Rattle.std.proofs.lemmas.Bool.{or_left, or_right}
 use Rattle.std.proofs.lemmas.List.Folds.{list_any_at, list_any_more}
 use Rattle.std.proofs.lemmas.List.FromFn.{get_or-range_with_len, length-range_with_len}
+use Rattle.std.proofs.Math.Nat.{zero-add}
 use Rattle.overlay_terms.specs.Plane.{Point, Segment, whole, point_cmp, same_place, is_on}
 use Rattle.overlay_terms.specs.Tiles.{is_parallel, is_vertical, is_end, is_crossing, is_on_border, is_node}
 use Rattle.overlay_terms.proofs.Functions.{fun_ext}
@@ -71,12 +72,9 @@ pub on_border_by : (marked : List MarkedSeg) (p : Point) (a r : Bool) → a ≡ 
 on_border_by marked p a r e t k =
     k ∙ slanted_is marked p ∙ sym (ap (λ b. b && list_any (λ s. is_on s p && not (is_vertical s)) (segs marked)) (sym e ∙ t))
 
-from_zero : (k : ℕ) → 0 + k ≡ k
-from_zero k = omega arith
-
 -- the number of a column stands in its place among the columns
 column_at : (k : ℕ) → k < column_count → get_or columns k 0 ≡ k
-column_at k h = get_or-range_with_len 0 column_count k 0 h ∙ from_zero k
+column_at k h = get_or-range_with_len 0 column_count k 0 h ∙ zero-add k
 
 -- a column with the test is among the columns
 pub column_found : (f : ℕ → Bool) (k : ℕ) → k < column_count → f k ≡ true → list_any f columns ≡ true

@@ -10,7 +10,7 @@ use Rattle.std.proofs.lemmas.List.Sorted.{Contains-permutation, IsPermutation-sy
 use Rattle.std.specs.declared.cmp.Ordering.TheVariants.{Less, Equal}
 use Rattle.overlay_terms.specs.Plane.{Segment, whole, whole_cmp, height_over}
 use Rattle.overlay_terms.specs.Layers.{Marked}
-use Rattle.overlay_terms.proofs.Lists.{Contains-cons_cases, from_flat_map, none_in_empty}
+use Rattle.overlay_terms.proofs.Lists.{Contains-cons_cases, from_flat_map, none_in_empty, from_map}
 use Rattle.overlay_terms.proofs.PointOrder.{both_equal}
 use Rattle.exact_point.specs.Crossing.{turn_of}
 use Rattle.exact_point.proofs.OnLine.{parallel_line, left_on_line, right_on_line, no_turn_back}
@@ -24,7 +24,6 @@ use Rattle.arrange.specs.declared.passed_ends.PassedEnds.{PassedEnds}
 use Rattle.arrange.specs.declared.unit.Unit.{Unit}
 use Rattle.arrange.proofs.EndStretches.{AreEndsAlong}
 use Rattle.arrange.proofs.LineLemmas.{IsRun}
-use Rattle.arrange.proofs.UnitNodes.{from_map}
 use Rattle.arrange.proofs.UnitsAlong.{HaveUnitsTo, have_no_units, with_unit, without_unit, all_units}
 
 -- segments that are equal by their order are on one line

@@ -15,6 +15,7 @@ use Rattle.overlay_terms.specs.Plane.{Point, Segment, whole_cmp, point_cmp, same
 use Rattle.overlay_terms.specs.Tiles.{is_node, Input}
 use Rattle.overlay_terms.proofs.Lists.{any_from, any_contains, contains_map}
 use Rattle.overlay_terms.proofs.PointOrder.{both_equal}
+use Rattle.overlay_terms.proofs.Pairs.{pairs_map}
 use Rattle.exact_point.specs.Crossing.{turn_of}
 use Rattle.exact_point.specs.Place.{place, hpoint_cmp}
 use Rattle.exact_point.specs.PlaceOf.{place_of}
@@ -25,7 +26,6 @@ use Rattle.arrange.specs.PlacedPieces.{placed_cmp, placed_total, same_placed, sa
 use Rattle.arrange.specs.declared.piece.Elementary.{Elementary}
 use Rattle.arrange.specs.declared.placed_piece.PlacedPiece.{PlacedPiece}
 use Rattle.arrange.proofs.SortedPlaces.{strict_pairs, all_deduped, equal_from_test}
-use Rattle.arrange.proofs.NodeSound.{pairs_mapped}
 use Rattle.arrange.proofs.PieceLemmas.{no_shorter}
 
 less_cases : (o i : Ordering) → ordering_then o i ≡ Less → (o ≡ Less) ⊎ ((o ≡ Equal) × (i ≡ Less))
@@ -122,7 +122,7 @@ module _ (input : Input) (placed sorted : List PlacedPiece) (h : HoldsPieces inp
   pub pieces_once : ArePieces input (map (λ (g : PlacedPiece). g.piece) once)
   pieces_once = record {
     sound = All-map (IsElementary input) (λ (g : PlacedPiece). g.piece) once (All-weaker (IsPlaced input) (λ g. IsElementary input g.piece) (elementary input) once once_sound);
-    ordered = pairs_mapped (λ (g : PlacedPiece). g.piece) ComesBefore once
+    ordered = pairs_map ComesBefore (λ (g : PlacedPiece). g.piece) once
         (λ i j d l m. comes_before input _ _ (once_sound i d (omega (arith, l, m))) (once_sound j d m) (strict i j d l m));
     complete = λ p r piece begins. there p r piece.from_positive piece.to_positive (h.complete p r piece piece.among begins);
   }

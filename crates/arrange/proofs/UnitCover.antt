@@ -10,6 +10,7 @@ use Rattle.overlay_terms.specs.Layers.{Marked}
 use Rattle.overlay_terms.proofs.InputLists.{any_from_Contains}
 use Rattle.overlay_terms.proofs.InputNumbers.{times_one}
 use Rattle.overlay_terms.proofs.PointOrder.{same_points}
+use Rattle.overlay_terms.proofs.Tests.{less_told}
 use Rattle.exact_point.proofs.OnLine.{parallel_line, between_on, within_on, after_left, before_right, on_line, left_on_line, right_on_line}
 use Rattle.exact_point.proofs.PlaceOrder.{one_positive, level_from, level_test, same_self, on_same, not_before_self, less_through, not_after_less, not_before_test, not_before_says, Way, before, at, after, way_of}
 use Rattle.arrange.specs.Units.{covers, is_collinear, is_end_along, IsUnit}
@@ -30,11 +31,6 @@ one_point a b e =
 
 less_test : (o : Ordering) → o ≡ Less → is_lt o ≡ true
 less_test o e = ap is_lt e
-
-less_told : (o : Ordering) → is_lt o ≡ true → o ≡ Less
-less_told Less e = refl
-less_told Equal e = cc
-less_told Greater e = cc
 
 -- a comes before b
 abbrev pub Before : WholePoint → WholePoint → Type 0

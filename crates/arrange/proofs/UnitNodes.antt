@@ -1,5 +1,5 @@
 -- Nodes by units: the ends of units, places on two units that are not parallel, and places of slanted units on borders.
-use Rattle.std.proofs.Common.{◌≡◌, ℕ, pos, ◌*ℤ◌, ◌<ℤ◌, ◌⊎◌, inl, inr, true, false, not, ◌&&◌, ◌||◌, List, [], ◌∷◌, map, ap, sym, ◌∙◌, subst}
+use Rattle.std.proofs.Common.{◌≡◌, ℕ, pos, ◌*ℤ◌, ◌<ℤ◌, ◌⊎◌, inl, inr, true, false, not, ◌&&◌, ◌||◌, List, ◌∷◌, map, ap, sym, ◌∙◌, subst}
 use Rattle.std.specs.Prelude.{IsTrue, Contains}
 use Rattle.std.specs.List.{list_any}
 use Rattle.std.specs.Ordering.{int_eq}
@@ -13,7 +13,7 @@ use Rattle.overlay_terms.specs.Layers.{Marked}
 use Rattle.overlay_terms.specs.Tiles.{is_node, is_end, is_crossing, is_on_border, is_parallel, is_vertical}
 use Rattle.overlay_terms.specs.TileLaws.{IsProper}
 use Rattle.overlay_terms.proofs.InputNumbers.{false_eq}
-use Rattle.overlay_terms.proofs.Lists.{any_contains, contains_map, Contains-cons_cases, none_in_empty, contains_first, contains_rest}
+use Rattle.overlay_terms.proofs.Lists.{any_contains, contains_map, from_map}
 use Rattle.exact_point.specs.Crossing.{turn_of}
 use Rattle.exact_point.proofs.OnLine.{parallel_from_turn, turn_from_parallel, no_turn_back, parallel_through}
 use Rattle.exact_point.proofs.PlaceOrder.{one_positive, on_same}
@@ -22,17 +22,6 @@ use Rattle.arrange.specs.Marked.{AllProper}
 use Rattle.arrange.specs.Units.{covers, IsUnit}
 use Rattle.arrange.proofs.NodeSound.{covering_turn, covering_holds, end_from_along}
 use Rattle.arrange.proofs.UnitCover.{left_held, right_held, unit_holding, first_unit, last_unit}
-
--- what stands in a list of images
-pub from_map : {X Y : Type 0} (f : X → Y) (xs : List X) (y : Y) → Contains (map f xs) y → (x : X) × Contains xs x × (f x ≡ y)
-from_map f [] y c = absurd (none_in_empty y c)
-from_map {X} {Y} f (x ∷ xs) y c = by (Contains-cons_cases (f x) (map f xs) y c) (λ d. from_map f xs y d) where
-  later : (z : X) × Contains xs z × (f z ≡ y) → (z : X) × Contains (x ∷ xs) z × (f z ≡ y)
-  later (z, d, e) = (z, contains_rest x xs z d, e)
-
-  by : (f x ≡ y) ⊎ Contains (map f xs) y → (Contains (map f xs) y → (z : X) × Contains xs z × (f z ≡ y)) → (z : X) × Contains (x ∷ xs) z × (f z ≡ y)
-  by (inl e) rest = (x, contains_first x xs, e)
-  by (inr d) rest = later (rest d)
 
 abbrev pub segments_of_marked : List Marked → List Segment
 segments_of_marked marked = map (λ (m : Marked). m.segment) marked

@@ -10,7 +10,7 @@ use Rattle.overlay_terms.specs.Plane.{Point, Segment, whole, whole_cmp, point_cm
 use Rattle.overlay_terms.specs.Layers.{Marked}
 use Rattle.overlay_terms.specs.Tiles.{IsPiece, is_node, is_parallel, midpoint}
 use Rattle.overlay_terms.proofs.InputNumbers.{middle_positive}
-use Rattle.overlay_terms.proofs.Lists.{contains_map, contains_first, contains_rest}
+use Rattle.overlay_terms.proofs.Lists.{contains_map, contains_first, contains_rest, from_map}
 use Rattle.exact_point.proofs.OnLine.{within_on, between_on, after_left, before_right, on_line, middle_line, middle_after, middle_before}
 use Rattle.exact_point.proofs.PlaceOrder.{one_positive, less_through, not_after_less, not_before_says, alike_left, alike_right, Way, before, at, after, way_of}
 use Rattle.arrange.specs.Marked.{AllProper}
@@ -18,7 +18,7 @@ use Rattle.arrange.specs.Units.{covers, cover_bits, IsUnit}
 use Rattle.arrange.specs.Arrangement.{on_bits}
 use Rattle.arrange.proofs.UnitCover.{level_too, not_lt, UnitAt, unit_from, Holding, unit_holding}
 use Rattle.arrange.proofs.UnitMeeting.{Meeting, one, follows, leads, units_meet, parallel_collinear}
-use Rattle.arrange.proofs.UnitNodes.{segments_of_marked, from_map, Holder, holder_of, goes_ahead, covered_holds, right_end_node, crossing_node}
+use Rattle.arrange.proofs.UnitNodes.{segments_of_marked, Holder, holder_of, goes_ahead, covered_holds, right_end_node, crossing_node}
 
 -- two nodes on a unit, the first before the second, with no node strictly between on it
 pub record IsUnitPiece (marked : List Marked) (u : Segment) (p r : Point) : Type 0 where

@@ -1,7 +1,6 @@
 -- A place that is added to those found ahead.
-use Rattle.std.proofs.Common.{◌≡◌, ℤ, pos, ◌<ℤ◌, ◌≤ℤ◌, Bool, inl, inr, ◌⊎◌, true, false, cond, List, [], ◌∷◌, refl, subst, arith}
-use Rattle.std.specs.Prelude.{IsTrue, Any, All, Contains, is_some, Option, Some, None, IfSome}
-use Rattle.std.proofs.lemmas.Int.{ints}
+use Rattle.std.proofs.Common.{◌≡◌, pos, ◌<ℤ◌, ◌≤ℤ◌, Bool, inl, inr, ◌⊎◌, true, false, cond, List, [], ◌∷◌, refl, subst}
+use Rattle.std.specs.Prelude.{IsTrue, Any, Contains, is_some, Some}
 use Rattle.std.proofs.lemmas.Bool.{both_ways}
 use Rattle.std.specs.Ordering.{is_eq, match_ordering}
 use Rattle.std.specs.Map.{lookup}
@@ -9,23 +8,13 @@ use Rattle.std.specs.BTreeMap.{is_at, insert_entry}
 use Rattle.std.specs.declared.cmp.Ordering.{Ordering}
 use Rattle.std.specs.declared.cmp.Ordering.TheVariants.{Less, Equal, Greater}
 use Rattle.overlay_terms.specs.Plane.{same_place, point_cmp}
-use Rattle.overlay_terms.proofs.Lists.{any_from, any_contains, Contains-cons_cases, contains_first, contains_rest, none_in_empty, contains_map}
-use Rattle.std.proofs.lemmas.List.Elements.{All-contains}
-use Rattle.std.specs.BTreeMap.Range.{IsLtBy}
-use Rattle.std.specs.Map.{keys_of}
-use Rattle.crossing_sweep.proofs.PassLemmas.{all_of}
+use Rattle.overlay_terms.proofs.Lists.{any_from, any_contains, Contains-cons_cases, contains_first, contains_rest, none_in_empty}
 use Rattle.exact_point.specs.Place.{place, hpoint_cmp}
 use Rattle.exact_point.specs.declared.point.HPoint.{HPoint}
 use Rattle.exact_point.specs.declared.point_name.PointName.{PointName}
 use Rattle.exact_point.proofs.PlaceOrder.{same_from_equal, same_self}
 use Rattle.crossing_sweep.specs.Ahead.{HasAdded}
-
--- a point's denominator is positive
-pub point_positive : (p : HPoint) → pos 0 <ℤ (place p).w
-point_positive p = from_one p.w p.w_low
-  where
-    from_one : (w : ℤ) → pos 1 ≤ℤ w → pos 0 <ℤ w
-    from_one w h = omega (arith, ints, h)
+use Rattle.arrange.proofs.FoundLemmas.{place_positive}
 
 module _ (at : HPoint) (name : PointName) where
   abbrev IsHere : HPoint × PointName → Type 0
@@ -40,7 +29,7 @@ module _ (at : HPoint) (name : PointName) where
   -- ---- a place that is known
   here_by : (e : HPoint × PointName) (es : List (HPoint × PointName)) (o : Ordering) → hpoint_cmp at e.0 ≡ o → (is_known es ≡ true → Any IsHere es)
       → is_some (cond (is_eq o) (Some e.1) (lookup (is_at (hpoint_cmp at)) es)) ≡ true → Any IsHere (e ∷ es)
-  here_by e es Equal f more h = any_from IsHere (e ∷ es) e (contains_first e es) (same_from_equal (place at) (place e.0) (point_positive at) (point_positive e.0) f)
+  here_by e es Equal f more h = any_from IsHere (e ∷ es) e (contains_first e es) (same_from_equal (place at) (place e.0) (place_positive at) (place_positive e.0) f)
   here_by e es Less f more h = let a = more h in any_from IsHere (e ∷ es) a.1 (contains_rest e es a.1 (any_contains IsHere es a)) a.4
   here_by e es Greater f more h = let a = more h in any_from IsHere (e ∷ es) a.1 (contains_rest e es a.1 (any_contains IsHere es a)) a.4
 
@@ -109,10 +98,3 @@ module _ (at : HPoint) (name : PointName) where
     there = any_from IsHere (added es) (at, name) (there es h) (same_self (place at));
     only = λ e. only es e h;
   }
-
--- the first is before all others
-pub least_of : (o : Option (HPoint × PointName)) (es : List (HPoint × PointName)) → IfSome o (λ p. All (IsLtBy hpoint_cmp p.0) (keys_of es)) → IfSome o (λ e. All (λ (other : HPoint × PointName). point_cmp (place e.0) (place other.0) ≡ Less) es)
-least_of None es h = h
-least_of (Some p) es h =
-    all_of (λ (other : HPoint × PointName). point_cmp (place p.0) (place other.0) ≡ Less) es
-    (λ e c. All-contains (IsLtBy hpoint_cmp p.0) (keys_of es) e.0 h (contains_map (λ (e : HPoint × PointName). e.0) es e c))

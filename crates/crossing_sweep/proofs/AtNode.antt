@@ -4,17 +4,18 @@ use Rattle.std.specs.Prelude.{IsTrue}
 use Rattle.std.proofs.lemmas.Int.{ints, by_lt_z}
 use Rattle.std.proofs.lemmas.Bool.{and_from}
 use Rattle.std.proofs.lemmas.Bool.Decides.{Decides-int_eq}
-use Rattle.std.proofs.Math.IntN.{zero-*ℤ, *ℤ-zero, *ℤ_comm}
+use Rattle.std.proofs.Math.IntN.{*ℤ-zero, *ℤ_comm}
 use Rattle.std.specs.Ordering.{int_eq}
 use Rattle.overlay_terms.specs.Plane.{Point, Segment, height_over, same_place}
 use Rattle.overlay_terms.proofs.Difference.{split, differences, same, diff-neg, mul_pos}
+use Rattle.overlay_terms.proofs.Whole.{negated_positive, turn_back}
 use Rattle.exact_point.specs.Crossing.{turn_of}
 use Rattle.exact_point.proofs.OnSegment.{reached}
 use Rattle.exact_point.proofs.PlaceOrder.{on_same}
 use Rattle.exact_point.proofs.Lines.{width, rise, line_height, gap, gap_form, heights_give_gap}
 use Rattle.exact_point.proofs.Signs.{positive_factor, not_negative_times, negative_times, not_positive_times}
 use Rattle.crossing_sweep.specs.Leaning.{lean, lean_segment, IsAfter, IsBefore, IsNear, across, up_to}
-use Rattle.crossing_sweep.proofs.Lean.{lean_turn, at_least_once, leaned_across}
+use Rattle.crossing_sweep.proofs.Lean.{lean_turn, at_least_once, leaned_across, gap_none}
 use Rattle.crossing_sweep.proofs.Meeting.{IsMeeting, Crosses, crosses, meeting}
 use Rattle.crossing_sweep.proofs.Keeping.{IsFit, Reaches}
 
@@ -22,12 +23,9 @@ use Rattle.crossing_sweep.proofs.Keeping.{IsFit, Reaches}
 pub no_more : (n d e : ℤ) → pos 0 <ℤ n → e <ℤ n → neg_ℤ n <ℤ e → (n *ℤ d) +ℤ e ≡ pos 0 → d ≡ pos 0
 no_more n d e h high low sum =
     by_lt_z (pos 0) d (λ k. absurd (omega (arith, ints, sum, low, at_least_once n d h k)))
-    (λ k. by_lt_z d (pos 0) (λ l. absurd (omega (arith, ints, sum, high, at_least_once n (neg_ℤ d) h (up d l), negated n d)))
+    (λ k. by_lt_z d (pos 0) (λ l. absurd (omega (arith, ints, sum, high, at_least_once n (neg_ℤ d) h (negated_positive d l), negated n d)))
     (λ l. omega (arith, ints, k, l)))
   where
-    up : (d : ℤ) → d <ℤ pos 0 → pos 0 <ℤ neg_ℤ d
-    up d h = omega (arith, ints, h)
-
     negated : (n d : ℤ) → n *ℤ neg_ℤ d ≡ neg_ℤ (n *ℤ d)
     negated n d = rw (split n, split d) (simp (diff-neg, differences) (same _ _ _ _ (omega arith)))
 
@@ -52,9 +50,6 @@ one_place n p q h near e =
     close a b f = omega (arith, ints, f)
 
 -- ---- those that hold the place
-gap_none : (h k d e g : ℤ) → (h *ℤ e) -ℤ (k *ℤ d) ≡ g → h ≡ pos 0 → k ≡ pos 0 → g ≡ pos 0
-gap_none h k d e g form eh ek = omega (arith, ints, form, ap (λ z. z *ℤ e) eh, ap (λ z. z *ℤ d) ek, zero-*ℤ e, zero-*ℤ d)
-
 -- of two that hold it the one that turns left from the other is above just after it
 pub turned_round : (a b : Segment) (r : Point) → height_over a r ≡ pos 0 → height_over b r ≡ pos 0 → pos 0 <ℤ turn_of a b → IsAfter a b r
 turned_round a b r on_a on_b left = inr (gap_none (height_over a r) (height_over b r) (width a) (width b) (gap a b r) (heights_give_gap a b r) on_a on_b, left)
@@ -86,9 +81,6 @@ module _ (n : ℤ) (hn : pos 0 <ℤ n) (a b : Segment) (r : Point) (hr : pos 0 <
       let there : IsTrue (same_place (meeting b a) r) = one_place n r (meeting b a) hn (near up met.crossing) met.over in
       (reached a r (sym (on_same a (meeting b a) r up hr there) ∙ met.crossing.at.on_second)).level
     where
-      turn_back : (a b c d : ℤ) → (c *ℤ b) -ℤ (d *ℤ a) ≡ neg_ℤ ((a *ℤ d) -ℤ (b *ℤ c))
-      turn_back a b c d = rw (split a, split b, split c, split d) (simp (diff-neg, differences) (same _ _ _ _ (omega arith)))
-
       plain : (x y z : ℤ) → x ≡ n *ℤ y → x ≡ neg_ℤ z → z <ℤ pos 0 → pos 0 <ℤ y
       plain x y z e f h = positive_factor y n hn (omega (arith, ints, e, f, h, *ℤ_comm y n))
 

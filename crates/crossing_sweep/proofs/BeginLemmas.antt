@@ -28,9 +28,10 @@ use Rattle.crossing_sweep.specs.Passing.{begins_left, waiting, IsToCome, IsAhead
 use Rattle.crossing_sweep.specs.Beginning.{foot, IsMetBefore, AreMet, AreKnown, PassBegins}
 use Rattle.crossing_sweep.proofs.Lean.{lean_left, lean_height, lean_turn}
 use Rattle.crossing_sweep.proofs.Meeting.{meeting, before_from_lean}
-use Rattle.crossing_sweep.proofs.Keeping.{Reaches, CrossNotBetween, kept, gap_most, turn_back}
+use Rattle.crossing_sweep.proofs.Keeping.{Reaches, CrossNotBetween, kept, gap_most}
 use Rattle.crossing_sweep.proofs.StretchLemmas.{ends_in_order}
 use Rattle.overlay_terms.proofs.Lists.{any_from}
+use Rattle.overlay_terms.proofs.Whole.{turn_back, less_none}
 use Rattle.crossing_sweep.proofs.Inputs.{steep_positive, near, fits, left_small, right_small, meeting_small, lean_at_most}
 use Rattle.crossing_sweep.proofs.OnProper.{y_on_proper}
 use Rattle.crossing_sweep.proofs.NextNode.{LiesOn, lies_on, left_on}
@@ -119,13 +120,10 @@ module _ (n : ℤ) (column : ℕ) (steep : IsSteep n) where
     -- no place of the first lies between
     none_between : (m : Point) → pos 0 <ℤ m.w → IsTrue (is_on a m) → point_cmp (foot column) m ≡ Less → point_cmp m z ≡ Less → ⊥
     none_between m hm on after_it before_it =
-        below_none (height_over a m) (waits_on column m a proper_a hm z met.at_first before_it (from (x_in_order (foot column) m after_it)) left_a).passes_over (on_line a m on)
+        less_none (height_over a m) (waits_on column m a proper_a hm z met.at_first before_it (from (x_in_order (foot column) m after_it)) left_a).passes_over (on_line a m on)
       where
         from : (border column *ℤ m.w) ≤ℤ (m.x *ℤ pos 1) → (border column *ℤ m.w) ≤ℤ m.x
         from h = omega (arith, ints, h)
-
-        below_none : (h : ℤ) → h <ℤ pos 0 → h ≡ pos 0 → ⊥
-        below_none h k e = omega (arith, ints, k, e)
 
     meets_not : (m : Point) → pos 0 <ℤ m.w → IsSmall m → IsTrue (is_on a m) → Left (lean n (foot column)) (lean n m) → Left (lean n m) (lean n z) → ⊥
     meets_not m hm small on after_it before_it =

@@ -6,17 +6,15 @@ use Rattle.std.proofs.Math.IntN.{zero-*ℤ, *ℤ-zero, *ℤ_comm}
 use Rattle.overlay_terms.specs.Plane.{Point, Segment, height_over, is_below}
 use Rattle.overlay_terms.proofs.Difference.{split, differences, same, diff-neg, mul_pos}
 use Rattle.overlay_terms.proofs.InputNumbers.{le_true, true_le, lt_true, true_lt}
+use Rattle.overlay_terms.proofs.Tests.{same_tests}
+use Rattle.overlay_terms.proofs.Whole.{negated_positive}
 use Rattle.exact_point.proofs.Lexical.{Forward}
-use Rattle.tile_laws.proofs.Counts.{same_tests}
 use Rattle.exact_point.proofs.Lines.{width, rise}
 use Rattle.exact_point.proofs.Signs.{positive_factor, not_positive_times}
 use Rattle.crossing_sweep.specs.Leaning.{lean, lean_segment}
-use Rattle.crossing_sweep.proofs.Lean.{lean_height, at_least_once}
+use Rattle.crossing_sweep.proofs.Lean.{lean_height, at_least_once, leaned_along}
 
 -- ---- over opaque numbers
-up : (d : ℤ) → d <ℤ pos 0 → pos 0 <ℤ neg_ℤ d
-up d h = omega (arith, ints, h)
-
 negated : (n d : ℤ) → n *ℤ neg_ℤ d ≡ neg_ℤ (n *ℤ d)
 negated n d = rw (split n, split d) (simp (diff-neg, differences) (same _ _ _ _ (omega arith)))
 
@@ -35,7 +33,7 @@ left_sign : (n d e a b : ℤ) → pos 0 <ℤ n → neg_ℤ n <ℤ e → e <ℤ n
 left_sign n d e a b hn low high ha above = same_tests _ _ (λ t. true_le (pos 0) d (plain (le_true (pos 0) ((n *ℤ d) +ℤ e) t))) (λ t. true_le (pos 0) ((n *ℤ d) +ℤ e) (leaned (le_true (pos 0) d t)))
   where
     plain : pos 0 ≤ℤ ((n *ℤ d) +ℤ e) → pos 0 ≤ℤ d
-    plain h = by_lt_z d (pos 0) (λ l. absurd (omega (arith, ints, h, high, at_least_once n (neg_ℤ d) hn (up d l), negated n d))) (λ l. l)
+    plain h = by_lt_z d (pos 0) (λ l. absurd (omega (arith, ints, h, high, at_least_once n (neg_ℤ d) hn (negated_positive d l), negated n d))) (λ l. l)
 
     leaned : pos 0 ≤ℤ d → pos 0 ≤ℤ ((n *ℤ d) +ℤ e)
     leaned h =
@@ -53,7 +51,7 @@ right_sign n d e a b hn low high ha above = same_tests _ _ (λ t. true_lt (pos 0
     plain : pos 0 <ℤ ((n *ℤ d) +ℤ e) → pos 0 <ℤ d
     plain h =
         by_lt_z (pos 0) d (λ l. l)
-        (λ l. absurd (by_lt_z d (pos 0) (λ m. omega (arith, ints, h, high, at_least_once n (neg_ℤ d) hn (up d m), negated n d))
+        (λ l. absurd (by_lt_z d (pos 0) (λ m. omega (arith, ints, h, high, at_least_once n (neg_ℤ d) hn (negated_positive d m), negated n d))
         (λ m. let none : d ≡ pos 0 = omega (arith, ints, l, m) in
         let down : pos 0 <ℤ neg_ℤ e = positive_other a (neg_ℤ e) ha (omega (arith, ints, above, ap (λ z. b *ℤ z) none, *ℤ-zero b, times_negated a e)) in
         omega (arith, ints, h, down, ap (λ z. n *ℤ z) none, *ℤ-zero n))))
@@ -74,9 +72,6 @@ agree a b c e f g h k l = grind (arith, h, k, l)
 
 positive_alike : (n h : ℤ) → pos 0 <ℤ n → int_lt (pos 0) (n *ℤ h) ≡ int_lt (pos 0) h
 positive_alike n h hn = same_tests _ _ (λ t. true_lt (pos 0) h (positive_factor h n hn (omega (arith, ints, lt_true (pos 0) (n *ℤ h) t, *ℤ_comm h n)))) (λ t. true_lt (pos 0) (n *ℤ h) (mul_pos n h hn (lt_true (pos 0) h t)))
-
-along_form : (n x y l m w : ℤ) → ((n *ℤ x) +ℤ y) -ℤ (((n *ℤ l) +ℤ m) *ℤ w) ≡ (n *ℤ (x -ℤ (l *ℤ w))) +ℤ (y -ℤ (m *ℤ w))
-along_form n x y l m w = rw (split n, split x, split y, split l, split m, split w) (simp differences (same _ _ _ _ (omega arith)))
 
 back_form : (n x y l m w : ℤ) → (((n *ℤ l) +ℤ m) *ℤ w) -ℤ ((n *ℤ x) +ℤ y) ≡ (n *ℤ ((l *ℤ w) -ℤ x)) +ℤ ((m *ℤ w) -ℤ y)
 back_form n x y l m w = rw (split n, split x, split y, split l, split m, split w) (simp differences (same _ _ _ _ (omega arith)))
@@ -103,7 +98,7 @@ below_alike n t p hn ahead near =
     (ap (int_lt (pos 0)) (lean_height n t p) ∙ positive_alike n (height_over t p) hn)
     (λ above.
     le_by ((lean_segment n t).left.x *ℤ p.w) (lean n p).x
-    ∙ ap (int_le (pos 0)) (along_form n p.x p.y t.left.x t.left.y p.w)
+    ∙ ap (int_le (pos 0)) (leaned_along n p.x p.y t.left.x t.left.y p.w)
     ∙ left_sign n (p.x -ℤ (t.left.x *ℤ p.w)) (p.y -ℤ (t.left.y *ℤ p.w)) (width t) (rise t) hn near.left_low near.left_high (not_narrow (width t) (rise t) ahead) (lt_true (pos 0) (height_over t p) above)
     ∙ sym (le_by (t.left.x *ℤ p.w) p.x))
     (λ above.

@@ -31,7 +31,7 @@ use Rattle.crossing_sweep.specs.NextNode.{IsNextNode}
 use Rattle.crossing_sweep.specs.Queue.{GoesOn, IsStatusAt, IsUpTo, IsQueued}
 use Rattle.crossing_sweep.specs.Border.{IsWaiting, HasEntered, NextIsQueuedAtBorder, FirstIsNextAtBorder}
 use Rattle.crossing_sweep.proofs.StretchLemmas.{holder_holds, no_turn}
-use Rattle.crossing_sweep.proofs.Pairs.{all_second}
+use Rattle.overlay_terms.proofs.Pairs.{all_second}
 use Rattle.crossing_sweep.proofs.QueueLemmas.{queued, first_from}
 
 -- a node over the left border, after a place of it

@@ -33,12 +33,12 @@ use Rattle.crossing_sweep.specs.Step.{AreStretches}
 use Rattle.crossing_sweep.specs.Border.{IsWaiting}
 use Rattle.crossing_sweep.specs.Passing.{begins_left, waiting, IsToCome, HasCome, IsEntry}
 use Rattle.crossing_sweep.specs.declared.start.Start.{Start}
-use Rattle.crossing_sweep.proofs.Pairs.{all_first, pairs_first}
+use Rattle.overlay_terms.proofs.Pairs.{all_first, pairs_first}
 use Rattle.crossing_sweep.proofs.QueueLemmas.{up_to_next}
 use Rattle.crossing_sweep.proofs.StatusLemmas.{sides_fall}
 use Rattle.crossing_sweep.proofs.StretchLemmas.{holder_holds, no_turn}
 use Rattle.crossing_sweep.proofs.PassLemmas.{contains_filter}
-use Rattle.crossing_sweep.proofs.AheadLemmas.{point_positive}
+use Rattle.arrange.proofs.FoundLemmas.{place_positive}
 
 -- ---- where one that waits is met is a node after the place
 module _ (segments : List Segment) (column : ℕ) (few : column < column_count) (q : Point) (hq : pos 0 <ℤ q.w) (u : Segment) (is : IsStretchOf segments u) (goes : GoesOn u q) (wait : IsWaiting column q u)
@@ -156,7 +156,7 @@ module _ (column : ℕ) (at_r : HPoint) (coming : List Start) (entries : All (λ
   r = place at_r
 
   hr' : pos 0 <ℤ r.w
-  hr' = point_positive at_r
+  hr' = place_positive at_r
 
   abbrev enters : Start → Bool
   enters s = same_hpoint s.at at_r
@@ -190,10 +190,10 @@ module _ (column : ℕ) (at_r : HPoint) (coming : List Start) (entries : All (λ
       z = place (get_or coming (k + i) d).at
 
       hx : pos 0 <ℤ x.w
-      hx = point_positive (get_or coming k d).at
+      hx = place_positive (get_or coming k d).at
 
       hz : pos 0 <ℤ z.w
-      hz = point_positive (get_or coming (k + i) d).at
+      hz = place_positive (get_or coming (k + i) d).at
 
       inside : k < length coming
       inside = omega (arith, l)

@@ -5,6 +5,7 @@ use Rattle.std.proofs.lemmas.Int.{ints, by_lt_z}
 use Rattle.std.proofs.Math.IntN.{zero-*ℤ, *ℤ_comm}
 use Rattle.overlay_terms.specs.Plane.{Point, Segment, whole, height_over}
 use Rattle.overlay_terms.proofs.Difference.{split, differences, same, diff-neg, mul_pos}
+use Rattle.overlay_terms.proofs.Whole.{turn_back, most_same, negated_more}
 use Rattle.exact_point.specs.Crossing.{turn_of}
 use Rattle.exact_point.proofs.Lexical.{Forward}
 use Rattle.exact_point.proofs.Lines.{width, rise, gap, offset, heights_give_gap}
@@ -31,9 +32,6 @@ CrossNotBetween n a b q r = pos 0 <ℤ turn_of a b → IsMeeting a b → Left (l
 one : pos 0 <ℤ pos 1
 one = omega (arith, ints)
 
-pub turn_back : (a b c d : ℤ) → (c *ℤ b) -ℤ (d *ℤ a) ≡ neg_ℤ ((a *ℤ d) -ℤ (b *ℤ c))
-turn_back a b c d = rw (split a, split b, split c, split d) (simp (diff-neg, differences) (same _ _ _ _ (omega arith)))
-
 offset_back : (a m c y : ℤ) → (c *ℤ m) -ℤ (a *ℤ y) ≡ neg_ℤ ((a *ℤ y) -ℤ (c *ℤ m))
 offset_back a m c y = rw (split a, split m, split c, split y) (simp (diff-neg, differences) (same _ _ _ _ (omega arith)))
 
@@ -42,12 +40,6 @@ form_back t o x w = rw (split t, split o, split x, split w) (simp (diff-neg, dif
 
 negated_none : (a : ℤ) → a ≡ pos 0 → neg_ℤ a ≡ pos 0
 negated_none a e = omega (arith, ints, e)
-
-more_by : (x y : ℤ) → x ≡ neg_ℤ y → y <ℤ pos 0 → pos 0 <ℤ x
-more_by x y e h = omega (arith, ints, e, h)
-
-same_most : (a b : ℤ) → a ≡ b → a ≤ℤ b
-same_most a b e = omega (arith, ints, e)
 
 module _ (n : ℤ) (hn : pos 0 <ℤ n) (q r : Point) (hq : pos 0 <ℤ q.w) (hr : pos 0 <ℤ r.w) (later : Left (lean n q) (lean n r)) where
   -- where the second turns left from the first, no zero of their gap lies between
@@ -63,8 +55,8 @@ module _ (n : ℤ) (hn : pos 0 <ℤ n) (q r : Point) (hq : pos 0 <ℤ q.w) (hr :
         (at_most_through z (lean n r) (whole (lean_segment n b).right) hz hr one (left_most z (lean n r) before) on_b.to)
         level in
         none up met.crossing
-        (left_before (lean n q) z (lean n (meeting a b)) hq hz up after (same_most (z.x *ℤ turn_of a b) ((lean n (meeting a b)).x *ℤ z.w) (sym met.over)))
-        (left_after (lean n (meeting a b)) z (lean n r) up hz hr (same_most ((lean n (meeting a b)).x *ℤ z.w) (z.x *ℤ turn_of a b) met.over) before)
+        (left_before (lean n q) z (lean n (meeting a b)) hq hz up after (most_same (z.x *ℤ turn_of a b) ((lean n (meeting a b)).x *ℤ z.w) (sym met.over)))
+        (left_after (lean n (meeting a b)) z (lean n r) up hz hr (most_same ((lean n (meeting a b)).x *ℤ z.w) (z.x *ℤ turn_of a b) met.over) before)
       where
         plain : (x y : ℤ) → x ≡ n *ℤ y → pos 0 <ℤ x → pos 0 <ℤ y
         plain x y e h = positive_factor y n hn (omega (arith, ints, e, h, *ℤ_comm y n))
@@ -84,7 +76,7 @@ module _ (n : ℤ) (hn : pos 0 <ℤ n) (q r : Point) (hq : pos 0 <ℤ q.w) (hr :
         (ap (λ t. (t *ℤ z.x) +ℤ (offset b' a' *ℤ z.w)) (turn_back (width a') (rise a') (width b') (rise b'))
         ∙ ap (λ o. (neg_ℤ (turn_of a' b') *ℤ z.x) +ℤ (o *ℤ z.w)) (offset_back (width a') ((width a' *ℤ a'.left.y) -ℤ (rise a' *ℤ a'.left.x)) (width b') ((width b' *ℤ b'.left.y) -ℤ (rise b' *ℤ b'.left.x)))
         ∙ form_back (turn_of a' b') (offset a' b') z.x z.w ∙ negated_none _ level)
-        (more_by (turn_of b' a') (turn_of a' b') (turn_back (width a') (rise a') (width b') (rise b')) l)))
+        (negated_more (turn_of b' a') (turn_of a' b') (turn_back (width a') (rise a') (width b') (rise b')) l)))
         (λ l. none_of (turn_of a' b') h l))
       where
         none_of : (t : ℤ) → t ≤ℤ pos 0 → pos 0 ≤ℤ t → t ≡ pos 0

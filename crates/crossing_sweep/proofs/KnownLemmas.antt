@@ -1,5 +1,5 @@
 -- The places that some names stand for, and those that are known before a pass.
-use Rattle.std.proofs.Common.{◌≡◌, ℕ, ℤ, pos, ◌+◌, ◌<◌, ◌*ℤ◌, ◌<ℤ◌, ◌≤ℤ◌, ◌-ℤ◌, ◌^◌, Bool, neg_ℤ, int_le, inl, inr, ◌⊎◌, true, false, List, [], ◌∷◌, ◌++◌, map, take, length, get_or, refl, ap, sym, subst, ◌∙◌, lit<, arith}
+use Rattle.std.proofs.Common.{◌≡◌, ℕ, ℤ, pos, ◌+◌, ◌<◌, ◌*ℤ◌, ◌<ℤ◌, ◌≤ℤ◌, ◌-ℤ◌, ◌^◌, neg_ℤ, int_le, inl, inr, ◌⊎◌, true, false, List, [], ◌∷◌, ◌++◌, map, take, length, get_or, refl, ap, sym, subst, ◌∙◌, lit<, arith}
 use Rattle.std.specs.Prelude.{IsTrue, All, Any, Contains, flat_map, ◌||◌, ◌&&◌, not}
 use Rattle.std.specs.List.{list_any}
 use Rattle.std.specs.Ordering.{int_eq}
@@ -11,7 +11,7 @@ use Rattle.overlay_terms.specs.Plane.{Point, Segment, whole, same_place, is_on, 
 use Rattle.overlay_terms.specs.Column.{border, columns, column_count}
 use Rattle.overlay_terms.specs.Tiles.{Input, is_end, is_crossing, is_on_border, is_node, is_vertical}
 use Rattle.overlay_terms.specs.TileLaws.{IsInput, IsProper}
-use Rattle.overlay_terms.proofs.InputNumbers.{border_found, false_eq, le_true, true_le, most_back, most_times, last_turned, between_from_on}
+use Rattle.overlay_terms.proofs.InputNumbers.{border_found, false_eq, le_true, true_le, most_back, most_times, last_turned, between_from_on, times_one}
 use Rattle.overlay_terms.proofs.InputLists.{any_from_Contains}
 use Rattle.overlay_terms.proofs.Lists.{any_from, any_contains, Contains-cons_cases, none_in_empty, contains_map, in_flat_map, from_flat_map}
 use Rattle.exact_point.specs.Place.{place}
@@ -19,26 +19,28 @@ use Rattle.exact_point.specs.PlaceOf.{place_of}
 use Rattle.exact_point.specs.PointName.{HasPlace, IsPlaceOf, IsOnlyPlaceOf, IsCutOf}
 use Rattle.exact_point.specs.declared.point.HPoint.{HPoint}
 use Rattle.exact_point.specs.declared.point_name.PointName.{PointName}
-use Rattle.exact_point.specs.declared.point_name.PointName.TheVariants.{Vertex, Cross, Border}
+use Rattle.exact_point.specs.declared.point_name.PointName.TheVariants.{Vertex, Border}
 use Rattle.exact_point.proofs.BorderLemmas.{one_over_x}
 use Rattle.exact_point.proofs.Nodes.{node_at_end, end_among}
 use Rattle.exact_point.proofs.OnSegment.{leads}
 use Rattle.exact_point.proofs.Lexical.{Forward}
 use Rattle.std.proofs.lemmas.List.FromFn.{get_or-range_with_len, length-range_with_len}
 use Rattle.overlay_terms.specs.Layers.{Marked}
+use Rattle.overlay_terms.proofs.Tests.{same_tests}
+use Rattle.overlay_terms.proofs.Whole.{less_by, same_most}
 use Rattle.exact_point.proofs.OnLine.{on_line, left_on_line, right_on_line}
 use Rattle.exact_point.proofs.PlaceOrder.{same_turned, same_through, level_from, level_test}
 use Rattle.arrange.specs.Arrangement.{segments_in, is_in_closed_column}
 use Rattle.arrange.specs.NamedPlaces.{own_names}
 use Rattle.arrange.specs.declared.marked_seg.MarkedSeg.{MarkedSeg}
-use Rattle.arrange.proofs.NodeLemmas.{one_of_two, once_more}
+use Rattle.arrange.proofs.NodeLemmas.{one_of_two}
+use Rattle.arrange.proofs.FoundLemmas.{place_positive}
 use Rattle.std.proofs.lemmas.List.{take_more, map-append}
 use Rattle.std.proofs.lemmas.Grind.{flat_map-append}
 use Rattle.crossing_sweep.specs.Leaning.{IsSmall}
 use Rattle.crossing_sweep.specs.Queue.{IsUpTo, IsQueued}
 use Rattle.crossing_sweep.specs.Ahead.{points_of, HasAdded, IsOffered, AreOffered, AreKnownPlaces}
 use Rattle.crossing_sweep.proofs.PassLemmas.{all_of}
-use Rattle.crossing_sweep.proofs.AheadLemmas.{point_positive}
 
 -- ---- one more name
 module _ (column : ℕ) (names : List PointName) (name : PointName) (old : List (HPoint × PointName)) (are : AreOffered column names old) where
@@ -74,7 +76,7 @@ module _ (column : ℕ) (names : List PointName) (name : PointName) (old : List 
           let same : IsTrue (same_place (place at) p) = only p hp (subst (λ n. IsPlaceOf n p) (sym (one other c)) stands) in
           let a = added.there in
           any_from (IsAt p) new a.1 (any_contains (λ e. IsTrue (same_place (place at) (place e.0))) new a)
-          (same_through p (place at) (place a.1.0) hp (point_positive at) (point_positive a.1.0) (same_turned (place at) p same) a.4)
+          (same_through p (place at) (place a.1.0) hp (place_positive at) (place_positive a.1.0) (same_turned (place at) p same) a.4)
 
   -- or for none in the closed column
   pub offered_nowhere : ((p : Point) → pos 0 <ℤ p.w → IsPlaceOf name p → IsTrue (is_in_closed_column column p) → ⊥) → AreOffered column (names ++ name ∷ []) old
@@ -87,18 +89,6 @@ module _ (column : ℕ) (names : List PointName) (name : PointName) (old : List 
       complete other p (inl c) hp stands within = are.complete other p c hp stands within
       complete other p (inr c) hp stands within = absurd (nowhere p hp (subst (λ n. IsPlaceOf n p) (sym (one other c)) stands) within)
 
-pub has_place : (name : PointName) (p : Point) → pos 0 <ℤ p.w → IsPlaceOf name p → HasPlace name
-has_place (Vertex v) p h k = tt
-has_place (Cross a b) p h k = (p, h, k)
-has_place (Border s j) p h k = k.cut
-
--- the same place is in the closed column, too
-pub bool_same : (a b : Bool) → (a ≡ true → b ≡ true) → (b ≡ true → a ≡ true) → a ≡ b
-bool_same true true f g = refl
-bool_same true false f g = sym (f refl)
-bool_same false true f g = g refl
-bool_same false false f g = refl
-
 most_alike : (b x w y v : ℤ) → pos 0 <ℤ w → pos 0 <ℤ v → x *ℤ v ≡ y *ℤ w → (b *ℤ w) ≤ℤ x → (b *ℤ v) ≤ℤ y
 most_alike b x w y v hw hv e h = most_back (b *ℤ v) y w hw (omega (arith, ints, e, most_times (b *ℤ w) x v hv h, last_turned b w v))
 
@@ -106,7 +96,7 @@ least_alike : (b x w y v : ℤ) → pos 0 <ℤ w → pos 0 <ℤ v → x *ℤ v �
 least_alike b x w y v hw hv e h = most_back y (b *ℤ v) w hw (omega (arith, ints, e, most_times x (b *ℤ w) v hv h, last_turned b w v))
 
 pub within_alike : (column : ℕ) (p z : Point) → pos 0 <ℤ p.w → pos 0 <ℤ z.w → IsTrue (same_place p z) → is_in_closed_column column p ≡ is_in_closed_column column z
-within_alike column p z hp hz same = bool_same (is_in_closed_column column p) (is_in_closed_column column z) (through p z hp hz same) (through z p hz hp (same_turned p z same))
+within_alike column p z hp hz same = same_tests (is_in_closed_column column p) (is_in_closed_column column z) (through p z hp hz same) (through z p hz hp (same_turned p z same))
   where
     through : (p z : Point) → pos 0 <ℤ p.w → pos 0 <ℤ z.w → IsTrue (same_place p z) → is_in_closed_column column p ≡ true → is_in_closed_column column z ≡ true
     through p z hp hz same h =
@@ -130,7 +120,7 @@ own_more k items i x h e =
 
 -- ---- what is known before a pass
 pub point_small : (p : HPoint) → IsSmall (place p)
-point_small p = record { positive = point_positive p; few = few p.w p.w_high; low = low p.w p.y (point_positive p) p.y_low; high = high p.w p.y (point_positive p) p.y_high }
+point_small p = record { positive = place_positive p; few = few p.w p.w_high; low = low p.w p.y (place_positive p) p.y_low; high = high p.w p.y (place_positive p) p.y_high }
   where
     few : (w : ℤ) → w ≤ℤ pos denominator_max → w ≤ℤ pos (2 ^ 87)
     few w h = omega (arith, ints, h)
@@ -148,14 +138,11 @@ in_columns j c = omega (arith, c.1, length-range_with_len 0 column_count, sym (g
 wide_of : (s : Segment) → IsProper s → is_vertical s ≡ false → s.left.x <ℤ s.right.x
 wide_of s proper slanted = by (leads s proper.first)
   where
-    more : (l r : ℤ) → pos 0 <ℤ (r -ℤ l) → l <ℤ r
-    more l r h = omega (arith, ints, h)
-
     same : (l r : ℤ) → r -ℤ l ≡ pos 0 → l ≡ r
     same l r h = omega (arith, ints, h)
 
     by : Forward (s.right.x -ℤ s.left.x) (s.right.y -ℤ s.left.y) → s.left.x <ℤ s.right.x
-    by (inl h) = more s.left.x s.right.x h
+    by (inl h) = less_by s.left.x s.right.x h
     by (inr h) = absurd (both_ways (is_vertical s) slanted (level_test s.left.x s.right.x (same s.left.x s.right.x h.0)))
 
 module _ (input : Input) (is : IsInput input) (found : List (HPoint × PointName)) (are : AreOffered input.column (flat_map (λ s. own_names s input.column) (segments_in input)) found) where
@@ -211,7 +198,7 @@ module _ (input : Input) (is : IsInput input) (found : List (HPoint × PointName
   is_fixed : (e : HPoint × PointName) → Contains found e → IsTrue (is_end segments (place e.0) || is_on_border segments (place e.0))
   is_fixed e c =
       let offered = from_flat_map own segments e.1 (entry e c).offered in
-      fixed_of offered.0 offered.1 e.1 offered.2 (place e.0) (point_positive e.0) (entry e c).stands
+      fixed_of offered.0 offered.1 e.1 offered.2 (place e.0) (place_positive e.0) (entry e c).stands
 
   -- so it is a node
   node : (e : HPoint × PointName) → Contains found e → IsTrue (is_node segments (place e.0))
@@ -253,12 +240,12 @@ module _ (input : Input) (is : IsInput input) (found : List (HPoint × PointName
       over_left : border j ≡ s.left.x → IsQueued (points_of found) p
       over_left e =
           at_left_end s among
-          (same_turned (whole s.left) p (one_over_x s (whole s.left) p wide (left_on_line s) (on_line s p on) (sym (over ∙ ap (λ z. z *ℤ p.w) e) ∙ sym (once_more p.x))))
+          (same_turned (whole s.left) p (one_over_x s (whole s.left) p wide (left_on_line s) (on_line s p on) (sym (over ∙ ap (λ z. z *ℤ p.w) e) ∙ sym (times_one p.x))))
 
       over_right : border j ≡ s.right.x → IsQueued (points_of found) p
       over_right e =
           at_right_end s among
-          (same_turned (whole s.right) p (one_over_x s (whole s.right) p wide (right_on_line s) (on_line s p on) (sym (over ∙ ap (λ z. z *ℤ p.w) e) ∙ sym (once_more p.x))))
+          (same_turned (whole s.right) p (one_over_x s (whole s.right) p wide (right_on_line s) (on_line s p on) (sym (over ∙ ap (λ z. z *ℤ p.w) e) ∙ sym (times_one p.x))))
 
       over_cut : s.left.x <ℤ border j → border j <ℤ s.right.x → IsQueued (points_of found) p
       over_cut low high = by (one_of_two j input.column (most_back (border input.column) (border j) p.w hp (rw (← over) from)) (most_back (border j) (border (input.column + 1)) p.w hp (rw (← over) up_to)))
@@ -273,11 +260,8 @@ module _ (input : Input) (is : IsInput input) (found : List (HPoint × PointName
       at_border : IsQueued (points_of found) p
       at_border =
           by_lt_z s.left.x (border j)
-          (λ low. by_lt_z (border j) s.right.x (over_cut low) (λ high. over_right (meet (border j) s.right.x (most_back (border j) s.right.x p.w hp (rw (← over) (between_from_on s p on).to_right)) high)))
-          (λ low. over_left (sym (meet s.left.x (border j) (most_back s.left.x (border j) p.w hp (rw (← over) (between_from_on s p on).from_left)) low)))
-        where
-          meet : (a b : ℤ) → a ≤ℤ b → b ≤ℤ a → a ≡ b
-          meet a b l m = omega (arith, ints, l, m)
+          (λ low. by_lt_z (border j) s.right.x (over_cut low) (λ high. over_right (same_most (border j) s.right.x (most_back (border j) s.right.x p.w hp (rw (← over) (between_from_on s p on).to_right)) high)))
+          (λ low. over_left (sym (same_most s.left.x (border j) (most_back s.left.x (border j) p.w hp (rw (← over) (between_from_on s p on).from_left)) low)))
 
     by_border : is_on_border segments p ≡ true → IsQueued (points_of found) p
     by_border h =

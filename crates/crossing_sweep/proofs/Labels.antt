@@ -5,7 +5,6 @@ use Rattle.std.proofs.lemmas.Int.{ints}
 use Rattle.std.proofs.lemmas.Bool.{both_ways, and_parts, and_from}
 use Rattle.std.proofs.lemmas.List.{get_or_append_left, get_or-append-add, length-map, get_or-map}
 use Rattle.std.proofs.lemmas.List.Elements.{All-nil, All-cons, All-head, All-tail, All-contains}
-use Rattle.std.proofs.lemmas.Nat.Bits.{bit_at-zero}
 use Rattle.std.proofs.Math.ListN.{length-append}
 use Rattle.std.specs.declared.cmp.Ordering.TheVariants.{Less}
 use Rattle.overlay_terms.specs.Plane.{Point, Segment, whole, point_cmp, is_on}
@@ -15,6 +14,7 @@ use Rattle.overlay_terms.specs.Tiles.{Input, is_node}
 use Rattle.overlay_terms.specs.TileLaws.{IsInput}
 use Rattle.overlay_terms.specs.Trees.{steps_value, mask_bits}
 use Rattle.overlay_terms.proofs.InputNumbers.{x_in_order, less_times, less_back, last_turned, lt_true, true_lt, true_le}
+use Rattle.overlay_terms.proofs.BitLemmas.{mask_bits-zero}
 use Rattle.tile_laws.proofs.Statements.{segments_in}
 use Rattle.arrange.specs.Units.{IsUnit, AreUnits, cover_bits}
 use Rattle.arrange.specs.declared.unit.Unit.{Unit}
@@ -32,10 +32,6 @@ use Rattle.crossing_sweep.proofs.UnitStretchLemmas.{proper_unit}
 use Rattle.crossing_sweep.proofs.UnitBits.{begun_bits}
 
 -- ---- masks of lists
--- an empty mask has no bit
-empty_mask : (k : ℕ) → mask_bits 0 k ≡ false
-empty_mask k = ap (λ n. n == 1) (bit_at-zero k)
-
 -- what holds over some members holds over the last of them
 pub last_over : (under : ℕ) (ms : List Member) (j : ℕ) (d : Member) → length ms ≡ suc j → mask_over under ms ≡ (get_or ms j d).over
 last_over under [] j d e = absurd (omega (arith, e))
@@ -190,6 +186,6 @@ module _ (n : ℤ) (input : Input) (units : List Unit) (r : Point) (passed : Lis
 
       pub first_under : (us : List Member) → us ≡ under → IsUnderNext (map seg_of under) (mask_over 0 under)
       first_under [] e = λ d m k few.
-          ap (λ (us : List Member). mask_bits (mask_over 0 us) k) (sym e) ∙ empty_mask k
+          ap (λ (us : List Member). mask_bits (mask_over 0 us) k) (sym e) ∙ mask_bits-zero k
           ∙ sym (go_up.lowest d k (omega (arith, m))) ∙ ap (λ (us : List Member). under_unit n input (get_or full (length (map seg_of us)) d) r k) e
       first_under (m ∷ ms) e = some (length ms) (ap length (sym e)) m

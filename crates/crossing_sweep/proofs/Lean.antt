@@ -1,9 +1,11 @@
 -- The plane leaned to the right: to x, taken n times, y is added. Places in order then lie one right of the other, and no segment is vertical.
 use Rattle.std.proofs.Common.{◌≡◌, ℤ, pos, ◌+ℤ◌, ◌-ℤ◌, ◌*ℤ◌, ◌<ℤ◌, ◌≤ℤ◌, neg_ℤ, inl, inr, ◌⊎◌, ap, sym, ◌∙◌, arith}
 use Rattle.std.proofs.lemmas.Int.{ints, by_lt_z}
-use Rattle.std.proofs.Math.IntN.{*ℤ-zero}
+use Rattle.std.proofs.Math.IntN.{*ℤ-zero, zero-*ℤ}
 use Rattle.overlay_terms.specs.Plane.{Point, Segment, height_over}
 use Rattle.overlay_terms.proofs.Difference.{split, differences, same}
+use Rattle.overlay_terms.proofs.InputNumbers.{times_one}
+use Rattle.overlay_terms.proofs.Whole.{less_by, negated_positive, less_none}
 use Rattle.crossing_sweep.specs.Leaning.{lean, lean_segment, across, up_to, IsNear, IsAfter, IsBefore}
 use Rattle.exact_point.proofs.Lexical.{Forward}
 use Rattle.exact_point.proofs.Lines.{width, rise, Under, falls, kept, zero_is, zero_after, offset, gap_form}
@@ -15,8 +17,12 @@ use Rattle.exact_point.proofs.ByX.{Left}
 pub leaned_width : (n l m r o : ℤ) → ((n *ℤ r) +ℤ o) -ℤ ((n *ℤ l) +ℤ m) ≡ (n *ℤ (r -ℤ l)) +ℤ (o -ℤ m)
 leaned_width n l m r o = rw (split n, split l, split m, split r, split o) (simp differences (same _ _ _ _ (omega arith)))
 
-leaned_along : (n x y l m w : ℤ) → ((n *ℤ x) +ℤ y) -ℤ (((n *ℤ l) +ℤ m) *ℤ w) ≡ (n *ℤ (x -ℤ (l *ℤ w))) +ℤ (y -ℤ (m *ℤ w))
+pub leaned_along : (n x y l m w : ℤ) → ((n *ℤ x) +ℤ y) -ℤ (((n *ℤ l) +ℤ m) *ℤ w) ≡ (n *ℤ (x -ℤ (l *ℤ w))) +ℤ (y -ℤ (m *ℤ w))
 leaned_along n x y l m w = rw (split n, split x, split y, split l, split m, split w) (simp differences (same _ _ _ _ (omega arith)))
+
+-- a gap of two heights of which both are 0
+pub gap_none : (h k d e g : ℤ) → (h *ℤ e) -ℤ (k *ℤ d) ≡ g → h ≡ pos 0 → k ≡ pos 0 → g ≡ pos 0
+gap_none h k d e g form eh ek = omega (arith, ints, form, ap (λ z. z *ℤ e) eh, ap (λ z. z *ℤ d) ek, zero-*ℤ e, zero-*ℤ d)
 
 pub leaned_cross : (n a b u v : ℤ) → (((n *ℤ a) +ℤ b) *ℤ u) -ℤ (b *ℤ ((n *ℤ v) +ℤ u)) ≡ n *ℤ ((a *ℤ u) -ℤ (b *ℤ v))
 leaned_cross n a b u v = rw (split n, split a, split b, split u, split v) (simp differences (same _ _ _ _ (omega arith)))
@@ -29,14 +35,11 @@ lean_height n s p =
     ∙ leaned_cross n (s.right.x -ℤ s.left.x) (s.right.y -ℤ s.left.y) (p.y -ℤ (s.left.y *ℤ p.w)) (p.x -ℤ (s.left.x *ℤ p.w))
 
 -- and how far one segment turns from another
-leaned_turn : (n a b c d : ℤ) → (((n *ℤ a) +ℤ b) *ℤ d) -ℤ (b *ℤ ((n *ℤ c) +ℤ d)) ≡ n *ℤ ((a *ℤ d) -ℤ (b *ℤ c))
-leaned_turn n a b c d = leaned_cross n a b d c
-
 pub lean_turn : (n : ℤ) (s t : Segment) → turn_of (lean_segment n s) (lean_segment n t) ≡ n *ℤ turn_of s t
 lean_turn n s t =
     ap (λ z. (z *ℤ rise t) -ℤ (rise s *ℤ (((n *ℤ t.right.x) +ℤ t.right.y) -ℤ ((n *ℤ t.left.x) +ℤ t.left.y)))) (leaned_width n s.left.x s.left.y s.right.x s.right.y)
     ∙ ap (λ z. (((n *ℤ width s) +ℤ rise s) *ℤ rise t) -ℤ (rise s *ℤ z)) (leaned_width n t.left.x t.left.y t.right.x t.right.y)
-    ∙ leaned_turn n (width s) (rise s) (width t) (rise t)
+    ∙ leaned_cross n (width s) (rise s) (rise t) (width t)
 
 -- ---- places in order
 pub leaned_across : (n x y w u v z : ℤ) → (((n *ℤ u) +ℤ v) *ℤ w) -ℤ (((n *ℤ x) +ℤ y) *ℤ z) ≡ (n *ℤ ((u *ℤ w) -ℤ (x *ℤ z))) +ℤ ((v *ℤ w) -ℤ (y *ℤ z))
@@ -45,9 +48,6 @@ leaned_across n x y w u v z = rw (split n, split x, split y, split w, split u, s
 one_less : (n d e : ℤ) → (d -ℤ e) *ℤ n ≡ (n *ℤ d) -ℤ (n *ℤ e)
 one_less n d e = rw (split n, split d, split e) (simp differences (same _ _ _ _ (omega arith)))
 
-*ℤ-one : (n : ℤ) → n *ℤ pos 1 ≡ n
-*ℤ-one n = omega (arith, ints)
-
 -- n times a number from 1 on is at least n
 pub at_least_once : (n d : ℤ) → pos 0 <ℤ n → pos 0 <ℤ d → n ≤ℤ (n *ℤ d)
 at_least_once n d h k =
@@ -55,7 +55,7 @@ at_least_once n d h k =
     omega (arith, ints, less_one n d, more)
   where
     less_one : (n d : ℤ) → (d -ℤ pos 1) *ℤ n ≡ (n *ℤ d) -ℤ n
-    less_one n d = one_less n d (pos 1) ∙ ap (λ z. (n *ℤ d) -ℤ z) (*ℤ-one n)
+    less_one n d = one_less n d (pos 1) ∙ ap (λ z. (n *ℤ d) -ℤ z) (times_one n)
 
 before_by_x : (n d e z : ℤ) → pos 0 <ℤ n → pos 0 <ℤ d → neg_ℤ n <ℤ e → z ≡ (n *ℤ d) +ℤ e → pos 0 <ℤ z
 before_by_x n d e z h k l is = omega (arith, ints, is, at_least_once n d h k)
@@ -63,16 +63,13 @@ before_by_x n d e z h k l is = omega (arith, ints, is, at_least_once n d h k)
 before_by_y : (n d e z : ℤ) → d ≡ pos 0 → pos 0 <ℤ e → z ≡ (n *ℤ d) +ℤ e → pos 0 <ℤ z
 before_by_y n d e z none h is = omega (arith, ints, is, ap (λ t. n *ℤ t) none, *ℤ-zero n)
 
-left_by : (a b : ℤ) → pos 0 <ℤ (b -ℤ a) → a <ℤ b
-left_by a b h = omega (arith, ints)
-
 -- a place before another lies left of it in the leaned plane
 pub lean_left : (n : ℤ) (p q : Point) → pos 0 <ℤ n → IsNear n p q → Forward (across p q) (up_to p q) → Left (lean n p) (lean n q)
 lean_left n p q h near (inl k) =
-    left_by (((n *ℤ p.x) +ℤ p.y) *ℤ q.w) (((n *ℤ q.x) +ℤ q.y) *ℤ p.w)
+    less_by (((n *ℤ p.x) +ℤ p.y) *ℤ q.w) (((n *ℤ q.x) +ℤ q.y) *ℤ p.w)
     (before_by_x n (across p q) (up_to p q) _ h k near.low (leaned_across n p.x p.y p.w q.x q.y q.w))
 lean_left n p q h near (inr (z, k)) =
-    left_by (((n *ℤ p.x) +ℤ p.y) *ℤ q.w) (((n *ℤ q.x) +ℤ q.y) *ℤ p.w)
+    less_by (((n *ℤ p.x) +ℤ p.y) *ℤ q.w) (((n *ℤ q.x) +ℤ q.y) *ℤ p.w)
     (before_by_y n (across p q) (up_to p q) _ z k (leaned_across n p.x p.y p.w q.x q.y q.w))
 
 -- ---- no segment is vertical there
@@ -87,13 +84,6 @@ lean_wide n s h near ahead = wide_by n (width s) (rise s) _ h near ahead (leaned
 -- no x strictly between two places has no gap, unless the lines are parallel
 abbrev pub NoMeeting : Segment → Segment → Point → Point → Type 0
 NoMeeting a b u v = (z : Point) → pos 0 <ℤ z.w → Left u z → Left z v → (turn_of a b *ℤ z.x) +ℤ (offset a b *ℤ z.w) ≡ pos 0 → turn_of a b ≡ pos 0
-
--- over opaque numbers: a slope, b height at 0
-negated_positive : (a : ℤ) → a <ℤ pos 0 → pos 0 <ℤ neg_ℤ a
-negated_positive a h = omega (arith, ints)
-
-less_none : (a : ℤ) → a <ℤ pos 0 → a ≡ pos 0 → ⊥
-less_none a h e = omega (arith, ints)
 
 -- the zero of a form that falls below 0 lies before the later place
 zero_before : (a b y v : ℤ) → (a *ℤ y +ℤ b *ℤ v) <ℤ pos 0 → (b *ℤ v) <ℤ (y *ℤ neg_ℤ a)

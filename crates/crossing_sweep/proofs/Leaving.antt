@@ -8,7 +8,7 @@ use Rattle.std.specs.List.{AllPairs, prefix_len, slice_range}
 use Rattle.std.specs.List.Sorted.{IsPermutation, IsSorted, IsPartitionPoint}
 use Rattle.std.proofs.lemmas.Int.{ints, by_lt_z}
 use Rattle.std.proofs.lemmas.Bool.{and_parts, both_ways, cases_lt}
-use Rattle.std.proofs.lemmas.List.{map-append, take-append-drop, length-map, length-drop, append-nil, get_or-map}
+use Rattle.std.proofs.lemmas.List.{map-append, take-append-drop, length-map, length-drop, append-nil}
 use Rattle.std.proofs.lemmas.List.Folds.{drop_split}
 use Rattle.std.proofs.lemmas.List.Kept.{AllPairs-cons, AllPairs-filter}
 use Rattle.std.proofs.lemmas.List.Sums.{prefix_len-le-length}
@@ -19,7 +19,7 @@ use Rattle.std.specs.declared.cmp.Ordering.TheVariants.{Less}
 use Rattle.overlay_terms.specs.Plane.{Point, Segment, point_cmp, height_over, is_on}
 use Rattle.overlay_terms.specs.Column.{border, is_in_column}
 use Rattle.overlay_terms.specs.Tiles.{Input}
-use Rattle.overlay_terms.specs.TileLaws.{IsInput, IsProper}
+use Rattle.overlay_terms.specs.TileLaws.{IsInput}
 use Rattle.overlay_terms.specs.Trees.{Steps}
 use Rattle.overlay_terms.proofs.InputNumbers.{le_true, lt_true, true_le, true_lt, left_most, most_back, less_back, less_times, last_turned}
 use Rattle.overlay_terms.proofs.Lists.{contains_map, contains_rest}
@@ -30,6 +30,7 @@ use Rattle.exact_point.specs.declared.point.HPoint.{HPoint}
 use Rattle.exact_point.specs.declared.point_name.PointName.{PointName}
 use Rattle.arrange.specs.Arrangement.{segments_in}
 use Rattle.arrange.specs.declared.unit.Unit.{Unit}
+use Rattle.arrange.proofs.FoundLemmas.{place_positive}
 use Rattle.tile_laws.proofs.Ranks.{Told, yes, no, told}
 use Rattle.crossing_sweep.specs.Status.{SidesFallAlong}
 use Rattle.crossing_sweep.specs.Step.{IsSplitAt}
@@ -52,37 +53,19 @@ use Rattle.exact_point.proofs.Signs.{not_negative_times, not_positive_times}
 use Rattle.std.proofs.Math.IntN.{*ℤ-zero, *ℤ_comm}
 use Rattle.overlay_terms.proofs.Difference.{split, differences, same as alike_differences}
 use Rattle.crossing_sweep.proofs.RightBorder.{not_left, on_border as on_right}
-use Rattle.crossing_sweep.proofs.Pairs.{pairs_rest, pairs_head, pairs_second, all_pairs_append, all_first, all_second}
-use Rattle.crossing_sweep.proofs.StartLemmas.{map_pairs, unmap_pairs}
+use Rattle.overlay_terms.proofs.Pairs.{pairs_rest, pairs_head, pairs_second, all_pairs_append, all_first, all_second, pairs_map, pairs_from_map, all_from_map}
+use Rattle.overlay_terms.proofs.Whole.{more_none, same_most}
 use Rattle.crossing_sweep.specs.Passing.{IsAhead}
-use Rattle.crossing_sweep.proofs.AheadLemmas.{point_positive}
 use Rattle.crossing_sweep.proofs.Labels.{before_in_column}
 use Rattle.crossing_sweep.proofs.Passed.{still_at, last_at, not_after_before}
-use Rattle.crossing_sweep.proofs.TurnedLemmas.{unit_after, all_turned}
+use Rattle.crossing_sweep.proofs.TurnedLemmas.{unit_after, all_turned, units_filter}
 use Rattle.crossing_sweep.proofs.SplitLemmas.{is_under, is_up_to, under_falls, up_to_falls, prefix_parts, all_under, none_under, all_hold, all_over, rest_falls, split_parts}
 use Rattle.crossing_sweep.proofs.SeamLemmas.{no_seams}
 use Rattle.crossing_sweep.proofs.ComingLemmas.{falls}
 use Rattle.crossing_sweep.proofs.PassLemmas.{first_is_node, all_of}
 use Rattle.crossing_sweep.proofs.UnitStretchLemmas.{units_are_stretches}
 use Rattle.crossing_sweep.proofs.TakenLemmas.{stepped}
-use Rattle.crossing_sweep.proofs.UnderWay.{goes_way}
-
--- ---- lists
--- what holds of all images
-all_from_map : {X Y : Type 0} (P : Y → Type 0) (f : X → Y) (xs : List X) → All P (map f xs) → All (λ x. P (f x)) xs
-all_from_map P f xs h i d l = subst P (get_or-map f xs i d (f d) l) (h i (f d) (omega (arith, l, length-map xs f)))
-
-proper_segments : (input : Input) → IsInput input → All IsProper (segments_in input)
-proper_segments input valid = All-map IsProper (λ m. m.segment) input.marked valid.proper
-
-units_filter : (r : Point) (ms : List Member) → units_of (filter (λ m. ends_after r m.unit.seg) ms) ≡ filter (unit_after r) (units_of ms)
-units_filter r [] = refl
-units_filter r (m ∷ ms) = by (units_filter r ms) (told (ends_after r m.unit.seg))
-  where
-    by : units_of (filter (λ m. ends_after r m.unit.seg) ms) ≡ filter (unit_after r) (units_of ms) → Told (ends_after r m.unit.seg)
-        → units_of (filter (λ m. ends_after r m.unit.seg) (m ∷ ms)) ≡ filter (unit_after r) (units_of (m ∷ ms))
-    by more (yes e) = rw e (ap (λ us. m.unit ∷ us) more)
-    by more (no e) = rw e more
+use Rattle.crossing_sweep.proofs.UnderWay.{goes_way, proper_segments}
 
 -- ---- filters
 module _ {X : Type 0} where
@@ -310,10 +293,10 @@ module _ (r : Point) where
   -- some members of a status fall along a place as all do
   kept_fall : (p : Member → Bool) (ms : List Member) → SidesFallAlong r (segs_of ms) → SidesFallAlong r (segs_of (filter p ms))
   kept_fall p ms falls = record {
-    not_above = map_pairs seg_of (λ a b. height_over a r ≤ℤ pos 0 → height_over b r ≤ℤ pos 0) (filter p ms)
-        (AllPairs-filter (λ (a b : Member). height_over a.unit.seg r ≤ℤ pos 0 → height_over b.unit.seg r ≤ℤ pos 0) p ms (unmap_pairs seg_of (λ a b. height_over a r ≤ℤ pos 0 → height_over b r ≤ℤ pos 0) ms falls.not_above));
-    below = map_pairs seg_of (λ a b. height_over a r <ℤ pos 0 → height_over b r <ℤ pos 0) (filter p ms)
-        (AllPairs-filter (λ (a b : Member). height_over a.unit.seg r <ℤ pos 0 → height_over b.unit.seg r <ℤ pos 0) p ms (unmap_pairs seg_of (λ a b. height_over a r <ℤ pos 0 → height_over b r <ℤ pos 0) ms falls.below));
+    not_above = pairs_map (λ a b. height_over a r ≤ℤ pos 0 → height_over b r ≤ℤ pos 0) seg_of (filter p ms)
+        (AllPairs-filter (λ (a b : Member). height_over a.unit.seg r ≤ℤ pos 0 → height_over b.unit.seg r ≤ℤ pos 0) p ms (pairs_from_map (λ a b. height_over a r ≤ℤ pos 0 → height_over b r ≤ℤ pos 0) seg_of ms falls.not_above));
+    below = pairs_map (λ a b. height_over a r <ℤ pos 0 → height_over b r <ℤ pos 0) seg_of (filter p ms)
+        (AllPairs-filter (λ (a b : Member). height_over a.unit.seg r <ℤ pos 0 → height_over b.unit.seg r <ℤ pos 0) p ms (pairs_from_map (λ a b. height_over a r <ℤ pos 0 → height_over b r <ℤ pos 0) seg_of ms falls.below));
     held = All-map (λ a. height_over a r ≡ pos 0 → IsTrue (is_on a r)) seg_of (filter p ms)
         (All-filter p (λ (m : Member). height_over m.unit.seg r ≡ pos 0 → IsTrue (is_on m.unit.seg r)) ms (all_from_map (λ a. height_over a r ≡ pos 0 → IsTrue (is_on a r)) seg_of ms falls.held));
   }
@@ -335,7 +318,7 @@ module _ (r : Point) where
         (λ i d l j e m h. absurd (not_most (height_over (get_or (segs_of xs) i d) r) (low i d l) h));
     below = all_pairs_append (λ a b. height_over a r <ℤ pos 0 → height_over b r <ℤ pos 0) (segs_of xs) (segs_of ys) (λ i j d l m h. absurd (not_less (height_over (get_or (segs_of xs) i d) r) (low i d (omega (arith, l, m))) h)) falls.below
         (λ i d l j e m h. absurd (not_less (height_over (get_or (segs_of xs) i d) r) (low i d l) h));
-    held = All-append (λ a. height_over a r ≡ pos 0 → IsTrue (is_on a r)) (segs_of xs) (segs_of ys) (λ i d l h. absurd (not_level (height_over (get_or (segs_of xs) i d) r) (low i d l) h)) falls.held;
+    held = All-append (λ a. height_over a r ≡ pos 0 → IsTrue (is_on a r)) (segs_of xs) (segs_of ys) (λ i d l h. absurd (more_none (height_over (get_or (segs_of xs) i d) r) (low i d l) h)) falls.held;
   })
     where
       low : All (λ a. pos 0 <ℤ height_over a r) (segs_of xs)
@@ -346,9 +329,6 @@ module _ (r : Point) where
 
       not_less : (h : ℤ) → pos 0 <ℤ h → h <ℤ pos 0 → ⊥
       not_less h k l = omega (arith, ints, k, l)
-
-      not_level : (h : ℤ) → pos 0 <ℤ h → h ≡ pos 0 → ⊥
-      not_level h k l = omega (arith, ints, k, l)
 
   -- a status that falls along a place is split there
   module _ (ms : List Member) (falls : SidesFallAlong r (segs_of ms)) where
@@ -628,10 +608,7 @@ module _ (input : Input) (valid : IsInput input) (full status after : List Membe
   past = not_left input.column (place at) r_ahead.from out
 
   r_there : (place at).x ≡ border (input.column + 1) *ℤ (place at).w
-  r_there = level (place at).x (border (input.column + 1) *ℤ (place at).w) r_ahead.up_to past
-    where
-      level : (a b : ℤ) → a ≤ℤ b → b ≤ℤ a → a ≡ b
-      level a b h k = omega (arith, ints, h, k)
+  r_there = same_most (place at).x (border (input.column + 1) *ℤ (place at).w) r_ahead.up_to past
 
   module _ (e : HPoint × PointName) (c : Contains search.ahead e) where
     after_r : point_cmp (place at) (place e.0) ≡ Less
@@ -641,10 +618,10 @@ module _ (input : Input) (valid : IsInput input) (full status after : List Membe
     e_ahead = All-contains (IsAhead (segments_in input) input.column way.q) (place at ∷ points_of search.ahead) (place e.0) way.come.ahead (contains_rest (place at) (points_of search.ahead) (place e.0) (contains_map (λ (d : HPoint × PointName). place d.0) search.ahead e c))
 
     e_there : (place e.0).x ≡ border (input.column + 1) *ℤ (place e.0).w
-    e_there = on_right input.column (place at) (place e.0) (point_positive at) (point_positive e.0) past after_r e_ahead.up_to
+    e_there = on_right input.column (place at) (place e.0) (place_positive at) (place_positive e.0) past after_r e_ahead.up_to
 
     goes_under : (m : Member) → pos 0 <ℤ height_over m.unit.seg (place at) → pos 0 <ℤ height_over m.unit.seg (place e.0)
-    goes_under m h = still_under m.unit.seg (place at) (place e.0) (border (input.column + 1)) (point_positive at) (point_positive e.0) r_there e_there after_r (wide m.unit.seg.left.x m.unit.seg.right.x (left_most m.unit.seg m.ahead)) h
+    goes_under m h = still_under m.unit.seg (place at) (place e.0) (border (input.column + 1)) (place_positive at) (place_positive e.0) r_there e_there after_r (wide m.unit.seg.left.x m.unit.seg.right.x (left_most m.unit.seg m.ahead)) h
       where
         wide : (l r : ℤ) → l ≤ℤ r → pos 0 ≤ℤ (r -ℤ l)
         wide l r h = omega (arith, ints, h)
@@ -654,8 +631,8 @@ module _ (input : Input) (valid : IsInput input) (full status after : List Membe
         let p : Point = place_at (map place_of names) m.begin in
         let hp : pos 0 <ℤ p.w = (way.carries.passes.small m.begin _ is.known).positive in
         let inside = lt_true p.x (border (input.column + 1) *ℤ p.w) (and_parts (int_le (border input.column *ℤ p.w) p.x) (int_lt p.x (border (input.column + 1) *ℤ p.w)) w).1 in
-        held_under m.unit.seg (place at) (place e.0) (border (input.column + 1)) (point_positive at) (point_positive e.0) r_there e_there after_r
-        (wide_there m.unit.seg p (place at) (border (input.column + 1)) hp (point_positive at) is.carried.on on_r inside r_there) level
+        held_under m.unit.seg (place at) (place e.0) (border (input.column + 1)) (place_positive at) (place_positive e.0) r_there e_there after_r
+        (wide_there m.unit.seg p (place at) (border (input.column + 1)) hp (place_positive at) is.carried.on on_r inside r_there) level
 
   all_under_ahead : (ms : List Member) → All (λ m. pos 0 <ℤ height_over m.unit.seg (place at)) ms → All (PassesUnder search.ahead) ms
   all_under_ahead ms h i d l = all_of (λ (e : HPoint × PointName). pos 0 <ℤ height_over (get_or ms i d).unit.seg (place e.0)) search.ahead (λ e c. goes_under e c (get_or ms i d) (h i d l))
@@ -751,7 +728,7 @@ module _ (input : Input) (old new : Search) (status after : List Member) (coming
   none_within out z c h =
       let first = All-head (IsAhead (segments_in input) input.column way.q) (place at) (points_of old.ahead) way.come.ahead in
       both_ways (is_in_column input.column (place at)) out
-      (before_in_column input.column (place at) (place z.0) next_node.small.positive (point_positive z.0) first.from (All-contains (λ (e : HPoint × PointName). point_cmp (place at) (place e.0) ≡ Less) old.ahead z least c) h)
+      (before_in_column input.column (place at) (place z.0) next_node.small.positive (place_positive z.0) first.from (All-contains (λ (e : HPoint × PointName). point_cmp (place at) (place e.0) ≡ Less) old.ahead z least c) h)
 
   goes_out : is_in_column input.column (place at) ≡ false → IsAmid input old after rest_coming more_rows (names ++ name ∷ [])
   goes_out out = record {

@@ -7,7 +7,6 @@ pub mod Strip
 pub mod Below
 pub mod Inputs
 pub mod LeaningLaws
-pub mod Pairs
 pub mod StretchLemmas
 pub mod StatusLemmas
 pub mod TurnLemmas

@@ -1,5 +1,5 @@
 -- From the members of a status below one of them to what lies under it.
-use Rattle.std.proofs.Common.{◌≡◌, ℕ, ℤ, pos, suc, ◌+◌, ◌<◌, ◌*ℤ◌, ◌<ℤ◌, ◌≤ℤ◌, inl, inr, ◌⊎◌, true, false, List, [], ◌∷◌, get_or, length, take, ap, sym, subst, ◌∙◌, arith}
+use Rattle.std.proofs.Common.{◌≡◌, ℕ, ℤ, pos, suc, ◌+◌, ◌<◌, ◌*ℤ◌, ◌<ℤ◌, ◌≤ℤ◌, inl, inr, ◌⊎◌, true, false, List, ◌∷◌, get_or, length, take, ap, sym, subst, ◌∙◌, arith}
 use Rattle.std.specs.Prelude.{Bool, All, Any, Contains, int_lt, int_le, ◌&&◌, map}
 use Rattle.std.specs.List.{AllPairs}
 use Rattle.std.specs.Ordering.{int_eq}
@@ -8,14 +8,13 @@ use Rattle.std.proofs.lemmas.Bool.{and_parts, and_from, or_left, or_right, both_
 use Rattle.std.proofs.lemmas.Bool.Decides.{Decides-int_eq}
 use Rattle.std.proofs.lemmas.List.{get_or-take, length-take-le, length-map, get_or_default}
 use Rattle.std.proofs.lemmas.List.Elements.{All-map, All-contains}
-use Rattle.std.proofs.lemmas.List.Kept.{AllPairs-cons}
 use Rattle.std.proofs.Math.ListN.{get_or-map}
 use Rattle.std.proofs.Math.IntN.{*ℤ-zero}
 use Rattle.overlay_terms.specs.Plane.{Point, Segment, whole}
 use Rattle.overlay_terms.specs.Layers.{Marked}
 use Rattle.overlay_terms.specs.Tiles.{Input}
 use Rattle.overlay_terms.specs.TileLaws.{IsInput, IsProper}
-use Rattle.overlay_terms.proofs.Lists.{any_from, contains_map, Contains-cons_cases, none_in_empty, contains_first, contains_rest}
+use Rattle.overlay_terms.proofs.Lists.{any_from, contains_map, from_map}
 use Rattle.overlay_terms.proofs.InputNumbers.{le_true, lt_true, true_le, true_lt}
 use Rattle.exact_point.specs.Crossing.{turn_of}
 use Rattle.exact_point.proofs.Lines.{gap, gap_at, flat_gap}
@@ -33,21 +32,8 @@ use Rattle.crossing_sweep.specs.Masks.{MasksStepUp}
 use Rattle.crossing_sweep.proofs.Lean.{lean_left, lean_height, lean_turn}
 use Rattle.crossing_sweep.proofs.Meeting.{before_from_lean}
 use Rattle.crossing_sweep.proofs.Inputs.{steep_positive, near, left_small, right_small, lean_at_most}
-use Rattle.crossing_sweep.proofs.Pairs.{pairs_head, pairs_rest}
+use Rattle.overlay_terms.proofs.Pairs.{pairs_map}
 use Rattle.crossing_sweep.proofs.QueueLemmas.{along_turn, Order, lower, same, higher, order_of}
-
--- ---- images of lists
-pub pairs_map : {X Y : Type 0} (R : Y → Y → Type 0) (f : X → Y) (xs : List X) → AllPairs (λ a b. R (f a) (f b)) xs → AllPairs R (map f xs)
-pairs_map R f [] h = λ i j d l m. absurd (omega (arith, m))
-pairs_map R f (x ∷ xs) h = AllPairs-cons R (f x) (map f xs) (All-map (R (f x)) f xs (pairs_head (λ a b. R (f a) (f b)) x xs h)) (pairs_map R f xs (pairs_rest (λ a b. R (f a) (f b)) x xs h))
-
--- an element of an image is one's image
-pub from_map : {X Y : Type 0} (f : X → Y) (xs : List X) (y : Y) → Contains (map f xs) y → (x : X) × Contains xs x × (f x ≡ y)
-from_map f [] y c = absurd (none_in_empty y c)
-from_map {X} {Y} f (x ∷ xs) y c = by (from_map f xs y) (Contains-cons_cases (f x) (map f xs) y c) where
-  by : (Contains (map f xs) y → (z : X) × Contains xs z × (f z ≡ y)) → (f x ≡ y) ⊎ Contains (map f xs) y → (z : X) × Contains (x ∷ xs) z × (f z ≡ y)
-  by more (inl e) = (x, contains_first x xs, e)
-  by more (inr m) = let rest = more m in (rest.0, contains_rest x xs rest.0 rest.1, rest.2)
 
 -- ---- tests
 under_test : (a b : Segment) (p : Point) → IsAfter a b p → is_under a b p ≡ true

@@ -5,6 +5,7 @@ use Rattle.std.proofs.Math.IntN.{zero-*ℤ, *ℤ-zero, *ℤ_comm}
 use Rattle.overlay_terms.specs.Plane.{Point, Segment, whole}
 use Rattle.overlay_terms.proofs.Difference.{split, differences, same, mul_pos, diff, diff-neg, whole_is}
 use Rattle.overlay_terms.proofs.InputNumbers.{most_back}
+use Rattle.overlay_terms.proofs.Whole.{negated_positive}
 use Rattle.exact_point.specs.Crossing.{IsCrossingOf, turn_of, lead_of}
 use Rattle.exact_point.specs.PlaceOf.{part_way}
 use Rattle.exact_point.proofs.CrossingLemmas.{IsPart, crossing_at_part}
@@ -181,12 +182,9 @@ back_by : (n d e : ℤ) → pos 0 <ℤ n → e <ℤ n → pos 0 <ℤ ((n *ℤ d)
 back_by n d e h near sum =
     by_lt_z (pos 0) d (λ k. inl k)
     (λ k. by_lt_z d (pos 0)
-    (λ l. absurd (omega (arith, ints, sum, near, at_least_once n (neg_ℤ d) h (up d l), negated n d)))
+    (λ l. absurd (omega (arith, ints, sum, near, at_least_once n (neg_ℤ d) h (negated_positive d l), negated n d)))
     (λ l. let none : d ≡ pos 0 = omega (arith, ints, k, l) in inr (none, omega (arith, ints, sum, ap (λ t. n *ℤ t) none, *ℤ-zero n))))
   where
-    up : (d : ℤ) → d <ℤ pos 0 → pos 0 <ℤ neg_ℤ d
-    up d h = omega (arith, ints, h)
-
     negated : (n d : ℤ) → n *ℤ neg_ℤ d ≡ neg_ℤ (n *ℤ d)
     negated n d = rw (split n, split d) (simp (diff-neg, differences) (same _ _ _ _ (omega arith)))
 

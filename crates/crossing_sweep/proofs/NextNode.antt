@@ -1,12 +1,11 @@
 -- The next node after a place: the first of a finite list that has the place of each node.
-use Rattle.std.proofs.Common.{◌≡◌, ℕ, ℤ, pos, ◌<◌, ◌≤◌, length, ◌^◌, ◌*ℤ◌, ◌<ℤ◌, ◌≤ℤ◌, neg_ℤ, inl, inr, ◌⊎◌, true, false, List, [], ◌∷◌, refl, ap, sym, ◌∙◌, arith, get_or}
+use Rattle.std.proofs.Common.{◌≡◌, ℕ, ℤ, pos, ◌<◌, ◌≤◌, length, ◌^◌, ◌*ℤ◌, ◌<ℤ◌, ◌≤ℤ◌, neg_ℤ, inl, inr, ◌⊎◌, true, false, List, [], ◌∷◌, ap, sym, ◌∙◌, arith, get_or}
 use Rattle.std.specs.Prelude.{Bool, IsTrue, All, Contains, int_lt, ◌&&◌, ◌||◌, not, map, flat_map, count_by, if◌then◌else◌}
 use Rattle.std.specs.List.{list_any}
 use Rattle.std.specs.Ordering.{is_lt, int_eq}
-use Rattle.std.specs.declared.cmp.Ordering.{Ordering}
-use Rattle.std.specs.declared.cmp.Ordering.TheVariants.{Less, Equal, Greater}
+use Rattle.std.specs.declared.cmp.Ordering.TheVariants.{Less}
 use Rattle.std.proofs.lemmas.Int.{ints}
-use Rattle.std.proofs.lemmas.Bool.{and_parts, and_from, or_cases, false≢true, false_from_ne_true}
+use Rattle.std.proofs.lemmas.Bool.{and_parts, and_from, or_cases, false_from_ne_true}
 use Rattle.std.proofs.lemmas.List.Elements.{All-nil, All-cons, All-head, All-tail, All-append, All-map, All-contains}
 use Rattle.std.proofs.lemmas.List.Folds.{Any-from_list_any}
 use Rattle.std.proofs.lemmas.List.Sums.{count_by-le-length}
@@ -17,6 +16,7 @@ use Rattle.overlay_terms.specs.Tiles.{is_parallel, is_vertical, is_end, is_cross
 use Rattle.overlay_terms.specs.TileLaws.{IsProper}
 use Rattle.overlay_terms.proofs.Lists.{any_contains, in_flat_map}
 use Rattle.overlay_terms.proofs.InputNumbers.{lt_true, true_lt}
+use Rattle.overlay_terms.proofs.Tests.{less_told}
 use Rattle.exact_point.specs.Crossing.{turn_of, lead_of}
 use Rattle.exact_point.specs.PlaceOf.{part_way, crossing_place, cut_place}
 use Rattle.exact_point.proofs.Lines.{width}
@@ -132,11 +132,6 @@ module _ (segments : List Segment) (proper : All IsProper segments) where
       (All-map IsFew (cut_place s) columns (λ j e m. few_width (width s) (width_within s (proper i d l)))))
 
   -- ---- the first of those after a place
-  less_of : (o : Ordering) → is_lt o ≡ true → o ≡ Less
-  less_of Less h = refl
-  less_of Equal h = absurd (false≢true h)
-  less_of Greater h = absurd (false≢true h)
-
   module _ (q : Point) (hq : pos 0 <ℤ q.w) where
     abbrev pub is_after : Point → Bool
     is_after c = int_lt (pos 0) c.w && is_lt (point_cmp q c)
@@ -148,7 +143,7 @@ module _ (segments : List Segment) (proper : All IsProper segments) where
     after_positive c h = lt_true (pos 0) c.w (and_parts (int_lt (pos 0) c.w) (is_lt (point_cmp q c)) h).0
 
     pub after_less : (c : Point) → is_after c ≡ true → point_cmp q c ≡ Less
-    after_less c h = less_of (point_cmp q c) (and_parts (int_lt (pos 0) c.w) (is_lt (point_cmp q c)) h).1
+    after_less c h = less_told (point_cmp q c) (and_parts (int_lt (pos 0) c.w) (is_lt (point_cmp q c)) h).1
 
     pub after_test : (c : Point) → pos 0 <ℤ c.w → point_cmp q c ≡ Less → is_after c ≡ true
     after_test c hc less = and_from (int_lt (pos 0) c.w) (is_lt (point_cmp q c)) (true_lt (pos 0) c.w hc) (ap is_lt less)

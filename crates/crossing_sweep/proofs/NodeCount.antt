@@ -15,7 +15,7 @@ use Rattle.tile_laws.proofs.Candidates.{candidates, candidates_with}
 use Rattle.tile_laws.proofs.Statements.{segments_in}
 use Rattle.crossing_sweep.specs.Beginning.{foot}
 use Rattle.crossing_sweep.specs.RowLaws.{NodesAreFew}
-use Rattle.crossing_sweep.proofs.Pairs.{pairs_head, pairs_rest}
+use Rattle.overlay_terms.proofs.Pairs.{pairs_head, pairs_rest}
 use Rattle.crossing_sweep.proofs.NextNode.{LiesOn, lies_on, places, rest_of, fewer, few_rest}
 use Rattle.crossing_sweep.proofs.BeginLemmas.{after_foot}
 

@@ -6,11 +6,12 @@ use Rattle.std.specs.declared.cmp.Ordering.TheVariants.{Less}
 use Rattle.overlay_terms.specs.Plane.{Point, Segment, whole, point_cmp, height_over, is_on, is_below}
 use Rattle.overlay_terms.specs.TileLaws.{IsProper}
 use Rattle.overlay_terms.proofs.InputNumbers.{in_order_by_x}
+use Rattle.overlay_terms.proofs.Tests.{same_tests}
+use Rattle.overlay_terms.proofs.Whole.{less_by}
 use Rattle.exact_point.proofs.Lexical.{Forward}
 use Rattle.exact_point.proofs.OnSegment.{leads}
 use Rattle.exact_point.proofs.OnLine.{after_left, before_right, within_on, on_line, less_from_forward, forward_from_less}
 use Rattle.exact_point.proofs.Signs.{zero_factor}
-use Rattle.tile_laws.proofs.Counts.{same_tests}
 use Rattle.crossing_sweep.specs.Leaning.{lean, lean_segment, across, up_to, IsNear, IsSteep, IsSmall}
 use Rattle.crossing_sweep.proofs.Lean.{lean_left, lean_height, leaned_across}
 use Rattle.crossing_sweep.proofs.Meeting.{before_from_lean}
@@ -34,9 +35,6 @@ module _ (n : ℤ) (p q : Point) (steep : IsSteep n) (sp : IsSmall p) (sq : IsSm
       is_near : IsNear n p q
       is_near = near n p q steep sp sq
 
-      left : (a b : ℤ) → pos 0 <ℤ (b -ℤ a) → a <ℤ b
-      left a b h = omega (arith, ints, h)
-
       none : (d u z : ℤ) → z ≡ (n *ℤ d) +ℤ u → z ≡ pos 0 → neg_ℤ n <ℤ u → u <ℤ n → pos 0 <ℤ u → ⊥
       none d u z e zero low high up =
           let sum : (n *ℤ d) +ℤ u ≡ pos 0 = sym e ∙ zero in
@@ -44,7 +42,7 @@ module _ (n : ℤ) (p q : Point) (steep : IsSteep n) (sp : IsSmall p) (sq : IsSm
           omega (arith, ints, sum, up, ap (λ t. n *ℤ t) level, *ℤ-zero n)
 
       by : Forward (across (lean n p) (lean n q)) (up_to (lean n p) (lean n q)) → point_cmp p q ≡ Less
-      by (inl k) = less_from_forward p q (before_from_lean n p q hn is_near (left ((lean n p).x *ℤ q.w) ((lean n q).x *ℤ p.w) k))
+      by (inl k) = less_from_forward p q (before_from_lean n p q hn is_near (less_by ((lean n p).x *ℤ q.w) ((lean n q).x *ℤ p.w) k))
       by (inr (zero, up)) = absurd (none (across p q) (up_to p q) (across (lean n p) (lean n q)) (leaned_across n p.x p.y p.w q.x q.y q.w) zero is_near.low is_near.high up)
 
 -- ---- on a segment

@@ -6,6 +6,7 @@ use Rattle.overlay_terms.specs.Plane.{Point, Segment, is_on, coordinate_max}
 use Rattle.overlay_terms.specs.TileLaws.{IsProper}
 use Rattle.overlay_terms.proofs.Difference.{split, differences, same}
 use Rattle.overlay_terms.proofs.InputNumbers.{most_back, most_times}
+use Rattle.overlay_terms.proofs.Whole.{last_out}
 use Rattle.exact_point.proofs.Lexical.{Forward, NotBack}
 use Rattle.exact_point.proofs.Lines.{width, rise}
 use Rattle.exact_point.proofs.CrossingLemmas.{mean_low, mean_high}
@@ -24,9 +25,6 @@ opened d m e k y w = rw (split d, split m, split e, split k, split y, split w) (
 mean_y : (d m e k y w : ℤ) → (d *ℤ (y -ℤ (m *ℤ w))) -ℤ (e *ℤ k) ≡ pos 0 → (m *ℤ (d *ℤ w)) +ℤ (e *ℤ k) ≡ y *ℤ d
 mean_y d m e k y w level = omega (arith, ints, level, opened d m e k y w)
 
-turned_bound : (b d w : ℤ) → b *ℤ (d *ℤ w) ≡ (b *ℤ w) *ℤ d
-turned_bound b d w = rw (split b, split d, split w) (simp differences (same _ _ _ _ (omega arith)))
-
 not_back : (x y : ℤ) → NotBack x y → pos 0 ≤ℤ x
 not_back x y (inl h) = omega (arith, ints, h)
 not_back x y (inr (e, h)) = omega (arith, ints, e)
@@ -39,10 +37,10 @@ up_to_width l r x w h = omega (arith, ints, h, spread l r w)
     spread l r w = rw (split l, split r, split w) (simp differences (same _ _ _ _ (omega arith)))
 
 least : (b y d w : ℤ) → pos 0 <ℤ d → (b *ℤ (d *ℤ w)) ≤ℤ (y *ℤ d) → (b *ℤ w) ≤ℤ y
-least b y d w hd h = most_back (b *ℤ w) y d hd (omega (arith, ints, h, turned_bound b d w))
+least b y d w hd h = most_back (b *ℤ w) y d hd (omega (arith, ints, h, last_out b d w))
 
 most : (b y d w : ℤ) → pos 0 <ℤ d → (y *ℤ d) ≤ℤ (b *ℤ (d *ℤ w)) → y ≤ℤ (b *ℤ w)
-most b y d w hd h = most_back y (b *ℤ w) d hd (omega (arith, ints, h, turned_bound b d w))
+most b y d w hd h = most_back y (b *ℤ w) d hd (omega (arith, ints, h, last_out b d w))
 
 module _ (b t : ℤ) (s : Segment) (p : Point) (hp : pos 0 <ℤ p.w) (is : IsReached s p) (low_left : b ≤ℤ s.left.y) (low_right : b ≤ℤ s.right.y) (high_left : s.left.y ≤ℤ t) (high_right : s.right.y ≤ℤ t) where
   along : ℤ

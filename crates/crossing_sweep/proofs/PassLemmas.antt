@@ -27,11 +27,12 @@ use Rattle.crossing_sweep.specs.Queue.{GoesOn, IsUpTo, IsQueued}
 use Rattle.crossing_sweep.specs.Step.{AreStretches, IsFullStatus, IsSplitAt, AreStaying}
 use Rattle.crossing_sweep.specs.Border.{IsWaiting}
 use Rattle.crossing_sweep.specs.Passing.{begins_left, waiting, IsToCome, IsAhead, HasCome, IsEntry, IsStepTo, IsTaken, PassGoesOn, PassEnds}
-use Rattle.crossing_sweep.proofs.Pairs.{all_second, pairs_second, pairs_head}
+use Rattle.overlay_terms.proofs.Pairs.{all_second, pairs_second, pairs_head}
+use Rattle.overlay_terms.proofs.Whole.{less_none, more_none, same_most}
 use Rattle.crossing_sweep.proofs.NextNode.{each_has_next}
 use Rattle.crossing_sweep.proofs.QueueLemmas.{up_to_next}
 use Rattle.crossing_sweep.proofs.StatusLemmas.{sides_fall}
-use Rattle.crossing_sweep.proofs.StepLemmas.{status_goes_on, queue_goes_on, not_above, not_below}
+use Rattle.crossing_sweep.proofs.StepLemmas.{status_goes_on, queue_goes_on}
 use Rattle.crossing_sweep.proofs.BorderLemmas.{next_is_queued_at_border, first_is_next_at_border}
 
 -- ---- lists
@@ -84,13 +85,10 @@ module _ (column : ℕ) (r : Point) (u : Segment) (proper : IsProper u) (hr : po
     begins = lt_true u.left.x (border column) left
 
     over_border : r.x ≡ border column *ℤ r.w
-    over_border = level r.x (border column *ℤ r.w) (near r.x z.x r.w z.w (border column) entry.positive (x_in_order r z later) (entry.cut left)) from
+    over_border = same_most r.x (border column *ℤ r.w) (near r.x z.x r.w z.w (border column) entry.positive (x_in_order r z later) (entry.cut left)) from
       where
         near : (x y w v b : ℤ) → pos 0 <ℤ v → (x *ℤ v) ≤ℤ (y *ℤ w) → y ≡ b *ℤ v → x ≤ℤ (b *ℤ w)
         near x y w v b hv h e = most_back x (b *ℤ w) v hv (omega (arith, ints, h, ap (λ z. z *ℤ w) e, last_turned b v w))
-
-        level : (a b : ℤ) → a ≤ℤ b → b ≤ℤ a → a ≡ b
-        level a b h k = omega (arith, ints, h, k)
 
     over_one : (z.x *ℤ r.w) -ℤ (r.x *ℤ z.w) ≡ pos 0
     over_one = same_x r.x z.x r.w z.w (border column) over_border (entry.cut left)
@@ -228,7 +226,7 @@ module _ (n : ℤ) (segments units : List Segment) (column : ℕ) (q r : Point) 
   rest_apart u c goes level = by (told (begins_left column u))
     where
       by : Told (begins_left column u) → ⊥
-      by (yes e) = not_below (height_over u r) ((rest_to_come u c).waits e).passes_over level
+      by (yes e) = less_none (height_over u r) ((rest_to_come u c).waits e).passes_over level
       by (no e) = goes.begun ((rest_to_come u c).later e)
 
   -- ---- those that stay
@@ -261,12 +259,12 @@ module _ (n : ℤ) (segments units : List Segment) (column : ℕ) (q r : Point) 
       come_from (inr h) = absurd (rest_apart u h goes level)
 
       two : Contains under u ⊎ Contains bundle u → Contains bundle u ⊎ Contains entering u
-      two (inl h) = absurd (not_above (height_over u r) (All-contains (λ u. pos 0 <ℤ height_over u r) under u step.split.passes_under h) level)
+      two (inl h) = absurd (more_none (height_over u r) (All-contains (λ u. pos 0 <ℤ height_over u r) under u step.split.passes_under h) level)
       two (inr h) = inl h
 
       three : Contains (under ++ bundle) u ⊎ Contains over u → Contains bundle u ⊎ Contains entering u
       three (inl h) = two (Contains-append_cases under bundle u h)
-      three (inr h) = absurd (not_below (height_over u r) (All-contains (λ u. height_over u r <ℤ pos 0) over u step.split.passes_over h) level)
+      three (inr h) = absurd (less_none (height_over u r) (All-contains (λ u. height_over u r <ℤ pos 0) over u step.split.passes_over h) level)
 
       last : Contains (under ++ bundle ++ over) u ⊎ Contains (waiting column (entering ++ rest)) u → Contains bundle u ⊎ Contains entering u
       last (inl h) = three (Contains-append_cases (under ++ bundle) over u h)
@@ -325,7 +323,7 @@ module _ (n : ℤ) (segments units : List Segment) (column : ℕ) (q r : Point) 
           let falls : R o w = All-head (R o) w (ws ++ w2) (all_second (R o) os ((w ∷ ws) ++ w2) (pairs_head R o (os ++ ((w ∷ ws) ++ w2)) named)) in
           let low : height_over o r <ℤ pos 0 = All-head (λ u. height_over u r <ℤ pos 0) o os (subst (λ (l : List Segment). All (λ u. height_over u r <ℤ pos 0) l) f step.split.passes_over) in
           let among : Contains entering w = (filter_contains (begins_left column) entering w (subst (λ (l : List Segment). Contains l w) (sym e) (contains_first w ws))).0 in
-          absurd (not_below (height_over w r) (falls low) (entering_holds w among))
+          absurd (less_none (height_over w r) (falls low) (entering_holds w among))
 
   waiting_in_two : under ++ bundle ++ over ++ waiting column (entering ++ rest) ≡ under ++ (bundle ++ w1) ++ (over ++ w2)
   waiting_in_two = ap (λ (l : List Segment). under ++ bundle ++ over ++ l) (filter-append (begins_left column) entering rest) ∙ regrouped under bundle over w1 w2 none_above

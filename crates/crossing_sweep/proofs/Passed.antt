@@ -14,7 +14,7 @@ use Rattle.crossing_sweep.specs.Leaning.{IsSmall}
 use Rattle.crossing_sweep.specs.NextNode.{IsNextNode}
 use Rattle.crossing_sweep.specs.Queue.{IsUpTo, IsQueued}
 use Rattle.crossing_sweep.specs.Rows.{ArePassed, place_at}
-use Rattle.crossing_sweep.proofs.Pairs.{all_pairs_append}
+use Rattle.overlay_terms.proofs.Pairs.{all_pairs_append}
 
 -- what is not after a place is before what comes after it
 pub not_after_before : (p q r : Point) → pos 0 <ℤ p.w → pos 0 <ℤ q.w → pos 0 <ℤ r.w → (point_cmp q p ≡ Less → ⊥) → point_cmp q r ≡ Less → point_cmp p r ≡ Less

@@ -12,7 +12,8 @@ use Rattle.std.proofs.lemmas.List.Elements.{All-contains, Contains-append_left, 
 use Rattle.std.proofs.lemmas.List.Sorted.{Contains-permutation, IsPermutation-sym}
 use Rattle.std.proofs.lemmas.List.Kept.{Any-dedup, Contains-from_dedup, IsStrictlySortedBy-dedup}
 use Rattle.overlay_terms.specs.Plane.{Point, same_place}
-use Rattle.overlay_terms.proofs.Lists.{any_from, any_contains, contains_map, Contains-cons_cases, none_in_empty}
+use Rattle.overlay_terms.proofs.Lists.{any_from, any_contains, contains_map, Contains-cons_cases, none_in_empty, from_map}
+use Rattle.overlay_terms.proofs.Pairs.{pairs_map}
 use Rattle.exact_point.specs.Place.{place}
 use Rattle.exact_point.specs.PointName.{IsPlaceOf}
 use Rattle.exact_point.specs.declared.point.HPoint.{HPoint}
@@ -22,13 +23,11 @@ use Rattle.arrange.specs.Arrangement.{is_in_closed_column}
 use Rattle.arrange.specs.NamedPlaces.{named_cmp}
 use Rattle.arrange.specs.declared.named_place.NamedPlace.{NamedPlace}
 use Rattle.arrange.proofs.SortedPlaces.{strict_pairs, same_spots}
+use Rattle.arrange.proofs.FoundLemmas.{place_positive}
 use Rattle.crossing_sweep.specs.Ahead.{HasAdded, IsOffered, AreOffered, known_entry}
 use Rattle.crossing_sweep.specs.RankedPlace.{ranked_cmp, ranked_total, same_ranked, named_of, ranked_entry}
 use Rattle.crossing_sweep.specs.declared.ranked_place.RankedPlace.{RankedPlace}
-use Rattle.crossing_sweep.proofs.AheadLemmas.{point_positive}
-use Rattle.crossing_sweep.proofs.MaskLemmas.{from_map}
 use Rattle.crossing_sweep.proofs.PassLemmas.{all_of}
-use Rattle.crossing_sweep.proofs.StartLemmas.{map_pairs}
 
 -- a place put last has been added
 pub pushed_added : (places : List RankedPlace) (z : RankedPlace) → HasAdded (map ranked_entry places) z.at z.name (map ranked_entry (places ++ z ∷ []))
@@ -77,7 +76,7 @@ module _ {T : Type 0} (now : T → RankedPlace) (column : ℕ) (names : List Poi
           let b = Any-dedup (eq_by_cmp_equiv (on_total now ranked_total)) sorted z.0 (Contains-permutation places sorted z.0 moved z.1) in
           let kept : Contains (dedup (λ a b. same_ranked (now a) (now b)) sorted) b.1 = any_contains (λ y. same_ranked (now z.0) (now y) ≡ true) (dedup (λ a b. same_ranked (now a) (now b)) sorted) b in
           any_from (λ (e : HPoint × PointName). IsTrue (same_place p (place e.0))) (map (λ t. ranked_entry (now t)) (dedup (λ a b. same_ranked (now a) (now b)) sorted)) (ranked_entry (now b.1)) (contains_map (λ t. ranked_entry (now t)) (dedup (λ a b. same_ranked (now a) (now b)) sorted) b.1 kept)
-          (same_through p (place (now z.0).at) (place (now b.1).at) hp (point_positive (now z.0).at) (point_positive (now b.1).at) at (same_spots (named_of (now z.0)) (named_of (now b.1)) b.4))
+          (same_through p (place (now z.0).at) (place (now b.1).at) hp (place_positive (now z.0).at) (place_positive (now b.1).at) at (same_spots (named_of (now z.0)) (named_of (now b.1)) b.4))
 
 -- without their ranks they are the same entries
 pub same_entries : {T : Type 0} (now : T → RankedPlace) (list : List T) (places : List NamedPlace) → places ≡ map (λ t. named_of (now t)) list → map known_entry places ≡ map (λ t. ranked_entry (now t)) list
@@ -85,4 +84,4 @@ same_entries now list places e = ap (map known_entry) e ∙ map-map known_entry 
 
 -- and in the same order
 pub named_in_order : {T : Type 0} (now : T → RankedPlace) (list : List T) (places : List NamedPlace) → places ≡ map (λ t. named_of (now t)) list → AllPairs (λ a b. ranked_cmp (now a) (now b) ≡ Less) list → AllPairs (λ a b. named_cmp a b ≡ Less) places
-named_in_order now list places e ordered = subst (λ (l : List NamedPlace). AllPairs (λ a b. named_cmp a b ≡ Less) l) (sym e) (map_pairs (λ t. named_of (now t)) (λ a b. named_cmp a b ≡ Less) list ordered)
+named_in_order now list places e ordered = subst (λ (l : List NamedPlace). AllPairs (λ a b. named_cmp a b ≡ Less) l) (sym e) (pairs_map (λ a b. named_cmp a b ≡ Less) (λ t. named_of (now t)) list ordered)

@@ -2,7 +2,6 @@
 use Rattle.std.proofs.Common.{◌≡◌, ℕ, ℤ, pos, zero, suc, ◌+◌, ◌<◌, ◌*ℤ◌, ◌<ℤ◌, ◌≤ℤ◌, inl, inr, ◌⊎◌, true, false, List, get_or, length, refl, ap, sym, subst, ◌∙◌, arith}
 use Rattle.std.specs.Prelude.{IsTrue, All, Any, Contains, ◌&&◌, ◌||◌, not}
 use Rattle.std.specs.List.{list_any}
-use Rattle.std.proofs.lemmas.Int.{ints}
 use Rattle.std.proofs.lemmas.Bool.{and_parts, or_cases, or_left, or_right, both_ways, not-true}
 use Rattle.std.proofs.lemmas.List.{get_or_default}
 use Rattle.std.proofs.lemmas.List.Elements.{All-contains}
@@ -14,6 +13,7 @@ use Rattle.overlay_terms.specs.Tiles.{is_parallel, is_end, is_crossing, is_on_bo
 use Rattle.overlay_terms.specs.TileLaws.{IsProper}
 use Rattle.overlay_terms.proofs.Lists.{any_contains}
 use Rattle.overlay_terms.proofs.InputNumbers.{x_in_order, most_through}
+use Rattle.overlay_terms.proofs.Whole.{most_same}
 use Rattle.exact_point.specs.Crossing.{turn_of}
 use Rattle.exact_point.proofs.Nodes.{end_among, left_node}
 use Rattle.exact_point.proofs.OnLine.{after_left, before_right, on_line, left_on_line, right_on_line, parallel_line, one_direction, parallel_from_turn, parallel_through, no_turn_back}
@@ -192,11 +192,8 @@ first_from segments column q r keys proper small is_known first =
           where
             level : (z r : Point) → IsTrue (same_place z r) → (z.x *ℤ r.w) ≤ℤ (r.x *ℤ z.w)
             level z r e =
-                most_of (z.x *ℤ r.w) (r.x *ℤ z.w)
+                most_same (z.x *ℤ r.w) (r.x *ℤ z.w)
                 (level_from (z.x *ℤ r.w) (r.x *ℤ z.w) (and_parts (int_eq (z.x *ℤ r.w) (r.x *ℤ z.w)) (int_eq (z.y *ℤ r.w) (r.y *ℤ z.w)) e).0)
-              where
-                most_of : (a b : ℤ) → a ≡ b → a ≤ℤ b
-                most_of a b e = omega (arith, ints, e)
         z_up_to (after e) = absurd (not_after e)
 
         -- it is among the places, so it is not before r

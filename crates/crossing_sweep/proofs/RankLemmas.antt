@@ -9,7 +9,8 @@ use Rattle.std.proofs.Math.IntN.{pos-*ℤ-pos}
 use Rattle.std.proofs.Math.Nat.{div-mul-le_self, lt-div-mul-add, div-le_of_le-mul}
 use Rattle.overlay_terms.specs.Plane.{Point, point_cmp}
 use Rattle.overlay_terms.proofs.Difference.{split, differences, same, mul_pos}
-use Rattle.overlay_terms.proofs.InputNumbers.{less_times, most_times, in_order_by_x}
+use Rattle.overlay_terms.proofs.InputNumbers.{less_times, most_times, in_order_by_x, last_turned}
+use Rattle.overlay_terms.proofs.Whole.{last_out}
 use Rattle.tile_laws.proofs.UprightSides.{below_less}
 use Rattle.exact_point.proofs.PlaceOrder.{turned}
 use Rattle.crossing_sweep.specs.Rank.{IsFloor, IsInRow, IsBetween, IsRank}
@@ -21,21 +22,15 @@ floors_tell a b x w y v hw hv less high low =
     let last : ((b *ℤ v) *ℤ w) ≤ℤ (y *ℤ w) = most_times (b *ℤ v) y w hw low in
     let step : ((a +ℤ pos 1) *ℤ (w *ℤ v)) ≤ℤ (b *ℤ (w *ℤ v)) = most_times (a +ℤ pos 1) b (w *ℤ v) (mul_pos w v hw hv) (omega (arith, ints, less)) in
     let one : ((a *ℤ w) +ℤ w) *ℤ v ≡ (a +ℤ pos 1) *ℤ (w *ℤ v) = next a w v in
-    let two : b *ℤ (w *ℤ v) ≡ (b *ℤ v) *ℤ w = swapped b w v in
+    let two : b *ℤ (w *ℤ v) ≡ (b *ℤ v) *ℤ w = last_out b w v in
     omega (arith, ints, first, last, step, one, two)
   where
     next : (a w v : ℤ) → ((a *ℤ w) +ℤ w) *ℤ v ≡ (a +ℤ pos 1) *ℤ (w *ℤ v)
     next a w v = rw (split a, split w, split v) (simp differences (same _ _ _ _ (omega arith)))
 
-    swapped : (b w v : ℤ) → b *ℤ (w *ℤ v) ≡ (b *ℤ v) *ℤ w
-    swapped b w v = rw (split b, split w, split v) (simp differences (same _ _ _ _ (omega arith)))
-
 module _ (p q : Point) (hp : pos 0 <ℤ p.w) (hq : pos 0 <ℤ q.w) where
   swap : (a : ℤ) → (a *ℤ p.w) *ℤ q.w ≡ (a *ℤ q.w) *ℤ p.w
-  swap a = turn a p.w q.w
-    where
-      turn : (a w v : ℤ) → (a *ℤ w) *ℤ v ≡ (a *ℤ v) *ℤ w
-      turn a w v = rw (split a, split w, split v) (simp differences (same _ _ _ _ (omega arith)))
+  swap a = last_turned a p.w q.w
 
   -- over one whole x the rows tell the order; a place beyond the rows comes after them
   over_one_x : (across r s : ℤ) → r <ℤ s → IsInRow across r p ⊎ IsBetween across r p → IsInRow across s q ⊎ IsBetween across s q → point_cmp p q ≡ Less

@@ -6,6 +6,7 @@ use Rattle.std.proofs.lemmas.Bool.{both_ways, and_from, cases_eq}
 use Rattle.overlay_terms.specs.Plane.{Point, point_cmp}
 use Rattle.overlay_terms.specs.Column.{column_count, border, is_in_column}
 use Rattle.overlay_terms.proofs.InputNumbers.{x_in_order, most_back, most_times, last_turned, true_le, true_lt}
+use Rattle.overlay_terms.proofs.Whole.{same_most}
 use Rattle.std.specs.declared.cmp.Ordering.TheVariants.{Less}
 use Rattle.exact_point.specs.declared.point.HPoint.{HPoint}
 use Rattle.crossing_sweep.specs.Queue.{IsUpTo}
@@ -32,10 +33,7 @@ not_last k at few over = by (cases_eq k (column_count - 1))
 
 -- a later place of the closed column is on the right border, too
 pub on_border : (k : ℕ) (r p : Point) → pos 0 <ℤ r.w → pos 0 <ℤ p.w → (border (k + 1) *ℤ r.w) ≤ℤ r.x → point_cmp r p ≡ Less → IsUpTo k p → p.x ≡ border (k + 1) *ℤ p.w
-on_border k r p hr hp over less up_to = level p.x (border (k + 1) *ℤ p.w) up_to (from_later (border (k + 1)) r.x r.w p.x p.w hr hp over (x_in_order r p less))
+on_border k r p hr hp over less up_to = same_most p.x (border (k + 1) *ℤ p.w) up_to (from_later (border (k + 1)) r.x r.w p.x p.w hr hp over (x_in_order r p less))
   where
-    level : (x b : ℤ) → x ≤ℤ b → b ≤ℤ x → x ≡ b
-    level x b h l = omega (arith, ints, h, l)
-
     from_later : (b x w y v : ℤ) → pos 0 <ℤ w → pos 0 <ℤ v → (b *ℤ w) ≤ℤ x → (x *ℤ v) ≤ℤ (y *ℤ w) → (b *ℤ v) ≤ℤ y
     from_later b x w y v hw hv h k = most_back (b *ℤ v) y w hw (omega (arith, ints, k, most_times (b *ℤ w) x v hv h, last_turned b w v))

@@ -3,7 +3,7 @@ use Rattle.std.proofs.Common.{◌≡◌, ℕ, ℤ, pos, ◌+◌, ◌<◌, ◌-�
 use Rattle.std.specs.Prelude.{IsTrue, All, AllPairs, Any, Contains, int_le, int_lt}
 use Rattle.std.proofs.lemmas.Int.{ints}
 use Rattle.std.proofs.lemmas.Bool.{and_parts, and_from}
-use Rattle.std.proofs.lemmas.List.{get_or-map, get_or_default, length-map}
+use Rattle.std.proofs.lemmas.List.{get_or_default}
 use Rattle.std.proofs.lemmas.List.Elements.{All-head, All-map, All-filter, All-contains, All-append, filter_passes, Contains-append_cases, Contains-append_left, Contains-append_right}
 use Rattle.std.proofs.lemmas.List.Kept.{AllPairs-filter}
 use Rattle.std.proofs.Math.IntN.{*ℤ-zero, *ℤ_comm}
@@ -14,7 +14,7 @@ use Rattle.overlay_terms.specs.Tiles.{Input, is_node, IsBoundary, midpoint, belo
 use Rattle.overlay_terms.specs.TileLaws.{IsInput, IsProper}
 use Rattle.overlay_terms.specs.Trees.{steps_value}
 use Rattle.overlay_terms.proofs.InputNumbers.{le_true, left_most, most_times, last_turned}
-use Rattle.overlay_terms.proofs.Lists.{any_from, any_left, any_contains, contains_map}
+use Rattle.overlay_terms.proofs.Lists.{any_from, any_left, any_contains, contains_map, from_map}
 use Rattle.exact_point.specs.Crossing.{turn_of}
 use Rattle.exact_point.proofs.Lexical.{Forward}
 use Rattle.exact_point.proofs.Lines.{gap, gap_at, flat_gap}
@@ -42,26 +42,15 @@ use Rattle.crossing_sweep.specs.RowLaws.{RowsGoOn}
 use Rattle.crossing_sweep.specs.declared.member.Member.{Member}
 use Rattle.crossing_sweep.specs.declared.row.Row.{Row}
 use Rattle.crossing_sweep.proofs.Lean.{lean_height, lean_turn}
-use Rattle.crossing_sweep.proofs.Pairs.{all_first, all_second, pairs_first, pairs_second, all_pairs_append}
-use Rattle.crossing_sweep.proofs.MaskLemmas.{from_map, pairs_map, masks_step_up}
-use Rattle.crossing_sweep.proofs.StepLemmas.{not_above, not_below}
+use Rattle.overlay_terms.proofs.Pairs.{all_first, all_second, pairs_first, pairs_second, all_pairs_append, pairs_map, pairs_from_map, all_from_map}
+use Rattle.overlay_terms.proofs.Whole.{less_none, more_none}
+use Rattle.crossing_sweep.proofs.MaskLemmas.{masks_step_up}
 use Rattle.crossing_sweep.proofs.LastNodeLemmas.{last_node_stays}
 use Rattle.crossing_sweep.proofs.ClosedLemmas.{stretch_is_closed}
 use Rattle.crossing_sweep.proofs.UnitStretchLemmas.{units_are_stretches}
 use Rattle.crossing_sweep.proofs.PassLemmas.{pass_goes_on, entered_holds, filter_contains, contains_filter, all_of}
 use Rattle.crossing_sweep.proofs.Passed.{not_after_before, still_known, still_at, last_known, last_at, one_passed}
 use Rattle.crossing_sweep.proofs.Labels.{before_in_column, all_out, all_in, first_under}
-
--- ---- lists
--- what holds of all images
-all_from_map : {X Y : Type 0} (P : Y → Type 0) (f : X → Y) (xs : List X) → All P (map f xs) → All (λ x. P (f x)) xs
-all_from_map P f xs h i d l = subst P (get_or-map f xs i d (f d) l) (h i (f d) (omega (arith, l, length-map xs f)))
-
-pairs_from_map : {X Y : Type 0} (R : Y → Y → Type 0) (f : X → Y) (xs : List X) → AllPairs R (map f xs) → AllPairs (λ a b. R (f a) (f b)) xs
-pairs_from_map {X} {Y} R f xs h i j d l m =
-    let P : Y → Type 0 = λ z. R z (f (get_or xs j d)) in
-    let Q : Y → Type 0 = λ z. R (get_or (map f xs) i (f d)) z in
-    subst P (get_or-map f xs i d (f d) (omega (arith, l, m))) (subst Q (get_or-map f xs j d (f d) m) (h i j (f d) l (omega (arith, m, length-map xs f))))
 
 -- ---- whether two values are one
 differ_from : (u o : Bool) → is_one_of u o ≡ true → u ≡ o → ⊥
@@ -191,12 +180,12 @@ module _ (n : ℤ) (input : Input) (units : List Unit) (q r : Point) (under bund
   kept_under : All (IsCarried n input (passed ++ r ∷ []) r) under
   kept_under i d l =
       kept (get_or under i d) (all_first (IsCarried n input passed q) under bundle members_low i d l)
-      (not_above (height_over (seg_of (get_or under i d)) r) (all_from_map (λ u. pos 0 <ℤ height_over u r) seg_of under step.split.passes_under i d l))
+      (more_none (height_over (seg_of (get_or under i d)) r) (all_from_map (λ u. pos 0 <ℤ height_over u r) seg_of under step.split.passes_under i d l))
 
   kept_over : All (IsCarried n input (passed ++ r ∷ []) r) over
   kept_over i d l =
       kept (get_or over i d) (all_second (IsCarried n input passed q) (under ++ bundle) over carries.members i d l)
-      (not_below (height_over (seg_of (get_or over i d)) r) (all_from_map (λ u. height_over u r <ℤ pos 0) seg_of over step.split.passes_over i d l))
+      (less_none (height_over (seg_of (get_or over i d)) r) (all_from_map (λ u. height_over u r <ℤ pos 0) seg_of over step.split.passes_over i d l))
 
   -- ---- those that begin
   new_status : IsStatusAt n (segments_in input) r (segs_of under ++ segs_of stay ++ segs_of over ++ waiting input.column rest)
@@ -472,12 +461,12 @@ module _ (n : ℤ) (input : Input) (units : List Unit) (q r : Point) (under bund
             found m c (All-contains IsEnding bundle m endings c) (subst P (sym e) piece)
 
         two : Contains (segs_of under) u ⊎ Contains (segs_of bundle) u → Any (IsOf a b) (rows_of end bundle)
-        two (inl h) = absurd (not_above (height_over u r) (All-contains (λ u. pos 0 <ℤ height_over u r) (segs_of under) u step.split.passes_under h) level)
+        two (inl h) = absurd (more_none (height_over u r) (All-contains (λ u. pos 0 <ℤ height_over u r) (segs_of under) u step.split.passes_under h) level)
         two (inr h) = of_member (from_map seg_of bundle u h)
 
         three : Contains (segs_of under ++ segs_of bundle) u ⊎ Contains (segs_of over) u → Any (IsOf a b) (rows_of end bundle)
         three (inl h) = two (Contains-append_cases (segs_of under) (segs_of bundle) u h)
-        three (inr h) = absurd (not_below (height_over u r) (All-contains (λ u. height_over u r <ℤ pos 0) (segs_of over) u step.split.passes_over h) level)
+        three (inr h) = absurd (less_none (height_over u r) (All-contains (λ u. height_over u r <ℤ pos 0) (segs_of over) u step.split.passes_over h) level)
 
         last : Contains (segs_of under ++ segs_of bundle ++ segs_of over) u ⊎ Contains (waiting input.column (entering ++ rest)) u → Any (IsOf a b) (rows_of end bundle)
         last (inl h) = three (Contains-append_cases (segs_of under ++ segs_of bundle) (segs_of over) u h)

@@ -7,7 +7,7 @@ use Rattle.std.proofs.lemmas.List.Elements.{All-nil, All-cons, All-append, Conta
 use Rattle.std.proofs.Math.ListN.{length-append}
 use Rattle.std.specs.declared.cmp.Ordering.TheVariants.{Less}
 use Rattle.overlay_terms.specs.Plane.{Point, Segment, point_cmp, same_place}
-use Rattle.overlay_terms.proofs.Lists.{any_from, any_contains, contains_map, Contains-cons_cases, contains_first, none_in_empty}
+use Rattle.overlay_terms.proofs.Lists.{any_from, any_contains, contains_map, Contains-cons_cases, contains_first, none_in_empty, from_map}
 use Rattle.exact_point.specs.Crossing.{IsCrossingOf}
 use Rattle.exact_point.specs.Place.{place}
 use Rattle.exact_point.specs.declared.point.HPoint.{HPoint}
@@ -18,7 +18,6 @@ use Rattle.crossing_sweep.specs.Queue.{IsQueued}
 use Rattle.crossing_sweep.specs.Ahead.{points_of}
 use Rattle.crossing_sweep.specs.Testing.{IsFound, AreTested, IsFoundIn, AreSeamsTested}
 use Rattle.crossing_sweep.specs.declared.search.Search.{Search}
-use Rattle.crossing_sweep.proofs.MaskLemmas.{from_map}
 
 only_one : (x y : ℕ) → Contains (x ∷ []) y → x ≡ y
 only_one x y c = by (Contains-cons_cases x [] y c)

@@ -18,8 +18,7 @@ use Rattle.crossing_sweep.specs.Status.{SidesFallAlong}
 use Rattle.crossing_sweep.specs.Step.{IsSplitAt}
 use Rattle.crossing_sweep.specs.Member.{seg_of, segs_of}
 use Rattle.crossing_sweep.specs.declared.member.Member.{Member}
-use Rattle.crossing_sweep.proofs.Pairs.{all_first, all_second, pairs_first, pairs_second}
-use Rattle.crossing_sweep.proofs.StartLemmas.{unmap_pairs}
+use Rattle.overlay_terms.proofs.Pairs.{all_first, all_second, pairs_first, pairs_second, pairs_from_map}
 
 -- ---- tests of a height
 gt_by : (h : ℤ) (o : Ordering) → MatchOrdering o (h <ℤ pos 0) (h ≡ pos 0) (pos 0 <ℤ h) → is_gt o ≡ true → pos 0 <ℤ h
@@ -87,10 +86,10 @@ module _ (r : Point) where
 
   module _ (ms : List Member) (falls : SidesFallAlong r (segs_of ms)) where
     not_above : AllPairs (λ a b. height a ≤ℤ pos 0 → height b ≤ℤ pos 0) ms
-    not_above = unmap_pairs seg_of (λ a b. height_over a r ≤ℤ pos 0 → height_over b r ≤ℤ pos 0) ms falls.not_above
+    not_above = pairs_from_map (λ a b. height_over a r ≤ℤ pos 0 → height_over b r ≤ℤ pos 0) seg_of ms falls.not_above
 
     below : AllPairs (λ a b. height a <ℤ pos 0 → height b <ℤ pos 0) ms
-    below = unmap_pairs seg_of (λ a b. height_over a r <ℤ pos 0 → height_over b r <ℤ pos 0) ms falls.below
+    below = pairs_from_map (λ a b. height_over a r <ℤ pos 0 → height_over b r <ℤ pos 0) seg_of ms falls.below
 
     no_both : (h : ℤ) → pos 0 <ℤ h → h ≤ℤ pos 0 → ⊥
     no_both h k l = omega (arith, ints, k, l)

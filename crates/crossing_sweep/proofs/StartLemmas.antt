@@ -7,12 +7,12 @@ use Rattle.std.specs.Ordering.{is_lt, int_cmp, ordering_then}
 use Rattle.std.specs.Cmp.{int_cmp_is}
 use Rattle.std.proofs.lemmas.List.{map-append, append-nil}
 use Rattle.std.proofs.lemmas.List.Elements.{All-map, All-contains, Contains-get_or, filter_more}
-use Rattle.std.proofs.lemmas.List.Kept.{AllPairs-filter, AllPairs-cons}
+use Rattle.std.proofs.lemmas.List.Kept.{AllPairs-filter}
 use Rattle.std.proofs.lemmas.List.Sorted.{Contains-permutation, IsPermutation-sym, sorted_far, ranks_by}
 use Rattle.std.proofs.lemmas.Map.Keys.{IsDistinct-IsPermutation, IsDistinct-from_apart, apart_from_distinct}
 use Rattle.overlay_terms.specs.Tiles.{Input}
 use Rattle.overlay_terms.specs.SameInput.{same_segment, same_segment-Decides}
-use Rattle.overlay_terms.proofs.Lists.{contains_map}
+use Rattle.overlay_terms.proofs.Lists.{contains_map, from_map}
 use Rattle.exact_point.specs.Crossing.{turn_of}
 use Rattle.exact_point.specs.Place.{place}
 use Rattle.exact_point.proofs.Lines.{width, rise}
@@ -20,12 +20,9 @@ use Rattle.arrange.specs.declared.unit.Unit.{Unit}
 use Rattle.crossing_sweep.specs.declared.start.Start.{Start}
 use Rattle.crossing_sweep.specs.Queue.{IsUpTo}
 use Rattle.crossing_sweep.specs.Beginning.{IsMetBefore}
-use Rattle.crossing_sweep.proofs.Pairs.{pairs_head, pairs_rest}
-use Rattle.crossing_sweep.proofs.MaskLemmas.{from_map}
-use Rattle.crossing_sweep.proofs.Keeping.{turn_back}
+use Rattle.overlay_terms.proofs.Pairs.{pairs_map, pairs_from_map}
 use Rattle.crossing_sweep.proofs.PassLemmas.{all_of, filter_contains, contains_filter}
-use Rattle.crossing_sweep.proofs.AheadLemmas.{point_positive}
-use Rattle.crossing_sweep.proofs.KnownLemmas.{point_small, bool_same}
+use Rattle.crossing_sweep.proofs.KnownLemmas.{point_small}
 use Rattle.std.proofs.lemmas.Int.{ints, by_lt_z}
 use Rattle.std.proofs.lemmas.Bool.{both_ways, and_parts, and_from, false_from_ne_true}
 use Rattle.std.specs.declared.cmp.Ordering.TheVariants.{Less}
@@ -34,16 +31,19 @@ use Rattle.overlay_terms.specs.Column.{border}
 use Rattle.overlay_terms.specs.Tiles.{is_parallel}
 use Rattle.overlay_terms.specs.Layers.{Marked}
 use Rattle.overlay_terms.proofs.InputNumbers.{lt_true, true_lt, le_true, true_le, less_times, in_order_by_x}
+use Rattle.overlay_terms.proofs.Whole.{turn_back}
+use Rattle.overlay_terms.proofs.Tests.{same_tests}
 use Rattle.exact_point.proofs.OnLine.{on_line, left_on_line, right_on_line, within_on, parallel_line, turn_from_parallel, no_turn_back, parallel_from_turn, before_right}
 use Rattle.exact_point.proofs.PlaceOrder.{on_same, equal_from_same, same_turned, Way, before, at, after, way_of, one_positive, less_through, not_before_self, same_self, alike_right, not_after_less}
 use Rattle.arrange.specs.Units.{IsUnit, AreUnits}
 use Rattle.arrange.proofs.UnitCover.{one_point}
 use Rattle.arrange.proofs.UnitMeeting.{not_parallel}
+use Rattle.arrange.proofs.FoundLemmas.{place_positive}
 use Rattle.crossing_sweep.specs.Passing.{begins_left, IsEntry}
 use Rattle.crossing_sweep.specs.Start.{is_met, start_cmp, start_total, AreStarts}
 use Rattle.crossing_sweep.proofs.StretchLemmas.{ends_in_order}
 
-left_held : (s : Segment) → whole_cmp s.left s.right ≡ Less → IsTrue (is_on s (whole s.left))
+pub left_held : (s : Segment) → whole_cmp s.left s.right ≡ Less → IsTrue (is_on s (whole s.left))
 left_held s ahead =
     within_on s (whole s.left) one_positive (left_on_line s) (not_before_self (whole s.left) (whole s.left) one_positive one_positive (same_self (whole s.left)))
     (not_after_less (whole s.left) (whole s.right) one_positive one_positive (ends_in_order s ahead))
@@ -152,17 +152,6 @@ left_out p items i x l e old new inv out eq =
     ap (map (λ (s : Start). s.unit)) eq ∙ inv
     ∙ sym (filter_more p items i x l ∙ ap (λ b. filter p (take i items) ++ cond b (get_or items i x ∷ []) []) (ap p (sym e) ∙ out) ∙ append-nil (filter p (take i items)))
 
-pub map_pairs : {X Y : Type 0} (f : X → Y) (R : Y → Y → Type 0) (xs : List X) → AllPairs (λ a b. R (f a) (f b)) xs → AllPairs R (map f xs)
-map_pairs f R [] h = λ i j d l m. absurd (omega (arith, m))
-map_pairs f R (x ∷ xs) h =
-    AllPairs-cons R (f x) (map f xs) (All-map (R (f x)) f xs (pairs_head (λ a b. R (f a) (f b)) x xs h)) (map_pairs f R xs (pairs_rest (λ a b. R (f a) (f b)) x xs h))
-
-pub unmap_pairs : {X Y : Type 0} (f : X → Y) (R : Y → Y → Type 0) (xs : List X) → AllPairs R (map f xs) → AllPairs (λ a b. R (f a) (f b)) xs
-unmap_pairs f R [] h = λ i j d l m. absurd (omega (arith, m))
-unmap_pairs f R (x ∷ xs) h =
-    AllPairs-cons (λ a b. R (f a) (f b)) x xs (all_of (λ b. R (f x) (f b)) xs (λ b c. All-contains (R (f x)) (map f xs) (f b) (pairs_head R (f x) (map f xs) h) (contains_map f xs b c)))
-    (unmap_pairs f R xs (pairs_rest R (f x) (map f xs) h))
-
 -- ---- the units of a column, in order
 module _ (input : Input) (units : List Unit) (are : AreUnits input.marked units) (old new : List Start) (listed : map (λ (s : Start). s.unit) old ≡ filter (λ (u : Unit). is_met input.column u.seg) units)
     (entries : All (λ s. IsEntry input.column s.unit.seg (place s.at)) old) (moved : IsPermutation old new) (sorted : IsSorted start_cmp new) where
@@ -208,12 +197,12 @@ module _ (input : Input) (units : List Unit) (are : AreUnits input.marked units)
 
   same_back : (s t : Start) → same s t ≡ same t s
   same_back s t =
-      bool_same (same s t) (same t s) (λ h. (same_segment-Decides t.unit.seg s.unit.seg).1 (sym ((same_segment-Decides s.unit.seg t.unit.seg).0 h)))
+      same_tests (same s t) (same t s) (λ h. (same_segment-Decides t.unit.seg s.unit.seg).1 (sym ((same_segment-Decides s.unit.seg t.unit.seg).0 h)))
       (λ h. (same_segment-Decides s.unit.seg t.unit.seg).1 (sym ((same_segment-Decides t.unit.seg s.unit.seg).0 h)))
 
   apart_old : AllPairs (λ (s t : Start). s.unit.seg ≡ t.unit.seg → ⊥) old
   apart_old =
-      unmap_pairs (λ (s : Start). s.unit) (λ (u v : Unit). u.seg ≡ v.seg → ⊥) old
+      pairs_from_map (λ (u v : Unit). u.seg ≡ v.seg → ⊥) (λ (s : Start). s.unit) old
       (subst (λ (us : List Unit). AllPairs (λ (u v : Unit). u.seg ≡ v.seg → ⊥) us) (sym listed) (AllPairs-filter (λ (u v : Unit). u.seg ≡ v.seg → ⊥) met_unit units are.once))
 
   distinct : IsDistinct same new
@@ -246,10 +235,10 @@ module _ (input : Input) (units : List Unit) (are : AreUnits input.marked units)
     turns e = by_lt_z (turn_of s.unit.seg t.unit.seg) (pos 0) right (λ h. absurd (not_left h))
       where
         hp : pos 0 <ℤ p.w
-        hp = point_positive s.at
+        hp = place_positive s.at
 
         hr : pos 0 <ℤ r.w
-        hr = point_positive t.at
+        hr = place_positive t.at
 
         back : turn_of t.unit.seg s.unit.seg ≡ neg_ℤ (turn_of s.unit.seg t.unit.seg)
         back = turn_back (width s.unit.seg) (rise s.unit.seg) (width t.unit.seg) (rise t.unit.seg)
@@ -283,7 +272,7 @@ module _ (input : Input) (units : List Unit) (are : AreUnits input.marked units)
       small = point_small s.at;
       at_first = entry s among_s;
       at_second = entry t among_t;
-      in_order = by (way_of p r (point_positive s.at) (point_positive t.at));
+      in_order = by (way_of p r (place_positive s.at) (place_positive t.at));
     }
       where
         by : Way p r → (point_cmp p r ≡ Less) ⊎ (IsTrue (same_place p r) × (pos 0 <ℤ turn_of t.unit.seg s.unit.seg))
@@ -293,7 +282,7 @@ module _ (input : Input) (units : List Unit) (are : AreUnits input.marked units)
 
   ordered : AllPairs (λ a b. begins_left input.column a ≡ true → begins_left input.column b ≡ true → IsMetBefore input.column a b) (map seg_of new)
   ordered =
-      map_pairs seg_of (λ a b. begins_left input.column a ≡ true → begins_left input.column b ≡ true → IsMetBefore input.column a b) new
+      pairs_map (λ a b. begins_left input.column a ≡ true → begins_left input.column b ≡ true → IsMetBefore input.column a b) seg_of new
       (λ i j d l m.
       met_before (get_or new i d) (get_or new j d) (Contains-get_or new i d (omega (arith, l, m))) (Contains-get_or new j d m) (apart i j d l m)
       (sorted_far (λ x y. is_lt (start_cmp x y)) (ranks_by start_total (λ (s : Start). s)) new sorted i j d (omega (arith, l)) m))

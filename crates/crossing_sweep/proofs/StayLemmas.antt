@@ -16,6 +16,7 @@ use Rattle.overlay_terms.specs.Plane.{Point, Segment, whole, point_cmp, same_pla
 use Rattle.overlay_terms.specs.Layers.{Marked}
 use Rattle.overlay_terms.specs.SameInput.{same_segment, same_segment-Decides}
 use Rattle.overlay_terms.proofs.Lists.{Contains-cons_cases, none_in_empty}
+use Rattle.overlay_terms.proofs.Tests.{less_told, same_tests}
 use Rattle.exact_point.specs.Crossing.{turn_of}
 use Rattle.exact_point.proofs.Lines.{width, line_height}
 use Rattle.exact_point.proofs.OnLine.{right_on_line, within_on, parallel_line, no_turn_back, parallel_from_turn, after_left}
@@ -29,9 +30,7 @@ use Rattle.crossing_sweep.specs.Queue.{GoesOn}
 use Rattle.crossing_sweep.specs.Step.{AreStretches, IsSplitAt}
 use Rattle.crossing_sweep.specs.Passing.{begins_left, waiting, IsToCome, HasCome, IsEntry}
 use Rattle.crossing_sweep.specs.Member.{ends_after}
-use Rattle.crossing_sweep.proofs.Pairs.{all_second, pairs_first, pairs_second, pairs_head, pairs_rest, all_pairs_append}
-use Rattle.crossing_sweep.proofs.KnownLemmas.{bool_same}
-use Rattle.crossing_sweep.proofs.TestLemmas.{less_of}
+use Rattle.overlay_terms.proofs.Pairs.{all_second, pairs_first, pairs_second, pairs_head, pairs_rest, all_pairs_append}
 use Rattle.crossing_sweep.proofs.StartLemmas.{not_along, right_held}
 use Rattle.crossing_sweep.proofs.PassLemmas.{all_of, filter_contains, contains_filter, entered_holds}
 
@@ -83,7 +82,7 @@ module _ (marked : List Marked) (a b : Segment) (is_a : IsUnit marked a) (is_b :
 -- ---- lists in which nothing stands twice
 same_back : (s t : Segment) → same_segment s t ≡ same_segment t s
 same_back s t =
-    bool_same (same_segment s t) (same_segment t s) (λ h. (same_segment-Decides t s).1 (sym ((same_segment-Decides s t).0 h))) (λ h. (same_segment-Decides s t).1 (sym ((same_segment-Decides t s).0 h)))
+    same_tests (same_segment s t) (same_segment t s) (λ h. (same_segment-Decides t s).1 (sym ((same_segment-Decides s t).0 h))) (λ h. (same_segment-Decides s t).1 (sym ((same_segment-Decides t s).0 h)))
 
 apart_moved : (xs ys : List Segment) → IsPermutation xs ys → AllPairs (λ a b. a ≢ b) xs → AllPairs (λ a b. a ≢ b) ys
 apart_moved xs ys moved h =
@@ -182,7 +181,7 @@ module _ (n : ℤ) (segments units : List Segment) (marked : List Marked) (colum
       let kept = Contains-permutation stay (filter (ends_after r) (bundle ++ entering)) u (IsPermutation-sym (filter (ends_after r) (bundle ++ entering)) stay moved) c in
       let parts = filter_contains (ends_after r) (bundle ++ entering) u kept in
       let from = Contains-append_cases bundle entering u parts.0 in
-      (from, record { begun = begun u from; lasting = less_of (point_cmp r (whole u.right)) parts.1 })
+      (from, record { begun = begun u from; lasting = less_told (point_cmp r (whole u.right)) parts.1 })
 
   pub stay_all : (u : Segment) → Contains bundle u ⊎ Contains entering u → GoesOn u r → Contains stay u
   stay_all u from goes =

@@ -1,7 +1,6 @@
 -- One step of a sweep: the status after the next node is again one, and the places found ahead stay complete.
 use Rattle.std.proofs.Common.{◌≡◌, ℕ, ℤ, pos, ◌+◌, ◌<◌, ◌-◌, ◌++◌, ◌<ℤ◌, inl, inr, ◌⊎◌, List, get_or, length, ap, sym, subst, ◌∙◌, arith}
 use Rattle.std.specs.Prelude.{IsTrue, All, Any, Contains}
-use Rattle.std.proofs.lemmas.Int.{ints}
 use Rattle.std.proofs.lemmas.Bool.{both_ways}
 use Rattle.std.proofs.lemmas.List.{get_or_append_left, get_or-append-add}
 use Rattle.std.proofs.lemmas.List.Elements.{All-append, All-contains, Contains-append_left, Contains-append_right, Contains-append_cases}
@@ -22,7 +21,8 @@ use Rattle.crossing_sweep.specs.Status.{IsStretchOf, AreTurned}
 use Rattle.crossing_sweep.specs.NextNode.{IsNextNode}
 use Rattle.crossing_sweep.specs.Queue.{IsAlong, GoesOn, IsStatusAt, IsUpTo, IsQueued, IsQueue}
 use Rattle.crossing_sweep.specs.Step.{AreStretches, IsFullStatus, IsSplitAt, AreStaying, IsGrown, StatusGoesOn, QueueGoesOn}
-use Rattle.crossing_sweep.proofs.Pairs.{all_first, all_second}
+use Rattle.overlay_terms.proofs.Pairs.{all_first, all_second}
+use Rattle.overlay_terms.proofs.Whole.{less_none, more_none}
 use Rattle.crossing_sweep.proofs.QueueLemmas.{up_to_next, Order, lower, same, higher, order_of}
 use Rattle.crossing_sweep.proofs.TurnLemmas.{status_turned_round}
 
@@ -32,13 +32,6 @@ left_level u r proper hr e = on_line u r (on_same u r (whole u.left) hr one_posi
 
 right_level : (u : Segment) (r : Point) → IsProper u → pos 0 <ℤ r.w → IsTrue (same_place r (whole u.right)) → height_over u r ≡ pos 0
 right_level u r proper hr e = on_line u r (on_same u r (whole u.right) hr one_positive e ∙ right_on u proper)
-
--- heights of one sign are not of another
-pub not_above : (h : ℤ) → pos 0 <ℤ h → h ≡ pos 0 → ⊥
-not_above h l e = omega (arith, ints, l, e)
-
-pub not_below : (h : ℤ) → h <ℤ pos 0 → h ≡ pos 0 → ⊥
-not_below h l e = omega (arith, ints, l, e)
 
 module _ (n : ℤ) (segments units : List Segment) (q r : Point) (under bundle over stay : List Segment) (steep : IsSteep n) (proper : All IsProper segments) (are : AreStretches segments units)
     (full : IsFullStatus n segments units q (under ++ bundle ++ over)) (next : IsNextNode segments q r) (split : IsSplitAt r under bundle over) (staying : AreStaying segments units r stay) where
@@ -86,12 +79,12 @@ module _ (n : ℤ) (segments units : List Segment) (q r : Point) (under bundle o
   go_on_under : All (λ u. GoesOn u r) under
   go_on_under i d l =
       passes (get_or under i d) (all_under (IsStretchOf segments) full.status_at.stretches i d l).proper (all_under (λ u. IsTrue (is_node segments (whole u.right))) full.status_at.end_at_nodes i d l)
-      (all_under (λ u. GoesOn u q) full.status_at.go_on i d l) (not_above (height_over (get_or under i d) r) (split.passes_under i d l))
+      (all_under (λ u. GoesOn u q) full.status_at.go_on i d l) (more_none (height_over (get_or under i d) r) (split.passes_under i d l))
 
   go_on_over : All (λ u. GoesOn u r) over
   go_on_over i d l =
       passes (get_or over i d) (all_over (IsStretchOf segments) full.status_at.stretches i d l).proper (all_over (λ u. IsTrue (is_node segments (whole u.right))) full.status_at.end_at_nodes i d l)
-      (all_over (λ u. GoesOn u q) full.status_at.go_on i d l) (not_below (height_over (get_or over i d) r) (split.passes_over i d l))
+      (all_over (λ u. GoesOn u q) full.status_at.go_on i d l) (less_none (height_over (get_or over i d) r) (split.passes_over i d l))
 
   -- ---- the new status
   abbrev new : List Segment

@@ -3,13 +3,13 @@ use Rattle.std.proofs.Common.{◌≡◌, ℤ, pos, ◌+ℤ◌, ◌-ℤ◌, ◌*�
 use Rattle.std.specs.Prelude.{IsTrue, Contains, ◌||◌}
 use Rattle.std.proofs.lemmas.Int.{ints, by_lt_z}
 use Rattle.std.proofs.lemmas.Bool.{or_left, or_right}
-use Rattle.std.proofs.Math.IntN.{zero-*ℤ, *ℤ_comm}
+use Rattle.std.proofs.Math.IntN.{*ℤ_comm}
 use Rattle.std.specs.Cmp.{int_cmp_is}
 use Rattle.std.specs.Ordering.{ordering_then, int_cmp}
 use Rattle.std.specs.declared.cmp.Ordering.TheVariants.{Less, Equal}
 use Rattle.overlay_terms.specs.Plane.{WholePoint, Point, Segment, whole, point_cmp, same_place, height_over, is_on}
 use Rattle.overlay_terms.specs.Tiles.{is_node, IsPiece}
-use Rattle.overlay_terms.proofs.Difference.{split, differences, same, diff-neg}
+use Rattle.overlay_terms.proofs.Whole.{turn_back, most_same, negated_more, less_by}
 use Rattle.exact_point.specs.Crossing.{turn_of}
 use Rattle.exact_point.proofs.Lexical.{Forward, forward, NotBack}
 use Rattle.exact_point.proofs.Signs.{zero_factor, positive_factor}
@@ -23,43 +23,25 @@ use Rattle.exact_point.proofs.Nodes.{crossing_is_node, node_at_end, end_among}
 use Rattle.tile_laws.proofs.SideStrip.{strip_parity}
 use Rattle.tile_laws.proofs.SideSlanted.{slanted_even}
 use Rattle.crossing_sweep.specs.Leaning.{lean, lean_segment, IsNear, across, up_to}
-use Rattle.crossing_sweep.proofs.Lean.{lean_height, lean_turn, lean_left}
+use Rattle.crossing_sweep.proofs.Lean.{lean_height, lean_turn, lean_left, gap_none}
 use Rattle.crossing_sweep.proofs.Meeting.{IsMeeting, Crosses, crosses, meeting, before_from_lean}
 use Rattle.crossing_sweep.proofs.Keeping.{IsFit, Reaches}
 
 -- before, from the two differences
 pub less_from : (p q : Point) → Forward (across p q) (up_to p q) → point_cmp p q ≡ Less
-less_from p q (inl h) = ap (λ o. ordering_then o (int_cmp (p.y *ℤ q.w) (q.y *ℤ p.w))) (sym (int_cmp_is (p.x *ℤ q.w) (q.x *ℤ p.w) Less (less (p.x *ℤ q.w) (q.x *ℤ p.w) h)))
-  where
-    less : (a b : ℤ) → pos 0 <ℤ (b -ℤ a) → a <ℤ b
-    less a b h = omega (arith, ints, h)
+less_from p q (inl h) = ap (λ o. ordering_then o (int_cmp (p.y *ℤ q.w) (q.y *ℤ p.w))) (sym (int_cmp_is (p.x *ℤ q.w) (q.x *ℤ p.w) Less (less_by (p.x *ℤ q.w) (q.x *ℤ p.w) h)))
 less_from p q (inr (e, h)) =
     ap (λ o. ordering_then o (int_cmp (p.y *ℤ q.w) (q.y *ℤ p.w))) (sym (int_cmp_is (p.x *ℤ q.w) (q.x *ℤ p.w) Equal (level (p.x *ℤ q.w) (q.x *ℤ p.w) e)))
-    ∙ sym (int_cmp_is (p.y *ℤ q.w) (q.y *ℤ p.w) Less (less (p.y *ℤ q.w) (q.y *ℤ p.w) h))
+    ∙ sym (int_cmp_is (p.y *ℤ q.w) (q.y *ℤ p.w) Less (less_by (p.y *ℤ q.w) (q.y *ℤ p.w) h))
   where
     level : (a b : ℤ) → b -ℤ a ≡ pos 0 → a ≡ b
     level a b h = omega (arith, ints, h)
 
-    less : (a b : ℤ) → pos 0 <ℤ (b -ℤ a) → a <ℤ b
-    less a b h = omega (arith, ints, h)
-
-gap_none : (h k d e g : ℤ) → (h *ℤ e) -ℤ (k *ℤ d) ≡ g → h ≡ pos 0 → k ≡ pos 0 → g ≡ pos 0
-gap_none h k d e g form eh ek = omega (arith, ints, form, ap (λ z. z *ℤ e) eh, ap (λ z. z *ℤ d) ek, zero-*ℤ e, zero-*ℤ d)
-
-turn_back : (a b c d : ℤ) → (c *ℤ b) -ℤ (d *ℤ a) ≡ neg_ℤ ((a *ℤ d) -ℤ (b *ℤ c))
-turn_back a b c d = rw (split a, split b, split c, split d) (simp (diff-neg, differences) (same _ _ _ _ (omega arith)))
-
 plain_of : (n x y : ℤ) → pos 0 <ℤ n → x ≡ n *ℤ y → pos 0 <ℤ x → pos 0 <ℤ y
 plain_of n x y hn e h = positive_factor y n hn (omega (arith, ints, e, h, *ℤ_comm y n))
 
-more_by : (x y : ℤ) → x ≡ neg_ℤ y → y <ℤ pos 0 → pos 0 <ℤ x
-more_by x y e h = omega (arith, ints, e, h)
-
 none_by : (x y : ℤ) → x ≡ neg_ℤ y → y ≤ℤ pos 0 → pos 0 ≤ℤ y → x ≡ pos 0
 none_by x y e h k = omega (arith, ints, e, h, k)
-
-same_most : (a b : ℤ) → a ≡ b → a ≤ℤ b
-same_most a b e = omega (arith, ints, e)
 
 -- what is asked of a segment beside a piece: it leads forward, and its ends and crossings with the support are near the piece's ends
 pub record IsBeside (n : ℤ) (s t : Segment) (p r : Point) : Type 0 where
@@ -118,8 +100,8 @@ module _ (n : ℤ) (hn : pos 0 <ℤ n) (xs : List Segment) (p r : Point) (piece 
         no_node (meeting piece.support t) up met.crossing.at.on_first
         (crossing_is_node xs piece.support t (meeting piece.support t) piece.among among met.crossing.at.on_first met.crossing.at.on_second met.crossing.at.not_parallel)
         near.0 near.1
-        (left_before (lean n p) z (lean n (meeting piece.support t)) piece.from_positive hz up after (same_most _ _ (sym met.over)))
-        (left_after (lean n (meeting piece.support t)) z (lean n r) up hz piece.to_positive (same_most _ _ met.over) before)
+        (left_before (lean n p) z (lean n (meeting piece.support t)) piece.from_positive hz up after (most_same _ _ (sym met.over)))
+        (left_after (lean n (meeting piece.support t)) z (lean n r) up hz piece.to_positive (most_same _ _ met.over) before)
 
     meets_right : (z : Point) → pos 0 <ℤ z.w → Left (lean n p) z → Left z (lean n r) → AtMost (whole t'.left) z → AtMost z (whole t'.right) → (turn_of t' s' *ℤ z.x) +ℤ (offset t' s' *ℤ z.w) ≡ pos 0 → pos 0 <ℤ turn_of t' s' → ⊥
     meets_right z hz after before low high level left =
@@ -133,8 +115,8 @@ module _ (n : ℤ) (hn : pos 0 <ℤ n) (xs : List Segment) (p r : Point) (piece 
         no_node (meeting t piece.support) up met.crossing.at.on_second
         (crossing_is_node xs t piece.support (meeting t piece.support) among piece.among met.crossing.at.on_first met.crossing.at.on_second met.crossing.at.not_parallel)
         near.0 near.1
-        (left_before (lean n p) z (lean n (meeting t piece.support)) piece.from_positive hz up after (same_most _ _ (sym met.over)))
-        (left_after (lean n (meeting t piece.support)) z (lean n r) up hz piece.to_positive (same_most _ _ met.over) before)
+        (left_before (lean n p) z (lean n (meeting t piece.support)) piece.from_positive hz up after (most_same _ _ (sym met.over)))
+        (left_after (lean n (meeting t piece.support)) z (lean n r) up hz piece.to_positive (most_same _ _ met.over) before)
 
     no_crossing : (z : Point) → pos 0 <ℤ z.w → Left (lean n p) z → Left z (lean n r) → height_over s' z ≡ pos 0 → IsTrue (is_on t' z) → turn_of t' s' ≡ pos 0
     no_crossing z hz after before level on =
@@ -144,7 +126,7 @@ module _ (n : ℤ) (hn : pos 0 <ℤ n) (xs : List Segment) (p r : Point) (piece 
         by_lt_z (pos 0) (turn_of s' t')
         (λ h. absurd (meets_left z hz after before low high (sym (gap_form s' t' z) ∙ gap_none (height_over s' z) (height_over t' z) (width s') (width t') (gap s' t' z) (heights_give_gap s' t' z) level on_t) h))
         (λ h. by_lt_z (turn_of s' t') (pos 0)
-        (λ l. absurd (meets_right z hz after before low high (sym (gap_form t' s' z) ∙ gap_none (height_over t' z) (height_over s' z) (width t') (width s') (gap t' s' z) (heights_give_gap t' s' z) on_t level) (more_by (turn_of t' s') (turn_of s' t') (turn_back (width s') (rise s') (width t') (rise t')) l)))
+        (λ l. absurd (meets_right z hz after before low high (sym (gap_form t' s' z) ∙ gap_none (height_over t' z) (height_over s' z) (width t') (width s') (gap t' s' z) (heights_give_gap t' s' z) on_t level) (negated_more (turn_of t' s') (turn_of s' t') (turn_back (width s') (rise s') (width t') (rise t')) l)))
         (λ l. none_by (turn_of t' s') (turn_of s' t') (turn_back (width s') (rise s') (width t') (rise t')) h l))
       where
         not_left : (l x w : ℤ) → NotBack (x -ℤ (l *ℤ w)) (x -ℤ x) → (l *ℤ w) ≤ℤ (x *ℤ pos 1)

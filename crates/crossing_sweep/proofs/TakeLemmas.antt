@@ -11,15 +11,16 @@ use Rattle.std.proofs.lemmas.List.{drop_more, drop_all, take-append-drop, length
 use Rattle.std.proofs.lemmas.List.Elements.{All-nil, All-contains, All-head, All-tail, All-map, All-weaker}
 use Rattle.overlay_terms.specs.Plane.{same_place}
 use Rattle.overlay_terms.proofs.Lists.{any_contains, contains_map, Contains-cons_cases}
+use Rattle.overlay_terms.proofs.Tests.{less_told}
 use Rattle.exact_point.specs.Place.{place, hpoint_cmp, hpoint_cmp_total}
 use Rattle.exact_point.specs.declared.point.HPoint.{HPoint}
 use Rattle.exact_point.specs.declared.point_name.PointName.{PointName}
 use Rattle.arrange.specs.NamedPlaces.{named_cmp, named_total}
 use Rattle.arrange.specs.declared.named_place.NamedPlace.{NamedPlace}
+use Rattle.arrange.proofs.FoundLemmas.{place_positive}
 use Rattle.exact_point.proofs.PlaceOrder.{same_from_equal, same_turned}
 use Rattle.crossing_sweep.specs.Ahead.{HasAdded, known_entry, put_all, is_first_before, AreAhead}
-use Rattle.crossing_sweep.proofs.AheadLemmas.{point_positive}
-use Rattle.crossing_sweep.proofs.Pairs.{pairs_head, pairs_second}
+use Rattle.overlay_terms.proofs.Pairs.{pairs_head, pairs_second}
 use Rattle.crossing_sweep.proofs.PassLemmas.{all_of}
 use Rattle.crossing_sweep.proofs.PutLemmas.{all_put, found_first, none_put, put_added, known_there}
 
@@ -28,11 +29,6 @@ greater_left : (o : Ordering) → (o ≡ Less → ⊥) → (o ≡ Equal → ⊥)
 greater_left Less f g = absurd (f refl)
 greater_left Equal f g = absurd (g refl)
 greater_left Greater f g = refl
-
-less_from_test : (o : Ordering) → is_lt o ≡ true → o ≡ Less
-less_from_test Less e = refl
-less_from_test Equal e = absurd (cc)
-less_from_test Greater e = absurd (cc)
 
 not_less : (o : Ordering) → is_lt o ≡ false → o ≡ Less → ⊥
 not_less Less e f = cc
@@ -43,9 +39,6 @@ not_greater : (o : Ordering) → is_gt o ≡ false → o ≡ Greater → ⊥
 not_greater Less e f = cc
 not_greater Equal e f = cc
 not_greater Greater e f = cc
-
-before_after : (p q : HPoint) → hpoint_cmp p q ≡ Less → hpoint_cmp q p ≡ Greater
-before_after p q h = hpoint_cmp_total.antisymm q p ∙ ap ordering_reverse h
 
 after_before : (p q : HPoint) → hpoint_cmp p q ≡ Greater → hpoint_cmp q p ≡ Less
 after_before p q h = hpoint_cmp_total.antisymm q p ∙ ap ordering_reverse h
@@ -78,7 +71,7 @@ pub first_before : (o : Option (HPoint × PointName)) (es rest : List (HPoint ×
 first_before None es rest k ks e t h = e
 first_before (Some p) es rest k ks e t h =
     let P : List (HPoint × PointName) → Type 0 = λ l. is_first_before l k.at ≡ true in
-    let first : hpoint_cmp p.0 k.at ≡ Less = less_from_test (hpoint_cmp p.0 k.at) (subst P e t) in
+    let first : hpoint_cmp p.0 k.at ≡ Less = less_told (hpoint_cmp p.0 k.at) (subst P e t) in
     all_of (λ (y : HPoint × PointName). hpoint_cmp p.0 y.0 ≡ Less) (map known_entry (k ∷ ks)) (λ y c. by y first (Contains-cons_cases (known_entry k) (map known_entry ks) y c))
   where
     by : (y : HPoint × PointName) → hpoint_cmp p.0 k.at ≡ Less → (known_entry k ≡ y) ⊎ Contains (map known_entry ks) y → hpoint_cmp p.0 y.0 ≡ Less
@@ -242,7 +235,7 @@ module _ (items : List NamedPlace) (taken : ℕ) (es : List (HPoint × PointName
   -- that is known
   pub add_known : (v : List (HPoint × PointName)) → put_all es (map known_entry (drop taken items)) ≡ v → Any (λ z. named_cmp z (record { name = name; at = at }) ≡ Equal) (drop taken items) → HasAdded v at name v
   add_known v view a =
-      let same : IsTrue (same_place (place at) (place a.1.at)) = same_turned (place a.1.at) (place at) (same_from_equal (place a.1.at) (place at) (point_positive a.1.at) (point_positive at) a.4) in
+      let same : IsTrue (same_place (place at) (place a.1.at)) = same_turned (place a.1.at) (place at) (same_from_equal (place a.1.at) (place at) (place_positive a.1.at) (place_positive at) a.4) in
       let there : Contains known a.1 = any_contains (λ (z : NamedPlace). named_cmp z (record { name = name; at = at }) ≡ Equal) (drop taken items) a in
       subst (λ (l : List (HPoint × PointName)). HasAdded l at name l) view (known_there es (map known_entry known) at name (known_entry a.1) (contains_map known_entry known a.1 there) same)
 

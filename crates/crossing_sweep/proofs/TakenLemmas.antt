@@ -16,7 +16,7 @@ use Rattle.overlay_terms.specs.Layers.{Marked}
 use Rattle.overlay_terms.specs.Tiles.{Input}
 use Rattle.overlay_terms.specs.TileLaws.{IsProper}
 use Rattle.overlay_terms.proofs.InputNumbers.{x_in_order, most_back, most_times, last_turned, le_true, true_le}
-use Rattle.overlay_terms.proofs.Lists.{any_from, any_contains, contains_map, Contains-cons_cases, contains_first, contains_rest}
+use Rattle.overlay_terms.proofs.Lists.{any_from, any_contains, contains_map, Contains-cons_cases, contains_first, contains_rest, from_map}
 use Rattle.exact_point.specs.Crossing.{IsCrossingOf, turn_of}
 use Rattle.exact_point.specs.Place.{place, same_hpoint}
 use Rattle.exact_point.specs.declared.point.HPoint.{HPoint}
@@ -25,6 +25,7 @@ use Rattle.exact_point.proofs.PlaceOrder.{not_before_self, same_turned, less_thr
 use Rattle.arrange.specs.Arrangement.{segments_in, is_in_closed_column}
 use Rattle.arrange.specs.Units.{IsUnit}
 use Rattle.arrange.specs.declared.unit.Unit.{Unit}
+use Rattle.arrange.proofs.FoundLemmas.{place_positive}
 use Rattle.crossing_sweep.specs.Status.{IsStretchOf, SidesFallAlong}
 use Rattle.crossing_sweep.specs.NextNode.{IsNextNode}
 use Rattle.crossing_sweep.specs.Queue.{GoesOn, IsUpTo, IsQueued}
@@ -43,13 +44,10 @@ use Rattle.overlay_terms.specs.Tiles.{is_node}
 use Rattle.tile_laws.proofs.Ranks.{Told, yes, no, told}
 use Rattle.crossing_sweep.proofs.BorderLemmas.{fixed_on_border}
 use Rattle.crossing_sweep.proofs.RightBorder.{not_left, not_last, on_border as on_right}
-use Rattle.crossing_sweep.proofs.Pairs.{pairs_first}
-use Rattle.crossing_sweep.proofs.MaskLemmas.{from_map}
+use Rattle.overlay_terms.proofs.Pairs.{pairs_first, pairs_map}
 use Rattle.crossing_sweep.proofs.StretchLemmas.{stretches_cross}
 use Rattle.crossing_sweep.proofs.UnitStretchLemmas.{units_are_stretches}
-use Rattle.crossing_sweep.proofs.StartLemmas.{map_pairs}
 use Rattle.crossing_sweep.proofs.PassLemmas.{all_of, first_is_node}
-use Rattle.crossing_sweep.proofs.AheadLemmas.{point_positive}
 use Rattle.crossing_sweep.proofs.KnownLemmas.{point_small}
 use Rattle.crossing_sweep.proofs.ComingLemmas.{falls, not_met_before, all_enter, all_later}
 use Rattle.crossing_sweep.proofs.StayLemmas.{stay_from, stay_all, stay_turned}
@@ -120,7 +118,7 @@ module _ (input : Input) (n : ℤ) (units : List Unit) (q : Point) (at : HPoint)
   next = first_is_node n segments unit_segs input.column q r (u ++ b ++ o) (e ++ t) keys stands.steep proper come least
 
   hr : pos 0 <ℤ r.w
-  hr = point_positive at
+  hr = place_positive at
 
   split : IsSplitAt r u b o
   split = split_of (subst (λ (us : List Segment). SidesFallAlong r us) (sym (segs_parts under bundle over))
@@ -144,7 +142,7 @@ module _ (input : Input) (n : ℤ) (units : List Unit) (q : Point) (at : HPoint)
 
   once : AllPairs (λ a b. a ≢ b) e
   once =
-      map_pairs (λ (s : Start). s.unit.seg) (λ a b. a ≢ b) entering
+      pairs_map (λ a b. a ≢ b) (λ (s : Start). s.unit.seg) entering
       (pairs_first (λ (x y : Start). x.unit.seg ≢ y.unit.seg) entering rest (subst (λ (xs : List Start). AllPairs (λ x y. x.unit.seg ≢ y.unit.seg) xs) (sym whole_coming) stands.once))
 
   are_units : All (IsUnit input.marked) unit_segs
@@ -190,7 +188,7 @@ module _ (input : Input) (n : ℤ) (units : List Unit) (q : Point) (at : HPoint)
           let parts = and_parts (int_le (border input.column *ℤ (place d.0).w) (place d.0).x) (int_le (place d.0).x (border (input.column + 1) *ℤ (place d.0).w)) f.found.in_column in
           record {
             small = point_small d.0;
-            node = stretches_cross segments f.lower f.upper (place d.0) (stretch_of f.lower f.lower_among) (stretch_of f.upper f.upper_among) (point_positive d.0) f.found.crossing.on_first f.found.crossing.on_second
+            node = stretches_cross segments f.lower f.upper (place d.0) (stretch_of f.lower f.lower_among) (stretch_of f.upper f.upper_among) (place_positive d.0) f.found.crossing.on_first f.found.crossing.on_second
                 f.found.crossing.not_parallel;
             after = f.found.after;
             from = le_true (border input.column *ℤ (place d.0).w) (place d.0).x parts.0;

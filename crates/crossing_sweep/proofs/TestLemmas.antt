@@ -2,11 +2,10 @@
 use Rattle.std.proofs.Common.{◌≡◌, ℕ, pos, ◌<ℤ◌, inl, inr, ◌⊎◌, Bool, true, false, List, subst, ap, ◌∙◌}
 use Rattle.std.specs.Prelude.{IsTrue, Contains, ◌&&◌}
 use Rattle.std.specs.Ordering.{is_lt}
-use Rattle.std.proofs.lemmas.Bool.{both_ways, and_parts, and_from, false≢true}
-use Rattle.std.specs.declared.cmp.Ordering.{Ordering}
-use Rattle.std.specs.declared.cmp.Ordering.TheVariants.{Less, Equal, Greater}
+use Rattle.std.proofs.lemmas.Bool.{both_ways, and_parts, and_from}
 use Rattle.overlay_terms.specs.Plane.{Point, Segment, point_cmp, same_place}
 use Rattle.overlay_terms.proofs.Lists.{any_from, any_contains, contains_map}
+use Rattle.overlay_terms.proofs.Tests.{less_told}
 use Rattle.exact_point.specs.Crossing.{IsCrossingOf, IsOnlyCrossingOf, CrossNowhere}
 use Rattle.exact_point.specs.Place.{place}
 use Rattle.exact_point.specs.PlaceOf.{crossing_place}
@@ -15,15 +14,10 @@ use Rattle.exact_point.specs.declared.point_name.PointName.{PointName}
 use Rattle.exact_point.specs.declared.point_name.PointName.TheVariants.{Cross}
 use Rattle.exact_point.proofs.PlaceOrder.{same_through, same_turned, alike_right}
 use Rattle.arrange.specs.Arrangement.{is_in_closed_column}
+use Rattle.arrange.proofs.FoundLemmas.{place_positive}
 use Rattle.crossing_sweep.specs.Ahead.{points_of, HasAdded}
 use Rattle.crossing_sweep.specs.Testing.{IsFound, AreTested}
-use Rattle.crossing_sweep.proofs.AheadLemmas.{point_positive}
 use Rattle.crossing_sweep.proofs.KnownLemmas.{within_alike}
-
-pub less_of : (o : Ordering) → is_lt o ≡ true → o ≡ Less
-less_of Less h = search
-less_of Equal h = absurd (false≢true h)
-less_of Greater h = absurd (false≢true h)
 
 module _ (column : ℕ) (r : Point) (hr : pos 0 <ℤ r.w) (a b : Segment) (old : List (HPoint × PointName)) where
   -- two that cross nowhere
@@ -41,8 +35,8 @@ module _ (column : ℕ) (r : Point) (hr : pos 0 <ℤ r.w) (a b : Segment) (old :
       found = λ p hp crossing less within.
           let same : IsTrue (same_place (place z) p) = alone p hp crossing in
           absurd (both_ways is_ahead out
-          (and_from (is_lt (point_cmp r (place z))) (is_in_closed_column column (place z)) (ap is_lt (alike_right r (place z) p hr (point_positive z) hp same ∙ less))
-          (within_alike column (place z) p (point_positive z) hp same ∙ within)));
+          (and_from (is_lt (point_cmp r (place z))) (is_in_closed_column column (place z)) (ap is_lt (alike_right r (place z) p hr (place_positive z) hp same ∙ less))
+          (within_alike column (place z) p (place_positive z) hp same ∙ within)));
       only = λ e c. inl c;
     }
 
@@ -54,7 +48,7 @@ module _ (column : ℕ) (r : Point) (hr : pos 0 <ℤ r.w) (a b : Segment) (old :
           let there = added.there in
           any_from (λ q. IsTrue (same_place p q)) (points_of new) (place there.1.0)
           (contains_map (λ (e : HPoint × PointName). place e.0) new there.1 (any_contains (λ e. IsTrue (same_place (place z) (place e.0))) new there))
-          (same_through p (place z) (place there.1.0) hp (point_positive z) (point_positive there.1.0) (same_turned (place z) p (alone p hp crossing)) there.4);
+          (same_through p (place z) (place there.1.0) hp (place_positive z) (place_positive there.1.0) (same_turned (place z) p (alone p hp crossing)) there.4);
       only = λ e c. which e (added.only e c);
     }
       where
@@ -62,7 +56,7 @@ module _ (column : ℕ) (r : Point) (hr : pos 0 <ℤ r.w) (a b : Segment) (old :
         parts = and_parts (is_lt (point_cmp r (place z))) (is_in_closed_column column (place z)) holds
 
         here : IsFound column r a b (z, Cross a b)
-        here = record { crossing = meets; after = less_of (point_cmp r (place z)) parts.0; in_column = parts.1; named = (place z, point_positive z, meets); told = value }
+        here = record { crossing = meets; after = less_told (point_cmp r (place z)) parts.0; in_column = parts.1; named = (place z, place_positive z, meets); told = value }
 
         which : (e : HPoint × PointName) → Contains old e ⊎ ((z, Cross a b) ≡ e) → Contains old e ⊎ IsFound column r a b e
         which e (inl h) = inl h

@@ -18,7 +18,8 @@ use Rattle.crossing_sweep.proofs.Keeping.{Reaches}
 use Rattle.crossing_sweep.proofs.AtNode.{turned_round, under_those, over_those, pass_by}
 use Rattle.crossing_sweep.proofs.Inputs.{steep_positive, near, fits, left_small, right_small, meeting_small, lean_at_most}
 use Rattle.crossing_sweep.proofs.StatusLemmas.{kept_order}
-use Rattle.crossing_sweep.proofs.Pairs.{all_first, all_second, pairs_first, pairs_second, all_pairs_append}
+use Rattle.overlay_terms.proofs.Pairs.{all_first, all_second, pairs_first, pairs_second, all_pairs_append}
+use Rattle.overlay_terms.proofs.Whole.{more_none, less_none}
 
 module _ (n : ℤ) (segments : List Segment) (q r : Point) (under bundle over stay : List Segment) (steep : IsSteep n) (is : IsStatus n segments q r (under ++ bundle ++ over))
     (passes_under : All (λ u. pos 0 <ℤ height_over u r) under) (passes_over : All (λ u. height_over u r <ℤ pos 0) over) (turned : AreTurned segments r stay) where
@@ -86,21 +87,15 @@ module _ (n : ℤ) (segments : List Segment) (q r : Point) (under bundle over st
   under_after : AllPairs (λ a b. After a b) under
   under_after i j d l m =
       passing (get_or under i d) (get_or under j d) (stretches_under i d (omega (arith, l, m))) (stretches_under j d m) (active_under i d (omega (arith, l, m))) (active_under j d m)
-      (not_none (height_over (get_or under i d) r) (passes_under i d (omega (arith, l, m))))
+      (more_none (height_over (get_or under i d) r) (passes_under i d (omega (arith, l, m))))
       (pairs_first (λ a b. IsBefore (lean_segment n a) (lean_segment n b) (lean n r)) under bundle
       (pairs_first (λ a b. IsBefore (lean_segment n a) (lean_segment n b) (lean n r)) (under ++ bundle) over before_node) i j d l m)
-    where
-      not_none : (h : ℤ) → pos 0 <ℤ h → h ≡ pos 0 → ⊥
-      not_none h k e = omega (arith, ints, k, e)
 
   over_after : AllPairs (λ a b. After a b) over
   over_after i j d l m =
       passing (get_or over i d) (get_or over j d) (stretches_over i d (omega (arith, l, m))) (stretches_over j d m) (active_over i d (omega (arith, l, m))) (active_over j d m)
-      (not_none (height_over (get_or over i d) r) (passes_over i d (omega (arith, l, m))))
+      (less_none (height_over (get_or over i d) r) (passes_over i d (omega (arith, l, m))))
       (pairs_second (λ a b. IsBefore (lean_segment n a) (lean_segment n b) (lean n r)) (under ++ bundle) over before_node i j d l m)
-    where
-      not_none : (h : ℤ) → h <ℤ pos 0 → h ≡ pos 0 → ⊥
-      not_none h k e = omega (arith, ints, k, e)
 
   stay_after : AllPairs (λ a b. After a b) stay
   stay_after i j d l m =

@@ -11,25 +11,25 @@ use Rattle.std.proofs.lemmas.Bool.{both_ways}
 use Rattle.std.proofs.lemmas.List.Elements.{filter-append, Contains-append_cases, All-contains}
 use Rattle.std.proofs.lemmas.List.{map-append}
 use Rattle.std.proofs.lemmas.Simd.{map-map}
-use Rattle.overlay_terms.proofs.Lists.{contains_map}
+use Rattle.overlay_terms.proofs.Lists.{contains_map, from_map}
 use Rattle.arrange.specs.declared.unit.Unit.{Unit}
 use Rattle.crossing_sweep.specs.declared.start.Start.{Start}
-use Rattle.crossing_sweep.proofs.MaskLemmas.{from_map}
 use Rattle.crossing_sweep.proofs.PassLemmas.{all_of, filter_contains}
 use Rattle.std.proofs.lemmas.List.Sorted.{sorted_far, ranks_by, IsPermutation-map, IsPermutation-sym, Contains-permutation}
 use Rattle.overlay_terms.specs.Plane.{Point, Segment}
+use Rattle.overlay_terms.proofs.Pairs.{pairs_map}
+use Rattle.overlay_terms.proofs.Whole.{turn_back}
 use Rattle.exact_point.specs.Crossing.{turn_of}
 use Rattle.exact_point.proofs.Lines.{width, rise}
 use Rattle.tile_laws.proofs.Ranks.{Told, yes, no, told}
 use Rattle.crossing_sweep.specs.Member.{units_of, seg_of, segs_of, ends_after, member_cmp, member_total}
 use Rattle.crossing_sweep.specs.declared.member.Member.{Member}
-use Rattle.crossing_sweep.proofs.Keeping.{turn_back}
-use Rattle.crossing_sweep.proofs.StartLemmas.{map_pairs}
 
 abbrev pub unit_after : Point → Unit → Bool
 unit_after r u = ends_after r u.seg
 
-units_filter : (r : Point) (ms : List Member) → units_of (filter (λ m. ends_after r m.unit.seg) ms) ≡ filter (unit_after r) (units_of ms)
+-- the units of members that go on are the units that go on
+pub units_filter : (r : Point) (ms : List Member) → units_of (filter (λ m. ends_after r m.unit.seg) ms) ≡ filter (unit_after r) (units_of ms)
 units_filter r [] = refl
 units_filter r (m ∷ ms) = by (units_filter r ms) (told (ends_after r m.unit.seg))
   where
@@ -123,4 +123,4 @@ module _ (stay : List Member) (sorted : IsSorted member_cmp stay) where
     left = by_lt_z (pos 0) (turn_of b a) (λ h. absurd (no_less (turn_of b a) back h)) (λ h. more (turn_of b a) (turn_of a b) turn h)
 
   pub all_turned : AllPairs (λ a b. pos 0 ≤ℤ turn_of a b) (segs_of stay)
-  all_turned = map_pairs seg_of (λ a b. pos 0 ≤ℤ turn_of a b) stay left
+  all_turned = pairs_map (λ a b. pos 0 ≤ℤ turn_of a b) seg_of stay left

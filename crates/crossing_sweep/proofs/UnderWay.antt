@@ -16,7 +16,7 @@ use Rattle.overlay_terms.specs.Column.{columns, border, is_in_column}
 use Rattle.overlay_terms.specs.Tiles.{Input, is_end, is_on_border, is_vertical}
 use Rattle.overlay_terms.specs.TileLaws.{IsInput, IsProper}
 use Rattle.overlay_terms.proofs.InputNumbers.{less_back, less_times, last_turned}
-use Rattle.overlay_terms.proofs.Lists.{any_from, any_contains}
+use Rattle.overlay_terms.proofs.Lists.{any_from, any_contains, from_map}
 use Rattle.overlay_terms.proofs.PlaceLemmas.{IsSamePlace, places_alike}
 use Rattle.exact_point.specs.Crossing.{IsCrossingOf}
 use Rattle.exact_point.specs.Place.{place}
@@ -38,7 +38,7 @@ use Rattle.crossing_sweep.specs.Start.{AreStarts}
 use Rattle.crossing_sweep.specs.Member.{seg_of, segs_of}
 use Rattle.crossing_sweep.specs.Testing.{IsFoundIn, seams_at}
 use Rattle.crossing_sweep.specs.Stepping.{segs_to_come, StandsBefore, IsStepped}
-use Rattle.crossing_sweep.specs.Standing.{nodes_max}
+use Rattle.crossing_sweep.specs.PassState.{nodes_max}
 use Rattle.crossing_sweep.specs.RowLaws.{AreAll}
 use Rattle.crossing_sweep.specs.Rows.{place_at, IsRow, count_settled, AreSorted, BeginAt, Carries}
 use Rattle.crossing_sweep.specs.Crossed.{IsInner, IsUnitPair, IsCrossingAmong, name_at, IsSpan, AreNodes, HasFound, IsCaused, IsKey, IsUnderWay}
@@ -46,8 +46,7 @@ use Rattle.crossing_sweep.specs.declared.member.Member.{Member}
 use Rattle.crossing_sweep.specs.declared.start.Start.{Start}
 use Rattle.crossing_sweep.specs.declared.row.Row.{Row}
 use Rattle.crossing_sweep.specs.declared.search.Search.{Search}
-use Rattle.crossing_sweep.proofs.MaskLemmas.{from_map}
-use Rattle.crossing_sweep.proofs.Pairs.{all_first, all_second, pairs_second}
+use Rattle.overlay_terms.proofs.Pairs.{all_first, all_second, pairs_second}
 use Rattle.crossing_sweep.proofs.KnownLemmas.{point_small}
 use Rattle.crossing_sweep.proofs.UnitStretchLemmas.{units_are_stretches}
 use Rattle.crossing_sweep.proofs.PassLemmas.{pass_goes_on, all_of}
@@ -58,7 +57,8 @@ use Rattle.crossing_sweep.proofs.NodeCount.{nodes_are_few}
 use Rattle.crossing_sweep.proofs.RowOrder.{rows_begin, rows_tell_oversize, rows_end}
 use Rattle.crossing_sweep.proofs.Settled.{settled_sorted}
 
-proper_segments : (input : Input) → IsInput input → All IsProper (segments_in input)
+-- the segments of an input are proper
+pub proper_segments : (input : Input) → IsInput input → All IsProper (segments_in input)
 proper_segments input valid = All-map IsProper (λ m. m.segment) input.marked valid.proper
 
 -- ---- a pass begins

@@ -16,12 +16,14 @@ use Rattle.overlay_terms.specs.Tiles.{Input}
 use Rattle.overlay_terms.specs.TileLaws.{IsInput, IsProper}
 use Rattle.overlay_terms.specs.Trees.{mask_bits}
 use Rattle.overlay_terms.proofs.ClosedRings.{bit}
+use Rattle.overlay_terms.proofs.Tests.{same_tests}
+use Rattle.overlay_terms.proofs.ClosedLayers.{count-map}
 use Rattle.exact_point.specs.Crossing.{turn_of}
 use Rattle.exact_point.proofs.Lines.{gap, flat_gap, on_first}
 use Rattle.exact_point.proofs.OnLine.{after_left, before_right, within_on, on_line, left_on_line, right_on_line, parallel_line}
-use Rattle.exact_point.proofs.PlaceOrder.{Way, before, at, after, way_of, one_positive, less_through, alike_left, alike_right, level_from, level_test}
+use Rattle.exact_point.proofs.PlaceOrder.{Way, before, at, after, way_of, one_positive, less_through, alike_right, level_from, level_test}
 use Rattle.exact_point.proofs.Signs.{zero_factor}
-use Rattle.tile_laws.proofs.Counts.{same_tests, count_alike, count_both, count_map}
+use Rattle.tile_laws.proofs.Counts.{count_alike, count_both}
 use Rattle.tile_laws.proofs.JustRight.{is_over_x, is_under, is_level}
 use Rattle.tile_laws.proofs.UnderLemmas.{level_under}
 use Rattle.arrange.specs.Units.{is_collinear, covers, cover_bits, IsUnit}
@@ -35,6 +37,7 @@ use Rattle.crossing_sweep.proofs.UnitStretchLemmas.{proper_unit}
 use Rattle.crossing_sweep.proofs.Lean.{lean_height, lean_turn}
 use Rattle.crossing_sweep.proofs.Inputs.{steep_positive, fits}
 use Rattle.crossing_sweep.proofs.MaskLemmas.{over_of, goes_on_of, level_of}
+use Rattle.crossing_sweep.proofs.Passed.{not_after_before}
 
 -- ---- parities
 parity_sum : (a b : ℕ) → ((a + b) % 2 == 1) ≡ is_one_of (a % 2 == 1) (b % 2 == 1)
@@ -67,15 +70,6 @@ one_of_two true true false true h = refl
 one_of_two true true false false h = refl
 one_of_two true false x y h = refl
 one_of_two false o x y h = refl
-
--- what is not after a place is before what comes after it
-not_after_before : (p q r : Point) → pos 0 <ℤ p.w → pos 0 <ℤ q.w → pos 0 <ℤ r.w → (point_cmp q p ≡ Less → ⊥) → point_cmp q r ≡ Less → point_cmp p r ≡ Less
-not_after_before p q r hp hq hr not_after less = by (way_of p q hp hq)
-  where
-    by : Way p q → point_cmp p r ≡ Less
-    by (before e) = less_through p q r hp hq hr e less
-    by (at e) = alike_left p q r hp hq hr e ∙ less
-    by (after e) = absurd (not_after e)
 
 module _ (n : ℤ) (input : Input) (u : Segment) (q : Point) (steep : IsSteep n) (valid : IsInput input) (unit : IsUnit input.marked u) (proper_u : IsProper u) (small : IsSmall q) (goes : GoesOn u q) where
   hn : pos 0 <ℤ n
@@ -204,7 +198,7 @@ module _ (n : ℤ) (input : Input) (u : Segment) (q : Point) (steep : IsSteep n)
 
     covering : count_by level_test_of (lean_marked n input.marked) ≡ count_by (λ m. (m.layer == k) && covers m.segment u) input.marked
     covering =
-        count_map level_test_of (λ (m : Marked). let z : Marked = record { layer = m.layer; segment = lean_segment n m.segment } in z) input.marked
+        count-map level_test_of (λ (m : Marked). let z : Marked = record { layer = m.layer; segment = lean_segment n m.segment } in z) input.marked
         ∙ count_alike (λ m. (m.layer == k) && (is_over_x (lean_segment n m.segment) (lean n q) && is_level (lean_segment n m.segment) (lean_segment n u) (lean n q))) (λ m. (m.layer == k) && covers m.segment u) input.marked
         (λ i d l. ap (λ b. ((get_or input.marked i d).layer == k) && b) (level_covers (get_or input.marked i d) (Contains-get_or input.marked i d l)))
 

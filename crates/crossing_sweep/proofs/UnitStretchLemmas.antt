@@ -8,7 +8,7 @@ use Rattle.overlay_terms.specs.Plane.{WholePoint, Point, Segment, whole, point_c
 use Rattle.overlay_terms.specs.Layers.{Marked}
 use Rattle.overlay_terms.specs.Tiles.{Input, is_node}
 use Rattle.overlay_terms.specs.TileLaws.{IsInput, IsProper}
-use Rattle.overlay_terms.proofs.Lists.{any_from, contains_map}
+use Rattle.overlay_terms.proofs.Lists.{any_from, contains_map, from_map}
 use Rattle.exact_point.proofs.OnLine.{on_line}
 use Rattle.exact_point.proofs.PlaceOrder.{one_positive, less_through, not_before_test, not_before_says}
 use Rattle.tile_laws.proofs.Statements.{segments_in}
@@ -21,7 +21,6 @@ use Rattle.crossing_sweep.specs.Status.{IsStretchOf}
 use Rattle.crossing_sweep.specs.Queue.{IsAlong, GoesOn}
 use Rattle.crossing_sweep.specs.Step.{AreStretches}
 use Rattle.crossing_sweep.specs.UnitStretches.{UnitsAreStretches}
-use Rattle.crossing_sweep.proofs.MaskLemmas.{from_map}
 
 -- a whole point is not after a place
 abbrev is_up_to : Point → WholePoint → Bool

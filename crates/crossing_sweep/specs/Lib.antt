@@ -22,6 +22,6 @@ pub mod Values
 pub mod RowLaws
 pub mod Testing
 pub mod Stepping
-pub mod Standing
+pub mod PassState
 pub mod Crossed
 pub mod Amid

@@ -15,7 +15,7 @@ use Rattle.crossing_sweep.specs.Queue.{GoesOn, IsUpTo, IsQueued}
 use Rattle.crossing_sweep.specs.Passing.{HasCome, IsStepTo}
 use Rattle.crossing_sweep.specs.Beginning.{foot}
 use Rattle.crossing_sweep.specs.Member.{segs_of}
-use Rattle.crossing_sweep.specs.Standing.{nodes_max}
+use Rattle.crossing_sweep.specs.PassState.{nodes_max}
 use Rattle.crossing_sweep.specs.Rows.{ArePassed, is_one_of, under_unit, up_to_unit, row_ends, AreSorted, rows_of, BeginAt, Carries}
 use Rattle.crossing_sweep.specs.declared.member.Member.{Member}
 use Rattle.crossing_sweep.specs.declared.row.Row.{Row}

@@ -3,7 +3,7 @@ ghost use Rattle.std.specs.Prelude.{◌≡◌, ◌<◌, ◌≤◌, ◌+◌, ℕ,
 ghost use Rattle.crossing_sweep.specs.Amid.{IsPassing};
 ghost use Rattle.crossing_sweep.specs.Crossed.{IsCrossed};
 ghost use Rattle.crossing_sweep.specs.Rows.{count_settled};
-ghost use Rattle.crossing_sweep.specs.Standing.{nodes_max};
+ghost use Rattle.crossing_sweep.specs.PassState.{nodes_max};
 ghost use Rattle.crossing_sweep.specs.Values.{AreValues};
 
 use crate::known_places::known_places;
@@ -40,12 +40,12 @@ pub(crate) struct Pass<'a> {
 
 impl<'a> Model for Pass<'a> {
     ghost use Rattle.std.specs.Prelude.{length};
-    ghost use Rattle.crossing_sweep.specs.Standing.{Standing, standing_code};
+    ghost use Rattle.crossing_sweep.specs.PassState.{PassState, pass_state_code};
     ghost use Rattle.crossing_sweep.specs.Rows.{count_settled};
 
-    ghost Value = { Standing };
+    ghost Value = { PassState };
 
-    ghost coded = { standing_code };
+    ghost coded = { pass_state_code };
 
     ghost use Rattle.crossing_sweep.specs.Amid.{IsPassing};
 

@@ -8,6 +8,7 @@ use Rattle.std.specs.Bool.{IsTrue}
 use Rattle.overlay_terms.specs.Plane.{Point, Segment, height_over, same_place}
 use Rattle.overlay_terms.specs.Column.{border}
 use Rattle.overlay_terms.proofs.Difference.{split, differences, same}
+use Rattle.overlay_terms.proofs.InputNumbers.{last_turned}
 use Rattle.exact_point.proofs.Signs.{zero_factor}
 use Rattle.exact_point.proofs.OnSegment.{reached, is_reached, part_reached}
 use Rattle.exact_point.proofs.OnLine.{level_way}
@@ -17,10 +18,6 @@ use Rattle.exact_point.specs.PointName.{IsCutBy, IsCutOf}
 -- over a border, part of the way is the border's x
 pub at_border : (l r b : ℤ) → (l *ℤ (r -ℤ l)) +ℤ ((r -ℤ l) *ℤ (b -ℤ l)) ≡ b *ℤ (r -ℤ l)
 at_border l r b = rw (split l, split r, split b) (simp differences (same _ _ _ _ (omega arith)))
-
--- the last two of three factors turned round
-pub either_way : (b w q : ℤ) → (b *ℤ w) *ℤ q ≡ (b *ℤ q) *ℤ w
-either_way b w q = rw (split b, split w, split q) (simp differences (same _ _ _ _ (omega arith)))
 
 -- two points of a line that is not vertical, over one x, are one place
 pub one_over_x : (s : Segment) (z p : Point) → s.left.x <ℤ s.right.x → height_over s z ≡ pos 0 → height_over s p ≡ pos 0 → z.x *ℤ p.w ≡ p.x *ℤ z.w → IsTrue (same_place z p)
@@ -53,4 +50,4 @@ pub one_cut : (s : Segment) (k : ℕ) (z p : Point) → IsCutOf s k z → IsCutO
 one_cut s k z p h g =
     let wide : s.left.x <ℤ s.right.x = omega (arith, ints, h.cut.after_left, h.cut.before_right) in
     one_over_x s z p wide (reached s z h.on_segment).level (reached s p g.on_segment).level
-    (ap (λ n. n *ℤ p.w) h.on_border ∙ either_way (border k) z.w p.w ∙ ap (λ n. n *ℤ z.w) (sym g.on_border))
+    (ap (λ n. n *ℤ p.w) h.on_border ∙ last_turned (border k) z.w p.w ∙ ap (λ n. n *ℤ z.w) (sym g.on_border))

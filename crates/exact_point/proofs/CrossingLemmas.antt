@@ -16,6 +16,7 @@ use Rattle.exact_point.proofs.Lexical.{Forward, NotBack, no_negative}
 use Rattle.exact_point.proofs.OnSegment.{IsReached, reached, is_reached, part_reached, leads}
 use Rattle.exact_point.specs.Crossing.{IsCrossingOf, IsOnlyCrossingOf, CrossNowhere, IsPartWay, turn_of, lead_of}
 use Rattle.exact_point.specs.PlaceOf.{part_way, crossing_place}
+use Rattle.exact_point.proofs.OnLine.{less_none}
 
 -- ---- identities
 second_way : (a b c d e f : ℤ) → a *ℤ ((e *ℤ d) -ℤ (f *ℤ c)) ≡ (e *ℤ ((a *ℤ d) -ℤ (b *ℤ c))) +ℤ (c *ℤ ((e *ℤ b) -ℤ (f *ℤ a)))
@@ -72,9 +73,6 @@ within_way a b t w v x y hw hv f begin end ex ey =
     let to : pos 0 ≤ℤ ((w -ℤ t) *ℤ v) = no_negative ((w -ℤ t) *ℤ v) a b w ((a *ℤ v) -ℤ x) ((b *ℤ v) -ℤ y) hw f end rest_x rest_y in
     let short : pos 0 ≤ℤ (w -ℤ t) = no_negative_factor (w -ℤ t) v hv to in
     (no_negative_factor t v hv from, omega (arith, ints))
-
-less_none : (z c : ℤ) → z -ℤ (c *ℤ pos 0) ≡ z
-less_none z c = omega (arith, ints, *ℤ-zero c)
 
 and_none : (z c : ℤ) → z +ℤ (c *ℤ pos 0) ≡ z
 and_none z c = omega (arith, ints, *ℤ-zero c)
@@ -294,6 +292,7 @@ on_second a b w e h =
     ap (part_way b (lead_of b a a)) e
     ∙ sym (ap (λ (v : Bool). if v then part_way a (lead_of a b b) (turn_of a b) else part_way b (lead_of b a a) (turn_of b a)) (behind _ h))
 
+-- a place so far along is the one that the numbers tell
 pub way_at : (s : Segment) (t w t' w' : ℤ) (p : Point) → t ≡ t' → w ≡ w' → IsPartWay s t w p → p ≡ part_way s t' w'
 way_at s t w t' w' p et ew h = point_by p (part_way s t w) h.across h.along h.over ∙ (λ i. part_way s (et i) (ew i))
   where

@@ -1,3 +1,4 @@
+pub mod Tests
 pub mod Signs
 pub mod PointBounds
 pub mod NarrowBounds

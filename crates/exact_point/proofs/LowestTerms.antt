@@ -1,6 +1,6 @@
 -- A place has one form in lowest terms.
 use Prim.Native.Nat.{◌∣◌}
-use Rattle.std.proofs.Common.{◌≡◌, ℕ, zero, suc, ℤ, pos, negsuc, ◌-ℤ◌, ◌*ℤ◌, ◌<ℤ◌, ◌+◌, ◌*◌, ◌/◌, ◌%◌, ◌<◌, ◌≤◌, unsigned_abs, refl, ap, sym, ◌∙◌, arith, subst}
+use Rattle.std.proofs.Common.{◌≡◌, ℕ, zero, suc, ℤ, pos, negsuc, ◌*ℤ◌, ◌<ℤ◌, ◌+◌, ◌*◌, ◌/◌, ◌%◌, ◌<◌, ◌≤◌, unsigned_abs, refl, ap, sym, ◌∙◌, arith, subst}
 use Rattle.std.proofs.lemmas.Int.{ints, unsigned_abs-mul}
 use Rattle.std.proofs.lemmas.Bool.{and_parts}
 use Rattle.std.proofs.lemmas.Bool.Decides.{Decides-int_eq}
@@ -9,9 +9,8 @@ use Rattle.std.proofs.lemmas.Nat.Gcd.{dvd_antisymm, dvd_trans, IsGcd-from_zero, 
 use Rattle.std.proofs.Math.Nat.{dvd-mul_left, mul-le-mul_left}
 use Rattle.std.specs.Int.{IsGcd}
 use Rattle.overlay_terms.specs.Plane.{Point}
-use Rattle.overlay_terms.proofs.Difference.{split, differences, same}
 use Rattle.exact_point.specs.Reduced.{IsLowest, LowestTermsAreOne}
-use Rattle.exact_point.proofs.Signs.{zero_factor}
+use Rattle.exact_point.proofs.SameNodes.{same_back}
 
 -- ---- a factor of two numbers is one of their greatest common divisor
 mod_scaled : (k a b : ℕ) → 0 < k → 0 < b → k * (a % b) ≡ (k * a) % (k * b)
@@ -76,14 +75,6 @@ divides_other p r h least ex ey =
     divides_factor k (unsigned_abs p.x) (unsigned_abs p.y) n n (size_positive r.w h) least
     (subst (λ m. n ∣ m) x (dvd-mul_left n (unsigned_abs r.x))) (subst (λ m. n ∣ m) y (dvd-mul_left n (unsigned_abs r.y))) (dvd-mul_left n k)
 
-apart : (a b w : ℤ) → (a -ℤ b) *ℤ w ≡ (a *ℤ w) -ℤ (b *ℤ w)
-apart a b w = rw (split a, split b, split w) (simp differences (same _ _ _ _ (omega arith)))
-
-same_numerator : (a b w : ℤ) → pos 0 <ℤ w → a *ℤ w ≡ b *ℤ w → a ≡ b
-same_numerator a b w h e =
-    let level : (a -ℤ b) *ℤ w ≡ pos 0 = apart a b w ∙ ap (λ z. z -ℤ (b *ℤ w)) e ∙ omega (arith, ints) in
-    omega (arith, ints, zero_factor (a -ℤ b) w h level)
-
 abbrev point_of : ℤ → ℤ → ℤ → Point
 point_of x y w = record { x = x; y = y; w = w }
 
@@ -93,6 +84,6 @@ one_form p r hp hr lp lr e =
     let ex = (Decides-int_eq (p.x *ℤ r.w) (r.x *ℤ p.w)).0 places.0 in
     let ey = (Decides-int_eq (p.y *ℤ r.w) (r.y *ℤ p.w)).0 places.1 in
     let ew : p.w ≡ r.w = same_size p.w r.w hp hr (dvd_antisymm (divides_other p r hr lp ex ey) (divides_other r p hp lr (sym ex) (sym ey))) in
-    let x : p.x ≡ r.x = same_numerator p.x r.x r.w hr (ex ∙ ap (λ z. r.x *ℤ z) ew) in
-    let y : p.y ≡ r.y = same_numerator p.y r.y r.w hr (ey ∙ ap (λ z. r.y *ℤ z) ew) in
+    let x : p.x ≡ r.x = same_back p.x r.x r.w hr (ex ∙ ap (λ z. r.x *ℤ z) ew) in
+    let y : p.y ≡ r.y = same_back p.y r.y r.w hr (ey ∙ ap (λ z. r.y *ℤ z) ew) in
     ap (λ n. point_of n p.y p.w) x ∙ ap (λ n. point_of r.x n p.w) y ∙ ap (λ n. point_of r.x r.y n) ew

@@ -1,5 +1,5 @@
 -- Sums of two products, in halves, and where the middle of two points lies.
-use Rattle.std.proofs.Common.{◌≡◌, ℕ, ℤ, pos, ◌+ℤ◌, ◌-ℤ◌, ◌*ℤ◌, ◌+◌, ◌^◌, ◌<◌, ◌≤◌, ◌<ℤ◌, ◌≤ℤ◌, arith, ap, sym, ◌∙◌, refl, Bool, true, false, ◌&&◌, ◌||◌, FitsSigned, to_z, of_z}
+use Rattle.std.proofs.Common.{◌≡◌, ℕ, ℤ, pos, ◌+ℤ◌, ◌-ℤ◌, ◌*ℤ◌, ◌+◌, ◌^◌, ◌<◌, ◌≤◌, arith, ap, sym, ◌∙◌, refl, Bool, true, false, ◌&&◌, ◌||◌, FitsSigned, to_z, of_z}
 use Rattle.std.specs.Int.{w128}
 use Rattle.std.proofs.lemmas.Int.{ints, by_lt_z}
 use Rattle.std.specs.Prelude.{int_lt, int_le}
@@ -8,7 +8,9 @@ use Rattle.overlay_terms.specs.Plane.{Point, Segment, height_over, is_below}
 use Rattle.overlay_terms.specs.Tiles.{midpoint}
 use Rattle.overlay_terms.proofs.Bounds.{Reads, reads, within_fits, within_add}
 use Rattle.overlay_terms.proofs.Difference.{split, differences, same}
+use Rattle.overlay_terms.proofs.InputNumbers.{true_le, true_lt}
 use Rattle.exact_point.proofs.Comparing.{below_by_height}
+use Rattle.exact_point.proofs.Tests.{lt_no, le_no}
 
 pub within_more : (m n : ℕ) (z : ℤ) → m ≤ n → IsWithin m z → IsWithin n z
 within_more m n z l h = record { low = omega (arith, ints, h.low); high = omega (arith, ints, h.high) }
@@ -29,18 +31,6 @@ pub by_halves : (a b v w q r p t h l : ℤ) → (pos 256 *ℤ q) +ℤ r ≡ a �
 by_halves a b v w q r p t h l ea eb eh el =
     ap (λ z. (pos 256 *ℤ z) +ℤ l) eh ∙ ap (λ z. (pos 256 *ℤ ((q *ℤ v) +ℤ (p *ℤ w))) +ℤ z) el ∙ in_halves q r p t v w
     ∙ ap (λ z. (z *ℤ v) +ℤ (((pos 256 *ℤ p) +ℤ t) *ℤ w)) ea ∙ ap (λ z. (a *ℤ v) +ℤ (z *ℤ w)) eb
-
-lt_yes : (x y : ℤ) → x <ℤ y → int_lt x y ≡ true
-lt_yes x y h = grind (arith, ints)
-
-lt_no : (x y : ℤ) → y ≤ℤ x → int_lt x y ≡ false
-lt_no x y h = grind (arith, ints)
-
-le_yes : (x y : ℤ) → x ≤ℤ y → int_le x y ≡ true
-le_yes x y h = grind (arith, ints)
-
-le_no : (x y : ℤ) → y <ℤ x → int_le x y ≡ false
-le_no x y h = grind (arith, ints)
 
 or_first : (a b d : Bool) → a ≡ true → d ≡ true → (a || b) ≡ d
 or_first true b true e f = refl
@@ -66,10 +56,10 @@ rest_decides m r e = ap (λ z. int_lt (pos 0) z) (sym e)
 sign_of_parts : (n r m : ℤ) → (pos 256 *ℤ n) +ℤ r ≡ m → IsWithin 255 r → (int_lt (pos 0) n || (int_le (pos 0) n && int_lt (pos 0) r)) ≡ int_lt (pos 0) m
 sign_of_parts n r m e h =
     by_lt_z (pos 0) n
-    (λ l. or_first _ _ _ (lt_yes (pos 0) n l) (lt_yes (pos 0) m (omega (arith, ints, e, h.low))))
+    (λ l. or_first _ _ _ (true_lt (pos 0) n l) (true_lt (pos 0) m (omega (arith, ints, e, h.low))))
     (λ l. by_lt_z n (pos 0)
     (λ k. or_none _ _ (int_lt (pos 0) r) _ (lt_no (pos 0) n l) (le_no (pos 0) n k) (lt_no (pos 0) m (omega (arith, ints, e, h.high))))
-    (λ k. or_third _ _ _ _ (lt_no (pos 0) n l) (le_yes (pos 0) n k) (rest_decides m r (omega (arith, ints, e)))))
+    (λ k. or_third _ _ _ _ (lt_no (pos 0) n l) (true_le (pos 0) n k) (rest_decides m r (omega (arith, ints, e)))))
 
 -- the same with a quotient of the smaller number added to the larger
 pub sign_by_parts : (high low q r n t : ℤ) → (pos 256 *ℤ q) +ℤ r ≡ low → IsWithin 255 r → n ≡ high +ℤ q → t ≡ r → (int_lt (pos 0) n || (int_le (pos 0) n && int_lt (pos 0) t)) ≡ int_lt (pos 0) ((pos 256 *ℤ high) +ℤ low)

@@ -1,9 +1,9 @@
 -- How large sums and products of bounded numbers are, where 64 bits hold them.
-use Rattle.std.proofs.Common.{◌≡◌, ℕ, ℤ, ◌-ℤ◌, ◌*ℤ◌, ◌+◌, ◌*◌, ◌^◌, ◌<◌, arith, ◌∙◌, FitsSigned, to_z, of_z}
+use Rattle.std.proofs.Common.{◌≡◌, ℕ, ℤ, ◌+ℤ◌, ◌-ℤ◌, ◌*ℤ◌, ◌+◌, ◌*◌, ◌^◌, ◌<◌, arith, ◌∙◌, FitsSigned, to_z, of_z}
 use Rattle.std.specs.Int.{w64, w128}
 use Rattle.std.proofs.lemmas.Int.{fits_signed_from_abs, to_z-of_z}
 use Rattle.overlay_terms.specs.Within.{IsWithin}
-use Rattle.overlay_terms.proofs.Bounds.{Reads, read, reads, abs_within, within_mul, within_sub}
+use Rattle.overlay_terms.proofs.Bounds.{Reads, read, reads, abs_within, within_add, within_mul, within_sub}
 
 pub narrow_fits : (n : ℕ) (z : ℤ) → IsWithin n z → n < 2 ^ 63 → FitsSigned w64 z
 narrow_fits n z h k = fits_signed_from_abs w64 z (omega (arith, abs_within n z h))
@@ -27,6 +27,12 @@ narrow_sub_fits {m} {n} {e} {f} {y} {z} h k l = rw (h.is, k.is) (narrow_fits (m 
 
 pub narrow_sub_reads : {m n : ℕ} {e f y z : ℤ} → Reads m e y → Reads n f z → m + n < 2 ^ 63 → Reads (m + n) (to_z w64 (of_z w64 (e -ℤ f))) (y -ℤ z)
 narrow_sub_reads {m} {n} {e} {f} {y} {z} h k l = rw (h.is, k.is) (narrow_reads (m + n) (y -ℤ z) (within_sub m n y z h.within k.within) l)
+
+pub narrow_add_fits : {m n : ℕ} {e f y z : ℤ} → Reads m e y → Reads n f z → m + n < 2 ^ 63 → FitsSigned w64 (e +ℤ f)
+narrow_add_fits {m} {n} {e} {f} {y} {z} h k l = rw (h.is, k.is) (narrow_fits (m + n) (y +ℤ z) (within_add m n y z h.within k.within) l)
+
+pub narrow_add_reads : {m n : ℕ} {e f y z : ℤ} → Reads m e y → Reads n f z → m + n < 2 ^ 63 → Reads (m + n) (to_z w64 (of_z w64 (e +ℤ f))) (y +ℤ z)
+narrow_add_reads {m} {n} {e} {f} {y} {z} h k l = rw (h.is, k.is) (narrow_reads (m + n) (y +ℤ z) (within_add m n y z h.within k.within) l)
 
 -- a number of 64 bits, made wider
 pub widened : {n : ℕ} {a b : ℤ} → IsWithin n a → n < 2 ^ 63 → b ≡ to_z w64 (of_z w64 a) → Reads n (to_z w128 (of_z w128 b)) a

@@ -108,15 +108,16 @@ level_way s p q h k =
     sym (way_height (s.right.x -ℤ s.left.x) (s.right.y -ℤ s.left.y) s.left.x s.left.y p.x p.y p.w q.x q.y q.w)
     ∙ ap (λ z. (p.w *ℤ z) -ℤ (q.w *ℤ height_over s p)) k ∙ ap (λ z. (p.w *ℤ pos 0) -ℤ (q.w *ℤ z)) h ∙ two_none p.w q.w
 
+-- nothing taken away
+pub less_none : (z w : ℤ) → z -ℤ (w *ℤ pos 0) ≡ z
+less_none z w = omega (arith, ints, *ℤ-zero w)
+
 -- the way from a point of a line to another point turns as that is above the line
 pub way_up : (s : Segment) (p q : Point) → height_over s p ≡ pos 0 →
     ((s.right.x -ℤ s.left.x) *ℤ ((q.y *ℤ p.w) -ℤ (p.y *ℤ q.w))) -ℤ ((s.right.y -ℤ s.left.y) *ℤ ((q.x *ℤ p.w) -ℤ (p.x *ℤ q.w))) ≡ p.w *ℤ height_over s q
 way_up s p q h =
     sym (way_height (s.right.x -ℤ s.left.x) (s.right.y -ℤ s.left.y) s.left.x s.left.y p.x p.y p.w q.x q.y q.w)
     ∙ ap (λ z. (p.w *ℤ height_over s q) -ℤ (q.w *ℤ z)) h ∙ less_none (p.w *ℤ height_over s q) q.w
-  where
-    less_none : (z w : ℤ) → z -ℤ (w *ℤ pos 0) ≡ z
-    less_none z w = omega (arith, ints, *ℤ-zero w)
 
 -- a segment holds the line of another in its direction that it has a point with
 pub parallel_line : (s t : Segment) (p q : Point) → whole_cmp s.left s.right ≡ Less → turn_of s t ≡ pos 0 → pos 0 <ℤ p.w

@@ -6,6 +6,7 @@ use Rattle.std.specs.Bool.{IsTrue}
 use Rattle.overlay_terms.specs.Plane.{Point, Segment, is_on, height_over, whole_cmp}
 use Rattle.std.specs.declared.cmp.Ordering.TheVariants.{Less}
 use Rattle.overlay_terms.proofs.Difference.{split, differences, same}
+use Rattle.overlay_terms.proofs.InputNumbers.{times_one}
 use Rattle.exact_point.proofs.Lexical.{Forward, NotBack, forward, not_before, not_after, is_not_before, is_not_after, stays_forward}
 use Rattle.exact_point.specs.Crossing.{IsPartWay}
 
@@ -31,23 +32,20 @@ pub record IsReached (s : Segment) (p : Point) : Type 0 where
   pub from_left : NotBack (p.x -ℤ s.left.x *ℤ p.w) (p.y -ℤ s.left.y *ℤ p.w)
   pub to_right : NotBack (s.right.x *ℤ p.w -ℤ p.x) (s.right.y *ℤ p.w -ℤ p.y)
 
-once : (z : ℤ) → z *ℤ pos 1 ≡ z
-once z = omega (arith, ints)
-
 pub reached : (s : Segment) (p : Point) → IsTrue (is_on s p) → IsReached s p
 reached s p h =
     let parts = and3_parts _ _ _ h in
     record {
       level = (Decides-int_eq (height_over s p) (pos 0)).0 parts.0;
-      from_left = rw (once p.x, once p.y) at (not_before (p.x *ℤ pos 1) (s.left.x *ℤ p.w) (p.y *ℤ pos 1) (s.left.y *ℤ p.w) parts.1);
-      to_right = rw (once p.x, once p.y) at (not_after (p.x *ℤ pos 1) (s.right.x *ℤ p.w) (p.y *ℤ pos 1) (s.right.y *ℤ p.w) parts.2);
+      from_left = rw (times_one p.x, times_one p.y) at (not_before (p.x *ℤ pos 1) (s.left.x *ℤ p.w) (p.y *ℤ pos 1) (s.left.y *ℤ p.w) parts.1);
+      to_right = rw (times_one p.x, times_one p.y) at (not_after (p.x *ℤ pos 1) (s.right.x *ℤ p.w) (p.y *ℤ pos 1) (s.right.y *ℤ p.w) parts.2);
     }
 
 pub is_reached : (s : Segment) (p : Point) → IsReached s p → IsTrue (is_on s p)
 is_reached s p h =
     and3_from _ _ _ ((Decides-int_eq (height_over s p) (pos 0)).1 h.level)
-    (is_not_before (p.x *ℤ pos 1) (s.left.x *ℤ p.w) (p.y *ℤ pos 1) (s.left.y *ℤ p.w) (rw (once p.x, once p.y) h.from_left))
-    (is_not_after (p.x *ℤ pos 1) (s.right.x *ℤ p.w) (p.y *ℤ pos 1) (s.right.y *ℤ p.w) (rw (once p.x, once p.y) h.to_right))
+    (is_not_before (p.x *ℤ pos 1) (s.left.x *ℤ p.w) (p.y *ℤ pos 1) (s.left.y *ℤ p.w) (rw (times_one p.x, times_one p.y) h.from_left))
+    (is_not_after (p.x *ℤ pos 1) (s.right.x *ℤ p.w) (p.y *ℤ pos 1) (s.right.y *ℤ p.w) (rw (times_one p.x, times_one p.y) h.to_right))
 
 -- ---- part of the way
 left_step : (l a t w : ℤ) → ((l *ℤ w) +ℤ (a *ℤ t)) -ℤ (l *ℤ w) ≡ t *ℤ a

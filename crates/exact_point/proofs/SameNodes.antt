@@ -14,7 +14,7 @@ use Rattle.overlay_terms.proofs.PlaceLemmas.{IsSamePlace, places_alike}
 use Rattle.exact_point.proofs.PlaceOrder.{one_positive, level_from, level_test, same_turned, same_through, on_same}
 
 -- a positive factor may be dropped from an equation
-same_back : (a b w : ℤ) → pos 0 <ℤ w → a *ℤ w ≡ b *ℤ w → a ≡ b
+pub same_back : (a b w : ℤ) → pos 0 <ℤ w → a *ℤ w ≡ b *ℤ w → a ≡ b
 same_back a b w h e =
     let low : a ≤ℤ b = most_back a b w h (omega (arith, ints)) in
     let high : b ≤ℤ a = most_back b a w h (omega (arith, ints)) in

@@ -5,7 +5,7 @@ ghost use Rattle.overlay_terms.specs.Plane.{denominator_max, InRange};
 ghost use Rattle.exact_point.specs.Lines.{near_max};
 
 /// How far a coordinate lies after another.
-pub(crate) fn minus(a: i64, b: i64) -> i64
+pub fn minus(a: i64, b: i64) -> i64
     requires a_small { InRange a }
     requires b_small { InRange b }
     ensures value { result ≡ a -ℤ b }
@@ -122,7 +122,7 @@ pub(crate) fn by_256(a: i128) -> (i128, i128)
 }
 
 /// The cross product of the ways (a, b) and (c, d) between whole points.
-pub(crate) fn whole_cross(a: i64, b: i64, c: i64, d: i64) -> i64
+pub fn whole_cross(a: i64, b: i64, c: i64, d: i64) -> i64
     requires a_small { IsWithin (2 ^ 21) a }
     requires b_small { IsWithin (2 ^ 21) b }
     requires c_small { IsWithin (2 ^ 21) c }

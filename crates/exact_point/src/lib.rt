@@ -12,6 +12,7 @@ pub mod query;
 pub mod reducing;
 pub mod side;
 
+pub use arithmetic::{minus, whole_cross};
 pub use crossing::{cross_of, direction_cmp};
 pub use fault::PointFault;
 pub use middle::below_middle;

@@ -2,19 +2,9 @@
 use Rattle.std.proofs.Common.{◌≡◌, ℕ, ◌+◌, ◌-◌, ◌<◌, Bool, true, List, [], ◌∷◌, ◌++◌, fold, refl, ap, ◌∙◌, arith}
 use Rattle.std.specs.List.{list_all}
 use Rattle.std.proofs.lemmas.Bool.{and_parts, ltb-true}
-use Rattle.std.proofs.lemmas.List.Folds.{list_all-append}
-use Rattle.overlay_terms.specs.Trees.{combined, Tree, leaf, combine, truth, leaves, Source, base_bit, definition, Steps, source_value, definition_values, last_or, steps_value}
+use Rattle.overlay_terms.specs.Trees.{Tree, truth, leaves, Source, base_bit, definition, Steps, source_value, definition_values, last_or, steps_value}
+use Rattle.overlay_terms.proofs.DefinitionLemmas.{truth_same}
 use Rattle.layer_expr.specs.StepList.{IsStepList, stands_before, names_earlier}
-
--- an expression is one truth at leaves that are the same wherever a test of the leaves holds
-same_truth : {A : Type 0} (known : A → Bool) (f g : A → Bool) → ((a : A) → known a ≡ true → f a ≡ g a) → (t : Tree A) → list_all known (leaves t) ≡ true → truth f t ≡ truth g t
-same_truth known f g same (leaf a) h = same a (and_parts (known a) true h).0
-same_truth known f g same (combine o l r) h =
-    let parts = and_parts (list_all known (leaves l)) (list_all known (leaves r)) (joined (list_all-append known (leaves l) (leaves r)) h) in
-    ap (λ b. combined o b (truth f r)) (same_truth known f g same l parts.0) ∙ ap (combined o (truth g l)) (same_truth known f g same r parts.1)
-  where
-    joined : {x y : Bool} → x ≡ y → x ≡ true → y ≡ true
-    joined e k = cc
 
 same_source : (f g : ℕ → Bool) (bases place : ℕ) (found : List Bool) → ((k : ℕ) → k < bases → f k ≡ g k) → (s : Source) → stands_before bases place s ≡ true → source_value f found s ≡ source_value g found s
 same_source f g bases place found same (base_bit k) h = same k (ltb-true k bases h)
@@ -26,7 +16,7 @@ same_definitions : (f g : ℕ → Bool) (bases place : ℕ) (found : List Bool) 
 same_definitions f g bases place found same [] h = refl
 same_definitions f g bases place found same (t ∷ ts) h =
     let parts = and_parts (list_all (stands_before bases place) (leaves t)) (names_earlier bases (place + 1) ts) h in
-    let here : truth (source_value f found) t ≡ truth (source_value g found) t = same_truth (stands_before bases place) _ _ (same_source f g bases place found same) t parts.0 in
+    let here : truth (source_value f found) t ≡ truth (source_value g found) t = truth_same _ _ (stands_before bases place) (same_source f g bases place found same) t parts.0 in
     ap (λ b. fold (λ known t. known ++ truth (source_value f known) t ∷ []) (found ++ b ∷ []) ts) here
     ∙ same_definitions f g bases (place + 1) (found ++ truth (source_value g found) t ∷ []) same ts parts.1
 

@@ -6,6 +6,7 @@ use Rattle.std.proofs.lemmas.List.Elements.{All-head, All-tail}
 use Rattle.std.specs.Prelude.{IsTrue, All, if◌then◌else◌}
 use Rattle.std.specs.List.{list_all}
 use Rattle.std.specs.Char.{is_ascii_alphabetic}
+use Rattle.std.proofs.Math.Bool.{and-true}
 use Rattle.overlay_terms.specs.Trees.{Operation, intersection, union, difference, sym_difference, Tree, leaf, combine, leaves}
 use Rattle.layer_expr.specs.Name.{is_name, is_name_byte}
 use Rattle.overlay_terms.specs.Blank.{is_blank}
@@ -234,13 +235,9 @@ text_kinds (joined o l r) rest h k =
     ∙ sym (append_assoc (written_kinds l) (operator o ∷ written_kinds r) (kinds_in false rest))
 
 -- the names among the tokens are the leaves
-and_true : (b : Bool) → (b && true) ≡ b
-and_true true = refl
-and_true false = refl
-
 pub good_kinds : (w : Written) → list_all is_good (written_kinds w) ≡ list_all is_name (leaves (written_tree w))
 good_kinds (a_name n) = refl
-good_kinds (in_brackets w) = list_all-append is_good (written_kinds w) (close_bracket ∷ []) ∙ and_true (list_all is_good (written_kinds w)) ∙ good_kinds w
+good_kinds (in_brackets w) = list_all-append is_good (written_kinds w) (close_bracket ∷ []) ∙ and-true (list_all is_good (written_kinds w)) ∙ good_kinds w
 good_kinds (joined o l r) =
     list_all-append is_good (written_kinds l) (operator o ∷ written_kinds r)
     ∙ ap (λ b. b && list_all is_good (written_kinds r)) (good_kinds l)

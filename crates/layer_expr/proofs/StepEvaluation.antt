@@ -9,10 +9,10 @@ use Rattle.std.proofs.lemmas.Option.{unwrap_or-slice_get}
 use Rattle.overlay_terms.specs.Trees.{Tree, leaf, combine, combined, truth, leaves, relabel, Source, base_bit, definition, source_value, last_or, steps_value}
 use Rattle.overlay_terms.specs.Layers.{Name, named}
 use Rattle.overlay_terms.specs.Orderly.{is_among}
-use Rattle.overlay_terms.proofs.NameLemmas.{same_name, name_itself}
+use Rattle.overlay_terms.proofs.NameLemmas.{same_name, name_itself, is_among-push}
 use Rattle.layer_expr.specs.StepList.{Reached, definitions_of, source_among, is_ordered_after, values_after, evaluated, numbered_steps, stands_before, IsOrdered, ReachesAll}
 use Rattle.layer_expr.proofs.StepLemmas.{last_or-push}
-use Rattle.layer_expr.proofs.StepOrder.{head, AreNumbered, source_among-numbers, is_among-push, below-push}
+use Rattle.layer_expr.proofs.StepOrder.{head, AreNumbered, source_among-numbers, below-push}
 
 abbrev names_of : List (Name × Bool) → List Name
 names_of known = map (λ entry. entry.0) known

@@ -6,13 +6,9 @@ use Rattle.std.proofs.lemmas.List.Folds.{list_all-append, list_any-append}
 use Rattle.overlay_terms.specs.Trees.{Tree, leaf, combine, leaves, relabel, Source, base_bit, definition}
 use Rattle.overlay_terms.specs.Layers.{Name, source_of}
 use Rattle.overlay_terms.specs.Orderly.{is_among}
-use Rattle.overlay_terms.proofs.NameLemmas.{same_name, name_itself, or_false}
+use Rattle.overlay_terms.proofs.NameLemmas.{same_name, name_itself, is_among-push}
 use Rattle.layer_expr.specs.StepList.{Reached, base_names, definitions_of, source_among, names_in, is_ordered_after, stands_before, names_earlier}
 use Rattle.layer_expr.proofs.NameNumbers.{among, first_of, first_of-miss, first_of-absent, among-miss, definition_names}
-
-pub is_among-push : (names : List Name) (other name : Name) → is_among (names ++ other ∷ []) name ≡ (is_among names name || bytes_eq other name)
-is_among-push names other name =
-    list_any-append (λ n. bytes_eq n name) names (other ∷ []) ∙ ap (λ b. is_among names name || b) (or_false (bytes_eq other name))
 
 is_among-push_old : (names : List Name) (other name : Name) → is_among names name ≡ true → is_among (names ++ other ∷ []) name ≡ true
 is_among-push_old names other name h = is_among-push names other name ∙ rw h refl

@@ -5,10 +5,13 @@ use Rattle.std.proofs.Common.{refl, ap, sym, ◌∙◌, cond, ⊎_elim, arith}
 use Rattle.std.proofs.lemmas.Bool.{eq-eqb, ne_eqb, cases_eq}
 use Rattle.std.proofs.lemmas.List.Folds.{fold-map, fold_stays}
 use Rattle.std.proofs.lemmas.List.Sums.{sum_by-append}
+use Rattle.std.proofs.Math.Nat.{zero-add, add-zero}
+use Rattle.std.proofs.lemmas.Nat.Bits.{bit_at-zero}
 use Rattle.overlay_terms.specs.Plane.{WholePoint, Point, Segment, segments_of, is_below, is_inside}
 use Rattle.overlay_terms.specs.Layers.{Name, Marked, marked_segments}
 use Rattle.overlay_terms.specs.Tiles.{below_bits}
 use Rattle.overlay_terms.proofs.SourceLemmas.{Matches}
+use Rattle.overlay_terms.specs.Trees.{mask_bits}
 
 -- the segments of a base layer with its number
 abbrev marked_by : ℕ → List (List WholePoint) → List Marked
@@ -18,13 +21,13 @@ marked_by k rings = map (λ s. record { layer = k; segment = s }) (segments_of r
 abbrev marked_from : ℕ → List (List (List WholePoint)) → List Marked
 marked_from k bases = flat_map (λ numbered. map (λ s. record { layer = numbered.0; segment = s }) (segments_of numbered.1)) (enumerate_from k bases)
 
--- 0 behind a sum
-plus_zero : (n : ℕ) → n + 0 ≡ n
-plus_zero n = omega arith
+-- a mask of no bits has none
+pub mask_bits-zero : (k : ℕ) → mask_bits 0 k ≡ false
+mask_bits-zero k = ap (λ bit. bit == 1) (bit_at-zero k)
 
--- 0 before a sum
-zero_plus : (n : ℕ) → 0 + n ≡ n
-zero_plus n = omega arith
+-- a bit with nothing added
+pub bit_stays : (bit : ℕ) → bit < 2 → (bit + 0) % 2 ≡ bit
+bit_stays bit h = omega arith
 
 module _ (p : Point) where
   -- how many segments of a layer are below the point
@@ -63,7 +66,7 @@ module _ (p : Point) where
       let alone : count_of k (marked_from k (rings ∷ bases)) ≡ count_by (λ s. is_below s p) (segments_of rings) =
       count-append k (marked_by k rings) (marked_from (k + 1) bases)
       ∙ ap (λ n. count_of k (marked_by k rings) + n) (count_later k (k + 1) bases (omega arith))
-      ∙ plus_zero (count_of k (marked_by k rings))
+      ∙ add-zero (count_of k (marked_by k rings))
       ∙ count-marked_by k k true rings (eq-eqb k k refl) in
       ap (λ n. n % 2 == 1) alone
 
@@ -71,7 +74,7 @@ module _ (p : Point) where
   later_parity : (j k : ℕ) (rings : List (List WholePoint)) (bases : List (List (List WholePoint))) → k < j → (count_of j (marked_from k (rings ∷ bases)) % 2 == 1) ≡ (count_of j (marked_from (k + 1) bases) % 2 == 1)
   later_parity j k rings bases h =
       ap (λ n. n % 2 == 1)
-      (count-append j (marked_by k rings) (marked_from (k + 1) bases) ∙ ap (λ n. n + count_of j (marked_from (k + 1) bases)) (count_other j k rings (λ e. absurd (omega arith))) ∙ zero_plus (count_of j (marked_from (k + 1) bases)))
+      (count-append j (marked_by k rings) (marked_from (k + 1) bases) ∙ ap (λ n. n + count_of j (marked_from (k + 1) bases)) (count_other j k rings (λ e. absurd (omega arith))) ∙ zero-add (count_of j (marked_from (k + 1) bases)))
 
   -- bits that are the parities match the values of the base layers
   parities_match : (value : Name → Bool) (bits : ℕ → Bool) (bases : List (Name × List (List WholePoint))) (k : ℕ) →

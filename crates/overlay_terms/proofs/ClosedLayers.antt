@@ -51,7 +51,7 @@ rings_proper (ring ∷ rings) valid =
     All-append IsProper (ring_segments ring) (segments_of rings) (ring_proper ring first.in_range) (rings_proper rings (All-tail IsRing ring rings valid))
 
 -- a count over a map
-count-map : {X Y : Type 0} (f : Y → Bool) (g : X → Y) (xs : List X) → count_by f (map g xs) ≡ count_by (λ x. f (g x)) xs
+pub count-map : {X Y : Type 0} (f : Y → Bool) (g : X → Y) (xs : List X) → count_by f (map g xs) ≡ count_by (λ x. f (g x)) xs
 count-map f g [] = refl
 count-map f g (x ∷ xs) =
     count-cons f (g x) (map g xs) ∙ ap (λ n. bit (f (g x)) + n) (count-map f g xs) ∙ sym (count-cons (λ y. f (g y)) x xs)

@@ -23,7 +23,7 @@ list_all_both p q r h (x ∷ xs) a b =
     ap (λ c. c && list_all r xs) (h x first.0 second.0) ∙ list_all_both p q r h xs first.1 second.1
 
 -- an expression is the same where its leaves are
-truth_same : {A : Type 0} (f g : A → Bool) (p : A → Bool) → ((x : A) → p x ≡ true → f x ≡ g x) → (t : Tree A) → list_all p (leaves t) ≡ true → truth f t ≡ truth g t
+pub truth_same : {A : Type 0} (f g : A → Bool) (p : A → Bool) → ((x : A) → p x ≡ true → f x ≡ g x) → (t : Tree A) → list_all p (leaves t) ≡ true → truth f t ≡ truth g t
 truth_same f g p h (leaf a) all = h a (and_parts (p a) true all).0
 truth_same f g p h (combine o l r) all =
     let parts = and_parts (list_all p (leaves l)) (list_all p (leaves r)) (sym (list_all-append p (leaves l) (leaves r)) ∙ all) in

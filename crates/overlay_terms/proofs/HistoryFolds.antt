@@ -1,21 +1,17 @@
 -- The newest version of a history by its start and the accepted batches.
 use Rattle.std.specs.Prelude.{◌≡◌, ℕ, ◌+◌, ◌==◌, Bool, true, false, List, [], ◌∷◌, map, filter, fold, length, Some, None, if◌then◌else◌}
 use Rattle.std.specs.List.{cons_option}
-use Rattle.std.proofs.Common.{suc, refl, ap, ◌∙◌, subst, cond, arith}
+use Rattle.std.proofs.Common.{refl, ap, ◌∙◌, subst, cond, arith}
 use Rattle.overlay_terms.specs.Batches.{Batch, applied_all, AllBatchesAccepted}
 use Rattle.overlay_terms.specs.Histories.{Version, Event, accepted, kept, durable_to, Follows, Entry, AllFollow, last_version, commands_in, commands_of, accepted_in}
 use Rattle.overlay_terms.specs.HistoryLaws.{IsWithCommands, NewestHasCommands, OwnAreAmongAll}
-use Rattle.overlay_terms.proofs.BatchLemmas.{accepted_by_layers}
-
--- one batch before others
-one_more : (last new old count : ℕ) → last ≡ new + count → new ≡ old + 1 → last ≡ old + suc count
-one_more last new old count e next = omega (arith, e, next)
+use Rattle.overlay_terms.proofs.BatchLemmas.{accepted_by_layers, one_on}
 
 -- the layers before a batch that leaves others, and then batches
 with_batch : (old new last : Version) (batch : Batch) (batches : List Batch) → Follows old (accepted 0 batch) new → IsWithCommands new batches last → IsWithCommands old (batch ∷ batches) last
 with_batch old new last batch batches follows later = record {
   accepted = (accepted_by_layers old batch follows.accepted_there, subst (λ layers. AllBatchesAccepted layers batches) follows.layers later.accepted);
-  number = one_more last.number new.number old.number (length batches) later.number follows.number;
+  number = one_on last.number new.number old.number (length batches) later.number follows.number;
   layers = later.layers ∙ ap (λ layers. fold applied_all layers batches) follows.layers;
 }
 

@@ -1,10 +1,13 @@
 pub mod Difference
+pub mod Whole
+pub mod Tests
 pub mod Bounds
 pub mod Ratios
 mod Rows
 pub mod Functions
 pub mod Options
 pub mod Lists
+pub mod Pairs
 pub mod StepLaws
 pub mod EdgeLemmas
 pub mod PointOrder

@@ -55,3 +55,11 @@ contains_map {X} {Y} f (a ∷ xs) x c = by (contains_map f xs x) (Contains-cons_
   by : (Contains xs x → Contains (map f xs) (f x)) → (a ≡ x) ⊎ Contains xs x → Contains (f a ∷ map f xs) (f x)
   by more (inl e) = let same : f a ≡ f x = ap f e in (0, omega arith, same)
   by more (inr m) = contains_rest (f a) (map f xs) (f x) (more m)
+
+-- what stands in a list of images is the image of one that stands in the list
+pub from_map : {X Y : Type 0} (f : X → Y) (xs : List X) (y : Y) → Contains (map f xs) y → (x : X) × Contains xs x × (f x ≡ y)
+from_map f [] y c = absurd (none_in_empty y c)
+from_map {X} {Y} f (x ∷ xs) y c = by (from_map f xs y) (Contains-cons_cases (f x) (map f xs) y c) where
+  by : (Contains (map f xs) y → (z : X) × Contains xs z × (f z ≡ y)) → (f x ≡ y) ⊎ Contains (map f xs) y → (z : X) × Contains (x ∷ xs) z × (f z ≡ y)
+  by more (inl e) = (x, contains_first x xs, e)
+  by more (inr d) = let r = more d in (r.0, contains_rest x xs r.0 r.1, r.2)

@@ -1,5 +1,5 @@
 -- Points that are the same place have the same segments below them and on them, and so the same answers.
-use Rattle.std.specs.Prelude.{◌≡◌, ℤ, pos, ◌%◌, ◌==◌, ◌*ℤ◌, ◌-ℤ◌, ◌<ℤ◌, int_le, int_lt, Bool, true, false, not, ◌&&◌, IsTrue, List, [], ◌∷◌, ◌++◌, count_by, if◌then◌else◌}
+use Rattle.std.specs.Prelude.{◌≡◌, ℤ, pos, ◌%◌, ◌==◌, ◌*ℤ◌, ◌-ℤ◌, ◌<ℤ◌, int_le, int_lt, Bool, true, false, not, IsTrue, List, [], ◌∷◌, ◌++◌, count_by, if◌then◌else◌}
 use Rattle.std.specs.List.{list_any}
 use Rattle.std.specs.Cmp.{int_ranks}
 use Rattle.std.specs.Ordering.{int_cmp, int_eq, is_lt, is_gt, is_eq, MatchOrdering}
@@ -10,6 +10,7 @@ use Rattle.std.proofs.lemmas.Int.{ints}
 use Rattle.std.proofs.lemmas.Bool.{and_parts}
 use Rattle.std.proofs.lemmas.Bool.Decides.{Decides-int_eq}
 use Rattle.std.proofs.lemmas.List.Folds.{fold_along}
+use Rattle.std.proofs.Math.IntN.{*ℤ_comm}
 use Rattle.overlay_terms.specs.Plane.{WholePoint, Point, Segment, whole, same_place, height_over, is_below, is_on, is_inside, segments_of, point_cmp}
 use Rattle.overlay_terms.specs.Layers.{Name, Content, base, derived, Layer, named, content_value, values, value_of, segments_in_reach, inside, outside, edge}
 use Rattle.overlay_terms.specs.Laws.{SamePlaceSameAnswer}
@@ -17,24 +18,14 @@ use Rattle.overlay_terms.proofs.Difference.{split, whole_is, differences, same}
 use Rattle.overlay_terms.proofs.Functions.{fun_ext}
 use Rattle.overlay_terms.proofs.Ratios.{int_cmp-scaled}
 use Rattle.overlay_terms.proofs.PointOrder.{order_is_total}
-
--- at most, of numbers in each of the three orders
-le_of_less : (x y : ℤ) → x <ℤ y → int_le x y ≡ true
-le_of_less x y h = grind (arith, ints)
-
--- at most, of equal numbers
-le_of_equal : (x y : ℤ) → x ≡ y → int_le x y ≡ true
-le_of_equal x y h = grind (arith, ints)
-
--- at most, of a greater and a smaller number
-le_of_greater : (x y : ℤ) → y <ℤ x → int_le x y ≡ false
-le_of_greater x y h = grind (arith, ints)
+use Rattle.overlay_terms.proofs.Whole.{less_is_most, same_is_most, more_is_not_most}
+use Rattle.overlay_terms.proofs.Tests.{three_tests}
 
 -- at most, by the comparison
 le_by : (x y : ℤ) (o : Ordering) → MatchOrdering o (x <ℤ y) (x ≡ y) (y <ℤ x) → int_le x y ≡ not (is_gt o)
-le_by x y Less h = le_of_less x y h
-le_by x y Equal h = le_of_equal x y h
-le_by x y Greater h = le_of_greater x y h
+le_by x y Less h = less_is_most x y h
+le_by x y Equal h = same_is_most x y h
+le_by x y Greater h = more_is_not_most x y h
 
 -- below, by the comparison
 lt_by : (b c : Bool) → b ≡ is_lt (cond b Less (cond c Greater Equal))
@@ -62,10 +53,6 @@ int_eq-scaled k x y h = ap is_eq (int_cmp-scaled k x y h)
 to_second : (k a w : ℤ) → k *ℤ (a *ℤ w) ≡ a *ℤ (w *ℤ k)
 to_second k a w = rw (split k, split a, split w) (simp differences (same _ _ _ _ (omega arith)))
 
--- a product, turned round
-commute : (a b : ℤ) → a *ℤ b ≡ b *ℤ a
-commute a b = rw (split a, split b) (simp differences (same _ _ _ _ (omega arith)))
-
 -- the height over a line, times k
 height_times : (k across up left low x y w : ℤ) → k *ℤ (across *ℤ (y -ℤ low *ℤ w) -ℤ up *ℤ (x -ℤ left *ℤ w)) ≡ across *ℤ (y *ℤ k -ℤ low *ℤ (w *ℤ k)) -ℤ up *ℤ (x *ℤ k -ℤ left *ℤ (w *ℤ k))
 height_times k across up left low x y w =
@@ -78,10 +65,6 @@ times_zero k = rw (split k, whole_is 0) (simp differences (same _ _ _ _ (omega a
 -- the denominator of a whole point is positive
 one_positive : pos 0 <ℤ pos 1
 one_positive = omega (arith, ints)
-
--- three tests that agree with three others
-three_tests : {a b c d e f : Bool} → a ≡ b → c ≡ d → e ≡ f → (a && c && e) ≡ (b && d && f)
-three_tests p q r = cc
 
 -- two points are one place: their coordinates agree over both denominators
 pub record IsSamePlace (p q : Point) : Type 0 where
@@ -104,7 +87,7 @@ places_alike p q h k e =
 module _ (p q : Point) (h : IsSamePlace p q) where
   -- the product of the denominators, either way
   w_level : p.w *ℤ q.w ≡ q.w *ℤ p.w
-  w_level = commute p.w q.w
+  w_level = *ℤ_comm p.w q.w
 
   -- a whole number against the two
   border_level : (a : ℤ) → q.w *ℤ (a *ℤ p.w) ≡ p.w *ℤ (a *ℤ q.w)
@@ -112,7 +95,7 @@ module _ (p q : Point) (h : IsSamePlace p q) where
 
   -- the x of one place over both denominators
   x_crossed : q.w *ℤ p.x ≡ p.w *ℤ q.x
-  x_crossed = commute q.w p.x ∙ h.x_level ∙ commute q.x p.w
+  x_crossed = *ℤ_comm q.w p.x ∙ h.x_level ∙ *ℤ_comm q.x p.w
 
   -- the heights of the two over a line differ by a positive factor
   height_level : (s : Segment) → q.w *ℤ height_over s p ≡ p.w *ℤ height_over s q

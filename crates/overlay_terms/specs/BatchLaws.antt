@@ -1,5 +1,5 @@
 -- Laws of batches: a batch is what its commands are one after another, but for the number.
-use Rattle.std.specs.Prelude.{◌≡◌, ◌↔◌, ℕ, ◌+◌, ◌≤◌, List, [], ◌∷◌, ◌++◌, length, Option, Some, None}
+use Rattle.std.specs.Prelude.{◌≡◌, ◌↔◌, ℕ, ◌+◌, ◌≤◌, List, [], ◌∷◌, ◌++◌, length, Some, None}
 use Rattle.std.specs.Option.{option_map}
 use Rattle.overlay_terms.specs.Layers.{layers_max, Name, Layer}
 use Rattle.overlay_terms.specs.Orderly.{IsOrderly}

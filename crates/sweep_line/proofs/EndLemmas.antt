@@ -10,6 +10,7 @@ use Rattle.std.proofs.lemmas.List.Sums.{sum_by-cons, sum_by_push, sum_by-remove}
 use Rattle.std.proofs.lemmas.List.Filters.{sum_by-filter_both}
 use Rattle.overlay_terms.specs.Plane.{Point}
 use Rattle.overlay_terms.proofs.InputNumbers.{lt_true, true_lt}
+use Rattle.overlay_terms.proofs.Tests.{same_tests}
 use Rattle.exact_point.specs.Place.{place}
 use Rattle.exact_point.specs.declared.point.HPoint.{HPoint}
 use Rattle.exact_point.proofs.ByX.{left_before}
@@ -18,32 +19,25 @@ use Rattle.sweep_line.specs.Status.{goes_on, HasEndsFor, HasLostOne}
 use Rattle.sweep_line.specs.declared.status.StatusEntry.{StatusEntry}
 use Rattle.sweep_line.proofs.ListLemmas.{pairs_insert}
 use Rattle.sweep_line.proofs.Passing.{Order, before, equal, behind, order_of}
+use Rattle.arrange.proofs.FoundLemmas.{place_positive}
 
 -- ---- tests
-pub same_test : (b c : Bool) → (b ≡ true → c ≡ true) → (c ≡ true → b ≡ true) → b ≡ c
-same_test true c f g = sym (f refl)
-same_test false true f g = g refl
-same_test false false f g = refl
-
 not_less : (a b : ℤ) → int_lt a b ≡ false → b ≤ℤ a
 not_less a b h = grind (arith, ints)
-
-pub positive : (v : HPoint) → pos 0 <ℤ (place v).w
-positive v = omega (arith, ints)
 
 -- ---- the order
 -- right ends that do not stand right of a point, from one on
 pub right_before : (q : Point) (v u : HPoint) → pos 0 <ℤ q.w → lies_right (place v) u ≡ false → lies_right q u ≡ true → lies_right q v ≡ true
 right_before q v u hq order right =
     true_lt (q.x *ℤ (place v).w) ((place v).x *ℤ q.w)
-    (left_before q (place u) (place v) hq (positive u) (positive v)
+    (left_before q (place u) (place v) hq (place_positive u) (place_positive v)
     (lt_true (q.x *ℤ (place u).w) ((place u).x *ℤ q.w) right)
     (not_less ((place v).x *ℤ (place u).w) ((place u).x *ℤ (place v).w) order))
 
 -- two with one x lie right of the same points
 pub one_side : (q : Point) (v u : HPoint) → pos 0 <ℤ q.w → (place v).x *ℤ (place u).w ≡ (place u).x *ℤ (place v).w → lies_right q v ≡ lies_right q u
 one_side q v u hq level =
-    same_test (lies_right q v) (lies_right q u)
+    same_tests (lies_right q v) (lies_right q u)
     (right_before q u v hq (flat (place u).x (place v).w (place v).x (place u).w (sym level)))
     (right_before q v u hq (flat (place v).x (place u).w (place u).x (place v).w level))
   where

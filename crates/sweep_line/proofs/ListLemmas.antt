@@ -3,14 +3,9 @@ use Rattle.std.proofs.Common.{◌≡◌, ℕ, ◌<◌, ◌≤◌, zero, suc, Lis
 use Rattle.std.specs.Prelude.{All, Any, Contains}
 use Rattle.std.specs.List.{AllPairs, AllWithin}
 use Rattle.std.proofs.lemmas.List.{get_or-take, length-take-le}
-use Rattle.std.proofs.lemmas.List.Elements.{All-map, All-append, All-cons, All-take, All-drop}
+use Rattle.std.proofs.lemmas.List.Elements.{All-append, All-cons, All-take, All-drop}
 use Rattle.std.proofs.lemmas.List.Kept.{AllPairs-cons}
-use Rattle.tile_laws.proofs.AlikeLists.{first_before, rest_ordered}
-
--- pairs of images
-pub pairs_map : {X Y : Type 0} (R : Y → Y → Type 0) (f : X → Y) (xs : List X) → AllPairs (λ a b. R (f a) (f b)) xs → AllPairs R (map f xs)
-pairs_map R f [] h = λ i j d l m. absurd (omega (arith, m))
-pairs_map R f (x ∷ xs) h = AllPairs-cons R (f x) (map f xs) (All-map (R (f x)) f xs (first_before (λ a b. R (f a) (f b)) x xs h)) (pairs_map R f xs (rest_ordered (λ a b. R (f a) (f b)) x xs h))
+use Rattle.overlay_terms.proofs.Pairs.{pairs_head, pairs_rest}
 
 module _ {X : Type 0} where
   -- pairs of the first elements
@@ -55,8 +50,8 @@ module _ {X : Type 0} where
   pairs_insert R (suc k) x [] pairs before behind = AllPairs-cons R x [] (λ j d l. absurd (omega (arith, l))) pairs
   pairs_insert R (suc k) x (y ∷ ys) pairs before behind =
       AllPairs-cons R y (take k ys ++ x ∷ drop k ys)
-      (all_insert (R y) k x ys (before 0 y (omega arith) (omega arith)) (first_before R y ys pairs))
-      (pairs_insert R k x ys (rest_ordered R y ys pairs) (λ j d l m. before (suc j) d (omega arith) (omega (arith, m))) (λ j d l m. behind (suc j) d (omega (arith, l)) (omega (arith, m))))
+      (all_insert (R y) k x ys (before 0 y (omega arith) (omega arith)) (pairs_head R y ys pairs))
+      (pairs_insert R k x ys (pairs_rest R y ys pairs) (λ j d l m. before (suc j) d (omega arith) (omega (arith, m))) (λ j d l m. behind (suc j) d (omega (arith, l)) (omega (arith, m))))
 
   -- an element with a property stays when one is put in
   pub any_insert : (P : X → Type 0) (k : ℕ) (x : X) (xs : List X) → Any P xs → Any P (take k xs ++ x ∷ drop k xs)

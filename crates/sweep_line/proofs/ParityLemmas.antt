@@ -12,6 +12,7 @@ use Rattle.overlay_terms.specs.Plane.{Point, Segment, whole, point_cmp, height_o
 use Rattle.overlay_terms.specs.Layers.{Marked}
 use Rattle.overlay_terms.specs.Tiles.{below_bits, over_bits}
 use Rattle.overlay_terms.specs.Trees.{mask_bits}
+use Rattle.overlay_terms.proofs.BitLemmas.{bit_stays}
 use Rattle.arrange.specs.Arrangement.{on_bits}
 
 -- ---- one more
@@ -110,9 +111,6 @@ turned zero h = refl
 turned (suc zero) h = refl
 turned (suc (suc n)) h = absurd (omega arith)
 
-kept : (x : ℕ) → x < 2 → (x + 0) % 2 ≡ x
-kept x h = omega arith
-
 by_same : (x : ℕ) (b : Bool) → b ≡ true → (if b then not (x == 1) else (x == 1)) ≡ not (x == 1)
 by_same x true e = refl
 by_same x false e = cc
@@ -127,6 +125,6 @@ toggled_bit mask layer k =
     ⊎_elim
     (λ same. ap (λ n. n == 1) (bit_at_xor mask (2 ^ layer) k ∙ ap (λ n. (bit_at mask k + n) % 2) (ap (λ n. bit_at (2 ^ n) k) same ∙ bit_at-pow_same k))
     ∙ turned (bit_at mask k) (bit_at-lt mask k) ∙ sym (by_same (bit_at mask k) (layer == k) (eq-eqb layer k same)))
-    (λ other. ap (λ n. n == 1) (bit_at_xor mask (2 ^ layer) k ∙ ap (λ n. (bit_at mask k + n) % 2) (bit_at-pow_other layer k (λ e. other (sym e))) ∙ kept (bit_at mask k) (bit_at-lt mask k))
+    (λ other. ap (λ n. n == 1) (bit_at_xor mask (2 ^ layer) k ∙ ap (λ n. (bit_at mask k + n) % 2) (bit_at-pow_other layer k (λ e. other (sym e))) ∙ bit_stays (bit_at mask k) (bit_at-lt mask k))
     ∙ sym (by_other (bit_at mask k) (layer == k) (ne_eqb layer k other)))
     (cases_eq layer k)

@@ -11,6 +11,7 @@ use Rattle.overlay_terms.specs.Column.{border}
 use Rattle.overlay_terms.specs.Tiles.{Input}
 use Rattle.overlay_terms.specs.Trees.{mask_bits}
 use Rattle.overlay_terms.proofs.InputNumbers.{le_true, false_eq}
+use Rattle.overlay_terms.proofs.Whole.{less_by}
 use Rattle.exact_point.specs.PlaceOf.{place_of}
 use Rattle.exact_point.proofs.Lexical.{Forward}
 use Rattle.exact_point.proofs.OnSegment.{leads}
@@ -77,13 +78,10 @@ module _ (e : Elementary) (old new : List StatusEntry) (k under : ℕ) (learned 
     slanted wide =
         let test = slanted_test input is_turn.valid e is_e wide in
         let is_label : IsLabelled input (label_of e under) = labels _ test in
-        let entered = begins.slanted (not-true _ (false_eq e.support.left.x e.support.right.x (less e.support.left.x e.support.right.x wide))) in
+        let entered = begins.slanted (not-true _ (false_eq e.support.left.x e.support.right.x (less_by e.support.left.x e.support.right.x wide))) in
         let of_e : IsEntryOf input e entered.0 = record { to = entered.1; support = entered.2; over = λ j few. ap (λ m. mask_bits m j) entered.3 ∙ is_label.over j few } in
         let there = passed_slanted input pieces i e from old is_turn wide entered.0 of_e k learned.bound (learned.point (partitioned input pieces i e from old is_turn _ test)) in
         (refl, is_label, (place_of e.from, subst (λ es. IsSwept input (take (i + 1) pieces) (place_of e.from) es) (sym entered.4) there))
-      where
-        less : (a b : ℤ) → pos 0 <ℤ (b -ℤ a) → a <ℤ b
-        less a b h = omega (arith, ints)
 
     upright : width e.support ≡ pos 0 → pos 0 <ℤ rise e.support → Done
     upright none up =

@@ -8,8 +8,8 @@ use Rattle.std.proofs.lemmas.Bool.Decides.{Decides-int_eq}
 use Rattle.std.proofs.Math.IntN.{zero-*ℤ, *ℤ_comm}
 use Rattle.overlay_terms.specs.Plane.{Point, Segment, same_place, height_over, is_on}
 use Rattle.overlay_terms.specs.Tiles.{Input}
-use Rattle.overlay_terms.proofs.Difference.{split, differences, same, diff-neg}
 use Rattle.overlay_terms.proofs.InputNumbers.{lt_true, x_in_order}
+use Rattle.overlay_terms.proofs.Whole.{turn_back, no_turn, no_product, same_most}
 use Rattle.exact_point.specs.Crossing.{turn_of}
 use Rattle.exact_point.specs.PlaceOf.{place_of}
 use Rattle.exact_point.proofs.Lexical.{Forward, forward}
@@ -32,24 +32,8 @@ under_height h k d w v n m hw hd e none level low =
     by_lt_z h (pos 0) (λ l. l)
     (λ l. absurd (omega (arith, ints, e, level, ap (λ z. z *ℤ v) none, zero-*ℤ v, not_negative_times h w l hw, negative_times n d low hd, *ℤ_comm d n)))
 
--- a turn, the other way round, and of a segment from itself
-turn_back : (a b c d : ℤ) → (c *ℤ b) -ℤ (d *ℤ a) ≡ neg_ℤ ((a *ℤ d) -ℤ (b *ℤ c))
-turn_back a b c d = rw (split a, split b, split c, split d) (simp (diff-neg, differences) (same _ _ _ _ (omega arith)))
-
 not_both_turns : (x y : ℤ) → x ≡ neg_ℤ y → pos 0 <ℤ x → pos 0 <ℤ y → ⊥
 not_both_turns x y e h k = omega (arith, ints)
-
-own_turn : (a b : ℤ) → (a *ℤ b) -ℤ (b *ℤ a) ≡ pos 0
-own_turn a b = none (a *ℤ b) (b *ℤ a) (*ℤ_comm a b)
-  where
-    none : (x y : ℤ) → x ≡ y → x -ℤ y ≡ pos 0
-    none x y e = omega (arith, ints)
-
-no_product : (e a b : ℤ) → a ≡ b → e *ℤ (a -ℤ b) ≡ pos 0
-no_product e a b h = ap (λ z. e *ℤ z) (none a b h) ∙ *ℤ_comm e (pos 0) ∙ zero-*ℤ e
-  where
-    none : (x y : ℤ) → x ≡ y → x -ℤ y ≡ pos 0
-    none x y e = omega (arith, ints)
 
 -- ---- what passes under a place
 -- it has the place on its line or above
@@ -77,7 +61,7 @@ passes_turn q s t h e = by (or_cases (int_lt (pos 0) (height_over t q)) (int_eq 
 
 -- nothing passes under itself where it begins
 pub not_itself : (q : Point) (s : Segment) → height_over s q ≡ pos 0 → passes_under q s s ≡ true → ⊥
-not_itself q s e h = no_more (turn_of s s) (own_turn (width s) (rise s)) (passes_turn q s s h e)
+not_itself q s e h = no_more (turn_of s s) (no_turn (width s) (rise s)) (passes_turn q s s h e)
   where
     no_more : (z : ℤ) → z ≡ pos 0 → pos 0 <ℤ z → ⊥
     no_more z e k = omega (arith, ints)
@@ -117,7 +101,7 @@ not_known input e p he hp over (inl first) h =
     let u : Point = place_of p.from in
     let t : Segment = p.support in
     let ahead : (q.x *ℤ u.w) ≤ℤ (u.x *ℤ q.w) = x_in_order q u first in
-    let level : q.x *ℤ u.w ≡ u.x *ℤ q.w = one_x (q.x *ℤ u.w) (u.x *ℤ q.w) ahead over.begun in
+    let level : q.x *ℤ u.w ≡ u.x *ℤ q.w = same_most (q.x *ℤ u.w) (u.x *ℤ q.w) ahead over.begun in
     let up : pos 0 <ℤ ((u.y *ℤ q.w) -ℤ (q.y *ℤ u.w)) = by_y (q.x *ℤ u.w) (u.x *ℤ q.w) (q.y *ℤ u.w) (u.y *ℤ q.w) (forward (q.x *ℤ u.w) (u.x *ℤ q.w) (q.y *ℤ u.w) (u.y *ℤ q.w) first) level in
     let low : height_over t q <ℤ pos 0 =
     under_height (height_over t q) (height_over t u) (width t) u.w q.w ((q.y *ℤ u.w) -ℤ (u.y *ℤ q.w)) (rise t *ℤ ((q.x *ℤ u.w) -ℤ (u.x *ℤ q.w))) hp.piece.from_positive (over_wide q he.piece.from_positive t (over_it input t u (place_of p.to) q over))
@@ -125,9 +109,6 @@ not_known input e p he hp over (inl first) h =
     (on_line t u hp.from_on) (no_product (rise t) (q.x *ℤ u.w) (u.x *ℤ q.w) level) (down (q.y *ℤ u.w) (u.y *ℤ q.w) up) in
     not_low (height_over t q) low (passes_high q e.support t h)
   where
-    one_x : (a b : ℤ) → a ≤ℤ b → b ≤ℤ a → a ≡ b
-    one_x a b h k = omega (arith, ints)
-
     by_y : (a b c d : ℤ) → Forward (b -ℤ a) (d -ℤ c) → a ≡ b → pos 0 <ℤ (d -ℤ c)
     by_y a b c d (inl h) e = absurd (omega (arith, ints, h, e))
     by_y a b c d (inr h) e = h.1

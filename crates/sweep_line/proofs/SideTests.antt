@@ -23,6 +23,7 @@ use Rattle.tile_laws.proofs.StepUp.{IsLowerTest, under_is_lower, not_over_is_low
 use Rattle.tile_laws.proofs.Lying.{IsOver, over_it, sides_by, sign_alike, zero_alike}
 use Rattle.exact_point.proofs.Lines.{width, rise, gap, base, heights_give_gap}
 use Rattle.overlay_terms.proofs.Difference.{mul_pos}
+use Rattle.overlay_terms.proofs.Whole.{no_product, less_by}
 use Rattle.exact_point.proofs.ByX.{Left}
 use Rattle.exact_point.proofs.OnLine.{on_line}
 use Rattle.sweep_line.specs.Status.{passes_under}
@@ -32,12 +33,6 @@ use Rattle.sweep_line.proofs.Passing.{lies}
 -- a line that rises from one place to another over the same x is not slanted
 no_slant : (h k d w v n m : ℤ) → pos 0 <ℤ d → h *ℤ w ≡ ((k *ℤ v) +ℤ (d *ℤ n)) -ℤ m → h ≡ pos 0 → k ≡ pos 0 → m ≡ pos 0 → pos 0 <ℤ n → ⊥
 no_slant h k d w v n m hd e one two level up = omega (arith, ints, e, level, ap (λ z. z *ℤ w) one, zero-*ℤ w, ap (λ z. z *ℤ v) two, zero-*ℤ v, mul_pos d n hd up)
-
-no_product : (e a b : ℤ) → a ≡ b → e *ℤ (a -ℤ b) ≡ pos 0
-no_product e a b h = ap (λ z. e *ℤ z) (none a b h) ∙ *ℤ_comm e (pos 0) ∙ zero-*ℤ e
-  where
-    none : (x y : ℤ) → x ≡ y → x -ℤ y ≡ pos 0
-    none x y e = omega (arith, ints)
 
 -- a segment that holds two places one above the other is upright
 pub not_slanted : (s : Segment) (p r : Point) → IsTrue (is_on s p) → IsTrue (is_on s r) → r.x *ℤ p.w ≡ p.x *ℤ r.w → pos 0 <ℤ ((r.y *ℤ p.w) -ℤ (p.y *ℤ r.w)) → pos 0 <ℤ width s → ⊥
@@ -91,10 +86,7 @@ module _ (input : Input) (valid : IsInput input) (e : Elementary) (is : IsElemen
     pub goes_right : Left (place_of e.from) (place_of e.to)
     goes_right = by ahead where
       by : Forward ((r.x *ℤ q.w) -ℤ (q.x *ℤ r.w)) ((r.y *ℤ q.w) -ℤ (q.y *ℤ r.w)) → Left q r
-      by (inl h) = less (q.x *ℤ r.w) (r.x *ℤ q.w) h
-        where
-          less : (a b : ℤ) → pos 0 <ℤ (b -ℤ a) → a <ℤ b
-          less a b h = omega (arith, ints)
+      by (inl h) = less_by (q.x *ℤ r.w) (r.x *ℤ q.w) h
       by (inr h) = absurd (not_slanted s q r is.from_on is.to_on (level (q.x *ℤ r.w) (r.x *ℤ q.w) h.0) h.1 wide)
         where
           level : (a b : ℤ) → b -ℤ a ≡ pos 0 → b ≡ a

@@ -35,12 +35,14 @@ use Rattle.tile_laws.proofs.Lying.{IsOver, stretches, over_it, support_over, on_
 use Rattle.exact_point.proofs.Lines.{width}
 use Rattle.exact_point.proofs.PlaceOrder.{on_same, same_from_equal, not_before_self}
 use Rattle.overlay_terms.proofs.Lists.{contains_map}
+use Rattle.overlay_terms.proofs.Pairs.{pairs_map}
+use Rattle.overlay_terms.proofs.Whole.{most_same}
 use Rattle.exact_point.proofs.ByX.{Left, AtMost, left_after, at_most_through}
 use Rattle.exact_point.proofs.OnLine.{on_line}
 use Rattle.sweep_line.specs.Status.{goes_on, passes_under, is_passed}
 use Rattle.sweep_line.specs.Sweep.{IsEntryOf, StandsUnder, IsSwept}
 use Rattle.sweep_line.specs.declared.status.StatusEntry.{StatusEntry}
-use Rattle.sweep_line.proofs.ListLemmas.{pairs_map, pairs_take, all_first, among_first, all_insert, pairs_insert, any_insert, inserted, image_at}
+use Rattle.sweep_line.proofs.ListLemmas.{pairs_take, all_first, among_first, all_insert, pairs_insert, any_insert, inserted, image_at}
 use Rattle.sweep_line.proofs.Passing.{Order, before, equal, behind, order_of, not_itself, lies, not_known}
 use Rattle.sweep_line.proofs.SideTests.{IsTestFor, over_begin, slanted_test}
 
@@ -295,13 +297,10 @@ module _ (input : Input) (pieces : List Elementary) (i : ℕ) (e : Elementary) (
 
   ahead_now : (f : Elementary) → IsElementary input f → All (λ p. ComesBefore p f) now → AtMost q (place_of f.from)
   ahead_now f is_f all = by (All-contains (λ p. ComesBefore p f) now e all (Contains-push done e)) where
-    flat : (a b : ℤ) → a ≡ b → a ≤ℤ b
-    flat a b h = omega (arith, ints)
-
     by : ComesBefore e f → AtMost q (place_of f.from)
     by (inl less) = x_in_order q (place_of f.from) less
     by (inr turned) =
-        flat (q.x *ℤ (place_of f.from).w) ((place_of f.from).x *ℤ q.w)
+        most_same (q.x *ℤ (place_of f.from).w) ((place_of f.from).x *ℤ q.w)
         (places_alike q (place_of f.from) hq is_f.piece.from_positive (same_from_equal q (place_of f.from) hq is_f.piece.from_positive turned.0)).x_level
 
   ordered_now : AllPairs (StandsUnder q) on

@@ -4,6 +4,7 @@ use Rattle.std.specs.Cmp.Lexicographic.{pointwise}
 use Rattle.std.proofs.Common.{inl, inr, refl, sym, subst, arith, get_or}
 use Rattle.std.proofs.lemmas.Bool.{and_parts, and_from, false≢true}
 use Rattle.std.proofs.lemmas.List.Elements.{All-head, All-tail, All-contains}
+use Rattle.overlay_terms.proofs.Pairs.{pairs_head, pairs_rest}
 
 -- each element of the first list has one like it in the second
 abbrev pub Covers : {X : Type 0} → (X → X → Bool) → List X → List X → Type 0
@@ -27,14 +28,6 @@ module _ {X : Type 0} where
   -- an empty list has no element
   pub none_of_any : (Q : X → Type 0) → Any Q [] → ⊥
   none_of_any Q a = omega (arith, a.2)
-
-  -- the first of an ordered list is before all others
-  pub first_before : (less : X → X → Type 0) (x : X) (xs : List X) → AllPairs less (x ∷ xs) → All (less x) xs
-  first_before less x xs ordered j d l = ordered 0 (suc j) d (omega arith) (omega (arith, l))
-
-  -- the rest of an ordered list is ordered
-  pub rest_ordered : (less : X → X → Type 0) (x : X) (xs : List X) → AllPairs less (x ∷ xs) → AllPairs less xs
-  rest_ordered less x xs ordered i j d a l = ordered (suc i) (suc j) d (omega (arith, a)) (omega (arith, l))
 
   -- what stands at one number of two lists that are the same pair by pair
   pub alike_at : (same : X → X → Bool) (xs ys : List X) → pointwise same xs ys ≡ true → (i : ℕ) (d e : X) → i < length xs → IsTrue (same (get_or xs i d) (get_or ys i e))
@@ -86,10 +79,10 @@ module _ {X : Type 0} (P : X → Type 0) (same : X → X → Bool) (less : X →
       let hy : P y = All-head P y ys all_y in
       let rest_x : All P xs = All-tail P x xs all_x in
       let rest_y : All P ys = All-tail P y ys all_y in
-      let above_x : All (less x) xs = first_before less x xs order_x in
-      let above_y : All (less y) ys = first_before less y ys order_y in
+      let above_x : All (less x) xs = pairs_head less x xs order_x in
+      let above_y : All (less y) ys = pairs_head less y ys order_y in
       let e : IsTrue (same x y) = firsts_alike x y xs ys hx hy rest_x rest_y above_x above_y (forth 0 x (omega arith)) (back 0 y (omega arith)) in
       and_from (same x y) (pointwise same xs ys) e
-      (alike_from_covers xs ys rest_x rest_y (rest_ordered less x xs order_x) (rest_ordered less y ys order_y)
+      (alike_from_covers xs ys rest_x rest_y (pairs_rest less x xs order_x) (pairs_rest less y ys order_y)
       (rest_covered x y xs ys hx hy rest_x e above_x (All-tail (λ z. Any (λ t. IsTrue (same z t)) (y ∷ ys)) x xs forth))
       (rest_covered y x ys xs hy hx rest_y (ranks.turned x y hx hy e) above_y (All-tail (λ z. Any (λ t. IsTrue (same z t)) (x ∷ xs)) y ys back)))

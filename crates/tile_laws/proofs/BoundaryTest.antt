@@ -2,9 +2,8 @@
 use Rattle.std.specs.Prelude.{◌≡◌, ℕ, pos, ◌<ℤ◌, ◌⊎◌, Bool, true, false, not, ◌&&◌, IsTrue, List, map, All, Contains}
 use Rattle.std.specs.List.{list_any}
 use Rattle.std.specs.Ordering.{is_lt}
-use Rattle.std.specs.declared.cmp.Ordering.{Ordering}
-use Rattle.std.specs.declared.cmp.Ordering.TheVariants.{Less, Equal, Greater}
-use Rattle.std.proofs.Common.{inl, inr, refl, ap, sym, ◌∙◌}
+use Rattle.std.specs.declared.cmp.Ordering.TheVariants.{Less}
+use Rattle.std.proofs.Common.{inl, inr, ap, sym, ◌∙◌}
 use Rattle.std.proofs.lemmas.Bool.{and_parts, and_from, both_ways, not-true, not_from_false, false_from_ne_true}
 use Rattle.std.proofs.lemmas.List.Elements.{All-contains}
 use Rattle.std.proofs.lemmas.List.Folds.{Any-from_list_any}
@@ -16,17 +15,12 @@ use Rattle.overlay_terms.specs.Tiles.{IsPiece, under_of, over_of, IsBoundary}
 use Rattle.overlay_terms.specs.TileLaws.{IsProper}
 use Rattle.overlay_terms.proofs.InputLists.{any_from_Contains}
 use Rattle.overlay_terms.proofs.Lists.{any_contains}
+use Rattle.overlay_terms.proofs.Tests.{less_told}
 use Rattle.exact_point.proofs.PlaceOrder.{alike_left, alike_right}
 use Rattle.tile_laws.proofs.Candidates.{candidates, IsAmong, node_among}
 use Rattle.tile_laws.proofs.NodesOver.{IsNodeOn, is_node_on, node_on_from, node_on_test, node_on_same}
 use Rattle.tile_laws.proofs.Ranks.{Told, yes, no, told}
 use Rattle.tile_laws.proofs.Gathered.{Decided, holds, fails}
-
--- what the test for less says
-less_told : (o : Ordering) → is_lt o ≡ true → o ≡ Less
-less_told Less e = refl
-less_told Equal e = cc
-less_told Greater e = cc
 
 module _ (segments : List Segment) (proper : All IsProper segments) where
   -- a node on a segment, strictly between two points

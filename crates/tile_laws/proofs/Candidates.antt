@@ -9,12 +9,12 @@ use Rattle.overlay_terms.specs.Plane.{Point, Segment, whole, whole_cmp, same_pla
 use Rattle.overlay_terms.specs.Column.{border, columns}
 use Rattle.overlay_terms.specs.Tiles.{is_parallel, is_node}
 use Rattle.overlay_terms.proofs.Difference.{split, differences, same}
-use Rattle.overlay_terms.proofs.InputNumbers.{lt_true}
+use Rattle.overlay_terms.proofs.InputNumbers.{lt_true, last_turned}
 use Rattle.exact_point.specs.Crossing.{turn_of, lead_of}
 use Rattle.exact_point.specs.PlaceOf.{part_way, crossing_place, cut_place}
 use Rattle.exact_point.proofs.OnSegment.{reached}
 use Rattle.exact_point.proofs.CrossingLemmas.{one_crossing, turn_back}
-use Rattle.exact_point.proofs.BorderLemmas.{one_over_x, at_border, either_way}
+use Rattle.exact_point.proofs.BorderLemmas.{one_over_x, at_border}
 use Rattle.overlay_terms.proofs.Lists.{in_flat_map, contains_map}
 use Rattle.exact_point.proofs.OnLine.{parallel_from_turn, on_line}
 use Rattle.exact_point.proofs.PlaceOrder.{one_positive, same_turned}
@@ -82,7 +82,7 @@ cut_there s j p wide on e =
     let over : z.x ≡ border j *ℤ z.w = at_border s.left.x s.right.x (border j) in (
       omega (arith, ints),
       same_turned z p (one_over_x s z p wide (cut_level a b s.left.x s.left.y (border j -ℤ s.left.x) a) (on_line s p on)
-          (ap (λ n. n *ℤ p.w) over ∙ either_way (border j) z.w p.w ∙ ap (λ n. n *ℤ z.w) (sym e))),
+          (ap (λ n. n *ℤ p.w) over ∙ last_turned (border j) z.w p.w ∙ ap (λ n. n *ℤ z.w) (sym e))),
     )
 
 -- ---- nodes

@@ -1,16 +1,10 @@
 -- Counts over a list, by tests that agree, that are apart, or that pass once.
-use Rattle.std.specs.Prelude.{◌≡◌, ℕ, zero, suc, ◌+◌, ◌<◌, ◌≤◌, Bool, true, false, ◌||◌, List, [], ◌∷◌, map, length, get_or, count_by, All, Contains, AllPairs}
+use Rattle.std.specs.Prelude.{◌≡◌, ℕ, zero, suc, ◌+◌, ◌<◌, ◌≤◌, Bool, true, false, ◌||◌, List, [], ◌∷◌, length, get_or, count_by, All, Contains, AllPairs}
 use Rattle.std.specs.List.{list_any}
 use Rattle.std.proofs.Common.{refl, ap, sym, ◌∙◌, arith}
 use Rattle.std.proofs.lemmas.Bool.{false≢true}
 use Rattle.std.proofs.lemmas.List.Elements.{All-head, All-tail}
 use Rattle.overlay_terms.proofs.ClosedRings.{bit, count-cons}
-
--- two tests that follow from one another
-pub same_tests : (b c : Bool) → (b ≡ true → c ≡ true) → (c ≡ true → b ≡ true) → b ≡ c
-same_tests true c h k = sym (h refl)
-same_tests false true h k = k refl
-same_tests false false h k = refl
 
 -- what follows counts as much
 bit_most : (b c : Bool) → (b ≡ true → c ≡ true) → bit b ≤ bit c
@@ -68,11 +62,6 @@ count_both f g h (x ∷ xs) both =
     let two : count_by g (x ∷ xs) ≡ bit (g x) + count_by g xs = count-cons g x xs in
     let three : count_by h (x ∷ xs) ≡ bit (h x) + count_by h xs = count-cons h x xs in
     omega arith
-
--- a count over a list of values
-pub count_map : {X Y : Type 0} (f : Y → Bool) (v : X → Y) (xs : List X) → count_by f (map v xs) ≡ count_by (λ x. f (v x)) xs
-count_map f v [] = refl
-count_map f v (x ∷ xs) = count-cons f (v x) (map v xs) ∙ ap (λ n. bit (f (v x)) + n) (count_map f v xs) ∙ sym (count-cons (λ y. f (v y)) x xs)
 
 module _ {X : Type 0} (f : X → Bool) where
   -- where none passes

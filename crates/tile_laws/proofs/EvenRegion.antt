@@ -1,5 +1,7 @@
 -- A list in which each member stands an even number of times: any test holds of an even number.
 use Rattle.std.proofs.Common.{◌≡◌, ℕ, ◌≤◌, zero, suc, arith, ap, sym, ◌∙◌, refl, Bool, true, false, not, ◌&&◌, List, [], ◌∷◌, length}
+use Rattle.std.proofs.Math.Bool.{and-true}
+use Rattle.overlay_terms.proofs.Tests.{same_behind}
 
 -- one and not the other
 abbrev pub differ : Bool → Bool → Bool
@@ -54,11 +56,6 @@ taken_apart same p v (x ∷ xs) =
     ∙ by_cases (same v x) (p x) (odd (λ y. ((same v y) && (p y))) xs) (odd p (without same v xs))
     ∙ ap (differ (differ ((same v x) && (p x)) (odd (λ y. ((same v y) && (p y))) xs))) (sym (pushed p (same v x) x (without same v xs)))
 
--- of those that are v all pass or none
-both_of : (s q r : Bool) → (s ≡ true → q ≡ r) → (s && q) ≡ (s && r)
-both_of true q r h = h refl
-both_of false q r h = refl
-
 -- tests that agree everywhere
 pub odd_same : {X : Type 0} → (p q : X → Bool) (xs : List X) → ((x : X) → p x ≡ q x) → odd p xs ≡ odd q xs
 odd_same p q [] h = refl
@@ -104,7 +101,7 @@ Respects {X} same p = (x y : X) → same x y ≡ true → p y ≡ p x
 even_of : {X : Type 0} → (same : X → X → Bool) (p : X → Bool) (v : X) (xs : List X)
     → Respects same p → odd (same v) xs ≡ false → odd (λ y. ((same v y) && (p y))) xs ≡ false
 even_of same p v xs r h =
-    odd_same (λ y. ((same v y) && (p y))) (λ y. ((same v y) && (p v))) xs (λ y. both_of (same v y) (p y) (p v) (r v y))
+    odd_same (λ y. ((same v y) && (p y))) (λ y. ((same v y) && (p v))) xs (λ y. same_behind (same v y) (p y) (p v) (r v y))
     ∙ even_if (same v) (p v) xs h
 
 -- so the others are as odd as all
@@ -163,16 +160,12 @@ even_if_so : {X : Type 0} → (e : X → Bool) (r : Bool) (xs : List X) → (r �
 even_if_so e true xs h = odd_all e xs ∙ h refl
 even_if_so e false xs h = odd_none e xs
 
-all_of : (b : Bool) → (b && true) ≡ b
-all_of true = refl
-all_of false = refl
-
 -- it is enough that each member that passes stands there an even number of times
 pub even_within : {X : Type 0} → (same : X → X → Bool) (p : X → Bool) (xs : List X)
     → ((x : X) → same x x ≡ true) → ((u : X) → Respects same (same u)) → Respects same p
     → ((v : X) → p v ≡ true → odd (same v) xs ≡ false) → odd p xs ≡ false
 even_within same p xs e t r h =
-    sym (odd_only p (λ y. true) xs ∙ odd_same (λ y. p y && true) p xs (λ y. all_of (p y)))
+    sym (odd_only p (λ y. true) xs ∙ odd_same (λ y. p y && true) p xs (λ y. and-true (p y)))
     ∙ even_region same (λ y. true) (only p xs) e t (λ x y s. refl)
     (λ v. odd_only p (same v) xs
     ∙ odd_same (λ y. p y && same v y) (λ y. same v y && p v) xs (λ y. swapped (p v) (same v y) (p y) (r v y))

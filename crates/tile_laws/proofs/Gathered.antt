@@ -4,7 +4,8 @@ use Rattle.std.proofs.Common.{inl, inr, refl, sym, subst, arith}
 use Rattle.std.proofs.lemmas.List.Elements.{All-nil, All-cons, All-head, All-tail, All-weaker}
 use Rattle.std.proofs.lemmas.List.Kept.{AllPairs-cons}
 use Rattle.overlay_terms.proofs.Lists.{Contains-cons_cases, none_in_empty}
-use Rattle.tile_laws.proofs.AlikeLists.{Ranks, any_cases, none_of_any, first_before, rest_ordered}
+use Rattle.overlay_terms.proofs.Pairs.{pairs_head, pairs_rest}
+use Rattle.tile_laws.proofs.AlikeLists.{Ranks, any_cases, none_of_any}
 
 -- elements that are compared: one comes before the other, or both are alike
 pub data Compared {X : Type 0} (same : X → X → Bool) (less : X → X → Type 0) (x y : X) : Type 0 where
@@ -39,7 +40,7 @@ module _ {X : Type 0} (P : X → Type 0) (same : X → X → Bool) (less : X →
     insert_before x hx y ys hy all ordered into (lower l) = record {
       list = x ∷ y ∷ ys;
       all = λ Q h hs. All-cons Q x (y ∷ ys) h hs;
-      ordered = AllPairs-cons less x (y ∷ ys) (All-cons (less x) y ys l (λ j d m. ranks.through x y (get_or ys j d) hx hy (all j d m) l (first_before less y ys ordered j d m))) ordered;
+      ordered = AllPairs-cons less x (y ∷ ys) (All-cons (less x) y ys l (λ j d m. ranks.through x y (get_or ys j d) hx hy (all j d m) l (pairs_head less y ys ordered j d m))) ordered;
       here = any_first (λ z. IsTrue (same x z)) x (y ∷ ys) (itself x hx);
       kept = λ Q a. any_rest Q x (y ∷ ys) a;
     }
@@ -53,7 +54,7 @@ module _ {X : Type 0} (P : X → Type 0) (same : X → X → Bool) (less : X →
     insert_before x hx y ys hy all ordered into (higher l) = record {
       list = y ∷ into.list;
       all = λ Q h hs. All-cons Q y into.list (All-head Q y ys hs) (into.all Q h (All-tail Q y ys hs));
-      ordered = AllPairs-cons less y into.list (into.all (less y) l (first_before less y ys ordered)) into.ordered;
+      ordered = AllPairs-cons less y into.list (into.all (less y) l (pairs_head less y ys ordered)) into.ordered;
       here = any_rest (λ z. IsTrue (same x z)) y into.list into.here;
       kept = λ Q a. by Q (any_cases Q y ys a);
     }
@@ -73,7 +74,7 @@ module _ {X : Type 0} (P : X → Type 0) (same : X → X → Bool) (less : X →
     }
     insert x hx (y ∷ ys) all ordered =
         insert_before x hx y ys (All-head P y ys all) (All-tail P y ys all) ordered
-        (insert x hx ys (All-tail P y ys all) (rest_ordered less y ys ordered)) (compared x y hx (All-head P y ys all))
+        (insert x hx ys (All-tail P y ys all) (pairs_rest less y ys ordered)) (compared x y hx (All-head P y ys all))
 
     module _ (Q : X → Type 0) (placed : (x : X) → Q x → P x) where
       -- those of a list that have the property

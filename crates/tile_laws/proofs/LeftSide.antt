@@ -13,12 +13,13 @@ use Rattle.overlay_terms.specs.Column.{border, is_in_column}
 use Rattle.overlay_terms.specs.Tiles.{Input, midpoint}
 use Rattle.overlay_terms.specs.TileLaws.{IsInput, IsProper}
 use Rattle.overlay_terms.proofs.Difference.{split, differences, same, mul_pos}
-use Rattle.overlay_terms.proofs.InputNumbers.{last_turned, most_times, less_times, most_back, less_back, le_true, lt_true, true_le, true_lt, false_eq}
+use Rattle.overlay_terms.proofs.InputNumbers.{last_turned, most_times, less_times, most_back, less_back, le_true, lt_true, true_le, true_lt, false_eq, times_one}
+use Rattle.overlay_terms.proofs.Tests.{same_tests}
+use Rattle.overlay_terms.proofs.Whole.{same_most, most_is_not_less, less_by, most_same}
 use Rattle.exact_point.proofs.Lexical.{Forward, NotBack}
 use Rattle.exact_point.proofs.OnSegment.{leads, reached, is_reached}
 use Rattle.tile_laws.specs.Rays.{IsUpright, is_left_below, LeftSide}
 use Rattle.tile_laws.proofs.Statements.{segments_in}
-use Rattle.tile_laws.proofs.Counts.{same_tests}
 use Rattle.tile_laws.proofs.EvenRegion.{differ}
 use Rattle.tile_laws.proofs.SideBits.{all_in_map}
 use Rattle.tile_laws.proofs.SideUpright.{upright_level}
@@ -60,19 +61,16 @@ left_height d e x y l m w at = less_none (d *ℤ (y -ℤ (m *ℤ w))) (e *ℤ (x
     less_none a b h = omega (arith, ints)
 
 -- and over that of its right end
-from_right : (l m r o x y w : ℤ) → ((r -ℤ l) *ℤ (y -ℤ (m *ℤ w))) -ℤ ((o -ℤ m) *ℤ (x -ℤ (l *ℤ w))) ≡ ((r -ℤ l) *ℤ (y -ℤ (o *ℤ w))) -ℤ ((o -ℤ m) *ℤ (x -ℤ (r *ℤ w)))
+pub from_right : (l m r o x y w : ℤ) → ((r -ℤ l) *ℤ (y -ℤ (m *ℤ w))) -ℤ ((o -ℤ m) *ℤ (x -ℤ (l *ℤ w))) ≡ ((r -ℤ l) *ℤ (y -ℤ (o *ℤ w))) -ℤ ((o -ℤ m) *ℤ (x -ℤ (r *ℤ w)))
 from_right l m r o x y w = rw (split l, split m, split r, split o, split x, split y, split w) (simp differences (same _ _ _ _ (omega arith)))
 
 -- a product with a positive number has its sign
 one_sign : (d a b : ℤ) → pos 0 <ℤ d → int_lt (pos 0) (d *ℤ (b -ℤ a)) ≡ int_lt a b
 one_sign d a b hd =
     same_tests (int_lt (pos 0) (d *ℤ (b -ℤ a))) (int_lt a b)
-    (λ t. true_lt a b (less a b (positive_factor (b -ℤ a) d hd (turned (b -ℤ a) (lt_true (pos 0) (d *ℤ (b -ℤ a)) t)))))
+    (λ t. true_lt a b (less_by a b (positive_factor (b -ℤ a) d hd (turned (b -ℤ a) (lt_true (pos 0) (d *ℤ (b -ℤ a)) t)))))
     (λ t. true_lt (pos 0) (d *ℤ (b -ℤ a)) (mul_pos d (b -ℤ a) hd (more a b (lt_true a b t))))
   where
-    less : (a b : ℤ) → pos 0 <ℤ (b -ℤ a) → a <ℤ b
-    less a b h = omega (arith, ints)
-
     more : (a b : ℤ) → a <ℤ b → pos 0 <ℤ (b -ℤ a)
     more a b h = omega (arith, ints)
 
@@ -117,21 +115,12 @@ never_over a b l e = grind (arith, ints, e)
 difference_none : (a b : ℤ) → a ≡ b → a -ℤ b ≡ pos 0
 difference_none a b e = omega (arith, ints)
 
-once : (a : ℤ) → a *ℤ pos 1 ≡ a
-once a = omega (arith, ints)
-
-level_of : (a b : ℤ) → a ≤ℤ b → b ≤ℤ a → a ≡ b
-level_of a b h k = omega (arith, ints)
-
 not_under : (x a b : ℤ) → x ≡ pos 0 → NotBack x (a -ℤ b) → b ≤ℤ a
 not_under x a b e (inl h) = absurd (omega (arith, ints, h, e))
 not_under x a b e (inr h) = past_by a b h.1
   where
     past_by : (a b : ℤ) → pos 0 ≤ℤ (a -ℤ b) → b ≤ℤ a
     past_by a b h = omega (arith, ints)
-
-not_less : (a b : ℤ) → b ≤ℤ a → int_lt a b ≡ false
-not_less a b h = grind (arith, ints, h)
 
 past : (a b : ℤ) → a <ℤ b → pos 0 ≤ℤ (b -ℤ a)
 past a b h = omega (arith, ints)
@@ -145,14 +134,8 @@ ahead_of a b h = by_lt_z a b (λ l. absurd (both_ways (int_lt a b) h (true_lt a 
 through : (a b c : ℤ) → a <ℤ b → b <ℤ c → a <ℤ c
 through a b c h k = omega (arith, ints)
 
-higher : (a b : ℤ) → pos 0 <ℤ (b -ℤ a) → a <ℤ b
-higher a b h = omega (arith, ints)
-
 same_back : (a b w : ℤ) → pos 0 <ℤ w → a *ℤ w ≡ b *ℤ w → a ≡ b
-same_back a b w hw e = level_of a b (most_back a b w hw (same_most (a *ℤ w) (b *ℤ w) e)) (most_back b a w hw (same_most (b *ℤ w) (a *ℤ w) (sym e)))
-  where
-    same_most : (a b : ℤ) → a ≡ b → a ≤ℤ b
-    same_most a b h = omega (arith, ints)
+same_back a b w hw e = same_most a b (most_back a b w hw (most_same (a *ℤ w) (b *ℤ w) e)) (most_back b a w hw (most_same (b *ℤ w) (a *ℤ w) (sym e)))
 
 -- a segment reaches the x of a place from the left where it reaches the whole number that this x is
 reach_by_whole : (t : Segment) (q : Point) (l : ℤ) → pos 0 <ℤ q.w → q.x ≡ l *ℤ q.w → (int_lt (t.left.x *ℤ q.w) q.x && int_le q.x (t.right.x *ℤ q.w)) ≡ (int_lt t.left.x l && int_le l t.right.x)
@@ -206,10 +189,7 @@ module _ (input : Input) (p r : Point) (is : IsUpright input p r) (valid : IsInp
   same_x u e = ap (λ z. z *ℤ m.w) e ∙ last_turned l u.w m.w ∙ ap (λ z. z *ℤ u.w) (sym at_x)
 
   ends_up : (p.y *ℤ r.w) <ℤ (r.y *ℤ p.w)
-  ends_up = less (p.y *ℤ r.w) (r.y *ℤ p.w) (above input p r is.piece none up)
-    where
-      less : (a b : ℤ) → pos 0 <ℤ (b -ℤ a) → a <ℤ b
-      less a b h = omega (arith, ints)
+  ends_up = less_by (p.y *ℤ r.w) (r.y *ℤ p.w) (above input p r is.piece none up)
 
   after : point_cmp p m ≡ Less
   after = below_less p m (same_x p (from_x input p r is.piece none up)) (after_by p.y r.y p.w r.w is.piece.from_positive ends_up)
@@ -239,16 +219,10 @@ module _ (input : Input) (p r : Point) (is : IsUpright input p r) (valid : IsInp
       not_on : is_on t m ≡ false
       not_on = false_from_ne_true (is_on t m)
           (λ on. is.piece.none_between m hm on_s after before
-          (crossing_is_node segments s t m is.piece.among among on_s on (upright_crosses s t none up (not-true _ (false_eq t.left.x t.right.x (ahead t.left.x t.right.x wide))))))
-        where
-          ahead : (a b : ℤ) → pos 0 <ℤ (b -ℤ a) → a <ℤ b
-          ahead a b h = omega (arith, ints)
+          (crossing_is_node segments s t m is.piece.among among on_s on (upright_crosses s t none up (not-true _ (false_eq t.left.x t.right.x (less_by t.left.x t.right.x wide))))))
 
       ahead_x : t.left.x <ℤ t.right.x
-      ahead_x = less t.left.x t.right.x wide
-        where
-          less : (a b : ℤ) → pos 0 <ℤ (b -ℤ a) → a <ℤ b
-          less a b h = omega (arith, ints)
+      ahead_x = less_by t.left.x t.right.x wide
 
       -- over the x of an end, it is below the middle where the end is
       by_left : int_eq t.left.x l ≡ true → int_lt (pos 0) (height_over t m) ≡ int_lt (t.left.y *ℤ m.w) m.y
@@ -302,12 +276,12 @@ module _ (input : Input) (p r : Point) (is : IsUpright input p r) (valid : IsInp
         on_from on = by_lt_z (t.left.y *ℤ m.w) m.y (true_lt (t.left.y *ℤ m.w) m.y)
             (λ most. absurd (no_end (or_left (same_place m (whole t.left)) (same_place m (whole t.right))
             (and_from (int_eq (m.x *ℤ pos 1) (t.left.x *ℤ m.w)) (int_eq (m.y *ℤ pos 1) (t.left.y *ℤ m.w))
-            ((Decides-int_eq (m.x *ℤ pos 1) (t.left.x *ℤ m.w)).1 (once m.x ∙ t_x))
-            ((Decides-int_eq (m.y *ℤ pos 1) (t.left.y *ℤ m.w)).1 (once m.y ∙ level_of m.y (t.left.y *ℤ m.w) most
+            ((Decides-int_eq (m.x *ℤ pos 1) (t.left.x *ℤ m.w)).1 (times_one m.x ∙ t_x))
+            ((Decides-int_eq (m.y *ℤ pos 1) (t.left.y *ℤ m.w)).1 (times_one m.y ∙ same_most m.y (t.left.y *ℤ m.w) most
             (not_under (m.x -ℤ (t.left.x *ℤ m.w)) m.y (t.left.y *ℤ m.w) no_way (reached t m on).from_left)))))))
 
         on_to : is_on t m ≡ true → int_lt (t.right.y *ℤ m.w) m.y ≡ false
-        on_to on = not_less (t.right.y *ℤ m.w) m.y (not_under ((t.right.x *ℤ m.w) -ℤ m.x) (t.right.y *ℤ m.w) m.y no_way_back (reached t m on).to_right)
+        on_to on = most_is_not_less (t.right.y *ℤ m.w) m.y (not_under ((t.right.x *ℤ m.w) -ℤ m.x) (t.right.y *ℤ m.w) m.y no_way_back (reached t m on).to_right)
 
         on_between : int_lt (t.left.y *ℤ m.w) m.y ≡ true → int_lt (t.right.y *ℤ m.w) m.y ≡ false → is_on t m ≡ true
         on_between h k =
@@ -319,7 +293,7 @@ module _ (input : Input) (p r : Point) (is : IsUpright input p r) (valid : IsInp
 
         lower_first : int_lt (t.right.y *ℤ m.w) m.y ≡ true → int_lt (t.left.y *ℤ m.w) m.y ≡ true
         lower_first h = true_lt (t.left.y *ℤ m.w) m.y (through (t.left.y *ℤ m.w) (t.right.y *ℤ m.w) m.y
-            (less_times t.left.y t.right.y m.w hm (higher t.left.y t.right.y steep)) (lt_true (t.right.y *ℤ m.w) m.y h))
+            (less_times t.left.y t.right.y m.w hm (less_by t.left.y t.right.y steep)) (lt_true (t.right.y *ℤ m.w) m.y h))
 
         on_line_there : is_on t m ≡ differ (int_lt (t.left.y *ℤ m.w) m.y) (int_lt (t.right.y *ℤ m.w) m.y)
         on_line_there = between_signs (is_on t m) (int_lt (t.left.y *ℤ m.w) m.y) (int_lt (t.right.y *ℤ m.w) m.y) on_from on_to on_between lower_first

@@ -13,7 +13,6 @@ use Rattle.overlay_terms.specs.TileLaws.{IsInput}
 use Rattle.overlay_terms.proofs.InputNumbers.{lt_true, true_lt, true_le}
 use Rattle.tile_laws.proofs.JustRight.{is_over_x, is_under, is_level, under_bits, up_to_bits, is_stretch_over}
 use Rattle.tile_laws.proofs.Statements.{segments_in}
-use Rattle.tile_laws.proofs.Counts.{same_tests}
 use Rattle.tile_laws.proofs.Stretches.{IsStretch, stretch_told, stretch_over, stretch_level}
 use Rattle.tile_laws.proofs.UnderLemmas.{IsOverX, over_x_told, over_wide}
 use Rattle.tile_laws.proofs.SideClear.{stretch_of, apart_of}
@@ -23,6 +22,8 @@ use Rattle.tile_laws.proofs.StepUp.{level_under_alike, level_over_alike, under_b
 use Rattle.exact_point.proofs.Lines.{gap, offset, form_moves, gap_form}
 use Rattle.exact_point.specs.Crossing.{turn_of}
 use Rattle.overlay_terms.proofs.Difference.{mul_pos}
+use Rattle.overlay_terms.proofs.Tests.{same_tests}
+use Rattle.overlay_terms.proofs.Whole.{same_most}
 use Rattle.exact_point.proofs.Signs.{positive_factor, zero_factor}
 use Rattle.exact_point.proofs.ByX.{Left, AtMost, left_after}
 use Rattle.exact_point.proofs.OnLine.{on_line}
@@ -163,10 +164,7 @@ module _ (input : Input) where
         let is_apart = apart_of (segments_in input) u v b.lies.piece ordered s' a.lies.piece.among in
         order_kept t' s' u v is_stretch is_apart wide q z b.positive d.positive b.begun after d.goes_on low high
         ∙ sym (under_is_above t' s' u v is_stretch is_apart wide z d.positive inside d.goes_on begin high))
-        (λ back. under_same_x s' t' q z a.positive c.positive (equal (q.x *ℤ z.w) (z.x *ℤ q.w) later back))
-      where
-        equal : (a b : ℤ) → a ≤ℤ b → b ≤ℤ a → a ≡ b
-        equal a b h k = omega (arith, ints)
+        (λ back. under_same_x s' t' q z a.positive c.positive (same_most (q.x *ℤ z.w) (z.x *ℤ q.w) later back))
 
     pub under_stays : is_under s t q ≡ is_under s t z
     under_stays = sym at_first ∙ between ∙ at_second

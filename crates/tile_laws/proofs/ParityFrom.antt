@@ -10,13 +10,15 @@ use Rattle.overlay_terms.specs.Tiles.{Input, IsPiece, IsTileOf, below_bits}
 use Rattle.overlay_terms.specs.TileLaws.{IsInput, is_pair_below}
 use Rattle.overlay_terms.proofs.ClosedRings.{bit}
 use Rattle.overlay_terms.proofs.StepLaws.{nothing_from_nothing}
+use Rattle.overlay_terms.proofs.ClosedLayers.{count-map}
+use Rattle.overlay_terms.proofs.Tests.{same_behind}
 use Rattle.tile_laws.proofs.Statements.{segments_in, SidesAreKept, EachHasAPiece, OnePieceOver, ParityFromPieces}
-use Rattle.tile_laws.proofs.Counts.{count_alike, count_none, count_both, count_map}
+use Rattle.tile_laws.proofs.Counts.{count_alike, count_none, count_both}
 use Rattle.tile_laws.proofs.Ranks.{Told, yes, no, told}
 use Rattle.exact_point.proofs.OnLine.{on_line}
 use Rattle.tile_laws.proofs.Stretches.{above_alike}
 use Rattle.tile_laws.proofs.UnderLemmas.{over_wide}
-use Rattle.tile_laws.proofs.RankedBits.{behind, below_none, no_bits, place_rank, lower_ranked, below_ranked}
+use Rattle.tile_laws.proofs.RankedBits.{below_none, no_bits, place_rank, lower_ranked, below_ranked}
 use Rattle.tile_laws.proofs.Edges.{Edge, ends, edges, ends_are}
 use Rattle.tile_laws.proofs.ParityStep.{value_below, edge_over, edge_rank, is_at, piece_stretch, support_over, count_at_none, count_at_one}
 
@@ -113,7 +115,7 @@ module _ (input : Input) (tile : List (Point × Point)) (q : Point) (is_input : 
     -- an edge is below the place where its rank is
     pair_ranked : (e : Edge input) → is_pair_below q (ends e) ≡ (edge_over input q is_input positive within e && ltb (edge_rank input q is_input positive within e) (place_rank input q positive))
     pair_ranked e =
-        behind (edge_over input q is_input positive within e) _ _
+        same_behind (edge_over input q is_input positive within e) _ _
         (λ over.
         let piece : IsPiece (segments_in input) e.from e.to = e.boundary.piece in
         let over_x = support_over input q is_input positive within e.from e.to piece over in
@@ -124,7 +126,7 @@ module _ (input : Input) (tile : List (Point × Point)) (q : Point) (is_input : 
     pairs_below : count_by (is_pair_below q) tile ≡ edges_below (place_rank input q positive)
     pairs_below =
         ap (count_by (is_pair_below q)) (sym (ends_are input tile is_tile.sound))
-        ∙ count_map (is_pair_below q) ends found
+        ∙ count-map (is_pair_below q) ends found
         ∙ count_alike (λ (e : Edge input). is_pair_below q (ends e)) (λ e. edge_over input q is_input positive within e && ltb (edge_rank input q is_input positive within e) (place_rank input q positive)) found (λ k d l. pair_ranked (get_or found k d))
 
     -- they are odd where the steps are true at the place

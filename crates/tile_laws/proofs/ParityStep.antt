@@ -12,9 +12,10 @@ use Rattle.overlay_terms.specs.Tiles.{Input, IsPiece, IsBoundary, IsTileOf, unde
 use Rattle.overlay_terms.specs.TileLaws.{IsInput}
 use Rattle.overlay_terms.proofs.Functions.{fun_ext}
 use Rattle.overlay_terms.proofs.InputLists.{any_from_Contains}
+use Rattle.overlay_terms.proofs.Tests.{same_tests}
 use Rattle.tile_laws.proofs.JustRight.{is_over_x, is_level, is_stretch_over}
 use Rattle.tile_laws.proofs.Statements.{segments_in, SidesAreKept, PieceOver, EachHasAPiece, OnePieceOver}
-use Rattle.tile_laws.proofs.Counts.{same_tests, count_none, count_once}
+use Rattle.tile_laws.proofs.Counts.{count_none, count_once}
 use Rattle.tile_laws.proofs.Ranks.{yes, no, told}
 use Rattle.exact_point.proofs.OnLine.{on_line}
 use Rattle.tile_laws.proofs.Stretches.{IsStretch, stretch_told, stretch_over, stretch_level}

@@ -10,29 +10,22 @@ use Rattle.overlay_terms.specs.Tiles.{Input, below_bits}
 use Rattle.overlay_terms.proofs.Difference.{mul_pos}
 use Rattle.overlay_terms.proofs.Functions.{fun_ext}
 use Rattle.overlay_terms.proofs.InputNumbers.{lt_true, true_lt}
+use Rattle.overlay_terms.proofs.Tests.{same_tests, same_behind}
+use Rattle.overlay_terms.proofs.Lists.{contains_rest}
 use Rattle.exact_point.proofs.Lines.{width, gap, heights_give_gap}
 use Rattle.exact_point.proofs.Signs.{not_positive_times, positive_factor}
 use Rattle.tile_laws.proofs.JustRight.{is_over_x, is_under, is_level, bits_where, under_bits, up_to_bits}
 use Rattle.tile_laws.proofs.Statements.{segments_in}
-use Rattle.tile_laws.proofs.Counts.{same_tests, count_alike, count_none}
+use Rattle.tile_laws.proofs.Counts.{count_alike, count_none}
 use Rattle.tile_laws.proofs.Ranks.{yes, no, told, IsLower, rank, rank_level, under_is, level_from_rank, bound, below_is}
 use Rattle.tile_laws.proofs.UnderLemmas.{over_wide, under_orders, level_under, level_back, none_under, gap_from_under, under_from_gap}
-
--- one more in front leaves what stood in a list in it
-more_in_front : {X : Type 0} (x : X) (xs : List X) (y : X) → Contains xs y → Contains (x ∷ xs) y
-more_in_front x xs y among = (suc among.0, omega (arith, among.1), among.2)
 
 -- each segment of marked ones is among them
 all_among : (marked : List Marked) → All (λ m. Contains (map (λ m. m.segment) marked) m.segment) marked
 all_among [] = All-nil (λ (m : Marked). Contains [] m.segment)
 all_among (m ∷ marked) =
     All-cons (λ (n : Marked). Contains (m.segment ∷ map (λ m. m.segment) marked) n.segment) m marked (0, omega arith, refl)
-    (All-weaker (λ (n : Marked). Contains (map (λ m. m.segment) marked) n.segment) (λ n. Contains (m.segment ∷ map (λ m. m.segment) marked) n.segment) (λ n. more_in_front m.segment (map (λ m. m.segment) marked) n.segment) marked (all_among marked))
-
--- two tests behind a third that agree where it passes
-pub behind : (o f g : Bool) → (o ≡ true → f ≡ g) → (o && f) ≡ (o && g)
-behind true f g h = h refl
-behind false f g h = refl
+    (All-weaker (λ (n : Marked). Contains (map (λ m. m.segment) marked) n.segment) (λ n. Contains (m.segment ∷ map (λ m. m.segment) marked) n.segment) (λ n. contains_rest m.segment (map (λ m. m.segment) marked) n.segment) marked (all_among marked))
 
 -- a number below 0
 pub below_none : (n : ℕ) → ltb n 0 ≡ false
@@ -57,7 +50,7 @@ module _ (input : Input) (q : Point) (positive : pos 0 <ℤ q.w) where
       fun_ext (λ k. ap (λ n. n % 2 == 1)
       (count_alike (λ (m : Marked). (m.layer == k) && (is_over_x m.segment q && f m.segment)) (λ m. (m.layer == k) && (is_over_x m.segment q && g m.segment)) input.marked
       (All-weaker (λ (m : Marked). Contains (segments_in input) m.segment) (λ m. ((m.layer == k) && (is_over_x m.segment q && f m.segment)) ≡ ((m.layer == k) && (is_over_x m.segment q && g m.segment)))
-      (λ m among. ap (λ b. (m.layer == k) && b) (behind (is_over_x m.segment q) (f m.segment) (g m.segment) (h m.segment among))) input.marked (all_among input.marked))))
+      (λ m among. ap (λ b. (m.layer == k) && b) (same_behind (is_over_x m.segment q) (f m.segment) (g m.segment) (h m.segment among))) input.marked (all_among input.marked))))
 
   -- no rank is below 0
   pub no_bits : ranked_bits 0 ≡ (λ k. false)

@@ -2,7 +2,8 @@
 use Rattle.std.specs.Prelude.{◌≡◌, ℕ, ◌<◌, ◌≤◌, Bool, true, false, ◌&&◌, ltb, List, count_by, Contains}
 use Rattle.std.proofs.Common.{refl, arith, ◌⊎◌, ⊎_elim}
 use Rattle.std.proofs.lemmas.Bool.{and_parts, and_from, and_right, both_ways, ltb-true, lt-ltb, true_from_ne_false, false_from_ne_true}
-use Rattle.tile_laws.proofs.Counts.{same_tests, count_alike, count_most, count_less}
+use Rattle.tile_laws.proofs.Counts.{count_alike, count_most, count_less}
+use Rattle.overlay_terms.proofs.Tests.{same_tests}
 
 -- a test with what it says
 pub data Told (b : Bool) : Type 0 where

@@ -14,14 +14,14 @@ use Rattle.overlay_terms.specs.InputLaws.{IsRing}
 use Rattle.overlay_terms.proofs.Difference.{split, whole_is, differences, same, mul_pos}
 use Rattle.overlay_terms.proofs.InputNumbers.{le_true, lt_true, true_le, true_lt}
 use Rattle.overlay_terms.proofs.InputLists.{any_from_Contains}
-use Rattle.overlay_terms.proofs.ClosedLayers.{layers_are_closed}
+use Rattle.overlay_terms.proofs.ClosedLayers.{layers_are_closed, count-map}
 use Rattle.exact_point.proofs.Lexical.{Forward}
 use Rattle.exact_point.proofs.OnSegment.{leads, is_reached}
 use Rattle.tile_laws.specs.Rays.{is_left_of, RayLaw}
-use Rattle.tile_laws.proofs.Counts.{count_map}
 use Rattle.tile_laws.proofs.EvenRegion.{differ}
 use Rattle.tile_laws.proofs.SideMeeting.{on_from_level}
 use Rattle.tile_laws.proofs.EndCounts.{IsEven, count_alike_by_ends}
+use Rattle.tile_laws.proofs.LeftSide.{from_right}
 use Rattle.exact_point.proofs.Lines.{width, rise}
 use Rattle.exact_point.proofs.Signs.{negative_times, not_negative_times, not_positive_times}
 
@@ -207,9 +207,6 @@ above_test h k = grind (arith, ints, k)
 lt_not : (a b : ℤ) → int_lt a b ≡ not (int_le b a)
 lt_not a b = grind (arith, ints)
 
-right_parts : (l m r o x y w : ℤ) → ((r -ℤ l) *ℤ (y -ℤ (m *ℤ w))) -ℤ ((o -ℤ m) *ℤ (x -ℤ (l *ℤ w))) ≡ ((r -ℤ l) *ℤ (y -ℤ (o *ℤ w))) -ℤ ((o -ℤ m) *ℤ (x -ℤ (r *ℤ w)))
-right_parts l m r o x y w = rw (split l, split m, split r, split o, split x, split y, split w) (simp differences (same _ _ _ _ (omega arith)))
-
 way : (l r x w : ℤ) → (x -ℤ (l *ℤ w)) -ℤ (x -ℤ (r *ℤ w)) ≡ (r -ℤ l) *ℤ w
 way l r x w = rw (split l, split r, split x, split w) (simp differences (same _ _ _ _ (omega arith)))
 
@@ -243,7 +240,7 @@ module _ (p : Point) (hp : pos 0 <ℤ p.w) (t : Segment) (ahead : Forward (width
   y = p.y -ℤ (t.right.y *ℤ p.w)
 
   right_form : height_over t p ≡ (width t *ℤ y) -ℤ (rise t *ℤ x)
-  right_form = right_parts t.left.x t.left.y t.right.x t.right.y p.x p.y p.w
+  right_form = from_right t.left.x t.left.y t.right.x t.right.y p.x p.y p.w
 
   up_way : v -ℤ y ≡ rise t *ℤ p.w
   up_way = way t.left.y t.right.y p.y p.w
@@ -367,11 +364,11 @@ pub ray_law : RayLaw
 ray_law rings p are hp off =
     let segments : List Segment = segments_of rings in
     let closed : AreClosed (numbered segments) = subst AreClosed (append-nil (numbered segments)) (layers_are_closed (rings ∷ []) one_layer) in
-    sym (ap (λ n. n % 2 == 1) (count_map (λ (m : Marked). (m.layer == 0) && is_below m.segment p) (λ s. record { layer = 0; segment = s }) segments))
+    sym (ap (λ n. n % 2 == 1) (count-map (λ (m : Marked). (m.layer == 0) && is_below m.segment p) (λ s. record { layer = 0; segment = s }) segments))
     ∙ count_alike_by_ends (λ t. is_below t p) (λ t. is_left_of t p) (λ e. int_le (e.x *ℤ p.w) p.x && int_le (e.y *ℤ p.w) p.y) (numbered segments) 0
     (λ i d l. let m : Marked = get_or (numbered segments) i d in ray_even p hp m.segment (leads m.segment (closed.proper i d l).first) (not_held i d l))
     (λ e h. closed.even 0 e)
-    ∙ ap (λ n. n % 2 == 1) (count_map (λ (m : Marked). (m.layer == 0) && is_left_of m.segment p) (λ s. record { layer = 0; segment = s }) segments)
+    ∙ ap (λ n. n % 2 == 1) (count-map (λ (m : Marked). (m.layer == 0) && is_left_of m.segment p) (λ s. record { layer = 0; segment = s }) segments)
   where
     one_layer : All (All IsRing) (rings ∷ [])
     one_layer = All-cons (All IsRing) rings [] are (All-nil (All IsRing))

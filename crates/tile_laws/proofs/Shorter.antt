@@ -2,7 +2,8 @@
 use Rattle.std.specs.Prelude.{zero, suc, ◌≤◌, Bool, ◌⊎◌, IsTrue, List, [], ◌∷◌, length, All, Any, AllPairs, get_or}
 use Rattle.std.proofs.Common.{inl, inr, arith}
 use Rattle.std.proofs.lemmas.List.Elements.{All-head, All-tail, All-contains}
-use Rattle.tile_laws.proofs.AlikeLists.{Covers, Ranks, any_cases, none_of_any, first_before, rest_ordered, rest_covered, not_crossed}
+use Rattle.tile_laws.proofs.AlikeLists.{Covers, Ranks, any_cases, none_of_any, rest_covered, not_crossed}
+use Rattle.overlay_terms.proofs.Pairs.{pairs_head, pairs_rest}
 
 module _ {X : Type 0} (P : X → Type 0) (same : X → X → Bool) (less : X → X → Type 0) (ranks : Ranks P same less) where
   -- where the first element is like one behind the first of the other list, so are all
@@ -44,7 +45,7 @@ module _ {X : Type 0} (P : X → Type 0) (same : X → X → Bool) (less : X →
     rest_y = All-tail P y ys are.second
 
     above : All (less x) xs
-    above = first_before less x xs are.ordered
+    above = pairs_head less x xs are.ordered
 
     by : IsTrue (same x y) ⊎ Any (λ z. IsTrue (same x z)) ys → length (x ∷ xs) ≤ length (y ∷ ys)
     by (inl e) =
@@ -52,20 +53,20 @@ module _ {X : Type 0} (P : X → Type 0) (same : X → X → Bool) (less : X →
         shorter xs (record {
           first = rest_x;
           second = rest_y;
-          ordered = rest_ordered less x xs are.ordered;
-          there = rest_ordered less y ys are.there;
+          ordered = pairs_rest less x xs are.ordered;
+          there = pairs_rest less y ys are.there;
           covers = rest_covered P same less ranks x y xs ys hx hy rest_x e above (All-tail (λ z. Any (λ t. IsTrue (same z t)) (y ∷ ys)) x xs are.covers);
         }) in
         omega (arith, fewer)
     by (inr (j, v, l, at, e)) =
         let hv : P v = All-contains P ys v rest_y (j, l, at) in
-        let far : less y v = All-contains (less y) ys v (first_before less y ys are.there) (j, l, at) in
+        let far : less y v = All-contains (less y) ys v (pairs_head less y ys are.there) (j, l, at) in
         let fewer : length (x ∷ xs) ≤ length ys =
         shorter (x ∷ xs) (record {
           first = are.first;
           second = rest_y;
           ordered = are.ordered;
-          there = rest_ordered less y ys are.there;
+          there = pairs_rest less y ys are.there;
           covers = covered_behind x y v xs ys hx hy rest_x hv above far e (j, v, l, at, e) are.covers;
         }) in
         omega (arith, fewer)

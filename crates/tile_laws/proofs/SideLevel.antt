@@ -6,6 +6,7 @@ use Rattle.std.proofs.Common.{refl, ap, sym, ◌∙◌, arith, inl, inr}
 use Rattle.std.proofs.lemmas.Int.{ints, by_lt_z}
 use Rattle.std.proofs.lemmas.Bool.Decides.{Decides-int_eq}
 use Rattle.overlay_terms.specs.Plane.{WholePoint, Point, Segment, whole, height_over}
+use Rattle.overlay_terms.proofs.InputNumbers.{true_lt}
 use Rattle.exact_point.proofs.Lexical.{Forward}
 use Rattle.exact_point.proofs.PlaceOrder.{one_positive}
 use Rattle.exact_point.proofs.ByX.{Left, AtMost, left_after, left_before}
@@ -41,10 +42,7 @@ module _ (s t : Segment) (p r u v : Point) (stretch : Stretch s p r) (apart : Ap
       (λ h. is_after u e (drop_one u.x (e.x *ℤ u.w) (left_before u v (whole e) u_positive v_positive one_positive later (most_of (v.x *ℤ pos 1) (e.x *ℤ v.w) (past_true v e h)))))
     where
       is_after : (q : Point) (e : WholePoint) → q.x <ℤ (e.x *ℤ q.w) → is_past q e ≡ true
-      is_after q e h = test q.x (e.x *ℤ q.w) h
-        where
-          test : (a b : ℤ) → a <ℤ b → int_lt a b ≡ true
-          test a b k = grind (arith, ints, k)
+      is_after q e h = true_lt q.x (e.x *ℤ q.w) h
 
       at_most : (a b : ℤ) → b ≤ℤ a → b ≤ℤ (a *ℤ pos 1)
       at_most a b h = omega (arith, ints)

@@ -5,6 +5,7 @@ use Rattle.std.proofs.lemmas.Int.{ints, by_lt_z}
 use Rattle.std.proofs.Math.IntN.{*ℤ_comm, *ℤ-zero}
 use Rattle.overlay_terms.specs.Plane.{Point, Segment, whole, height_over, is_on}
 use Rattle.overlay_terms.proofs.Difference.{split, differences, same, mul_pos}
+use Rattle.overlay_terms.proofs.Whole.{last_out, most_same}
 use Rattle.exact_point.proofs.Lexical.{NotBack}
 use Rattle.exact_point.proofs.OnSegment.{is_reached}
 use Rattle.exact_point.proofs.ByX.{Left, AtMost, left_after, left_before, at_most_through}
@@ -78,18 +79,12 @@ on_from_level s p wide level low high =
     })
 
 -- ---- the point of a line over an x
-same_x : (x w d : ℤ) → x *ℤ (w *ℤ d) ≡ (x *ℤ d) *ℤ w
-same_x x w d = rw (split x, split w, split d) (simp differences (same _ _ _ _ (omega arith)))
-
-most_same : (a b : ℤ) → a ≡ b → a ≤ℤ b
-most_same a b e = omega (arith, ints)
-
 -- it is over that x
 pub over_least : (s : Segment) (q : Point) → AtMost q (place_over s q.x q.w)
-over_least s q = most_same _ _ (same_x q.x q.w (width s))
+over_least s q = most_same _ _ (last_out q.x q.w (width s))
 
 pub over_most : (s : Segment) (q : Point) → AtMost (place_over s q.x q.w) q
-over_most s q = most_same _ _ (sym (same_x q.x q.w (width s)))
+over_most s q = most_same _ _ (sym (last_out q.x q.w (width s)))
 
 -- over an x strictly inside the stretch and between the ends of t, no gap between the lines means that they are parallel
 pub no_gap_inside : (s t : Segment) (p r q : Point) → Stretch s p r → Apart s t p r → pos 0 <ℤ width t → pos 0 <ℤ q.w → Left p q → Left q r → AtMost (whole t.left) q → AtMost q (whole t.right) → gap t s q ≡ pos 0 → turn_of t s ≡ pos 0

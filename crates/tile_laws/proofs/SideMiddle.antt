@@ -11,6 +11,8 @@ use Rattle.overlay_terms.proofs.InputNumbers.{IsWithinEnds, between_from_on}
 use Rattle.exact_point.proofs.Lexical.{Forward}
 use Rattle.exact_point.proofs.OnSegment.{reached}
 use Rattle.overlay_terms.proofs.Difference.{mul_pos}
+use Rattle.overlay_terms.proofs.Tests.{same_tests, same_behind}
+use Rattle.overlay_terms.proofs.Whole.{most_is_not_less}
 use Rattle.exact_point.proofs.PlaceOrder.{one_positive}
 use Rattle.exact_point.proofs.ByX.{Left, AtMost, left_after, left_before, left_most, to_whole}
 use Rattle.exact_point.proofs.Lines.{width, rise, gap, heights_give_gap, flat_gap, gap_at, on_first, on_second}
@@ -22,7 +24,6 @@ use Rattle.tile_laws.proofs.SideMeeting.{Stretch, Apart, on_from_level}
 use Rattle.tile_laws.proofs.SideOrder.{under_is_above}
 use Rattle.tile_laws.proofs.SideStrip.{is_past, past_true, past_false, over_by_past}
 use Rattle.tile_laws.proofs.SideUpright.{upright_turn}
-use Rattle.tile_laws.proofs.Counts.{same_tests}
 use Rattle.tile_laws.proofs.SideLevel.{never_over}
 
 -- ---- over opaque numbers
@@ -40,10 +41,6 @@ height_sign ht ws hs wt g wide level e =
     not_above h k = grind (arith, ints, h, k)
 
 -- ---- over tests
-guarded : (o a b : Bool) → (o ≡ true → a ≡ b) → (o && a) ≡ (o && b)
-guarded true a b h = h refl
-guarded false a b h = refl
-
 -- below or on, by over or not
 on_by : (o a b n l : Bool) → (o && a) ≡ (o && b) → (o ≡ true → n ≡ l) → (o ≡ false → n ≡ false) → ((o && a) || n) ≡ (o && (b || l))
 on_by true a b n l e f h = ap (λ c. c || n) e ∙ ap (λ c. b || c) (f refl)
@@ -51,9 +48,6 @@ on_by false a b n l e f h = h refl
 
 second_false : (p q : Bool) → p ≡ false → (not p && q) ≡ false → q ≡ false
 second_false p q h e = grind (arith, h, e)
-
-not_past : (x a : ℤ) → a ≤ℤ x → int_lt x a ≡ false
-not_past x a h = grind (arith, ints, h)
 
 module _ (s t : Segment) (p r z : Point) (stretch : Stretch s p r) (apart : Apart s t p r) (positive : pos 0 <ℤ z.w) (after : Left p z) (before : Left z r) (level : height_over s z ≡ pos 0) where
   -- a segment over its x reaches from left of it to right of it
@@ -76,7 +70,7 @@ module _ (s t : Segment) (p r z : Point) (stretch : Stretch s p r) (apart : Apar
     -- below it is under just right of it
     below_slanted : is_below t z ≡ (is_over_x t z && is_under t s z)
     below_slanted =
-        guarded (is_over_x t z) (int_lt (pos 0) (height_over t z)) (is_under t s z)
+        same_behind (is_over_x t z) (int_lt (pos 0) (height_over t z)) (is_under t s z)
         (λ over. height_sign (height_over t z) (width s) (height_over s z) (width t) (gap t s z) stretch.wide level (heights_give_gap t s z)
         ∙ sym (under_is_above s t p r stretch apart wide z positive after before (reach_left over) (reach_right over)))
 
@@ -95,7 +89,7 @@ module _ (s t : Segment) (p r z : Point) (stretch : Stretch s p r) (apart : Apar
     not_over_not_on : is_over_x t z ≡ false → is_on t z ≡ true → ⊥
     not_over_not_on out on =
         let between : IsWithinEnds t z = between_from_on t z on in
-        let low : is_past z t.left ≡ false = not_past z.x (t.left.x *ℤ z.w) between.from_left in
+        let low : is_past z t.left ≡ false = most_is_not_less z.x (t.left.x *ℤ z.w) between.from_left in
         let past : is_past z t.right ≡ false = second_false (is_past z t.left) (is_past z t.right) low (sym (over_by_past t z) ∙ out) in
         let most : AtMost (whole t.right) z = past_false z t.right past in
         let least : AtMost z (whole t.right) = to_whole (t.right.x *ℤ z.w) z.x between.to_right in
@@ -122,7 +116,7 @@ module _ (s t : Segment) (p r z : Point) (stretch : Stretch s p r) (apart : Apar
 
     below_upright : is_below t z ≡ (is_over_x t z && is_under t s z)
     below_upright =
-        guarded (is_over_x t z) (int_lt (pos 0) (height_over t z)) (is_under t s z) (λ over. absurd (both_ways (is_over_x t z) no_x over))
+        same_behind (is_over_x t z) (int_lt (pos 0) (height_over t z)) (is_under t s z) (λ over. absurd (both_ways (is_over_x t z) no_x over))
 
     near_upright : (is_below t z || is_on t z) ≡ (is_over_x t z && (is_under t s z || is_level t s z))
     near_upright =

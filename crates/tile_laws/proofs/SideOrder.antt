@@ -6,6 +6,7 @@ use Rattle.std.proofs.lemmas.Int.{ints, by_lt_z}
 use Rattle.std.proofs.Math.IntN.{*ℤ_comm}
 use Rattle.overlay_terms.specs.Plane.{Point, Segment, whole}
 use Rattle.overlay_terms.proofs.Difference.{split, differences, same, diff-neg}
+use Rattle.overlay_terms.proofs.Whole.{negated_positive, less_none, more_none}
 use Rattle.exact_point.proofs.PlaceOrder.{one_positive}
 use Rattle.exact_point.proofs.ByX.{Left, AtMost, left_after, at_most_through, left_most}
 use Rattle.exact_point.proofs.Lines.{width, gap, form_moves, falls, zero_is, zero_after, zero_not_after, offset, gap_form}
@@ -44,15 +45,6 @@ rising_after a b x w h = omega (arith, ints, negated_first b w, *ℤ_comm a x)
 -- and not after a place where it is not under 0
 rising_not_after : (a b y v : ℤ) → pos 0 ≤ℤ ((a *ℤ y) +ℤ (b *ℤ v)) → (neg_ℤ b *ℤ v) ≤ℤ (y *ℤ a)
 rising_not_after a b y v h = omega (arith, ints, negated_first b v, *ℤ_comm a y)
-
-negated_positive : (a : ℤ) → a <ℤ pos 0 → pos 0 <ℤ neg_ℤ a
-negated_positive a h = omega (arith, ints)
-
-less_none : (a : ℤ) → a <ℤ pos 0 → a ≡ pos 0 → ⊥
-less_none a h e = omega (arith, ints)
-
-more_none : (a : ℤ) → pos 0 <ℤ a → a ≡ pos 0 → ⊥
-more_none a h e = omega (arith, ints)
 
 positive_difference : (a b : ℤ) → a <ℤ b → pos 0 <ℤ (b -ℤ a)
 positive_difference a b h = omega (arith, ints)

@@ -3,6 +3,7 @@ use Rattle.std.specs.Prelude.{◌≡◌, ℤ, pos, ◌-ℤ◌, ◌*ℤ◌, ◌<�
 use Rattle.std.proofs.Common.{sym, ◌∙◌, arith}
 use Rattle.std.proofs.lemmas.Int.{ints, by_lt_z}
 use Rattle.overlay_terms.specs.Plane.{WholePoint, Point, Segment, whole, height_over}
+use Rattle.overlay_terms.proofs.Whole.{same_most}
 use Rattle.exact_point.proofs.PlaceOrder.{one_positive}
 use Rattle.exact_point.proofs.ByX.{Left, AtMost, left_after, left_before, at_most_through, left_most}
 use Rattle.exact_point.proofs.Lines.{width, gap, heights_give_gap}
@@ -23,9 +24,6 @@ itself q = not_more (q.x *ℤ q.w)
 -- the ends of a segment that is not vertical are in order
 ends_in_order : (l r : ℤ) → pos 0 <ℤ (r -ℤ l) → (l *ℤ pos 1) <ℤ (r *ℤ pos 1)
 ends_in_order l r h = omega (arith, ints)
-
-level_x : (a b : ℤ) → a ≤ℤ b → b ≤ℤ a → a ≡ b
-level_x a b h k = omega (arith, ints)
 
 module _ (s t : Segment) (p r u v : Point) (stretch : Stretch s p r) (apart : Apart s t p r) (wide : pos 0 <ℤ width t) (u_positive : pos 0 <ℤ u.w) (v_positive : pos 0 <ℤ v.w) (begin : AtMost p u) (later : Left u v) (end : Left v r) where
   -- an end of t is under the line of s where the gap says so
@@ -93,7 +91,7 @@ module _ (s t : Segment) (p r u v : Point) (stretch : Stretch s p r) (apart : Ap
   begins_on : AtMost (whole t.left) v → AtMost v (whole t.right) → AtMost v (whole t.left) → int_lt (height_over s (whole t.left)) (pos 0) ≡ is_under t s v
   begins_on low high back =
       sym (end_below t.left (left_on_line t))
-      ∙ gap_sign t s (whole t.left) v one_positive v_positive (level_x (t.left.x *ℤ v.w) (v.x *ℤ pos 1) low back)
+      ∙ gap_sign t s (whole t.left) v one_positive v_positive (same_most (t.left.x *ℤ v.w) (v.x *ℤ pos 1) low back)
       ∙ sym (above_at_v low high)
 
   -- it begins in the strip and is over the second border

@@ -8,9 +8,9 @@ use Rattle.std.proofs.lemmas.List.{get_or_default}
 use Rattle.overlay_terms.specs.Plane.{Point, Segment, height_over}
 use Rattle.overlay_terms.specs.Tiles.{Input}
 use Rattle.overlay_terms.proofs.InputNumbers.{le_true, true_le}
+use Rattle.overlay_terms.proofs.Tests.{same_tests}
 use Rattle.tile_laws.proofs.JustRight.{is_over_x, is_under, is_level, bits_where, under_bits, up_to_bits}
 use Rattle.tile_laws.proofs.Statements.{segments_in}
-use Rattle.tile_laws.proofs.Counts.{same_tests}
 use Rattle.tile_laws.proofs.Ranks.{Told, yes, no, told, Orders, IsLower}
 use Rattle.tile_laws.proofs.UnderLemmas.{over_wide, under_orders, level_under, level_back, none_under, gap_from_under, under_from_gap}
 use Rattle.tile_laws.proofs.RankedBits.{bits_alike, below_none, no_bits, rank_of}

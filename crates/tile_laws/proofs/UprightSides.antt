@@ -13,12 +13,12 @@ use Rattle.overlay_terms.specs.Layers.{Marked}
 use Rattle.overlay_terms.specs.Tiles.{Input, IsPiece, midpoint, below_bits, is_parallel, is_vertical}
 use Rattle.overlay_terms.proofs.Difference.{split, whole_is, differences, same, diff-neg, mul_pos}
 use Rattle.overlay_terms.proofs.InputNumbers.{last_turned, most_times, less_times, most_back, less_back, le_true, lt_true, true_le, true_lt, false_eq, middle_positive}
+use Rattle.overlay_terms.proofs.Tests.{same_tests, same_behind}
+use Rattle.overlay_terms.proofs.Whole.{less_by, no_product, negated_more}
 use Rattle.exact_point.proofs.Lexical.{Forward, forward}
 use Rattle.tile_laws.proofs.JustRight.{is_over_x, bits_where}
 use Rattle.tile_laws.proofs.Statements.{segments_in}
-use Rattle.tile_laws.proofs.Counts.{same_tests}
 use Rattle.tile_laws.proofs.UnderLemmas.{IsOverX, over_x_told, over_wide}
-use Rattle.tile_laws.proofs.RankedBits.{behind}
 use Rattle.tile_laws.proofs.SideMeeting.{on_from_level, over_least, over_most}
 use Rattle.tile_laws.proofs.SideUpright.{upright_level}
 use Rattle.tile_laws.proofs.SideMidpoint.{height_of_mean, as_form}
@@ -57,20 +57,11 @@ across_other x w d u z e = first u w d ∙ ap (λ n. n *ℤ d) e ∙ last_turned
     first : (u w d : ℤ) → u *ℤ (w *ℤ d) ≡ (u *ℤ w) *ℤ d
     first u w d = rw (split u, split w, split d) (simp differences (same _ _ _ _ (omega arith)))
 
-none_of : (a b e : ℤ) → a ≡ b → e *ℤ (a -ℤ b) ≡ pos 0
-none_of a b e h = zero_times e (a -ℤ b) (omega (arith, ints))
-  where
-    zero_times : (e z : ℤ) → z ≡ pos 0 → e *ℤ z ≡ pos 0
-    zero_times e z h = ap (λ n. e *ℤ n) h ∙ *ℤ_comm e (pos 0) ∙ zero-*ℤ e
-
 -- a place over the x of another and above it comes after it
 pub below_less : (p q : Point) → p.x *ℤ q.w ≡ q.x *ℤ p.w → (p.y *ℤ q.w) <ℤ (q.y *ℤ p.w) → point_cmp p q ≡ Less
 below_less p q e h =
     ap (λ o. ordering_then o (int_cmp (p.y *ℤ q.w) (q.y *ℤ p.w))) (sym (int_cmp_is (p.x *ℤ q.w) (q.x *ℤ p.w) Equal e))
     ∙ sym (int_cmp_is (p.y *ℤ q.w) (q.y *ℤ p.w) Less h)
-
-less_by : (a b : ℤ) → pos 0 <ℤ (b -ℤ a) → a <ℤ b
-less_by a b h = omega (arith, ints)
 
 -- an upright segment is not parallel to one that is not
 pub upright_crosses : (s t : Segment) → width s ≡ pos 0 → pos 0 <ℤ rise s → is_vertical t ≡ false → is_parallel s t ≡ false
@@ -154,7 +145,7 @@ module _ (input : Input) (p r : Point) (piece : IsPiece (segments_in input) p r)
         ap (λ z. z *ℤ p.w) (as_form t r)
         ∙ height_moves (width t) (rise t) (base t) p.x p.y p.w r.x r.y r.w
         ∙ ap (λ z. ((z *ℤ r.w) +ℤ (width t *ℤ ((r.y *ℤ p.w) -ℤ (p.y *ℤ r.w)))) -ℤ (rise t *ℤ ((r.x *ℤ p.w) -ℤ (p.x *ℤ r.w)))) (sym (as_form t p))
-        ∙ less_none ((low *ℤ r.w) +ℤ (width t *ℤ ((r.y *ℤ p.w) -ℤ (p.y *ℤ r.w)))) (rise t *ℤ ((r.x *ℤ p.w) -ℤ (p.x *ℤ r.w))) (none_of (r.x *ℤ p.w) (p.x *ℤ r.w) (rise t) one_x)
+        ∙ less_none ((low *ℤ r.w) +ℤ (width t *ℤ ((r.y *ℤ p.w) -ℤ (p.y *ℤ r.w)))) (rise t *ℤ ((r.x *ℤ p.w) -ℤ (p.x *ℤ r.w))) (no_product (rise t) (r.x *ℤ p.w) (p.x *ℤ r.w) one_x)
       where
         less_none : (a b : ℤ) → b ≡ pos 0 → a -ℤ b ≡ a
         less_none a b h = omega (arith, ints)
@@ -185,12 +176,9 @@ module _ (input : Input) (p r : Point) (piece : IsPiece (segments_in input) p r)
     z_from h =
         below_less p z (sym (same_across p.x p.w (width t)))
         (less_by (p.y *ℤ (p.w *ℤ width t)) (((rise t *ℤ p.x) +ℤ (base t *ℤ p.w)) *ℤ p.w)
-        (turned_up ((((rise t *ℤ p.x) +ℤ (base t *ℤ p.w)) *ℤ p.w) -ℤ (p.y *ℤ (p.w *ℤ width t))) (((width t *ℤ p.y) -ℤ ((rise t *ℤ p.x) +ℤ (base t *ℤ p.w))) *ℤ p.w) (rise_from (width t) (rise t) (base t) p.x p.y p.w)
+        (negated_more ((((rise t *ℤ p.x) +ℤ (base t *ℤ p.w)) *ℤ p.w) -ℤ (p.y *ℤ (p.w *ℤ width t))) (((width t *ℤ p.y) -ℤ ((rise t *ℤ p.x) +ℤ (base t *ℤ p.w))) *ℤ p.w) (rise_from (width t) (rise t) (base t) p.x p.y p.w)
         (negative_times ((width t *ℤ p.y) -ℤ ((rise t *ℤ p.x) +ℤ (base t *ℤ p.w))) p.w (carried low _ (as_form t p) h) piece.from_positive)))
       where
-        turned_up : (a b : ℤ) → a ≡ neg_ℤ b → b <ℤ pos 0 → pos 0 <ℤ a
-        turned_up a b e k = omega (arith, ints)
-
         carried : (a b : ℤ) → a ≡ b → a <ℤ pos 0 → b <ℤ pos 0
         carried a b e k = omega (arith, ints)
 
@@ -199,7 +187,7 @@ module _ (input : Input) (p r : Point) (piece : IsPiece (segments_in input) p r)
         below_less z r (sym (across_other p.x p.w (width t) r.x r.w one_x))
         (less_by (((rise t *ℤ p.x) +ℤ (base t *ℤ p.w)) *ℤ r.w) (r.y *ℤ (p.w *ℤ width t))
         (summed ((r.y *ℤ (p.w *ℤ width t)) -ℤ (((rise t *ℤ p.x) +ℤ (base t *ℤ p.w)) *ℤ r.w)) (((width t *ℤ r.y) -ℤ ((rise t *ℤ r.x) +ℤ (base t *ℤ r.w))) *ℤ p.w) (rise t *ℤ ((r.x *ℤ p.w) -ℤ (p.x *ℤ r.w))) (high *ℤ p.w)
-        (rise_to (width t) (rise t) (base t) p.x p.w r.x r.y r.w) (ap (λ n. n *ℤ p.w) (sym (as_form t r))) (none_of (r.x *ℤ p.w) (p.x *ℤ r.w) (rise t) one_x) h))
+        (rise_to (width t) (rise t) (base t) p.x p.w r.x r.y r.w) (ap (λ n. n *ℤ p.w) (sym (as_form t r))) (no_product (rise t) (r.x *ℤ p.w) (p.x *ℤ r.w) one_x) h))
       where
         summed : (a b c g : ℤ) → a ≡ b +ℤ c → b ≡ g → c ≡ pos 0 → pos 0 <ℤ g → pos 0 <ℤ a
         summed a b c g e f k h = omega (arith, ints)
@@ -216,7 +204,7 @@ module _ (input : Input) (p r : Point) (piece : IsPiece (segments_in input) p r)
         (at_most_through (whole t.left) p z one piece.from_positive z_positive (begin (t.left.x *ℤ p.w) p.x told.from_left) (over_least t p))
         (at_most_through z p (whole t.right) z_positive piece.from_positive one (over_most t p) (close (t.right.x *ℤ p.w) p.x told.before_right)) in
         piece.none_between z z_positive on_s (z_from h) (z_to k)
-        (crossing_is_node (segments_in input) s t z piece.among among on_s on_t (upright_crosses s t none up (not-true _ (false_eq t.left.x t.right.x (ahead t.left.x t.right.x wide)))))
+        (crossing_is_node (segments_in input) s t z piece.among among on_s on_t (upright_crosses s t none up (not-true _ (false_eq t.left.x t.right.x (less_by t.left.x t.right.x wide)))))
       where
         one : pos 0 <ℤ pos 1
         one = omega (arith, ints)
@@ -232,9 +220,6 @@ module _ (input : Input) (p r : Point) (piece : IsPiece (segments_in input) p r)
 
         close : (a x : ℤ) → x <ℤ a → (x *ℤ pos 1) ≤ℤ a
         close a x e = omega (arith, ints)
-
-        ahead : (a b : ℤ) → pos 0 <ℤ (b -ℤ a) → a <ℤ b
-        ahead a b e = omega (arith, ints)
 
     -- where it is below the middle, it does not pass over the lower end
     below_not_over : pos 0 <ℤ height_over t (midpoint p r) → pos 0 ≤ℤ low
@@ -254,7 +239,7 @@ module _ (input : Input) (p r : Point) (piece : IsPiece (segments_in input) p r)
   below_there : (t : Segment) → Contains (segments_in input) t → is_below t (midpoint p r) ≡ (is_over_x t p && is_not_over t p)
   below_there t among =
       ap (λ b. b && int_lt (pos 0) (height_over t (midpoint p r))) (over_by_whole t (midpoint p r) l mid_positive mid_x ∙ sym (over_by_whole t p l piece.from_positive from_x))
-      ∙ behind (is_over_x t p) (int_lt (pos 0) (height_over t (midpoint p r))) (is_not_over t p) (one_test t among)
+      ∙ same_behind (is_over_x t p) (int_lt (pos 0) (height_over t (midpoint p r))) (is_not_over t p) (one_test t among)
 
   -- so the bits are one
   pub upright_sides : (k : ℕ) → below_bits input.marked (midpoint p r) k ≡ bits_where (λ t. is_not_over t p) input.marked p k

@@ -1,25 +1,16 @@
-use Rattle.std.proofs.Common.{◌≡◌, ℤ, ap, sym, ◌∙◌, ◌&&◌, ◌*ℤ◌, ◌<ℤ◌, int_le, true, false, arith}
-use Rattle.std.proofs.lemmas.Int.{ints}
+use Rattle.std.proofs.Common.{◌≡◌, ℤ, ap, sym, ◌∙◌, ◌&&◌, ◌*ℤ◌, ◌<ℤ◌, int_le}
 use Rattle.std.specs.Cmp.{int_ranks}
 use Rattle.std.specs.Ordering.{int_cmp, is_ge, MatchOrdering}
 use Rattle.std.specs.declared.cmp.Ordering.{Ordering}
 use Rattle.std.specs.declared.cmp.Ordering.TheVariants.{Less, Equal, Greater}
 use Rattle.overlay_terms.specs.Column.{border}
+use Rattle.overlay_terms.proofs.Whole.{more_is_not_most, same_is_most, less_is_most}
 use Rattle.arrange.proofs.closed_column.is_within.Goals as goal
 
-below : (x y : ℤ) → x <ℤ y → int_le y x ≡ false
-below x y h = grind (arith, ints)
-
-level : (x y : ℤ) → x ≡ y → int_le y x ≡ true
-level x y h = grind (arith, ints)
-
-above : (x y : ℤ) → y <ℤ x → int_le y x ≡ true
-above x y h = grind (arith, ints)
-
 by_order : (x y : ℤ) (o : Ordering) → MatchOrdering o (x <ℤ y) (x ≡ y) (y <ℤ x) → is_ge o ≡ int_le y x
-by_order x y Less h = sym (below x y h)
-by_order x y Equal h = sym (level x y h)
-by_order x y Greater h = sym (above x y h)
+by_order x y Less h = sym (more_is_not_most y x h)
+by_order x y Equal h = sym (same_is_most y x (sym h))
+by_order x y Greater h = sym (less_is_most y x h)
 
 pub returns : goal.returns
 returns c =

@@ -3,12 +3,12 @@ use Rattle.std.proofs.lemmas.Bool.{both_ways}
 use Rattle.std.proofs.lemmas.List.Elements.{Contains-push}
 use Rattle.exact_point.specs.Place.{place}
 use Rattle.arrange.specs.Arrangement.{is_in_closed_column}
+use Rattle.arrange.proofs.FoundLemmas.{place_positive, has_place}
 use Rattle.crossing_sweep.specs.declared.ranked_place.RankedPlace.{RankedPlace}
 use Rattle.crossing_sweep.specs.Ahead.{HasAdded, IsOffered}
 use Rattle.crossing_sweep.specs.RankedPlace.{ranked_entry}
 use Rattle.crossing_sweep.proofs.PlacesInOrder.{pushed_added}
-use Rattle.crossing_sweep.proofs.AheadLemmas.{point_positive}
-use Rattle.crossing_sweep.proofs.KnownLemmas.{offered_added, offered_nowhere, has_place, within_alike}
+use Rattle.crossing_sweep.proofs.KnownLemmas.{offered_added, offered_nowhere, within_alike}
 use Rattle.crossing_sweep.proofs.known_places.offer.Goals as goal
 
 pub returns-in_ok-push : goal.returns-in_ok-push
@@ -30,7 +30,7 @@ returns-else-is_within c = λ names h.
     let out : is_in_closed_column c.args.column (place at) ≡ false = sym c.is_within.ensures ∙ c.if-is_within.false in
     offered_nowhere c.args.column names c.args.name (map ranked_entry c.args.places.now.items) h
     (λ p hp stands within.
-    both_ways (is_in_closed_column c.args.column (place at)) out (within_alike c.args.column (place at) p (point_positive at) hp (c.in-Some.ensures.only p hp stands) ∙ within))
+    both_ways (is_in_closed_column c.args.column (place at)) out (within_alike c.args.column (place at) p (place_positive at) hp (c.in-Some.ensures.only p hp stands) ∙ within))
 
 pub returns-in_default : goal.returns-in_default
 returns-in_default c = λ names h.

@@ -1,15 +1,13 @@
-use Rattle.std.proofs.Common.{rules, arith, ap, ◌∙◌, ℤ, ◌+ℤ◌, ◌*ℤ◌, false, ◌<ℤ◌, ◌≡◌, ◌-ℤ◌, to_z, of_z}
+use Rattle.std.proofs.Common.{rules, arith, ℤ, false, ◌<ℤ◌, ◌≡◌, ◌-ℤ◌, to_z, of_z}
 use Rattle.std.specs.Int.{w64}
 use Rattle.std.proofs.lemmas.Int.{ints, to_z-of_z}
 use lib.Signed.{le_z}
 use Rattle.overlay_terms.specs.Column.{border}
-use Rattle.overlay_terms.specs.Plane.{Point, Segment}
 use Rattle.exact_point.specs.Place.{place}
-use Rattle.exact_point.specs.PlaceOf.{part_way}
-use Rattle.exact_point.specs.Crossing.{IsPartWay}
 use Rattle.exact_point.specs.PointName.{IsCutBy, IsCutOf}
 use Rattle.exact_point.proofs.BorderLemmas.{cut_at, one_cut}
 use Rattle.exact_point.proofs.point_name.cut_of.Goals as goal
+use Rattle.exact_point.proofs.CrossingLemmas.{way_at}
 
 above : (a b m n : ℤ) → le_z a b ≡ false → a ≡ m → b ≡ n → n <ℤ m
 above a b m n h ea eb = grind (arith, ints)
@@ -46,14 +44,5 @@ returns-clause-place c = is_cut c
 pub returns-clause-only : goal.returns-clause-only
 returns-clause-only c = λ p w h. one_cut _ _ (place c.part_way.result) p (is_cut c) h
 
--- a place so far along is the one that the numbers tell
-same_way : (s : Segment) (t w m n : ℤ) (p : Point) → t ≡ m → w ≡ n → IsPartWay s t w p → p ≡ part_way s m n
-same_way s t w m n p et ew h =
-    let made : Point = record { x = p.x; y = p.y; w = p.w } in
-    rw (← et, ← ew) (
-    ap (λ (a : ℤ). record made { x = a }) h.across
-    ∙ ap (λ (b : ℤ). record made { x = (s.left.x *ℤ w) +ℤ ((s.right.x -ℤ s.left.x) *ℤ t); y = b }) h.along
-    ∙ ap (λ (d : ℤ). record made { x = (s.left.x *ℤ w) +ℤ ((s.right.x -ℤ s.left.x) *ℤ t); y = (s.left.y *ℤ w) +ℤ ((s.right.y -ℤ s.left.y) *ℤ t); w = d }) h.over)
-
 pub returns-clause-value : goal.returns-clause-value
-returns-clause-value c = same_way _ _ _ _ _ (place c.part_way.result) (from_left c) (whole_way c) c.part_way.ensures
+returns-clause-value c = way_at _ _ _ _ _ (place c.part_way.result) (from_left c) (whole_way c) c.part_way.ensures

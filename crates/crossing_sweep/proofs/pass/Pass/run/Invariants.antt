@@ -1,7 +1,7 @@
 use Rattle.std.proofs.Common.{◌≡◌, ◌-◌, ◌≤◌, length}
 use Rattle.crossing_sweep.specs.Amid.{IsPassing}
 use Rattle.crossing_sweep.specs.Rows.{count_settled}
-use Rattle.crossing_sweep.specs.Standing.{nodes_max}
+use Rattle.crossing_sweep.specs.PassState.{nodes_max}
 use Rattle.crossing_sweep.proofs.pass.Pass.run.Given as goal
 
 abbrev pub invariant-loop-alloc : goal.invariant-loop-alloc

@@ -4,13 +4,14 @@ use Rattle.exact_point.specs.Place.{place}
 use Rattle.exact_point.specs.declared.point.HPoint.{HPoint}
 use Rattle.sweep_line.specs.Status.{goes_on, HasEndsFor}
 use Rattle.sweep_line.specs.declared.status.StatusEntry.{StatusEntry}
-use Rattle.sweep_line.proofs.EndLemmas.{positive, all_go_on, lost, lost_goes, lost_shorter, fewer_pieces}
+use Rattle.sweep_line.proofs.EndLemmas.{all_go_on, lost, lost_goes, lost_shorter, fewer_pieces}
 use Rattle.sweep_line.proofs.status.Status.take_out_next.Goals as goal
+use Rattle.arrange.proofs.FoundLemmas.{place_positive}
 
 pub returns-in_default-clause-done : goal.returns-in_default-clause-done
 returns-in_default-clause-done c =
     let q = place c.args.at.now in
-    λ h. sym (subst (λ (es : List StatusEntry). filter (goes_on q) es ≡ es) c.self.view_is (all_go_on q c.self.inside.entries.items c.self.inside.ends (positive c.args.at.now) c.self.invariant (c.in_default.ensures.none refl)))
+    λ h. sym (subst (λ (es : List StatusEntry). filter (goes_on q) es ≡ es) c.self.view_is (all_go_on q c.self.inside.entries.items c.self.inside.ends (place_positive c.args.at.now) c.self.invariant (c.in_default.ensures.none refl)))
 
 pub invariant_of-self : goal.invariant_of-self
 invariant_of-self c =
@@ -21,7 +22,7 @@ pub returns-then-take_out_at-clause-more : goal.returns-then-take_out_at-clause-
 returns-then-take_out_at-clause-more c =
     let q = place c.args.at.now in
     λ h.
-    lost_goes q c.in-Some.end c.self.inside.entries.items c.take_out_at.new.entries.items (positive c.args.at.now) c.in-Some.ensures.up_to (c.take_out_at.ensures.yes c.if-take_out_at.true)
+    lost_goes q c.in-Some.end c.self.inside.entries.items c.take_out_at.new.entries.items (place_positive c.args.at.now) c.in-Some.ensures.up_to (c.take_out_at.ensures.yes c.if-take_out_at.true)
     ∙ ap (filter (goes_on q)) c.self.view_is
 
 pub returns-then-take_out_at-clause-fewer : goal.returns-then-take_out_at-clause-fewer

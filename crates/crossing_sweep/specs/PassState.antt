@@ -6,7 +6,7 @@ use Rattle.overlay_terms.specs.InputCode.{input_code}
 use Rattle.overlay_terms.specs.Tiles.{Input}
 
 -- the input, whether tests are listed, how many places are found ahead and rows made, and how many rows end before the last node
-pub record Standing : Type 0 where
+pub record PassState : Type 0 where
   pub input : Input
   pub listed : Bool
   pub ahead : ℕ
@@ -14,8 +14,8 @@ pub record Standing : Type 0 where
   pub settled : ℕ
 
 -- as data that a model's value may hold
-abbrev pub standing_code : Coded Standing
-standing_code =
+abbrev pub pass_state_code : Coded PassState
+pass_state_code =
     code_by (Input × (Bool × (ℕ × (ℕ × ℕ)))) (coded× input_code (coded× coded_bool (coded× coded_ℕ (coded× coded_ℕ coded_ℕ)))) (λ s. (s.input, (s.listed, (s.ahead, (s.rows, s.settled)))))
     (λ t. record { input = t.0; listed = t.1.0; ahead = t.1.1.0; rows = t.1.1.1.0; settled = t.1.1.1.1 }) (λ _. refl)
 
