@@ -9,8 +9,8 @@ use Rattle.overlay_terms.specs.Commands.{index_of, stands}
 use Rattle.overlay_terms.specs.Orderly.{used_names, is_among, is_orderly_after}
 use Rattle.layer_book.specs.Question.{content_at, at_index, is_wanted, marked}
 use Rattle.layer_book.proofs.Names.{stands_is}
-use Rattle.layer_book.proofs.Order.{head_of, among-push}
-use Rattle.overlay_terms.proofs.NameLemmas.{list_all_so}
+use Rattle.layer_book.proofs.Order.{head_of}
+use Rattle.overlay_terms.proofs.NameLemmas.{list_all_so, is_among-push}
 use Rattle.layer_book.proofs.Answering.{layer_there}
 
 set_keeps : (ws : List Bool) (i k : ℕ) → at_index ws k ≡ true → at_index (slice_set ws i true) k ≡ true
@@ -73,7 +73,7 @@ used_before known (l ∷ layers) zero layer h e =
     (list_all_so (is_among known) (λ u. is_among known u || before (l ∷ layers) 0 u) (λ u k. or_left _ _ k) (used_names l.content) (head_of known l layers h).earlier)
 used_before known (l ∷ layers) (suc i) layer h e =
     list_all_so (λ u. is_among (known ++ l.name ∷ []) u || before layers i u) (λ u. is_among known u || before (l ∷ layers) (suc i) u)
-    (λ u k. by_indices (is_among known u) (bytes_eq l.name u) (index_of layers u) i (sym (ap (λ b. b || before layers i u) (among-push known l.name u)) ∙ k))
+    (λ u k. by_indices (is_among known u) (bytes_eq l.name u) (index_of layers u) i (sym (ap (λ b. b || before layers i u) (is_among-push known l.name u)) ∙ k))
     (used_names layer.content) (used_before (known ++ l.name ∷ []) layers i layer (head_of known l layers h).behind e)
 
 -- what marked layers from an index on name is marked

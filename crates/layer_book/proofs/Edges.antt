@@ -9,10 +9,12 @@ use Rattle.overlay_terms.specs.Laws.{is_on_any}
 use Rattle.overlay_terms.specs.Layers.{Name, Content, base, derived, Layer, Marked, named, content_reach, reaches, base_of, marked_segments, segments_in_reach, value_of, answer_at, edge, inside, outside}
 use Rattle.overlay_terms.specs.Commands.{stands}
 use Rattle.overlay_terms.specs.Orderly.{is_orderly_after}
+use Rattle.overlay_terms.proofs.ReachLemmas.{any-flat_map}
+use Rattle.overlay_terms.proofs.NameLemmas.{or_false}
 use Rattle.layer_book.specs.Layer.{content_named}
 use Rattle.layer_book.specs.Question.{IsInside, IsEdge, content_edge, answers}
 use Rattle.layer_book.proofs.Names.{own_name}
-use Rattle.layer_book.proofs.Order.{fresh, or_false}
+use Rattle.layer_book.proofs.Order.{fresh}
 use Rattle.layer_book.proofs.Lookups.{passes, named_passes}
 
 -- whether a layer of rings has a segment that holds the point
@@ -23,10 +25,6 @@ base_edge p (derived expression) = false
 any-map : {X Y : Type 0} (f : Y → Bool) (g : X → Y) (xs : List X) → list_any f (map g xs) ≡ list_any (λ x. f (g x)) xs
 any-map f g [] = refl
 any-map f g (x ∷ xs) = ap (λ b. f (g x) || b) (any-map f g xs)
-
-pub any-flat_map : {X Y : Type 0} (f : Y → Bool) (g : X → List Y) (xs : List X) → list_any f (flat_map g xs) ≡ list_any (λ x. list_any f (g x)) xs
-any-flat_map f g [] = refl
-any-flat_map f g (x ∷ xs) = list_any-append f (g x) (flat_map g xs) ∙ ap (λ b. list_any f (g x) || b) (any-flat_map f g xs)
 
 pub any-filter : {X : Type 0} (f t : X → Bool) (xs : List X) → list_any f (filter t xs) ≡ list_any (λ x. t x && f x) xs
 any-filter f t [] = refl

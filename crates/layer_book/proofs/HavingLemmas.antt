@@ -14,7 +14,7 @@ use Rattle.arrange.specs.Marked.{marked_of}
 use Rattle.layer_book.specs.Having.{marks_in, past}
 use Rattle.layer_book.specs.Question.{at_index, marked_layers}
 use Rattle.layer_book.specs.Touching.{marked_in}
-use Rattle.layer_book.proofs.MarkedLayers.{rings_of}
+use Rattle.layer_book.proofs.MarkedLayers.{rings_of, marked_layers-nil}
 use Rattle.layer_book.proofs.SameMarks.{mark, marked_from, first_and_rest, drop_there, next_kept, next_skipped, none_left}
 
 -- whether what is left of marked segments is the rest of the expected ones
@@ -126,14 +126,10 @@ module _ (column : ℕ) (ws : List Bool) (layers : List Layer) (marked : List Ma
 
   pub all_passed : length layers ≤ i → nat_le (length marked) next ≡ whole
   all_passed h = split (nat_le (length marked) next) refl where
-    none_wanted : (vs : List Bool) → marked_layers vs [] ≡ []
-    none_wanted [] = refl
-    none_wanted (v ∷ vs) = refl
-
     ended : whole ≡ pointwise same_marked (map marked_of (drop next marked)) []
     ended =
         told ∙ ap (λ ls. pointwise same_marked (map marked_of (drop next marked)) (marked_from column number (rings_of ls)))
-        (ap (marked_layers (drop i ws)) (none_left layers i h) ∙ none_wanted (drop i ws))
+        (ap (marked_layers (drop i ws)) (none_left layers i h) ∙ marked_layers-nil (drop i ws))
 
     more : (ms : List MarkedSeg) (k : ℕ) → k < length ms → pointwise same_marked (map marked_of (drop k ms)) [] ≡ false
     more [] k h = absurd (omega arith)

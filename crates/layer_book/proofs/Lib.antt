@@ -1,3 +1,4 @@
+mod BoolLemmas
 pub mod Names
 pub mod Order
 pub mod Entries

@@ -6,11 +6,12 @@ use Rattle.std.proofs.lemmas.Bool.{or_parts}
 use Rattle.overlay_terms.specs.Layers.{Name, Content, Layer}
 use Rattle.overlay_terms.specs.Commands.{Refusal, index_of, stands, is_derived, refusal_of_use, refusal_of_uses, stands_as_base, stands_as_derived}
 use Rattle.overlay_terms.specs.Orderly.{is_orderly_after}
+use Rattle.overlay_terms.proofs.NameLemmas.{or_false}
 use Rattle.layer_book.specs.declared.fault.LayerFault.{LayerFault}
 use Rattle.layer_book.specs.Fault.{fault_of}
 use Rattle.layer_book.specs.Layer.{content_named}
 use Rattle.layer_book.proofs.Names.{same_name}
-use Rattle.layer_book.proofs.Order.{head_of, apart, or_false}
+use Rattle.layer_book.proofs.Order.{head_of, apart}
 
 -- the index of a name that no layer has
 pub absent_index : (layers : List Layer) (name : Name) → stands layers name ≡ false → index_of layers name ≡ length layers

@@ -8,6 +8,7 @@ use Rattle.overlay_terms.specs.Layers.{Name, Content, base, derived, Layer, base
 use Rattle.layer_expr.specs.StepList.{Reached, reached_of}
 use Rattle.layer_book.specs.Layer.{rings_in}
 use Rattle.layer_book.specs.Question.{at_index, marked_layers}
+use lib.Seq.{take-length}
 
 -- no layers
 pub marked_layers-nil : (ws : List Bool) → marked_layers ws [] ≡ []
@@ -72,10 +73,7 @@ marked_same ws layers i layer e w =
 
 -- all layers
 pub marked_whole : (ws : List Bool) (layers : List Layer) (i : ℕ) → i ≡ length layers → marked_layers ws (take i layers) ≡ marked_layers ws layers
-marked_whole ws layers i e = ap (marked_layers ws) (ap (λ k. take k layers) e ∙ take_all layers) where
-  take_all : (ls : List Layer) → take (length ls) ls ≡ ls
-  take_all [] = refl
-  take_all (l ∷ ls) = ap (λ m. l ∷ m) (take_all ls)
+marked_whole ws layers i e = ap (marked_layers ws) (ap (λ k. take k layers) e ∙ take-length layers)
 
 -- the mark that is read at an index
 pub read_mark : (ws : List Bool) (i : ℕ) → at_index ws i ≡ get_or ws i false

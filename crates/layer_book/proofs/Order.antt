@@ -6,6 +6,7 @@ use Rattle.std.proofs.lemmas.List.Folds.{list_any-append}
 use Rattle.overlay_terms.specs.Layers.{Name, Content, Layer}
 use Rattle.overlay_terms.specs.Commands.{stands}
 use Rattle.overlay_terms.specs.Orderly.{used_names, is_among, is_orderly_after}
+use Rattle.overlay_terms.proofs.NameLemmas.{is_among-push}
 use Rattle.layer_book.specs.Layer.{others}
 use Rattle.layer_book.proofs.Names.{same_name, own_name, turned}
 
@@ -21,13 +22,6 @@ head_of known layer layers h =
     let first = and_parts (not (is_among known layer.name)) (list_all (is_among known) (used_names layer.content)) both.0 in
     record { own = not-true _ first.0; earlier = first.1; behind = both.1 }
 
-pub or_false : (b : Bool) → (b || false) ≡ b
-or_false true = refl
-or_false false = refl
-
-pub among-push : (known : List Name) (x n : Name) → is_among (known ++ x ∷ []) n ≡ (is_among known n || bytes_eq x n)
-among-push known x n = list_any-append (λ other. bytes_eq other n) known (x ∷ []) ∙ ap (λ b. is_among known n || b) (or_false (bytes_eq x n))
-
 -- no layer has a known name
 pub strangers : (known : List Name) (layers : List Layer) (n : Name) → is_orderly_after known layers ≡ true → is_among known n ≡ true → stands layers n ≡ false
 strangers known [] n h k = refl
@@ -35,12 +29,12 @@ strangers known (layer ∷ layers) n h k =
     let head = head_of known layer layers h in
     or_from (bytes_eq layer.name n) (stands layers n)
     (false_from_ne_true _ (λ e. both_ways (is_among known layer.name) head.own (subst (λ m. is_among known m ≡ true) (sym (same_name layer.name n e)) k)))
-    (strangers (known ++ layer.name ∷ []) layers n head.behind (among-push known layer.name n ∙ or_left _ _ k))
+    (strangers (known ++ layer.name ∷ []) layers n head.behind (is_among-push known layer.name n ∙ or_left _ _ k))
 
 -- no later layer has the name of the first
 pub apart : (known : List Name) (layer : Layer) (layers : List Layer) → is_orderly_after known (layer ∷ layers) ≡ true → stands layers layer.name ≡ false
 apart known layer layers h =
-    strangers (known ++ layer.name ∷ []) layers layer.name (head_of known layer layers h).behind (among-push known layer.name layer.name ∙ or_right _ _ (own_name layer.name))
+    strangers (known ++ layer.name ∷ []) layers layer.name (head_of known layer layers h).behind (is_among-push known layer.name layer.name ∙ or_right _ _ (own_name layer.name))
 
 -- no earlier layer has the name of a later one
 pub fresh : (known : List Name) (xs : List Layer) (y : Layer) (ys : List Layer) → is_orderly_after known (xs ++ y ∷ ys) ≡ true → stands xs y.name ≡ false

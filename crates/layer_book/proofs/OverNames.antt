@@ -9,10 +9,7 @@ use Rattle.overlay_terms.specs.Touched.{reaches_name, derived_over}
 use Rattle.layer_book.specs.Question.{at_index, is_wanted, marked_layers}
 use Rattle.layer_book.proofs.Names.{same_name, turned}
 use Rattle.layer_book.proofs.Order.{head_of, apart}
-
-and_false : (b : Bool) → (b && false) ≡ false
-and_false true = refl
-and_false false = refl
+use Rattle.layer_book.proofs.BoolLemmas.{and_false}
 
 -- the names of derived layers that pass a test
 abbrev passed_names : (Name → Bool) → List Layer → List Name

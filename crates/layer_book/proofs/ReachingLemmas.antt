@@ -10,27 +10,23 @@ use Rattle.overlay_terms.specs.Layers.{Name, Content, base, derived, Layer, name
 use Rattle.overlay_terms.specs.Orderly.{used_names, is_orderly_after}
 use Rattle.overlay_terms.specs.Commands.{stands, is_derived, stands_as_derived}
 use Rattle.overlay_terms.specs.Touched.{reaches_name, derived_over}
+use Rattle.overlay_terms.proofs.ReachLemmas.{any-flat_map}
+use Rattle.overlay_terms.proofs.NameLemmas.{or_false}
 use Rattle.layer_book.specs.Question.{labelled, at_index}
 use Rattle.layer_book.specs.Reaching.{layer_reaches}
 use Rattle.layer_book.proofs.Names.{same_name, own_name, turned}
-use Rattle.layer_book.proofs.Order.{head_of, apart, or_false}
+use Rattle.layer_book.proofs.Order.{head_of, apart}
 use Rattle.layer_book.proofs.Lookups.{none_passes}
 use Rattle.layer_book.proofs.Answering.{layer_there, take_there, labelled_more, labelled_whole}
 use Rattle.layer_book.proofs.Wanted.{named_at, stands_at, index_at}
-use Rattle.layer_book.proofs.Edges.{any-flat_map, any-filter, any-and, Reach, reach_push}
+use Rattle.layer_book.proofs.Edges.{any-filter, any-and, Reach, reach_push}
 use Rattle.layer_book.proofs.OverNames.{named_among}
+use Rattle.layer_book.proofs.BoolLemmas.{and_true, and_false}
+use lib.Seq.{take-length}
 
 -- whether each layer reaches the name, in order
 abbrev pub reaching : Name → List Layer → List (Name × Bool)
 reaching under layers = fold (λ known layer. known ++ (layer.name, layer_reaches under known layer) ∷ []) [] layers
-
-and_true : (b : Bool) → (b && true) ≡ b
-and_true true = refl
-and_true false = refl
-
-and_false : (b : Bool) → (b && false) ≡ false
-and_false true = refl
-and_false false = refl
 
 -- one layer more in the pass
 pub reaching_more : (under : Name) (layers : List Layer) (marks : List Bool) (i : ℕ) (v : Bool) → i < length layers → i < length marks
@@ -57,10 +53,6 @@ expression_tells under own known expression layers i v there other is layer e =
     let own_layer : Layer = record { name = own; content = derived expression } in
     let same : own_layer ≡ layer = cc in
     is ∙ ap (λ b. b || list_any (named false known) (leaves expression)) (sym other) ∙ ap (layer_reaches under known) same
-
-take_all : (layers : List Layer) → take (length layers) layers ≡ layers
-take_all [] = refl
-take_all (l ∷ layers) = ap (λ ls. l ∷ ls) (take_all layers)
 
 module _ (under : Name) where
   abbrev is_under : Name → Bool
@@ -103,7 +95,7 @@ module _ (under : Name) where
       → at_index marks i ≡ reaches_name layers layer.name under
   reaching_whole layers marks n i layer orderly there end so_far e =
       let all : reaching under layers ≡ labelled layers marks =
-      ap (reaching under) (sym (take_all layers)) ∙ ap (λ k. reaching under (take k layers)) (sym end) ∙ so_far ∙ ap (λ k. labelled layers (take k marks)) end ∙ labelled_whole layers marks in
+      ap (reaching under) (sym (take-length layers)) ∙ ap (λ k. reaching under (take k layers)) (sym end) ∙ so_far ∙ ap (λ k. labelled layers (take k marks)) end ∙ labelled_whole layers marks in
       ap (at_index marks) (sym (index_at [] layers i layer orderly e))
       ∙ sym (named_at layers marks layer.name (stands_at layers i layer e))
       ∙ ap (λ known. named false known layer.name) (sym all)

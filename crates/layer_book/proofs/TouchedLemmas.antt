@@ -17,14 +17,8 @@ use Rattle.overlay_terms.proofs.KeptCommands.{only_reach_is_touched}
 use Rattle.layer_book.specs.Touching.{touched_columns, marked_in}
 use Rattle.layer_book.proofs.Answering.{take_there}
 use Rattle.layer_book.proofs.MarkedLayers.{rings_of}
-
-and_false : (b : Bool) → (b && false) ≡ false
-and_false true = refl
-and_false false = refl
-
-and_true : (b : Bool) → (b && true) ≡ b
-and_true true = refl
-and_true false = refl
+use Rattle.layer_book.proofs.BoolLemmas.{and_true, and_false}
+use lib.Seq.{take-length}
 
 pub length_set : (marks : List Bool) (i : ℕ) (b : Bool) → length (set marks i b) ≡ length marks
 length_set [] zero b = refl
@@ -85,13 +79,9 @@ rows_more g layers i layer old new row e before is made =
     made ∙ (λ x. before x ++ is x ∷ [])
     ∙ sym (ap (map (λ (l : Layer). g l.name)) (ap (λ k. take k layers) (add-one i) ∙ take_there layers i layer e) ∙ map-append (λ (l : Layer). g l.name) (take i layers) (layer ∷ []))
 
-take_all : (layers : List Layer) → take (length layers) layers ≡ layers
-take_all [] = refl
-take_all (l ∷ layers) = ap (λ ls. l ∷ ls) (take_all layers)
-
 pub rows_whole : (g : Name → List Bool) (layers : List Layer) (i : ℕ) (rows : List (List Bool)) → i ≡ length layers
     → rows ≡ map (λ (l : Layer). g l.name) (take i layers) → rows ≡ map (λ (l : Layer). g l.name) layers
-rows_whole g layers i rows e is = is ∙ ap (map (λ (l : Layer). g l.name)) (ap (λ k. take k layers) e ∙ take_all layers)
+rows_whole g layers i rows e is = is ∙ ap (map (λ (l : Layer). g l.name)) (ap (λ k. take k layers) e ∙ take-length layers)
 
 -- where the definitions in reach differ, so does each input
 pub steps_differ : (layers after : List Layer) (name : Name) → same_steps (steps_in_reach after name) (steps_in_reach layers name) ≡ false

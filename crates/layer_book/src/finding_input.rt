@@ -12,9 +12,8 @@ ghost use Rattle.layer_book.specs.TileRefusal.{tile_refusal};
 use crate::fault::LayerFault;
 use crate::layers::Layers;
 use arrange::TileInput;
-use layer_expr::MAX_LAYERS;
 use layer_expr::name::Name;
-use layer_expr::step_list::StepList;
+use layer_expr::{MAX_LAYERS, StepList};
 use plane_base::{BaseLayer, Column};
 use std::alloc::{AllocError, Global};
 

@@ -15,8 +15,7 @@ use exact_point::HPoint;
 use layer_expr::MAX_LAYERS;
 use layer_expr::expr::{Node, Operation};
 use layer_expr::name::Name;
-use point_looks::{Seen, Spot};
-use segment_blocks::look_at_all;
+use point_looks::{Seen, Spot, look_at_blocks};
 
 /// What is known of each layer at a point, by its index: whether it holds the point, and whether a segment that it
 /// reaches does.
@@ -65,7 +64,7 @@ impl Layers {
         ensures edge { result.edge ≡ content_answer IsEdge (point_of spot.now) (labelled self.now edge.now) (content layer.now) }
     {
         match layer {
-            Layer::Base(rings) => look_at_all(rings.blocks(), spot),
+            Layer::Base(rings) => look_at_blocks(rings.blocks(), spot),
             Layer::Derived(expression) => Seen {
                 inside: self.node_inside(expression.root(), inside),
                 edge: self.node_edge(expression.root(), edge),

@@ -1,2 +1,4 @@
 mod FloorLemmas
 pub mod LookLemmas
+mod BoundLemmas
+mod BlockLemmas

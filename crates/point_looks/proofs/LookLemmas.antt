@@ -9,11 +9,12 @@ use Rattle.std.specs.Ordering.{int_cmp, MatchOrdering}
 use Rattle.std.specs.declared.cmp.Ordering.{Ordering}
 use Rattle.std.specs.declared.cmp.Ordering.TheVariants.{Less, Equal, Greater}
 use Rattle.overlay_terms.specs.Plane.{Point, Segment, height_over, side_of, is_below, is_on}
-use Rattle.overlay_terms.proofs.Difference.{split, differences, same, mul_mono}
-use Rattle.overlay_terms.proofs.InputNumbers.{lt_true}
+use Rattle.overlay_terms.proofs.Difference.{split, differences, same, mul_mono, mul_pos}
+use Rattle.overlay_terms.proofs.InputNumbers.{lt_true, le_true, true_le, true_lt}
 use Rattle.exact_point.proofs.Signs.{negative_times}
 use Rattle.exact_point.proofs.Lexical.{NotBack}
 use Rattle.exact_point.proofs.OnSegment.{and3_parts, reached}
+use Rattle.exact_point.proofs.Tests.{lt_no}
 use Rattle.point_looks.specs.Floor.{IsFloor, IsCeil}
 
 -- a whole number above the greatest one that is at most x / w is above x / w
@@ -42,18 +43,6 @@ not_true : (b : Bool) → (IsTrue b → ⊥) → false ≡ b
 not_true true h = absurd (h refl)
 not_true false h = refl
 
-le_of : (a b : ℤ) → int_le a b ≡ true → a ≤ℤ b
-le_of a b e = grind (arith, ints)
-
-of_le : (a b : ℤ) → a ≤ℤ b → int_le a b ≡ true
-of_le a b e = grind (arith, ints)
-
-of_lt : (a b : ℤ) → a <ℤ b → int_lt a b ≡ true
-of_lt a b e = grind (arith, ints)
-
-of_not_lt : (a b : ℤ) → b ≤ℤ a → int_lt a b ≡ false
-of_not_lt a b e = grind (arith, ints)
-
 -- the tests of the code, over what its numbers read as
 pub is_less : (a b x y : ℤ) → a ≡ x → b ≡ y → int_lt a b ≡ true → x <ℤ y
 is_less a b x y f g e = rw (sym f, sym g) (lt_true a b e)
@@ -62,8 +51,8 @@ is_less a b x y f g e = rw (sym f, sym g) (lt_true a b e)
 less_by_floor : (n x w a : ℤ) → pos 0 <ℤ w → IsFloor n x w → int_lt n a ≡ int_lt x (a *ℤ w)
 less_by_floor n x w a positive h =
     by_lt_z n a
-    (λ l. of_lt n a l ∙ sym (of_lt x (a *ℤ w) (past_floor n x w a positive h l)))
-    (λ l. of_not_lt n a l ∙ sym (of_not_lt x (a *ℤ w) (up_to_floor n x w a positive h l)))
+    (λ l. true_lt n a l ∙ sym (true_lt x (a *ℤ w) (past_floor n x w a positive h l)))
+    (λ l. lt_no n a l ∙ sym (lt_no x (a *ℤ w) (up_to_floor n x w a positive h l)))
 
 -- three tests joined, where the first holds and the last follows from the second
 second_decides : (x y z b : Bool) → x ≡ true → b ≡ y → (y ≡ true → z ≡ true) → b ≡ (x && y && z)
@@ -84,15 +73,12 @@ not_more a b h k = let most : (a *ℤ b) ≤ℤ (pos 0 *ℤ b) = mul_mono a (pos
 less : (a b : ℤ) → pos 0 <ℤ a → b <ℤ pos 0 → (a *ℤ b) <ℤ pos 0
 less a b h k = omega (arith, ints, negative_times b a k h, *ℤ_comm a b)
 
-more : (a b : ℤ) → pos 0 <ℤ a → pos 0 <ℤ b → pos 0 <ℤ (a *ℤ b)
-more a b h k = let most : (pos 1 *ℤ b) ≤ℤ (a *ℤ b) = mul_mono (pos 1) a b (omega (arith, ints)) (omega (arith, ints)) in omega (arith, ints, most)
-
 module _ (s : Segment) (p : Point) where
   -- a segment that begins behind the point, by x, and one that ends before it
   pub below_behind : p.x <ℤ (s.left.x *ℤ p.w) → false ≡ is_below s p
   below_behind l = not_true (is_below s p) (λ t.
       let parts = and3_parts (int_le (s.left.x *ℤ p.w) p.x) (int_lt p.x (s.right.x *ℤ p.w)) (int_lt (pos 0) (height_over s p)) t in
-      omega (arith, ints, l, le_of (s.left.x *ℤ p.w) p.x parts.0))
+      omega (arith, ints, l, le_true (s.left.x *ℤ p.w) p.x parts.0))
 
   pub on_behind : p.x <ℤ (s.left.x *ℤ p.w) → false ≡ is_on s p
   on_behind l = not_true (is_on s p) (λ t. passed (reached s p t).from_left) where
@@ -135,10 +121,10 @@ module _ (s : Segment) (p : Point) (positive : pos 0 <ℤ p.w) (after : (s.left.
   over : s.left.x <ℤ s.right.x → (s.left.y *ℤ p.w) <ℤ p.y → (s.right.y *ℤ p.w) <ℤ p.y → pos 0 <ℤ height_over s p
   over wide high higher =
       by_lt_z s.right.y s.left.y
-      (λ l. let a : pos 0 <ℤ ((s.right.x -ℤ s.left.x) *ℤ (p.y -ℤ s.left.y *ℤ p.w)) = more (s.right.x -ℤ s.left.x) (p.y -ℤ s.left.y *ℤ p.w) (omega (arith, ints)) (omega (arith, ints)) in
+      (λ l. let a : pos 0 <ℤ ((s.right.x -ℤ s.left.x) *ℤ (p.y -ℤ s.left.y *ℤ p.w)) = mul_pos (s.right.x -ℤ s.left.x) (p.y -ℤ s.left.y *ℤ p.w) (omega (arith, ints)) (omega (arith, ints)) in
       let b : ((s.right.y -ℤ s.left.y) *ℤ (p.x -ℤ s.left.x *ℤ p.w)) ≤ℤ pos 0 = not_more (s.right.y -ℤ s.left.y) (p.x -ℤ s.left.x *ℤ p.w) (omega (arith, ints)) (omega (arith, ints)) in
       omega (arith, ints, a, b))
-      (λ l. let a : pos 0 <ℤ ((s.right.x -ℤ s.left.x) *ℤ (p.y -ℤ s.right.y *ℤ p.w)) = more (s.right.x -ℤ s.left.x) (p.y -ℤ s.right.y *ℤ p.w) (omega (arith, ints)) (omega (arith, ints)) in
+      (λ l. let a : pos 0 <ℤ ((s.right.x -ℤ s.left.x) *ℤ (p.y -ℤ s.right.y *ℤ p.w)) = mul_pos (s.right.x -ℤ s.left.x) (p.y -ℤ s.right.y *ℤ p.w) (omega (arith, ints)) (omega (arith, ints)) in
       let b : ((s.left.y -ℤ s.right.y) *ℤ (s.right.x *ℤ p.w -ℤ p.x)) ≤ℤ pos 0 = not_more (s.left.y -ℤ s.right.y) (s.right.x *ℤ p.w -ℤ p.x) (omega (arith, ints)) (omega (arith, ints)) in
       omega (arith, ints, a, b, height_from_right))
 
@@ -171,8 +157,8 @@ module _ (s : Segment) (p : Point) (positive : pos 0 <ℤ p.w) (after : (s.left.
   pub below_higher : (n : ℤ) → IsFloor n p.x p.w → (s.left.y *ℤ p.w) <ℤ p.y → (s.right.y *ℤ p.w) <ℤ p.y → int_lt n s.right.x ≡ is_below s p
   below_higher n h high higher =
       second_decides (int_le (s.left.x *ℤ p.w) p.x) (int_lt p.x (s.right.x *ℤ p.w)) (int_lt (pos 0) (height_over s p)) (int_lt n s.right.x)
-      (of_le (s.left.x *ℤ p.w) p.x after) (less_by_floor n p.x p.w s.right.x positive h)
-      (λ t. of_lt (pos 0) (height_over s p) (over (wider s.left.x s.right.x p.x p.w positive after (lt_true p.x (s.right.x *ℤ p.w) t)) high higher))
+      (true_le (s.left.x *ℤ p.w) p.x after) (less_by_floor n p.x p.w s.right.x positive h)
+      (λ t. true_lt (pos 0) (height_over s p) (over (wider s.left.x s.right.x p.x p.w positive after (lt_true p.x (s.right.x *ℤ p.w) t)) high higher))
 
   pub on_higher : (s.left.y *ℤ p.w) <ℤ p.y → (s.right.y *ℤ p.w) <ℤ p.y → false ≡ is_on s p
   on_higher high higher = not_true (is_on s p) (λ t.
@@ -184,8 +170,8 @@ module _ (s : Segment) (p : Point) (positive : pos 0 <ℤ p.w) (after : (s.left.
 pub below_above : (s : Segment) (p : Point) (n : ℤ) → pos 0 <ℤ p.w → IsFloor n p.x p.w → s.left.x ≤ℤ n → side_of s p ≡ Greater → int_lt n s.right.x ≡ is_below s p
 below_above s p n positive h from above =
     second_decides (int_le (s.left.x *ℤ p.w) p.x) (int_lt p.x (s.right.x *ℤ p.w)) (int_lt (pos 0) (height_over s p)) (int_lt n s.right.x)
-    (of_le (s.left.x *ℤ p.w) p.x (up_to_floor n p.x p.w s.left.x positive h from)) (less_by_floor n p.x p.w s.right.x positive h)
-    (λ t. of_lt (pos 0) (height_over s p) (high (int_cmp (height_over s p) (pos 0)) above (int_ranks (height_over s p) (pos 0))))
+    (true_le (s.left.x *ℤ p.w) p.x (up_to_floor n p.x p.w s.left.x positive h from)) (less_by_floor n p.x p.w s.right.x positive h)
+    (λ t. true_lt (pos 0) (height_over s p) (high (int_cmp (height_over s p) (pos 0)) above (int_ranks (height_over s p) (pos 0))))
   where
     high : (o : Ordering) → o ≡ Greater → MatchOrdering o (height_over s p <ℤ pos 0) (height_over s p ≡ pos 0) (pos 0 <ℤ height_over s p) → pos 0 <ℤ height_over s p
     high Less e m = cc

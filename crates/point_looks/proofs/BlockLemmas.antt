@@ -33,21 +33,18 @@ module _ (p : Point) (xs ys : List Segment) (same : IsPermutation xs ys) where
 
 -- the next ranges and the next block
 module _ (bounds : List Bounds) (rest : List Segment) (i : ℕ) (less : i < length bounds) (cover : Cover (drop i bounds) rest) where
-  pub next_ranges : (b : Bounds) → AllByRecursion (Holds (get_or bounds i b)) (take 32 rest)
-  next_ranges b = by_first (rw next at cover) where
-    next : drop i bounds ≡ get_or bounds i b ∷ drop (i + 1) bounds
-    next = let more : suc i ≡ i + 1 = omega arith in drop-cons bounds i b less ∙ ap (λ n. get_or bounds i b ∷ drop n bounds) more
+  next : (b : Bounds) → drop i bounds ≡ get_or bounds i b ∷ drop (i + 1) bounds
+  next b = let more : suc i ≡ i + 1 = omega arith in drop-cons bounds i b less ∙ ap (λ n. get_or bounds i b ∷ drop n bounds) more
 
+  pub next_ranges : (b : Bounds) → AllByRecursion (Holds (get_or bounds i b)) (take 32 rest)
+  next_ranges b = by_first (rw (next b) at cover) where
     by_first : Cover (get_or bounds i b ∷ drop (i + 1) bounds) rest → AllByRecursion (Holds (get_or bounds i b)) (take 32 rest)
     by_first k = k.0
 
   pub next_cover : Cover (drop (i + 1) bounds) (drop 32 rest)
-  next_cover = by_first (rw next at cover) where
+  next_cover = by_first (rw (next b) at cover) where
     b : Bounds
     b = record { low_x = pos 0; high_x = pos 0; low_y = pos 0; high_y = pos 0 }
-
-    next : drop i bounds ≡ get_or bounds i b ∷ drop (i + 1) bounds
-    next = let more : suc i ≡ i + 1 = omega arith in drop-cons bounds i b less ∙ ap (λ n. get_or bounds i b ∷ drop n bounds) more
 
     by_first : Cover (get_or bounds i b ∷ drop (i + 1) bounds) rest → Cover (drop (i + 1) bounds) (drop 32 rest)
     by_first k = k.1

@@ -1,7 +1,7 @@
 use Rattle.std.proofs.Common.{◌∙◌}
 use Rattle.point_looks.specs.Spot.{point_of}
-use Rattle.segment_blocks.proofs.BlockLemmas.{same_inside, same_edge}
-use Rattle.segment_blocks.proofs.looking.look_at_all.Goals as goal
+use Rattle.point_looks.proofs.BlockLemmas.{same_inside, same_edge}
+use Rattle.point_looks.proofs.blocks.look_at_blocks.Goals as goal
 
 pub returns-clause-inside : goal.returns-clause-inside
 returns-clause-inside c =

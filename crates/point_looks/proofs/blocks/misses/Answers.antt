@@ -3,7 +3,7 @@ use Rattle.std.specs.Int.{w64}
 use Rattle.std.proofs.lemmas.Int.{ints, to_z-of_z}
 use Rattle.point_looks.specs.Spot.{point_of}
 use Rattle.point_looks.proofs.LookLemmas.{before_ceil, past_floor, is_less}
-use Rattle.segment_blocks.proofs.looking.misses.Goals as goal
+use Rattle.point_looks.proofs.blocks.misses.Goals as goal
 
 pub returns-then-floor_x-bounds : goal.returns-then-floor_x-bounds
 returns-then-floor_x-bounds c =

@@ -5,16 +5,16 @@ ghost use Rattle.overlay_terms.specs.Plane.{is_inside};
 ghost use Rattle.overlay_terms.specs.Laws.{is_on_any};
 ghost use Rattle.point_looks.specs.Spot.{point_of};
 ghost use Rattle.plane_base.specs.Bounds.{Cover, Holds};
-ghost use Rattle.segment_blocks.specs.Outside.{IsOver, Misses, reaches};
+ghost use Rattle.point_looks.specs.Outside.{IsOver, Misses, reaches};
 
-use plane_base::blocks::{Blocks, next_block};
-use plane_base::bounds::Bounds;
-use plane_base::point::Seg;
-use point_looks::{Seen, Spot};
+use crate::seeing::{Seen, look_at_all};
+use crate::spot::Spot;
+use plane_base::blocks::next_block;
+use plane_base::{Blocks, Bounds, Seg};
 
 /// Whether an odd number of segments is below the point, and whether one holds it. Of a block whose ranges the point
 /// does not lie within no segment is looked at, or only the ranges of x where all of them lie lower.
-pub fn look_at_all(blocks: &Blocks, spot: &Spot) -> Seen
+pub fn look_at_blocks(blocks: &Blocks, spot: &Spot) -> Seen
     ensures inside { result.inside ≡ is_inside blocks.now (point_of spot.now) }
     ensures edge { result.edge ≡ is_on_any blocks.now (point_of spot.now) }
 {
@@ -53,7 +53,7 @@ fn look_at_block(bounds: &Bounds, block: &[Seg], spot: &Spot) -> Seen
             edge: false,
         };
     }
-    point_looks::look_at_all(block, spot)
+    look_at_all(block, spot)
 }
 
 /// Whether the point lies left of the ranges, right of them, or below them.

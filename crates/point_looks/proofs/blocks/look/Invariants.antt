@@ -3,7 +3,7 @@ use Rattle.overlay_terms.specs.Plane.{is_inside}
 use Rattle.overlay_terms.specs.Laws.{is_on_any}
 use Rattle.point_looks.specs.Spot.{point_of}
 use Rattle.plane_base.specs.Bounds.{Cover}
-use Rattle.segment_blocks.proofs.looking.look.Given as goal
+use Rattle.point_looks.proofs.blocks.look.Given as goal
 
 -- what is seen of the blocks so far
 abbrev pub invariant-loop-b : goal.invariant-loop-b

@@ -1,6 +1,6 @@
 use Rattle.std.proofs.Common.{◌≡◌, ◌%◌, ◌==◌, count_by, take}
-use Rattle.segment_blocks.specs.Outside.{reaches}
-use Rattle.segment_blocks.proofs.looking.reach_odd.Given as goal
+use Rattle.point_looks.specs.Outside.{reaches}
+use Rattle.point_looks.proofs.blocks.reach_odd.Given as goal
 
 -- how many of the segments so far reach over the x
 abbrev pub invariant-loop-seg : goal.invariant-loop-seg

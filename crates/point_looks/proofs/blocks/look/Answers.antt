@@ -6,8 +6,8 @@ use Rattle.point_looks.specs.Spot.{point_of}
 use Rattle.plane_base.specs.declared.bounds.Bounds.{Bounds}
 use Rattle.plane_base.specs.Bounds.{Holds}
 use Rattle.plane_base.proofs.BlockLemmas.{after_next, up_to_next}
-use Rattle.segment_blocks.proofs.BlockLemmas.{next_ranges, next_cover, all_seen, more_inside, more_edge}
-use Rattle.segment_blocks.proofs.looking.look.Goals as goal
+use Rattle.point_looks.proofs.BlockLemmas.{next_ranges, next_cover, all_seen, more_inside, more_edge}
+use Rattle.point_looks.proofs.blocks.look.Goals as goal
 
 pub look_at_block-requires : goal.look_at_block-requires
 look_at_block-requires c =

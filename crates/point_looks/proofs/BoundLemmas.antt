@@ -6,20 +6,13 @@ use Rattle.std.specs.List.{list_any, AllByRecursion}
 use Rattle.overlay_terms.specs.Plane.{Point, Segment, is_below, is_on}
 use Rattle.overlay_terms.proofs.Difference.{mul_mono}
 use Rattle.overlay_terms.proofs.ClosedRings.{bit, count-cons}
+use Rattle.overlay_terms.proofs.InputNumbers.{true_le}
 use Rattle.point_looks.specs.Floor.{IsFloor}
 use Rattle.point_looks.proofs.LookLemmas.{below_behind, on_behind, below_before, on_before, below_lower, on_lower, below_higher, on_higher, past_floor, up_to_floor}
 use Rattle.plane_base.specs.Bounds.{Holds}
 use Rattle.plane_base.specs.declared.bounds.Bounds.{Bounds}
-use Rattle.segment_blocks.specs.Outside.{Misses, IsOver, reaches}
-
-of_le : (a b : ℤ) → a ≤ℤ b → int_le a b ≡ true
-of_le a b e = grind (arith, ints)
-
-of_not_le : (a b : ℤ) → b <ℤ a → int_le a b ≡ false
-of_not_le a b e = grind (arith, ints)
-
-of_not_lt : (a b : ℤ) → b ≤ℤ a → int_lt a b ≡ false
-of_not_lt a b e = grind (arith, ints)
+use Rattle.point_looks.specs.Outside.{Misses, IsOver, reaches}
+use Rattle.exact_point.proofs.Tests.{lt_no, le_no}
 
 -- two tests joined, where one is known
 first_fails : (x y : Bool) → x ≡ false → (x && y) ≡ false
@@ -79,10 +72,10 @@ module _ (b : Bounds) (s : Segment) (p : Point) (positive : pos 0 <ℤ p.w) (hel
   below_reached : (n : ℤ) → IsFloor n p.x p.w → IsOver b p → reaches n s ≡ is_below s p
   below_reached n h m =
       by_lt_z p.x (s.left.x *ℤ p.w)
-      (λ l. first_fails (int_le s.left.x n) (int_lt n s.right.x) (of_not_le s.left.x n (begins n p.x p.w s.left.x positive h l)) ∙ below_behind s p l)
+      (λ l. first_fails (int_le s.left.x n) (int_lt n s.right.x) (le_no s.left.x n (begins n p.x p.w s.left.x positive h l)) ∙ below_behind s p l)
       (λ after. by_lt_z (s.right.x *ℤ p.w) p.x
-      (λ l. second_fails (int_le s.left.x n) (int_lt n s.right.x) (of_not_lt n s.right.x (ends n p.x p.w s.right.x positive h (omega (arith, ints, l)))) ∙ below_before s p l)
-      (λ before. first_holds (int_le s.left.x n) (int_lt n s.right.x) (of_le s.left.x n (ends n p.x p.w s.left.x positive h after))
+      (λ l. second_fails (int_le s.left.x n) (int_lt n s.right.x) (lt_no n s.right.x (ends n p.x p.w s.right.x positive h (omega (arith, ints, l)))) ∙ below_before s p l)
+      (λ before. first_holds (int_le s.left.x n) (int_lt n s.right.x) (true_le s.left.x n (ends n p.x p.w s.left.x positive h after))
       ∙ below_higher s p positive after before n h (omega (arith, ints, m, high_left)) (omega (arith, ints, m, high_right))))
 
   on_lower_one : IsOver b p → false ≡ is_on s p

@@ -3,7 +3,7 @@ use Rattle.std.specs.Int.{w64}
 use Rattle.std.proofs.lemmas.Int.{ints, to_z-of_z}
 use Rattle.point_looks.specs.Spot.{point_of}
 use Rattle.point_looks.proofs.LookLemmas.{before_ceil, is_less}
-use Rattle.segment_blocks.proofs.looking.is_lower.Goals as goal
+use Rattle.point_looks.proofs.blocks.is_lower.Goals as goal
 
 pub returns : goal.returns
 returns c =

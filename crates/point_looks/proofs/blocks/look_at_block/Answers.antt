@@ -3,8 +3,8 @@ use Rattle.std.specs.Int.{w64}
 use Rattle.std.proofs.lemmas.Int.{ints, to_z-of_z}
 use Rattle.point_looks.specs.Spot.{point_of}
 use Rattle.point_looks.proofs.LookLemmas.{floor_reads}
-use Rattle.segment_blocks.proofs.BoundLemmas.{none_inside, none_on, as_many_inside, none_on_lower}
-use Rattle.segment_blocks.proofs.looking.look_at_block.Goals as goal
+use Rattle.point_looks.proofs.BoundLemmas.{none_inside, none_on, as_many_inside, none_on_lower}
+use Rattle.point_looks.proofs.blocks.look_at_block.Goals as goal
 
 pub returns-then-misses-clause-inside : goal.returns-then-misses-clause-inside
 returns-then-misses-clause-inside c =

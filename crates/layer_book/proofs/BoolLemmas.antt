@@ -1,0 +1,10 @@
+-- A test joined with one that is known.
+use Rattle.std.proofs.Common.{◌≡◌, refl, Bool, true, false, ◌&&◌}
+
+pub and_true : (b : Bool) → (b && true) ≡ b
+and_true true = refl
+and_true false = refl
+
+pub and_false : (b : Bool) → (b && false) ≡ false
+and_false true = refl
+and_false false = refl

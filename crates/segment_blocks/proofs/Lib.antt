@@ -1,2 +1,0 @@
-mod BoundLemmas
-mod BlockLemmas
