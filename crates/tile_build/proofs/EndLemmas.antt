@@ -1,48 +1,34 @@
 -- Whole points on segments and in columns, and what the names of places say of them.
-use Rattle.std.proofs.Common.{◌≡◌, ℕ, ◌+◌, ℤ, pos, ◌*ℤ◌, Bool, true, ◌&&◌, refl, sym, ap, subst, ◌∙◌, arith}
+use Rattle.std.proofs.Common.{◌≡◌, ℕ, ◌+◌, ℤ, pos, ◌*ℤ◌, Bool, true, ◌&&◌, sym, ap, subst, ◌∙◌, arith}
 use Rattle.std.proofs.lemmas.Int.{ints}
 use Rattle.std.specs.Prelude.{◌↔◌, IsTrue, int_le, int_lt}
 use Rattle.std.specs.Ordering.{is_lt}
-use Rattle.std.specs.declared.cmp.Ordering.{Ordering}
-use Rattle.std.specs.declared.cmp.Ordering.TheVariants.{Less, Equal, Greater}
+use Rattle.std.specs.declared.cmp.Ordering.TheVariants.{Less}
 use Rattle.overlay_terms.specs.Column.{border, is_in_column}
 use Rattle.overlay_terms.specs.Plane.{WholePoint, Segment, whole, whole_cmp, same_whole, is_on}
 use Rattle.overlay_terms.specs.SameInput.{same_segment, same_segment-Decides}
 use Rattle.overlay_terms.proofs.PointOrder.{same_points}
+use Rattle.overlay_terms.proofs.Tests.{less_told}
 use Rattle.exact_point.specs.Crossing.{IsCrossingOf}
 use Rattle.exact_point.specs.PlaceOf.{place_of}
 use Rattle.exact_point.specs.PointName.{IsPlaceOf, IsCutOf}
 use Rattle.exact_point.specs.declared.point_name.PointName.{PointName}
 use Rattle.exact_point.specs.declared.point_name.PointName.TheVariants.{Vertex, Cross, Border}
-use Rattle.exact_point.proofs.OnLine.{within_on, left_on_line, right_on_line}
-use Rattle.exact_point.proofs.PlaceOrder.{one_positive, same_self, not_before_self, not_after_less}
+use Rattle.exact_point.proofs.PlaceOrder.{one_positive}
 use Rattle.arrange.proofs.UnitLineLemmas.{whole_order}
-use Rattle.crossing_sweep.proofs.StretchLemmas.{ends_in_order}
+use Rattle.crossing_sweep.proofs.StartLemmas.{left_held, right_held}
 use Rattle.tile_build.specs.Piece.{IsBetween}
-
--- both ends of a segment lie on it
-pub left_on : (s : Segment) → whole_cmp s.left s.right ≡ Less → IsTrue (is_on s (whole s.left))
-left_on s ahead =
-    within_on s (whole s.left) one_positive (left_on_line s)
-    (not_before_self (whole s.left) (whole s.left) one_positive one_positive (same_self (whole s.left)))
-    (not_after_less (whole s.left) (whole s.right) one_positive one_positive (ends_in_order s ahead))
-
-pub right_on : (s : Segment) → whole_cmp s.left s.right ≡ Less → IsTrue (is_on s (whole s.right))
-right_on s ahead =
-    within_on s (whole s.right) one_positive (right_on_line s)
-    (not_after_less (whole s.left) (whole s.right) one_positive one_positive (ends_in_order s ahead))
-    (not_before_self (whole s.right) (whole s.right) one_positive one_positive (same_self (whole s.right)))
 
 -- a whole point that is an end of a segment lies on it
 pub at_left : (s : Segment) (v l : WholePoint) (b : Bool) → whole_cmp s.left s.right ≡ Less → l ≡ s.left
     → b ≡ same_whole v l → b ≡ true → IsTrue (is_on s (whole v))
 at_left s v l b ahead is told e =
-    ap (λ (u : WholePoint). is_on s (whole u)) (same_points v l (sym told ∙ e) ∙ is) ∙ left_on s ahead
+    ap (λ (u : WholePoint). is_on s (whole u)) (same_points v l (sym told ∙ e) ∙ is) ∙ left_held s ahead
 
 pub at_right : (s : Segment) (v r : WholePoint) (b : Bool) → whole_cmp s.left s.right ≡ Less → r ≡ s.right
     → b ≡ same_whole v r → b ≡ true → IsTrue (is_on s (whole v))
 at_right s v r b ahead is told e =
-    ap (λ (u : WholePoint). is_on s (whole u)) (same_points v r (sym told ∙ e) ∙ is) ∙ right_on s ahead
+    ap (λ (u : WholePoint). is_on s (whole u)) (same_points v r (sym told ∙ e) ∙ is) ∙ right_held s ahead
 
 -- a name that is made of a segment says that its place lies on it
 abbrev pub SaysOn : Segment → PointName → Bool → Type 0
@@ -87,15 +73,10 @@ whole_ends s l r b from to told = (
     to_positive = one_positive;
     from_on = from;
     to_on = to;
-    in_order = sym (whole_order l r) ∙ less_so (whole_cmp l r) (sym told ∙ e);
+    in_order = sym (whole_order l r) ∙ less_told (whole_cmp l r) (sym told ∙ e);
   },
   λ between. told ∙ ap is_lt (whole_order l r ∙ between.in_order),
 )
-  where
-    less_so : (o : Ordering) → is_lt o ≡ true → o ≡ Less
-    less_so Less e = refl
-    less_so Equal e = absurd cc
-    less_so Greater e = absurd cc
 
 -- whole points are in the order of points, and in a column by their x
 pub whole_in : (k : ℕ) (v : WholePoint)
