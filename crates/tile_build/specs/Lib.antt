@@ -1,5 +1,4 @@
 pub mod Boundary
 pub mod Piece
 pub mod Tile
-pub mod StoredTile
 pub mod Counted

@@ -8,7 +8,6 @@ pub mod counted;
 pub mod counting;
 pub mod ends;
 pub mod piece;
-pub mod stored_tile;
 pub mod tile;
 
 pub use all_pairs::build_by_pairs;
@@ -17,5 +16,4 @@ pub use built::{Built, PIECES_MAX};
 pub use counted::Counted;
 pub use counting::build_counted;
 pub use piece::Piece;
-pub use stored_tile::StoredTile;
 pub use tile::Tile;
