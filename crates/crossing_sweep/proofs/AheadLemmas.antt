@@ -1,5 +1,5 @@
 -- A place that is added to those found ahead.
-use Rattle.std.proofs.Common.{◌≡◌, pos, ◌<ℤ◌, ◌≤ℤ◌, Bool, inl, inr, ◌⊎◌, true, false, cond, List, [], ◌∷◌, refl, subst}
+use Rattle.std.proofs.Common.{◌≡◌, pos, Bool, inl, inr, ◌⊎◌, true, false, cond, List, [], ◌∷◌, refl, subst}
 use Rattle.std.specs.Prelude.{IsTrue, Any, Contains, is_some, Some}
 use Rattle.std.proofs.lemmas.Bool.{both_ways}
 use Rattle.std.specs.Ordering.{is_eq, match_ordering}
