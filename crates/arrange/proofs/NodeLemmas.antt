@@ -1,5 +1,5 @@
 -- The places that are found along a segment are its nodes.
-use Rattle.std.proofs.Common.{◌≡◌, ◌≢◌, ℕ, ℤ, pos, ◌+◌, ◌<◌, ◌*ℤ◌, ◌<ℤ◌, ◌≤ℤ◌, int_le, ◌⊎◌, inl, inr, List, refl, ap, sym, ◌∙◌, subst, lit<, arith}
+use Rattle.std.proofs.Common.{◌≡◌, ◌≢◌, ℕ, ◌+◌, ◌<◌, ◌*ℤ◌, ◌<ℤ◌, ◌≤ℤ◌, int_le, ◌⊎◌, inl, inr, List, refl, ap, sym, ◌∙◌, subst, lit<, arith}
 use Rattle.std.specs.Prelude.{IsTrue, Any, Contains, flat_map}
 use Rattle.std.proofs.lemmas.Int.{ints, by_lt_z}
 use Rattle.std.proofs.lemmas.Bool.{cases_eq, and_parts}

@@ -1,5 +1,5 @@
 -- Nodes by units: the ends of units, places on two units that are not parallel, and places of slanted units on borders.
-use Rattle.std.proofs.Common.{◌≡◌, ℕ, pos, ◌*ℤ◌, ◌<ℤ◌, ◌⊎◌, inl, inr, true, false, not, ◌&&◌, ◌||◌, List, ◌∷◌, map, ap, sym, ◌∙◌, subst}
+use Rattle.std.proofs.Common.{◌≡◌, ℕ, pos, ◌*ℤ◌, ◌<ℤ◌, ◌⊎◌, inl, inr, true, false, not, ◌&&◌, ◌||◌, List, map, ap, sym, ◌∙◌, subst}
 use Rattle.std.specs.Prelude.{IsTrue, Contains}
 use Rattle.std.specs.List.{list_any}
 use Rattle.std.specs.Ordering.{int_eq}

@@ -1,5 +1,5 @@
 -- A place that is added to those found ahead.
-use Rattle.std.proofs.Common.{◌≡◌, pos, ◌<ℤ◌, ◌≤ℤ◌, Bool, inl, inr, ◌⊎◌, true, false, cond, List, [], ◌∷◌, refl, subst}
+use Rattle.std.proofs.Common.{◌≡◌, Bool, inl, inr, ◌⊎◌, true, false, cond, List, [], ◌∷◌, refl, subst}
 use Rattle.std.specs.Prelude.{IsTrue, Any, Contains, is_some, Some}
 use Rattle.std.proofs.lemmas.Bool.{both_ways}
 use Rattle.std.specs.Ordering.{is_eq, match_ordering}
@@ -7,7 +7,7 @@ use Rattle.std.specs.Map.{lookup}
 use Rattle.std.specs.BTreeMap.{is_at, insert_entry}
 use Rattle.std.specs.declared.cmp.Ordering.{Ordering}
 use Rattle.std.specs.declared.cmp.Ordering.TheVariants.{Less, Equal, Greater}
-use Rattle.overlay_terms.specs.Plane.{same_place, point_cmp}
+use Rattle.overlay_terms.specs.Plane.{same_place}
 use Rattle.overlay_terms.proofs.Lists.{any_from, any_contains, Contains-cons_cases, contains_first, contains_rest, none_in_empty}
 use Rattle.exact_point.specs.Place.{place, hpoint_cmp}
 use Rattle.exact_point.specs.declared.point.HPoint.{HPoint}

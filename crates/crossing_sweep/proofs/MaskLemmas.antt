@@ -1,5 +1,5 @@
 -- From the members of a status below one of them to what lies under it.
-use Rattle.std.proofs.Common.{◌≡◌, ℕ, ℤ, pos, suc, ◌+◌, ◌<◌, ◌*ℤ◌, ◌<ℤ◌, ◌≤ℤ◌, inl, inr, ◌⊎◌, true, false, List, ◌∷◌, get_or, length, take, ap, sym, subst, ◌∙◌, arith}
+use Rattle.std.proofs.Common.{◌≡◌, ℕ, ℤ, pos, suc, ◌+◌, ◌<◌, ◌*ℤ◌, ◌<ℤ◌, ◌≤ℤ◌, inl, inr, ◌⊎◌, true, false, List, get_or, length, take, ap, sym, subst, ◌∙◌, arith}
 use Rattle.std.specs.Prelude.{Bool, All, Any, Contains, int_lt, int_le, ◌&&◌, map}
 use Rattle.std.specs.List.{AllPairs}
 use Rattle.std.specs.Ordering.{int_eq}

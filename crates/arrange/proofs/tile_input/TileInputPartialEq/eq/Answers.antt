@@ -1,4 +1,4 @@
-use Rattle.std.proofs.Common.{◌≡◌, ◌&&◌, map, sym, ◌∙◌}
+use Rattle.std.proofs.Common.{◌≡◌, map, sym, ◌∙◌}
 use Rattle.std.specs.Cmp.Derive.Mapped.{pointwise-map}
 use Rattle.std.specs.Cmp.Lexicographic.{pointwise}
 use Rattle.arrange.specs.Marked.{marked_of}
