@@ -14,6 +14,7 @@ use Rattle.store_terms.specs.declared.root.RecordExtent.{RecordExtent}
 use Rattle.store_terms.specs.Catalog.{Listed, catalog_of_record}
 use Rattle.store_terms.specs.Places.{blocks, bytes_of, is_placed}
 use Rattle.store_terms.specs.Image.{listing_of, held_of}
+use Rattle.commit_plan.proofs.Drafts.{bytes_fit}
 use Rattle.commit_plan.proofs.Kept.{extents_are}
 use Rattle.store_terms.specs.Spelled.{Spells, TilesAre, LayerIs, LayersAre}
 use Rattle.store_terms.proofs.SpelledLemmas.{spelled_is_held, listing_spelled}
@@ -29,9 +30,6 @@ pub record IsFiled (file : List ℕ) (f : Filed) : Type 0 where
   pub placed : is_placed file f.extent ≡ true
   pub bytes : bytes_of file f.extent ≡ f.bytes
 
-size_in_blocks : (n : ℕ) → n ≤ 4096 * blocks n
-size_in_blocks n = omega arith
-
 blocks_fit : (a n len : ℕ) → 4096 * a + 4096 * n ≤ len → a + n ≤ len / 4096
 blocks_fit a n len le = omega arith
 
@@ -45,7 +43,7 @@ put_is_filed file f w write put =
     let end : w.at + length w.bytes.items ≤ length file = put.within in
     let fits : e.block + blocks e.size ≤ length file / 4096 =
     blocks_fit e.block (blocks e.size) (length file) (omega (arith, end, write.there, write.blocks)) in
-    let short : e.size ≤ length w.bytes.items = omega (arith, size_in_blocks e.size, write.blocks) in
+    let short : e.size ≤ length w.bytes.items = omega (arith, bytes_fit e.size, write.blocks) in
     record {
       placed = and_from (nat_le 2 e.block) (nat_le (e.block + blocks e.size) (length file / 4096))
           (le-leb 2 e.block write.behind) (le-leb _ _ fits);

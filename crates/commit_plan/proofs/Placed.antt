@@ -9,6 +9,7 @@ use Rattle.extent_map.specs.Extents.{IsApart, IsUnused}
 use Rattle.extent_map.specs.FirstFit.{IsPlanned}
 use Rattle.store_terms.specs.declared.root.RecordExtent.{RecordExtent}
 use Rattle.store_terms.specs.Places.{blocks, are_apart, is_apart_from, all_apart}
+use Rattle.commit_plan.proofs.Drafts.{bytes_fit}
 use Rattle.commit_plan.specs.declared.write.Write.{Write}
 use Rattle.commit_plan.specs.Kept.{Kept, extents_in}
 use Rattle.commit_plan.specs.Planning.{IsOff, AreWrittenApart, AllApart}
@@ -65,9 +66,6 @@ planned_apart given limit (n ∷ ns) (r ∷ rs) planned = (
 
 -- ---- writes
 
-size_fits : (n : ℕ) → n ≤ 4096 * blocks n
-size_fits n = omega arith
-
 off_extents : (w : Write) (block need : ℕ) (es : List RecordExtent) → w.at ≡ 4096 * block → length w.bytes.items ≡ 4096 * need
     → AreFreeOf block need es
     → AllByRecursion (λ e. Apart w.at (length w.bytes.items) (4096 * e.block) e.size) es
@@ -75,7 +73,7 @@ off_extents w block need [] at size free = tt
 off_extents w block need (e ∷ es) at size free = (
   ⊎_elim (λ before. inl (omega (arith, before, at, size)))
       (λ behind. inr
-      (omega (arith, behind, at, size_fits e.size))) free.0,
+      (omega (arith, behind, at, bytes_fit e.size))) free.0,
   off_extents w block need es at size free.1,
 )
 

@@ -1,14 +1,15 @@
 -- A point is read from eight bytes by one test of their length.
 use Rattle.std.proofs.Common.{◌≡◌, ◌⊎◌, inl, inr, ℕ, ℤ, unsigned_abs, ◌<◌, ◌≤◌, Bool, true, false, cond, List, length, drop, Option, Some, None, refl, ap, sym, ◌∙◌, arith}
-use Rattle.std.proofs.lemmas.Bool.{false≢true, cases_lt, lt-ltb, le-ltb, le-leb, leb-true}
+use Rattle.std.proofs.lemmas.Bool.{false≢true, cases_lt, lt-ltb, le-ltb, leb-true}
 use Rattle.std.proofs.lemmas.List.{length-drop, drop-drop}
 use Rattle.std.specs.Int.{w32, cast_signed}
 use Rattle.byteorder.specs.Endian.{big_number}
 use Rattle.overlay_terms.specs.Plane.{WholePoint, InRange, coordinate_max}
-use Rattle.overlay_terms.proofs.Bounds.{abs_within, within_abs}
+use Rattle.overlay_terms.proofs.Bounds.{within_abs}
 use Rattle.record_reading.specs.Added.{number_in}
 use Rattle.store_terms.specs.Fields.{◌>>=◌}
 use Rattle.store_terms.specs.BaseRecord.{is_coordinate, coordinate, whole_point}
+use Rattle.store_terms.proofs.BaseLemmas.{coordinate_is_one as coordinate_is}
 
 abbrev passing : ℕ × List ℕ → Option (ℤ × List ℕ)
 passing n = cond (is_coordinate (cast_signed w32 n.0)) (Some (cast_signed w32 n.0, n.1)) None
@@ -49,9 +50,6 @@ point_short bytes lt =
           ∙ without_y (is_coordinate (number_in bytes)) (number_in bytes) (drop 4 bytes)
           (short (drop 4 bytes) (omega (arith, length-drop 4 bytes)))
     ]
-
-coordinate_is : (z : ℤ) → InRange z → is_coordinate z ≡ true
-coordinate_is z h = le-leb (unsigned_abs z) coordinate_max (abs_within coordinate_max z (record { low = h.0; high = h.1 }))
 
 in_range : (z : ℤ) → is_coordinate z ≡ true → InRange z
 in_range z e =

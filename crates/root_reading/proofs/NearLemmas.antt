@@ -12,13 +12,8 @@ use Rattle.store_terms.specs.TileRecord.{tile_of_record}
 use Rattle.store_terms.specs.Catalog.{Records, Listed}
 use Rattle.store_terms.specs.Places.{blocks, bytes_of, is_placed, some_extents, extents_of_records, extents_listed}
 use Rattle.store_terms.specs.Image.{◌>>=◌, or_fault, placed_bytes, with_layer, tiles_of, layer_of, layers_of, listing_of}
+use Rattle.store_terms.proofs.HeldLemmas.{ok_bound as bound}
 use Rattle.root_reading.specs.Taking.{IsNear, AllNear}
-
--- a value that comes of two steps
-bound : {A B : Type 0} (o : Result A Damage) (f : A → Result B Damage) (y : B) → (o >>= f) ≡ Ok y
-    → (x : A) × (o ≡ Ok x) × (f x ≡ Ok y)
-bound (Ok x) f y e = (x, refl, e)
-bound (Err fault) f y e = absurd (cc e)
 
 both_near : (xs ys : List RecordExtent) → AllNear xs → AllNear ys → AllNear (xs ++ ys)
 both_near [] ys a b = b

@@ -10,17 +10,12 @@ use Rattle.store_terms.specs.Image.{◌>>=◌}
 use Rattle.store_terms.specs.Places.{block_size}
 use Rattle.store_terms.specs.Roots.{format_of, ours, sequence_max}
 use Rattle.store_terms.specs.StandsFor.{gate, body, open_gate, fits_slot, is_foreign, slot, newer_root, root_of}
+use Rattle.store_terms.proofs.HeldLemmas.{ok_bound}
 use Rattle.overlay_terms.specs.Commands.{version_max}
 use Rattle.commit_plan.specs.Kept.{other, Harmless}
 use Rattle.root_store.specs.Healing.{IsTakenRoot, Found}
 use Rattle.root_store.specs.Finding.{has_shut_gate}
 use Rattle.root_store.proofs.FindingLemmas.{short_root, foreign_root, slots_root}
-
--- a value that comes of two steps
-ok_bound : {A B : Type 0} (o : Result A Damage) (f : A → Result B Damage) (y : B) → (o >>= f) ≡ Ok y
-    → (x : A) × (o ≡ Ok x) × (f x ≡ Ok y)
-ok_bound (Ok x) f y e = (x, refl, e)
-ok_bound (Err fault) f y e = absurd (cc e)
 
 -- the tests that a slot has passed
 slot_tests : (g f t : Bool) (root : Root) (r : Root)

@@ -35,7 +35,7 @@ rings_few at (r ∷ rs) e =
     let count : ring_step_count (r ∷ rs) ≡ (length r - 1) + ring_step_count rs = sum_by-cons (λ (x : List WholePoint). length x - 1) r rs in
     omega (arith, long, more, count)
 
-coordinate_is_one : (z : ℤ) → InRange z → is_coordinate z ≡ true
+pub coordinate_is_one : (z : ℤ) → InRange z → is_coordinate z ≡ true
 coordinate_is_one z h = le-leb (unsigned_abs z) 1048576 (abs_within 1048576 z (record { low = h.0; high = h.1 }))
 
 points_fit : (r : List WholePoint) → IsRing r → list_all whole_point.fits r ≡ true
