@@ -10,8 +10,8 @@ use layer_book::command::Command;
 use layer_expr::name::Name;
 use plane_base::Column;
 use std::marker::Model;
-use tile_build::tile::Tile;
-use versions::version::Version;
+use tile_build::Tile;
+use versions::Version;
 
 /// What made a version, as it stands in the logbook. No value of it is made.
 #[derive(Drop)]

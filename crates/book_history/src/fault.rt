@@ -7,7 +7,7 @@ use fault_texts::{CommonFault, FaultText};
 use layer_book::batch_fault::BatchFault;
 use layer_book::fault::LayerFault;
 use thiserror::Error;
-use versions::fault::VersionFault;
+use versions::VersionFault;
 
 /// What kept a store from writing a version.
 #[derive(Clone, Copy, Debug, PartialEq, Eq)]

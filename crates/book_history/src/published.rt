@@ -11,7 +11,7 @@ use left_right::reader::Reader;
 use left_right::writer::Writer;
 use std::alloc::{AllocError, Global};
 use std::sync::Arc;
-use versions::version::Version;
+use versions::Version;
 
 /// A version, and the log that it ends.
 #[derive(Drop)]
@@ -84,15 +84,15 @@ impl Outcome<Published, SeenLog> for Sees {
 }
 
 /// What the writer hands on: all that it knows.
-pub struct Notes;
+pub struct TellsAll;
 
-impl Split<SeenLog> for Notes {
+impl Split<SeenLog> for TellsAll {
     ghost left = { λ v. v };
 
     ghost right = { λ v. v };
 }
 
-impl Join<SeenLog> for Notes {
+impl Join<SeenLog> for TellsAll {
     ghost use Rattle.book_history.specs.BookLogs.{newcomer};
 
     ghost both = { λ v w. w };

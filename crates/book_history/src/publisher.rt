@@ -3,7 +3,7 @@ ghost use Rattle.std.specs.Prelude.{◌≡◌, ◌^◌, ◌<◌, [], ◌∷◌, 
 ghost use Rattle.left_right.specs.Sides.{view};
 ghost use Rattle.book_history.specs.BookLogs.{Begins};
 
-use crate::published::{Notes, Published, Publisher, ReaderPlace, Sees};
+use crate::published::{Published, Publisher, ReaderPlace, Sees, TellsAll};
 use crate::resting::rest;
 use core::mem::replace_with;
 use std::alloc::Global;
@@ -45,7 +45,7 @@ pub fn new_place(publisher: &mut Publisher) -> Option<ReaderPlace>
     ensures given { IfSome result (λ r. view r.place ≡ view publisher.old.desk.place) }
 {
     let mut place = publisher.factory().reader().ok()?;
-    place.learn::<Notes>(publisher.tell::<Notes>());
+    place.learn::<TellsAll>(publisher.tell::<TellsAll>());
     Some(place)
 }
 

@@ -11,12 +11,12 @@ use crate::entry::{Ask, Cause, Entry};
 use logbook::{Gain, Offer, Opening, Plain, Play, Rule, Seen, Start, Word};
 use std::fmt;
 use std::marker::{Brand, Model};
-use versions::version::Version;
+use versions::Version;
 
 /// The rule of the history.
-pub struct Law;
+pub struct LogRule;
 
-impl Rule<Entry, u64> for Law {
+impl Rule<Entry, u64> for LogRule {
     ghost use Rattle.std.specs.Prelude.{[]};
     ghost use base.Fml.{ftrue};
     ghost use Rattle.book_history.specs.Rules.{IsLogKept};
@@ -35,9 +35,9 @@ impl Rule<Entry, u64> for Law {
 }
 
 /// Callers trade nothing.
-pub struct Nothing;
+pub struct NoGain;
 
-impl Gain<Entry, u64> for Nothing {
+impl Gain<Entry, u64> for NoGain {
     ghost use base.Fml.{ftrue};
 
     ghost after = { λ names about answer. ftrue };
@@ -74,21 +74,21 @@ impl<'a> Plain<Ask<'a>, Entry, u64> for Add {
 }
 
 /// Which history it is. Each call of a program picks it.
-pub trait Naming {
+pub trait BookName {
     ghost use Rattle.logbook.specs.Pages.{Book};
 
     ghost book: { Book };
 }
 
-impl Naming for Brand {
+impl BookName for Brand {
     ghost book = { record { number = 0; log_name = 0; cells_name = 0 } };
 }
 
 /// The word of a history: how many entries follow the first.
-pub type Head = Word<Entry, u64, Law>;
+pub type LogWord = Word<Entry, u64, LogRule>;
 
 /// Begins a history with a version.
-pub fn open(version: &Version) -> (Head, SeenLog)
+pub fn open(version: &Version) -> (LogWord, SeenLog)
     ensures { (result.0 ≡ head_of result.1.book) × (result.1.log ≡ entry no_event version.now ∷ []) }
 {
     let (seen, mut pens) = Seen::open_row::<Version, OpensLog>(version, Start::alone(), 1);
@@ -101,7 +101,7 @@ pub fn open(version: &Version) -> (Head, SeenLog)
 #[derive(Drop)]
 pub struct SeenLog {
     at: u64,
-    seen: Seen<Entry, u64, Law>,
+    seen: Seen<Entry, u64, LogRule>,
 }
 
 impl Model for SeenLog {
@@ -160,7 +160,7 @@ impl SeenLog {
     }
 
     /// Adds an entry to all that was seen, and says whether it did.
-    pub fn add(&mut self, head: &Head, cause: Cause<'_>, version: &Version) -> bool
+    pub fn add(&mut self, head: &LogWord, cause: Cause<'_>, version: &Version) -> bool
         requires head { head.now ≡ head_of self.old.book }
         requires room { length self.old.log < version_max }
         requires follows { Follows (newest_in self.old.log) (event_of cause) version.now }
@@ -168,10 +168,12 @@ impl SeenLog {
     {
         let mut seen = self.seen.again();
         let ask = Ask { cause, version };
-        let mut offer: Offer<Entry, u64, Law, Nothing> = seen.plain::<Nothing, Ask<'_>, Add>(&ask);
+        let mut offer: Offer<Entry, u64, LogRule, NoGain> = seen.plain::<NoGain, Ask<'_>, Add>(
+            &ask,
+        );
         let mut pen = seen.no_pen();
         let at = self.at;
-        let found = head.compare_exchange::<Add, Nothing>(
+        let found = head.compare_exchange::<Add, NoGain>(
             at,
             at + 1,
             &mut seen,

@@ -7,14 +7,14 @@ use denote.Builtin.{u64}
 use denote.Struct.Struct.{Struct}
 use denote.Struct.Declared.{shape}
 use Rattle.book_history.specs.contracts.entry.Entry as written
-use Rattle.book_history.specs.contracts.seen_log.Law as law
-use Rattle.book_history.specs.contracts.seen_log.LawRuleEntryU64.TheImpl as kept
+use Rattle.book_history.specs.contracts.seen_log.LogRule as log_rule
+use Rattle.book_history.specs.contracts.seen_log.LogRuleRuleEntryU64.TheImpl as kept
 use mir.Syntax.{w64}
 use Rattle.std.specs.contracts.marker.PhantomData as phantom
 use Rattle.logbook.proofs.word.Word.TheSendSync as words
 use Rattle.book_lock.specs.contracts.locked_log.LockedLog as log
 use Rattle.book_lock.specs.contracts.locked_log.LockedLog.TheInside as inside
-use Rattle.book_history.specs.declared.seen_log.Naming as naming
+use Rattle.book_history.specs.declared.seen_log.BookName as naming
 use Rattle.book_lock.specs.contracts.room.Room as room
 use Rattle.book_lock.specs.contracts.session.Session as session
 use Rattle.book_history.proofs.seen_log.SeenLog.TheSendSync as seen_logs
@@ -43,7 +43,7 @@ module _ (J R : RattleType) (g : naming.Ghosts J.Denot) where
   inner_send j s =
       let O = inside.the_type J R g in
       let W = writer.the_type published.the_row published.the_row seen_log.the_row only_grows.the_row global.the_row seen_log.the_row absorb.ghosts rule.ghosts heap.ghosts in
-      recorded_send_of (Struct (shape O)) _ _ O.to_one (λ d. struct_send_at (shape O) (O.to d) (at _ (words.the_send written.the_row u64 law.the_row kept.ghosts) _, (recorded_send_at (Struct (shape W)) _ W.to W.to_one publisher_send d.publisher, (at (Array (UInt w64) 4) (search sendable) _, (at R s _, (at (phantom.the_field J).row (search sendable) _, tt))))))
+      recorded_send_of (Struct (shape O)) _ _ O.to_one (λ d. struct_send_at (shape O) (O.to d) (at _ (words.the_send written.the_row u64 log_rule.the_row kept.ghosts) _, (recorded_send_at (Struct (shape W)) _ W.to W.to_one publisher_send d.publisher, (at (Array (UInt w64) 4) (search sendable) _, (at R s _, (at (phantom.the_field J).row (search sendable) _, tt))))))
 
   pub log_send : IsSend J → IsSend R → IsSend (log.the_row J R g)
   log_send j s = view_send _ _ _ _ _ (inner_send j s)

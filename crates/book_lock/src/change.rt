@@ -12,8 +12,7 @@ use layer_book::fault::LayerFault;
 use std::alloc::{AllocError, Global};
 use std::slice;
 use std::sync::Arc;
-use versions::fault::VersionFault;
-use versions::version::Version;
+use versions::{Version, VersionFault};
 
 /// Commands that a session submits together: they are accepted as one version, or refused.
 pub trait Change {

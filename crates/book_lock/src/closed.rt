@@ -2,7 +2,7 @@
 use book_history::seen_log::SeenLog;
 use std::alloc::Global;
 use std::sync::Arc;
-use versions::version::Version;
+use versions::Version;
 
 /// What is left of a book: its newest version, and the log that this ends.
 #[derive(Debug, Drop)]

@@ -3,10 +3,10 @@
 
 pub mod change;
 pub mod closed;
-mod keeping;
 pub mod locked_log;
-mod making;
+mod other_entries;
 pub mod refused;
 pub mod room;
 pub mod session;
+mod shared_version;
 mod submitting;

@@ -13,30 +13,30 @@ ghost use Rattle.book_history.specs.Rules.{head_of};
 ghost use Rattle.book_lock.specs.Steps.{HasLooked, IsLevel, beginners};
 
 use crate::closed::ClosedBook;
-use crate::making::shared;
 use crate::session::Session;
+use crate::shared_version::shared;
 use book_history::entry::{Cause, counted};
 use book_history::fault::{BookFault, NO_MEMORY};
 use book_history::published::{Published, Publisher};
 use book_history::publisher::{first_publisher, new_place, put_out};
-use book_history::seen_log::{Head, Naming, SeenLog};
+use book_history::seen_log::{BookName, LogWord, SeenLog};
 use std::alloc::Global;
 use std::marker::{Model, PhantomData};
 use std::sync::{Arc, Wait};
-use versions::version::Version;
+use versions::Version;
 
 const MOST: u64 = 1 << 60;
 
 /// What lies under the lock: the log that is published, and how many batches of each session it has.
-pub struct LockedLog<J: Naming, R: Wait + Drop> {
-    head: Head,
+pub struct LockedLog<J: BookName, R: Wait + Drop> {
+    head: LogWord,
     publisher: Publisher,
     counts: [u64; 4],
     rt: R,
     of: PhantomData<J>,
 }
 
-impl<J: Naming, R: Wait + Drop> Model for LockedLog<J, R> {
+impl<J: BookName, R: Wait + Drop> Model for LockedLog<J, R> {
     ghost use Rattle.std.specs.Prelude.{◌≡◌, ◌<◌, ℕ, List, [], length, drop, slice_index};
     ghost use Rattle.std.specs.Coded.{coded_list};
     ghost use Rattle.overlay_terms.specs.Histories as terms;
@@ -55,12 +55,12 @@ impl<J: Naming, R: Wait + Drop> Model for LockedLog<J, R> {
         × ((by : ℕ) → by < 4 → slice_index d.counts by ≡ length (commands_of by d.publisher.desk.shown.value.seen_log.log)) };
 }
 
-impl<J: Naming, R: Wait + Drop> LockedLog<J, R> {
+impl<J: BookName, R: Wait + Drop> LockedLog<J, R> {
     /// The log under the lock, of one version, and sessions that have seen just that.
     pub fn open(
         rt: R,
         alloc: Global,
-        head: Head,
+        head: LogWord,
         seen_log: SeenLog,
         version: Version,
         sessions: usize,
@@ -193,7 +193,7 @@ impl<J: Naming, R: Wait + Drop> LockedLog<J, R> {
 }
 
 /// It waits for the readers.
-impl<J: Naming, R: Wait + Drop> Drop for LockedLog<J, R> {
+impl<J: BookName, R: Wait + Drop> Drop for LockedLog<J, R> {
     fn drop(self) {
         let Self {
             head: _head,

@@ -4,7 +4,7 @@ ghost use Rattle.book_lock.specs.Refused.{batch_fault, command_fault};
 
 use book_history::fault::BookFault;
 use layer_book::batch_fault::BatchFault;
-use versions::fault::VersionFault;
+use versions::VersionFault;
 
 /// Why what a session submits is refused.
 #[derive(Clone, Copy)]

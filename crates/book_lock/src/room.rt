@@ -3,11 +3,11 @@ ghost use Rattle.std.specs.Prelude.{◌≡◌, IfOk, IfErr};
 ghost use Rattle.std.specs.Arc.{arc_value};
 ghost use Rattle.book_history.specs.Fault.{no_memory};
 
-use crate::making::shared;
+use crate::shared_version::shared;
 use book_history::fault::BookFault;
 use std::alloc::Global;
 use std::sync::Arc;
-use versions::version::Version;
+use versions::Version;
 
 /// Memory for a version, where there was some: so what has to be told can be told where there is none any more.
 #[derive(Drop)]

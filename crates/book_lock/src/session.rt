@@ -17,7 +17,7 @@ use std::alloc::{AllocError, Global};
 use std::fmt;
 use std::marker::Model;
 use std::sync::Arc;
-use versions::version::Version;
+use versions::Version;
 
 /// A session: what it has seen and made.
 #[derive(Drop)]

@@ -10,12 +10,12 @@ use crate::locked_log::LockedLog;
 use crate::refused::Refused;
 use crate::session::Session;
 use book_history::entry::Cause;
-use book_history::seen_log::Naming;
+use book_history::seen_log::BookName;
 use std::alloc::Global;
 use std::sync::{Arc, Wait};
-use versions::version::Version;
+use versions::Version;
 
-impl<J: Naming, R: Wait + Drop> LockedLog<J, R> {
+impl<J: BookName, R: Wait + Drop> LockedLog<J, R> {
     /// Accepts what a session submits: the one entry that this adds, or nothing.
     pub fn submit<C: Change>(
         &mut self,

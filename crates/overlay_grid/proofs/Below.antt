@@ -6,13 +6,11 @@ use Rattle.std.proofs.lemmas.Bool.Decides.{leb_tells}
 use Rattle.overlay_terms.specs.Plane.{Segment, height_over, is_below}
 use Rattle.overlay_terms.specs.Trees.{mask_bits}
 use Rattle.overlay_terms.proofs.Difference.{split, whole_is, differences, same}
+use Rattle.overlay_terms.proofs.InputNumbers.{times_one}
 use Rattle.overlay_grid.specs.declared.rising.Rise.{Rise}
 use Rattle.overlay_grid.specs.Rising.{point_at}
 use Rattle.overlay_grid.specs.Turning.{turned}
 use Rattle.overlay_grid.proofs.Turned.{turned_inside, turned_outside}
-
-times_one : (a : ℤ) → a *ℤ pos 1 ≡ a
-times_one a = rw (split a, whole_is 1) (simp differences (same _ _ _ _ (omega arith)))
 
 first_fails : (x y z : Bool) → x ≡ false → (x && y && z) ≡ false
 first_fails true y z e = cc

@@ -1,4 +1,3 @@
-pub mod Bounds64
 pub mod RisingLemmas
 pub mod OnRise
 pub mod Turned

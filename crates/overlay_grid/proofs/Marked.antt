@@ -5,13 +5,10 @@ use Rattle.std.proofs.lemmas.Bool.{cases_eq, or_right, lt-ltb, le-ltb, ne_eqb, e
 use Rattle.std.proofs.lemmas.Bool.Decides.{nat_tests}
 use Rattle.std.proofs.lemmas.List.{get_or-set_same, get_or-set_other}
 use Rattle.overlay_grid.specs.Turning.{is_marked}
-
-or_none : (b : Bool) → (b || false) ≡ b
-or_none true = refl
-or_none false = refl
+use Rattle.overlay_terms.proofs.NameLemmas.{or_false}
 
 pub or_nothing : (b c : Bool) → c ≡ false → b ≡ (b || c)
-or_nothing b c e = sym (or_none b) ∙ ap (λ d. b || d) (sym e)
+or_nothing b c e = sym (or_false b) ∙ ap (λ d. b || d) (sym e)
 
 or_yes : (b c : Bool) → c ≡ true → true ≡ (b || c)
 or_yes b c e = sym (or_right b c e)

@@ -9,6 +9,7 @@ use Rattle.std.proofs.lemmas.Int.{ints, by_lt_z}
 use Rattle.std.proofs.Math.IntN.{*ℤ_comm, *ℤ-zero, zero-*ℤ}
 use Rattle.overlay_terms.specs.Plane.{Point, Segment, height_over, is_on}
 use Rattle.overlay_terms.proofs.Difference.{split, differences, same}
+use Rattle.overlay_terms.proofs.InputNumbers.{le_true, true_le}
 use Rattle.exact_point.proofs.Lexical.{NotBack}
 use Rattle.exact_point.proofs.OnSegment.{reached, is_reached}
 use Rattle.exact_point.proofs.Signs.{zero_factor}
@@ -82,12 +83,6 @@ on_slanted s x y wide low high =
     (λ t. holds s x y wide low high ((Decides-int_eq (height_over s (at x y)) (pos 0)).0 t))
 
 -- ---- an upright segment
-le_says : (a b : ℤ) → int_le a b ≡ true → a ≤ℤ b
-le_says a b e = grind (arith, ints)
-
-le_test : (a b : ℤ) → a ≤ℤ b → int_le a b ≡ true
-le_test a b h = grind (arith, ints)
-
 flat : (w h u d : ℤ) → w ≡ pos 0 → d ≡ pos 0 → (w *ℤ u) -ℤ (h *ℤ d) ≡ pos 0
 flat w h u d e f =
     let a : w *ℤ u ≡ pos 0 = ap (λ z. z *ℤ u) e ∙ zero-*ℤ u in
@@ -100,8 +95,8 @@ on_upright s x y upright over =
     both_ways (int_le s.left.y y && int_le y s.right.y) (is_on s (at x y))
     (λ t.
     let parts = and_parts (int_le s.left.y y) (int_le y s.right.y) t in
-    let low : s.left.y ≤ℤ y = le_says s.left.y y parts.0 in
-    let high : y ≤ℤ s.right.y = le_says y s.right.y parts.1 in
+    let low : s.left.y ≤ℤ y = le_true s.left.y y parts.0 in
+    let high : y ≤ℤ s.right.y = le_true y s.right.y parts.1 in
     is_reached s (at x y) (record {
       level = flat (s.right.x -ℤ s.left.x) (s.right.y -ℤ s.left.y) (y -ℤ s.left.y *ℤ pos 1) (x -ℤ s.left.x *ℤ pos 1) (omega (arith, ints)) (omega (arith, ints));
       from_left = inr (omega (arith, ints), omega (arith, ints));
@@ -111,4 +106,4 @@ on_upright s x y upright over =
     let all = reached s (at x y) t in
     let low : pos 0 ≤ℤ (y -ℤ s.left.y *ℤ pos 1) = not_back_y (x -ℤ s.left.x *ℤ pos 1) (y -ℤ s.left.y *ℤ pos 1) (omega (arith, ints)) all.from_left in
     let high : pos 0 ≤ℤ (s.right.y *ℤ pos 1 -ℤ y) = not_back_y (s.right.x *ℤ pos 1 -ℤ x) (s.right.y *ℤ pos 1 -ℤ y) (omega (arith, ints)) all.to_right in
-    and_from (int_le s.left.y y) (int_le y s.right.y) (le_test s.left.y y (omega (arith, ints))) (le_test y s.right.y (omega (arith, ints))))
+    and_from (int_le s.left.y y) (int_le y s.right.y) (true_le s.left.y y (omega (arith, ints))) (true_le y s.right.y (omega (arith, ints))))

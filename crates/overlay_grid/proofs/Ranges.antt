@@ -9,22 +9,17 @@ use Rattle.std.proofs.lemmas.List.Folds.{list_all_at}
 use Rattle.std.proofs.lemmas.List.FromFn.{length-range_with_len, get_or-range_with_len}
 use Rattle.std.proofs.Math.Nat.{mul-le-mul_left}
 use Rattle.overlay_terms.specs.Plane.{InRange}
+use Rattle.overlay_terms.proofs.InputNumbers.{le_true, true_le}
 use Rattle.overlay_grid.proofs.RisingLemmas.{first_is}
 use Rattle.overlay_grid.specs.Grid.{Grid, all_in_range, in_range, is_within_range}
-
-le_says : (a b : ℤ) → int_le a b ≡ true → a ≤ℤ b
-le_says a b e = grind (arith, ints)
-
-le_test : (a b : ℤ) → a ≤ℤ b → int_le a b ≡ true
-le_test a b h = grind (arith, ints)
 
 in_says : (n : ℤ) → in_range n ≡ true → InRange n
 in_says n e =
     let parts = and_parts (int_le (neg_ℤ (pos 1048576)) n) (int_le n (pos 1048576)) e in
-    (le_says (neg_ℤ (pos 1048576)) n parts.0, le_says n (pos 1048576) parts.1)
+    (le_true (neg_ℤ (pos 1048576)) n parts.0, le_true n (pos 1048576) parts.1)
 
 in_test : (n : ℤ) → InRange n → in_range n ≡ true
-in_test n h = and_from (int_le (neg_ℤ (pos 1048576)) n) (int_le n (pos 1048576)) (le_test (neg_ℤ (pos 1048576)) n h.0) (le_test n (pos 1048576) h.1)
+in_test n h = and_from (int_le (neg_ℤ (pos 1048576)) n) (int_le n (pos 1048576)) (true_le (neg_ℤ (pos 1048576)) n h.0) (true_le n (pos 1048576) h.1)
 
 -- ---- a test at each place
 all_true : (p : ℕ → Bool) (a n : ℕ) → ((i : ℕ) → i < a + n → p i ≡ true) → list_all p (range_with_len a n) ≡ true
@@ -62,8 +57,8 @@ pub last_tells : (from step : ℤ) (count : ℕ) → pos 1 ≤ℤ step → 1 ≤
 last_tells from step count low some in_from =
     both_ways (int_le (from +ℤ (step *ℤ pos (count - 1))) (pos 1048576)) (all_in_range from step count)
     (λ t. all_true (λ i. in_range (from +ℤ (step *ℤ pos i))) 0 count
-    (λ i l. in_test (from +ℤ (step *ℤ pos i)) (between from step i (count - 1) low (omega arith) in_from (le_says (from +ℤ (step *ℤ pos (count - 1))) (pos 1048576) t))))
-    (λ t. le_test (from +ℤ (step *ℤ pos (count - 1))) (pos 1048576) (one_in_range from step count (count - 1) (omega arith) t).1)
+    (λ i l. in_test (from +ℤ (step *ℤ pos i)) (between from step i (count - 1) low (omega arith) in_from (le_true (from +ℤ (step *ℤ pos (count - 1))) (pos 1048576) t))))
+    (λ t. true_le (from +ℤ (step *ℤ pos (count - 1))) (pos 1048576) (one_in_range from step count (count - 1) (omega arith) t).1)
 
 -- the points of a grid within range
 pub row_in_range : (g : Grid) → is_within_range g ≡ true → all_in_range g.x g.step g.nx ≡ true

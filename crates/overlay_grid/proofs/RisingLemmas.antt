@@ -7,6 +7,7 @@ use Rattle.std.proofs.lemmas.Bool.Decides.{leb_tells, eqb_tells, nat_tests}
 use Rattle.std.proofs.Math.Nat.{div-lt_iff_lt-mul, mod-add-div, mul-div_cancel_left, mul-mod_right}
 use Rattle.overlay_terms.specs.Plane.{Segment, height_over}
 use Rattle.overlay_terms.proofs.Difference.{split, differences, same, mul_pos}
+use Rattle.overlay_terms.proofs.InputNumbers.{times_one}
 use Rattle.overlay_grid.specs.declared.rising.Rise.{Rise}
 use Rattle.overlay_grid.specs.Rising.{point_at, start_of}
 
@@ -72,9 +73,6 @@ pub height_first : (s : Segment) (r : Rise) → height_over s (start_of r) ≡ h
 height_first s r = ap (λ y. ((s.right.x -ℤ s.left.x) *ℤ (y -ℤ (s.left.y *ℤ pos 1))) -ℤ ((s.right.y -ℤ s.left.y) *ℤ (r.x -ℤ (s.left.x *ℤ pos 1)))) (first_is r.y r.step)
 
 -- the same, as the code computes it
-times_one : (a : ℤ) → a *ℤ pos 1 ≡ a
-times_one a = omega (arith, ints)
-
 pub first_height : (s : Segment) (r : Rise) → (s.right.x -ℤ s.left.x) *ℤ (r.y -ℤ s.left.y) -ℤ (s.right.y -ℤ s.left.y) *ℤ (r.x -ℤ s.left.x) ≡ height_over s (start_of r)
 first_height s r = rw (times_one s.left.y, times_one s.left.x)
 
@@ -132,16 +130,13 @@ next_same : (m n : ℕ) → (m == n) ≡ (m + 1 == n + 1)
 next_same m n = grind (arith, nat_tests)
 
 module _ (s : Segment) (r : Rise) (over pace : ℤ) (j : ℕ) (h : s.left.x <ℤ s.right.x) (e : over ≡ height_over s (point_at r 0)) (is : pace ≡ (s.right.x -ℤ s.left.x) *ℤ r.step) where
-  up : pos 0 <ℤ pace
-  up = subst (λ z. pos 0 <ℤ z) (sym is) (pace_up s r h)
+  pub is_up : pos 0 <ℤ pace
+  is_up = subst (λ z. pos 0 <ℤ z) (sym is) (pace_up s r h)
 
   there : int_eq (height_over s (point_at r j)) (pos 0) ≡ int_eq (over +ℤ (pos (unsigned_abs pace) *ℤ pos j)) (pos 0)
   there =
-      let size : pos (unsigned_abs pace) ≡ pace = size_up pace (omega (arith, ints, up)) in
+      let size : pos (unsigned_abs pace) ≡ pace = size_up pace (omega (arith, ints, is_up)) in
       ap (λ z. int_eq z (pos 0)) (height_at s r j ∙ ap (λ z. z +ℤ (((s.right.x -ℤ s.left.x) *ℤ r.step) *ℤ pos j)) (sym e) ∙ ap (λ z. over +ℤ (z *ℤ pos j)) (sym (size ∙ is)))
-
-  pub is_up : pos 0 <ℤ pace
-  is_up = up
 
   pub level_above : pos 0 <ℤ over → int_eq (height_over s (point_at r j)) (pos 0) ≡ false
   level_above k = there ∙ never_on over (unsigned_abs pace) j k
@@ -150,7 +145,7 @@ module _ (s : Segment) (r : Rise) (over pace : ℤ) (j : ℕ) (h : s.left.x <ℤ
   level_missed down rest = there ∙ missed over (unsigned_abs over) (unsigned_abs pace) j (size_down over down) rest
 
   pub level_met : over ≤ℤ pos 0 → unsigned_abs over % unsigned_abs pace ≡ 0 → int_eq (height_over s (point_at r j)) (pos 0) ≡ (unsigned_abs over / unsigned_abs pace == j)
-  level_met down none = there ∙ met over (unsigned_abs over) (unsigned_abs pace) j (size_some pace up) (size_down over down) none
+  level_met down none = there ∙ met over (unsigned_abs over) (unsigned_abs pace) j (size_some pace is_up) (size_down over down) none
 
   -- one of the points is on the line where the division leaves nothing, and it is the last that is not above it
   pub level_tells : over ≤ℤ pos 0 → int_eq (height_over s (point_at r j)) (pos 0) ≡ ((unsigned_abs over % unsigned_abs pace == 0) && (unsigned_abs over / unsigned_abs pace + 1 == j + 1))

@@ -5,7 +5,7 @@ ghost use Rattle.overlay_grid.specs.Fault.{code_of, text_of};
 ghost use Rattle.overlay_grid.specs.declared.fault.GridFault.TheVariants.{Layer};
 ghost use Rattle.layer_book.specs.declared.fault.LayerFault.TheVariants.{OutOfMemory};
 
-use exact_point::fault::PointFault;
+use exact_point::PointFault;
 use fault_texts::FaultText;
 use layer_book::fault::LayerFault;
 use std::alloc::AllocError;

@@ -1,7 +1,6 @@
 //! Pictures of layers: the answer at each point of a grid, straight from the segments.
 #![tactic(auto)]
 
-mod arithmetic;
 mod columns;
 pub mod drawing;
 pub mod fault;

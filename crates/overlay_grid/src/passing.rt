@@ -1,11 +1,12 @@
 //! Where the line of a segment passes points one above the other.
-ghost use Rattle.std.specs.Prelude.{◌≡◌, ℕ, ◌+◌, ◌<◌, ◌==◌, true, ◌&&◌, ◌*ℤ◌, ◌-ℤ◌, ◌<ℤ◌, pos, int_lt, nat_le};
+ghost use Rattle.std.specs.Prelude.{◌≡◌, ℕ, ◌^◌, ◌+◌, ◌<◌, ◌==◌, true, ◌&&◌, ◌*ℤ◌, ◌-ℤ◌, ◌<ℤ◌, pos, int_lt, nat_le};
 ghost use Rattle.std.specs.Ordering.{int_eq};
 ghost use Rattle.overlay_terms.specs.Plane.{height_over};
+ghost use Rattle.overlay_terms.specs.Within.{IsWithin};
 ghost use Rattle.overlay_grid.specs.Rising.{point_at, start_of};
 
-use crate::arithmetic::{cross, minus, product};
 use crate::rising::Rise;
+use exact_point::{minus, whole_cross};
 use plane_base::Seg;
 
 /// How many of the points are not above a line, and whether the last of these is on it.
@@ -43,7 +44,7 @@ fn height(seg: &Seg, rise: Rise) -> i64
     ensures { result ≡ height_over seg.now (start_of rise) }
 {
     let (left, right) = (seg.left(), seg.right());
-    cross(
+    whole_cross(
         minus(right.x(), left.x()),
         minus(right.y(), left.y()),
         minus(rise.x, left.x()),
@@ -56,4 +57,14 @@ fn pace(seg: &Seg, rise: Rise) -> i64
     ensures { result ≡ (seg.now.right.x -ℤ seg.now.left.x) *ℤ rise.step }
 {
     product(minus(seg.right().x(), seg.left().x()), rise.step)
+}
+
+/// The product of a width and a step.
+fn product(a: i64, b: i64) -> i64
+    requires a_small { IsWithin (2 ^ 21) a }
+    requires b_small { IsWithin (2 ^ 21) b }
+    ensures value { result ≡ a *ℤ b }
+    ensures small { IsWithin (2 ^ 42) result }
+{
+    a * b
 }

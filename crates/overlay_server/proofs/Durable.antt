@@ -1,35 +1,21 @@
 -- What stands for a version of a history is covered for its batches.
 use Rattle.std.proofs.Common.{◌≡◌, ℕ, ◌+◌, ◌-◌, List, [], ◌∷◌, ◌++◌, length, take, refl, sym, ap, subst, ◌∙◌, length-append, arith}
 use Rattle.overlay_terms.specs.Batches.{Batch}
-use Rattle.overlay_terms.specs.Histories.{Version, Event, accepted, kept, durable_to, Entry, History, AllFollow, IsHistory, BeginsWith, newest, accepted_in}
+use Rattle.overlay_terms.specs.Histories.{Version, History, IsHistory, BeginsWith, newest, accepted_in}
 use Rattle.overlay_terms.specs.KeptLaws.{IsExact}
 use Rattle.overlay_terms.proofs.HistoryFolds.{newest_has_commands}
 use Rattle.overlay_terms.proofs.KeptHistories.{history_is_exact}
 use Rattle.overlay_engine.specs.Start.{layers_from, up_to}
 use Rattle.overlay_engine.proofs.Recovering.{image_exact}
 use Rattle.overlay_server.specs.Durability.{FilesAreCovered, VersionsAreExact, start_of_batches}
-
--- versions that follow one another, and the first of them
-follow_first : (v : Version) (xs ys : List Entry) → AllFollow v (xs ++ ys) → AllFollow v xs
-follow_first v [] ys f = tt
-follow_first v (x ∷ xs) ys f = (f.0, follow_first x.version xs ys f.1)
+use Rattle.line_laws.proofs.Entries.{accepted_more, follow_front}
 
 -- a history that another one goes on from
 earlier_is_history : (history earlier : History) → BeginsWith history earlier → IsHistory history → IsHistory earlier
-earlier_is_history history earlier on is = follow_first earlier.start earlier.entries on.0 (subst IsHistory on.1 is)
+earlier_is_history history earlier on is = follow_front earlier.start earlier.entries on.0 (subst IsHistory on.1 is)
 
 same_start : (history earlier : History) → BeginsWith history earlier → history.start ≡ earlier.start
 same_start history earlier on = ap (λ (h : History). h.start) on.1
-
-accepted_one : (event : Event) (version : Version) (xs ys : List Entry) → accepted_in (xs ++ ys) ≡ accepted_in xs ++ accepted_in ys
-    → accepted_in (record { event = event; version = version } ∷ xs ++ ys) ≡ accepted_in (record { event = event; version = version } ∷ xs) ++ accepted_in ys
-accepted_one (accepted session batch) version xs ys is = ap (λ (bs : List Batch). batch ∷ bs) is
-accepted_one (kept name column tile) version xs ys is = is
-accepted_one (durable_to number) version xs ys is = is
-
-accepted_append : (xs ys : List Entry) → accepted_in (xs ++ ys) ≡ accepted_in xs ++ accepted_in ys
-accepted_append [] ys = refl
-accepted_append (x ∷ xs) ys = accepted_one x.event x.version xs ys (accepted_append xs ys)
 
 take_first : (bs more : List Batch) → take (length bs) (bs ++ more) ≡ bs
 take_first [] more = refl
@@ -56,7 +42,7 @@ files_are_covered history least file is exact stands =
     let first = accepted_in earlier.entries in
     let later = accepted_in among.begins.0 in
     let all : accepted_in history.entries ≡ first ++ later =
-    ap (λ (h : History). accepted_in h.entries) among.begins.1 ∙ accepted_append earlier.entries among.begins.0 in
+    ap (λ (h : History). accepted_in h.entries) among.begins.1 ∙ accepted_more earlier.entries among.begins.0 in
     let newest_number : (newest earlier).number ≡ start.number + length first = made.number ∙ ap (λ (v : Version). v.number + length first) (sym begins) in
     let number : stands.held.number ≡ start.number + length first =
     image.number ∙ ap (λ (v : Version). v.number) among.newest ∙ newest_number in

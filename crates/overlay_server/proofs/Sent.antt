@@ -12,7 +12,7 @@ use Rattle.std.specs.contracts.alloc.Global as global
 use Rattle.version_book.proofs.Sent.{session_send}
 use Rattle.version_book.proofs.SentBook.{shared_sync}
 use Rattle.version_book.specs.contracts.shared.Shared as shared
-use Rattle.book_history.specs.declared.seen_log.Naming as naming
+use Rattle.book_history.specs.declared.seen_log.BookName as naming
 use Rattle.overlay_server.specs.contracts.running.Script as script
 use Rattle.overlay_server.specs.contracts.running.Ended as ended
 use Rattle.overlay_server.specs.contracts.outcome.Port as port

@@ -4,7 +4,7 @@ ghost use Rattle.overlay_server.specs.Counting.{made_in};
 
 use std::sync::Wait;
 use version_book::session::Session;
-use versions::version::Version;
+use versions::Version;
 
 /// How many batches these sessions made. Were it more than a number holds, which cannot come, it would wait for ever.
 pub fn made_by_all<Q: Wait>(rt: &Q, sessions: &[Session]) -> u64

@@ -28,15 +28,14 @@ use store_flushing::closing::close;
 use store_flushing::keeper::told_log::ToldLog;
 use tile_workers::gate::Gate;
 use version_book::fault::BookFault;
-use version_book::reporter::Reporter;
-use version_book::seen_log::{Head, Naming, SeenLog};
+use version_book::seen_log::{BookName, LogWord, SeenLog};
 use version_book::session::Session;
 use version_book::shared::Shared;
-use versions::version::Version;
+use versions::Version;
 
 /// A book that is to be opened: the history of one version, and the store that it was read from.
 pub struct Opened<D: Disk> {
-    pub head: Head,
+    pub head: LogWord,
     pub seen_log: SeenLog,
     pub version: Version,
     pub flusher: Option<Flusher<D>>,
@@ -53,7 +52,7 @@ struct Start {
 }
 
 /// A book that was opened, or was refused, what it answered, and its store.
-struct Asked<J: Naming, S: Wait + Drop, D: Disk> {
+struct Asked<J: BookName, S: Wait + Drop, D: Disk> {
     start: Start,
     begun: Result<Begun<J, S>, BookFault>,
     answer: BookAnswer,
@@ -61,7 +60,7 @@ struct Asked<J: Naming, S: Wait + Drop, D: Disk> {
 }
 
 /// Opens the book that is named by its history, for so many sessions.
-fn ask_book<J: Naming, S: Wait + Drop, D: Disk>(
+fn ask_book<J: BookName, S: Wait + Drop, D: Disk>(
     rt: S,
     alloc: Global,
     opened: Opened<D>,
@@ -107,7 +106,7 @@ pub fn listen_in<J, D, R, G, Q>(
     readers: Vec<R>,
 ) -> Result<Served<D>, ServerFault<D>>
 where
-    J: Naming + Send + Sync,
+    J: BookName + Send + Sync,
     D: Disk + Send + Drop,
     R: Read + Send + Drop,
     G: Gate + Sync,
@@ -141,7 +140,7 @@ pub fn serve_in<J, D, R, W, G, Q>(
     ports: Vec<Port<R, W>>,
 ) -> Result<Left<W, D>, ServerFault<D>>
 where
-    J: Naming + Send + Sync,
+    J: BookName + Send + Sync,
     D: Disk + Send + Drop,
     R: Read + Send + Drop,
     W: Write + Send + Drop,
@@ -166,7 +165,7 @@ fn serve_asked<J, S, D, R, W, G, Q>(
     ports: Vec<Port<R, W>>,
 ) -> Result<Left<W, D>, ServerFault<D>>
 where
-    J: Naming + Send + Sync,
+    J: BookName + Send + Sync,
     S: Wait + Drop + Send,
     D: Disk + Send + Drop,
     R: Read + Send + Drop,
@@ -219,7 +218,7 @@ fn run_book<J, S, D, R, W, G, Q>(
     ports: Vec<Port<R, W>>,
 ) -> Result<Left<W, D>, ServerFault<D>>
 where
-    J: Naming + Send + Sync,
+    J: BookName + Send + Sync,
     S: Wait + Drop + Send,
     D: Disk + Send + Drop,
     R: Read + Send + Drop,

@@ -11,10 +11,10 @@ use std::alloc::Global;
 use std::sync::Wait;
 use version_book::fault::BookFault;
 use version_book::reporter::Reporter;
-use version_book::seen_log::{Head, Naming, SeenLog};
+use version_book::seen_log::{BookName, LogWord, SeenLog};
 use version_book::session::Session;
 use version_book::shared::Shared;
-use versions::version::Version;
+use versions::Version;
 
 /// What a book answered as it was to be opened: that it was, or why it gave no places. `open_book` alone makes one.
 #[derive(Debug, Drop)]
@@ -39,10 +39,10 @@ impl BookAnswer {
 pub(crate) type Begun<J, S> = (Shared<J, S>, Reporter, Vec<Session>);
 
 /// Opens a book, and keeps what it answers.
-pub(crate) fn open_book<J: Naming, S: Wait + Drop>(
+pub(crate) fn open_book<J: BookName, S: Wait + Drop>(
     rt: S,
     alloc: Global,
-    head: Head,
+    head: LogWord,
     seen_log: SeenLog,
     version: Version,
     store: bool,

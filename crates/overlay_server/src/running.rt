@@ -14,7 +14,7 @@ use std::marker::PhantomData;
 use std::snapshot::Snapshot;
 use std::sync::Wait;
 use std::thread::{Promise, PromisedHandle, Scope, Threads};
-use version_book::seen_log::Naming;
+use version_book::seen_log::BookName;
 use version_book::session::Session;
 use version_book::shared::Shared;
 
@@ -35,14 +35,14 @@ pub struct Ended<R, W> {
 
 /// What a session's thread promises: it ran the script with which it began.
 #[derive(Drop)]
-pub struct RunsScript<J: Naming, R, W> {
+pub struct RunsScript<J: BookName, R, W> {
     begun: Snapshot<Script<R, W>>,
     /// Whether the book has a store.
     stored: bool,
     of: PhantomData<J>,
 }
 
-impl<J: Naming, R: Read, W: Write> Promise<Ended<R, W>> for RunsScript<J, R, W> {
+impl<J: BookName, R: Read, W: Write> Promise<Ended<R, W>> for RunsScript<J, R, W> {
     ghost use Rattle.overlay_server.specs.Running.{IsRunOf};
 
     ghost kept_by = { λ p r. IsRunOf J.book p.stored R.remaining W.contents p.begun.value r };
@@ -53,7 +53,7 @@ pub type Running<J, R, W> = PromisedHandle<Ended<R, W>, RunsScript<J, R, W>>;
 
 /// Room for the threads of sessions, and for what they leave.
 #[derive(Drop)]
-pub struct Rooms<J: Naming, R: Read, W: Write> {
+pub struct Rooms<J: BookName, R: Read, W: Write> {
     pub running: Vec<Running<J, R, W>>,
     pub ended: Vec<Ended<R, W>>,
 }
@@ -68,7 +68,7 @@ pub fn run_sessions<'s, E, J, S, Q, R, W>(
     rooms: Rooms<J, R, W>,
 ) -> Option<Vec<Ended<R, W>>>
 where
-    J: Naming + Send + Sync,
+    J: BookName + Send + Sync,
     S: Wait + Drop + Send + 's,
     Q: Threads + Wait + Sync,
     R: Read + Send + Drop + 's,
@@ -92,7 +92,7 @@ fn start_sessions<'s, E, J, S, Q, R, W>(
     mut list: Vec<Running<J, R, W>>,
 ) -> Option<Vec<Running<J, R, W>>>
 where
-    J: Naming + Send + Sync,
+    J: BookName + Send + Sync,
     S: Wait + Drop + Send + 's,
     Q: Threads + Wait + Sync,
     R: Read + Send + Drop + 's,
@@ -116,7 +116,7 @@ fn start_session<'s, E, J, S, Q, R, W>(
     script: Script<R, W>,
 ) -> Option<Running<J, R, W>>
 where
-    J: Naming + Send + Sync,
+    J: BookName + Send + Sync,
     S: Wait + Drop + Send + 's,
     Q: Threads + Wait + Sync,
     R: Read + Send + Drop + 's,
@@ -141,7 +141,7 @@ where
 }
 
 /// Takes the threads of the scripts in, in their order.
-fn join_sessions<J: Naming, Q: Threads, R: Read + Drop, W: Write + Drop>(
+fn join_sessions<J: BookName, Q: Threads, R: Read + Drop, W: Write + Drop>(
     rt: &Q,
     running: Vec<Running<J, R, W>>,
     mut list: Vec<Ended<R, W>>,
@@ -156,7 +156,7 @@ fn join_sessions<J: Naming, Q: Threads, R: Read + Drop, W: Write + Drop>(
 }
 
 /// Runs a script into its writer.
-fn run_script<J: Naming, S: Wait + Drop, Q: Threads + Wait + Sync, R: Read, W: Write>(
+fn run_script<J: BookName, S: Wait + Drop, Q: Threads + Wait + Sync, R: Read, W: Write>(
     rt: &Q,
     alloc: Global,
     shared: &Shared<J, S>,

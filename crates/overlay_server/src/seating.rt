@@ -7,7 +7,7 @@ use crate::outcome::{Finished, Port};
 use crate::running::{Ended, Rooms, Script};
 use std::alloc::Global;
 use std::io::{Read, Write};
-use version_book::seen_log::Naming;
+use version_book::seen_log::BookName;
 use version_book::session::Session;
 
 /// What ended sessions leave, in two lists, or room for that.
@@ -19,7 +19,7 @@ pub struct Parts<W> {
 
 /// The scripts, each with the session that runs it, and room for all that these leave.
 #[derive(Drop)]
-pub struct Seats<J: Naming, R: Read, W: Write> {
+pub struct Seats<J: BookName, R: Read, W: Write> {
     pub scripts: Vec<Script<R, W>>,
     pub rooms: Rooms<J, R, W>,
     pub parts: Parts<W>,
@@ -27,7 +27,7 @@ pub struct Seats<J: Naming, R: Read, W: Write> {
 
 /// Gives each reader's script the session of its place, and takes the memory for the lists that are filled later. None
 /// comes where memory is refused.
-pub fn seated<J: Naming, R: Read + Drop, W: Write + Drop>(
+pub fn seated<J: BookName, R: Read + Drop, W: Write + Drop>(
     alloc: Global,
     sessions: Vec<Session>,
     ports: Vec<Port<R, W>>,
@@ -50,7 +50,7 @@ pub fn seated<J: Naming, R: Read + Drop, W: Write + Drop>(
 }
 
 /// Room for the threads of so many sessions.
-fn rooms<J: Naming, R: Read + Drop, W: Write + Drop>(
+fn rooms<J: BookName, R: Read + Drop, W: Write + Drop>(
     alloc: Global,
     count: usize,
 ) -> Option<Rooms<J, R, W>>

@@ -13,7 +13,7 @@ use std::sync::Wait;
 use std::thread::Threads;
 use tile_workers::gate::Gate;
 use version_book::seen_log::open;
-use versions::version::Version;
+use versions::Version;
 
 /// Runs workers, the store and one session a reader, each in a thread of its own, until all scripts have ended. Session
 /// k runs the k-th reader's script, counted from 0, and the outcomes stand in the readers' order. The book begins with the

@@ -12,7 +12,7 @@ use std::thread::{Promise, PromisedHandle, Scope, Threads};
 use store_flushing::keeper::flusher_loop;
 use store_flushing::keeper::told_log::ToldLog;
 use version_book::reporter::Reporter;
-use version_book::seen_log::Naming;
+use version_book::seen_log::BookName;
 use version_book::shared::Shared;
 
 /// Who reports durable numbers, the store that versions are written to, where there is one, and what was told durable.
@@ -25,12 +25,12 @@ pub struct Store<D: Disk> {
 
 /// What the store's thread promises: it committed versions of the book alone.
 #[derive(Drop)]
-pub struct KeepsStore<J: Naming, D: Disk> {
+pub struct KeepsStore<J: BookName, D: Disk> {
     begun: Snapshot<Store<D>>,
     of: PhantomData<J>,
 }
 
-impl<J: Naming, D: Disk> Promise<Store<D>> for KeepsStore<J, D> {
+impl<J: BookName, D: Disk> Promise<Store<D>> for KeepsStore<J, D> {
     ghost use Rattle.overlay_server.specs.Keeping.{IsStoreKept};
 
     ghost kept_by = { λ p r. IsStoreKept J.book D.Disk p.begun.value r };
@@ -45,7 +45,7 @@ pub fn start_store<'s, E, J, S, Q, D>(
     store: Store<D>,
 ) -> Result<PromisedHandle<Store<D>, KeepsStore<J, D>>, Store<D>>
 where
-    J: Naming + Send + Sync,
+    J: BookName + Send + Sync,
     S: Wait + Drop + Send + 's,
     Q: Threads + Wait + Sync,
     D: Disk + Send + Drop + 's,
@@ -74,7 +74,7 @@ where
 }
 
 /// Commits what the book gives until it closes.
-pub fn keep_store<J: Naming, S: Wait + Drop, Q: Wait, D: Disk>(
+pub fn keep_store<J: BookName, S: Wait + Drop, Q: Wait, D: Disk>(
     rt: &Q,
     alloc: Global,
     shared: &Shared<J, S>,

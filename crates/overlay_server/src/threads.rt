@@ -13,12 +13,12 @@ use std::thread;
 use std::thread::{Scope, Threads};
 use tile_workers::gate::Gate;
 use tile_workers::worker::worker_loop;
-use version_book::seen_log::Naming;
+use version_book::seen_log::BookName;
 use version_book::shared::Shared;
 
 /// What the threads begin with: how many workers, the store, and the scripts with room for what these leave.
 #[derive(Drop)]
-pub struct Work<J: Naming, R: Read, W: Write, D: Disk> {
+pub struct Work<J: BookName, R: Read, W: Write, D: Disk> {
     pub workers: usize,
     pub store: Store<D>,
     pub scripts: Vec<Script<R, W>>,
@@ -43,7 +43,7 @@ pub fn run_threads<J, S, G, Q, R, W, D>(
 ) -> Returned<R, W, D>
 where
     S: Wait + Drop + Send,
-    J: Naming + Send + Sync,
+    J: BookName + Send + Sync,
     G: Gate + Sync,
     Q: Threads + Wait + Sync,
     R: Read + Send + Drop,
@@ -73,7 +73,7 @@ fn run_in<'s, E, J, S, G, Q, R, W, D>(
 ) -> Returned<R, W, D>
 where
     S: Wait + Drop + Send + 's,
-    J: Naming + Send + Sync,
+    J: BookName + Send + Sync,
     G: Gate + Sync,
     Q: Threads + Wait + Sync,
     R: Read + Send + Drop + 's,
@@ -106,7 +106,7 @@ where
 fn start_workers<
     's,
     E,
-    J: Naming + Send + Sync,
+    J: BookName + Send + Sync,
     S: Wait + Drop + Send + 's,
     G: Gate + Sync,
     Q: Threads + Wait + Sync,

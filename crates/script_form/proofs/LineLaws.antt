@@ -1,19 +1,17 @@
 -- What a line of each shape asks for, and which lines ask for it.
 use Rattle.std.proofs.Common.{◌≡◌, ℕ, ℤ, pos, ◌<◌, ◌==◌, Bool, true, false, not, ◌&&◌, ◌||◌, cond, List, [], ◌∷◌, ◌++◌, length, refl, sym, ap, subst, ◌∙◌, inl, inr, arith, lit<, codes, Some}
 use Rattle.std.specs.List.{list_all}
-use Rattle.std.proofs.lemmas.Bool.{and_parts, or_from, or_left, or_right, not-true, cond-true, cond-false, true≢false, lt-leb, ne_eqb}
+use Rattle.std.proofs.lemmas.Bool.{and_parts, or_from, or_left, or_right, not-true, cond-false, true≢false, ne_eqb}
 use Rattle.overlay_terms.specs.Blank.{is_blank}
-use Rattle.script_form.specs.Lines.{line_max, is_gap, is_too_long, begins_comment}
+use Rattle.script_form.specs.Lines.{line_max, is_gap, begins_comment}
 use Rattle.script_form.specs.Requests.{Request, nothing, too_long, malformed, put_text, define_text, remove_name, locate, grid, list_layers, edges, wait, verify, sync, batch, is_word_byte, is_name_side, is_empty, begins, number_of, skip_while, words_of, behind_first_word, by_words, put_of, define_of, behind_sign, located, gridded, sized, edges_at, verify_at, numbered, request_of}
 use Rattle.script_form.specs.Shapes.{IsShort, AreGaps, ArePartingGaps, AreSome, IsWord, IsBlankOrComment, IsPutLine, IsDefineLine, IsDropLine, IsWholePointLine, IsPointLine, IsLocateLine, IsGridLine, IsLayersLine, IsWaitLine, IsSyncLine, IsBatchLine, IsColumnLine, IsShapeOf}
 use Rattle.script_form.specs.Shapes as laws
 use Rattle.script_form.proofs.ShapeLemmas.{skip_front, take_front, begins_some, begins_gap, begins_word, some_bytes, words_of-gaps, words_of-word, begins_no_comment, asked, asked_line, line_words, skipped}
 use Rattle.script_form.proofs.ShapeFrom.{made_of, Asks, tells}
+use Rattle.script_form.proofs.LongLines.{request_of-long}
 
 -- ==== What lines of each shape ask for
-
-long_read : (line : List ℕ) → line_max < length line → request_of line ≡ too_long
-long_read line long = cond-true (is_too_long line) _ _ (ap not (lt-leb (length line) line_max long))
 
 skipped_read : (line : List ℕ) → IsShort line → IsBlankOrComment line → request_of line ≡ nothing
 skipped_read line short (inl gaps) = skipped line short (or_right (begins_comment line) (list_all is_gap line) gaps)
@@ -168,7 +166,7 @@ pub words_are_read : laws.WordsAreRead
 words_are_read words line = (line_words words line, made_of words line)
 
 pub long_line : laws.LongLine
-long_line line = (long_read line, back line too_long)
+long_line line = (request_of-long line, back line too_long)
 
 pub skipped_line : laws.SkippedLine
 skipped_line line = (λ h. skipped_read line h.0 h.1, back line nothing)

@@ -12,7 +12,7 @@ length-without_cr (b ∷ []) = elim (b == 13) as (λ t. length (b ∷ []) ≤ le
 length-without_cr (b ∷ c ∷ bs) = let rest = length-without_cr (c ∷ bs) in omega arith
 
 -- what is asked for by a line of more than the most bytes
-request_of-long : (line : List ℕ) → line_max < length line → request_of line ≡ too_long
+pub request_of-long : (line : List ℕ) → line_max < length line → request_of line ≡ too_long
 request_of-long line long =
     ap (λ t. cond (not t) too_long (cond (is_skipped line) nothing (by_words (words_of line) (behind_first_word line)))) (lt-leb (length line) line_max long)
 

@@ -10,7 +10,7 @@ use layer_expr::fault::ExprFault;
 use overlay_grid::GridFault;
 use std::alloc::AllocError;
 use thiserror::Error;
-use versions::fault::VersionFault;
+use versions::VersionFault;
 use wkt_form::fault::WktFault;
 
 /// A fault that is printed as a line `error N text`.

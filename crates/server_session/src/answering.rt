@@ -26,16 +26,15 @@ use script_form::{
 use std::alloc::Global;
 use std::sync::{Arc, Wait};
 use std::thread::Threads;
-use version_book::seen_log::Naming;
+use version_book::seen_log::BookName;
 use version_book::session::Session;
 use version_book::shared::Shared;
 use version_core::Answers;
-use versions::fault::VersionFault;
-use versions::version::Version;
+use versions::{Version, VersionFault};
 
 /// What a line makes of the book, of the session and of the batch that waits for lines, and the reply to the turn that
 /// it ends. A line that is too long may be handed in cut off behind its first 65,537 bytes.
-pub fn answer<J: Naming, S: Wait + Drop, Q: Wait + Threads + Sync>(
+pub fn answer<J: BookName, S: Wait + Drop, Q: Wait + Threads + Sync>(
     rt: &Q,
     alloc: Global,
     shared: &Shared<J, S>,
@@ -54,7 +53,7 @@ pub fn answer<J: Naming, S: Wait + Drop, Q: Wait + Threads + Sync>(
 }
 
 /// The reply to a line that is in no batch.
-fn answer_alone<J: Naming, S: Wait + Drop, Q: Wait + Threads + Sync>(
+fn answer_alone<J: BookName, S: Wait + Drop, Q: Wait + Threads + Sync>(
     rt: &Q,
     alloc: Global,
     shared: &Shared<J, S>,
@@ -70,7 +69,7 @@ fn answer_alone<J: Naming, S: Wait + Drop, Q: Wait + Threads + Sync>(
     }
 }
 
-fn answer_request<J: Naming, S: Wait + Drop, Q: Wait + Threads + Sync>(
+fn answer_request<J: BookName, S: Wait + Drop, Q: Wait + Threads + Sync>(
     rt: &Q,
     alloc: Global,
     shared: &Shared<J, S>,
@@ -107,7 +106,7 @@ fn answer_request<J: Naming, S: Wait + Drop, Q: Wait + Threads + Sync>(
     }
 }
 
-fn answer_put<J: Naming, S: Wait + Drop, Q: Wait>(
+fn answer_put<J: BookName, S: Wait + Drop, Q: Wait>(
     rt: &Q,
     alloc: Global,
     shared: &Shared<J, S>,
@@ -123,7 +122,7 @@ fn answer_put<J: Naming, S: Wait + Drop, Q: Wait>(
 }
 
 /// The reply to a command.
-fn submit<J: Naming, S: Wait + Drop, Q: Wait>(
+fn submit<J: BookName, S: Wait + Drop, Q: Wait>(
     rt: &Q,
     alloc: Global,
     shared: &Shared<J, S>,
@@ -215,7 +214,7 @@ fn answer_edges(
 }
 
 /// Waits until the tiles of a layer are built.
-fn answer_wait<J: Naming, S: Wait + Drop, Q: Wait>(
+fn answer_wait<J: BookName, S: Wait + Drop, Q: Wait>(
     rt: &Q,
     alloc: Global,
     shared: &Shared<J, S>,
@@ -248,7 +247,7 @@ fn answer_verify(
 }
 
 /// Waits until the newest version that the session has seen is durable.
-fn answer_sync<J: Naming, S: Wait + Drop, Q: Wait>(
+fn answer_sync<J: BookName, S: Wait + Drop, Q: Wait>(
     rt: &Q,
     shared: &Shared<J, S>,
     me: &mut Session,

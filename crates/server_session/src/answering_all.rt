@@ -10,12 +10,12 @@ use layer_book::batch_fault::BatchFault;
 use script_form::{CommandFault, LineReply, LinesFault};
 use std::alloc::Global;
 use std::sync::Wait;
-use version_book::seen_log::Naming;
+use version_book::seen_log::BookName;
 use version_book::session::Session;
 use version_book::shared::Shared;
 
 /// The reply to the lines of a batch, by what they were read as.
-pub(crate) fn answer_batch<J: Naming, S: Wait + Drop, Q: Wait>(
+pub(crate) fn answer_batch<J: BookName, S: Wait + Drop, Q: Wait>(
     rt: &Q,
     alloc: Global,
     shared: &Shared<J, S>,
@@ -42,7 +42,7 @@ fn unread(fault: LinesFault) -> LineReply
 }
 
 /// The reply to a batch.
-fn submit_all<J: Naming, S: Wait + Drop, Q: Wait>(
+fn submit_all<J: BookName, S: Wait + Drop, Q: Wait>(
     rt: &Q,
     alloc: Global,
     shared: &Shared<J, S>,

@@ -5,7 +5,7 @@ ghost use Rattle.server_session.specs.Fault.{fault_told, store_told, IsBatchNumb
 use layer_book::fault::LayerFault;
 use script_form::CommandFault;
 use version_book::fault::{BookFault, ToldFault};
-use versions::fault::VersionFault;
+use versions::VersionFault;
 
 /// The fault as a reply tells it.
 pub(crate) fn command_fault(fault: BookFault) -> CommandFault

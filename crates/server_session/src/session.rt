@@ -13,7 +13,7 @@ use std::alloc::{AllocError, Global};
 use std::io::{Read, Write};
 use std::sync::Wait;
 use std::thread::Threads;
-use version_book::seen_log::Naming;
+use version_book::seen_log::BookName;
 use version_book::session::Session;
 use version_book::shared::Shared;
 
@@ -23,7 +23,7 @@ const CHUNK: usize = 4096;
 /// Runs a script in a book that other threads may change: reads its lines, and writes the reply to each before it asks
 /// for more bytes. The room for its lines is had first, and a fault's line takes none: where there is none it fails with
 /// 40, and from then on no want of memory ends it.
-pub fn session_run<J: Naming, S: Wait + Drop, Q: Wait + Threads + Sync, R: Read, W: Write>(
+pub fn session_run<J: BookName, S: Wait + Drop, Q: Wait + Threads + Sync, R: Read, W: Write>(
     rt: &Q,
     alloc: Global,
     shared: &Shared<J, S>,
@@ -41,7 +41,7 @@ pub fn session_run<J: Naming, S: Wait + Drop, Q: Wait + Threads + Sync, R: Read,
 }
 
 /// The same, of a script that may have so many bytes.
-pub fn session_run_within<J: Naming, S: Wait + Drop, Q: Wait + Threads + Sync, R: Read, W: Write>(
+pub fn session_run_within<J: BookName, S: Wait + Drop, Q: Wait + Threads + Sync, R: Read, W: Write>(
     rt: &Q,
     alloc: Global,
     shared: &Shared<J, S>,
@@ -84,7 +84,7 @@ fn rooms(alloc: Global) -> Result<(Talk, Vec<u8>), AllocError>
     Ok((talk, chunk))
 }
 
-fn run<J: Naming, S: Wait + Drop, Q: Wait + Threads + Sync, R: Read, W: Write>(
+fn run<J: BookName, S: Wait + Drop, Q: Wait + Threads + Sync, R: Read, W: Write>(
     rt: &Q,
     alloc: Global,
     shared: &Shared<J, S>,
@@ -122,7 +122,7 @@ fn run<J: Naming, S: Wait + Drop, Q: Wait + Threads + Sync, R: Read, W: Write>(
 }
 
 /// At the end of the script.
-fn finish<J: Naming, S: Wait + Drop, Q: Wait + Threads + Sync, W: Write>(
+fn finish<J: BookName, S: Wait + Drop, Q: Wait + Threads + Sync, W: Write>(
     rt: &Q,
     alloc: Global,
     shared: &Shared<J, S>,

@@ -11,7 +11,7 @@ use std::alloc::{AllocError, Global};
 use std::io::Write;
 use std::sync::Wait;
 use std::thread::Threads;
-use version_book::seen_log::Naming;
+use version_book::seen_log::BookName;
 use version_book::session::Session;
 use version_book::shared::Shared;
 
@@ -46,7 +46,7 @@ impl Talk {
     }
 
     /// Takes more bytes of the script, and answers each turn that they end before it looks at the bytes behind it.
-    pub fn take<J: Naming, S: Wait + Drop, Q: Wait + Threads + Sync, W: Write>(
+    pub fn take<J: BookName, S: Wait + Drop, Q: Wait + Threads + Sync, W: Write>(
         &mut self,
         rt: &Q,
         alloc: Global,
@@ -72,7 +72,7 @@ impl Talk {
         Ok(())
     }
 
-    fn take_byte<J: Naming, S: Wait + Drop, Q: Wait + Threads + Sync, W: Write>(
+    fn take_byte<J: BookName, S: Wait + Drop, Q: Wait + Threads + Sync, W: Write>(
         &mut self,
         rt: &Q,
         alloc: Global,
@@ -107,7 +107,7 @@ impl Talk {
 
     /// Takes the end of the script: answers a last line that lacks its line feed, and refuses a batch whose lines did not
     /// all come.
-    pub fn finish<J: Naming, S: Wait + Drop, Q: Wait + Threads + Sync, W: Write>(
+    pub fn finish<J: BookName, S: Wait + Drop, Q: Wait + Threads + Sync, W: Write>(
         &mut self,
         rt: &Q,
         alloc: Global,
@@ -137,7 +137,7 @@ impl Talk {
 }
 
 /// Answers the turn that a line ends, if it ends one.
-fn answer_line<J: Naming, S: Wait + Drop, Q: Wait + Threads + Sync, W: Write>(
+fn answer_line<J: BookName, S: Wait + Drop, Q: Wait + Threads + Sync, W: Write>(
     rt: &Q,
     alloc: Global,
     shared: &Shared<J, S>,

@@ -18,10 +18,10 @@ use flush_core::flusher::Flusher;
 use std::alloc::Global;
 use std::sync::{Arc, Wait};
 use version_book::reporter::Reporter;
-use version_book::seen_log::{Naming, SeenLog};
+use version_book::seen_log::{BookName, SeenLog};
 use version_book::session::Session;
 use version_book::shared::Shared;
-use versions::version::Version;
+use versions::Version;
 
 /// What is left of a book and its store.
 #[derive(Debug, Drop)]
@@ -42,7 +42,7 @@ pub struct Closed<D> {
 
 /// Ends a book once the threads that share it have returned, and gives up its store. The sessions are all that it began
 /// with.
-pub fn close<J: Naming, R: Wait + Drop, D: Disk, W: Wait>(
+pub fn close<J: BookName, R: Wait + Drop, D: Disk, W: Wait>(
     rt: &W,
     alloc: Global,
     shared: Shared<J, R>,

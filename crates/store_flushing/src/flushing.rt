@@ -16,13 +16,13 @@ use std::alloc::Global;
 use std::sync::Wait;
 use version_book::reporter::Reporter;
 use version_book::resting::rest;
-use version_book::seen_log::Naming;
+use version_book::seen_log::BookName;
 use version_book::shared::Shared;
-use versions::version::Version;
+use versions::Version;
 
 /// Commits each version that the book gives, and reports it once it is stored, until the book closes or the device
 /// fails. Meanwhile reporter, store and list are a keeper's: a number told by a reporter alone nobody can write down.
-pub fn flusher_loop<J: Naming, R: Wait + Drop, D: Disk, W: Wait>(
+pub fn flusher_loop<J: BookName, R: Wait + Drop, D: Disk, W: Wait>(
     rt: &W,
     alloc: Global,
     shared: &Shared<J, R>,
@@ -53,7 +53,7 @@ pub fn flusher_loop<J: Naming, R: Wait + Drop, D: Disk, W: Wait>(
 /// fails (30, 35) ends the loop, and the book is told too. At closing the commit under way is ended, and what the book
 /// still gives is committed. Called once more then, when the workers have returned, it commits the tiles that they
 /// finished meanwhile.
-fn flush<J: Naming, R: Wait + Drop, D: Disk, W: Wait>(
+fn flush<J: BookName, R: Wait + Drop, D: Disk, W: Wait>(
     rt: &W,
     alloc: Global,
     shared: &Shared<J, R>,
@@ -79,7 +79,7 @@ fn flush<J: Naming, R: Wait + Drop, D: Disk, W: Wait>(
 
 /// Ends the commit that is under way, or commits what the book gives. It says whether there is a next round: there is
 /// none where the device failed, or where the book closes and has no news.
-fn round<J: Naming, R: Wait + Drop, D: Disk, W: Wait>(
+fn round<J: BookName, R: Wait + Drop, D: Disk, W: Wait>(
     rt: &W,
     alloc: Global,
     shared: &Shared<J, R>,
@@ -107,7 +107,7 @@ fn round<J: Naming, R: Wait + Drop, D: Disk, W: Wait>(
 }
 
 /// Commits the newest version that the reporter has seen. It says whether the store can go on.
-fn commit<J: Naming, R: Wait + Drop, D: Disk, W: Wait>(
+fn commit<J: BookName, R: Wait + Drop, D: Disk, W: Wait>(
     rt: &W,
     alloc: Global,
     shared: &Shared<J, R>,
@@ -133,7 +133,7 @@ fn commit<J: Naming, R: Wait + Drop, D: Disk, W: Wait>(
 
 /// Makes the device calls of the commit that is under way, and reports it where it is done. It says whether the store
 /// can go on.
-fn end_commit<J: Naming, R: Wait + Drop, D: Disk, W: Wait>(
+fn end_commit<J: BookName, R: Wait + Drop, D: Disk, W: Wait>(
     rt: &W,
     alloc: Global,
     shared: &Shared<J, R>,

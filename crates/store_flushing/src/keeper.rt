@@ -24,9 +24,9 @@ use std::snapshot::Snapshot;
 use std::sync::{Arc, Wait};
 use version_book::fault::BookFault;
 use version_book::reporter::Reporter;
-use version_book::seen_log::Naming;
+use version_book::seen_log::BookName;
 use version_book::shared::Shared;
-use versions::version::Version;
+use versions::Version;
 
 pub mod told_log;
 
@@ -76,7 +76,7 @@ impl<D: Disk> Keeper<D> {
     }
 
     /// Waits for news, and sees the newest version. It makes no device call, and reports nothing.
-    pub fn look<J: Naming, R: Wait + Drop, W: Wait>(
+    pub fn look<J: BookName, R: Wait + Drop, W: Wait>(
         &mut self,
         rt: &W,
         shared: &Shared<J, R>,
@@ -130,7 +130,7 @@ impl<D: Disk> Keeper<D> {
     }
 
     /// Reports what is stored, and writes down what is told so, with the disk's moment. It makes no device call.
-    pub fn report<J: Naming, R: Wait + Drop, W: Wait>(
+    pub fn report<J: BookName, R: Wait + Drop, W: Wait>(
         &mut self,
         rt: &W,
         alloc: Global,
@@ -154,7 +154,7 @@ impl<D: Disk> Keeper<D> {
     }
 
     /// Tells the book of a fault, and says whether the store can go on after it.
-    pub fn tell<J: Naming, R: Wait + Drop, W: Wait>(
+    pub fn tell<J: BookName, R: Wait + Drop, W: Wait>(
         &mut self,
         rt: &W,
         shared: &Shared<J, R>,

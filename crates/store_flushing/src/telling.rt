@@ -11,11 +11,11 @@ use std::sync::Wait;
 use version_book::fault::ToldFault as Told;
 use version_book::reporter::Reporter;
 use version_book::resting::rest;
-use version_book::seen_log::Naming;
+use version_book::seen_log::BookName;
 use version_book::shared::Shared;
 
 /// Reports a number. Where there is no memory for that, it sleeps a moment and tries again.
-pub(crate) fn report<J: Naming, R: Wait + Drop, W: Wait>(
+pub(crate) fn report<J: BookName, R: Wait + Drop, W: Wait>(
     rt: &W,
     alloc: Global,
     shared: &Shared<J, R>,
@@ -44,7 +44,7 @@ pub(crate) fn report<J: Naming, R: Wait + Drop, W: Wait>(
 }
 
 /// Tells the book of a fault, and says whether the store can go on after it.
-pub(crate) fn tell<J: Naming, R: Wait + Drop, W: Wait>(
+pub(crate) fn tell<J: BookName, R: Wait + Drop, W: Wait>(
     rt: &W,
     shared: &Shared<J, R>,
     me: &mut Reporter,

@@ -7,14 +7,14 @@ use std::sync::Wait;
 use tile_build::built::Built;
 use version_book::job::Job;
 use version_book::resting::rest;
-use version_book::seen_log::Naming;
+use version_book::seen_log::BookName;
 use version_book::shared::Shared;
 
 /// Builds tiles until the book closes. Where a tile is not handed out for want of memory (40), it sleeps a moment
 /// and asks again; where memory runs out later, it gives the tile back.
 // It has no clause on what it built, as nothing of what lies under the lock can be said once that is given up. But each
 // job is spent, as it is no value that may be dropped, and only with a tile that is built of the job's own input.
-pub fn worker_loop<J: Naming, R: Wait + Drop, G: Gate, W: Wait>(
+pub fn worker_loop<J: BookName, R: Wait + Drop, G: Gate, W: Wait>(
     rt: &W,
     alloc: Global,
     gate: &G,
@@ -31,7 +31,7 @@ pub fn worker_loop<J: Naming, R: Wait + Drop, G: Gate, W: Wait>(
 }
 
 /// Enters the gate and builds the tile of a job. The job is given back where memory runs out.
-fn work<J: Naming, R: Wait + Drop, G: Gate, W: Wait>(
+fn work<J: BookName, R: Wait + Drop, G: Gate, W: Wait>(
     rt: &W,
     alloc: Global,
     gate: &G,

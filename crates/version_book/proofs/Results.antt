@@ -19,7 +19,7 @@ use Rattle.book_lock.specs.declared.refused.Refused.TheVariants.{Gone, Closing, 
 use Rattle.book_lock.specs.Steps.{HasLooked, IsAcceptedIn, IsRefusedIn, IsReportedIn}
 use Rattle.version_book.specs.Heard.{Heard, HasHeard, IsReportedBy}
 use Rattle.version_book.specs.Waits.{IsSyncRefused, IsSyncRefusedAt, IsWaitRefused, Looks}
-use Rattle.version_book.specs.declared.standing.Standing.{Standing}
+use Rattle.version_book.specs.declared.book_state.BookState.{BookState}
 use Rattle.book_history.specs.declared.fault.BookFault.{BookFault}
 use Rattle.book_history.specs.declared.fault.BookFault.TheVariants as fault
 use Rattle.book_history.proofs.Chains.{begins_with, commands_in_log, is_history}
@@ -267,7 +267,7 @@ wait_refused (Err f) closing v name q = wait_more f closing v name q
 abbrev no_store : Result ℕ BookFault
 no_store = Err fault.NoStore
 
-sync_at : (f : BookFault) (s : Standing) (v : Version) (n : ℕ) → IsSyncRefusedAt s v n f → IsSyncRefused n v f
+sync_at : (f : BookFault) (s : BookState) (v : Version) (n : ℕ) → IsSyncRefusedAt s v n f → IsSyncRefused n v f
 sync_at (fault.Version r) s v n q = q
 sync_at fault.Closing s v n q = q.0
 sync_at fault.Gone s v n q = tt
@@ -286,11 +286,11 @@ never_ok (Ok m) Q P q = absurd q
 never_ok (Err f) Q P q = tt
 
 -- a wait with a store is not refused for want of one
-pub with_store : (r : Result ℕ BookFault) (s : Standing) (v : Version) (n : ℕ) → IfErr r (λ f. IsSyncRefusedAt s v n f)
+pub with_store : (r : Result ℕ BookFault) (s : BookState) (v : Version) (n : ℕ) → IfErr r (λ f. IsSyncRefusedAt s v n f)
     → r ≡ no_store → ⊥
 with_store r s v n q is = subst (λ r. IfErr r (λ f. IsSyncRefusedAt s v n f)) is q
 
-pub sync_refused : (r : Result ℕ BookFault) (s : Standing) (v : Version) (n : ℕ) → IfErr r (λ f. IsSyncRefusedAt s v n f) → IfErr r (λ f. IsSyncRefused n v f)
+pub sync_refused : (r : Result ℕ BookFault) (s : BookState) (v : Version) (n : ℕ) → IfErr r (λ f. IsSyncRefusedAt s v n f) → IfErr r (λ f. IsSyncRefused n v f)
 sync_refused (Ok m) s v n q = tt
 sync_refused (Err f) s v n q = sync_at f s v n q
 

@@ -11,7 +11,7 @@ use Rattle.book_history.specs.Known.{Known}
 use Rattle.book_history.specs.Logs.{newest_in, IsLog}
 use Rattle.book_history.specs.BookLogs.{BookLog}
 use Rattle.version_book.specs.declared.held_tiles.HeldTile.{HeldTile}
-use Rattle.version_book.specs.declared.standing.Standing.{Standing}
+use Rattle.version_book.specs.declared.book_state.BookState.{BookState}
 use Rattle.book_history.specs.declared.fault.BookFault.{BookFault}
 use Rattle.book_history.specs.declared.fault.BookFault.TheVariants as fault
 use Rattle.book_lock.specs.Steps.{IsTurnedAway}
@@ -53,7 +53,7 @@ pub gone_looks : (r : Result ℕ BookFault) (x : BookFault) (was now : Known) (l
 gone_looks (Ok n) x was now log is gone same = absurd is
 gone_looks (Err f) x was now log is gone same = inl (is ∙ gone, same)
 
-pub gone_told : (r : Result ℕ BookFault) (x : BookFault) (v : Version) (old : Standing) (name : Name)
+pub gone_told : (r : Result ℕ BookFault) (x : BookFault) (v : Version) (old : BookState) (name : Name)
     → IsErrAnd r (λ y. y ≡ x) → x ≡ fault.Gone → IsAfterTold v old name r old
 gone_told (Ok n) x v old name is gone = refl
 gone_told (Err f) x v old name is gone = subst (λ y. IsAfterTold v old name (Err y) old) (sym (is ∙ gone)) refl

@@ -9,5 +9,5 @@ pub use Rattle.book_history.specs.Logs
 pub use Rattle.book_history.specs.Rules
 pub use Rattle.book_history.specs.BookLogs
 pub mod HeldTiles
-pub mod Standing
+pub mod BookState
 pub mod Free

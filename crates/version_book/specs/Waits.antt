@@ -10,41 +10,41 @@ use Rattle.book_history.specs.declared.fault.BookFault.TheVariants as fault
 use Rattle.version_book.specs.Free.{AllAreHeld}
 use Rattle.book_history.specs.Known.{Known}
 use Rattle.version_book.specs.HeldTiles.{has_mark, unmarked_of}
-use Rattle.version_book.specs.Standing.{HasHeld}
-use Rattle.version_book.specs.declared.standing.Standing.{Standing}
+use Rattle.version_book.specs.BookState.{HasHeld}
+use Rattle.version_book.specs.declared.book_state.BookState.{BookState}
 use Rattle.book_lock.specs.Steps.{HasLooked}
-use Rattle.version_book.specs.declared.locked_book.telling.Awaited.{Awaited}
-use Rattle.version_book.specs.declared.locked_book.telling.Awaited.TheVariants.{Tile, Built, Durable, News}
+use Rattle.version_book.specs.declared.locked_book.waits.Awaited.{Awaited}
+use Rattle.version_book.specs.declared.locked_book.waits.Awaited.TheVariants.{Tile, Built, Durable, News}
 
 -- a worker waits on: the book is open, and no tile can be handed out
-pub record IsIdle (version : Version) (standing : Standing) : Type 0 where
-  pub not_closing : standing.closing ≡ false
-  pub held : AllAreHeld version standing.held.list.items
+pub record IsIdle (version : Version) (state : BookState) : Type 0 where
+  pub not_closing : state.closing ≡ false
+  pub held : AllAreHeld version state.held.list.items
 
 -- a wait for the tiles of a layer goes on: tiles can be asked for, one is pending, none is marked, and the book is open
-pub record IsBuilding (version : Version) (standing : Standing) (name : Name) : Type 0 where
+pub record IsBuilding (version : Version) (state : BookState) (name : Name) : Type 0 where
   pub derived : wait_refusal version name ≡ None
   pub pending : ¬ (IsBuilt version name)
-  pub unmarked : has_mark name standing.held.list.items ≡ false
-  pub not_closing : standing.closing ≡ false
+  pub unmarked : has_mark name state.held.list.items ≡ false
+  pub not_closing : state.closing ≡ false
 
 -- a wait for a durable number goes on: the store is not so far, it told no fault, and the book is open
-pub record IsWriting (version : Version) (standing : Standing) (number : ℕ) : Type 0 where
+pub record IsWriting (version : Version) (state : BookState) (number : ℕ) : Type 0 where
   pub behind : version.durable < number
-  pub sound : standing.fault ≡ None
-  pub not_closing : standing.closing ≡ false
+  pub sound : state.fault ≡ None
+  pub not_closing : state.closing ≡ false
 
 -- the reporter waits on: the book is open, and there are no news for it, or it rests
-pub record IsQuiet (standing : Standing) (given : ℕ) : Type 0 where
-  pub not_closing : standing.closing ≡ false
-  pub nothing : (standing.news ≡ given) ⊎ (standing.resting ≡ true)
+pub record IsQuiet (state : BookState) (given : ℕ) : Type 0 where
+  pub not_closing : state.closing ≡ false
+  pub nothing : (state.news ≡ given) ⊎ (state.resting ≡ true)
 
 -- a wait goes on, by what it is for
-abbrev pub Waits : Version → Standing → Awaited → Type 0
-Waits version standing Tile = IsIdle version standing
-Waits version standing (Built name) = IsBuilding version standing name.now
-Waits version standing (Durable number) = IsWriting version standing number
-Waits version standing (News given) = IsQuiet standing given
+abbrev pub Waits : Version → BookState → Awaited → Type 0
+Waits version state Tile = IsIdle version state
+Waits version state (Built name) = IsBuilding version state name.now
+Waits version state (Durable number) = IsWriting version state number
+Waits version state (News given) = IsQuiet state given
 
 -- the layer has tiles, all of them are finished, and the version has this number
 pub record IsBuiltAt (version : Version) (name : Name) (number : ℕ) : Type 0 where
@@ -75,14 +75,14 @@ IsSyncRefused number version (fault.Store refused) = version.durable < number
 
 -- the same under the lock of a book that has a store: the number is not durable, and the store told this fault, or it
 -- told none and the book closes
-abbrev pub IsSyncRefusedAt : Standing → Version → ℕ → BookFault → Type 0
-IsSyncRefusedAt standing version number (fault.Version refused) = ⊥
-IsSyncRefusedAt standing version number fault.Closing =
-    (version.durable < number) × (standing.fault ≡ None) × (standing.closing ≡ true)
-IsSyncRefusedAt standing version number fault.Gone = Unit {0}
-IsSyncRefusedAt standing version number fault.NoStore = ⊥
-IsSyncRefusedAt standing version number (fault.Store refused) =
-    (version.durable < number) × (standing.fault ≡ Some refused)
+abbrev pub IsSyncRefusedAt : BookState → Version → ℕ → BookFault → Type 0
+IsSyncRefusedAt state version number (fault.Version refused) = ⊥
+IsSyncRefusedAt state version number fault.Closing =
+    (version.durable < number) × (state.fault ≡ None) × (state.closing ≡ true)
+IsSyncRefusedAt state version number fault.Gone = Unit {0}
+IsSyncRefusedAt state version number fault.NoStore = ⊥
+IsSyncRefusedAt state version number (fault.Store refused) =
+    (version.durable < number) × (state.fault ≡ Some refused)
 
 -- a session has looked at this log; or the book was behind it, and nothing changed
 abbrev pub Looks : Result ℕ BookFault → Known → List Entry → Known → Type 0
@@ -91,13 +91,13 @@ Looks (Err refused) was log now =
     ((refused ≡ fault.Gone) × (now ≡ was)) ⊎ (¬ (refused ≡ fault.Gone) × HasLooked was log now)
 
 -- the marks of a layer, of which there are some, go
-abbrev pub LosesMarks : Standing → Name → Standing → Type 0
+abbrev pub LosesMarks : BookState → Name → BookState → Type 0
 LosesMarks old name new =
     (has_mark name old.held.list.items ≡ true) × HasHeld old (unmarked_of name old.held.list.items) new
 
 -- a wait for the tiles of a layer was told how it ends: its marks go where memory ran out, and else nothing changes;
 -- there are no marks where it ends by closing
-abbrev pub IsAfterTold : Version → Standing → Name → Result ℕ BookFault → Standing → Type 0
+abbrev pub IsAfterTold : Version → BookState → Name → Result ℕ BookFault → BookState → Type 0
 IsAfterTold version old name (Ok number) new = new ≡ old
 IsAfterTold version old name (Err (fault.Version refused)) new =
     IfSome (wait_refusal version name) (λ _. new ≡ old) × IfNone (wait_refusal version name) (LosesMarks old name new)

@@ -1,13 +1,13 @@
 //! Published versions: the book that threads share, its sessions, its reporter and its jobs.
 #![tactic(auto)]
 
+mod book_state;
 mod held_tiles;
 mod locked_book;
 mod pending;
 pub mod reporter;
 pub mod sending;
 pub mod shared;
-mod standing;
 mod turns;
 
 /// What is left of a book that closes.
@@ -37,5 +37,7 @@ pub mod session {
 
 /// A beginning of the history that was seen.
 pub mod seen_log {
-    pub use book_history::seen_log::{Add, Head, Law, Naming, Nothing, OpensLog, SeenLog, open};
+    pub use book_history::seen_log::{
+        Add, BookName, LogRule, LogWord, NoGain, OpensLog, SeenLog, open,
+    };
 }

@@ -3,13 +3,13 @@ ghost use Rattle.std.specs.Prelude.{◌≡◌, ◌⊎◌, IsTrue, Err, IfOk, IfE
 ghost use mathlib.Core.List.{IsPrefix};
 ghost use Rattle.book_history.specs.Fault.{no_memory};
 ghost use Rattle.book_history.specs.Logs.{IsLog};
-ghost use Rattle.version_book.specs.Standing.{IsAfterCommand, IsAfterFinish};
+ghost use Rattle.version_book.specs.BookState.{IsAfterCommand, IsAfterFinish};
 ghost use Rattle.book_lock.specs.Steps.{IsAcceptedIn, IsFinishedIn, IsRefusedIn};
 
+use crate::book_state::BookState;
 use crate::locked_book::job::Job;
-use crate::standing::Standing;
 use book_history::fault::BookFault;
-use book_history::seen_log::{Naming, SeenLog};
+use book_history::seen_log::{BookName, SeenLog};
 use book_lock::change::Change;
 use book_lock::locked_log::LockedLog;
 use book_lock::refused::Refused;
@@ -17,18 +17,19 @@ use book_lock::room::Room;
 use book_lock::session::Session;
 use std::alloc::Global;
 use std::sync::Wait;
-use tile_build::built::Built;
+use tile_build::Built;
 
 pub mod closing;
-mod handing;
+mod handouts;
 pub mod job;
-pub mod telling;
+pub mod reports;
+pub mod waits;
 
 /// What lies under the lock. Its parts are changed by its own calls alone.
 #[derive(Drop)]
-pub struct LockedBook<J: Naming, R: Wait + Drop> {
+pub struct LockedBook<J: BookName, R: Wait + Drop> {
     log: LockedLog<J, R>,
-    standing: Standing,
+    state: BookState,
     /// Where the layer stood whose tile was handed out last, and the tile's column by its number: there the next one is looked for
     /// first.
     near: (usize, u8),
@@ -36,12 +37,12 @@ pub struct LockedBook<J: Naming, R: Wait + Drop> {
     room: Room,
 }
 
-impl<J: Naming, R: Wait + Drop> LockedBook<J, R> {
+impl<J: BookName, R: Wait + Drop> LockedBook<J, R> {
     /// A book that begins with a log.
     pub fn new(alloc: Global, log: LockedLog<J, R>) -> LockedBook<J, R> {
         LockedBook {
             log,
-            standing: Standing::new(alloc),
+            state: BookState::new(alloc),
             near: (0, 0),
             room: Room::new(alloc),
         }
@@ -56,17 +57,17 @@ impl<J: Naming, R: Wait + Drop> LockedBook<J, R> {
     ) -> Result<u64, Refused<C::Fault>>
         requires { me.old.book ≡ J.book }
         ensures ok { IfOk result (IsAcceptedIn self.old.log me.old (C.batch change.now) self.new.log me.new) }
-        ensures accepted { IfOk result (λ _. IsAfterCommand self.old.standing self.new.standing) }
-        ensures err { IfErr result (λ refused. (self.new.log ≡ self.old.log) × (self.new.standing ≡ self.old.standing)
-            × IsRefusedIn self.old.log me.old (C.refuses change.now) self.old.standing.closing refused me.new) }
-        ensures closing { IsTrue self.old.standing.closing
+        ensures accepted { IfOk result (λ _. IsAfterCommand self.old.state self.new.state) }
+        ensures err { IfErr result (λ refused. (self.new.log ≡ self.old.log) × (self.new.state ≡ self.old.state)
+            × IsRefusedIn self.old.log me.old (C.refuses change.now) self.old.state.closing refused me.new) }
+        ensures closing { IsTrue self.old.state.closing
             → (result ≡ Err Refused.Closing) ⊎ (result ≡ Err Refused.Gone) }
     {
-        if self.standing.closing {
+        if self.state.closing {
             return Err(self.log.turn_away(me, Refused::Closing));
         }
         let number = self.log.submit(alloc, me, change)?;
-        self.standing.command_accepted();
+        self.state.command_accepted();
         Ok(number)
     }
 
@@ -92,11 +93,11 @@ impl<J: Naming, R: Wait + Drop> LockedBook<J, R> {
         ensures goes_on { IfOk result (λ _. IsPrefix job.log self.old.log) }
         ensures log { IfOk result
             (λ is_kept. IsFinishedIn self.old.log job.name job.input built.1 is_kept self.new.log) }
-        ensures standing { IfOk result
-            (λ is_kept. IsAfterFinish self.old.standing job.name job.input.column is_kept self.new.standing) }
+        ensures state { IfOk result
+            (λ is_kept. IsAfterFinish self.old.state job.name job.input.column is_kept self.new.state) }
         ensures err { IfErr result
             (λ e. (e.0 ≡ job) × (e.1 ≡ built) × (self.new.log ≡ self.old.log)
-            × (self.new.standing ≡ self.old.standing)) }
+            × (self.new.state ≡ self.old.state)) }
         ensures refused { IfErr result (λ e. (e.2 ≡ no_memory) ⊎ (e.2 ≡ BookFault.Gone)) }
     {
         if !self.log.has(job.seen_log()) {
@@ -106,7 +107,7 @@ impl<J: Naming, R: Wait + Drop> LockedBook<J, R> {
             Ok(kept) => kept,
             Err(fault) => return Err((job, built, fault)),
         };
-        self.standing
+        self.state
             .job_finished(job.name(), job.input().column(), kept);
         job.end();
         Ok(kept)

@@ -9,12 +9,12 @@ ghost use Rattle.version_book.specs.Free.{AllAreHeld, AreHeld, AreHeldAt, AreHel
 ghost use Rattle.version_book.specs.HeldTiles.{is_held};
 
 use crate::held_tiles::HeldTiles;
-use arrange::tile_input::TileInput;
+use arrange::TileInput;
 use layer_expr::name::Name;
 use layer_tiles::tiles::TileRow;
 use plane_base::{COLUMN_COUNT, Column};
 use std::alloc::{AllocError, Global};
-use versions::version::Version;
+use versions::Version;
 
 /// A pending tile of a version that is neither handed out nor marked. The layer at a place is looked at first, from a
 /// column on.

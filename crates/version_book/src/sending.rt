@@ -1,6 +1,6 @@
 //! Sessions, and the book under its lock, go to threads.
 use crate::shared::Shared;
-use book_history::seen_log::Naming;
+use book_history::seen_log::BookName;
 use book_lock::session::Session;
 use std::sync::Wait;
 
@@ -14,6 +14,6 @@ pub fn session_goes() {
 }
 
 /// Threads may call one book.
-pub fn book_lends<J: Naming + Send, R: Wait + Drop + Send>() {
+pub fn book_lends<J: BookName + Send, R: Wait + Drop + Send>() {
     lends::<Shared<J, R>>();
 }

@@ -18,13 +18,12 @@ use crate::closing::ClosedBook;
 use crate::job::Job;
 use crate::locked_book::LockedBook;
 use crate::locked_book::closing::{begin_close, has_all_of, into_closed};
-use crate::locked_book::telling::{
-    Awaited, report, store_failed, tell_built, tell_durable, tell_news, tell_no_store,
-};
+use crate::locked_book::reports::{report, store_failed};
+use crate::locked_book::waits::{Awaited, tell_built, tell_durable, tell_news, tell_no_store};
 use crate::reporter::Reporter;
 use crate::turns::{TurnKind, Turns};
 use book_history::fault::{BookFault, ToldFault};
-use book_history::seen_log::{Head, Naming, SeenLog};
+use book_history::seen_log::{BookName, LogWord, SeenLog};
 use book_lock::change::Change;
 use book_lock::locked_log::LockedLog;
 use book_lock::refused::Refused;
@@ -35,21 +34,21 @@ use layer_book::command::Command;
 use layer_expr::name::Name;
 use std::alloc::Global;
 use std::sync::{Arc, Wait};
-use tile_build::built::Built;
-use versions::version::Version;
+use tile_build::Built;
+use versions::Version;
 
 /// The book under its lock, and whether it has a store.
-pub struct Shared<J: Naming, R: Wait + Drop> {
+pub struct Shared<J: BookName, R: Wait + Drop> {
     turns: Turns<J, R>,
     store: bool,
 }
 
-impl<J: Naming, R: Wait + Drop> Shared<J, R> {
+impl<J: BookName, R: Wait + Drop> Shared<J, R> {
     /// A book over a log of one version, its reporter and its sessions. Each has seen just that.
     pub fn start(
         rt: R,
         alloc: Global,
-        head: Head,
+        head: LogWord,
         seen_log: SeenLog,
         version: Version,
         store: bool,
@@ -352,7 +351,7 @@ fn never<W: Wait>(rt: &W) -> ! {
 }
 
 /// It waits for the readers.
-impl<J: Naming, R: Wait + Drop> Drop for Shared<J, R> {
+impl<J: BookName, R: Wait + Drop> Drop for Shared<J, R> {
     fn drop(self) {
         let Self {
             turns,

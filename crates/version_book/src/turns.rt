@@ -4,13 +4,13 @@ ghost use Rattle.book_history.specs.Logs.{newest_in};
 ghost use Rattle.version_book.specs.Waits.{Waits};
 
 use crate::locked_book::LockedBook;
-use crate::locked_book::telling::{Awaited, waits};
-use book_history::seen_log::Naming;
+use crate::locked_book::waits::{Awaited, waits};
+use book_history::seen_log::BookName;
 use layer_expr::name::Name;
 use std::sync::{Condvar, Mutex, MutexGuard, Wait};
 
 /// The book under its lock, and those who wait for what lies there. It is reached by turns alone.
-pub(crate) struct Turns<J: Naming, R: Wait + Drop> {
+pub(crate) struct Turns<J: BookName, R: Wait + Drop> {
     book: Mutex<LockedBook<J, R>>,
     waiting: Waiting,
 }
@@ -63,7 +63,7 @@ enum Ended {
 
 impl TurnKind {
     /// The rule of waking: whose waits a turn of this kind may have ended, where it leaves the book so.
-    fn ended<J: Naming, R: Wait + Drop>(&self, left: &LockedBook<J, R>) -> Ended {
+    fn ended<J: BookName, R: Wait + Drop>(&self, left: &LockedBook<J, R>) -> Ended {
         match self {
             TurnKind::Unsaid | TurnKind::Commanded | TurnKind::Closed => Ended::All,
             // A tile that was not kept may be handed out again. One that was kept is news, and no more while others of
@@ -90,13 +90,13 @@ impl TurnKind {
 }
 
 /// A turn at the book. Once it is over, those whose wait it may have ended look again whether it is.
-pub(crate) struct Turn<'a, J: Naming, R: Wait + Drop> {
+pub(crate) struct Turn<'a, J: BookName, R: Wait + Drop> {
     pub book: MutexGuard<'a, LockedBook<J, R>>,
     pub kind: TurnKind,
     waiting: &'a Waiting,
 }
 
-impl<J: Naming, R: Wait + Drop> Turns<J, R> {
+impl<J: BookName, R: Wait + Drop> Turns<J, R> {
     /// Nobody waits for it yet.
     pub fn new(book: LockedBook<J, R>) -> Turns<J, R> {
         Turns {
@@ -120,7 +120,7 @@ impl<J: Naming, R: Wait + Drop> Turns<J, R> {
 
     /// A turn behind a wait.
     pub fn behind<W: Wait>(&self, rt: &W, awaited: &Awaited<'_>, kind: TurnKind) -> Turn<'_, J, R>
-        ensures { ¬ (Waits (newest_in (mutex_guard_value result.book).log) (mutex_guard_value result.book).standing awaited.now) }
+        ensures { ¬ (Waits (newest_in (mutex_guard_value result.book).log) (mutex_guard_value result.book).state awaited.now) }
     {
         let book = self
             .waiting
@@ -170,7 +170,7 @@ impl Waiting {
 }
 
 /// It wakes those whose wait it may have ended.
-impl<J: Naming, R: Wait + Drop> Drop for Turn<'_, J, R> {
+impl<J: BookName, R: Wait + Drop> Drop for Turn<'_, J, R> {
     fn drop(self) {
         let Self {
             book,
@@ -184,7 +184,7 @@ impl<J: Naming, R: Wait + Drop> Drop for Turn<'_, J, R> {
 }
 
 /// It waits for the readers.
-impl<J: Naming, R: Wait + Drop> Drop for Turns<J, R> {
+impl<J: BookName, R: Wait + Drop> Drop for Turns<J, R> {
     fn drop(self) {
         let Self { book, waiting } = self;
         drop(book);

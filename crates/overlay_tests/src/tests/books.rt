@@ -19,7 +19,7 @@ use tile_build::Built;
 use version_book::fault::{BookFault, ToldFault};
 use version_book::job::Job;
 use version_book::reporter::Reporter;
-use version_book::seen_log::{Head, Naming, SeenLog, open};
+use version_book::seen_log::{LogWord, BookName, SeenLog, open};
 use version_book::session::Session;
 use version_book::shared::Shared;
 use version_core::Answers;
@@ -92,7 +92,7 @@ pub enum Row {
 
 /// A history of the empty version alone, which is no book's yet.
 struct Opened {
-    head: Head,
+    head: LogWord,
     seen_log: SeenLog,
     version: Version,
     ghost head_is: { head ≡ head_of seen_log.book },
@@ -122,7 +122,7 @@ pub fn play<R: Threads + Wait + Clock + Abort + Sync>(
     play_in::<Brand, R>(rt, alloc, open_history(alloc), store, lists, last);
 }
 
-fn play_in<J: Naming + Send + Sync, R: Threads + Wait + Clock + Abort + Sync>(
+fn play_in<J: BookName + Send + Sync, R: Threads + Wait + Clock + Abort + Sync>(
     rt: &R,
     alloc: Global,
     opened: Opened,
@@ -154,7 +154,7 @@ fn play_in<J: Naming + Send + Sync, R: Threads + Wait + Clock + Abort + Sync>(
     assert!(rt; closed.version.number() == last);
 }
 
-fn play_lists<J: Naming + Send + Sync, R: Threads + Wait + Clock + Abort + Sync>(
+fn play_lists<J: BookName + Send + Sync, R: Threads + Wait + Clock + Abort + Sync>(
     rt: &R,
     alloc: Global,
     shared: &Shared<J, &R>,
@@ -173,7 +173,7 @@ fn play_lists<J: Naming + Send + Sync, R: Threads + Wait + Clock + Abort + Sync>
 }
 
 /// Plays the rows from a place on.
-fn play_rows<J: Naming + Send + Sync, R: Threads + Wait + Clock + Abort + Sync>(
+fn play_rows<J: BookName + Send + Sync, R: Threads + Wait + Clock + Abort + Sync>(
     rt: &R,
     alloc: Global,
     shared: &Shared<J, &R>,
@@ -198,7 +198,7 @@ fn play_rows<J: Naming + Send + Sync, R: Threads + Wait + Clock + Abort + Sync>(
 }
 
 /// Plays a row. It tells of a tile that is to be finished, and whether that is kept.
-fn play_row<J: Naming + Send + Sync, R: Threads + Wait + Clock + Abort + Sync>(
+fn play_row<J: BookName + Send + Sync, R: Threads + Wait + Clock + Abort + Sync>(
     rt: &R,
     alloc: Global,
     shared: &Shared<J, &R>,
@@ -279,7 +279,7 @@ fn play_row<J: Naming + Send + Sync, R: Threads + Wait + Clock + Abort + Sync>(
 
 /// What a worker's wait for a tile answers that ends by a tile which is not kept. It was taken before, and a call makes
 /// it stale.
-fn ask_beside_stale<J: Naming + Send + Sync, R: Threads + Wait + Clock + Abort + Sync>(
+fn ask_beside_stale<J: BookName + Send + Sync, R: Threads + Wait + Clock + Abort + Sync>(
     rt: &R,
     alloc: Global,
     shared: &Shared<J, &R>,
@@ -319,7 +319,7 @@ fn number_where_inside<R: Abort>(
 }
 
 /// What a call answers.
-pub fn answer<J: Naming, R: Wait + Abort>(
+pub fn answer<J: BookName, R: Wait + Abort>(
     rt: &R,
     alloc: Global,
     shared: &Shared<J, &R>,
@@ -372,7 +372,7 @@ pub fn answer<J: Naming, R: Wait + Abort>(
 }
 
 /// The number of the version that the reporter is given next.
-pub fn news<J: Naming, R: Wait>(rt: &R, shared: &Shared<J, &R>, reporter: &mut Reporter) -> Answer
+pub fn news<J: BookName, R: Wait>(rt: &R, shared: &Shared<J, &R>, reporter: &mut Reporter) -> Answer
     requires { reporter.old.book ≡ J.book }
     ensures { reporter.new.book ≡ reporter.old.book }
 {
@@ -388,7 +388,7 @@ fn told(done: Result<u64, BookFault>) -> Answer {
 }
 
 /// A tile that is handed out, where there is one.
-pub fn take<J: Naming, R: Wait + Drop, W: Wait + Abort>(
+pub fn take<J: BookName, R: Wait + Drop, W: Wait + Abort>(
     rt: &W,
     alloc: Global,
     shared: &Shared<J, R>,
@@ -399,7 +399,7 @@ pub fn take<J: Naming, R: Wait + Drop, W: Wait + Abort>(
 }
 
 /// Takes a tile and gives it back, as if memory had run out. It says whether there was one.
-fn give_back<J: Naming, R: Wait + Drop, W: Wait + Abort>(
+fn give_back<J: BookName, R: Wait + Drop, W: Wait + Abort>(
     rt: &W,
     alloc: Global,
     shared: &Shared<J, R>,
@@ -414,7 +414,7 @@ fn give_back<J: Naming, R: Wait + Drop, W: Wait + Abort>(
 }
 
 /// Builds the tile of a job, and says whether it was kept.
-pub fn finish<J: Naming, R: Wait + Drop, W: Wait + Abort>(
+pub fn finish<J: BookName, R: Wait + Drop, W: Wait + Abort>(
     rt: &W,
     alloc: Global,
     shared: &Shared<J, R>,

@@ -12,7 +12,7 @@ use std::time::{Clock, Duration};
 use version_book::fault::BookFault;
 use version_book::job::Job;
 use version_book::reporter::Reporter;
-use version_book::seen_log::Naming;
+use version_book::seen_log::BookName;
 use version_book::session::Session;
 use version_book::shared::Shared;
 
@@ -41,7 +41,7 @@ pub enum Work {
 
 /// Does a work, and tells the numbers of its versions, each above the one before. What asks for a tile tells its column,
 /// where there is one; what builds a tile tells nothing, and neither does what closes the book.
-fn carry_out<J: Naming, R: Wait + Clock + Abort>(
+fn carry_out<J: BookName, R: Wait + Clock + Abort>(
     rt: &R,
     alloc: Global,
     shared: &Shared<J, &R>,
@@ -97,7 +97,7 @@ fn carry_out<J: Naming, R: Wait + Clock + Abort>(
 }
 
 /// Submits a command, and tells the number of its version.
-fn submit<J: Naming, R: Wait>(
+fn submit<J: BookName, R: Wait>(
     rt: &R,
     alloc: Global,
     shared: &Shared<J, &R>,
@@ -111,7 +111,7 @@ fn submit<J: Naming, R: Wait>(
 }
 
 /// Takes a tile and builds it, which is to be kept, and tells its column. None comes where there is none, at closing.
-fn ask<J: Naming, R: Wait + Abort>(rt: &R, alloc: Global, shared: &Shared<J, &R>) -> Option<u64> {
+fn ask<J: BookName, R: Wait + Abort>(rt: &R, alloc: Global, shared: &Shared<J, &R>) -> Option<u64> {
     let job = take(rt, alloc, shared)?;
     let column = u64::from(job.input().column().number());
     assert!(rt; finish(rt, alloc, shared, job));
@@ -119,14 +119,14 @@ fn ask<J: Naming, R: Wait + Abort>(rt: &R, alloc: Global, shared: &Shared<J, &R>
 }
 
 /// Takes a tile and builds it, which is to be kept.
-fn build<J: Naming, R: Wait + Abort>(rt: &R, alloc: Global, shared: &Shared<J, &R>) {
+fn build<J: BookName, R: Wait + Abort>(rt: &R, alloc: Global, shared: &Shared<J, &R>) {
     ask(rt, alloc, shared).expect(rt, "no tile");
 }
 
 /// The column of a tile that is asked for and built in a thread of its own, while one that was taken is finished a tenth
 /// of a second late; and whether that one was kept.
 // Where there is no memory for a thread, the tile that was taken is finished first.
-pub fn ask_beside<J: Naming + Send + Sync, R: Threads + Wait + Clock + Abort + Sync>(
+pub fn ask_beside<J: BookName + Send + Sync, R: Threads + Wait + Clock + Abort + Sync>(
     rt: &R,
     alloc: Global,
     shared: &Shared<J, &R>,
@@ -148,7 +148,7 @@ pub fn ask_beside<J: Naming + Send + Sync, R: Threads + Wait + Clock + Abort + S
 }
 
 /// Builds the tile of a job in hand a tenth of a second late, and says whether it was kept.
-fn finish_late<J: Naming, R: Wait + Clock + Abort>(
+fn finish_late<J: BookName, R: Wait + Clock + Abort>(
     rt: &R,
     alloc: Global,
     shared: &Shared<J, &R>,
@@ -165,7 +165,7 @@ fn finish_late<J: Naming, R: Wait + Clock + Abort>(
 /// The number of the version that the reporter is given, who waits for news in a thread of its own while a session does
 /// a work.
 // Where there is no memory for a thread, the work comes first.
-pub fn news_beside<J: Naming + Send + Sync, R: Threads + Wait + Clock + Abort + Sync>(
+pub fn news_beside<J: BookName + Send + Sync, R: Threads + Wait + Clock + Abort + Sync>(
     rt: &R,
     alloc: Global,
     shared: &Shared<J, &R>,
@@ -186,7 +186,7 @@ pub fn news_beside<J: Naming + Send + Sync, R: Threads + Wait + Clock + Abort + 
 
 /// What two sessions do in threads of their own, and the numbers that each tells.
 // Where there is no memory for a thread, the second works first and then the first.
-pub fn beside<J: Naming + Send + Sync, R: Threads + Wait + Clock + Abort + Sync>(
+pub fn beside<J: BookName + Send + Sync, R: Threads + Wait + Clock + Abort + Sync>(
     rt: &R,
     alloc: Global,
     shared: &Shared<J, &R>,
@@ -207,7 +207,7 @@ pub fn beside<J: Naming + Send + Sync, R: Threads + Wait + Clock + Abort + Sync>
 
 /// What a wait answers that one session begins in a thread of its own, where a call ends it a tenth of a second later.
 // Where there is no memory for a thread, the call comes first.
-pub fn wait_beside<J: Naming + Send + Sync, R: Threads + Wait + Clock + Abort + Sync>(
+pub fn wait_beside<J: BookName + Send + Sync, R: Threads + Wait + Clock + Abort + Sync>(
     rt: &R,
     alloc: Global,
     shared: &Shared<J, &R>,
@@ -229,7 +229,7 @@ pub fn wait_beside<J: Naming + Send + Sync, R: Threads + Wait + Clock + Abort + 
 }
 
 /// What a call answers, a tenth of a second late.
-fn late<J: Naming, R: Wait + Clock + Abort>(
+fn late<J: BookName, R: Wait + Clock + Abort>(
     rt: &R,
     alloc: Global,
     shared: &Shared<J, &R>,
@@ -245,7 +245,7 @@ fn late<J: Naming, R: Wait + Clock + Abort>(
 }
 
 /// Reports the number of each version that the reporter is given, until the book closes, and tells the last one.
-fn report_all<J: Naming, R: Wait + Abort>(
+fn report_all<J: BookName, R: Wait + Abort>(
     rt: &R,
     alloc: Global,
     shared: &Shared<J, &R>,
@@ -278,7 +278,7 @@ fn share_all<R: Abort>(rt: &R, from: u64, first: &[u64], second: &[u64]) {
 }
 
 /// Does what two sessions do in threads of their own, and then closes the book.
-fn beside_until_closing<J: Naming + Send + Sync, R: Threads + Wait + Clock + Abort + Sync>(
+fn beside_until_closing<J: BookName + Send + Sync, R: Threads + Wait + Clock + Abort + Sync>(
     rt: &R,
     alloc: Global,
     shared: &Shared<J, &R>,
@@ -297,7 +297,7 @@ fn beside_until_closing<J: Naming + Send + Sync, R: Threads + Wait + Clock + Abo
 /// Submits one command 1,500 times in each of two threads, while the reporter reports in a third, and closes the book.
 /// It tells the number of the last version, and the last one that was reported.
 // Where there is no memory for a thread, the reporter comes last.
-pub fn submit_beside<J: Naming + Send + Sync, R: Threads + Wait + Clock + Abort + Sync>(
+pub fn submit_beside<J: BookName + Send + Sync, R: Threads + Wait + Clock + Abort + Sync>(
     rt: &R,
     alloc: Global,
     shared: &Shared<J, &R>,

@@ -12,13 +12,13 @@ use std::marker::Brand;
 use std::process::Abort;
 use std::sync::Wait;
 use std::thread::Threads;
-use version_book::seen_log::{Head, Naming, SeenLog, open};
+use version_book::seen_log::{LogWord, BookName, SeenLog, open};
 use version_book::shared::Shared;
 use versions::version::Version;
 
 /// A history of one version, which is no book's yet.
 struct History {
-    head: Head,
+    head: LogWord,
     seen_log: SeenLog,
     version: Version,
     ghost head_is: { head ≡ head_of seen_log.book },
@@ -54,7 +54,7 @@ fn run_in<J, Q, R, W>(
     writer: &mut W,
 ) -> SessionEnd
 where
-    J: Naming,
+    J: BookName,
     Q: Threads + Wait + Sync + Abort,
     R: Read,
     W: Write,

@@ -2,29 +2,29 @@
 ghost use Rattle.std.specs.Prelude.{◌≡◌, ◌≤◌, All, IsTrue};
 ghost use Rattle.std.specs.Arc.{arc_value};
 ghost use Rattle.book_history.specs.Logs.{newest_in, IsLog};
-ghost use Rattle.version_book.specs.Standing.{IsAfterClosing};
+ghost use Rattle.version_book.specs.BookState.{IsAfterClosing};
 ghost use Rattle.book_lock.specs.Steps.{HasAllOf, IsLevel};
 ghost use Rattle.version_book.specs.Heard.{HasHeard};
 
 use crate::locked_book::LockedBook;
 use crate::reporter::Reporter;
-use book_history::seen_log::Naming;
+use book_history::seen_log::BookName;
 use book_lock::closed::ClosedBook;
 use book_lock::locked_log::LockedLog;
 use book_lock::session::Session;
 use std::sync::Wait;
 
 /// The book closes from now on.
-pub(crate) fn begin_close<J: Naming, R: Wait + Drop>(locked: &mut LockedBook<J, R>)
+pub(crate) fn begin_close<J: BookName, R: Wait + Drop>(locked: &mut LockedBook<J, R>)
     ensures log { locked.new.log ≡ locked.old.log }
-    ensures standing { IsAfterClosing locked.old.standing locked.new.standing }
+    ensures state { IsAfterClosing locked.old.state locked.new.state }
 {
-    locked.standing.begin_close();
+    locked.state.begin_close();
 }
 
 /// Whether the log has all that the reporter and some sessions have seen, no durable number that the reporter did not
 /// report, and of each session's commands just those that it made.
-pub(crate) fn has_all_of<J: Naming, R: Wait + Drop>(
+pub(crate) fn has_all_of<J: BookName, R: Wait + Drop>(
     locked: &LockedBook<J, R>,
     reporter: &Reporter,
     sessions: &[Session],
@@ -42,21 +42,21 @@ pub(crate) fn has_all_of<J: Naming, R: Wait + Drop>(
 }
 
 /// The newest version and the log. It waits for the readers.
-pub(crate) fn into_closed<J: Naming, R: Wait + Drop>(locked: LockedBook<J, R>) -> ClosedBook
+pub(crate) fn into_closed<J: BookName, R: Wait + Drop>(locked: LockedBook<J, R>) -> ClosedBook
     ensures version { arc_value result.version ≡ newest_in result.seen_log.log }
     ensures log { (result.seen_log ≡ record { book = J.book; log = locked.log }) × IsLog result.seen_log.log }
     ensures durable { All (λ entry. entry.version.durable ≤ (newest_in result.seen_log.log).durable) result.seen_log.log }
 {
     let LockedBook {
         log,
-        standing: _standing,
+        state: _state,
         near: _,
         room: _room,
     } = locked;
     log.into_closed()
 }
 
-fn has_all_of_each<J: Naming, R: Wait + Drop>(log: &LockedLog<J, R>, sessions: &[Session]) -> bool
+fn has_all_of_each<J: BookName, R: Wait + Drop>(log: &LockedLog<J, R>, sessions: &[Session]) -> bool
     requires { All (λ session. session.book ≡ J.book) sessions.now }
     ensures all { IsTrue result → All (λ session. HasAllOf log.now session) sessions.now }
     ensures level { All (λ session. IsLevel log.now session) sessions.now → IsTrue result }

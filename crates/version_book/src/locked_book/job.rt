@@ -2,7 +2,7 @@
 ghost use Rattle.std.specs.Prelude.{◌≡◌};
 ghost use Rattle.version_book.specs.Jobs.{IsJob};
 
-use arrange::tile_input::TileInput;
+use arrange::TileInput;
 use book_history::seen_log::SeenLog;
 use layer_expr::name::Name;
 use std::marker::Model;

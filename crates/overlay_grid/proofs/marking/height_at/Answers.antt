@@ -2,8 +2,9 @@ use Rattle.std.proofs.Common.{rules, ◌≡◌, ◌∙◌, pos, ◌+ℤ◌, ◌*
 use Rattle.std.proofs.lemmas.Int.{ints, to_z-of_z}
 use Rattle.overlay_terms.specs.Within.{IsWithin}
 use Rattle.overlay_terms.proofs.Bounds.{reads, mul_reads}
-use Rattle.overlay_grid.proofs.Heights.{add_reads, place_reads}
+use Rattle.overlay_grid.proofs.Heights.{place_reads}
 use Rattle.overlay_grid.proofs.marking.height_at.Goals as goal
+use Rattle.exact_point.proofs.MiddleLemmas.{add_reads}
 
 pub returns : goal.returns
 returns c =

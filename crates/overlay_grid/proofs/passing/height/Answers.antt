@@ -8,6 +8,6 @@ pub returns : goal.returns
 returns c =
     let s = c.args.seg.now in
     let r = c.args.rise in
-    let e : to_z w64 (of_z w64 c.cross.result) ≡ (s.right.x -ℤ s.left.x) *ℤ (r.y -ℤ s.left.y) -ℤ (s.right.y -ℤ s.left.y) *ℤ (r.x -ℤ s.left.x) =
-    search (rules, to_z-of_z, c.cross.ensures, c.minus.ensures.value, c.minus-2.ensures.value, c.minus-3.ensures.value, c.minus-4.ensures.value, c.left-left.ensures.value, c.right-right.ensures.value) in
+    let e : to_z w64 (of_z w64 c.whole_cross.result) ≡ (s.right.x -ℤ s.left.x) *ℤ (r.y -ℤ s.left.y) -ℤ (s.right.y -ℤ s.left.y) *ℤ (r.x -ℤ s.left.x) =
+    search (rules, to_z-of_z, c.whole_cross.ensures.value, c.minus.ensures.value, c.minus-2.ensures.value, c.minus-3.ensures.value, c.minus-4.ensures.value, c.left-left.ensures.value, c.right-right.ensures.value) in
     e ∙ first_height s r

@@ -21,7 +21,7 @@ use Rattle.overlay_server.proofs.hosting.run_book.Goals as goal
 
 pub seated-requires : goal.seated-requires
 seated-requires g c =
-    ap (λ (ks : List Known). length ks) c.requires.sessions ∙ count_of (record { book = g.J.Naming.book; log = first_log c.args.start.version.value }) (length c.args.ports.items)
+    ap (λ (ks : List Known). length ks) c.requires.sessions ∙ count_of (record { book = g.J.BookName.book; log = first_log c.args.start.version.value }) (length c.args.ports.items)
 
 pub returns-in_default-clause-refused : goal.returns-in_default-clause-refused
 returns-in_default-clause-refused g c =
@@ -35,18 +35,18 @@ run_threads-store-requires-after_bounds g c κs within =
     let sessions : map session_of seats.scripts.items ≡ c.args.sessions.items = search rules in
     let ports : map port_of seats.scripts.items ≡ c.args.ports.items = search rules in
     let rooms : HasRooms seats.rooms (length c.args.ports.items) = search rules in
-    let seated : AreSeated g.J.Naming.book c.args.start.version.value c.args.ports.items seats.scripts.items = record { sessions = sessions ∙ c.requires.sessions; ports_are = ports } in
+    let seated : AreSeated g.J.BookName.book c.args.start.version.value c.args.ports.items seats.scripts.items = record { sessions = sessions ∙ c.requires.sessions; ports_are = ports } in
     record {
       store = c.requires.reporter.0;
-      scripts = all_of_book g.J.Naming.book c.args.start.version.value c.args.ports.items seats.scripts.items seated;
-      rooms = subst (HasRooms seats.rooms) (sym (as_many g.J.Naming.book c.args.start.version.value c.args.ports.items seats.scripts.items seated)) rooms;
+      scripts = all_of_book g.J.BookName.book c.args.start.version.value c.args.ports.items seats.scripts.items seated;
+      rooms = subst (HasRooms seats.rooms) (sym (as_many g.J.BookName.book c.args.start.version.value c.args.ports.items seats.scripts.items seated)) rooms;
     }
 
 pub returns-in_default-ended-clause-refused : goal.returns-in_default-ended-clause-refused
 returns-in_default-ended-clause-refused g c =
     let after = c.run_threads-store.result.store in
     let last = c.keep_store-reporter.result in
-    let kept = kept_twice g.D.Disk g.J.Naming.book c.args.store after last c.run_threads-store.ensures.store c.keep_store-reporter.ensures in
+    let kept = kept_twice g.D.Disk g.J.BookName.book c.args.store after last c.run_threads-store.ensures.store c.keep_store-reporter.ensures in
     refused_from g.D.Disk c.args.start.version.value c.args.store.flusher c.refused-in_default-ended.result c.args.answer
     c.refused-in_default-ended.ensures.code c.refused-in_default-ended.ensures.answer (subst MayAnswer (sym c.requires.answer) tt)
     (stopped_by g.D.Disk c.args.start.version.value c.args.store.reporter last.reporter (told_in c.args.store.told) (told_in last.told) c.args.store.flusher last.flusher c.refused-in_default-ended.result.disk
@@ -61,10 +61,10 @@ parted-sessions-requires g c =
     let sessions : map session_of scripts ≡ c.args.sessions.items = search rules in
     let ports : map port_of scripts ≡ c.args.ports.items = search rules in
     let parts : HasParts seats.parts (length c.args.ports.items) = search rules in
-    let ran : AllZip (IsRunOf g.J.Naming.book stored g.R.Read.remaining g.W.Write.contents) scripts ended = search rules in
-    let seated : AreSeated g.J.Naming.book c.args.start.version.value c.args.ports.items scripts = record { sessions = sessions ∙ c.requires.sessions; ports_are = ports } in
+    let ran : AllZip (IsRunOf g.J.BookName.book stored g.R.Read.remaining g.W.Write.contents) scripts ended = search rules in
+    let seated : AreSeated g.J.BookName.book c.args.start.version.value c.args.ports.items scripts = record { sessions = sessions ∙ c.requires.sessions; ports_are = ports } in
     let count : length c.args.ports.items ≡ length ended =
-    sym (as_many g.J.Naming.book c.args.start.version.value c.args.ports.items scripts seated) ∙ beside_length (IsRunOf g.J.Naming.book stored g.R.Read.remaining g.W.Write.contents) scripts ended ran in
+    sym (as_many g.J.BookName.book c.args.start.version.value c.args.ports.items scripts seated) ∙ beside_length (IsRunOf g.J.BookName.book stored g.R.Read.remaining g.W.Write.contents) scripts ended ran in
     subst (HasParts seats.parts) count parts
 
 pub close-closed-requires-clause-sessions : goal.close-closed-requires-clause-sessions
@@ -72,9 +72,9 @@ close-closed-requires-clause-sessions g c =
     let scripts = c.in-Some.seats.scripts.items in
     let ended = c.in-Some-ended.ended.items in
     let stored = has_store c.args.shared in
-    let ran : AllZip (IsRunOf g.J.Naming.book stored g.R.Read.remaining g.W.Write.contents) scripts ended = search rules in
-    subst (All (λ (k : Known). k.book ≡ g.J.Naming.book)) (sym c.parted-sessions.ensures.sessions)
-    (of_ended g.J.Naming.book stored g.R.Read.remaining g.W.Write.contents scripts ended ran)
+    let ran : AllZip (IsRunOf g.J.BookName.book stored g.R.Read.remaining g.W.Write.contents) scripts ended = search rules in
+    subst (All (λ (k : Known). k.book ≡ g.J.BookName.book)) (sym c.parted-sessions.ensures.sessions)
+    (of_ended g.J.BookName.book stored g.R.Read.remaining g.W.Write.contents scripts ended ran)
 
 pub returns-clause-left : goal.returns-clause-left
 returns-clause-left g c =
@@ -87,8 +87,8 @@ returns-clause-left g c =
     let closed = c.close-closed.ensures in
     let sessions : map session_of scripts ≡ c.args.sessions.items = search rules in
     let ports : map port_of scripts ≡ c.args.ports.items = search rules in
-    let ran : AllZip (IsRunOf g.J.Naming.book stored g.R.Read.remaining g.W.Write.contents) scripts ended = search rules in
-    served_from g.D.Disk g.J.Naming.book stored g.R.Read.remaining g.W.Write.contents c.args.start.version.value c.args.ports.items c.args.store last scripts ended
+    let ran : AllZip (IsRunOf g.J.BookName.book stored g.R.Read.remaining g.W.Write.contents) scripts ended = search rules in
+    served_from g.D.Disk g.J.BookName.book stored g.R.Read.remaining g.W.Write.contents c.args.start.version.value c.args.ports.items c.args.store last scripts ended
     (record { sessions = c.parted-sessions.result.finished; closed = c.close-closed.result })
     (record {
       log = c.requires.reporter.1;
@@ -98,7 +98,7 @@ returns-clause-left g c =
     })
     (record {
       sessions = ran;
-      kept = kept_twice g.D.Disk g.J.Naming.book c.args.store after last c.run_threads-store.ensures.store c.keep_store-reporter.ensures;
+      kept = kept_twice g.D.Disk g.J.BookName.book c.args.store after last c.run_threads-store.ensures.store c.keep_store-reporter.ensures;
       stored_is = c.requires.stored;
     })
     (record {

@@ -13,6 +13,6 @@ loop-handle-preserved g c =
       left = search rules;
       grown = c.push_reserved.ensures.len ∙ ap (λ (n : ℕ). n + 1) at.invariant.grown ∙ sym (length-append at.yielded (handle ∷ []));
       room = omega (arith, at.invariant.room, c.push_reserved.ensures.capacity);
-      kept = subst (λ ys. AllZip (λ h ended. IsRunOf g.J.Naming.book h.promise.stored g.R.Read.remaining g.W.Write.contents h.promise.begun.value ended) (at.yielded ++ handle ∷ []) ys) (sym c.push_reserved.ensures.items)
-          (beside_push (λ h ended. IsRunOf g.J.Naming.book h.promise.stored g.R.Read.remaining g.W.Write.contents h.promise.begun.value ended) at.yielded at.list.items handle c.join.result at.invariant.kept c.join.ensures);
+      kept = subst (λ ys. AllZip (λ h ended. IsRunOf g.J.BookName.book h.promise.stored g.R.Read.remaining g.W.Write.contents h.promise.begun.value ended) (at.yielded ++ handle ∷ []) ys) (sym c.push_reserved.ensures.items)
+          (beside_push (λ h ended. IsRunOf g.J.BookName.book h.promise.stored g.R.Read.remaining g.W.Write.contents h.promise.begun.value ended) at.yielded at.list.items handle c.join.result at.invariant.kept c.join.ensures);
     }

@@ -12,5 +12,5 @@ invariant-loop-handle g l = record {
   left : into_iter_len l.handle-iterator ≡ length (into_iter_items l.handle-iterator);
   grown : vec_len l.list ≡ length l.yielded;
   room : length (into_iter_items l.initial.handle-iterator) ≤ vec_capacity l.list;
-  kept : AllZip (λ h ended. IsRunOf g.J.Naming.book h.promise.stored g.R.Read.remaining g.W.Write.contents h.promise.begun.value ended) l.yielded l.list.items;
+  kept : AllZip (λ h ended. IsRunOf g.J.BookName.book h.promise.stored g.R.Read.remaining g.W.Write.contents h.promise.begun.value ended) l.yielded l.list.items;
 }

@@ -20,8 +20,8 @@ returns g c =
     let stored = has_store c.args.shared.now in
     let begun : AllZip (λ script h. (h.promise.begun.value ≡ script) × (h.promise.stored ≡ stored)) c.args.scripts.items running.items = search rules in
     beside_through (λ script h. (h.promise.begun.value ≡ script) × (h.promise.stored ≡ stored))
-    (λ h ended. IsRunOf g.J.Naming.book h.promise.stored g.R.Read.remaining g.W.Write.contents h.promise.begun.value ended)
-    (λ script ended. IsRunOf g.J.Naming.book stored g.R.Read.remaining g.W.Write.contents script ended)
-    (λ script h ended same ran. subst (λ b. IsRunOf g.J.Naming.book b g.R.Read.remaining g.W.Write.contents script ended) same.1
-    (subst (λ s. IsRunOf g.J.Naming.book h.promise.stored g.R.Read.remaining g.W.Write.contents s ended) same.0 ran))
+    (λ h ended. IsRunOf g.J.BookName.book h.promise.stored g.R.Read.remaining g.W.Write.contents h.promise.begun.value ended)
+    (λ script ended. IsRunOf g.J.BookName.book stored g.R.Read.remaining g.W.Write.contents script ended)
+    (λ script h ended same ran. subst (λ b. IsRunOf g.J.BookName.book b g.R.Read.remaining g.W.Write.contents script ended) same.1
+    (subst (λ s. IsRunOf g.J.BookName.book h.promise.stored g.R.Read.remaining g.W.Write.contents s ended) same.0 ran))
     c.args.scripts.items running.items c.join_sessions.result.items begun c.join_sessions.ensures

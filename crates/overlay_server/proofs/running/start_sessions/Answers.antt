@@ -11,8 +11,8 @@ start_session-requires-after_bounds g c κs within =
     let at = c.loop-script in
     let rest = into_iter_items c.next.new.self in
     let parts = ap (λ ss. at.yielded ++ ss) (sym c.in-Some.ensures.steps.0) ∙ at.invariant.all ∙ c.into_iter-script-iterator.ensures.into_iter_gives.0 in
-    in_middle (λ script. script.session.book ≡ g.J.Naming.book) at.yielded c.in-Some.script rest
-    (subst (All (λ script. script.session.book ≡ g.J.Naming.book)) (sym parts) c.requires.scripts)
+    in_middle (λ script. script.session.book ≡ g.J.BookName.book) at.yielded c.in-Some.script rest
+    (subst (All (λ script. script.session.book ≡ g.J.BookName.book)) (sym parts) c.requires.scripts)
 
 pub loop-script-preserved : goal.loop-script-preserved
 loop-script-preserved g c =

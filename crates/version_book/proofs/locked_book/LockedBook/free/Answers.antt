@@ -4,7 +4,7 @@ use Rattle.version_book.proofs.locked_book.LockedBook.free.Goals as goal
 
 pub returns : goal.returns
 returns g c =
-    let held = c.args.self.now.standing.held.list.items in
+    let held = c.args.self.now.state.held.list.items in
     let newest = c.deref.ensures ∙ c.last.ensures.version in
     record {
       some = subst (λ v. IfSome c.free.result (λ r. IsFree v held r.0.now r.1)) newest c.free.ensures.some;

@@ -29,7 +29,7 @@ returns-in_err-number g c =
     record {
       ok = IfOk-from_err _ _ failed.0;
       accepted = IfOk-from_err _ _ failed.0;
-      err = passed _ _ _ failed.1 (e.0, refl, refused_more locked.log c.args.me.now c.submit.new.me refuses _ locked.standing.closing _ (λ is. absurd (true≢false (sym is))) e.1);
+      err = passed _ _ _ failed.1 (e.0, refl, refused_more locked.log c.args.me.now c.submit.new.me refuses _ locked.state.closing _ (λ is. absurd (true≢false (sym is))) e.1);
       closing = λ is. absurd (true≢false (sym is ∙ c.if-self.false));
     }
 

@@ -10,7 +10,7 @@ returns-in_default g c = record {
   log = refl;
   job = tt;
   at = tt;
-  standing = tt;
+  state = tt;
   closing = λ _. refl;
   none = absurd (c.requires.ready (record { not_closing = c.if-self.false; held = c.in_default.ensures.none }));
   err = tt;
@@ -26,7 +26,7 @@ returns-in_default-parts g c = record {
   log = refl;
   job = tt;
   at = tt;
-  standing = tt;
+  state = tt;
   closing = λ is. absurd (true≢false (sym is ∙ c.if-self.false));
   none = tt;
   err = (refl, record { held = refl; fault = refl; resting = refl; closing = refl; news = refl });
@@ -39,7 +39,7 @@ returns-then-is_err g c =
       log = refl;
       job = tt;
       at = tt;
-      standing = tt;
+      state = tt;
       closing = λ is. absurd (true≢false (sym is ∙ c.if-self.false));
       none = tt;
       err = (refl, record { held = held; fault = refl; resting = refl; closing = refl; news = refl });
@@ -47,12 +47,12 @@ returns-then-is_err g c =
 
 pub returns : goal.returns
 returns g c =
-    let is_open : c.args.self.now.standing.closing ≡ false = search rules in
+    let is_open : c.args.self.now.state.closing ≡ false = search rules in
     let log = ap (λ t. t.log) (c.again.ensures ∙ c.last.ensures.seen_log) in
     let job = job_of _ _ _ _ _ _ _ _ log c.last.ensures.log c.in-Ok.ensures.0 c.in-Ok.ensures.1 c.in-Some.ensures.some in
     let named = ap (λ j. j.name) c.new-job.ensures ∙ c.in-Ok.ensures.0 in
     let present = ap (λ j. j.input) c.new-job.ensures ∙ c.in-Ok.ensures.1 in
-    let old = c.args.self.now.standing.held.list.items in
+    let old = c.args.self.now.state.held.list.items in
     let held = on_ok c.hand_out.result _ _ c.is_err.ensures.value c.if-is_err.false c.hand_out.ensures.ok
     ∙ ap (λ n. handed_out n c.in-Some.tile.1 old) c.name.ensures
     ∙ ap (λ k. handed_out c.new-job.result.name k old) (sym (ap (λ i. i.column) present)) in
@@ -64,7 +64,7 @@ returns g c =
         ap (λ j. j.log) c.new-job.ensures ∙ log,
         subst IsJob (sym c.new-job.ensures) job,
       );
-      standing = record { held = held; fault = refl; resting = refl; closing = refl; news = refl };
+      state = record { held = held; fault = refl; resting = refl; closing = refl; news = refl };
       closing = λ is. absurd (true≢false (sym is ∙ is_open));
       none = tt;
       err = tt;

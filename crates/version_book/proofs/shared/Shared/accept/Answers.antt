@@ -14,5 +14,5 @@ returns g c =
       begun = c.number.ensures.begun;
       ok = IfOk-weaker s.result _ _ (λ n is. (log, s.new.self.log, is)) s.ensures.ok;
       err = IfErr-weaker s.result _ _
-          (λ r is. (log, refused_more log me s.new.me refuses locked.standing.closing true r (λ _. refl) is.2)) s.ensures.err;
+          (λ r is. (log, refused_more log me s.new.me refuses locked.state.closing true r (λ _. refl) is.2)) s.ensures.err;
     }

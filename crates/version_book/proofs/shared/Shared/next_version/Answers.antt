@@ -8,7 +8,7 @@ returns g c =
     let me = c.args.me.now in
     let new = s.new.me in
     let log = c.deref.result.now.log in
-    let n = c.deref.result.now.standing.news in
+    let n = c.deref.result.now.state.news in
     let e = s.ensures in
     record {
       goes_on = news_goes me new log n s.result _ _ _ _ _ c.given-given.ensures.begun e.some e.news e.none e.err;

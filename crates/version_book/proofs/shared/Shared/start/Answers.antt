@@ -34,8 +34,8 @@ returns g c =
     record {
       reporter = begun;
       sessions = all;
-      of_book = subst (All (λ (session : Known). session.book ≡ g.J.Naming.book)) (sym all)
-          (all_begin c.args.seen_log g.J.Naming.book c.args.sessions c.requires.seen_log.0);
+      of_book = subst (All (λ (session : Known). session.book ≡ g.J.BookName.book)) (sym all)
+          (all_begin c.args.seen_log g.J.BookName.book c.args.sessions c.requires.seen_log.0);
       reporter_of_book = ap (λ h. h.book) begun ∙ c.requires.seen_log.0;
       count = ap length all ∙ count_of c.args.seen_log c.args.sessions;
       store = refl;

@@ -20,6 +20,6 @@ returns g c =
       own = looks_own me now log s.result seen;
       err = looks_err me now log s.result seen;
       refused = looks_refused me now log s.result (λ v f. IsWaitRefused true v name f) (λ v. tt) seen
-          (wait_refused s.result locked.standing.closing (newest_in log) name s.ensures.refused);
+          (wait_refused s.result locked.state.closing (newest_in log) name s.ensures.refused);
       same = looks_same me now log s.result seen;
     }

@@ -43,8 +43,8 @@ returns g c =
       err = looks_err me now log s.result looks;
       refused = subst (λ m. IfErr s.result (λ f. IsSyncRefused m (newest (seen now)) f)) c.newest-number.ensures
           (looks_refused me now log s.result (λ v f. IsSyncRefused c.newest-number.result v f) (λ v. tt) looks
-          (sync_refused s.result locked.standing (newest_in log) _ s.ensures.refused));
-      only_without = λ is. absurd (with_store s.result locked.standing (newest_in log) _ s.ensures.refused is);
+          (sync_refused s.result locked.state (newest_in log) _ s.ensures.refused));
+      only_without = λ is. absurd (with_store s.result locked.state (newest_in log) _ s.ensures.refused is);
       without = λ is. absurd (true≢false (sym c.if-not-self.false ∙ is));
       same = looks_same me now log s.result looks;
     }

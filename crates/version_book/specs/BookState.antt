@@ -5,7 +5,7 @@ use Rattle.book_history.specs.Fault.{passes}
 use Rattle.version_book.specs.HeldTiles.{taken_in, unmarked}
 use Rattle.version_book.specs.declared.held_tiles.HeldTile.{HeldTile}
 use Rattle.book_history.specs.declared.fault.ToldFault.{ToldFault}
-use Rattle.version_book.specs.declared.standing.Standing.{Standing}
+use Rattle.version_book.specs.declared.book_state.BookState.{BookState}
 
 -- what is left of a store's fault once a command is accepted
 abbrev pub left_over : Option ToldFault → Option ToldFault
@@ -22,7 +22,7 @@ abbrev pub next_news : ℕ → ℕ
 next_news news = (news + 1) % 2 ^ 64
 
 -- a book begins: no tile is handed out or marked, and the store told of nothing
-pub record IsFresh (new : Standing) : Type 0 where
+pub record IsFresh (new : BookState) : Type 0 where
   pub held : new.held.list.items ≡ []
   pub fault : new.fault ≡ None
   pub resting : new.resting ≡ false
@@ -30,7 +30,7 @@ pub record IsFresh (new : Standing) : Type 0 where
   pub news : new.news ≡ 0
 
 -- these tiles are handed out or marked now, and nothing else changed
-pub record HasHeld (old : Standing) (tiles : List HeldTile) (new : Standing) : Type 0 where
+pub record HasHeld (old : BookState) (tiles : List HeldTile) (new : BookState) : Type 0 where
   pub held : new.held.list.items ≡ tiles
   pub fault : new.fault ≡ old.fault
   pub resting : new.resting ≡ old.resting
@@ -38,7 +38,7 @@ pub record HasHeld (old : Standing) (tiles : List HeldTile) (new : Standing) : T
   pub news : new.news ≡ old.news
 
 -- a command was accepted: no tile is marked, faults that pass are gone, the reporter does not rest, and there are news
-pub record IsAfterCommand (old new : Standing) : Type 0 where
+pub record IsAfterCommand (old new : BookState) : Type 0 where
   pub held : new.held.list.items ≡ unmarked old.held.list.items
   pub fault : new.fault ≡ left_over old.fault
   pub resting : new.resting ≡ false
@@ -46,7 +46,7 @@ pub record IsAfterCommand (old new : Standing) : Type 0 where
   pub news : new.news ≡ next_news old.news
 
 -- a tile's job was spent: the tile is not handed out any more, and there are news where it was kept
-pub record IsAfterFinish (old : Standing) (name : Name) (column : ℕ) (is_kept : Bool) (new : Standing) : Type 0 where
+pub record IsAfterFinish (old : BookState) (name : Name) (column : ℕ) (is_kept : Bool) (new : BookState) : Type 0 where
   pub held : new.held.list.items ≡ taken_in name column old.held.list.items
   pub fault : new.fault ≡ old.fault
   pub resting : new.resting ≡ old.resting
@@ -54,7 +54,7 @@ pub record IsAfterFinish (old : Standing) (name : Name) (column : ℕ) (is_kept 
   pub news : new.news ≡ (if is_kept then next_news old.news else old.news)
 
 -- the store told a fault: it stands where none stays for good, and the reporter rests
-pub record IsAfterFailure (old : Standing) (fault : ToldFault) (new : Standing) : Type 0 where
+pub record IsAfterFailure (old : BookState) (fault : ToldFault) (new : BookState) : Type 0 where
   pub fault_told : new.fault ≡ told old.fault fault
   pub resting : new.resting ≡ true
   pub held : new.held ≡ old.held
@@ -62,7 +62,7 @@ pub record IsAfterFailure (old : Standing) (fault : ToldFault) (new : Standing) 
   pub news : new.news ≡ old.news
 
 -- the book closes from now on
-pub record IsAfterClosing (old new : Standing) : Type 0 where
+pub record IsAfterClosing (old new : BookState) : Type 0 where
   pub closing : new.closing ≡ true
   pub held : new.held ≡ old.held
   pub fault : new.fault ≡ old.fault

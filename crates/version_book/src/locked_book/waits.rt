@@ -1,24 +1,22 @@
-//! What the calls that wait decide by, and what the reporter is told, under the lock.
-ghost use Rattle.std.specs.Prelude.{◌≡◌, ◌⊎◌, ◌<◌, ◌≤◌, ◌↔◌, IsTrue, length, IfOk, IfErr, IfSome, IfNone, Err, IsErrAnd};
+//! What the calls that wait decide by, and what they are told, under the lock.
+ghost use Rattle.std.specs.Prelude.{◌≡◌, ◌⊎◌, ◌<◌, ◌≤◌, ◌↔◌, IsTrue, IfOk, IfErr, IfSome, IfNone, Err, IsErrAnd};
 ghost use Rattle.std.specs.Arc.{arc_value};
 ghost use Rattle.book_history.specs.Fault.{no_memory};
 ghost use Rattle.book_history.specs.Logs.{newest_in, IsLog};
-ghost use Rattle.version_book.specs.Standing.{IsAfterFailure};
-ghost use Rattle.book_lock.specs.Steps.{IsLevel, IsReportedIn};
+ghost use Rattle.book_lock.specs.Steps.{IsLevel};
 ghost use Rattle.version_book.specs.Heard.{HasHeard};
 ghost use Rattle.version_book.specs.Waits.{IsAfterTold, IsBuilding, IsBuiltAt, IsIdle, IsQuiet, IsSyncRefusedAt};
 ghost use Rattle.version_book.specs.Waits.{IsWaitRefused, IsWriting, Looks, Waits};
 
 use crate::locked_book::LockedBook;
 use crate::reporter::Reporter;
-use book_history::fault::{BookFault, NO_MEMORY, ToldFault};
-use book_history::seen_log::Naming;
-use book_lock::room::Room;
+use book_history::fault::{BookFault, NO_MEMORY};
+use book_history::seen_log::BookName;
 use book_lock::session::Session;
 use layer_expr::name::Name;
 use std::alloc::Global;
 use std::sync::{Arc, Wait};
-use versions::version::Version;
+use versions::Version;
 
 /// What a call waits for.
 #[derive(Clone, Copy)]
@@ -34,11 +32,11 @@ pub(crate) enum Awaited<'a> {
 }
 
 /// Whether a wait goes on.
-pub(crate) fn waits<J: Naming, R: Wait + Drop>(
+pub(crate) fn waits<J: BookName, R: Wait + Drop>(
     locked: &LockedBook<J, R>,
     awaited: &Awaited<'_>,
 ) -> bool
-    ensures { IsTrue result ↔ Waits (newest_in locked.now.log) locked.now.standing awaited.now }
+    ensures { IsTrue result ↔ Waits (newest_in locked.now.log) locked.now.state awaited.now }
 {
     match awaited {
         Awaited::Tile => is_idle(locked),
@@ -49,54 +47,54 @@ pub(crate) fn waits<J: Naming, R: Wait + Drop>(
 }
 
 // Whether nothing can be handed out, and the book does not close.
-fn is_idle<J: Naming, R: Wait + Drop>(locked: &LockedBook<J, R>) -> bool
-    ensures { IsTrue result ↔ IsIdle (newest_in locked.now.log) locked.now.standing }
+fn is_idle<J: BookName, R: Wait + Drop>(locked: &LockedBook<J, R>) -> bool
+    ensures { IsTrue result ↔ IsIdle (newest_in locked.now.log) locked.now.state }
 {
-    !locked.standing.closing && locked.free().is_none()
+    !locked.state.closing && locked.free().is_none()
 }
 
 // Whether a layer's tiles can be waited for, and none of the ends of the wait is there.
-fn is_building<J: Naming, R: Wait + Drop>(locked: &LockedBook<J, R>, name: &Name) -> bool
-    ensures { IsTrue result ↔ IsBuilding (newest_in locked.now.log) locked.now.standing name.now }
+fn is_building<J: BookName, R: Wait + Drop>(locked: &LockedBook<J, R>, name: &Name) -> bool
+    ensures { IsTrue result ↔ IsBuilding (newest_in locked.now.log) locked.now.state name.now }
 {
     let version = &locked.log.last().version;
     version.wait_refusal(name).is_none()
         && !version.is_built(name)
-        && !locked.standing.held.has_mark(name)
-        && !locked.standing.closing
+        && !locked.state.held.has_mark(name)
+        && !locked.state.closing
 }
 
 // Whether a version of this number is not yet durable, and none of the other ends of the wait is there.
-fn is_writing<J: Naming, R: Wait + Drop>(locked: &LockedBook<J, R>, number: u64) -> bool
-    ensures { IsTrue result ↔ IsWriting (newest_in locked.now.log) locked.now.standing number }
+fn is_writing<J: BookName, R: Wait + Drop>(locked: &LockedBook<J, R>, number: u64) -> bool
+    ensures { IsTrue result ↔ IsWriting (newest_in locked.now.log) locked.now.state number }
 {
     locked.log.last().version.durable() < number
-        && locked.standing.fault.is_none()
-        && !locked.standing.closing
+        && locked.state.fault.is_none()
+        && !locked.state.closing
 }
 
 // Whether there are no news for the reporter, or it rests.
-fn is_quiet<J: Naming, R: Wait + Drop>(locked: &LockedBook<J, R>, given: u64) -> bool
-    ensures { IsTrue result ↔ IsQuiet locked.now.standing given }
+fn is_quiet<J: BookName, R: Wait + Drop>(locked: &LockedBook<J, R>, given: u64) -> bool
+    ensures { IsTrue result ↔ IsQuiet locked.now.state given }
 {
-    !locked.standing.closing && (locked.standing.news == given || locked.standing.resting)
+    !locked.state.closing && (locked.state.news == given || locked.state.resting)
 }
 
 /// Tells a session how a wait for the tiles of a layer ends. The marks of the layer go where it ends by them.
-pub(crate) fn tell_built<J: Naming, R: Wait + Drop>(
+pub(crate) fn tell_built<J: BookName, R: Wait + Drop>(
     locked: &mut LockedBook<J, R>,
     me: &mut Session,
     name: &Name,
 ) -> Result<u64, BookFault>
     requires book { me.old.book ≡ J.book }
-    requires ready { ¬ (IsBuilding (newest_in locked.old.log) locked.old.standing name.now) }
+    requires ready { ¬ (IsBuilding (newest_in locked.old.log) locked.old.state name.now) }
     ensures ok { IfOk result (λ n. IsBuiltAt (newest_in locked.old.log) name.now n) }
     ensures refused { IfErr result
-        (λ fault. IsWaitRefused locked.old.standing.closing (newest_in locked.old.log) name.now fault) }
+        (λ fault. IsWaitRefused locked.old.state.closing (newest_in locked.old.log) name.now fault) }
     ensures seen { Looks result me.old locked.old.log me.new }
     ensures gone { result ≡ Err BookFault.Gone → ¬ (IsLevel locked.old.log me.old) }
     ensures log { locked.new.log ≡ locked.old.log }
-    ensures standing { IsAfterTold (newest_in locked.old.log) locked.old.standing name.now result locked.new.standing }
+    ensures state { IsAfterTold (newest_in locked.old.log) locked.old.state name.now result locked.new.state }
 {
     let number = locked.log.show(me)?;
     let version = &locked.log.last().version;
@@ -106,24 +104,24 @@ pub(crate) fn tell_built<J: Naming, R: Wait + Drop>(
     if version.is_built(name) {
         return Ok(number);
     }
-    if locked.standing.held.has_mark(name) {
-        locked.standing.unmark_of(name);
+    if locked.state.held.has_mark(name) {
+        locked.state.unmark_of(name);
         return Err(NO_MEMORY);
     }
     Err(BookFault::Closing)
 }
 
 /// Tells a session how a wait until a number is durable ends, in a book that has a store.
-pub(crate) fn tell_durable<J: Naming, R: Wait + Drop>(
+pub(crate) fn tell_durable<J: BookName, R: Wait + Drop>(
     locked: &LockedBook<J, R>,
     me: &mut Session,
     number: u64,
 ) -> Result<u64, BookFault>
     requires book { me.old.book ≡ J.book }
-    requires ready { ¬ (IsWriting (newest_in locked.now.log) locked.now.standing number) }
+    requires ready { ¬ (IsWriting (newest_in locked.now.log) locked.now.state number) }
     ensures ok { IfOk result (λ n. ((newest_in locked.now.log).durable ≡ n) × (number ≤ n)) }
     ensures refused { IfErr result
-        (λ fault. IsSyncRefusedAt locked.now.standing (newest_in locked.now.log) number fault) }
+        (λ fault. IsSyncRefusedAt locked.now.state (newest_in locked.now.log) number fault) }
     ensures seen { Looks result me.old locked.now.log me.new }
     ensures gone { result ≡ Err BookFault.Gone → ¬ (IsLevel locked.now.log me.old) }
 {
@@ -132,14 +130,14 @@ pub(crate) fn tell_durable<J: Naming, R: Wait + Drop>(
     if number <= durable {
         return Ok(durable);
     }
-    match locked.standing.fault {
+    match locked.state.fault {
         Some(fault) => Err(BookFault::Store(fault)),
         None => Err(BookFault::Closing),
     }
 }
 
 /// Tells a session that there is no store.
-pub(crate) fn tell_no_store<J: Naming, R: Wait + Drop>(
+pub(crate) fn tell_no_store<J: BookName, R: Wait + Drop>(
     locked: &LockedBook<J, R>,
     me: &mut Session,
 ) -> Result<u64, BookFault>
@@ -153,18 +151,18 @@ pub(crate) fn tell_no_store<J: Naming, R: Wait + Drop>(
 }
 
 /// Gives the reporter the newest version, where there are news. None comes where there are none, at closing.
-pub(crate) fn tell_news<J: Naming, R: Wait + Drop>(
+pub(crate) fn tell_news<J: BookName, R: Wait + Drop>(
     locked: &LockedBook<J, R>,
     me: &mut Reporter,
 ) -> Result<Option<Arc<Version, Global>>, BookFault>
     requires book { me.old.book ≡ J.book }
-    requires ready { ¬ (IsQuiet locked.now.standing me.old.given) }
+    requires ready { ¬ (IsQuiet locked.now.state me.old.given) }
     ensures some { IfOk result (λ o. IfSome o (λ version. (arc_value version ≡ newest_in locked.now.log)
         × HasHeard locked.now.log me.old × IsLog locked.now.log)) }
-    ensures news { IfOk result (λ o. IfSome o (λ _. ¬ (locked.now.standing.news ≡ me.old.given)
-        × (me.new ≡ record { book = me.old.book; log = locked.now.log; given = locked.now.standing.news }))) }
-    ensures none { IfOk result (λ o. IfNone o (IsTrue locked.now.standing.closing
-        × (locked.now.standing.news ≡ me.old.given) × (me.new ≡ me.old))) }
+    ensures news { IfOk result (λ o. IfSome o (λ _. ¬ (locked.now.state.news ≡ me.old.given)
+        × (me.new ≡ record { book = me.old.book; log = locked.now.log; given = locked.now.state.news }))) }
+    ensures none { IfOk result (λ o. IfNone o (IsTrue locked.now.state.closing
+        × (locked.now.state.news ≡ me.old.given) × (me.new ≡ me.old))) }
     ensures err { IfErr result (λ fault. (me.new ≡ me.old) × ((fault ≡ no_memory) ⊎ (fault ≡ BookFault.Gone))) }
     ensures gone { result ≡ Err BookFault.Gone → ¬ (HasHeard locked.now.log me.old) }
     ensures heard { result ≡ Err no_memory → HasHeard locked.now.log me.old }
@@ -174,54 +172,12 @@ pub(crate) fn tell_news<J: Naming, R: Wait + Drop>(
     if !me.is_level(&last.seen_log, durable) {
         return Err(BookFault::Gone);
     }
-    if me.given() == locked.standing.news {
+    if me.given() == locked.state.news {
         return Ok(None);
     }
     let Ok(version) = Arc::try_clone(&last.version) else {
         return Err(NO_MEMORY);
     };
-    me.move_on(&last.seen_log, durable, locked.standing.news);
+    me.move_on(&last.seen_log, durable, locked.state.news);
     Ok(Some(version))
-}
-
-/// Reports a number durable: one entry, or none. It answers the durable number then. Memory for the next report is taken
-/// ahead, where there is some.
-pub(crate) fn report<J: Naming, R: Wait + Drop>(
-    locked: &mut LockedBook<J, R>,
-    alloc: Global,
-    me: &mut Reporter,
-    number: u64,
-) -> Result<u64, BookFault>
-    requires book { me.old.book ≡ J.book }
-    ensures ok { IfOk result (λ m. IsReportedIn locked.old.log number locked.new.log
-        × ((newest_in locked.new.log).durable ≡ m)) }
-    ensures seen { IfOk result (λ _. HasHeard locked.old.log me.old
-        × (me.new ≡ record { book = me.old.book; log = locked.new.log; given = me.old.given })
-        × IsLog locked.new.log) }
-    ensures begun { 0 < length me.old.log }
-    ensures standing { locked.new.standing ≡ locked.old.standing }
-    ensures err { IfErr result (λ fault. (locked.new.log ≡ locked.old.log) × (me.new ≡ me.old)
-        × ((fault ≡ no_memory) ⊎ (fault ≡ BookFault.Gone))) }
-    ensures heard { result ≡ Err no_memory → HasHeard locked.old.log me.old }
-{
-    let given = me.given();
-    let last = locked.log.last();
-    if !me.is_level(&last.seen_log, last.version.durable()) {
-        return Err(BookFault::Gone);
-    }
-    let durable = locked.log.report(alloc, &mut locked.room, number)?;
-    me.move_on(&locked.log.last().seen_log, durable, given);
-    locked.room = Room::new(alloc);
-    Ok(durable)
-}
-
-/// The store told a fault.
-pub(crate) fn store_failed<J: Naming, R: Wait + Drop>(
-    locked: &mut LockedBook<J, R>,
-    fault: ToldFault,
-)
-    ensures log { locked.new.log ≡ locked.old.log }
-    ensures standing { IsAfterFailure locked.old.standing fault locked.new.standing }
-{
-    locked.standing.store_failed(fault);
 }

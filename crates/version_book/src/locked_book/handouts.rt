@@ -6,38 +6,38 @@ ghost use Rattle.book_history.specs.Fault.{no_memory};
 ghost use Rattle.version_book.specs.Free.{AllAreHeld, IsFree};
 ghost use Rattle.book_history.specs.Logs.{newest_in};
 ghost use Rattle.version_book.specs.HeldTiles.{given_back, handed_out};
-ghost use Rattle.version_book.specs.Standing.{HasHeld};
+ghost use Rattle.version_book.specs.BookState.{HasHeld};
 ghost use Rattle.version_book.specs.Jobs.{IsHandedOut, IsJob};
 ghost use Rattle.version_book.specs.Waits.{IsIdle};
 
 use crate::locked_book::LockedBook;
 use crate::locked_book::job::Job;
 use crate::pending::{free, parts};
-use arrange::tile_input::TileInput;
+use arrange::TileInput;
 use book_history::fault::{BookFault, NO_MEMORY};
-use book_history::seen_log::Naming;
+use book_history::seen_log::BookName;
 use layer_expr::name::Name;
 use plane_base::Column;
 use std::alloc::{AllocError, Global};
 use std::sync::Wait;
 
-impl<J: Naming, R: Wait + Drop> LockedBook<J, R> {
+impl<J: BookName, R: Wait + Drop> LockedBook<J, R> {
     /// Hands out a pending tile that is neither handed out nor marked. None comes where the book closes.
     pub fn take(&mut self, alloc: Global) -> Result<Option<Job>, BookFault>
-        requires ready { ¬ (IsIdle (newest_in self.old.log) self.old.standing) }
+        requires ready { ¬ (IsIdle (newest_in self.old.log) self.old.state) }
         ensures log { self.new.log ≡ self.old.log }
         ensures job { IfOk result (λ o. IfSome o
-            (λ job. IsHandedOut (newest_in self.old.log) self.old.standing.held.list.items job.name job.input)) }
+            (λ job. IsHandedOut (newest_in self.old.log) self.old.state.held.list.items job.name job.input)) }
         ensures at { IfOk result (λ o. IfSome o (λ job. (job.book ≡ J.book) × (job.log ≡ self.old.log) × IsJob job)) }
-        ensures standing { IfOk result (λ o. IfSome o
-            (λ job. HasHeld self.old.standing (handed_out job.name job.input.column self.old.standing.held.list.items) self.new.standing)) }
-        ensures closing { IsTrue self.old.standing.closing → result ≡ Ok None }
-        ensures none { IfOk result (λ o. IfNone o (IsTrue self.old.standing.closing
-            × (self.new.standing ≡ self.old.standing))) }
+        ensures state { IfOk result (λ o. IfSome o
+            (λ job. HasHeld self.old.state (handed_out job.name job.input.column self.old.state.held.list.items) self.new.state)) }
+        ensures closing { IsTrue self.old.state.closing → result ≡ Ok None }
+        ensures none { IfOk result (λ o. IfNone o (IsTrue self.old.state.closing
+            × (self.new.state ≡ self.old.state))) }
         ensures err { IfErr result (λ fault. (fault ≡ no_memory)
-            × HasHeld self.old.standing self.old.standing.held.list.items self.new.standing) }
+            × HasHeld self.old.state self.old.state.held.list.items self.new.state) }
     {
-        if self.standing.closing {
+        if self.state.closing {
             return Ok(None);
         }
         let Some(tile) = self.free() else {
@@ -48,7 +48,7 @@ impl<J: Naming, R: Wait + Drop> LockedBook<J, R> {
             return Err(NO_MEMORY);
         };
         let job = Job::new(name, input, self.log.last().seen_log.again());
-        if self.standing.held.hand_out(job.name(), column).is_err() {
+        if self.state.held.hand_out(job.name(), column).is_err() {
             job.end();
             return Err(NO_MEMORY);
         }
@@ -62,20 +62,20 @@ impl<J: Naming, R: Wait + Drop> LockedBook<J, R> {
     pub fn give_back(&mut self, job: Job)
         requires { job.book ≡ J.book }
         ensures log { self.new.log ≡ self.old.log }
-        ensures standing { HasHeld self.old.standing (given_back job.name job.input.column self.old.standing.held.list.items) self.new.standing }
+        ensures state { HasHeld self.old.state (given_back job.name job.input.column self.old.state.held.list.items) self.new.state }
     {
-        self.standing.give_back(job.name(), job.input().column());
+        self.state.give_back(job.name(), job.input().column());
         job.end();
     }
 
     /// A pending tile that is neither handed out nor marked.
     pub fn free(&self) -> Option<(&Name, Column)>
         ensures some { IfSome result
-            (λ r. IsFree (newest_in self.now.log) self.now.standing.held.list.items r.0.now r.1) }
-        ensures none { IfNone result (AllAreHeld (newest_in self.now.log) self.now.standing.held.list.items) }
+            (λ r. IsFree (newest_in self.now.log) self.now.state.held.list.items r.0.now r.1) }
+        ensures none { IfNone result (AllAreHeld (newest_in self.now.log) self.now.state.held.list.items) }
     {
         let (near, from) = self.near;
-        free(&self.log.last().version, &self.standing.held, near, from)
+        free(&self.log.last().version, &self.state.held, near, from)
     }
 
     // A copy of the name of a derived layer, and the input of its tile.

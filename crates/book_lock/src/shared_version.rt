@@ -10,9 +10,8 @@ use book_history::fault::{BookFault, NO_MEMORY};
 use layer_expr::name::Name;
 use std::alloc::Global;
 use std::sync::Arc;
-use tile_build::built::Built;
-use versions::finishing::Finish;
-use versions::version::Version;
+use tile_build::Built;
+use versions::{Finish, Version};
 
 /// A version for as many as ask for it.
 pub(crate) fn shared(alloc: Global, version: Version) -> Result<Arc<Version, Global>, BookFault>

@@ -4,7 +4,7 @@ use Rattle.overlay_terms.specs.Histories.{FollowsTile}
 use Rattle.versions.specs.Finish.{IfKept, IsAwaited, IsKept}
 use Rattle.versions.specs.declared.fault.VersionFault.{VersionFault}
 use Rattle.book_history.specs.declared.fault.BookFault.TheVariants as fault
-use Rattle.book_lock.proofs.making.kept_version.Goals as goal
+use Rattle.book_lock.proofs.shared_version.kept_version.Goals as goal
 
 pub returns-in_err-shared-in-Ok-Kept-clause-some : goal.returns-in_err-shared-in-Ok-Kept-clause-some
 returns-in_err-shared-in-Ok-Kept-clause-some c = IfOk-from_err _ _ c.from_residual.ensures.0

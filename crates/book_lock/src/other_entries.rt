@@ -5,18 +5,18 @@ ghost use Rattle.book_history.specs.Logs.{newest_in};
 ghost use Rattle.book_lock.specs.Steps.{IsFinishedIn, IsReportedIn};
 
 use crate::locked_log::LockedLog;
-use crate::making::{kept_version, reported_version};
 use crate::room::Room;
+use crate::shared_version::{kept_version, reported_version};
 use book_history::entry::Cause;
 use book_history::fault::BookFault;
-use book_history::seen_log::Naming;
+use book_history::seen_log::BookName;
 use layer_expr::name::Name;
 use std::alloc::Global;
 use std::sync::Wait;
-use tile_build::built::Built;
-use versions::version::Version;
+use tile_build::Built;
+use versions::Version;
 
-impl<J: Naming, R: Wait + Drop> LockedLog<J, R> {
+impl<J: BookName, R: Wait + Drop> LockedLog<J, R> {
     /// Keeps a built tile where it is awaited: the one entry that this adds, or nothing.
     pub fn keep(&mut self, alloc: Global, name: &Name, built: &Built) -> Result<bool, BookFault>
         ensures kept { IfOk result (λ is_kept. IsFinishedIn self.old name.now built.now.0 built.now.1 is_kept self.new) }

@@ -1,8 +1,8 @@
 //! Where the book stands beside its log.
 ghost use Rattle.std.specs.Prelude.{◌≡◌};
 ghost use Rattle.version_book.specs.HeldTiles.{given_back, unmarked_of};
-ghost use Rattle.version_book.specs.Standing.{HasHeld, IsAfterClosing, IsAfterCommand, IsAfterFailure, IsAfterFinish};
-ghost use Rattle.version_book.specs.Standing.{IsFresh, left_over, told};
+ghost use Rattle.version_book.specs.BookState.{HasHeld, IsAfterClosing, IsAfterCommand, IsAfterFailure, IsAfterFinish};
+ghost use Rattle.version_book.specs.BookState.{IsFresh, left_over, told};
 
 use crate::held_tiles::HeldTiles;
 use book_history::fault::ToldFault;
@@ -12,7 +12,7 @@ use std::alloc::Global;
 
 /// What lies under the lock beside the log.
 #[derive(Drop)]
-pub struct Standing {
+pub struct BookState {
     pub held: HeldTiles,
     /// What the store told, while it stands.
     pub fault: Option<ToldFault>,
@@ -23,12 +23,12 @@ pub struct Standing {
     pub news: u64,
 }
 
-impl Standing {
+impl BookState {
     /// No tile is handed out or marked, and the store told of nothing.
-    pub fn new(alloc: Global) -> Standing
+    pub fn new(alloc: Global) -> BookState
         ensures { IsFresh result }
     {
-        Standing {
+        BookState {
             held: HeldTiles::new(alloc),
             fault: None,
             resting: false,

@@ -2,7 +2,7 @@ use Rattle.std.proofs.Common.{inl, inr, rules, refl, ap, sym, ◌∙◌}
 use Rattle.book_history.specs.Logs.{newest_in}
 use Rattle.versions.specs.Building.{wait_refusal, IsBuilt}
 use Rattle.version_book.proofs.Told.{gone_err, gone_looks, gone_ok, gone_told, keeps_marks, loses_marks, not_false, test_fails, test_holds}
-use Rattle.version_book.proofs.locked_book.telling.tell_built.Goals as goal
+use Rattle.version_book.proofs.locked_book.waits.tell_built.Goals as goal
 
 pub returns-in_err-number : goal.returns-in_err-number
 returns-in_err-number g c =
@@ -14,14 +14,14 @@ returns-in_err-number g c =
       seen = gone_looks r _ _ _ _ c.from_residual.ensures.1 gone.0 gone.1;
       gone = λ _. c.in_err-number.ensures.behind;
       log = refl;
-      standing = gone_told r _ (newest_in c.args.locked.now.log) _ c.args.name.now c.from_residual.ensures.1 gone.0;
+      state = gone_told r _ (newest_in c.args.locked.now.log) _ c.args.name.now c.from_residual.ensures.1 gone.0;
     }
 
 pub returns-in-Some : goal.returns-in-Some
 returns-in-Some g c =
     let name = c.args.name.now in
     let some = ap (λ v. wait_refusal v name) (sym (c.deref.ensures ∙ c.last.ensures.version)) ∙ sym c.wait_refusal.ensures ∙ c.in-Some.is in
-    record { ok = tt; refused = inl some; seen = inr (λ is. absurd (cc), c.in_ok-number.ensures.ok.0); gone = λ is. absurd (cc); log = refl; standing = keeps_marks _ _ _ _ some refl }
+    record { ok = tt; refused = inl some; seen = inr (λ is. absurd (cc), c.in_ok-number.ensures.ok.0); gone = λ is. absurd (cc); log = refl; state = keeps_marks _ _ _ _ some refl }
 
 pub returns-then-is_built : goal.returns-then-is_built
 returns-then-is_built g c =
@@ -38,7 +38,7 @@ returns-then-is_built g c =
       seen = c.in_ok-number.ensures.ok.0;
       gone = λ is. absurd (cc);
       log = refl;
-      standing = refl;
+      state = refl;
     }
 
 pub returns-then-has_mark : goal.returns-then-has_mark
@@ -52,7 +52,7 @@ returns-then-has_mark g c =
       seen = inr (λ is. absurd (cc), c.in_ok-number.ensures.ok.0);
       gone = λ is. absurd (cc);
       log = refl;
-      standing = loses_marks _ _ _ none (sym c.has_mark.ensures ∙ c.if-has_mark.true, search rules);
+      state = loses_marks _ _ _ none (sym c.has_mark.ensures ∙ c.if-has_mark.true, search rules);
     }
 
 pub returns : goal.returns
@@ -72,5 +72,5 @@ returns g c =
       seen = inr (λ is. absurd (cc), c.in_ok-number.ensures.ok.0);
       gone = λ is. absurd (cc);
       log = refl;
-      standing = (refl, unmarked);
+      state = (refl, unmarked);
     }

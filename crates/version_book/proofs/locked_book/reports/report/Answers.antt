@@ -8,7 +8,7 @@ use Rattle.book_history.proofs.Fronts.{prefix_trans}
 use Rattle.book_history.proofs.Gone.{passed}
 use Rattle.book_lock.proofs.Growing.{report_longer}
 use Rattle.version_book.proofs.Told.{durable_there, moved}
-use Rattle.version_book.proofs.locked_book.telling.report.Goals as goal
+use Rattle.version_book.proofs.locked_book.reports.report.Goals as goal
 
 pub is_level-requires : goal.is_level-requires
 is_level-requires g c =
@@ -32,7 +32,7 @@ move_on-requires g c =
 
 pub returns-then-not-is_level : goal.returns-then-not-is_level
 returns-then-not-is_level g c =
-    record { ok = tt; seen = tt; begun = c.given-given.ensures.begun; standing = refl; err = (refl, refl, inr refl); heard = λ is. absurd (cc) }
+    record { ok = tt; seen = tt; begun = c.given-given.ensures.begun; state = refl; err = (refl, refl, inr refl); heard = λ is. absurd (cc) }
 
 pub returns-in_err-durable : goal.returns-in_err-durable
 returns-in_err-durable g c =
@@ -43,7 +43,7 @@ returns-in_err-durable g c =
       ok = IfOk-from_err _ _ failed.0;
       seen = IfOk-from_err _ _ failed.0;
       begun = c.given-given.ensures.begun;
-      standing = refl;
+      state = refl;
       err = passed _ _ _ failed.1 (e.0, refl, e.1);
       heard = λ _. subst (λ l. HasHeard l c.args.me.now) log (c.if-not-is_level.ensures.0 refl);
     }
@@ -60,7 +60,7 @@ returns g c =
         last.log,
       );
       begun = c.given-given.ensures.begun;
-      standing = refl;
+      state = refl;
       err = tt;
       heard = λ is. absurd (cc);
     }

@@ -2,7 +2,7 @@ use Rattle.std.proofs.Common.{inl, inr, rules, refl, ap, sym, ◌∙◌, subst}
 use mathlib.Core.Bool.{true≢false}
 use Rattle.version_book.specs.Heard.{HasHeard}
 use Rattle.version_book.proofs.Told.{durable_there, moved}
-use Rattle.version_book.proofs.locked_book.telling.tell_news.Goals as goal
+use Rattle.version_book.proofs.locked_book.waits.tell_news.Goals as goal
 
 pub is_level-requires : goal.is_level-requires
 is_level-requires g c =

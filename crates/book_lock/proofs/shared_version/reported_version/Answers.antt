@@ -3,7 +3,7 @@ use Rattle.std.proofs.lemmas.Result.{IfOk-weaker}
 use Rattle.overlay_terms.specs.Histories.{IsReported}
 use Rattle.versions.specs.declared.fault.VersionFault.{VersionFault}
 use Rattle.book_history.specs.declared.fault.BookFault.TheVariants as fault
-use Rattle.book_lock.proofs.making.reported_version.Goals as goal
+use Rattle.book_lock.proofs.shared_version.reported_version.Goals as goal
 
 pub returns-in-Ok : goal.returns-in-Ok
 returns-in-Ok c =

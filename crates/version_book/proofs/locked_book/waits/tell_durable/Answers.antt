@@ -1,7 +1,7 @@
 use Rattle.std.proofs.Common.{◌<◌, inr, ap, sym, ◌∙◌, arith}
 use Rattle.book_history.specs.Logs.{newest_in}
 use Rattle.version_book.proofs.Told.{gone_err, gone_looks, gone_ok, not_false}
-use Rattle.version_book.proofs.locked_book.telling.tell_durable.Goals as goal
+use Rattle.version_book.proofs.locked_book.waits.tell_durable.Goals as goal
 
 pub returns-in_err-show : goal.returns-in_err-show
 returns-in_err-show g c =

@@ -1,0 +1,57 @@
+//! What the reporter tells the book, under the lock.
+ghost use Rattle.std.specs.Prelude.{◌≡◌, ◌⊎◌, ◌<◌, length, IfOk, IfErr, Err};
+ghost use Rattle.book_history.specs.Fault.{no_memory};
+ghost use Rattle.book_history.specs.Logs.{newest_in, IsLog};
+ghost use Rattle.version_book.specs.BookState.{IsAfterFailure};
+ghost use Rattle.book_lock.specs.Steps.{IsReportedIn};
+ghost use Rattle.version_book.specs.Heard.{HasHeard};
+
+use crate::locked_book::LockedBook;
+use crate::reporter::Reporter;
+use book_history::fault::{BookFault, ToldFault};
+use book_history::seen_log::BookName;
+use book_lock::room::Room;
+use std::alloc::Global;
+use std::sync::Wait;
+
+/// Reports a number durable: one entry, or none. It answers the durable number then. Memory for the next report is taken
+/// ahead, where there is some.
+pub(crate) fn report<J: BookName, R: Wait + Drop>(
+    locked: &mut LockedBook<J, R>,
+    alloc: Global,
+    me: &mut Reporter,
+    number: u64,
+) -> Result<u64, BookFault>
+    requires book { me.old.book ≡ J.book }
+    ensures ok { IfOk result (λ m. IsReportedIn locked.old.log number locked.new.log
+        × ((newest_in locked.new.log).durable ≡ m)) }
+    ensures seen { IfOk result (λ _. HasHeard locked.old.log me.old
+        × (me.new ≡ record { book = me.old.book; log = locked.new.log; given = me.old.given })
+        × IsLog locked.new.log) }
+    ensures begun { 0 < length me.old.log }
+    ensures state { locked.new.state ≡ locked.old.state }
+    ensures err { IfErr result (λ fault. (locked.new.log ≡ locked.old.log) × (me.new ≡ me.old)
+        × ((fault ≡ no_memory) ⊎ (fault ≡ BookFault.Gone))) }
+    ensures heard { result ≡ Err no_memory → HasHeard locked.old.log me.old }
+{
+    let given = me.given();
+    let last = locked.log.last();
+    if !me.is_level(&last.seen_log, last.version.durable()) {
+        return Err(BookFault::Gone);
+    }
+    let durable = locked.log.report(alloc, &mut locked.room, number)?;
+    me.move_on(&locked.log.last().seen_log, durable, given);
+    locked.room = Room::new(alloc);
+    Ok(durable)
+}
+
+/// The store told a fault.
+pub(crate) fn store_failed<J: BookName, R: Wait + Drop>(
+    locked: &mut LockedBook<J, R>,
+    fault: ToldFault,
+)
+    ensures log { locked.new.log ≡ locked.old.log }
+    ensures state { IsAfterFailure locked.old.state fault locked.new.state }
+{
+    locked.state.store_failed(fault);
+}
