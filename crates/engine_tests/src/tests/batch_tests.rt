@@ -1,7 +1,6 @@
 //! Batches: their answers, and crashes at each device call of the commit of one.
-use crate::tests::testing::{
-    CHOICES, CREATED, SHIFTED, SQUARE, Words, created, drive, joined, recovered,
-};
+use crate::tests::machine::{created, recovered};
+use crate::tests::testing::{CHOICES, CREATED, SHIFTED, SQUARE, Words, joined};
 use disk_model::mem_disk::MemDisk;
 use overlay_engine::step::Reply;
 use std::alloc::Global;
@@ -25,14 +24,14 @@ const ANSWERS: &[&[Reply]] = &[
 /// The number of the version that a disk recovers to, and how many layers it has.
 fn left(alloc: Global, disk: MemDisk) -> Result<(u64, usize), Fail> {
     let engine = recovered(alloc, disk)?;
-    Ok((engine.version().number(), engine.version().layers().len()))
+    Ok((engine.number(), engine.len()))
 }
 
 #[test]
 fn a_crash_at_each_call_leaves_no_layer_of_a_batch_or_all(rt: HostRuntime) -> Result<(), Fail> {
     let mut engine = created(rt.alloc(), 100)?;
     let steps = joined(rt.alloc(), STEPS)?;
-    let replies = drive(rt.alloc(), &mut engine, &steps)?;
+    let replies = engine.drive(rt.alloc(), &steps)?;
     let answers = joined(rt.alloc(), ANSWERS)?;
     assert!(rt; replies.as_slice() == answers.as_slice());
     let disk = engine.into_disk();
@@ -74,8 +73,8 @@ const BATCH_ANSWERS: &[Reply] = &[
 #[test]
 fn a_batch_is_refused_whole_or_raises_the_number_by_one(rt: HostRuntime) -> Result<(), Fail> {
     let mut engine = created(rt.alloc(), 100)?;
-    let replies = drive(rt.alloc(), &mut engine, BATCHES)?;
+    let replies = engine.drive(rt.alloc(), BATCHES)?;
     assert!(rt; replies.as_slice() == BATCH_ANSWERS);
-    assert_eq!(rt; engine.version().layers().len(), 1);
+    assert_eq!(rt; engine.len(), 1);
     Ok(())
 }

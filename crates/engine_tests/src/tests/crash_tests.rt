@@ -1,7 +1,6 @@
 //! Crashes at each device call of two commits, and of the recoveries after them.
-use crate::tests::testing::{
-    CHOICES, CREATED, SHIFTED, SQUARE, Words, created, drive, joined, recovered,
-};
+use crate::tests::machine::{created, recovered};
+use crate::tests::testing::{CHOICES, CREATED, SHIFTED, SQUARE, Words, joined};
 use disk_model::image::Choice;
 use disk_model::mem_disk::MemDisk;
 use overlay_engine::step::Reply;
@@ -51,10 +50,9 @@ fn left_after(calls: usize, choice: Choice) -> usize {
 /// Whether a disk recovers to just this version, all of it durable; and the disk then.
 fn is_left(alloc: Global, disk: MemDisk, number: usize) -> Result<(bool, MemDisk), Fail> {
     let engine = recovered(alloc, disk)?;
-    let version = engine.version();
-    let listed = version.layers().list(alloc)?;
-    let same = version.number() == number as u64
-        && version.durable() == number as u64
+    let listed = engine.listed(alloc)?;
+    let same = engine.number() == number as u64
+        && engine.durable() == number as u64
         && LAYERS
             .get(number)
             .is_some_and(|text| text.as_bytes() == listed.as_slice());
@@ -86,7 +84,7 @@ fn recovers(alloc: Global, disk: &MemDisk, calls: usize, choice: Choice) -> Resu
 fn a_crash_at_each_call_leaves_the_version_before_or_after(rt: HostRuntime) -> Result<(), Fail> {
     let mut engine = created(rt.alloc(), 100)?;
     let steps = joined(rt.alloc(), STEPS)?;
-    let replies = drive(rt.alloc(), &mut engine, &steps)?;
+    let replies = engine.drive(rt.alloc(), &steps)?;
     let answers = joined(rt.alloc(), ANSWERS)?;
     assert!(rt; replies.as_slice() == answers.as_slice());
     let disk = engine.into_disk();

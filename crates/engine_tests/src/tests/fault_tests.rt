@@ -1,7 +1,7 @@
 //! What an engine answers where a device call fails.
-use crate::tests::testing::{CREATED, SQUARE, Words, drive, recovered};
+use crate::tests::machine::{Machine, recovered};
+use crate::tests::testing::{CREATED, SQUARE, Words};
 use disk_model::mem_disk::MemDisk;
-use overlay_engine::engine::Engine;
 use overlay_engine::step::Reply;
 use std::alloc::Global;
 use std::test::Fail;
@@ -26,21 +26,18 @@ const ANSWERS: &[Reply] = &[
 ];
 
 /// An engine over an empty file on a disk whose third call behind those that make the store fails.
-fn failing(alloc: Global) -> Result<Engine<FaultDisk<MemDisk>>, Fail> {
+fn failing(alloc: Global) -> Result<Machine<FaultDisk<MemDisk>>, Fail> {
     let disk = MemDisk::new(alloc, Vec::new(alloc))?;
-    match Engine::create(alloc, FaultDisk::new(disk, CREATED as u64 + 2), 100) {
-        Ok(engine) => Ok(engine),
-        Err(refused) => Err(Fail::from(refused.fault)),
-    }
+    Machine::over(alloc, FaultDisk::new(disk, CREATED as u64 + 2), 100)
 }
 
 #[test]
 fn a_commit_whose_third_call_fails_leaves_the_version_before(rt: HostRuntime) -> Result<(), Fail> {
     let mut engine = failing(rt.alloc())?;
-    let replies = drive(rt.alloc(), &mut engine, STEPS)?;
+    let replies = engine.drive(rt.alloc(), STEPS)?;
     assert!(rt; replies.as_slice() == ANSWERS);
     // The disk works again.
     let left = recovered(rt.alloc(), engine.into_disk().into_disk())?;
-    assert_eq!(rt; left.version().number(), 0);
+    assert_eq!(rt; left.number(), 0);
     Ok(())
 }

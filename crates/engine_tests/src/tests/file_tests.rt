@@ -1,5 +1,6 @@
 //! Files that are no store, or that a part is cut off.
-use crate::tests::testing::{SQUARE, Words, created, drive, joined};
+use crate::tests::machine::created;
+use crate::tests::testing::{SQUARE, Words, joined};
 use commit_plan::fault::StoreFault;
 use disk_model::mem_disk::{Call, MemDisk};
 use overlay_engine::engine::Engine;
@@ -23,7 +24,7 @@ const FRONTS: [(usize, Damage, u8); 3] = [
 fn stored(alloc: Global) -> Result<Vec<u8>, Fail> {
     let mut engine = created(alloc, 100)?;
     let steps = joined(alloc, COMMIT)?;
-    drive(alloc, &mut engine, &steps)?;
+    engine.drive(alloc, &steps)?;
     Ok(engine.into_disk().bytes().to_vec(alloc)?)
 }
 

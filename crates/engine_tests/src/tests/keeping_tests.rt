@@ -1,13 +1,12 @@
 //! Which records a commit writes: those that the store does not hold already.
-use crate::tests::testing::{CREATED, SHIFTED, SMALLER, SQUARE, Words, created, drive, recovered};
+use crate::tests::machine::{Machine, created, recovered};
+use crate::tests::testing::{CREATED, SHIFTED, SMALLER, SQUARE, Words};
 use disk_model::image::Choice;
 use disk_model::mem_disk::{Call, MemDisk};
 use layer_expr::name::Name;
-use overlay_engine::engine::Engine;
 use overlay_engine::step::Reply;
 use std::alloc::Global;
 use std::test::Fail;
-use version_core::Answers;
 use version_core::verifying::Verdict;
 
 /// How many bytes a block has, and how many of them the slots take.
@@ -108,9 +107,9 @@ fn extents_of(alloc: Global, calls: &[Call]) -> Result<Vec<usize>, Fail> {
 }
 
 /// Makes the steps of a line and a commit, and tells whether the last reply is that it is done.
-fn is_done(alloc: Global, engine: &mut Engine<MemDisk>, line: &Line) -> Result<bool, Fail> {
+fn is_done(alloc: Global, engine: &mut Machine<MemDisk>, line: &Line) -> Result<bool, Fail> {
     let steps = with_calls(alloc, line.0, line.1)?;
-    let replies = drive(alloc, engine, &steps)?;
+    let replies = engine.drive(alloc, &steps)?;
     Ok(matches!(replies.last(), Some(Reply::Done(_))))
 }
 
@@ -129,10 +128,9 @@ fn are_written(alloc: Global, lines: &[Line], calls: &[Call]) -> Result<bool, Fa
 }
 
 /// The layers of an engine, and whether it has the tile of I in column 16: the one that the lists build.
-fn held(alloc: Global, engine: &Engine<MemDisk>) -> Result<(Vec<u8>, bool), Fail> {
-    let version = engine.version();
-    let tile = version.tile(&Name::new(alloc, b"I")?, 16);
-    Ok((version.layers().list(alloc)?, tile.is_some()))
+fn held(alloc: Global, engine: &Machine<MemDisk>) -> Result<(Vec<u8>, bool), Fail> {
+    let has_tile = engine.has_tile(&Name::new(alloc, b"I")?, 16);
+    Ok((engine.listed(alloc)?, has_tile))
 }
 
 /// Whether a disk recovers to just these layers and this tile, which is right.
@@ -148,7 +146,7 @@ fn is_recovered(
         return Ok(false);
     }
     let name = Name::new(alloc, b"I")?;
-    Ok(!has_tile || engine.version().verify(alloc, &name, 16)? == Verdict::Same)
+    Ok(!has_tile || engine.verify(alloc, &name, 16)? == Verdict::Same)
 }
 
 /// Whether the commits of some lines write so, and what they write and keep is recovered.
@@ -192,7 +190,7 @@ fn six_blocks_are_enough_for_a_layer_beside_another(rt: HostRuntime) -> Result<(
         let line: Line = (&[Words::Put("A", SQUARE)], 8, &[]);
         assert!(rt; is_done(rt.alloc(), &mut engine, &line)?);
         let steps = with_calls(rt.alloc(), &[Words::Put("B", SHIFTED)], calls)?;
-        let replies = drive(rt.alloc(), &mut engine, &steps)?;
+        let replies = engine.drive(rt.alloc(), &steps)?;
         assert!(rt; replies.last().copied() == Some(reply));
     }
     Ok(())

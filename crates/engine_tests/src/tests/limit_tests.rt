@@ -1,5 +1,6 @@
 //! Limits of blocks and of numbers.
-use crate::tests::testing::{CREATED, SQUARE, Words, created, drive, joined, recovered};
+use crate::tests::machine::{created, recovered};
+use crate::tests::testing::{CREATED, SQUARE, Words, joined};
 use disk_model::disk::Disk;
 use disk_model::mem_disk::{Call, MemDisk};
 use overlay_engine::engine::Engine;
@@ -29,7 +30,7 @@ fn four_blocks_are_too_few_for_a_layer_and_five_are_enough(rt: HostRuntime) -> R
     ] {
         let mut engine = created(rt.alloc(), max_blocks)?;
         let steps = joined(rt.alloc(), COMMIT)?;
-        let replies = drive(rt.alloc(), &mut engine, &steps)?;
+        let replies = engine.drive(rt.alloc(), &steps)?;
         assert!(rt; replies.first().copied() == Some(Reply::Accepted(1)));
         assert!(rt; replies.get(1).copied() == Some(first));
         assert!(rt; replies.last().copied() == Some(last));
@@ -44,9 +45,9 @@ fn the_greatest_numbers_open_and_go_no_further(rt: HostRuntime) -> Result<(), Fa
     disk.write_at(28, &[64, 0, 0, 0, 0, 0, 0, 0, 64, 0, 0, 0, 0, 0, 0, 0])?;
     let file = disk.bytes().to_vec(rt.alloc())?;
     let mut engine = recovered(rt.alloc(), MemDisk::new(rt.alloc(), file)?)?;
-    assert_eq!(rt; engine.version().number(), 1 << 62);
+    assert_eq!(rt; engine.number(), 1 << 62);
     let steps = &[Words::Put("A", SQUARE), Words::Device];
-    let replies = drive(rt.alloc(), &mut engine, steps)?;
+    let replies = engine.drive(rt.alloc(), steps)?;
     assert!(rt; replies.as_slice() == [Reply::Refused(16), Reply::Refused(36)].as_slice());
     for call in engine.into_disk().calls() {
         assert!(rt; !matches!(call, Call::Write(_, _)));

@@ -1,5 +1,6 @@
 //! A file of format 1: it opens with its layers and no tile, and the next commit makes it one of format 2.
-use crate::tests::testing::{CHOICES, Words, drive, joined, recovered};
+use crate::tests::machine::{Machine, recovered};
+use crate::tests::testing::{CHOICES, Words, joined};
 use disk_model::mem_disk::MemDisk;
 use overlay_engine::step::Reply;
 use std::alloc::Global;
@@ -89,17 +90,22 @@ fn stands(disk: &MemDisk, part: Part) -> bool {
         == Some(part.1)
 }
 
-/// Whether a disk recovers to version 2 with A and I and no tile, all of it durable; and the disk then.
-fn is_left(alloc: Global, disk: MemDisk) -> Result<(bool, MemDisk), Fail> {
-    let engine = recovered(alloc, disk)?;
-    let version = engine.version();
-    let numbers = version.number() == 2 && version.durable() == 2;
-    let listed = version.layers().list(alloc)?;
-    let pending = version.pending(alloc)?;
+/// Whether all tiles of I are to be built, and no other.
+fn lacks_tiles(alloc: Global, engine: &Machine<MemDisk>) -> Result<bool, Fail> {
+    let pending = engine.pending(alloc)?;
     let mut columns = pending.len() == 33;
     for (column, (name, number)) in pending.iter().enumerate() {
         columns = columns && name.bytes() == b"I".as_slice() && usize::from(*number) == column;
     }
+    Ok(columns)
+}
+
+/// Whether a disk recovers to version 2 with A and I and no tile, all of it durable; and the disk then.
+fn is_left(alloc: Global, disk: MemDisk) -> Result<(bool, MemDisk), Fail> {
+    let engine = recovered(alloc, disk)?;
+    let numbers = engine.number() == 2 && engine.durable() == 2;
+    let listed = engine.listed(alloc)?;
+    let columns = lacks_tiles(alloc, &engine)?;
     Ok((
         numbers && columns && listed.as_slice() == LAYERS,
         engine.into_disk(),
@@ -145,7 +151,7 @@ const COMMITTED: &[Part] = &[
 /// Whether the commit to an old file answers so, and leaves its parts; and the disk then.
 fn is_committed(alloc: Global, parts: &[Part]) -> Result<(bool, MemDisk), Fail> {
     let mut engine = recovered(alloc, disk_of(alloc, parts)?)?;
-    let replies = drive(alloc, &mut engine, &[Words::Device; COMMIT])?;
+    let replies = engine.drive(alloc, &[Words::Device; COMMIT])?;
     let answers = joined(alloc, ANSWERS)?;
     let disk = engine.into_disk();
     let mut is = replies.as_slice() == answers.as_slice();

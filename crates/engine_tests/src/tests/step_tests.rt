@@ -1,5 +1,6 @@
 //! Answers to lists of steps.
-use crate::tests::testing::{SHIFTED, SMALLER, SQUARE, Words, created, drive};
+use crate::tests::machine::created;
+use crate::tests::testing::{SHIFTED, SMALLER, SQUARE, Words};
 use overlay_engine::step::Reply;
 use std::test::Fail;
 
@@ -31,7 +32,7 @@ const ANSWERS: &[Reply] = &[
 #[test]
 fn a_result_that_is_overtaken_is_stale_and_the_next_is_kept(rt: HostRuntime) -> Result<(), Fail> {
     let mut engine = created(rt.alloc(), 100)?;
-    let replies = drive(rt.alloc(), &mut engine, OVERTAKEN)?;
+    let replies = engine.drive(rt.alloc(), OVERTAKEN)?;
     assert!(rt; replies.as_slice() == ANSWERS);
     Ok(())
 }

@@ -1,13 +1,10 @@
-//! Engines for the tests, and steps by their texts.
-use disk_model::disk::Disk;
+//! Steps by their texts, and what tests share.
 use disk_model::image::Choice;
-use disk_model::mem_disk::MemDisk;
 use layer_book::batch::Batch;
 use layer_book::command::Command;
 use layer_expr::name::Name;
 use layer_expr::reading::read_expr;
-use overlay_engine::engine::Engine;
-use overlay_engine::step::{Reply, Step};
+use overlay_engine::step::Step;
 use std::alloc::Global;
 use std::sync::Arc;
 use std::test::Fail;
@@ -91,7 +88,8 @@ fn step_of(alloc: Global, words: Words) -> Result<Step, Fail> {
     }
 }
 
-fn steps_of(alloc: Global, list: &[Words]) -> Result<Vec<Step>, Fail> {
+/// The steps in turn.
+pub fn steps_of(alloc: Global, list: &[Words]) -> Result<Vec<Step>, Fail> {
     let mut steps = Vec::new(alloc);
     for &words in list {
         steps.push(step_of(alloc, words)?)?;
@@ -106,30 +104,4 @@ pub fn joined<T: Copy>(alloc: Global, lists: &[&[T]]) -> Result<Vec<T>, Fail> {
         all.extend_from_slice(list)?;
     }
     Ok(all)
-}
-
-/// Makes steps, one after the other, and gives the answers.
-pub fn drive<D: Disk>(
-    alloc: Global,
-    engine: &mut Engine<D>,
-    list: &[Words],
-) -> Result<Vec<Reply>, Fail> {
-    let steps = steps_of(alloc, list)?;
-    Ok(engine.drive(alloc, &steps)?)
-}
-
-/// A new engine over an empty file.
-pub fn created(alloc: Global, max_blocks: u32) -> Result<Engine<MemDisk>, Fail> {
-    match Engine::create(alloc, MemDisk::new(alloc, Vec::new(alloc))?, max_blocks) {
-        Ok(engine) => Ok(engine),
-        Err(refused) => Err(Fail::from(refused.fault)),
-    }
-}
-
-/// The engine of a file that a crash has left.
-pub fn recovered(alloc: Global, disk: MemDisk) -> Result<Engine<MemDisk>, Fail> {
-    match Engine::recover(alloc, disk, 100) {
-        Ok(engine) => Ok(engine),
-        Err(refused) => Err(Fail::from(refused.fault)),
-    }
 }
