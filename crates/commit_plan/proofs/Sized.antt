@@ -150,9 +150,13 @@ module _ (live : LiveContent) where
   pub layers_whole : (layers : List Layer) (rows : List (List (Option Named))) (n : ℕ) → n ≡ length layers
       → sizes_of_layers live (take n layers) (take n rows) ≡ sizes_of_layers live layers rows
   layers_whole layers rows n all = ap (λ m. sizes_of_layers live (take m layers) (take m rows)) all ∙ by_layers layers rows where
+    without_rows : (ls : List Layer) → sizes_of_layers live (take (length ls) ls) [] ≡ sizes_of_layers live ls []
+    without_rows [] = refl
+    without_rows (l ∷ ls) = ap (λ (ns : List ℕ). own_sizes live l ++ ns) (without_rows ls)
+
     by_layers : (ls : List Layer) (rs : List (List (Option Named))) → sizes_of_layers live (take (length ls) ls) (take (length ls) rs) ≡ sizes_of_layers live ls rs
     by_layers [] rs = refl
-    by_layers (l ∷ ls) [] = refl
+    by_layers (l ∷ ls) [] = ap (λ (ns : List ℕ). own_sizes live l ++ ns) (without_rows ls)
     by_layers (l ∷ ls) (r ∷ rs) = ap (λ (ns : List ℕ). layer_sizes live l r ++ ns) (by_layers ls rs)
 
   module _ (given : List runs.Extent) (limit : ℕ) (layers : List Layer) (rows : List (List (Option Named))) (i : ℕ) (layer : Layer) (row : List (Option Named))

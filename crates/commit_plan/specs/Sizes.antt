@@ -46,10 +46,10 @@ row_sizes live name k (Some tile ∷ row) = tile_sizes live name k tile ++ row_s
 abbrev pub layer_sizes : LiveContent → Layer → List (Option Named) → List ℕ
 layer_sizes live layer row = own_sizes live layer ++ row_sizes live layer.name 0 row
 
--- those of the new records of layers with their rows
+-- those of the new records of layers with their rows; of a layer without one its own record's alone
 abbrev pub sizes_of_layers : LiveContent → List Layer → List (List (Option Named)) → List ℕ
 sizes_of_layers live [] rows = []
-sizes_of_layers live (layer ∷ layers) [] = []
+sizes_of_layers live (layer ∷ layers) [] = own_sizes live layer ++ sizes_of_layers live layers []
 sizes_of_layers live (layer ∷ layers) (row ∷ rows) = layer_sizes live layer row ++ sizes_of_layers live layers rows
 
 -- those of the catalog's entry of a layer, but for where its finished tiles lie

@@ -6,7 +6,6 @@ use Rattle.std.proofs.lemmas.Bool.{both_ways, or_left}
 use Rattle.std.proofs.lemmas.List.{length-map, map-append}
 use Rattle.std.proofs.lemmas.List.Folds.{list_any-append}
 use Rattle.std.proofs.lemmas.List.Elements.{All-nil, All-cons}
-use Rattle.std.proofs.lemmas.List.FromFn.{length-map-range_with_len}
 use Rattle.overlay_terms.specs.Column.{column_count}
 use Rattle.overlay_terms.specs.Layers.{Name, Layer}
 use Rattle.overlay_terms.specs.Commands.{is_derived, stands_as_derived}
@@ -15,7 +14,7 @@ use Rattle.overlay_terms.specs.StoredTiles.{is_tile_before, AreStored}
 use Rattle.overlay_terms.specs.Orderly.{is_orderly_after}
 use Rattle.std.specs.Option.{option_map}
 use Rattle.std.proofs.lemmas.Option.{same_Some, slice_get-map}
-use Rattle.layer_tiles.specs.TileCode.{by_places, Named}
+use Rattle.layer_tiles.specs.TileCode.{Named}
 use Rattle.layer_book.specs.Layer.{IsBook}
 use Rattle.layer_book.proofs.Order.{fresh}
 use Rattle.layer_tiles.specs.Filling.{IsLonger, IsNext}
@@ -163,7 +162,3 @@ layer_more layers rows i layer row list made here there so_far e =
     e ∙ ap (λ ts. ts ++ row_tiles layer.name 0 (places_in row)) so_far
     ∙ sym (ap (λ n. tiles_of (take n layers) (take n (placed_rows rows))) (add-one i)
     ∙ tiles_more layers (placed_rows rows) i layer (places_in row) here (slice_get-map (λ r. places_in r) rows i ∙ ap (λ (o : Option (List (Option Named))). option_map (λ r. places_in r) o) there))
-
--- a row that is by its columns has a slot for each
-pub slots_by : (row : List (Option Named)) (found : ℕ → Option Tile) → places_in row ≡ row_by found → length row ≡ column_count
-slots_by row found is = sym (length-map row (λ (o : Option Named). option_map by_places o)) ∙ ap length is ∙ length-map-range_with_len found 0 column_count

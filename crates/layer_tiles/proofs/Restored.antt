@@ -1,7 +1,7 @@
--- Tiles in the order of layers and columns: what is found among them, and that it fixes them.
-use Rattle.std.specs.Prelude.{◌≡◌, ℕ, ◌<◌, ◌==◌, ◌⊎◌, nat_lt, Bool, true, false, ◌&&◌, ◌||◌, IsTrue, List, [], ◌∷◌, ◌++◌, ◌+◌, take, drop, bytes_eq, Option, Some, None, All, if◌then◌else◌}
+-- Tiles in the order of layers and columns: what is found among them fixes them.
+use Rattle.std.specs.Prelude.{◌≡◌, ℕ, ◌<◌, ◌==◌, ◌⊎◌, nat_lt, Bool, true, false, ◌&&◌, ◌||◌, IsTrue, List, [], ◌∷◌, bytes_eq, Option, Some, None, All}
 use Rattle.std.specs.List.{AllPairs, slice_index_or}
-use Rattle.std.proofs.Common.{zero, suc, length, get_or, add-one, refl, ap, sym, ◌∙◌, subst, cond, inl, inr, ⊎_elim, arith}
+use Rattle.std.proofs.Common.{zero, suc, refl, ap, sym, ◌∙◌, subst, cond, inl, inr, ⊎_elim, arith}
 use Rattle.std.proofs.lemmas.Bool.{and_parts, and_from, both_ways, eqb-true, false_from_ne_true, or_cases}
 use Rattle.std.proofs.lemmas.Bool.Decides.{nat_tests}
 use Rattle.std.proofs.lemmas.Option.{same_Some}
@@ -11,7 +11,7 @@ use Rattle.overlay_terms.specs.Histories.{Tile, Finished, tile_at}
 use Rattle.overlay_terms.specs.StoredTiles.{is_tile_before}
 use Rattle.overlay_terms.proofs.NameLemmas.{same_name, name_itself}
 use Rattle.layer_tiles.specs.Tiles.{is_of, AreDistinct}
-use Rattle.layer_tiles.proofs.TileLists.{is_of_parts, tile_at-push}
+use Rattle.layer_tiles.proofs.TileLists.{is_of_parts}
 
 -- what is true of each tile is true of one that is found
 pub found_is : (P : Finished → Type 0) (tiles : List Finished) (name : Name) (k : ℕ) (tile : Tile) → All P tiles → tile_at tiles name k ≡ Some tile → P (record { name = name; column = k; tile = tile })
@@ -23,15 +23,6 @@ found_is P (f ∷ fs) name k tile all there = split (bytes_eq f.name name && (f.
       let level : f.tile ≡ tile = cc in
       subst P (λ i. record { name = same_name f.name name parts.0 i; column = eqb-true f.column k parts.1 i; tile = level i }) (all zero f (omega arith))
   split false away next rest = next rest
-
--- what is true of each tile is true of one among them
-pub all_at : (P : Finished → Type 0) (done rest : List Finished) (f : Finished) → All P (done ++ f ∷ rest) → P f
-all_at P [] rest f all = all zero f (omega arith)
-all_at P (x ∷ xs) rest f all = all_at P xs rest f (λ k d h. all (suc k) d (omega arith))
-
--- what is true of each tile is true of the one at a place
-pub all_got : (P : Finished → Type 0) (all : List Finished) (i : ℕ) (f : Finished) → All P all → i < length all → f ≡ get_or all i f → P f
-all_got P all i f each h e = subst P (sym e) (each i f h)
 
 -- no tile stands before itself
 pub never_before : (layers : List Layer) (a b : Finished) → is_of b.name b.column a ≡ true → is_tile_before layers a b ≡ false
@@ -143,28 +134,3 @@ module _ (layers : List Layer) where
       let alike = same_head f g fs gs same (same_key f g fs gs behind_f behind_g same) in
       let later = same_in_order fs gs (behind_rest f fs first) (behind_rest g gs second) (same_tail f g fs gs behind_f behind_g alike same) in
       λ i. alike i ∷ later i
-
-  -- before a tile there is none of its layer and column
-  pub none_ahead : (done rest : List Finished) (f : Finished) → AllPairs Before (done ++ f ∷ rest) → tile_at done f.name f.column ≡ None
-  none_ahead [] rest f ordered = refl
-  none_ahead (x ∷ xs) rest f ordered =
-      let before : Before x f = all_at (Before x) xs rest f (behind_first x (xs ++ f ∷ rest) ordered) in
-      let other : is_of f.name f.column x ≡ false = false_from_ne_true (is_of f.name f.column x) (λ same. both_ways (is_tile_before layers x f) (never_before layers x f same) before) in
-      ap (λ b. cond b (Some x.tile) (tile_at xs f.name f.column)) other ∙ none_ahead xs rest f (behind_rest x (xs ++ f ∷ rest) ordered)
-
-  cut : (all : List Finished) (i : ℕ) (f : Finished) → i < length all → f ≡ get_or all i f → all ≡ take i all ++ f ∷ drop (suc i) all
-  cut [] i f h e = absurd (omega arith)
-  cut (x ∷ xs) zero f h e = λ j. sym e j ∷ xs
-  cut (x ∷ xs) (suc i) f h e = ap (λ ys. x ∷ ys) (cut xs i f (omega arith) e)
-
-  take_one : (all : List Finished) (i : ℕ) (f : Finished) → i < length all → f ≡ get_or all i f → take (suc i) all ≡ take i all ++ f ∷ []
-  take_one [] i f h e = absurd (omega arith)
-  take_one (x ∷ xs) zero f h e = λ j. sym e j ∷ []
-  take_one (x ∷ xs) (suc i) f h e = ap (λ ys. x ∷ ys) (take_one xs i f (omega arith) e)
-
-  -- one tile more of some in order is found
-  pub one_more_found : (all : List Finished) → AllPairs Before all → (i : ℕ) (f : Finished) → i < length all → f ≡ get_or all i f → (name : Name) (k : ℕ)
-      → (if bytes_eq f.name name && (f.column == k) then Some f.tile else tile_at (take i all) name k) ≡ tile_at (take (i + 1) all) name k
-  one_more_found all ordered i f h e name k =
-      let none : tile_at (take i all) f.name f.column ≡ None = none_ahead (take i all) (drop (suc i) all) f (subst (AllPairs Before) (cut all i f h e) ordered) in
-      sym (ap (λ n. tile_at (take n all) name k) (add-one i) ∙ ap (λ ts. tile_at ts name k) (take_one all i f h e) ∙ tile_at-push (take i all) f name k none)

@@ -18,7 +18,7 @@ use Rattle.layer_tiles.specs.declared.tiles.LateTile.{LateTile}
 use Rattle.layer_tiles.specs.declared.tiles.RowParts.{RowParts}
 use Rattle.layer_tiles.specs.declared.tiles.Slot.{Slot}
 use Rattle.layer_tiles.specs.Tiles.{AreFormed}
-use Rattle.layer_tiles.specs.TileCode.{finished_code, named_code, by_places, Named}
+use Rattle.layer_tiles.specs.TileCode.{named_code, by_places, Named}
 
 -- the tile in a slot
 abbrev pub tile_in_slot : Slot → Option Named
@@ -75,10 +75,6 @@ tiles_of (layer ∷ layers) (row ∷ rows) = row_tiles layer.name 0 row ++ tiles
 pub record Laid : Type 0 where
   pub layers : List Layer
   pub tiles : List Finished
-
-abbrev pub laid_code : Coded Laid
-laid_code =
-    code_by (List Layer × List Finished) (coded× (coded_list layer_code) (coded_list finished_code)) (λ l. (l.layers, l.tiles)) (λ t. record { layers = t.0; tiles = t.1 }) (λ _. refl)
 
 -- the layers and tiles of a table
 abbrev pub laid_in : List Layer → List (List (Option Tile)) → Laid

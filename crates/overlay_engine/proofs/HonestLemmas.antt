@@ -1,6 +1,5 @@
 -- What the calls that make and recover an engine promise, from what their stores promise.
-use Rattle.std.proofs.Common.{◌≡◌, ℕ, List, [], ◌++◌, Result, Ok, Err, refl, sym, ◌∙◌, ap, subst}
-use Rattle.std.specs.Prelude.{IsErrAnd}
+use Rattle.std.proofs.Common.{◌≡◌, ℕ, List, [], ◌++◌, Ok, Err, refl, sym, ◌∙◌, ap, subst}
 use Rattle.disk_model.specs.declared.disk.Disk.{Ghosts}
 use Rattle.disk_model.specs.Moments.{Leaves}
 use Rattle.overlay_terms.specs.Batches.{Batch}
@@ -83,7 +82,7 @@ module _ {D : Type 0} (g : Ghosts D) (disk : D) (stays : g.may_leave disk (g.see
   failed start least batches all =
       refused_as g start disk least batches all stays refused opens.gives opens.err.0 opens.err.1 opens.err.2 opens.stops
 
-  refuses : RecoversHonestly g disk (Err refused)
+  pub refuses : RecoversHonestly g disk (Err refused)
   refuses = record {
     ok = tt;
     err = failed;
@@ -101,8 +100,3 @@ module _ {D : Type 0} (g : Ghosts D) (disk : D) (stays : g.may_leave disk (g.see
     untouched = λ damage is. opens.untouched (λ device. absurd (cc (is, device)));
     memory = opens.memory;
   }
-
-  -- a refusal is told as it is
-  pub tells_on : (result : Result (Engine D g) (OpenFault D)) → IsErrAnd result (λ told. told ≡ refused) → RecoversHonestly g disk result
-  tells_on (Ok e) same = absurd same
-  tells_on (Err told) same = subst (λ (x : OpenFault D). RecoversHonestly g disk (Err x)) (sym same) refuses

@@ -45,13 +45,15 @@ impl<D: Disk> Engine<D> {
         ensures stored { IfOk result (λ e. e.flusher.commit.root.version ≡ e.version.number) }
         ensures jobs { IfOk result (λ e. (e.jobs.items ≡ []) × (e.next_job ≡ 0)) }
     {
-        let (commit, image) = open(alloc, disk, max_blocks)?;
-        Ok(Engine {
-            version: restored(image),
-            flusher: Flusher::new(commit),
-            jobs: Vec::new(alloc),
-            next_job: 0,
-        })
+        match open(alloc, disk, max_blocks) {
+            Ok((commit, image)) => Ok(Engine {
+                version: restored(image),
+                flusher: Flusher::new(commit),
+                jobs: Vec::new(alloc),
+                next_job: 0,
+            }),
+            Err(refused) => Err(refused),
+        }
     }
 }
 
