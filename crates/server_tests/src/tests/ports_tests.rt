@@ -140,11 +140,7 @@ impl Write for Narrow {
 const NARROW: &[(usize, &str)] = &[(0, ""), (1, "ok 1\n"), (2, "ok 1\ndurabl")];
 
 /// A port from a script into a writer of so many writes.
-fn narrow_port(
-    alloc: Global,
-    script: &'static [u8],
-    writes: usize,
-) -> Port<&'static [u8], Narrow> {
+fn narrow_port(alloc: Global, script: &'static [u8], writes: usize) -> Port<&'static [u8], Narrow> {
     Port {
         reader: script,
         most: MANY,

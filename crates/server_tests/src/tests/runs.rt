@@ -65,7 +65,8 @@ impl<D: Drop> Run<D> {
     /// The disk, as the server has left it.
     pub fn into_disk(self) -> Option<D> {
         let Run { served } = self;
-        served.closed.disk
+        let closed = served.closed;
+        closed.disk
     }
 }
 
@@ -124,6 +125,7 @@ impl<W: Drop, D: Drop> PortsRun<W, D> {
     /// The disk, as the server has left it.
     pub fn into_disk(self) -> Option<D> {
         let PortsRun { left } = self;
-        left.closed.disk
+        let closed = left.closed;
+        closed.disk
     }
 }
