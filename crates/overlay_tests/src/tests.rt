@@ -4,6 +4,7 @@ mod batch_tests;
 mod book_tests;
 mod books;
 mod crossing_tests;
+mod edition;
 mod layer_tests;
 mod place_tests;
 mod point_tests;

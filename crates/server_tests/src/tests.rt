@@ -1,8 +1,10 @@
 //! The tests of the server, and what they share.
 mod books;
 mod gate_tests;
+mod machine;
 mod ports_tests;
 mod row_tests;
+mod runs;
 mod session_tests;
 mod store_tests;
 mod testing;

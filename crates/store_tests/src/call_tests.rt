@@ -1,8 +1,7 @@
 //! The device calls of making, opening and committing.
-use crate::testing::{CREATED, committed, disk_of, only_reads, opened, put, stand_at, stored};
+use crate::testing::{CREATED, committed, created, only_reads, opened, put, stand_at, stored};
 use disk_model::image::Choice;
 use disk_model::mem_disk::Call;
-use root_store::creating::create;
 
 /// A call: its letter, the offset, the number of bytes, and the first byte that is written.
 type Shape = (char, usize, usize, u8);
@@ -77,9 +76,9 @@ const NOT_MADE: &[(&[u8], u32)] = &[(&[], 2), (&[7], 100)];
 #[test]
 fn a_store_that_is_not_made_asks_for_the_length_alone(rt: HostRuntime) {
     for &(bytes, limit) in NOT_MADE {
-        match create(rt.alloc(), disk_of(&rt, rt.alloc(), bytes), limit) {
+        match created(&rt, rt.alloc(), bytes, limit) {
             Ok(_) => panic!(rt; "made"),
-            Err(refused) => assert!(rt; are(refused.disk.calls(), &[('L', 0, 0, 0)])),
+            Err((disk, _)) => assert!(rt; are(disk.calls(), &[('L', 0, 0, 0)])),
         }
     }
 }

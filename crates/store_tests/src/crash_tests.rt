@@ -1,5 +1,6 @@
 //! A crash within a commit, and a device that fails.
-use crate::testing::{COMMITTED, CREATED, committed, opened_disk};
+use crate::store::opened_disk;
+use crate::testing::{COMMITTED, CREATED, committed};
 use disk_model::image::Choice;
 use disk_model::mem_disk::MemDisk;
 use std::alloc::Global;

@@ -10,4 +10,6 @@ mod damage_tests;
 #[cfg(test)]
 mod limit_tests;
 #[cfg(test)]
+mod store;
+#[cfg(test)]
 mod testing;

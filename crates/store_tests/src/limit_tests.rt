@@ -1,5 +1,5 @@
 //! Limits of blocks, and damaged files.
-use crate::testing::{committed, created, image_of_a, opened, stand_at};
+use crate::testing::{committed, created, image_of_a, made, opened, stand_at};
 use commit_plan::fault::StoreFault;
 use store_terms::damage::Damage;
 
@@ -27,7 +27,10 @@ const NEW: &[(&[u8], u32, Option<u8>)] = &[(&[], 2, Some(31)), (&[0], 3, Some(34
 #[test]
 fn a_new_store_asks_for_an_empty_file_and_three_blocks(rt: HostRuntime) {
     for &(bytes, limit, code) in NEW {
-        let fault = created(&rt, rt.alloc(), bytes, limit).err();
+        let fault = match created(&rt, rt.alloc(), bytes, limit) {
+            Ok(_) => None,
+            Err((_, code)) => Some(code),
+        };
         assert!(rt; fault == code);
     }
 }
@@ -35,9 +38,8 @@ fn a_new_store_asks_for_an_empty_file_and_three_blocks(rt: HostRuntime) {
 #[test]
 fn four_blocks_are_too_few_for_a_layer(rt: HostRuntime) {
     let alloc = rt.alloc();
-    let mut store = created(&rt, alloc, &[], 4).expect(&rt, "a store");
-    assert!(rt; !store.busy());
-    let refused = store.begin(alloc, image_of_a(&rt, alloc));
+    let mut store = made(&rt, created(&rt, alloc, &[], 4));
+    let refused = store.begin(&rt, alloc, image_of_a(&rt, alloc));
     assert!(rt; matches!(refused, Err(StoreFault::Full)));
     assert!(rt; !store.busy());
     assert_eq!(rt; store.into_disk().bytes().len(), 12288);

@@ -1,4 +1,5 @@
 //! Stores in memory, and commits of one layer, for the tests. What cannot be made ends the test.
+use crate::store::{Counts, Store, opened_disk};
 use commit_plan::fault::StoreFault;
 use disk_model::mem_disk::{Call, MemDisk};
 use layer_book::command::Command;
@@ -7,10 +8,6 @@ use layer_expr::name::Name;
 use layer_expr::reading::read_expr;
 use plane_base::{BaseLayer, Pt, Ring};
 use record_writing::image::Image;
-use root_store::commit::Commit;
-use root_store::creating::create;
-use root_store::opening::open;
-use root_store::phase::Progress;
 use std::alloc::Global;
 use std::process::Abort;
 use std::sync::Arc;
@@ -39,38 +36,25 @@ pub fn disk_of(rt: &impl Abort, alloc: Global, bytes: &[u8]) -> MemDisk {
     MemDisk::new(alloc, copy).expect(rt, "memory")
 }
 
-/// A new store in a file of these bytes, or the number of the fault.
+/// A new store in a file of these bytes, or the disk and the number of the fault.
 pub fn created(
     rt: &impl Abort,
     alloc: Global,
     bytes: &[u8],
     max_blocks: u32,
-) -> Result<Commit<MemDisk>, u8> {
-    match create(alloc, disk_of(rt, alloc, bytes), max_blocks) {
-        Ok(store) => Ok(store),
-        Err(refused) => Err(refused.fault.code()),
+) -> Result<Store, (MemDisk, u8)> {
+    Store::created(alloc, disk_of(rt, alloc, bytes), max_blocks)
+}
+
+/// The store that nothing was refused to.
+pub fn made(rt: &impl Abort, got: Result<Store, (MemDisk, u8)>) -> Store {
+    match got {
+        Ok(store) => store,
+        Err((_, code)) => panic!(rt; "fault {code}"),
     }
 }
 
-/// The number of an image, and how many layers and tiles it has.
-pub type Counts = (u64, usize, usize);
-
-/// A disk that was opened, and what it is opened as, or the fault.
-pub fn opened_disk(
-    rt: &impl Abort,
-    alloc: Global,
-    disk: MemDisk,
-) -> (MemDisk, Result<Counts, StoreFault>) {
-    match open(alloc, disk, 100) {
-        Ok((store, image)) => {
-            let (number, layers, tiles) = image.into_parts(alloc).expect(rt, "memory");
-            (store.into_disk(), Ok((number, layers.len(), tiles.len())))
-        }
-        Err(refused) => (refused.disk, Err(refused.fault)),
-    }
-}
-
-/// The same of a file of these bytes.
+/// The disk with these bytes once it was opened, and what it is opened as, or the fault.
 pub fn opened(
     rt: &impl Abort,
     alloc: Global,
@@ -137,10 +121,9 @@ fn disk_with(
     image: Image,
     steps: usize,
 ) -> MemDisk {
-    let mut store = created(rt, alloc, &[], max_blocks).expect(rt, "a store");
-    assert!(rt; !store.busy());
-    assert!(rt; store.begin(alloc, image).is_ok());
-    assert!(rt; steps_to_done(&mut store, steps) == Some(steps));
+    let mut store = made(rt, created(rt, alloc, &[], max_blocks));
+    assert!(rt; store.begin(rt, alloc, image).is_ok());
+    assert!(rt; store.steps_to_done(steps) == Some(steps));
     store.into_disk()
 }
 
@@ -174,18 +157,6 @@ pub fn stored(rt: &impl Abort, alloc: Global) -> Vec<u8> {
     put(&mut file, 4151, &[92]);
     put(&mut file, 28672, &TILE);
     file
-}
-
-/// Steps until a commit is done, at most this often, and counts them.
-pub fn steps_to_done(store: &mut Commit<MemDisk>, most: usize) -> Option<usize> {
-    for step in 0..most {
-        match store.step() {
-            Ok(Progress::Done(_)) => return Some(step + 1),
-            Ok(_) => {}
-            Err(_) => return None,
-        }
-    }
-    None
 }
 
 /// Whether a sync was made and then only lengths and bytes were asked for.

@@ -1,5 +1,6 @@
 //! A batch of as many commands as there may be, through an engine, and its commit.
-use crate::tests::testing::{SHIFTED, SQUARE, created, numbered, put, recovered};
+use crate::tests::machine::{created, recovered};
+use crate::tests::testing::{SHIFTED, SQUARE, numbered, put};
 use disk_model::mem_disk::MemDisk;
 use layer_book::batch::Batch;
 use layer_book::command::Command;
@@ -43,9 +44,7 @@ fn check_opened(rt: &impl Abort, alloc: Global, disk: MemDisk) {
 fn a_batch_of_64_commands_is_one_version(rt: HostRuntime) {
     let alloc = rt.alloc();
     let mut engine = created(&rt, alloc, 100);
-    let replies = engine
-        .drive(alloc, &steps(&rt, alloc))
-        .expect(&rt, "memory");
+    let replies = engine.drive(&rt, alloc, &steps(&rt, alloc));
     assert!(rt; replies.first().copied() == Some(Reply::Accepted(1)));
     assert!(rt; replies.last().copied() == Some(Reply::Done(1)));
     check_opened(&rt, alloc, engine.into_disk());

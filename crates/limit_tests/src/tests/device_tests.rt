@@ -1,11 +1,10 @@
 //! A device that stops behind each call of making a store, of a commit and of an opening, or fails in it alone.
+use crate::tests::machine::{Machine, made};
 use crate::tests::testing::{SQUARE, put};
 use disk_model::disk::Disk;
 use disk_model::image::Choice;
 use disk_model::mem_disk::MemDisk;
-use overlay_engine::engine::Engine;
 use overlay_engine::step::{Reply, Step};
-use root_store::open_fault::OpenFault;
 use std::alloc::Global;
 use std::process::Abort;
 use test_disks::fault_disk::FaultDisk;
@@ -39,14 +38,14 @@ fn disk_of(rt: &impl Abort, alloc: Global, bytes: &[u8]) -> MemDisk {
 
 /// The version that a disk is opened as, or `None` where it is no store.
 fn found(rt: &impl Abort, alloc: Global, disk: MemDisk) -> Option<usize> {
-    match Engine::recover(alloc, disk, 100) {
+    match Machine::recover(alloc, disk, 100) {
         Ok(engine) => {
             let layers = engine.version().layers().len();
             assert!(rt; engine.version().number() == layers as u64);
             Some(layers)
         }
-        Err(refused) => {
-            assert!(rt; refused.fault.code() == 32);
+        Err((_, code)) => {
+            assert!(rt; code == 32);
             None
         }
     }
@@ -63,21 +62,13 @@ fn check_left(rt: &impl Abort, alloc: Global, disk: &MemDisk, left: Left) {
 }
 
 /// The disk that comes back from an engine that was not made or recovered for the device.
-fn handed_back<D: Disk>(rt: &impl Abort, got: Result<Engine<D>, OpenFault<D>>) -> D {
+fn handed_back<D: Disk>(rt: &impl Abort, got: Result<Machine<D>, (D, u8)>) -> D {
     match got {
         Ok(_) => panic!(rt; "no call failed"),
-        Err(refused) => {
-            assert!(rt; refused.fault.code() == 30);
-            refused.disk
+        Err((disk, code)) => {
+            assert!(rt; code == 30);
+            disk
         }
-    }
-}
-
-/// The engine that nothing was refused to.
-fn made<D: Disk>(rt: &impl Abort, got: Result<Engine<D>, OpenFault<D>>) -> Engine<D> {
-    match got {
-        Ok(engine) => engine,
-        Err(refused) => panic!(rt; "{}", refused.fault),
     }
 }
 
@@ -98,12 +89,21 @@ fn a_store_that_is_not_made_for_the_device_is_none_or_empty(rt: HostRuntime) {
     let alloc = rt.alloc();
     for calls in 0..CREATED {
         let stopping = StopDisk::new(empty(&rt, alloc), calls);
-        let stopped = handed_back(&rt, Engine::create(alloc, stopping, 100)).into_disk();
-        check_left(&rt, alloc, &stopped, left_of_making(calls));
+        check_making(&rt, alloc, stopping, left_of_making(calls));
         let failing = FaultDisk::new(empty(&rt, alloc), calls);
-        let failed = handed_back(&rt, Engine::create(alloc, failing, 100)).into_disk();
-        check_left(&rt, alloc, &failed, left_of_making(calls));
+        check_making(&rt, alloc, failing, left_of_making(calls));
     }
+}
+
+/// Checks what the disk below one is opened as that fails while a store is made.
+fn check_making<P: Plan>(
+    rt: &impl Abort,
+    alloc: Global,
+    disk: PlannedDisk<MemDisk, P>,
+    left: Left,
+) {
+    let below = handed_back(rt, Machine::create(alloc, disk, 100)).into_disk();
+    check_left(rt, alloc, &below, left);
 }
 
 /// The square A, and as many device calls as commit it.
@@ -135,8 +135,8 @@ fn disturbed<P: Plan>(
     disk: PlannedDisk<MemDisk, P>,
     failing: u64,
 ) -> MemDisk {
-    let mut engine = made(rt, Engine::create(alloc, disk, 100));
-    let replies = engine.drive(alloc, &steps(rt, alloc)).expect(rt, "memory");
+    let mut engine = made(rt, Machine::create(alloc, disk, 100));
+    let replies = engine.drive(rt, alloc, &steps(rt, alloc));
     assert!(rt; replies.first().copied() == Some(Reply::Accepted(1)));
     for (place, &reply) in replies.iter().skip(1).enumerate() {
         assert!(rt; reply == answer(place as u64, failing));
@@ -157,18 +157,27 @@ fn a_commit_that_the_device_disturbs_leaves_the_version_before_or_after(rt: Host
     let alloc = rt.alloc();
     for calls in 0..COMMITTED {
         let stopping = StopDisk::new(empty(&rt, alloc), CREATED + calls);
-        let stopped = disturbed(&rt, alloc, stopping, calls);
-        check_left(&rt, alloc, &stopped, left_of_commit(calls));
+        check_commit(&rt, alloc, stopping, calls);
         let failing = FaultDisk::new(empty(&rt, alloc), CREATED + calls);
-        let failed = disturbed(&rt, alloc, failing, calls);
-        check_left(&rt, alloc, &failed, left_of_commit(calls));
+        check_commit(&rt, alloc, failing, calls);
     }
+}
+
+/// Checks what the disk below one is opened as of which a call of that commit fails.
+fn check_commit<P: Plan>(
+    rt: &impl Abort,
+    alloc: Global,
+    disk: PlannedDisk<MemDisk, P>,
+    calls: u64,
+) {
+    let below = disturbed(rt, alloc, disk, calls);
+    check_left(rt, alloc, &below, left_of_commit(calls));
 }
 
 /// A file with the square A, whose first gate is shut: opening it writes.
 fn half_shut(rt: &impl Abort, alloc: Global) -> Vec<u8> {
-    let mut engine = made(rt, Engine::create(alloc, empty(rt, alloc), 100));
-    let replies = engine.drive(alloc, &steps(rt, alloc)).expect(rt, "memory");
+    let mut engine = made(rt, Machine::create(alloc, empty(rt, alloc), 100));
+    let replies = engine.drive(rt, alloc, &steps(rt, alloc));
     assert!(rt; replies.last().copied() == Some(Reply::Done(1)));
     let bytes = engine.into_disk().bytes().to_vec(alloc);
     let mut file = bytes.expect(rt, "memory");
@@ -180,7 +189,7 @@ fn half_shut(rt: &impl Abort, alloc: Global) -> Vec<u8> {
 
 /// How many device calls open such a file.
 fn opening_calls(rt: &impl Abort, alloc: Global, file: &[u8]) -> u64 {
-    let engine = made(rt, Engine::recover(alloc, disk_of(rt, alloc, file), 100));
+    let engine = made(rt, Machine::recover(alloc, disk_of(rt, alloc, file), 100));
     engine.into_disk().calls().len() as u64
 }
 
@@ -192,10 +201,14 @@ fn an_opening_that_the_device_disturbs_leaves_what_the_file_had(rt: HostRuntime)
     assert!(rt; calls > 4);
     for call in 0..calls {
         let stopping = StopDisk::new(disk_of(&rt, alloc, &file), call);
-        let stopped = handed_back(&rt, Engine::recover(alloc, stopping, 100)).into_disk();
-        check_left(&rt, alloc, &stopped, &[Some(1)]);
+        check_opening(&rt, alloc, stopping);
         let failing = FaultDisk::new(disk_of(&rt, alloc, &file), call);
-        let failed = handed_back(&rt, Engine::recover(alloc, failing, 100)).into_disk();
-        check_left(&rt, alloc, &failed, &[Some(1)]);
+        check_opening(&rt, alloc, failing);
     }
+}
+
+/// Checks what the disk below one is opened as that fails while such a file is opened.
+fn check_opening<P: Plan>(rt: &impl Abort, alloc: Global, disk: PlannedDisk<MemDisk, P>) {
+    let below = handed_back(rt, Machine::recover(alloc, disk, 100)).into_disk();
+    check_left(rt, alloc, &below, &[Some(1)]);
 }

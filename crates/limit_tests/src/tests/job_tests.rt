@@ -1,7 +1,7 @@
 //! More than 1,000 jobs that one engine holds: the same tile, handed out again and again, of which the last one is kept.
-use crate::tests::testing::{SHIFTED, SQUARE, created, define, name_of, put};
+use crate::tests::machine::{Machine, created};
+use crate::tests::testing::{SHIFTED, SQUARE, define, name_of, put};
 use disk_model::mem_disk::MemDisk;
-use overlay_engine::engine::Engine;
 use overlay_engine::step::{Reply, Step};
 use std::alloc::Global;
 use std::process::Abort;
@@ -42,8 +42,8 @@ const LAST: &[Reply] = &[
     Reply::NoJob,
 ];
 
-fn check(rt: &impl Abort, alloc: Global, engine: &mut Engine<MemDisk>) {
-    let replies = engine.drive(alloc, &steps(rt, alloc)).expect(rt, "memory");
+fn check(rt: &impl Abort, alloc: Global, engine: &mut Machine<MemDisk>) {
+    let replies = engine.drive(rt, alloc, &steps(rt, alloc));
     for job in 0..JOBS {
         assert!(rt; replies.get(3 + job as usize).copied() == Some(Reply::Taken(job)));
     }

@@ -1,8 +1,8 @@
 //! As many layers as there may be with all their tiles, of which one commit writes all that are pending.
-use crate::tests::testing::{created, define, name_of, numbered, put, recovered};
+use crate::tests::machine::{Machine, created, recovered};
+use crate::tests::testing::{define, name_of, numbered, put};
 use disk_model::mem_disk::MemDisk;
 use layer_expr::name::Name;
-use overlay_engine::engine::Engine;
 use overlay_engine::step::{Reply, Step};
 use std::alloc::Global;
 use std::process::Abort;
@@ -84,8 +84,8 @@ fn answers(rt: &impl Abort, alloc: Global) -> Vec<Reply> {
     list
 }
 
-fn run(rt: &impl Abort, alloc: Global, engine: &mut Engine<MemDisk>) {
-    let replies = engine.drive(alloc, &steps(rt, alloc)).expect(rt, "memory");
+fn run(rt: &impl Abort, alloc: Global, engine: &mut Machine<MemDisk>) {
+    let replies = engine.drive(rt, alloc, &steps(rt, alloc));
     assert!(rt; replies.as_slice() == answers(rt, alloc).as_slice());
 }
 

@@ -4,9 +4,9 @@
 //! sides of each standing one, the two at its ends by none, and the other way round. Where just one of the two layers is,
 //! all of that is boundary: N lying and M standing ones have N * (2 * (2 * M + 1) + 2) + M * (2 * (2 * N + 1) + 2) pieces.
 //! 49 and 165 have 32,536 and 33,000, together 65,536. A corner that is cut off adds one.
-use crate::tests::testing::{created, define, name_of, put, recovered};
+use crate::tests::machine::{Machine, created, recovered};
+use crate::tests::testing::{define, name_of, put};
 use disk_model::mem_disk::MemDisk;
-use overlay_engine::engine::Engine;
 use overlay_engine::step::{Reply, Step};
 use std::alloc::Global;
 use std::process::Abort;
@@ -90,10 +90,8 @@ const FIRST: &[Reply] = &[
 const LAST: &[Reply] = &[Reply::Going, Reply::Done(3), Reply::Durable(3)];
 
 /// Makes those steps in an engine, and checks their answers.
-fn run(rt: &impl Abort, alloc: Global, engine: &mut Engine<MemDisk>, corner: &str) {
-    let replies = engine
-        .drive(alloc, &steps(rt, alloc, corner))
-        .expect(rt, "memory");
+fn run(rt: &impl Abort, alloc: Global, engine: &mut Machine<MemDisk>, corner: &str) {
+    let replies = engine.drive(rt, alloc, &steps(rt, alloc, corner));
     assert!(rt; replies.starts_with(FIRST));
     assert!(rt; replies.ends_with(LAST));
 }

@@ -1,9 +1,7 @@
 //! Layers and versions for the tests, by their texts. What cannot be made ends the test.
-use disk_model::mem_disk::MemDisk;
 use layer_book::command::Command;
 use layer_expr::name::Name;
 use layer_expr::reading::read_expr;
-use overlay_engine::engine::Engine;
 use std::alloc::Global;
 use std::process::Abort;
 use std::sync::Arc;
@@ -54,13 +52,22 @@ pub fn overlap(rt: &impl Abort, alloc: Global) -> Version {
 
 /// The same with the tile of I in column 16.
 pub fn with_tile(rt: &impl Abort, alloc: Global) -> Version {
-    let version = overlap(rt, alloc);
-    let name = name_of(rt, alloc, "I");
+    kept_in(rt, alloc, &overlap(rt, alloc))
+}
+
+/// The tile of I in column 16.
+fn tile_in(rt: &impl Abort, alloc: Global, version: &Version, name: &Name) -> Built {
     let input = version
         .layers()
-        .input(alloc, &name, 16)
+        .input(alloc, name, 16)
         .expect(rt, "an input");
-    let tile = Built::new(alloc, input).expect(rt, "memory");
+    Built::new(alloc, input).expect(rt, "memory")
+}
+
+/// The version that keeps it.
+fn kept_in(rt: &impl Abort, alloc: Global, version: &Version) -> Version {
+    let name = name_of(rt, alloc, "I");
+    let tile = tile_in(rt, alloc, version, &name);
     match version.finish(alloc, &name, tile).expect(rt, "memory") {
         Finish::Kept(next) => next,
         Finish::Stale => panic!(rt; "stale"),
@@ -70,26 +77,4 @@ pub fn with_tile(rt: &impl Abort, alloc: Global) -> Version {
 /// A name with a number.
 pub fn numbered(rt: &impl Abort, alloc: Global, number: u8) -> String {
     format!(in alloc; "L{number}").expect(rt, "memory")
-}
-
-/// A new engine over an empty file.
-pub fn created(rt: &impl Abort, alloc: Global, max_blocks: u32) -> Engine<MemDisk> {
-    let disk = MemDisk::new(alloc, Vec::new(alloc)).expect(rt, "memory");
-    match Engine::create(alloc, disk, max_blocks) {
-        Ok(engine) => engine,
-        Err(refused) => panic!(rt; "{}", refused.fault),
-    }
-}
-
-/// The engine of a file that is left.
-pub fn recovered(
-    rt: &impl Abort,
-    alloc: Global,
-    disk: MemDisk,
-    max_blocks: u32,
-) -> Engine<MemDisk> {
-    match Engine::recover(alloc, disk, max_blocks) {
-        Ok(engine) => engine,
-        Err(refused) => panic!(rt; "{}", refused.fault),
-    }
 }

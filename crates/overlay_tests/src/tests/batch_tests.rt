@@ -1,23 +1,13 @@
 //! Batches by their calls: what one makes, why one is refused, and which tiles it touches.
+use crate::tests::edition::Edition;
 use crate::tests::rows::check;
-use crate::tests::testing::{
-    Change, SHIFTED, SQUARE, batch, command, input_in, layers_of, name_of,
-};
+use crate::tests::testing::{Change, OVERLAP, SHIFTED, SQUARE, batch, command, layers_of};
 use layer_book::batch::Batch;
 use layer_book::batch_fault::BatchFault;
 use layer_book::layers::Layers;
 use std::alloc::Global;
 use std::process::Abort;
-use tile_build::Built;
-use versions::finishing::Finish;
 use versions::version::Version;
-
-/// Two squares, and where both are.
-const OVERLAP: &[Change] = &[
-    Change::Put("A", SQUARE),
-    Change::Put("B", SHIFTED),
-    Change::Define("I", "A & B"),
-];
 
 /// The number of the version after a batch and how many layers it has, or why there is none.
 type Reply = Result<(u64, usize), BatchFault>;
@@ -38,17 +28,22 @@ const BATCHES: &[(&[Change], Reply)] = &[
 
 #[test]
 fn a_batch_makes_one_version_or_none(rt: HostRuntime) {
-    let mut version = Version::empty(rt.alloc());
+    let mut edition = Edition::behind(&rt, rt.alloc(), &[]);
     for (row, (changes, want)) in BATCHES.iter().enumerate() {
         let batch = batch(&rt, rt.alloc(), changes);
-        match version.submit_all(rt.alloc(), &batch) {
+        match edition.submit_all(rt.alloc(), &batch) {
             Ok(next) => {
-                check(&rt, row, &Ok((next.number(), next.layers().len())), want);
-                version = next;
+                check(&rt, row, &Ok(counts(next.version())), want);
+                edition = next;
             }
             Err(fault) => check(&rt, row, &Err(fault), want),
         }
     }
+}
+
+/// The number of a version, and how many layers it has.
+fn counts(version: &Version) -> (u64, usize) {
+    (version.number(), version.layers().len())
 }
 
 #[test]
@@ -75,19 +70,6 @@ fn a_batch_has_one_to_64_commands(rt: HostRuntime) {
     }
 }
 
-/// The version that keeps the tile of I in column 16.
-fn with_tile(rt: &impl Abort, alloc: Global, version: &Version) -> Version {
-    let input = input_in(rt, alloc, version.layers(), "I", 16);
-    let tile = Built::new(alloc, input).expect(rt, "memory");
-    match version
-        .finish(alloc, &name_of(rt, alloc, "I"), tile)
-        .expect(rt, "memory")
-    {
-        Finish::Kept(next) => next,
-        Finish::Stale => panic!(rt; "stale"),
-    }
-}
-
 /// Batches on two squares and where both are, with one tile built, and how many tiles are pending then: of I all but the
 /// one that is kept and the 33 of J, or all of I.
 const TOUCHING: &[(&[Change], usize)] = &[
@@ -98,14 +80,22 @@ const TOUCHING: &[(&[Change], usize)] = &[
 
 #[test]
 fn a_batch_touches_the_tiles_of_each_of_its_commands(rt: HostRuntime) {
-    let first = Version::empty(rt.alloc()).submit_all(rt.alloc(), &batch(&rt, rt.alloc(), OVERLAP));
-    let version = with_tile(&rt, rt.alloc(), &first.expect(&rt, "accepted"));
+    let first = behind_batch(
+        &rt,
+        rt.alloc(),
+        &Edition::behind(&rt, rt.alloc(), &[]),
+        OVERLAP,
+    );
+    let edition = first.with_tile(&rt, rt.alloc(), "I", 16);
     for (row, (changes, want)) in TOUCHING.iter().enumerate() {
-        let batch = batch(&rt, rt.alloc(), changes);
-        let next = version
-            .submit_all(rt.alloc(), &batch)
-            .expect(&rt, "accepted");
-        let pending = next.pending(rt.alloc()).expect(&rt, "memory");
+        let next = behind_batch(&rt, rt.alloc(), &edition, changes);
+        let pending = next.version().pending(rt.alloc()).expect(&rt, "memory");
         check(&rt, row, &pending.len(), want);
     }
+}
+
+/// The version after a batch that is accepted.
+fn behind_batch(rt: &impl Abort, alloc: Global, edition: &Edition, changes: &[Change]) -> Edition {
+    let batch = batch(rt, alloc, changes);
+    edition.submit_all(alloc, &batch).expect(rt, "accepted")
 }

@@ -100,6 +100,13 @@ pub enum Change {
     Remove(&'static str),
 }
 
+/// The squares A from 0 to 10 and B from 5 to 15, and I where both are.
+pub const OVERLAP: &[Change] = &[
+    Change::Put("A", SQUARE),
+    Change::Put("B", SHIFTED),
+    Change::Define("I", "A & B"),
+];
+
 /// The command that makes a change.
 pub fn command(rt: &impl Abort, alloc: Global, change: &Change) -> Command {
     match change {

@@ -1,10 +1,9 @@
 //! That workers build side by side, while the sessions are answered.
-use crate::tests::testing::{
-    Lines, Watch, created, empty_disk, expect, name_of, recovered, served,
-};
+use crate::tests::machine::Machine;
+use crate::tests::runs::Run;
+use crate::tests::testing::{Lines, Watch, empty_disk, expect, name_of, served};
 use disk_model::mem_disk::MemDisk;
 use layer_expr::name::Name;
-use overlay_engine::engine::Engine;
 use overlay_server::Gate;
 use std::sync::atomic::Ordering;
 use std::test::Fail;
@@ -55,7 +54,7 @@ fn workers_build_side_by_side_while_a_session_is_answered(rt: HostRuntime) -> Re
         entered: 2,
     };
     let readers = Vec::from_array(rt.alloc(), [reader])?;
-    let served = served(&rt, rt.alloc(), &gate, None::<Engine<MemDisk>>, readers);
+    let served = served(&rt, rt.alloc(), &gate, None::<Machine<MemDisk>>, readers);
     expect(&rt, &served, 0, "ok 1\nok 2\nok 3\nok 4\nin\nbuilt 4\n");
     assert_eq!(rt; watch.failed.load(Ordering::SeqCst), 0);
     assert!(rt; watch.has_seen(2, 7));
@@ -105,21 +104,27 @@ fn a_tile_that_is_finished_after_the_last_commit_is_in_the_file(
         entered: 1,
     };
     let alloc = rt.alloc();
-    let engine = created(alloc, empty_disk(alloc)?, 200)?;
+    let engine = Machine::created(alloc, empty_disk(alloc)?, 200)?;
     let readers = Vec::from_array(alloc, [reader])?;
     let served = served(&rt, alloc, &gate, Some(engine), readers);
     expect(&rt, &served, 0, "ok 1\nok 2\ndurable 2\n");
     assert_eq!(rt; watch.failed.load(Ordering::SeqCst), 0);
     let name = name_of(alloc, "I")?;
-    let closed = served.closed;
-    let engine = recovered(alloc, closed.disk)?;
-    let mut has_tiles = false;
-    for column in 0..33 {
-        let is_finished = closed.version.tile(&name, column).is_some();
-        let in_file = engine.version().tile(&name, column).is_some();
-        assert_eq!(rt; in_file, is_finished, "in column {column}");
-        has_tiles |= is_finished;
+    let is_finished = finished(&served, &name);
+    let engine = Machine::recovered(alloc, served.into_disk())?;
+    for (column, &is_there) in is_finished.iter().enumerate() {
+        let in_file = engine.has_tile(&name, column as u8);
+        assert_eq!(rt; in_file, is_there, "in column {column}");
     }
-    assert!(rt; has_tiles);
+    assert!(rt; is_finished.contains(&true));
     Ok(())
+}
+
+/// In which columns the newest version has the tile of a layer.
+fn finished(run: &Run<MemDisk>, name: &Name) -> [bool; 33] {
+    let mut list = [false; 33];
+    for column in 0..33 {
+        list[column] = run.has_tile(name, column as u8);
+    }
+    list
 }

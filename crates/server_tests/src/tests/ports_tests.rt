@@ -1,11 +1,12 @@
 //! Servers of ports: where replies go, when they stand there, and that a writer fails for its own session alone.
 ghost use Rattle.std.specs.Prelude.{◌<◌, ◌≤◌, length};
 
-use crate::tests::testing::{created, empty_disk, expect, recovered, served};
+use crate::tests::machine::Machine;
+use crate::tests::runs::PortsRun;
+use crate::tests::testing::{empty_disk, engine_of, expect, served};
 use disk_model::disk::Disk;
 use disk_model::mem_disk::MemDisk;
-use overlay_engine::engine::Engine;
-use overlay_server::outcome::{Left, Port, ServeOptions};
+use overlay_server::outcome::{Port, ServeOptions};
 use overlay_server::serving::serve_ports;
 use overlay_server::{OpenGate, SessionEnd};
 use std::alloc::Global;
@@ -24,9 +25,9 @@ const MANY: usize = 4096;
 fn left_of<D, R, W, Q>(
     rt: &Q,
     alloc: Global,
-    engine: Option<Engine<D>>,
+    machine: Option<Machine<D>>,
     ports: Vec<Port<R, W>>,
-) -> Left<W, D>
+) -> PortsRun<W, D>
 where
     D: Disk + Send + Drop,
     R: Read + Send + Drop,
@@ -34,9 +35,10 @@ where
     Q: Threads + Wait + Sync + Abort,
     requires { (0 < length ports.items) × (length ports.items ≤ 4) }
 {
+    let engine = engine_of(machine);
     let options = ServeOptions { workers: 1 };
     match serve_ports(rt, alloc, options, &OpenGate, engine, ports) {
-        Ok(left) => left,
+        Ok(left) => PortsRun::new(left),
         Err(_) => panic!(rt; "no server"),
     }
 }
@@ -62,17 +64,27 @@ fn replies_stand_behind_what_their_writer_held(rt: HostRuntime) -> Result<(), Fa
     let first = port_of(alloc, b"LAYERS\n", b"first: ")?;
     let second = port_of(alloc, b"HELLO\n", b"second: ")?;
     let ports = Vec::from_array(alloc, [first, second])?;
-    let left = left_of(&rt, alloc, None::<Engine<MemDisk>>, ports);
-    let mut texts = ["first: layers 0\n", "second: error 41 command syntax\n"].iter();
-    for one in &left.sessions {
-        let Some(text) = texts.next() else {
-            panic!(rt; "one session more");
-        };
-        assert_eq!(rt; one.writer.as_slice(), text.as_bytes());
-        assert_eq!(rt; one.end, SessionEnd::End);
-    }
-    assert!(rt; texts.next().is_none());
+    let left = left_of(&rt, alloc, None::<Machine<MemDisk>>, ports);
+    assert_eq!(rt; left.len(), 2);
+    check_session(&rt, &left, 0, "first: layers 0\n", SessionEnd::End);
+    let second = "second: error 41 command syntax\n";
+    check_session(&rt, &left, 1, second, SessionEnd::End);
     Ok(())
+}
+
+/// Compares what stands in the writer of a session, and how it ended.
+fn check_session(
+    rt: &impl Abort,
+    left: &PortsRun<Vec<u8>, MemDisk>,
+    session: usize,
+    text: &str,
+    end: SessionEnd,
+) {
+    let Some(writer) = left.writer(session) else {
+        panic!(rt; "no session {session}");
+    };
+    assert_eq!(rt; writer.as_slice(), text.as_bytes());
+    assert_eq!(rt; left.end(session), Some(end));
 }
 
 // The third line ends behind the 20th byte.
@@ -94,12 +106,9 @@ fn a_port_has_its_own_limit(rt: HostRuntime) -> Result<(), Fail> {
             writer: Vec::new(alloc),
         };
         let ports = Vec::from_array(alloc, [port])?;
-        let left = left_of(&rt, alloc, None::<Engine<MemDisk>>, ports);
-        let [one] = left.sessions.as_slice() else {
-            panic!(rt; "not one session");
-        };
-        assert_eq!(rt; one.writer.as_slice(), text.as_bytes());
-        assert_eq!(rt; one.end, end);
+        let left = left_of(&rt, alloc, None::<Machine<MemDisk>>, ports);
+        assert_eq!(rt; left.len(), 1);
+        check_session(&rt, &left, 0, text, end);
     }
     Ok(())
 }
@@ -130,53 +139,62 @@ impl Write for Narrow {
 /// By how many writes the first session's writer takes: what stands in it.
 const NARROW: &[(usize, &str)] = &[(0, ""), (1, "ok 1\n"), (2, "ok 1\ndurabl")];
 
+/// A port from a script into a writer of so many writes.
+fn narrow_port(alloc: Global, script: &'static [u8], writes: usize) -> Port<&'static [u8], Narrow> {
+    Port {
+        reader: script,
+        most: MANY,
+        writer: Narrow {
+            text: Vec::new(alloc),
+            writes,
+        },
+    }
+}
+
+/// A server with a new store, of one session that puts a layer into a writer of so many writes, and one beside it.
+fn narrow_run(
+    rt: &(impl Threads + Wait + Sync + Abort),
+    alloc: Global,
+    writes: usize,
+) -> Result<PortsRun<Narrow, MemDisk>, Fail> {
+    let put = b"PUT A POLYGON ((0 0, 10 0, 10 10, 0 10, 0 0))\nSYNC\n";
+    let first = narrow_port(alloc, put, writes);
+    let second = narrow_port(alloc, b"HELLO\nHELLO\n", 100);
+    let ports = Vec::from_array(alloc, [first, second])?;
+    let engine = Machine::created(alloc, empty_disk(alloc)?, 200)?;
+    Ok(left_of(rt, alloc, Some(engine), ports))
+}
+
+/// What stands in the writer of a session.
+fn narrow_text(left: &PortsRun<Narrow, MemDisk>, session: usize) -> &[u8] {
+    match left.writer(session) {
+        Some(writer) => &writer.text,
+        None => &[],
+    }
+}
+
+/// Compares what stands in the writer that failed, and checks that the other session is whole.
+fn check_narrow(rt: &impl Abort, left: &PortsRun<Narrow, MemDisk>, text: &str) {
+    assert_eq!(rt; left.len(), 2);
+    assert_eq!(rt; narrow_text(left, 0), text.as_bytes());
+    assert_eq!(rt; left.end(0), Some(SessionEnd::Failed(49)));
+    let whole = b"error 41 command syntax\nerror 41 command syntax\n".as_slice();
+    assert_eq!(rt; narrow_text(left, 1), whole);
+    assert_eq!(rt; left.end(1), Some(SessionEnd::End));
+    assert_eq!(rt; left.stored(), 1);
+}
+
 // The first session's writer fails: the other session is whole, and what was put is stored.
 #[test]
 fn a_writer_fails_for_its_own_session_alone(rt: HostRuntime) -> Result<(), Fail> {
     let alloc = rt.alloc();
     for &(writes, text) in NARROW {
-        let put: &'static [u8] = b"PUT A POLYGON ((0 0, 10 0, 10 10, 0 10, 0 0))\nSYNC\n";
-        let hello: &'static [u8] = b"HELLO\nHELLO\n";
-        let first = Port {
-            reader: put,
-            most: MANY,
-            writer: Narrow {
-                text: Vec::new(alloc),
-                writes,
-            },
-        };
-        let second = Port {
-            reader: hello,
-            most: MANY,
-            writer: Narrow {
-                text: Vec::new(alloc),
-                writes: 100,
-            },
-        };
-        let engine = created(alloc, empty_disk(alloc)?, 200)?;
-        let ports = Vec::from_array(alloc, [first, second])?;
-        let left = left_of(&rt, alloc, Some(engine), ports);
-        let Left { sessions, closed } = left;
-        let [first, second] = sessions.as_slice() else {
-            panic!(rt; "not two sessions");
-        };
-        assert_eq!(rt; first.writer.text.as_slice(), text.as_bytes());
-        assert_eq!(rt; first.end, SessionEnd::Failed(49));
-        assert_eq!(rt;
-            second.writer.text.as_slice(),
-            b"error 41 command syntax\nerror 41 command syntax\n".as_slice()
-        );
-        assert_eq!(rt; second.end, SessionEnd::End);
-        assert_eq!(rt; closed.stored, 1);
+        let left = narrow_run(&rt, alloc, writes)?;
+        check_narrow(&rt, &left, text);
+        let engine = Machine::recovered(alloc, left.into_disk())?;
         let script: &'static [u8] = b"LOCATE A 2 2\n";
         let readers = Vec::from_array(alloc, [script])?;
-        let next = served(
-            &rt,
-            alloc,
-            &OpenGate,
-            Some(recovered(alloc, closed.disk)?),
-            readers,
-        );
+        let next = served(&rt, alloc, &OpenGate, Some(engine), readers);
         expect(&rt, &next, 0, "in\n");
     }
     Ok(())
@@ -253,7 +271,7 @@ fn a_reply_stands_before_the_next_line_is_read(rt: HostRuntime) -> Result<(), Fa
         writer: Counting { turns: &turns },
     };
     let ports = Vec::from_array(alloc, [port])?;
-    let left = left_of(&rt, alloc, None::<Engine<MemDisk>>, ports);
+    let left = left_of(&rt, alloc, None::<Machine<MemDisk>>, ports);
     drop(left);
     assert_eq!(rt; turns.asked.load(Ordering::SeqCst), 4);
     assert_eq!(rt; turns.early.load(Ordering::SeqCst), 0);

@@ -1,7 +1,7 @@
 //! Scripts and their replies, by a server without a store.
+use crate::tests::machine::Machine;
 use crate::tests::testing::{expect, served, written};
 use disk_model::mem_disk::MemDisk;
-use overlay_engine::engine::Engine;
 use overlay_server::OpenGate;
 use std::test::Fail;
 
@@ -95,10 +95,10 @@ fn scripts_are_answered(rt: HostRuntime) -> Result<(), Fail> {
         (FRACTIONS, FRACTIONS_ANSWERED),
     ] {
         let readers = Vec::from_array(alloc, [script])?;
-        let served = served(&rt, alloc, &OpenGate, None::<Engine<MemDisk>>, readers);
+        let served = served(&rt, alloc, &OpenGate, None::<Machine<MemDisk>>, readers);
         expect(&rt, &served, 0, text);
-        assert_eq!(rt; served.closed.stored, 0);
-        assert!(rt; served.closed.disk.is_none());
+        assert_eq!(rt; served.stored(), 0);
+        assert!(rt; !served.has_disk());
     }
     Ok(())
 }
@@ -111,7 +111,7 @@ fn each_reader_has_its_own_replies(rt: HostRuntime) -> Result<(), Fail> {
     let first = b"HELLO\n".as_slice();
     let scripts = [first, b"LOCATE Z 1 1\n", b"", b"DROP Z"];
     let readers = Vec::from_array(alloc, scripts)?;
-    let served = served(&rt, alloc, &OpenGate, None::<Engine<MemDisk>>, readers);
+    let served = served(&rt, alloc, &OpenGate, None::<Machine<MemDisk>>, readers);
     expect(&rt, &served, 0, "error 41 command syntax\n");
     expect(&rt, &served, 1, "error 10 unknown layer\n");
     expect(&rt, &served, 2, "");
@@ -125,10 +125,10 @@ fn versions_are_numbered_over_all_sessions(rt: HostRuntime) -> Result<(), Fail> 
     let first = b"PUT A POLYGON ((0 0, 10 0, 10 10, 0 10, 0 0))\n".as_slice();
     let second = b"PUT B POLYGON ((5 5, 15 5, 15 15, 5 15, 5 5))\n".as_slice();
     let readers = Vec::from_array(alloc, [first, second])?;
-    let served = served(&rt, alloc, &OpenGate, None::<Engine<MemDisk>>, readers);
+    let served = served(&rt, alloc, &OpenGate, None::<Machine<MemDisk>>, readers);
     let earlier = usize::from(written(&served, 0) != b"ok 1\n".as_slice());
     expect(&rt, &served, earlier, "ok 1\n");
     expect(&rt, &served, 1 - earlier, "ok 2\n");
-    assert_eq!(rt; served.closed.version.number(), 2);
+    assert_eq!(rt; served.number(), 2);
     Ok(())
 }

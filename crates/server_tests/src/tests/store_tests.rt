@@ -1,12 +1,13 @@
 //! That what sessions have put is in the store when that is opened again, and what they are told where it fails.
 ghost use Rattle.std.specs.Prelude.{◌≤◌};
 
-use crate::tests::testing::{created, empty_disk, expect, recovered, served};
+use crate::tests::machine::Machine;
+use crate::tests::runs::Run;
+use crate::tests::testing::{empty_disk, expect, served};
 use disk_model::disk::Disk;
 use disk_model::mem_disk::MemDisk;
 use file_disk::file_disk::FileDisk;
 use overlay_server::OpenGate;
-use overlay_server::outcome::Served;
 use std::alloc::Global;
 use std::fs;
 use std::fs::File;
@@ -29,11 +30,11 @@ fn first_run<D: Disk + Send + Drop>(
     disk: D,
     blocks: u32,
     script: &'static [u8],
-) -> Result<Served<D>, Fail>
+) -> Result<Run<D>, Fail>
     requires some { 1 ≤ blocks }
     requires few { blocks ≤ 1048576 }
 {
-    let engine = created(alloc, disk, blocks)?;
+    let engine = Machine::created(alloc, disk, blocks)?;
     let readers = Vec::from_array(alloc, [script])?;
     Ok(served(rt, alloc, &OpenGate, Some(engine), readers))
 }
@@ -44,8 +45,8 @@ fn next_run<D: Disk + Send + Drop>(
     alloc: Global,
     disk: Option<D>,
     script: &'static [u8],
-) -> Result<Served<D>, Fail> {
-    let engine = recovered(alloc, disk)?;
+) -> Result<Run<D>, Fail> {
+    let engine = Machine::recovered(alloc, disk)?;
     let readers = Vec::from_array(alloc, [script])?;
     Ok(served(rt, alloc, &OpenGate, Some(engine), readers))
 }
@@ -55,12 +56,11 @@ fn a_layer_is_there_when_the_store_is_opened_again(rt: HostRuntime) -> Result<()
     let alloc = rt.alloc();
     let first = first_run(&rt, alloc, empty_disk(alloc)?, 200, PUT_A)?;
     expect(&rt, &first, 0, "ok 1\n");
-    let closed = first.closed;
-    assert_eq!(rt; closed.stored, 1);
+    assert_eq!(rt; first.stored(), 1);
     let next = next_run(
         &rt,
         alloc,
-        closed.disk,
+        first.into_disk(),
         b"LOCATE A 2 2\nLOCATE A 11 2\nSYNC\n",
     )?;
     expect(&rt, &next, 0, "in\nout\ndurable 1\n");
@@ -74,7 +74,7 @@ fn a_sync_ends_with_a_durable_version(rt: HostRuntime) -> Result<(), Fail> {
     let alloc = rt.alloc();
     let served = first_run(&rt, alloc, empty_disk(alloc)?, 200, PUT_AND_SYNC)?;
     expect(&rt, &served, 0, "ok 1\ndurable 1\n");
-    assert_eq!(rt; served.closed.version.durable(), 1);
+    assert_eq!(rt; served.durable(), 1);
     Ok(())
 }
 
@@ -83,13 +83,12 @@ fn a_sync_is_told_why_nothing_is_stored(rt: HostRuntime) -> Result<(), Fail> {
     let alloc = rt.alloc();
     let full = first_run(&rt, alloc, empty_disk(alloc)?, 4, PUT_AND_SYNC)?;
     expect(&rt, &full, 0, "ok 1\nerror 31 full\n");
-    assert_eq!(rt; full.closed.stored, 0);
+    assert_eq!(rt; full.stored(), 0);
     // Five calls make the store. The third of the commit behind them fails.
     let disk = FaultDisk::new(empty_disk(alloc)?, 7);
     let failed = first_run(&rt, alloc, disk, 200, PUT_AND_SYNC)?;
     expect(&rt, &failed, 0, "ok 1\nerror 30 device\n");
-    let closed = failed.closed;
-    let next = next_run(&rt, alloc, closed.disk, b"LAYERS\n")?;
+    let next = next_run(&rt, alloc, failed.into_disk(), b"LAYERS\n")?;
     expect(&rt, &next, 0, "layers 0\n");
     Ok(())
 }
@@ -120,8 +119,7 @@ fn a_disk_that_stops_has_what_was_told_durable(rt: HostRuntime) -> Result<(), Fa
         let disk = StopDisk::new(empty_disk(alloc)?, calls);
         let stopped = first_run(&rt, alloc, disk, 200, PUT_AND_SYNC)?;
         expect(&rt, &stopped, 0, told);
-        let closed = stopped.closed;
-        let below = works_again(closed.disk)?;
+        let below = works_again(stopped.into_disk())?;
         let next = next_run(&rt, alloc, Some(below), b"LAYERS\n")?;
         expect(&rt, &next, 0, left);
     }

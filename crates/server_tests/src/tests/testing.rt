@@ -1,11 +1,13 @@
 //! Servers for the tests: what they are asked, and what they answer.
 ghost use Rattle.std.specs.Prelude.{◌<◌, ◌≤◌, length};
 
+use crate::tests::machine::Machine;
+use crate::tests::runs::Run;
 use disk_model::disk::Disk;
 use disk_model::mem_disk::MemDisk;
 use layer_expr::name::Name;
 use overlay_engine::engine::Engine;
-use overlay_server::outcome::{ServeOptions, Served};
+use overlay_server::outcome::ServeOptions;
 use overlay_server::serving::serve;
 use overlay_server::{Gate, SessionEnd};
 use std::alloc::Global;
@@ -91,9 +93,9 @@ pub fn served<D, R, G, Q>(
     rt: &Q,
     alloc: Global,
     gate: &G,
-    engine: Option<Engine<D>>,
+    machine: Option<Machine<D>>,
     readers: Vec<R>,
-) -> Served<D>
+) -> Run<D>
 where
     D: Disk + Send + Drop,
     R: Read + Send + Drop,
@@ -101,6 +103,7 @@ where
     Q: Threads + Wait + Sync + Abort,
     requires { (0 < length readers.items) × (length readers.items ≤ 4) }
 {
+    let engine = engine_of(machine);
     match serve(
         rt,
         alloc,
@@ -109,48 +112,34 @@ where
         engine,
         readers,
     ) {
-        Ok(served) => served,
+        Ok(served) => Run::new(served),
         Err(_) => panic!(rt; "no server"),
     }
 }
 
+/// The engine that a server takes.
+pub fn engine_of<D: Disk + Drop>(machine: Option<Machine<D>>) -> Option<Engine<D>> {
+    match machine {
+        Some(machine) => Some(machine.into_engine()),
+        None => None,
+    }
+}
+
 /// What a session wrote.
-pub fn written<D>(served: &Served<D>, session: usize) -> &[u8] {
-    match served.sessions.get(session) {
+pub fn written<D>(run: &Run<D>, session: usize) -> &[u8] {
+    match run.session(session) {
         Some(outcome) => &outcome.bytes,
         None => &[],
     }
 }
 
 /// Compares what a session wrote, which was read to its end.
-pub fn expect<D: Drop>(rt: &impl Abort, served: &Served<D>, session: usize, text: &str) {
-    let Some(outcome) = served.sessions.get(session) else {
+pub fn expect<D>(rt: &impl Abort, run: &Run<D>, session: usize, text: &str) {
+    let Some(outcome) = run.session(session) else {
         panic!(rt; "no session {session}");
     };
     assert_eq!(rt; outcome.bytes.as_slice(), text.as_bytes());
     assert_eq!(rt; outcome.end, SessionEnd::End);
-}
-
-/// An engine over an empty file of at most so many blocks.
-pub fn created<D: Disk + Drop>(alloc: Global, disk: D, blocks: u32) -> Result<Engine<D>, Fail>
-    requires some { 1 ≤ blocks }
-    requires few { blocks ≤ 1048576 }
-{
-    match Engine::create(alloc, disk, blocks) {
-        Ok(engine) => Ok(engine),
-        Err(refused) => Err(Fail::from(refused.fault)),
-    }
-}
-
-/// An engine over what a server has left.
-pub fn recovered<D: Disk + Drop>(alloc: Global, disk: Option<D>) -> Result<Engine<D>, Fail> {
-    let Some(disk) = disk else {
-        return Err(Fail::from("no disk"));
-    };
-    match Engine::recover(alloc, disk, BLOCKS) {
-        Ok(engine) => Ok(engine),
-        Err(refused) => Err(Fail::from(refused.fault)),
-    }
 }
 
 /// A disk in memory of no bytes.

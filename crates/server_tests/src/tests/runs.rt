@@ -1,0 +1,131 @@
+//! What servers leave, for the tests: it is hidden from the proofs, so that a function that owns it is proved soon.
+ghost use Rattle.std.specs.Prelude.{ℕ};
+
+use layer_expr::name::Name;
+use overlay_server::SessionEnd;
+use overlay_server::outcome::{Finished, Left, Outcome, Served};
+use std::marker::Model;
+
+/// What a server leaves, of which a contract sees nothing.
+pub struct Run<D> {
+    served: Served<D>,
+}
+
+impl<D> Model for Run<D> {
+    ghost Value = { ℕ };
+
+    ghost view = { λ _. 0 };
+}
+
+// Written out: of a derived drop, each function that owns one proves again what becomes of every part.
+impl<D: Drop> Drop for Run<D> {
+    fn drop(self) {
+        let Run { served } = self;
+        drop(served);
+    }
+}
+
+impl<D> Run<D> {
+    pub fn new(served: Served<D>) -> Run<D> {
+        Run { served }
+    }
+
+    /// What a session wrote, and how it ended.
+    pub fn session(&self, session: usize) -> Option<&Outcome> {
+        self.served.sessions.get(session)
+    }
+
+    /// The number of the version that is stored.
+    pub fn stored(&self) -> u64 {
+        self.served.closed.stored
+    }
+
+    /// The number of the newest version.
+    pub fn number(&self) -> u64 {
+        self.served.closed.version.number()
+    }
+
+    /// The number of the version that was last reported.
+    pub fn durable(&self) -> u64 {
+        self.served.closed.version.durable()
+    }
+
+    /// Whether the newest version has the tile of a layer in a column.
+    pub fn has_tile(&self, name: &Name, column: u8) -> bool {
+        self.served.closed.version.tile(name, column).is_some()
+    }
+
+    /// Whether there is a disk.
+    pub fn has_disk(&self) -> bool {
+        self.served.closed.disk.is_some()
+    }
+}
+
+impl<D: Drop> Run<D> {
+    /// The disk, as the server has left it.
+    pub fn into_disk(self) -> Option<D> {
+        let Run { served } = self;
+        let closed = served.closed;
+        closed.disk
+    }
+}
+
+/// What a server of ports leaves, of which a contract sees nothing.
+pub struct PortsRun<W, D> {
+    left: Left<W, D>,
+}
+
+impl<W, D> Model for PortsRun<W, D> {
+    ghost Value = { ℕ };
+
+    ghost view = { λ _. 0 };
+}
+
+// Written out, as above.
+impl<W: Drop, D: Drop> Drop for PortsRun<W, D> {
+    fn drop(self) {
+        let PortsRun { left } = self;
+        drop(left);
+    }
+}
+
+impl<W, D> PortsRun<W, D> {
+    pub fn new(left: Left<W, D>) -> PortsRun<W, D> {
+        PortsRun { left }
+    }
+
+    /// How many sessions there were.
+    pub fn len(&self) -> usize {
+        self.left.sessions.len()
+    }
+
+    /// The writer of a session.
+    pub fn writer(&self, session: usize) -> Option<&W> {
+        match self.left.sessions.get(session) {
+            Some(one) => Some(&one.writer),
+            None => None,
+        }
+    }
+
+    /// How a session ended.
+    pub fn end(&self, session: usize) -> Option<SessionEnd> {
+        match self.left.sessions.get(session) {
+            Some(one) => Some(one.end),
+            None => None,
+        }
+    }
+
+    /// The number of the version that is stored.
+    pub fn stored(&self) -> u64 {
+        self.left.closed.stored
+    }
+}
+
+impl<W: Drop, D: Drop> PortsRun<W, D> {
+    /// The disk, as the server has left it.
+    pub fn into_disk(self) -> Option<D> {
+        let PortsRun { left } = self;
+        let closed = left.closed;
+        closed.disk
+    }
+}
