@@ -19,7 +19,7 @@ use tile_build::Built;
 use version_book::fault::{BookFault, ToldFault};
 use version_book::job::Job;
 use version_book::reporter::Reporter;
-use version_book::seen_log::{LogWord, BookName, SeenLog, open};
+use version_book::seen_log::{BookName, LogWord, SeenLog, open};
 use version_book::session::Session;
 use version_book::shared::Shared;
 use version_core::Answers;

@@ -12,7 +12,7 @@ use std::marker::Brand;
 use std::process::Abort;
 use std::sync::Wait;
 use std::thread::Threads;
-use version_book::seen_log::{LogWord, BookName, SeenLog, open};
+use version_book::seen_log::{BookName, LogWord, SeenLog, open};
 use version_book::shared::Shared;
 use versions::version::Version;
 
