@@ -1,5 +1,5 @@
 -- Tiles in the order of layers and columns: what is found among them fixes them.
-use Rattle.std.specs.Prelude.{◌≡◌, ℕ, ◌<◌, ◌==◌, ◌⊎◌, nat_lt, Bool, true, false, ◌&&◌, ◌||◌, IsTrue, List, [], ◌∷◌, bytes_eq, Option, Some, None, All}
+use Rattle.std.specs.Prelude.{◌≡◌, ℕ, ◌<◌, ◌==◌, ◌⊎◌, nat_lt, Bool, true, false, ◌&&◌, ◌||◌, IsTrue, List, [], ◌∷◌, ◌++◌, bytes_eq, Option, Some, None, All}
 use Rattle.std.specs.List.{AllPairs, slice_index_or}
 use Rattle.std.proofs.Common.{zero, suc, refl, ap, sym, ◌∙◌, subst, cond, inl, inr, ⊎_elim, arith}
 use Rattle.std.proofs.lemmas.Bool.{and_parts, and_from, both_ways, eqb-true, false_from_ne_true, or_cases}
@@ -23,6 +23,11 @@ found_is P (f ∷ fs) name k tile all there = split (bytes_eq f.name name && (f.
       let level : f.tile ≡ tile = cc in
       subst P (λ i. record { name = same_name f.name name parts.0 i; column = eqb-true f.column k parts.1 i; tile = level i }) (all zero f (omega arith))
   split false away next rest = next rest
+
+-- what is true of each tile is true of one among them
+pub all_at : (P : Finished → Type 0) (done rest : List Finished) (f : Finished) → All P (done ++ f ∷ rest) → P f
+all_at P [] rest f all = all zero f (omega arith)
+all_at P (x ∷ xs) rest f all = all_at P xs rest f (λ k d h. all (suc k) d (omega arith))
 
 -- no tile stands before itself
 pub never_before : (layers : List Layer) (a b : Finished) → is_of b.name b.column a ≡ true → is_tile_before layers a b ≡ false
