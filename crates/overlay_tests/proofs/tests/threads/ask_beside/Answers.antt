@@ -9,7 +9,7 @@ use Rattle.std.proofs.Crossing.{sync}
 use Rattle.std.specs.contracts.alloc.Global as global
 use Rattle.version_book.proofs.SentBook.{shared_sync}
 use Rattle.version_book.specs.contracts.shared.Shared as shared
-use Rattle.version_book.specs.declared.seen_log.Naming as naming
+use Rattle.version_book.specs.declared.seen_log.BookName as naming
 use denote.Exit.{no}
 use denote.Param.{param}
 use denote.Param.Send.{IsSend, IsSync, arg_send, param_send, recorded_send, shr_send, struct_send}

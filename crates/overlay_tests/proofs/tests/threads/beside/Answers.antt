@@ -14,7 +14,7 @@ use Rattle.version_book.proofs.Sent.{expr_send, expr_sync, session_send}
 use Rattle.version_book.proofs.SentBook.{shared_sync}
 use Rattle.version_book.specs.contracts.session.Session as session
 use Rattle.version_book.specs.contracts.shared.Shared as shared
-use Rattle.version_book.specs.declared.seen_log.Naming as naming
+use Rattle.version_book.specs.declared.seen_log.BookName as naming
 use denote.Exit.{no}
 use denote.Param.{param}
 use denote.Param.Send.{IsSend, IsSync, arg_send, mut_send, param_send, recorded_send, shr_send, struct_send, sendable}
