@@ -26,4 +26,4 @@ module _ (J R : RattleType) (g : naming.Ghosts J.Denot) (j : IsSend J) (s : IsSy
 
 pub join_mut-done-requires-send-F : goal.join_mut-done-requires-send-F
 join_mut-done-requires-send-F g c κs within =
-    param_send 1 _ (arg_send _ no _ (captures_send (param 0 g.row.J) (param 1 g.row.R) g.J.Naming c.type_bounds.send-J c.type_bounds.sync-R _ _ _ _ _ _ _ _ _))
+    param_send 1 _ (arg_send _ no _ (captures_send (param 0 g.row.J) (param 1 g.row.R) g.J.BookName c.type_bounds.send-J c.type_bounds.sync-R _ _ _ _ _ _ _ _ _))
