@@ -4,7 +4,7 @@ ghost use Rattle.arrange.specs.LineEnds.{left_end, right_end};
 ghost use Rattle.arrange.specs.Marked.{marked_of};
 
 use crate::marked_seg::MarkedSeg;
-use plane_base::point::Pt;
+use plane_base::Pt;
 
 /// An end of a segment, with the number of the segment's base layer. A segment opens at its left end
 /// and closes at its right one.

@@ -4,9 +4,8 @@ ghost use Rattle.overlay_terms.specs.Layers.{layers_max};
 ghost use Rattle.overlay_terms.specs.TileLaws.{IsProper};
 
 use crate::marked_seg::MarkedSeg;
-use exact_point::crossing::direction_cmp;
-use exact_point::point::HPoint;
 use exact_point::side::side;
+use exact_point::{HPoint, direction_cmp};
 use std::cmp::Ordering;
 
 /// A segment with its layer. The order is by direction, the vertical ones last, then from the lowest

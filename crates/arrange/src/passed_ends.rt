@@ -6,7 +6,7 @@ ghost use Rattle.arrange.specs.declared.line_end.LineEnd.{LineEnd};
 
 use crate::line_end::LineEnd;
 use crate::unit::Unit;
-use plane_base::point::{Pt, Seg};
+use plane_base::{Pt, Seg};
 
 /// Ends along a line, counted: how many segments begin there and how many end, with a bit for each
 /// base layer that has an odd number of the ends.

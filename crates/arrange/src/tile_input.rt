@@ -9,7 +9,7 @@ ghost use Rattle.arrange.specs.Marked.{marked_of, marked_by, kept_in, segments_m
 ghost use Rattle.arrange.specs.SameInput.{SameInputsAreEqual};
 
 use crate::marked_seg::MarkedSeg;
-use layer_expr::step_list::StepList;
+use layer_expr::StepList;
 use plane_base::{BaseLayer, COLUMN_COUNT, Column, Seg};
 use std::alloc::{AllocError, Global};
 use std::marker::Model;

@@ -1,5 +1,5 @@
 //! Units of the arrangement.
-use plane_base::point::Seg;
+use plane_base::Seg;
 
 /// A stretch between neighbouring ends of collinear segments, with a bit for each base layer that
 /// has an odd number of segments over it.

@@ -19,7 +19,7 @@ use Rattle.record_writing.specs.Listing.{entry_of as listed_code, entries_of, re
 use Rattle.record_writing.specs.declared.catalog.Listed as code
 use Rattle.record_writing.specs.declared.catalog.Records.{Records}
 use Rattle.record_writing.specs.declared.catalog.Records.TheVariants.{Base, Derived}
-use Rattle.commit_plan.specs.Filing.{Record, extent_of, FiledLayer, a_base, a_definition, listed_of, SpellTiles, SpellLayer, SpellLayers}
+use Rattle.commit_plan.specs.Filed.{Record, extent_of, FiledLayer, a_base, a_definition, listed_of, SpellTiles, SpellLayer, SpellLayers}
 use Rattle.commit_plan.specs.Staying.{LiveContent}
 use Rattle.commit_plan.specs.Sizes.{entry_size, catalog_size}
 

@@ -26,9 +26,9 @@ use Rattle.commit_plan.specs.Kept.{Kept, extents_in, other}
 use Rattle.commit_plan.specs.Planning.{IsPlan, Plans}
 use Rattle.commit_plan.specs.Staying.{LiveContent, kept_content, AreHeldApart}
 use Rattle.commit_plan.specs.Live.{live_content}
-use Rattle.commit_plan.specs.Filing.{Filed, FiledLayer, listed_of, filed_of, Files}
-use Rattle.root_reading.specs.Taking.{AllNear, IsMapOf, if_apart}
-use Rattle.commit_plan.specs.Drafting.{IsDraft, IsLaidOut, Spell, IsNext}
+use Rattle.commit_plan.specs.Filed.{Filed, FiledLayer, listed_of, filed_of, Files}
+use Rattle.root_reading.specs.RootRuns.{AllNear, IsMapOf, if_apart}
+use Rattle.commit_plan.specs.Drafting.{IsDraft, IsLaidOut, Spell, NextHolds}
 use Rattle.commit_plan.proofs.Filed.{filing_makes}
 use Rattle.commit_plan.proofs.Plan.{plans}
 use Rattle.commit_plan.proofs.Placed.{planned_new, planned_apart, all_off, all_writes_apart}
@@ -46,7 +46,7 @@ pub record IsCompleted (x : Kept) (held : Held) (listing : List Listed) (catalog
   pub small : next.root.catalog.size < 2 ^ 32
   pub there : b.at ≡ body_at (other x.root)
   pub spelled : b.bytes.items ≡ body_text next.root
-  pub stands : live_content next.live ≡ record { listing = listing; layers = held.layers; tiles = held.tiles }
+  pub content : live_content next.live ≡ record { listing = listing; layers = held.layers; tiles = held.tiles }
   pub taken : AllNear (catalog.extent ∷ extents_listed listing)
       → IsMapOf (catalog.extent ∷ extents_listed listing) (taken_of next.live.room.map)
   pub plan : next.plan.items ≡ d.writes.items ++ b ∷ []
@@ -93,12 +93,12 @@ module _ (x : Kept) (given : List runs.Extent) (limit : ℕ) (layers : List File
       (records_near (kept_content x) given limit _ layers catalog held.layers held.tiles d.runs.items apart spell.spelled
       low draft.placed.planned draft.runs)
 
-  pub completes : IsNext x held next
+  pub completes : NextHolds x held next
   completes = record {
     kept = y;
     holds = refl;
     root = refl;
-    stands = c.stands;
+    content = c.content;
     room = subst (λ (e : RecordExtent). IsMapOf (e ∷ extents_listed listing) (taken_of next.live.room.map))
         (sym c.catalog_is) (c.taken near);
     plans = subst (λ (ws : List Write). Plans x y ws) (sym c.plan) (plans x y d.writes.items b is_plan);

@@ -6,7 +6,7 @@ use Rattle.std.proofs.lemmas.List.Sums.{sum_by-cons, sum_by-append}
 use Rattle.overlay_terms.specs.Layers.{Name, Layer}
 use Rattle.overlay_terms.specs.Histories.{Finished}
 use Rattle.commit_plan.specs.Staying.{LiveContent, layer_stays, tile_stays}
-use Rattle.commit_plan.specs.Filing.{Record, fresh, stays, fresh_of, FiledLayer, a_base, a_definition, filed_tiles, filed_of, SaysLayer, SaysTile, SpellTiles, SpellLayer, SpellLayers}
+use Rattle.commit_plan.specs.Filed.{Record, fresh, stays, fresh_of, FiledLayer, a_base, a_definition, filed_tiles, filed_of, SaysLayer, SaysTile, SpellTiles, SpellLayer, SpellLayers}
 use Rattle.commit_plan.specs.Sizes.{new_count}
 
 module _ (live : LiveContent) where

@@ -13,8 +13,8 @@ use Rattle.commit_plan.specs.declared.draft.Draft.{Draft}
 use Rattle.commit_plan.specs.declared.write.Write.{Write}
 use Rattle.commit_plan.specs.declared.fault.StoreFault.TheVariants.{Full}
 use Rattle.commit_plan.specs.Fault.{fault_of_extents}
-use Rattle.commit_plan.specs.Filing.{Filed, IsWriteOf, AreWritesOf}
-use Rattle.root_reading.specs.Taking.{AreRunsOf}
+use Rattle.commit_plan.specs.Filed.{Filed, IsWriteOf, AreWritesOf}
+use Rattle.root_reading.specs.RootRuns.{AreRunsOf}
 use Rattle.commit_plan.specs.Drafting.{lengths_of, extents_of_filed, ArePlaced, IsDraft}
 
 pub lengths_more : (fs : List Filed) (f : Filed) → lengths_of (fs ++ f ∷ []) ≡ lengths_of fs ++ length f.bytes ∷ []

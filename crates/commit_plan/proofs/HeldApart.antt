@@ -6,7 +6,7 @@ use Rattle.extent_map.specs.Extents as maps
 use Rattle.extent_map.specs.Extents.{IsApart, IsUnused, AreAlike}
 use Rattle.store_terms.specs.declared.root.RecordExtent.{RecordExtent}
 use Rattle.store_terms.specs.Places.{blocks, are_apart, is_apart_from, all_apart}
-use Rattle.root_reading.specs.Taking.{IsNear, AreRunsFor}
+use Rattle.root_reading.specs.RootRuns.{IsNear, AreRunsFor}
 use Rattle.commit_plan.specs.Staying.{is_near, near_ones, AreHeldApart}
 use Rattle.commit_plan.proofs.Placed.{Beside, beside_is}
 

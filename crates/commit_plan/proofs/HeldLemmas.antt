@@ -7,7 +7,7 @@ use Rattle.store_terms.specs.declared.root.Root.{Root}
 use Rattle.store_terms.specs.Catalog.{Listed}
 use Rattle.store_terms.specs.Places.{extents_listed}
 use Rattle.store_terms.specs.Image.{◌>>=◌, layers_of, listing_of, held_by, held_of}
-use Rattle.root_reading.specs.Taking.{if_apart}
+use Rattle.root_reading.specs.RootRuns.{if_apart}
 
 -- what a root holds, once its catalog, layers and tiles are read
 pub held_steps : (file : List ℕ) (r : Root) (ls : List Listed) (x : List Layer × List Finished)

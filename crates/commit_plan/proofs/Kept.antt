@@ -15,7 +15,7 @@ use Rattle.store_terms.specs.Frame.{extents_of}
 use Rattle.store_terms.proofs.FrameLemmas.{elsewhere_has_no_meaning, same_listing}
 use Rattle.store_terms.specs.StandsFor.{gate, gate_at, body, body_at}
 use Rattle.store_terms.specs.Roots.{body_in}
-use Rattle.commit_plan.specs.Kept.{Kept, extents_in, own, other, Named, Harmless, Live, Rest, Ready}
+use Rattle.commit_plan.specs.Kept.{Kept, extents_in, own, other, IsWholeAt, Harmless, Live, Rest, Ready}
 
 -- whole blocks within the file hold their bytes
 bytes_within : (block size len : ℕ) → block + blocks size ≤ len / 4096 → 4096 * block + size ≤ len
@@ -82,8 +82,8 @@ module _ (old new : List ℕ) (at n : ℕ) (torn : Torn at n old new) where
   pub gate_kept : (k : ℕ) → k ≤ 1 → 8192 ≤ length old → Apart at n (gate_at k) 1 → gate new k ≡ gate old k
   gate_kept k small long apart = byte_kept old new at n (gate_at k) torn (omega arith) apart
 
-  pub named_kept : (k : ℕ) (x : Kept) → k ≤ 1 → Apart at n (body_at k) 40 → ApartFrom at n (extents_in x) → Named k x old
-      → Named k x new
+  pub named_kept : (k : ℕ) (x : Kept) → k ≤ 1 → Apart at n (body_at k) 40 → ApartFrom at n (extents_in x) → IsWholeAt k x old
+      → IsWholeAt k x new
   named_kept k x small off_body off_extents named =
       let all = all_same (extents_in x) named.placed off_extents in
       let same = elsewhere_has_no_meaning old new x.root

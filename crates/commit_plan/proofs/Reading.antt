@@ -9,7 +9,7 @@ use Rattle.store_terms.specs.declared.root.Root.{Root}
 use Rattle.store_terms.specs.StandsFor.{gate, body, fits_slot, is_foreign, slot, newer_root, root_of, StandsFor}
 use Rattle.store_terms.specs.declared.root.Body.{Body}
 use Rattle.store_terms.specs.Roots.{format_of, ours}
-use Rattle.commit_plan.specs.Kept.{Kept, own, other, Named, Live, Rest, Shut, Calm, Ready, Either}
+use Rattle.commit_plan.specs.Kept.{Kept, own, other, IsWholeAt, Live, Rest, Shut, Calm, Ready, Either}
 
 fits : (k : ℕ) (r : Root) → r.sequence ≤ 2 ^ 62 → r.version ≤ 2 ^ 62 → r.sequence % 2 ≡ k → fits_slot k r ≡ true
 fits k r bounded numbered parity = grind (arith, nat_tests)
@@ -109,7 +109,7 @@ same_names file q r version catalog format =
     λ i. held_of file (record { is_old = format i; sequence = q.sequence; version = version i; catalog = catalog i })
 
 pub stands : (file : List ℕ) (q : Root) (x : Kept) (k : ℕ) → root_of file ≡ Ok q → q.version ≡ x.root.version
-    → q.catalog ≡ x.root.catalog → q.is_old ≡ x.root.is_old → Named k x file → StandsFor x.held file
+    → q.catalog ≡ x.root.catalog → q.is_old ≡ x.root.is_old → IsWholeAt k x file → StandsFor x.held file
 stands file q x k root version catalog format named =
     ap (λ (o : Result Root Damage). o >>= λ r. held_of file r) root ∙ same_names file q x.root version catalog format
     ∙ named.holds
@@ -182,7 +182,7 @@ opened_rest x y file ready opened =
       live = record {
         opened = ap (λ (k : ℕ). gate file k) here ∙ opened;
         named =
-            subst (λ (k : ℕ). Named k y file) (sym here) ready.named;
+            subst (λ (k : ℕ). IsWholeAt k y file) (sym here) ready.named;
       };
       harmless = record {
         root = x.root;

@@ -24,7 +24,7 @@ use Rattle.commit_plan.specs.declared.write.Write.{Write}
 use Rattle.commit_plan.specs.declared.draft.Draft.{Draft}
 use Rattle.commit_plan.specs.Drafting.{IsDraft}
 use Rattle.commit_plan.specs.Staying.{LiveContent, layer_named}
-use Rattle.commit_plan.specs.Filing.{Filed, Record, extent_of, fresh_of, FiledLayer, a_base, a_definition, listed_of, filed_tiles, filed_of, AreWritesOf, SaysLayer, SaysTile, SpellTiles, SpellLayer, SpellLayers}
+use Rattle.commit_plan.specs.Filed.{Filed, Record, extent_of, fresh_of, FiledLayer, a_base, a_definition, listed_of, filed_tiles, filed_of, AreWritesOf, SaysLayer, SaysTile, SpellTiles, SpellLayer, SpellLayers}
 use Rattle.commit_plan.specs.Walking.{IsFiled, IsSlotFiled, AreTilesFiled, IsLayerFiled, AreLayersFiled}
 
 pub writes_count : (fs : List Filed) (ws : List Write) → AreWritesOf fs ws → length ws ≡ length fs

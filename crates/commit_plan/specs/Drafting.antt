@@ -1,8 +1,7 @@
--- The records of a commit that have their places.
+-- How the writes of a commit lie, and what they lead to.
 use Rattle.std.specs.Prelude.{false, ◌≡◌, ℕ, ◌≤◌, List, [], ◌∷◌, ◌++◌, length, map, flat_map, Some}
 use Rattle.extent_map.specs.declared.extent.Extent as runs
-use Rattle.extent_map.specs.Extents.{AreAlike}
-use Rattle.extent_map.specs.FirstFit.{IsPlanned, taken_with}
+use Rattle.extent_map.specs.FirstFit.{IsPlanned}
 use Rattle.extent_map.specs.Taken.{taken_of}
 use Rattle.overlay_terms.specs.Commands.{version_max}
 use Rattle.store_terms.specs.declared.root.RecordExtent.{RecordExtent}
@@ -12,36 +11,17 @@ use Rattle.store_terms.specs.Roots.{body_text}
 use Rattle.store_terms.specs.Image.{Held}
 use Rattle.store_terms.specs.Spelled.{MayBeStored}
 use Rattle.commit_plan.specs.declared.write.Write.{Write}
-use Rattle.commit_plan.specs.declared.draft.Draft.{Draft}
 use Rattle.commit_plan.specs.declared.next.Next.{Next}
 use Rattle.commit_plan.specs.Kept.{Kept, extents_in}
 use Rattle.commit_plan.specs.Planning.{Plans}
-use Rattle.commit_plan.specs.Filing.{Filed, FiledLayer, listed_of, filed_of, SpellLayers, AreWritesOf}
+use Rattle.commit_plan.specs.Filed.{Filed, FiledLayer, lengths_of, extents_of_filed, listed_of, filed_of, SpellLayers, AreWritesOf}
 use Rattle.commit_plan.specs.Staying.{LiveContent, kept_content}
 use Rattle.commit_plan.specs.Live.{live_content}
-use Rattle.root_reading.specs.Taking.{AreRunsOf, IsMapOf}
-
-abbrev pub lengths_of : List Filed → List ℕ
-lengths_of fs = map (λ (f : Filed). length f.bytes) fs
-
-abbrev pub extents_of_filed : List Filed → List RecordExtent
-extents_of_filed fs = map (λ (f : Filed). f.extent) fs
+use Rattle.root_reading.specs.RootRuns.{AreRunsOf, IsMapOf}
 
 -- records of these sizes find, in order, the lowest runs that are free beside what is taken
 abbrev pub ArePlanned : List runs.Extent → ℕ → List ℕ → Type 0
 ArePlanned given limit sizes = (places : List runs.Extent) × IsPlanned given limit sizes places
-
--- in a draft records of these sizes have, in order, the lowest runs that are free beside what is taken
-pub record ArePlaced (given : List runs.Extent) (limit : ℕ) (sizes : List ℕ) (d : Draft) : Type 0 where
-  pub blocks : d.room.max_blocks ≡ limit
-  pub planned : IsPlanned given limit sizes d.runs.items
-  pub alike : AreAlike (taken_with given d.runs.items) (taken_of d.room.map)
-
--- a draft of these records: each has its run, and its write
-pub record IsDraft (given : List runs.Extent) (limit : ℕ) (fs : List Filed) (d : Draft) : Type 0 where
-  pub placed : ArePlaced given limit (lengths_of fs) d
-  pub runs : AreRunsOf (extents_of_filed fs) d.runs.items
-  pub writes : AreWritesOf fs d.writes.items
 
 -- filed layers that a catalog lists, and that say what a version holds
 pub record Spell (live : LiveContent) (layers : List FiledLayer) (listing : List Listed) (x : Held) : Type 0 where
@@ -71,10 +51,10 @@ pub record IsLaidOut (live : LiveContent) (given : List runs.Extent) (limit : �
   pub spells : last.bytes.items ≡ body_text root
 
 -- what a commit goes on to from x: a root that holds this, the blocks that it takes, and the writes that lead there
-pub record IsNext (x : Kept) (held : Held) (next : Next) : Type 0 where
+pub record NextHolds (x : Kept) (held : Held) (next : Next) : Type 0 where
   pub kept : Kept
   pub holds : kept.held ≡ held
   pub root : next.root ≡ kept.root
-  pub stands : live_content next.live ≡ kept_content kept
+  pub content : live_content next.live ≡ kept_content kept
   pub room : IsMapOf (extents_in kept) (taken_of next.live.room.map)
   pub plans : Plans x kept next.plan.items

@@ -28,7 +28,7 @@ abbrev pub other : Root → ℕ
 other r = (r.sequence + 1) % 2
 
 -- the slot's body is this root, and what it names is there: open the gate, and nothing is missing
-pub record Named (k : ℕ) (x : Kept) (file : List ℕ) : Type 0 where
+pub record IsWholeAt (k : ℕ) (x : Kept) (file : List ℕ) : Type 0 where
   pub long : block_size * 2 ≤ length file
   pub spelt : body file k ≡ ours x.root
   pub bounded : x.root.sequence ≤ sequence_max
@@ -50,7 +50,7 @@ pub record Harmless (k : ℕ) (r : Root) (file : List ℕ) : Type 0 where
 -- the root is open and whole
 pub record Live (x : Kept) (file : List ℕ) : Type 0 where
   pub opened : gate file (own x.root) ≡ open_gate
-  pub named : Named (own x.root) x file
+  pub named : IsWholeAt (own x.root) x file
 
 -- whatever the other gate holds, the file stands for x
 pub record Rest (x : Kept) (file : List ℕ) : Type 0 where
@@ -69,7 +69,7 @@ Calm x file = Rest x file ⊎ (Shut x file × (sequence_max ≤ x.root.sequence)
 -- both roots are whole, and the newer one's gate decides
 pub record Ready (x y : Kept) (file : List ℕ) : Type 0 where
   pub live : Live x file
-  pub named : Named (other x.root) y file
+  pub named : IsWholeAt (other x.root) y file
   pub after : y.root.sequence ≡ x.root.sequence + 1
 
 -- the file stands for one of the two

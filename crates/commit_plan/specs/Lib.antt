@@ -2,12 +2,13 @@ pub mod Fault
 pub mod Kept
 pub mod Same
 pub mod Staying
-pub mod Taking
+pub mod TakenRoom
 pub mod Live
 pub mod Planning
-pub mod Filing
+pub mod Filed
+pub mod Drafted
 pub mod Drafting
 pub mod Sizes
-pub mod Walking
+pub mod RecordPlaces
 pub mod Fitting
-pub mod Loading
+pub mod Loaded

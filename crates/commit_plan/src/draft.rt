@@ -1,26 +1,47 @@
 //! The records of a commit, each put in its place.
-ghost use Rattle.std.specs.Prelude.{◌≡◌, ◌⊎◌, ◌+◌, ◌-◌, ◌*◌, ◌^◌, ◌≤◌, ◌<◌, ◌++◌, ◌∷◌, [], ℕ, List, length, replicate, IfOk, IfErr, IsErrOf};
-ghost use Rattle.extent_map.specs.declared.extent.Extent as runs;
+ghost use Rattle.std.specs.Prelude.{◌≡◌, ◌⊎◌, ◌-◌, ◌*◌, ◌^◌, ◌≤◌, ◌<◌, ◌++◌, ◌∷◌, [], length, replicate, IfOk, IfErr, IsErrOf};
 ghost use Rattle.extent_map.specs.Blocks.{block_size};
-ghost use Rattle.extent_map.specs.FirstFit.{IsFull};
 ghost use Rattle.extent_map.specs.Taken.{taken_of};
-ghost use Rattle.commit_plan.specs.Filing.{Filed};
-ghost use Rattle.commit_plan.specs.Drafting.{ArePlaced, IsDraft};
+ghost use Rattle.store_terms.specs.Places.{blocks};
+ghost use Rattle.commit_plan.specs.Filed.{AreWritesOf, IsWriteOf};
+ghost use Rattle.commit_plan.specs.Drafted.{ArePlaced, HasNoRunFor, IsSized, filed_in, with_filed};
 
 use crate::fault::StoreFault;
 use crate::room::Room;
 use crate::write::Write;
-use extent_map::BLOCK;
-use extent_map::extent::Extent as Run;
+use extent_map::{BLOCK, blocks_of};
 use std::alloc::{AllocError, Global};
+use std::marker::Model;
 use store_terms::root::RecordExtent;
 
-/// The records that have their places: what is taken with them, the runs that they take, and their writes.
+/// A record, and where it goes.
 #[derive(Drop)]
-pub(crate) struct Draft {
-    pub(crate) room: Room,
-    pub(crate) runs: Vec<Run>,
-    pub(crate) writes: Vec<Write>,
+pub(crate) struct FiledRecord {
+    pub(crate) extent: RecordExtent,
+    pub(crate) bytes: Vec<u8>,
+}
+
+/// The records of a commit that have their places, in room that the live root leaves.
+#[derive(Drop)]
+pub(crate) struct Draft<'a> {
+    live: &'a Room,
+    /// The live root's room, in which the records are taken too.
+    room: Room,
+    records: Vec<FiledRecord>,
+}
+
+impl<'a> Model for Draft<'a> {
+    ghost use Rattle.std.specs.Prelude.{map};
+    ghost use Rattle.extent_map.specs.Taken.{taken_of};
+    ghost use Rattle.commit_plan.specs.Drafted.{Drafted, IsDraft, drafted_code, filed_in};
+
+    ghost Value = { Drafted };
+
+    ghost coded = { drafted_code };
+
+    ghost view = { λ d. record { given = taken_of d.live.now.map; limit = d.live.now.max_blocks; filed = map filed_in d.records.items } };
+
+    ghost invariant = { λ d. IsDraft d.live.now d.room (map filed_in d.records.items) };
 }
 
 /// Bytes filled up to whole blocks by zeros.
@@ -33,45 +54,71 @@ fn padded(mut bytes: Vec<u8>, blocks: u64) -> Result<Vec<u8>, AllocError>
     Ok(bytes)
 }
 
-impl Draft {
-    /// No record yet, in a room where the live root's blocks are taken.
-    pub(crate) fn new(alloc: Global, room: Room) -> Draft
-        ensures { IsDraft (taken_of room.map) room.max_blocks [] result }
+/// The write of a record, in whole blocks.
+fn write_of(record: FiledRecord) -> Result<Write, AllocError>
+    requires behind { 2 ≤ record.extent.block }
+    requires low { record.extent.block < 2 ^ 32 }
+    requires sized { IsSized (filed_in record) }
+    ensures { IfOk result (IsWriteOf (filed_in record)) }
+{
+    let RecordExtent { block, size } = record.extent;
+    Ok(Write {
+        at: block as usize * BLOCK,
+        bytes: padded(record.bytes, blocks_of(size))?,
+    })
+}
+
+impl<'a> Draft<'a> {
+    /// No record yet, in the room that a live root leaves.
+    pub(crate) fn new(alloc: Global, live: &'a Room) -> Result<Draft<'a>, AllocError>
+        ensures { IfOk result (λ draft. draft ≡ record { given = taken_of live.now.map; limit = live.now.max_blocks; filed = [] }) }
     {
-        Draft {
-            room,
-            runs: Vec::new(alloc),
-            writes: Vec::new(alloc),
-        }
+        Ok(Draft {
+            live,
+            room: live.try_copy(alloc)?,
+            records: Vec::new(alloc),
+        })
+    }
+
+    /// How many blocks the file may have.
+    pub(crate) fn max_blocks(&self) -> u32
+        ensures value { result ≡ self.now.limit }
+        ensures placed { ArePlaced self.now }
+    {
+        self.live.max_blocks
     }
 
     /// Puts a record in the lowest place that is free for it.
     pub(crate) fn file(&mut self, bytes: Vec<u8>) -> Result<RecordExtent, StoreFault>
         requires { length bytes.items < 2 ^ 32 }
-        ensures ok { (given : List runs.Extent) (limit : ℕ) (fs : List Filed) → IsDraft given limit fs self.old
-            → IfOk result (λ e. IsDraft given limit (fs ++ record { extent = e; bytes = bytes.items } ∷ []) self.new) }
+        ensures ok { IfOk result (λ e. self.new ≡ with_filed self.old (record { extent = e; bytes = bytes.items } ∷ [])) }
         ensures within { IfOk result (λ e. (e.block < 2 ^ 32) × (e.size < 2 ^ 32)) }
-        ensures count { IfOk result (λ _. length self.new.writes.items ≡ length self.old.writes.items + 1) }
-        ensures placed { (given : List runs.Extent) (limit : ℕ) (sizes : List ℕ) → ArePlaced given limit sizes self.old
-            → IfOk result (λ _. ArePlaced given limit (sizes ++ length bytes.items ∷ []) self.new) }
-        ensures full { (given : List runs.Extent) (limit : ℕ) (sizes : List ℕ) → ArePlaced given limit sizes self.old
-            → IsErrOf result StoreFault.Full → IsFull given limit (sizes ++ length bytes.items ∷ []) }
+        ensures full { IsErrOf result StoreFault.Full → HasNoRunFor self.old (length bytes.items ∷ []) }
         ensures err { IfErr result (λ fault. (fault ≡ StoreFault.Full) ⊎ (fault ≡ StoreFault.OutOfMemory)) }
     {
+        // Its memory first: no run is taken without its record.
+        self.records.reserve(1)?;
         let size = bytes.len() as u32;
         let run = match self.room.place(size) {
             Ok(run) => run,
             Err(fault) => return Err(fault),
         };
-        let bytes = padded(bytes, run.blocks)?;
-        self.runs.push(run)?;
-        self.writes.push(Write {
-            at: run.block as usize * BLOCK,
-            bytes,
-        })?;
-        Ok(RecordExtent {
+        let extent = RecordExtent {
             block: run.block,
             size,
-        })
+        };
+        self.records.push_reserved(FiledRecord { extent, bytes });
+        Ok(extent)
+    }
+
+    /// The writes of the records, in their order.
+    pub(crate) fn into_writes(self, alloc: Global) -> Result<Vec<Write>, AllocError>
+        ensures { IfOk result (λ writes. AreWritesOf self.entry.filed writes.items) }
+    {
+        let mut writes = Vec::with_capacity(alloc, self.records.len())?;
+        for record in self.records {
+            writes.push(write_of(record)?)?;
+        }
+        Ok(writes)
     }
 }

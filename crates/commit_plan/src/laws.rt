@@ -1,6 +1,6 @@
 //! Laws over the definitions: each function does nothing, and its contract is the law.
 ghost use Rattle.commit_plan.specs.Planning.{PlansLead};
-ghost use Rattle.commit_plan.specs.Filing.{FilingMakes};
+ghost use Rattle.commit_plan.specs.Filed.{FilingMakes};
 ghost use Rattle.commit_plan.specs.Same.{SameIsEqual};
 
 /// New extents off the live root and off one another, and then the body, lead from one content to the next.

@@ -2,16 +2,15 @@
 //! catalog, and the body of the next root.
 #![tactic(auto)]
 
-mod comparing;
-mod completing;
+mod catalog_and_body;
 mod draft;
-pub mod drafting;
+mod equality;
 pub mod fault;
-mod filing;
 pub mod laws;
 pub mod live_records;
-pub mod loading;
+pub mod loaded;
 pub mod next;
+mod record_places;
 pub mod room;
-pub mod taking;
+pub mod taken_room;
 pub mod write;

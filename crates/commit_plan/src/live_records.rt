@@ -9,12 +9,12 @@ ghost use Rattle.store_terms.specs.Places.{blocks, is_apart_from, all_apart, ext
 ghost use Rattle.store_terms.specs.declared.root.RecordExtent as terms;
 ghost use Rattle.layer_tiles.specs.Filling.{named};
 ghost use Rattle.tile_build.specs.Tile.{tile_of};
-ghost use Rattle.commit_plan.specs.Taking.{TakesRoom};
+ghost use Rattle.commit_plan.specs.TakenRoom.{TakesRoom};
 ghost use Rattle.commit_plan.specs.Staying.{read_content, own_extent, tile_extent, records_named, if_near, layer_named, layer_stays, tile_stays, near_ones};
 
-use crate::comparing::{same_layer, same_tile};
+use crate::equality::{same_layer, same_tile};
 use crate::room::Room;
-use crate::taking::room_of;
+use crate::taken_room::room_of;
 use extent_map::blocks_of;
 use extent_map::extent::Extent as Run;
 use layer_book::layer::Layer;
@@ -26,7 +26,7 @@ use root_reading::load_fault::LoadFault;
 use std::alloc::Global;
 use std::sync::Arc;
 use store_terms::root::RecordExtent;
-use tile_build::tile::Tile;
+use tile_build::Tile;
 
 /// What the live root's catalog lists, the blocks that the root takes, and the layers and finished tiles that it holds,
 /// which it shares with the versions that have them.
@@ -91,7 +91,7 @@ impl LiveRecords {
 
     /// Those of a root that lists nothing, and takes this room.
     pub fn empty(alloc: Global, room: Room) -> LiveRecords
-        ensures stands { live_content result ≡ record { listing = []; layers = []; tiles = [] } }
+        ensures content { live_content result ≡ record { listing = []; layers = []; tiles = [] } }
         ensures room { result.room ≡ room }
     {
         LiveRecords {
@@ -109,7 +109,7 @@ impl LiveRecords {
         table: Arc<Table>,
         max_blocks: u32,
     ) -> Result<LiveRecords, LoadFault>
-        ensures stands { IfOk result
+        ensures content { IfOk result
             (λ live. live_content live ≡ read_content (entries_of listing.items) table.value) }
         ensures room { TakesRoom (λ live. live.room) catalog (entries_of listing.items) max_blocks result }
     {
@@ -123,7 +123,7 @@ impl LiveRecords {
 
     /// Lets go of what the root lists and holds. The blocks that it takes stay.
     pub fn let_go(&mut self)
-        ensures stands { live_content self.new ≡ record { listing = []; layers = []; tiles = [] } }
+        ensures content { live_content self.new ≡ record { listing = []; layers = []; tiles = [] } }
         ensures room { self.new.room ≡ self.old.room }
     {
         self.listing.clear();

@@ -57,6 +57,7 @@ impl Room {
         ensures limit { self.new.max_blocks ≡ self.old.max_blocks }
         ensures full { IsErrOf result StoreFault.Full
             → NoFit (taken_of self.old.map) self.old.max_blocks (blocks size) }
+        ensures unchanged { IfErr result (λ _. taken_of self.new.map ≡ taken_of self.old.map) }
         ensures err { IfErr result (λ fault. (fault ≡ StoreFault.Full) ⊎ (fault ≡ StoreFault.OutOfMemory)) }
     {
         match self.map.place(size) {

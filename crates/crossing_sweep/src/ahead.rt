@@ -9,8 +9,7 @@ ghost use Rattle.arrange.specs.NamedPlaces.{named_cmp};
 ghost use Rattle.crossing_sweep.specs.Ahead.{HasAdded, known_entry, is_first_before};
 
 use arrange::named_place::NamedPlace;
-use exact_point::point::HPoint;
-use exact_point::point_name::PointName;
+use exact_point::{HPoint, PointName};
 use std::alloc::{AllocError, Global};
 use std::collections::BTreeMap;
 use std::marker::Model;

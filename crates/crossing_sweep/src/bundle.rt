@@ -9,7 +9,7 @@ ghost use Rattle.crossing_sweep.specs.Step.{IsSplitAt};
 ghost use Rattle.crossing_sweep.specs.Member.{segs_of};
 
 use crate::member::Member;
-use exact_point::point::HPoint;
+use exact_point::HPoint;
 use exact_point::side::side;
 
 /// Where the members of a status that hold a place begin and end. It is looked for at a hint first: the nodes of

@@ -11,12 +11,11 @@ ghost use Rattle.crossing_sweep.specs.RankedPlace.{named_of, ranked_entry};
 use crate::ahead::Ahead;
 use crate::rank::rank;
 use crate::ranked_place::RankedPlace;
+use arrange::TileInput;
 use arrange::closed_column::is_within;
 use arrange::named_place::NamedPlace;
-use arrange::tile_input::TileInput;
-use exact_point::point_name::PointName;
-use plane_base::column::Column;
-use plane_base::point::{Pt, Seg};
+use exact_point::PointName;
+use plane_base::{Column, Pt, Seg};
 use std::alloc::{AllocError, Global};
 
 /// The ends of an input's segments, and where the borders of the column cut them, in the closed
@@ -39,15 +38,15 @@ fn places_in_order(alloc: Global, input: &TileInput) -> Result<Vec<NamedPlace>, 
         offer_own(&mut places, &m.seg, input.column())?;
     }
     // A place is large: what is moved to and fro is where it stands.
-    let mut order = standing(alloc, &places)?;
+    let mut order = references(alloc, &places)?;
     order.sort_unstable();
     order.dedup();
     let list = named(alloc, &order)?;
     Ok(list)
 }
 
-/// Where each of some places stands.
-fn standing<'a>(
+/// References to some places, in their order.
+fn references<'a>(
     alloc: Global,
     places: &'a [RankedPlace],
 ) -> Result<Vec<&'a RankedPlace>, AllocError>

@@ -4,7 +4,7 @@ ghost use Rattle.std.specs.declared.cmp.Ordering.TheVariants.{Less};
 ghost use Rattle.overlay_terms.specs.Plane.{whole_cmp};
 
 use arrange::unit::Unit;
-use exact_point::crossing::direction_cmp;
+use exact_point::direction_cmp;
 use std::cmp::Ordering;
 
 /// A unit that goes on after the sweep's place, with the number of the last node on it, a bit for

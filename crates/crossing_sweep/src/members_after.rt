@@ -8,8 +8,8 @@ ghost use Rattle.crossing_sweep.specs.Member.{units_of, segs_of, ends_after};
 
 use crate::member::Member;
 use crate::start::Start;
-use exact_point::point::HPoint;
-use plane_base::point::Seg;
+use exact_point::HPoint;
+use plane_base::Seg;
 use std::alloc::AllocError;
 
 /// Whether a segment ends after a place.

@@ -13,9 +13,9 @@ use crate::row::{Row, sort};
 use crate::search::Search;
 use crate::starts::starts;
 use crate::values::first_values;
-use arrange::tile_input::TileInput;
-use exact_point::point_name::PointName;
-use plane_base::point::Seg;
+use arrange::TileInput;
+use exact_point::PointName;
+use plane_base::Seg;
 use std::alloc::{AllocError, Global};
 use std::marker::Model;
 

@@ -13,10 +13,8 @@ use crate::members_after::{count_entering, turned};
 use crate::row::{Row, close, label, mask_over};
 use crate::search::Search;
 use crate::start::Start;
-use arrange::tile_input::TileInput;
-use exact_point::point::HPoint;
-use exact_point::point_name::PointName;
-use exact_point::side::is_in;
+use arrange::TileInput;
+use exact_point::{HPoint, PointName, is_in};
 use std::alloc::{AllocError, Global};
 
 /// What a pass over a column has when it has come to some place.

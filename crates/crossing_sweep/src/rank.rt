@@ -6,7 +6,7 @@ ghost use Rattle.overlay_terms.specs.Within.{IsWithin};
 ghost use Rattle.exact_point.specs.Place.{place, hpoint_cmp};
 ghost use Rattle.crossing_sweep.specs.Rank.{IsFloor, IsRank};
 
-use exact_point::point::HPoint;
+use exact_point::HPoint;
 use plane_base::COORD_MAX;
 use std::cmp::Ordering;
 

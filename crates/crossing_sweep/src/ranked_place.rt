@@ -3,8 +3,7 @@ ghost use Rattle.exact_point.specs.Place.{place};
 ghost use Rattle.crossing_sweep.specs.Rank.{IsRank};
 
 use crate::rank::ranked_cmp;
-use exact_point::point::HPoint;
-use exact_point::point_name::PointName;
+use exact_point::{HPoint, PointName};
 use std::cmp::Ordering;
 
 /// A place with a name for it and its rank. The order is that of the places alone.

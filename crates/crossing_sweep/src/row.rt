@@ -5,8 +5,8 @@ ghost use Rattle.crossing_sweep.specs.Values.{AreValues};
 
 use crate::member::Member;
 use crate::values::value_over;
-use arrange::tile_input::TileInput;
-use plane_base::point::Seg;
+use arrange::TileInput;
+use plane_base::Seg;
 use std::alloc::AllocError;
 
 /// A piece whose sides differ, by the numbers of its ends among the nodes of the closed column.

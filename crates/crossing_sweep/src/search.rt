@@ -10,11 +10,8 @@ ghost use Rattle.crossing_sweep.specs.Testing.{AreTested, AreSeamsTested, seams_
 use crate::ahead::Ahead;
 use crate::member::Member;
 use arrange::closed_column::is_within;
-use exact_point::crossing::cross_of;
-use exact_point::point::HPoint;
-use exact_point::point_name::PointName;
-use plane_base::column::Column;
-use plane_base::point::Seg;
+use exact_point::{HPoint, PointName, cross_of};
+use plane_base::{Column, Seg};
 use std::alloc::AllocError;
 
 /// The places that a pass has found ahead, and the pairs of neighbours that it has tested, if they

@@ -7,8 +7,7 @@ ghost use Rattle.crossing_sweep.specs.Rank.{IsRank};
 
 use crate::rank::ranked_cmp;
 use arrange::unit::Unit;
-use exact_point::crossing::direction_cmp;
-use exact_point::point::HPoint;
+use exact_point::{HPoint, direction_cmp};
 use std::cmp::Ordering;
 
 /// A unit and the first place of a closed column on it, with its rank. The order is by that place, then by

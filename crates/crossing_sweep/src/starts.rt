@@ -8,12 +8,9 @@ ghost use Rattle.crossing_sweep.specs.Start.{AreStarts, is_met};
 
 use crate::rank::rank;
 use crate::start::Start;
-use arrange::finding_units::units;
-use arrange::tile_input::TileInput;
-use exact_point::point::HPoint;
-use exact_point::point_name::PointName;
-use plane_base::column::Column;
-use plane_base::point::Seg;
+use arrange::{TileInput, units};
+use exact_point::{HPoint, PointName};
+use plane_base::{Column, Seg};
 use std::alloc::{AllocError, Global};
 
 /// The units with a place of the closed column, in the order in which a pass meets them.

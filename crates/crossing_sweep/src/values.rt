@@ -3,7 +3,7 @@ ghost use Rattle.std.specs.Prelude.{IfOk};
 ghost use Rattle.crossing_sweep.specs.Rows.{HasValue};
 ghost use Rattle.crossing_sweep.specs.Values.{AreValues};
 
-use arrange::tile_input::TileInput;
+use arrange::TileInput;
 use std::alloc::{AllocError, Global};
 
 /// For so many base layers, from the first on, what the steps are is worked out once over each mask.

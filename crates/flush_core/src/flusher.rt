@@ -4,7 +4,7 @@ ghost use Rattle.disk_model.specs.Disk.{Failed, CountsCall};
 ghost use Rattle.store_terms.specs.Roots.{sequence_max};
 ghost use Rattle.root_store.specs.Beginning.{IsReason};
 ghost use Rattle.commit_plan.specs.Kept.{Kept};
-ghost use Rattle.root_store.specs.Running.{Stands, Runs, KeepsTo, Stepped, FailsByDevice, Counts, Turns, KeepsRoots, calls_left, is_busy, fault_in};
+ghost use Rattle.root_store.specs.Running.{StoreStandsFor, Runs, KeepsTo, Stepped, FailsByDevice, Counts, Turns, KeepsRoots, calls_left, is_busy, fault_in};
 ghost use Rattle.flush_core.specs.Stored.{stored_after, IsCommitOf, HasRoomFor, HasNoRoomFor, calls_of};
 
 use crate::imaging::image_of;
@@ -13,7 +13,7 @@ use disk_model::disk::Disk;
 use root_store::commit::Commit;
 use root_store::phase::{Phase, Progress};
 use std::alloc::Global;
-use versions::version::Version;
+use versions::Version;
 
 /// A store to which versions are written.
 #[derive(Debug, Drop)]
@@ -47,7 +47,7 @@ impl<D: Disk> Flusher<D> {
     pub fn begin(&mut self, alloc: Global, version: &Version) -> Result<(), StoreFault>
         requires { is_busy self.old.commit.phase ≡ false }
         // From the content that the store stands for to just the version's number, layers and finished tiles.
-        ensures begun { (x : Kept) → Stands D.Disk self.old.commit x → OnOk result ((y : Kept) × IsCommitOf version.now y × Runs D.Disk self.new.commit x y) }
+        ensures begun { (x : Kept) → StoreStandsFor D.Disk self.old.commit x → OnOk result ((y : Kept) × IsCommitOf version.now y × Runs D.Disk self.new.commit x y) }
         ensures stored { self.new.commit.root.version ≡ self.old.commit.root.version }
         // The root that it leads to has the version's number.
         ensures number { OnOk result (self.new.commit.next_root.version ≡ version.now.number) }

@@ -6,7 +6,7 @@ ghost use Rattle.flush_core.specs.Stored.{IsImageOf};
 
 use record_writing::image::Image;
 use std::alloc::{AllocError, Global};
-use versions::version::Version;
+use versions::Version;
 
 /// What a commit of a version writes: its number, its layers and all its finished tiles. It shares them.
 pub fn image_of(alloc: Global, version: &Version) -> Result<Image, AllocError>

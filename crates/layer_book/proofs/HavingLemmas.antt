@@ -9,13 +9,14 @@ use Rattle.overlay_terms.specs.Column.{touches}
 use Rattle.overlay_terms.specs.Layers.{Name, base, derived, Layer, Marked, layers_in_reach, steps_in_reach}
 use Rattle.overlay_terms.specs.Tiles.{Input, input_of}
 use Rattle.overlay_terms.specs.SameInput.{same_marked, same_steps, same_input, same_input-Decides}
+use Rattle.overlay_terms.proofs.Lists.{drop_there}
 use Rattle.arrange.specs.declared.marked_seg.MarkedSeg.{MarkedSeg}
 use Rattle.arrange.specs.Marked.{marked_of}
 use Rattle.layer_book.specs.Having.{marks_in, past}
 use Rattle.layer_book.specs.Question.{at_index, marked_layers}
 use Rattle.layer_book.specs.Touching.{marked_in}
 use Rattle.layer_book.proofs.MarkedLayers.{rings_of, marked_layers-nil}
-use Rattle.layer_book.proofs.SameMarks.{mark, marked_from, first_and_rest, drop_there, next_kept, next_skipped, none_left}
+use Rattle.layer_book.proofs.SameMarks.{mark, marked_from, first_and_rest, next_kept, next_skipped, none_left}
 
 -- whether what is left of marked segments is the rest of the expected ones
 abbrev tells : Option (List Marked) → List Marked → Bool

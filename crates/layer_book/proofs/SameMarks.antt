@@ -1,5 +1,5 @@
 -- Marked segments of base layers, compared one base layer after another.
-use Rattle.std.proofs.Common.{◌≡◌, ℕ, zero, suc, ◌+◌, ◌<◌, ◌≤◌, ◌==◌, Bool, true, false, cond, ◌&&◌, List, [], ◌∷◌, ◌++◌, length, map, flat_map, filter, drop, get_or, nat_le, slice_get, Some, refl, ap, sym, ◌∙◌, subst, arith, add-one, drop-cons, leb-false}
+use Rattle.std.proofs.Common.{◌≡◌, ℕ, zero, suc, ◌+◌, ◌<◌, ◌≤◌, ◌==◌, Bool, true, false, cond, ◌&&◌, List, [], ◌∷◌, ◌++◌, length, map, flat_map, filter, drop, get_or, nat_le, slice_get, Some, refl, ap, sym, ◌∙◌, subst, arith, leb-false}
 use borrow.Author.Tests.{leb-true}
 use Rattle.std.specs.List.{enumerate_from}
 use Rattle.std.specs.Cmp.Lexicographic.{pointwise}
@@ -11,6 +11,7 @@ use Rattle.overlay_terms.specs.Plane.{WholePoint, Segment, segments_of}
 use Rattle.overlay_terms.specs.Column.{touches}
 use Rattle.overlay_terms.specs.Layers.{Marked}
 use Rattle.overlay_terms.specs.SameInput.{same_marked, same_segment}
+use Rattle.overlay_terms.proofs.Lists.{drop_there}
 use Rattle.arrange.specs.Marked.{kept_in}
 
 -- a segment of the base layer with a number
@@ -91,11 +92,6 @@ split_marks n (u ∷ s) (v ∷ t) x y hx hy =
     ap (λ b. (b && same_segment u v) && pointwise same_marked (map (mark n) s ++ x) (map (mark n) t ++ y)) (same_number n)
     ∙ ap (λ q. same_segment u v && q) (split_marks n s t x y hx hy)
     ∙ and_grouped (same_segment u v) (pointwise same_segment s t) (pointwise same_marked x y)
-
--- what is left of a list from an index on
-pub drop_there : {A : Type 0} (xs : List A) (i : ℕ) (x : A) → i < length xs → x ≡ get_or xs i x → drop i xs ≡ x ∷ drop (i + 1) xs
-drop_there xs i x h e =
-    drop-cons xs i x h ∙ ap (λ y. y ∷ drop (suc i) xs) (sym e) ∙ ap (λ k. x ∷ drop k xs) (sym (add-one i))
 
 -- the segments of the first base layers are compared apart
 pub first_compared : (column n : ℕ) (new old : List (List WholePoint)) (news olds : List (List (List WholePoint))) →

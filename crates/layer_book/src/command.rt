@@ -3,7 +3,7 @@ ghost use Rattle.std.specs.Prelude.{◌≡◌};
 ghost use Rattle.overlay_terms.specs.Touched.{name_of};
 ghost use Rattle.layer_book.specs.Command.{command};
 
-use layer_expr::expr::Expr;
+use layer_expr::Expr;
 use layer_expr::name::Name;
 use plane_base::BaseLayer;
 use std::sync::Arc;

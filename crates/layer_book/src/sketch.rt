@@ -15,8 +15,8 @@ use crate::fault::LayerFault;
 use crate::layer::{Layer, node_uses};
 use crate::layers::Layers;
 use arrayvec::ArrayVec;
-use layer_expr::MAX_LAYERS;
-use layer_expr::expr::{Expr, Node};
+use layer_expr::{Expr, MAX_LAYERS};
+use layer_expr::expr::Node;
 use layer_expr::name::Name;
 use plane_base::BaseLayer;
 

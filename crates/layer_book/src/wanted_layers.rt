@@ -7,8 +7,7 @@ ghost use Rattle.layer_book.specs.Question.{marked_layers};
 
 use crate::layer::Layer;
 use crate::layers::Layers;
-use layer_expr::MAX_LAYERS;
-use layer_expr::expr::Expr;
+use layer_expr::{Expr, MAX_LAYERS};
 use layer_expr::name::Name;
 use plane_base::BaseLayer;
 use std::alloc::{AllocError, Global};

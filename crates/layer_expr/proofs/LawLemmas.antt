@@ -8,10 +8,10 @@ use Rattle.layer_expr.specs.declared.fault.ExprFault.{ExprFault}
 use Rattle.layer_expr.specs.declared.fault.ExprFault.TheVariants.{ExprSyntax, ExprTooLong, BadName}
 use Rattle.layer_expr.specs.Token.{Token, tokens_of}
 use Rattle.layer_expr.specs.Grammar.{written_tree, IsSum, IsBegun, is_name_short, IsGoodSoFar, IsFaultAt, IsRefusedBy, ReadsAs}
-use Rattle.layer_expr.specs.Standing.{Standing, moved, finished, at_start}
+use Rattle.layer_expr.specs.ReaderState.{ReaderState, moved, finished, at_start}
 use Rattle.layer_expr.specs.Spelling.{canonical, expression_text}
 use Rattle.layer_expr.specs.Reader.{is_good}
-use Rattle.layer_expr.proofs.StandingLemmas.{T, one_spelling, false_is_true}
+use Rattle.layer_expr.proofs.ReaderStateLemmas.{T, one_spelling, false_is_true}
 use Rattle.layer_expr.proofs.SpellingLemmas.{size, shortest, text_size, read_is_expression}
 use Rattle.layer_expr.proofs.ReadingLemmas.{IsAt, is_at_start, goes_on, too_long, cannot_stand, long_name, ends_early, ends_whole}
 
@@ -129,20 +129,20 @@ never_both bytes t f h k = read_by bytes t k.0 (slice_get (tokens_of bytes) k.0)
 abbrev Decided : List ℕ → Type 0
 Decided bytes = ((t : Tree (List ℕ)) × ReadsAs bytes t) ⊎ ((f : ExprFault) × IsRefusedBy bytes f)
 
-ended : (bytes : List ℕ) (count : ℕ) (s : Standing (Tree (List ℕ))) (o : Option (Tree (List ℕ))) → IsAt bytes count [] s → finished T s ≡ o → Decided bytes
+ended : (bytes : List ℕ) (count : ℕ) (s : ReaderState (Tree (List ℕ))) (o : Option (Tree (List ℕ))) → IsAt bytes count [] s → finished T s ≡ o → Decided bytes
 ended bytes count s None h e = inr (ExprSyntax (length bytes), ends_early bytes count [] s h refl e)
 ended bytes count s (Some tree) h e = inl (tree, ends_whole bytes count [] s tree h refl e)
 
 -- at a token, if the rest is decided wherever the reader stands behind it
 abbrev Later : List ℕ → List Token → Type 0
-Later bytes more = (count : ℕ) (u : Standing (Tree (List ℕ))) → IsAt bytes count more u → Decided bytes
+Later bytes more = (count : ℕ) (u : ReaderState (Tree (List ℕ))) → IsAt bytes count more u → Decided bytes
 
-module _ (bytes : List ℕ) (count : ℕ) (s : Standing (Tree (List ℕ))) (t : Token) (more : List Token) (h : IsAt bytes count (t ∷ more) s) (later : Later bytes more) where
-  by_name : count < 64 → (u : Standing (Tree (List ℕ))) (b : Bool) → moved T t.kind s ≡ Some u → is_good t.kind ≡ b → Decided bytes
+module _ (bytes : List ℕ) (count : ℕ) (s : ReaderState (Tree (List ℕ))) (t : Token) (more : List Token) (h : IsAt bytes count (t ∷ more) s) (later : Later bytes more) where
+  by_name : count < 64 → (u : ReaderState (Tree (List ℕ))) (b : Bool) → moved T t.kind s ≡ Some u → is_good t.kind ≡ b → Decided bytes
   by_name few u true e g = later (count + 1) u (goes_on bytes count (t ∷ more) more s u t h few refl e g)
   by_name few u false e g = inr (BadName, long_name bytes count (t ∷ more) s t more h refl few g (ap is_some e))
 
-  by_step : count < 64 → (o : Option (Standing (Tree (List ℕ)))) → moved T t.kind s ≡ o → Decided bytes
+  by_step : count < 64 → (o : Option (ReaderState (Tree (List ℕ)))) → moved T t.kind s ≡ o → Decided bytes
   by_step few None e = inr (ExprSyntax t.at, cannot_stand bytes count (t ∷ more) s t more h refl few e)
   by_step few (Some u) e = by_name few u (is_good t.kind) e refl
 
@@ -151,7 +151,7 @@ module _ (bytes : List ℕ) (count : ℕ) (s : Standing (Tree (List ℕ))) (t : 
   by_count (inr (inl full)) = inr (ExprTooLong, too_long bytes count (t ∷ more) s t more h refl full)
   by_count (inr (inr over)) = absurd (omega (arith, h.few))
 
-decided : (left : List Token) (bytes : List ℕ) (count : ℕ) (s : Standing (Tree (List ℕ))) → IsAt bytes count left s → Decided bytes
+decided : (left : List Token) (bytes : List ℕ) (count : ℕ) (s : ReaderState (Tree (List ℕ))) → IsAt bytes count left s → Decided bytes
 decided [] bytes count s h = ended bytes count s (finished T s) h refl
 decided (t ∷ more) bytes count s h = by_count bytes count s t more h (λ n u at. decided more bytes n u at) (three_ways count 64)
 

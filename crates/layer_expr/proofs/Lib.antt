@@ -6,7 +6,7 @@ pub mod StepOrder
 pub mod StepEvaluation
 pub mod LentLayers
 pub mod NumberedLemmas
-pub mod StandingLemmas
+pub mod ReaderStateLemmas
 pub mod TokenLemmas
 pub mod ReadingLemmas
 pub mod SpellingLemmas

@@ -1,10 +1,11 @@
 -- Definitions compared with the expressions among layers in reach, one after another.
-use Rattle.std.proofs.Common.{◌≡◌, ℕ, zero, suc, ◌+◌, ◌<◌, ◌≤◌, Bool, true, false, ◌&&◌, List, [], ◌∷◌, length, refl, sym, ap, ◌∙◌, arith, Some, None, map, drop, get_or, nat_le, Bor, add-one, drop-cons, leb-false}
+use Rattle.std.proofs.Common.{◌≡◌, ℕ, zero, suc, ◌+◌, ◌<◌, ◌≤◌, Bool, true, false, ◌&&◌, List, [], ◌∷◌, length, refl, sym, ap, ◌∙◌, arith, Some, None, map, drop, get_or, nat_le, Bor, leb-false}
 use borrow.Author.Tests.{leb-true}
 use Rattle.std.specs.Cmp.Lexicographic.{pointwise}
 use Rattle.overlay_terms.specs.Trees.{Tree, Source, relabel}
 use Rattle.overlay_terms.specs.Layers.{Name}
 use Rattle.overlay_terms.specs.SameInput.{same_definition}
+use Rattle.overlay_terms.proofs.Lists.{drop_there}
 use Rattle.layer_expr.specs.declared.steps.StepNode.{StepNode}
 use Rattle.layer_expr.specs.Steps.{step_tree}
 use Rattle.layer_expr.specs.StepList.{reached, definitions_of}
@@ -13,11 +14,6 @@ use Rattle.layer_expr.proofs.NameNumbers.{Lent}
 -- the expressions among layers behind references, with numbers for names
 abbrev pub relabelled : (Name → Source) → List Lent → List (Tree Source)
 relabelled at layers = map (λ d. relabel at d.1) (definitions_of (reached layers))
-
--- what is left of a list from an index on
-drop_there : {A : Type 0} (xs : List A) (i : ℕ) (x : A) → i < length xs → x ≡ get_or xs i x → drop i xs ≡ x ∷ drop (i + 1) xs
-drop_there xs i x h e =
-    drop-cons xs i x h ∙ ap (λ y. y ∷ drop (suc i) xs) (sym e) ∙ ap (λ k. x ∷ drop k xs) (sym (add-one i))
 
 none_left : {A : Type 0} (xs : List A) (i : ℕ) → length xs ≤ i → drop i xs ≡ []
 none_left [] zero h = refl

@@ -13,9 +13,9 @@ use Rattle.layer_expr.specs.Name.{name_max, is_name, is_name_byte, first_is_lett
 use Rattle.overlay_terms.specs.Blank.{is_blank}
 use Rattle.layer_expr.specs.Token.{Kind, name, operator, open_bracket, close_bracket, stray, Token, name_front, sign_kind, tokens_after, tokens_of}
 use Rattle.layer_expr.specs.Grammar.{kinds_of, IsSum, IsBegun, is_name_short, IsGoodSoFar, IsFaultAt, IsRefusedBy, ReadsAs}
-use Rattle.layer_expr.specs.Standing.{Standing, at_start, moved, behind_all, finished}
+use Rattle.layer_expr.specs.ReaderState.{ReaderState, at_start, moved, behind_all, finished}
 use Rattle.layer_expr.specs.Reader.{is_good, IsStepFault, IsEndFault}
-use Rattle.layer_expr.proofs.StandingLemmas.{T, both, all_true, Begun, false_is_true, behind_all-append, tree_begun, tree_not_begun, tree_finished, tree_not_finished}
+use Rattle.layer_expr.proofs.ReaderStateLemmas.{T, both, all_true, Begun, false_is_true, behind_all-append, tree_begun, tree_not_begun, tree_finished, tree_not_finished}
 use Rattle.layer_expr.proofs.TokenLemmas.{name_more, name_stop, letter_goes_on}
 
 -- each name among the tokens is a run of letters, digits and `_` behind a letter: it is a name of a layer if it is short
@@ -153,7 +153,7 @@ shaped_behind : (bytes : List ℕ) (count : ℕ) (left : List Token) → drop co
 shaped_behind bytes count left e t rest f = subst IsShaped (e ∙ f) (shaped_rest count (tokens_of bytes) (tokens_shaped false 0 bytes))
 
 -- where the reader stands after the first tokens: what is left, and that these can stand there and are names of layers
-pub record IsAt (bytes : List ℕ) (count : ℕ) (left : List Token) (s : Standing (Tree (List ℕ))) : Type 0 where
+pub record IsAt (bytes : List ℕ) (count : ℕ) (left : List Token) (s : ReaderState (Tree (List ℕ))) : Type 0 where
   pub rest : drop count (tokens_of bytes) ≡ left
   pub few : count ≤ 64
   pub there : behind_all T (Some at_start) (kinds_of (take count (tokens_of bytes))) ≡ Some s
@@ -168,13 +168,13 @@ kinds_next ts i t rest h =
     let more : i + 1 ≡ suc i = omega arith in
     ap (λ n. kinds_of (take n ts)) more ∙ ap kinds_of (before_next ts i t rest h) ∙ map-append (λ (u : Token). u.kind) (take i ts) (t ∷ [])
 
-next_standing : (bytes : List ℕ) (count : ℕ) (left : List Token) (s : Standing (Tree (List ℕ))) (t : Token) (rest : List Token) → IsAt bytes count left s → left ≡ t ∷ rest → behind_all T (Some at_start) (kinds_of (take (count + 1) (tokens_of bytes))) ≡ moved T t.kind s
-next_standing bytes count left s t rest h e =
+next_state : (bytes : List ℕ) (count : ℕ) (left : List Token) (s : ReaderState (Tree (List ℕ))) (t : Token) (rest : List Token) → IsAt bytes count left s → left ≡ t ∷ rest → behind_all T (Some at_start) (kinds_of (take (count + 1) (tokens_of bytes))) ≡ moved T t.kind s
+next_state bytes count left s t rest h e =
     ap (behind_all T (Some at_start)) (kinds_next (tokens_of bytes) count t rest (h.rest ∙ e))
     ∙ behind_all-append T (Some at_start) (kinds_of (take count (tokens_of bytes))) (t.kind ∷ [])
     ∙ ap (option_and_then (moved T t.kind)) h.there
 
-pub goes_on : (bytes : List ℕ) (count : ℕ) (left more : List Token) (s u : Standing (Tree (List ℕ))) (t : Token) → IsAt bytes count left s → count < 64 → left ≡ t ∷ more → moved T t.kind s ≡ Some u → IsTrue (is_good t.kind) → IsAt bytes (count + 1) more u
+pub goes_on : (bytes : List ℕ) (count : ℕ) (left more : List Token) (s u : ReaderState (Tree (List ℕ))) (t : Token) → IsAt bytes count left s → count < 64 → left ≡ t ∷ more → moved T t.kind s ≡ Some u → IsTrue (is_good t.kind) → IsAt bytes (count + 1) more u
 goes_on bytes count left more s u t h few e step good =
     let next : count + 1 ≡ suc count = omega arith in
     let goods : list_all is_good (kinds_of (take (count + 1) (tokens_of bytes))) ≡ true =
@@ -182,11 +182,11 @@ goes_on bytes count left more s u t h few e step good =
     record {
       rest = ap (λ n. drop n (tokens_of bytes)) next ∙ behind_next (tokens_of bytes) count t more (h.rest ∙ e);
       few = omega arith;
-      there = next_standing bytes count left s t more h e ∙ step;
+      there = next_state bytes count left s t more h e ∙ step;
       good = goods;
     }
 
-good_so_far : (bytes : List ℕ) (count : ℕ) (left : List Token) (s : Standing (Tree (List ℕ))) → IsAt bytes count left s → IsGoodSoFar (take count (tokens_of bytes))
+good_so_far : (bytes : List ℕ) (count : ℕ) (left : List Token) (s : ReaderState (Tree (List ℕ))) → IsAt bytes count left s → IsGoodSoFar (take count (tokens_of bytes))
 good_so_far bytes count left s h =
     let ts = take count (tokens_of bytes) in
     let size : length ts ≤ count = omega (arith, length-take count (tokens_of bytes)) in
@@ -196,36 +196,36 @@ good_so_far bytes count left s h =
       names = all_short ts (shaped_front count (tokens_of bytes) (tokens_shaped false 0 bytes)) h.good;
     }
 
-refused_at : (bytes : List ℕ) (count : ℕ) (left : List Token) (s : Standing (Tree (List ℕ))) (t : Token) (rest : List Token) (fault : ExprFault) → IsAt bytes count left s → left ≡ t ∷ rest → IsFaultAt bytes count (Some t) fault → IsRefusedBy bytes fault
+refused_at : (bytes : List ℕ) (count : ℕ) (left : List Token) (s : ReaderState (Tree (List ℕ))) (t : Token) (rest : List Token) (fault : ExprFault) → IsAt bytes count left s → left ≡ t ∷ rest → IsFaultAt bytes count (Some t) fault → IsRefusedBy bytes fault
 refused_at bytes count left s t rest fault h e f =
     (count, good_so_far bytes count left s h, subst (λ o. IsFaultAt bytes count o fault) (sym (token_at (tokens_of bytes) count t rest (h.rest ∙ e))) f)
 
-pub too_long : (bytes : List ℕ) (count : ℕ) (left : List Token) (s : Standing (Tree (List ℕ))) (t : Token) (rest : List Token) → IsAt bytes count left s → left ≡ t ∷ rest → count ≡ 64 → IsRefusedBy bytes ExprTooLong
+pub too_long : (bytes : List ℕ) (count : ℕ) (left : List Token) (s : ReaderState (Tree (List ℕ))) (t : Token) (rest : List Token) → IsAt bytes count left s → left ≡ t ∷ rest → count ≡ 64 → IsRefusedBy bytes ExprTooLong
 too_long bytes count left s t rest h e full = refused_at bytes count left s t rest ExprTooLong h e (inl (full, refl))
 
-pub cannot_stand : (bytes : List ℕ) (count : ℕ) (left : List Token) (s : Standing (Tree (List ℕ))) (t : Token) (rest : List Token) → IsAt bytes count left s → left ≡ t ∷ rest → count < 64 → moved T t.kind s ≡ None → IsRefusedBy bytes (ExprSyntax t.at)
+pub cannot_stand : (bytes : List ℕ) (count : ℕ) (left : List Token) (s : ReaderState (Tree (List ℕ))) (t : Token) (rest : List Token) → IsAt bytes count left s → left ≡ t ∷ rest → count < 64 → moved T t.kind s ≡ None → IsRefusedBy bytes (ExprSyntax t.at)
 cannot_stand bytes count left s t rest h e few step =
-    refused_at bytes count left s t rest (ExprSyntax t.at) h e (inr (inl (few, (λ b. tree_not_begun (kinds_of (take (count + 1) (tokens_of bytes))) (next_standing bytes count left s t rest h e ∙ step) (begun_kinds (take (count + 1) (tokens_of bytes)) b)), refl)))
+    refused_at bytes count left s t rest (ExprSyntax t.at) h e (inr (inl (few, (λ b. tree_not_begun (kinds_of (take (count + 1) (tokens_of bytes))) (next_state bytes count left s t rest h e ∙ step) (begun_kinds (take (count + 1) (tokens_of bytes)) b)), refl)))
 
-begun_if_some : (ks : List Kind) (s : Option (Standing (Tree (List ℕ)))) → behind_all T (Some at_start) ks ≡ s → IsTrue (is_some s) → Begun ks
+begun_if_some : (ks : List Kind) (s : Option (ReaderState (Tree (List ℕ)))) → behind_all T (Some at_start) ks ≡ s → IsTrue (is_some s) → Begun ks
 begun_if_some ks None e h = false_is_true h
 begun_if_some ks (Some s) e h = tree_begun ks s e
 
-pub long_name : (bytes : List ℕ) (count : ℕ) (left : List Token) (s : Standing (Tree (List ℕ))) (t : Token) (rest : List Token) → IsAt bytes count left s → left ≡ t ∷ rest → count < 64 → is_good t.kind ≡ false → IsTrue (is_some (moved T t.kind s)) → IsRefusedBy bytes BadName
+pub long_name : (bytes : List ℕ) (count : ℕ) (left : List Token) (s : ReaderState (Tree (List ℕ))) (t : Token) (rest : List Token) → IsAt bytes count left s → left ≡ t ∷ rest → count < 64 → is_good t.kind ≡ false → IsTrue (is_some (moved T t.kind s)) → IsRefusedBy bytes BadName
 long_name bytes count left s t rest h e few bad there =
     let shaped : IsShaped (t ∷ rest) = shaped_behind bytes count left h.rest t rest e in
-    let begun = begun_if_some (kinds_of (take (count + 1) (tokens_of bytes))) (moved T t.kind s) (next_standing bytes count left s t rest h e) there in
+    let begun = begun_if_some (kinds_of (take (count + 1) (tokens_of bytes))) (moved T t.kind s) (next_state bytes count left s t rest h e) there in
     refused_at bytes count left s t rest BadName h e (inr (inr (few, begun_tokens (take (count + 1) (tokens_of bytes)) begun, sym shaped.0 ∙ bad, refl)))
 
 -- at the end of the tokens
-pub ends_early : (bytes : List ℕ) (count : ℕ) (left : List Token) (s : Standing (Tree (List ℕ))) → IsAt bytes count left s → left ≡ [] → finished T s ≡ None → IsRefusedBy bytes (ExprSyntax (length bytes))
+pub ends_early : (bytes : List ℕ) (count : ℕ) (left : List Token) (s : ReaderState (Tree (List ℕ))) → IsAt bytes count left s → left ≡ [] → finished T s ≡ None → IsRefusedBy bytes (ExprSyntax (length bytes))
 ends_early bytes count left s h e f =
     let whole = all_taken (tokens_of bytes) count (h.rest ∙ e) in
     let there : behind_all T (Some at_start) (kinds_of (tokens_of bytes)) ≡ Some s = ap (λ ts. behind_all T (Some at_start) (kinds_of ts)) (sym whole) ∙ h.there in
     let no_sum : ¬ (IsSum (tokens_of bytes)) = λ w. tree_not_finished (kinds_of (tokens_of bytes)) s there f w.0 (w.1.grouped, w.1.spelled) in
     (count, good_so_far bytes count left s h, subst (λ o. IsFaultAt bytes count o (ExprSyntax (length bytes))) (sym (no_token_at (tokens_of bytes) count (h.rest ∙ e))) (no_sum, refl))
 
-pub ends_whole : (bytes : List ℕ) (count : ℕ) (left : List Token) (s : Standing (Tree (List ℕ))) (tree : Tree (List ℕ)) → IsAt bytes count left s → left ≡ [] → finished T s ≡ Some tree → ReadsAs bytes tree
+pub ends_whole : (bytes : List ℕ) (count : ℕ) (left : List Token) (s : ReaderState (Tree (List ℕ))) (tree : Tree (List ℕ)) → IsAt bytes count left s → left ≡ [] → finished T s ≡ Some tree → ReadsAs bytes tree
 ends_whole bytes count left s tree h e f =
     let whole = all_taken (tokens_of bytes) count (h.rest ∙ e) in
     let there : behind_all T (Some at_start) (kinds_of (tokens_of bytes)) ≡ Some s = ap (λ ts. behind_all T (Some at_start) (kinds_of ts)) (sym whole) ∙ h.there in
@@ -234,11 +234,11 @@ ends_whole bytes count left s tree h e f =
     (spelled.0, record { grouped = spelled.1.0; spelled = spelled.1.1 }, good, spelled.2)
 
 -- how a step and the end are refused
-pub step_refused : (bytes : List ℕ) (count : ℕ) (left : List Token) (s : Standing (Tree (List ℕ))) (t : Token) (rest : List Token) (fault : ExprFault) → IsAt bytes count left s → left ≡ t ∷ rest → count < 64 → IsStepFault t.kind t.at s fault → (fault ≡ OutOfMemory) ⊎ IsRefusedBy bytes fault
+pub step_refused : (bytes : List ℕ) (count : ℕ) (left : List Token) (s : ReaderState (Tree (List ℕ))) (t : Token) (rest : List Token) (fault : ExprFault) → IsAt bytes count left s → left ≡ t ∷ rest → count < 64 → IsStepFault t.kind t.at s fault → (fault ≡ OutOfMemory) ⊎ IsRefusedBy bytes fault
 step_refused bytes count left s t rest fault h e few (inl f) = inl f
 step_refused bytes count left s t rest fault h e few (inr (inl f)) = inr (subst (IsRefusedBy bytes) (sym f.0) (cannot_stand bytes count left s t rest h e few f.1))
 step_refused bytes count left s t rest fault h e few (inr (inr f)) = inr (subst (IsRefusedBy bytes) (sym f.0) (long_name bytes count left s t rest h e few f.1 f.2))
 
-pub end_refused : (bytes : List ℕ) (count : ℕ) (left : List Token) (s : Standing (Tree (List ℕ))) (fault : ExprFault) → IsAt bytes count left s → left ≡ [] → IsEndFault (length bytes) s fault → (fault ≡ OutOfMemory) ⊎ IsRefusedBy bytes fault
+pub end_refused : (bytes : List ℕ) (count : ℕ) (left : List Token) (s : ReaderState (Tree (List ℕ))) (fault : ExprFault) → IsAt bytes count left s → left ≡ [] → IsEndFault (length bytes) s fault → (fault ≡ OutOfMemory) ⊎ IsRefusedBy bytes fault
 end_refused bytes count left s fault h e (inl f) = inl f
 end_refused bytes count left s fault h e (inr f) = inr (subst (IsRefusedBy bytes) (sym f.0) (ends_early bytes count left s h e f.1))

@@ -8,7 +8,7 @@ pub mod Grammar
 pub mod Spelling
 pub mod SameSteps
 pub use Rattle.overlay_terms.specs.Trees
-pub mod Standing
+pub mod ReaderState
 pub mod Lexeme
 pub mod Reader
 pub mod Laws

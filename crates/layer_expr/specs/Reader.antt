@@ -5,8 +5,8 @@ use Rattle.overlay_terms.specs.Trees as terms
 use Rattle.layer_expr.specs.Name.{is_name}
 use Rattle.layer_expr.specs.Expr.{operation, tree}
 use Rattle.layer_expr.specs.Token.{Kind, name, operator, open_bracket, close_bracket, stray}
-use Rattle.layer_expr.specs.Standing.{tree_making, behind, moved, finished, frame, awaits, holds}
-use Rattle.layer_expr.specs.Standing as pure
+use Rattle.layer_expr.specs.ReaderState.{tree_making, behind, moved, finished, frame, awaits, holds}
+use Rattle.layer_expr.specs.ReaderState as pure
 use Rattle.layer_expr.specs.declared.expr.Node.{Node}
 use Rattle.layer_expr.specs.declared.expr.Operation.{Operation}
 use Rattle.layer_expr.specs.declared.fault.ExprFault.{ExprFault}
@@ -32,17 +32,17 @@ frame_tree f = frame (left_tree f.left) (factor_tree f.factor)
 abbrev pub outer_trees : List Frame → List (pure.Frame (Tree (List ℕ)))
 outer_trees frames = reverse (map frame_tree frames)
 
-abbrev pub within_standing : List (pure.Frame (Tree (List ℕ))) → Within → pure.Standing (Tree (List ℕ))
-within_standing outer (Awaits left factor) = awaits outer (left_tree left) (factor_tree factor)
-within_standing outer (Holds left operand) = holds outer (left_tree left) (tree operand)
+abbrev pub within_state : List (pure.Frame (Tree (List ℕ))) → Within → pure.ReaderState (Tree (List ℕ))
+within_state outer (Awaits left factor) = awaits outer (left_tree left) (factor_tree factor)
+within_state outer (Holds left operand) = holds outer (left_tree left) (tree operand)
 
-abbrev pub standing : Reader → pure.Standing (Tree (List ℕ))
-standing reader = within_standing (outer_trees reader.outer.items) reader.within
+abbrev pub state_of : Reader → pure.ReaderState (Tree (List ℕ))
+state_of reader = within_state (outer_trees reader.outer.items) reader.within
 
 -- what waits behind an operator, whatever is open round it
 abbrev pub IsBehind : Operation → Option Left → Node → Within → Type 0
 IsBehind o left operand within =
-    (outer : List (pure.Frame (Tree (List ℕ)))) → within_standing outer within ≡ behind tree_making (operation o) outer (left_tree left) (tree operand)
+    (outer : List (pure.Frame (Tree (List ℕ)))) → within_state outer within ≡ behind tree_making (operation o) outer (left_tree left) (tree operand)
 
 -- whether a token that is a name is a name of a layer
 abbrev pub is_good : Kind → Bool
@@ -54,16 +54,16 @@ is_good stray = true
 
 -- a reader behind one more token of a kind, which can stand there and, if it is a name, is a name of a layer
 abbrev pub IsNext : Kind → Reader → Reader → Type 0
-IsNext kind old new = (moved tree_making kind (standing old) ≡ Some (standing new)) × IsTrue (is_good kind)
+IsNext kind old new = (moved tree_making kind (state_of old) ≡ Some (state_of new)) × IsTrue (is_good kind)
 
 -- memory ran out, or the token cannot stand there, or it could but is no name of a layer
-abbrev pub IsStepFault : Kind → ℕ → pure.Standing (Tree (List ℕ)) → ExprFault → Type 0
+abbrev pub IsStepFault : Kind → ℕ → pure.ReaderState (Tree (List ℕ)) → ExprFault → Type 0
 IsStepFault kind at s fault =
     (fault ≡ OutOfMemory)
     ⊎ ((fault ≡ ExprSyntax at) × (moved tree_making kind s ≡ None))
     ⊎ ((fault ≡ BadName) × (is_good kind ≡ false) × IsTrue (is_some (moved tree_making kind s)))
 
 -- memory ran out, or the expression is not whole
-abbrev pub IsEndFault : ℕ → pure.Standing (Tree (List ℕ)) → ExprFault → Type 0
+abbrev pub IsEndFault : ℕ → pure.ReaderState (Tree (List ℕ)) → ExprFault → Type 0
 IsEndFault at s fault =
     (fault ≡ OutOfMemory) ⊎ ((fault ≡ ExprSyntax at) × (finished tree_making s ≡ None))

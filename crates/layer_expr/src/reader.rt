@@ -3,8 +3,8 @@ ghost use Rattle.std.specs.Prelude.{◌≡◌, ◌≤◌, length, IfOk, IfErr};
 ghost use Rattle.layer_expr.specs.Expr.{operation, tree};
 ghost use Rattle.layer_expr.specs.Token.{name, operator, open_bracket, close_bracket};
 ghost use Rattle.layer_expr.specs.Lexeme.{token_in};
-ghost use Rattle.layer_expr.specs.Standing.{tree_making, at_start, times, plus, finished};
-ghost use Rattle.layer_expr.specs.Reader.{standing, left_tree, factor_tree, IsBehind, IsNext, IsStepFault, IsEndFault};
+ghost use Rattle.layer_expr.specs.ReaderState.{tree_making, at_start, times, plus, finished};
+ghost use Rattle.layer_expr.specs.Reader.{state_of, left_tree, factor_tree, IsBehind, IsNext, IsStepFault, IsEndFault};
 
 use crate::expr::{Node, Operation, combine};
 use crate::fault::ExprFault;
@@ -44,7 +44,7 @@ pub struct Reader {
 
 impl Reader {
     pub fn new(alloc: Global) -> Reader
-        ensures { standing result ≡ at_start }
+        ensures { state_of result ≡ at_start }
     {
         Reader {
             outer: Vec::new(alloc),
@@ -57,7 +57,7 @@ impl Reader {
         requires low { lexeme.at ≤ lexeme.end }
         requires high { lexeme.end ≤ length bytes.now }
         ensures ok { IfOk result (IsNext (token_in bytes.now lexeme).kind self) }
-        ensures refused { IfErr result (IsStepFault (token_in bytes.now lexeme).kind lexeme.at (standing self)) }
+        ensures refused { IfErr result (IsStepFault (token_in bytes.now lexeme).kind lexeme.at (state_of self)) }
     {
         match lexeme.sort {
             Sort::Name => self.behind_name(alloc, &bytes[lexeme.at..lexeme.end], lexeme.at),
@@ -70,7 +70,7 @@ impl Reader {
 
     fn behind_name(self, alloc: Global, bytes: &[u8], at: usize) -> Result<Reader, ExprFault>
         ensures ok { IfOk result (IsNext (name bytes.now) self) }
-        ensures refused { IfErr result (IsStepFault (name bytes.now) at (standing self)) }
+        ensures refused { IfErr result (IsStepFault (name bytes.now) at (state_of self)) }
     {
         let Reader { outer, within } = self;
         match within {
@@ -88,7 +88,7 @@ impl Reader {
 
     fn behind_operator(self, alloc: Global, o: Operation, at: usize) -> Result<Reader, ExprFault>
         ensures ok { IfOk result (IsNext (operator (operation o)) self) }
-        ensures refused { IfErr result (IsStepFault (operator (operation o)) at (standing self)) }
+        ensures refused { IfErr result (IsStepFault (operator (operation o)) at (state_of self)) }
     {
         let Reader { outer, within } = self;
         match within {
@@ -102,7 +102,7 @@ impl Reader {
 
     fn behind_open(self, at: usize) -> Result<Reader, ExprFault>
         ensures ok { IfOk result (IsNext open_bracket self) }
-        ensures refused { IfErr result (IsStepFault open_bracket at (standing self)) }
+        ensures refused { IfErr result (IsStepFault open_bracket at (state_of self)) }
     {
         let Reader { mut outer, within } = self;
         match within {
@@ -121,7 +121,7 @@ impl Reader {
 
     fn behind_close(self, alloc: Global, at: usize) -> Result<Reader, ExprFault>
         ensures ok { IfOk result (IsNext close_bracket self) }
-        ensures refused { IfErr result (IsStepFault close_bracket at (standing self)) }
+        ensures refused { IfErr result (IsStepFault close_bracket at (state_of self)) }
     {
         let Reader { mut outer, within } = self;
         match within {
@@ -147,8 +147,8 @@ impl Reader {
 
     /// The whole expression, where the text ends at this offset.
     pub fn finish(self, alloc: Global, at: usize) -> Result<Node, ExprFault>
-        ensures ok { IfOk result (λ root. finished tree_making (standing self) ≡ Some (tree root)) }
-        ensures refused { IfErr result (IsEndFault at (standing self)) }
+        ensures ok { IfOk result (λ root. finished tree_making (state_of self) ≡ Some (tree root)) }
+        ensures refused { IfErr result (IsEndFault at (state_of self)) }
     {
         let Reader { outer, within } = self;
         match within {

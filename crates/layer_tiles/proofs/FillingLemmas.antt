@@ -17,7 +17,7 @@ use Rattle.std.proofs.lemmas.Option.{same_Some, slice_get-map}
 use Rattle.layer_tiles.specs.TileCode.{Named}
 use Rattle.layer_book.specs.Layer.{IsBook}
 use Rattle.layer_book.proofs.Order.{fresh}
-use Rattle.layer_tiles.specs.Filling.{IsLonger, IsNext}
+use Rattle.layer_tiles.specs.Filling.{IsLonger, IsNextTile}
 use Rattle.layer_tiles.specs.Table.{laid, laid_in, places_in, placed_rows, row_by, rows_by, row_tiles, tiles_in, tiles_of, IsLaid, IsTable, Tabled}
 use Rattle.layer_tiles.proofs.LookLemmas.{nothing_strange}
 use Rattle.layer_tiles.proofs.Restored.{all_at, behind_first, behind_rest, found_is, is_own, never_before, same_in_order}
@@ -36,7 +36,7 @@ module _ (layers : List Layer) where
       All-cons (λ g. Before g f) x xs (all_at (Before x) xs rest f (behind_first layers x (xs ++ f ∷ rest) ordered)) (all_ahead xs rest f (behind_rest layers x (xs ++ f ∷ rest) ordered))
 
   -- each of the tiles of a file may stand behind those before it
-  pub next_stored : (all done rest : List Finished) (f : Finished) → AreStored layers all → all ≡ done ++ f ∷ rest → IsNext layers done f
+  pub next_stored : (all done rest : List Finished) (f : Finished) → AreStored layers all → all ≡ done ++ f ∷ rest → IsNextTile layers done f
   next_stored all done rest f stored cut = record {
     derived_layer = all_at (λ g. IsTrue (stands_as_derived layers g.name)) done rest f (subst (All (λ g. IsTrue (stands_as_derived layers g.name))) cut stored.derived_layers);
     known_column = all_at (λ g. g.column < column_count) done rest f (subst (All (λ (g : Finished). g.column < column_count)) cut stored.known_columns);

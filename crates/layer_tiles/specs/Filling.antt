@@ -15,7 +15,7 @@ abbrev pub AreBefore : List Layer → List Finished → Name → ℕ → Type 0
 AreBefore layers tiles name column = All (λ f. IsTrue (is_tile_before layers f (named name column oversize))) tiles
 
 -- a tile that may stand behind some: of a derived layer and of a column that there is, of its form, and each of them before it
-pub record IsNext (layers : List Layer) (tiles : List Finished) (f : Finished) : Type 0 where
+pub record IsNextTile (layers : List Layer) (tiles : List Finished) (f : Finished) : Type 0 where
   pub derived_layer : IsTrue (stands_as_derived layers f.name)
   pub known_column : f.column < column_count
   pub formed : IsTrue (is_formed f.tile f.column)

@@ -6,11 +6,11 @@ ghost use Rattle.overlay_terms.specs.Histories.{is_formed};
 ghost use Rattle.overlay_terms.specs.StoredTiles.{AreStored};
 ghost use Rattle.tile_build.specs.Tile.{finished_of, tile_of};
 ghost use Rattle.layer_tiles.specs.Table.{laid, places_in, row_tiles, tiles_in, IsLaid};
-ghost use Rattle.layer_tiles.specs.Filling.{named, AreBefore, IsLonger, IsNext};
+ghost use Rattle.layer_tiles.specs.Filling.{named, AreBefore, IsLonger, IsNextTile};
 
 use crate::table::Table;
 use crate::tiles::TileRow;
-use layer_book::layers::Layers;
+use layer_book::Layers;
 use layer_book::touching::COLUMNS;
 use layer_expr::name::Name;
 use plane_base::Column;
@@ -41,7 +41,7 @@ impl Table {
 
     /// The table with a tile behind all that it has, under the number of its column.
     fn with_stored(&self, alloc: Global, tile: (Name, u8, Tile)) -> Result<Table, AllocError>
-        requires { IsNext self.now.layers (tiles_in self.now) (finished_of tile) }
+        requires { IsNextTile self.now.layers (tiles_in self.now) (finished_of tile) }
         ensures layers { IfOk result (λ next. next.layers ≡ self.now.layers) }
         ensures tiles { IfOk result (λ next. tiles_in next ≡ tiles_in self.now ++ finished_of tile ∷ []) }
         ensures valid { IfOk result (λ next. IsLaid (laid next)) }

@@ -15,11 +15,10 @@ ghost use Rattle.layer_tiles.specs.Filling.{IsLonger};
 ghost use Rattle.layer_tiles.specs.Table.{laid, left_at, places_in, placed_rows, row_by, rows_by, tiles_in, IsLaid};
 
 use crate::tiles::TileRow;
-use layer_book::MAX_LAYERS;
 use layer_book::command::Command;
 use layer_book::layer::Layer;
-use layer_book::layers::Layers;
 use layer_book::touching::COLUMNS;
+use layer_book::{Layers, MAX_LAYERS};
 use layer_expr::name::Name;
 use plane_base::Column;
 use std::alloc::{AllocError, Global};

@@ -5,7 +5,7 @@ use Rattle.disk_model.specs.declared.disk.Disk.{Ghosts}
 use Rattle.disk_model.specs.Moments.{Leaves}
 use Rattle.overlay_terms.specs.Histories.{Version}
 use Rattle.commit_plan.specs.Kept.{Kept}
-use Rattle.root_store.specs.Running.{Stands}
+use Rattle.root_store.specs.Running.{StoreStandsFor}
 use Rattle.flush_core.specs.declared.flusher.Flusher.{Flusher}
 use Rattle.overlay_engine.specs.declared.engine.Engine.{Engine}
 use Rattle.overlay_engine.specs.declared.step.Step.{Step}
@@ -50,7 +50,7 @@ module _ {D : Type 0} (g : Ghosts D) where
       let last = whole.last in
       let joins = whole.leads.0 in
       let all = subst (EachCommits g) whole.parts each in
-      let resting : Stands g first.old.flusher.commit x = subst (λ (e : Engine D g). Stands g e.flusher.commit x) (sym joins) stands in
+      let resting : StoreStandsFor g first.old.flusher.commit x = subst (λ (e : Engine D g). StoreStandsFor g e.flusher.commit x) (sym joins) stands in
       let begun : Commits g first.new.flusher x old.version =
       subst (λ (r : Reply). Committed g x old.version r first.new.flusher) whole.begins.1
       (all.0 x old.version (inr (resting, ap (λ (e : Engine D g). e.version) (sym joins)))).1 in

@@ -11,7 +11,7 @@ use Rattle.root_store.specs.declared.phase.Phase.TheVariants.{Idle}
 use Rattle.root_store.specs.declared.phase.Progress.{Progress}
 use Rattle.root_store.specs.declared.phase.Progress.TheVariants as progress
 use Rattle.commit_plan.specs.Kept as kept
-use Rattle.root_store.specs.Running.{Before, Runs, Stepped, Stands, is_busy}
+use Rattle.root_store.specs.Running.{Before, Runs, Stepped, StoreStandsFor, is_busy}
 use Rattle.commit_plan.proofs.Reading.{calm_stands}
 use Rattle.flush_core.specs.declared.flusher.Flusher.{Flusher}
 use Rattle.flush_core.specs.Stored.{IsCommitOf}
@@ -62,7 +62,7 @@ module _ {D : Type 0} (g : Ghosts D) where
 
   -- where the store rests, the commit that begins is of the newest version
   begun_commits : (e : Engine D g) (mid : Flusher D g) (x : kept.Kept) (version : Version) → e.flusher.commit.phase ≡ Idle
-      → ((x : kept.Kept) → Stands g e.flusher.commit x → (y : kept.Kept) × IsCommitOf e.version y × Runs g mid.commit x y)
+      → ((x : kept.Kept) → StoreStandsFor g e.flusher.commit x → (y : kept.Kept) × IsCommitOf e.version y × Runs g mid.commit x y)
       → IsToCommit g e x version → Commits g mid x version
   begun_commits e mid x version idle begun (inl commits) =
       absurd (subst (λ (q : Phase). Before g q e.flusher.commit x commits.y) idle commits.runs.before)
@@ -72,7 +72,7 @@ module _ {D : Type 0} (g : Ghosts D) where
 
   -- what its first call does, the step does
   pub begun_carries : (e : Engine D g) (mid new : Flusher D g) (reply : Reply) → e.flusher.commit.phase ≡ Idle → mid.commit.disk ≡ e.flusher.commit.disk
-      → ((x : kept.Kept) → Stands g e.flusher.commit x → (y : kept.Kept) × IsCommitOf e.version y × Runs g mid.commit x y)
+      → ((x : kept.Kept) → StoreStandsFor g e.flusher.commit x → (y : kept.Kept) × IsCommitOf e.version y × Runs g mid.commit x y)
       → ((x : kept.Kept) (version : Version) → Commits g mid x version → CarriesOn g x version mid reply new)
       → (x : kept.Kept) (version : Version) → IsToCommit g e x version → CarriesOn g x version e.flusher reply new
   begun_carries e mid new reply idle disk begun call x version is =

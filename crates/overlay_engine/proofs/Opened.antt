@@ -18,7 +18,7 @@ use Rattle.root_store.specs.declared.commit.Commit.{Commit}
 use Rattle.commit_plan.specs.Kept.{Kept}
 use Rattle.root_store.specs.declared.phase.Phase.{Phase}
 use Rattle.root_store.specs.Creating.{nothing_kept}
-use Rattle.root_store.specs.Running.{Stands}
+use Rattle.root_store.specs.Running.{StoreStandsFor}
 use Rattle.root_store.specs.Opening.{Opened, InPhases, Stops, Writes, Tells}
 use Rattle.flush_core.specs.declared.flusher.Flusher.{Flusher}
 use Rattle.flush_core.specs.Stored.{IsImageOf}
@@ -42,7 +42,7 @@ module _ {D : Type 0} (g : Ghosts D) (start : Start) (disk : D) (least : ℕ) (b
   covered : (c : List ℕ) → Opened g disk c → Covered start least batches c
   covered c opened = opening_is_covered g start disk least batches all stays c opened
 
-  recovered : (e : Engine D g) (k : Kept) (x : Held) → reading (g.seen disk) ≡ Ok x → k.held ≡ x → Stands g e.flusher.commit k → e.flusher.commit.root.version ≡ x.number → e.version ≡ version_of x
+  recovered : (e : Engine D g) (k : Kept) (x : Held) → reading (g.seen disk) ≡ Ok x → k.held ≡ x → StoreStandsFor g e.flusher.commit k → e.flusher.commit.root.version ≡ x.number → e.version ≡ version_of x
       → LeavesOnly g disk e.flusher.commit.disk (Opened g disk) → InPhases g disk e.flusher.commit.disk → Recovered g start disk e least batches
   recovered e k x reads same stands stored version moments phases =
       let is : e.version ≡ version_of k.held = version ∙ ap version_of (sym same) in
@@ -58,9 +58,9 @@ module _ {D : Type 0} (g : Ghosts D) (start : Start) (disk : D) (least : ℕ) (b
       }
 
   pub recovered_with : (e : Engine D g) (s : Commit D g) (k : Kept) (x : Held) → e.flusher ≡ record { commit = s } → s.root.version ≡ e.version.number → e.version ≡ version_of x
-      → reading (g.seen disk) ≡ Ok x → k.held ≡ x → Stands g s k → LeavesOnly g disk s.disk (Opened g disk) → InPhases g disk s.disk → Recovered g start disk e least batches
+      → reading (g.seen disk) ≡ Ok x → k.held ≡ x → StoreStandsFor g s k → LeavesOnly g disk s.disk (Opened g disk) → InPhases g disk s.disk → Recovered g start disk e least batches
   recovered_with e s k x flusher number version reads same stands moments phases =
-      recovered e k x reads same (subst (λ (f : Flusher D g). Stands g f.commit k) (sym flusher) stands)
+      recovered e k x reads same (subst (λ (f : Flusher D g). StoreStandsFor g f.commit k) (sym flusher) stands)
       (ap (λ (f : Flusher D g). f.commit.root.version) flusher ∙ number ∙ ap (λ (v : Version). v.number) version) version
       (subst (λ (f : Flusher D g). LeavesOnly g disk f.commit.disk (Opened g disk)) (sym flusher) moments)
       (subst (λ (f : Flusher D g). InPhases g disk f.commit.disk) (sym flusher) phases)
@@ -77,20 +77,20 @@ module _ {D : Type 0} (g : Ghosts D) (start : Start) (disk : D) (least : ℕ) (b
 
 -- a store that stands for what a version is made of stands for just that version
 pub rests_as : {D : Type 0} (g : Ghosts D) (version : Version) (f : Flusher D g) (s : Commit D g) (k : Kept) (x : Held) → f ≡ record { commit = s } → s.root.version ≡ version.number
-    → version ≡ version_of x → k.held ≡ x → Stands g s k → IsNewStore g version f
+    → version ≡ version_of x → k.held ≡ x → StoreStandsFor g s k → IsNewStore g version f
 rests_as g version f s k x flusher number is same stands =
     let image : IsImageOf (version_of x) x = record { number = refl; layers = refl; tiles = λ name column. refl } in
     let stored : f.commit.root.version ≡ version.number = ap (λ (h : Flusher _ _). h.commit.root.version) flusher ∙ number in
     record {
       x = k;
-      stands = subst (λ (h : Flusher _ _). Stands g h.commit k) (sym flusher) stands;
+      stands = subst (λ (h : Flusher _ _). StoreStandsFor g h.commit k) (sym flusher) stands;
       image = subst (λ (h : Held). IsImageOf version h) (sym same) (subst (λ (v : Version). IsImageOf v x) (sym is) image);
       stored = stored;
       reported = omega (arith, stored, ap (λ (v : Version). v.durable) is, ap (λ (v : Version). v.number) is);
     }
 
 -- a store that holds nothing covers no command
-pub new_covers : {D : Type 0} (g : Ghosts D) (version : Version) (f : Flusher D g) (s : Commit D g) → f ≡ record { commit = s } → version ≡ empty_version → Stands g s nothing_kept
+pub new_covers : {D : Type 0} (g : Ghosts D) (version : Version) (f : Flusher D g) (s : Commit D g) → f ≡ record { commit = s } → version ≡ empty_version → StoreStandsFor g s nothing_kept
     → Covers g from_nothing f version []
 new_covers g version f s flusher empty stands =
     let exact : IsExact empty_version = search rules in

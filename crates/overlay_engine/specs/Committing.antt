@@ -6,7 +6,7 @@ use Rattle.overlay_terms.specs.Histories.{Version}
 use Rattle.store_terms.specs.Image.{Held}
 use Rattle.store_terms.specs.StandsFor.{StandsFor}
 use Rattle.commit_plan.specs.Kept.{Kept}
-use Rattle.root_store.specs.Running.{Stands, Runs}
+use Rattle.root_store.specs.Running.{StoreStandsFor, Runs}
 use Rattle.flush_core.specs.declared.flusher.Flusher.{Flusher}
 use Rattle.flush_core.specs.Stored.{IsImageOf, IsCommitOf}
 use Rattle.overlay_engine.specs.declared.engine.Engine.{Engine}
@@ -34,11 +34,11 @@ module _ {D : Type 0} (g : Ghosts D) where
   pub record RestsWith (f : Flusher D g) (version : Version) : Type 0 where
     pub y : Kept
     pub of : IsCommitOf version y
-    pub stands : Stands g f.commit y
+    pub stands : StoreStandsFor g f.commit y
 
   -- a device step leads from what is kept to a version: so does the commit under way; where the store stands for what is kept, the version is the newest
   abbrev pub IsToCommit : Engine D g → Kept → Version → Type 0
-  IsToCommit e x version = Commits e.flusher x version ⊎ (Stands g e.flusher.commit x × (version ≡ e.version))
+  IsToCommit e x version = Commits e.flusher x version ⊎ (StoreStandsFor g e.flusher.commit x × (version ≡ e.version))
 
   -- the step goes on with the commit of that version; or it ends it, the store rests with that version, and a crash leaves it and no other
   abbrev pub Committed : Kept → Version → Reply → Flusher D g → Type 0

@@ -4,7 +4,7 @@ use Rattle.std.specs.List.{AllByRecursion}
 use Rattle.disk_model.specs.declared.disk.Disk.{Ghosts}
 use Rattle.disk_model.specs.Moments.{Leaves}
 use Rattle.commit_plan.specs.Kept.{Kept}
-use Rattle.root_store.specs.Running.{Stands, is_busy}
+use Rattle.root_store.specs.Running.{StoreStandsFor, is_busy}
 use Rattle.flush_core.specs.Stored.{calls_of}
 use Rattle.overlay_engine.specs.declared.engine.Engine.{Engine}
 use Rattle.overlay_engine.specs.declared.step.Step.{Step}
@@ -62,5 +62,5 @@ module _ {D : Type 0} (g : Ghosts D) where
 
   -- and, where the store stood for something before it, it leaves that version, whichever tiles that has: the store rests with it, and every file that a crash may leave then stands for its number, its layers and its finished tiles
   abbrev pub CommitLeaves : Type 0
-  CommitLeaves = (old : Engine D g) (run : List (Made D g)) (new : Engine D g) (x : Kept) → Stands g old.flusher.commit x → EachCommits g run → IsWholeCommit old run new
+  CommitLeaves = (old : Engine D g) (run : List (Made D g)) (new : Engine D g) (x : Kept) → StoreStandsFor g old.flusher.commit x → EachCommits g run → IsWholeCommit old run new
       → RestsWith g new.flusher old.version × Leaves g new.flusher.commit.disk (IsFileOf old.version)

@@ -10,7 +10,7 @@ use Rattle.store_terms.specs.StandsFor.{StandsFor}
 use Rattle.root_store.specs.declared.phase.Phase.{Phase}
 use Rattle.root_store.specs.declared.phase.Phase.TheVariants.{Idle, Close, Settle, Put, Open, Finish, Failed}
 use Rattle.commit_plan.specs.Kept.{Kept}
-use Rattle.root_store.specs.Running.{Stands, Runs}
+use Rattle.root_store.specs.Running.{StoreStandsFor, Runs}
 use Rattle.flush_core.specs.declared.flusher.Flusher.{Flusher}
 use Rattle.overlay_engine.specs.Start.{Start, layers_from, up_to}
 
@@ -45,7 +45,7 @@ module _ {D : Type 0} (g : Ghosts D) (start : Start) where
     pub x : Kept
     pub number : x.held.number ≡ f.commit.root.version
     pub stored : IsStored start batches x.held
-    pub stands : Stands g f.commit x
+    pub stands : StoreStandsFor g f.commit x
 
   -- a commit is under way, from the version that is stored to one that is no older
   pub record UnderWay (f : Flusher D g) (batches : List Batch) : Type 0 where

@@ -7,7 +7,7 @@ use Rattle.overlay_terms.specs.Histories.{Version, Event, Follows}
 use Rattle.store_terms.specs.StandsFor.{reading}
 use Rattle.root_store.specs.declared.phase.Phase.TheVariants.{Idle, Close}
 use Rattle.commit_plan.specs.Kept.{Kept}
-use Rattle.root_store.specs.Running.{Stands, Runs}
+use Rattle.root_store.specs.Running.{StoreStandsFor, Runs}
 use Rattle.flush_core.specs.declared.flusher.Flusher.{Flusher}
 use Rattle.flush_core.specs.Stored.{IsCommitOf}
 use Rattle.overlay_engine.specs.Start.{Start, up_to}
@@ -30,13 +30,13 @@ module _ {D : Type 0} (g : Ghosts D) where
   abbrev pub CoveredRests : Type 0
   CoveredRests =
       (start : Start) (f : Flusher D g) (version : Version) (batches : List Batch)
-      → Covers g start f version batches → f.commit.phase ≡ Idle → (x : Kept) × Stands g f.commit x
+      → Covers g start f version batches → f.commit.phase ≡ Idle → (x : Kept) × StoreStandsFor g f.commit x
 
   -- a store that was opened on this disk, with what its file holds
   pub record IsOpened (disk : D) (f : Flusher D g) (x : Kept) : Type 0 where
     pub stays : g.may_leave disk (g.seen disk)
     pub reads : reading (g.seen disk) ≡ Ok x.held
-    pub stands : Stands g f.commit x
+    pub stands : StoreStandsFor g f.commit x
     pub stored : f.commit.root.version ≡ x.held.number
 
   -- what a file holds is the version after the first batches, no older than the least, and the store covers it, all of it durable
@@ -60,7 +60,7 @@ module _ {D : Type 0} (g : Ghosts D) where
   pub record IsBegun (old new : Flusher D g) (version : Version) : Type 0 where
     pub began : new.commit.phase ≡ Close
     pub honest : g.is_honest old.commit.disk → g.is_honest new.commit.disk
-    pub runs : (x : Kept) → Stands g old.commit x → (y : Kept) × IsCommitOf version y × Runs g new.commit x y
+    pub runs : (x : Kept) → StoreStandsFor g old.commit x → (y : Kept) × IsCommitOf version y × Runs g new.commit x y
     pub stored : new.commit.root.version ≡ old.commit.root.version
 
   abbrev pub BegunCovers : Type 0

@@ -12,7 +12,7 @@ use root_store::creating::create;
 use root_store::open_fault::OpenFault;
 use root_store::phase::Phase;
 use std::alloc::Global;
-use versions::version::Version;
+use versions::Version;
 
 impl<D: Disk> Engine<D> {
     /// The version before any command, over a new store that is made of an empty file. The file may have at most so

@@ -1,12 +1,12 @@
 //! An engine: a version, its store, and the tiles that are being built.
 ghost use Rattle.std.specs.Prelude.{◌≡◌};
 
-use arrange::tile_input::TileInput;
+use arrange::TileInput;
 use disk_model::disk::Disk;
 use flush_core::flusher::Flusher;
 use layer_expr::name::Name;
 use std::fmt;
-use versions::version::Version;
+use versions::Version;
 
 /// The number under which a refusal for want of memory is answered.
 pub(crate) const OUT_OF_MEMORY: u8 = 40;

@@ -8,10 +8,8 @@ use crate::step::Reply;
 use disk_model::disk::Disk;
 use layer_book::fault::LayerFault;
 use std::alloc::Global;
-use tile_build::built::Built;
-use versions::fault::VersionFault;
-use versions::finishing::Finish;
-use versions::version::Version;
+use tile_build::Built;
+use versions::{Finish, Version, VersionFault};
 
 impl<D: Disk> Engine<D> {
     /// Builds the tile of a job that is held, and gives the job up: the tile is kept where it is still awaited.

@@ -14,7 +14,7 @@ use root_store::open_fault::OpenFault;
 use root_store::opening::open;
 use root_store::phase::Phase;
 use std::alloc::Global;
-use versions::version::Version;
+use versions::Version;
 
 impl<D: Disk> Engine<D> {
     /// The version that a crash has left on a disk, all of it durable, with just the finished tiles of the file.

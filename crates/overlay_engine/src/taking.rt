@@ -7,7 +7,7 @@ use crate::engine::{Engine, HeldJob, OUT_OF_MEMORY};
 use crate::step::Reply;
 use disk_model::disk::Disk;
 use layer_expr::name::Name;
-use plane_base::column::Column;
+use plane_base::Column;
 use std::alloc::{AllocError, Global};
 
 impl<D: Disk> Engine<D> {

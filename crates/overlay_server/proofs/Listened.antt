@@ -6,7 +6,7 @@ use Rattle.std.proofs.lemmas.List.{length-map}
 use Rattle.disk_model.specs.declared.disk.Disk.{Ghosts}
 use Rattle.flush_core.specs.declared.flusher.Flusher.{Flusher}
 use Rattle.book_history.specs.Logs.{history_of, newest_in, IsLog}
-use Rattle.store_flushing.specs.declared.closing.Closed.{Closed}
+use Rattle.store_flushing.specs.declared.closed.Closed.{Closed}
 use Rattle.overlay_server.specs.declared.outcome.Left.{Left}
 use Rattle.overlay_server.specs.declared.outcome.Served.{Served}
 use Rattle.std.specs.declared.vec.Vec.{Vec}

@@ -18,7 +18,7 @@ use Rattle.store_flushing.specs.Told.{StaysTold, TellsOn, told_in}
 use Rattle.store_flushing.proofs.Histories.{file_more}
 use Rattle.store_flushing.proofs.Storage.{begun, store_leaves, then}
 use Rattle.store_flushing.proofs.ToldLemmas.{none_yet, tells_then}
-use Rattle.store_flushing.specs.declared.closing.Closed.{Closed}
+use Rattle.store_flushing.specs.declared.closed.Closed.{Closed}
 use Rattle.store_flushing.specs.declared.keeper.told_log.Told.{Told}
 use Rattle.overlay_server.specs.Moments.{HasOnlyNow}
 use Rattle.overlay_server.specs.Keeping.{AreFlushed, IsStoreKept}

@@ -18,7 +18,7 @@ use Rattle.server_session.specs.Session.{IsSessionWithin, IsSharedSession}
 use Rattle.store_flushing.specs.Among.{IsFileIn, IsFileExactlyIn}
 use Rattle.store_flushing.specs.Storing.{IsStoreOf}
 use Rattle.store_flushing.specs.Told.{StaysTold, told_in}
-use Rattle.store_flushing.specs.declared.closing.Closed.{Closed}
+use Rattle.store_flushing.specs.declared.closed.Closed.{Closed}
 use Rattle.store_flushing.specs.declared.keeper.told_log.Told.{Told}
 use Rattle.overlay_server.specs.Answering.{answer_in, refusal_code}
 use Rattle.overlay_server.specs.declared.outcome.Finished.{Finished}

@@ -24,7 +24,7 @@ use std::io::{Read, Write};
 use std::snapshot::Snapshot;
 use std::sync::Wait;
 use std::thread::Threads;
-use store_flushing::closing::close;
+use store_flushing::closed::close;
 use store_flushing::keeper::told_log::ToldLog;
 use tile_workers::gate::Gate;
 use version_book::fault::BookFault;

@@ -20,7 +20,7 @@ pub use overlay_grid::{GridSpec, grid};
 pub use script_form::{CommandFault, SessionEnd};
 pub use server_session::session_run;
 pub use serving::{serve, serve_ports};
-pub use store_flushing::closing::{Closed, close};
+pub use store_flushing::closed::{Closed, close};
 pub use store_flushing::keeper::flusher_loop;
 pub use store_flushing::keeper::told_log::ToldLog;
 pub use tile_workers::gate::{Gate, OpenGate};

@@ -3,7 +3,7 @@ ghost use Rattle.std.specs.Prelude.{◌<◌, ◌≤◌, ◌^◌};
 
 use crate::opening::BookAnswer;
 use script_form::SessionEnd;
-use store_flushing::closing::Closed;
+use store_flushing::closed::Closed;
 
 /// What a server is run with.
 #[derive(Clone, Copy, Debug, Drop)]

@@ -1,6 +1,6 @@
 -- What lists, their images and their unions contain.
-use Rattle.std.specs.Prelude.{◌≡◌, zero, suc, ◌⊎◌, List, [], ◌∷◌, ◌++◌, map, flat_map, Any, Contains}
-use Rattle.std.proofs.Common.{inl, inr, refl, ap, sym, subst, arith}
+use Rattle.std.specs.Prelude.{◌≡◌, ℕ, zero, suc, ◌+◌, ◌<◌, ◌⊎◌, List, [], ◌∷◌, ◌++◌, length, map, flat_map, All, Any, Contains}
+use Rattle.std.proofs.Common.{inl, inr, refl, ap, sym, ◌∙◌, subst, arith, drop, get_or, add-one, drop-cons}
 use Rattle.std.proofs.lemmas.List.Elements.{Contains-append_left, Contains-append_right, Contains-append_cases}
 
 -- an element of a list with a property
@@ -63,3 +63,13 @@ from_map {X} {Y} f (x ∷ xs) y c = by (from_map f xs y) (Contains-cons_cases (f
   by : (Contains (map f xs) y → (z : X) × Contains xs z × (f z ≡ y)) → (f x ≡ y) ⊎ Contains (map f xs) y → (z : X) × Contains (x ∷ xs) z × (f z ≡ y)
   by more (inl e) = (x, contains_first x xs, e)
   by more (inr d) = let r = more d in (r.0, contains_rest x xs r.0 r.1, r.2)
+
+-- what is true of each is true of one in the middle
+pub in_middle : {X : Type 0} (P : X → Type 0) (xs : List X) (x : X) (ys : List X) → All P (xs ++ x ∷ ys) → P x
+in_middle P [] x ys all = all zero x (omega arith)
+in_middle P (y ∷ xs) x ys all = in_middle P xs x ys (λ k d h. all (suc k) d (omega arith))
+
+-- what is left of a list from an index on
+pub drop_there : {X : Type 0} (xs : List X) (i : ℕ) (x : X) → i < length xs → x ≡ get_or xs i x → drop i xs ≡ x ∷ drop (i + 1) xs
+drop_there xs i x h e =
+    drop-cons xs i x h ∙ ap (λ y. y ∷ drop (suc i) xs) (sym e) ∙ ap (λ k. x ∷ drop k xs) (sym (add-one i))

@@ -9,7 +9,7 @@ use Rattle.commit_plan.specs.declared.fault.StoreFault.{StoreFault}
 use Rattle.commit_plan.specs.declared.fault.StoreFault.TheVariants as store
 use Rattle.script_form.specs.declared.session_end.SessionEnd.{SessionEnd}
 use Rattle.script_form.specs.declared.session_end.SessionEnd.TheVariants.{End, Failed}
-use Rattle.store_flushing.specs.declared.closing.Closed.{Closed}
+use Rattle.store_flushing.specs.declared.closed.Closed.{Closed}
 use Rattle.program_store.specs.Fault.{status_of}
 use Rattle.program_store.specs.declared.ending.Ends.{Ends}
 use Rattle.program_store.specs.declared.fault.ProgramFault.{ProgramFault}

@@ -6,7 +6,7 @@ use crate::fault::ProgramFault;
 use commit_plan::fault::StoreFault;
 use program_words::keeping::{Keeping, Opening};
 use script_form::SessionEnd;
-use store_flushing::closing::Closed;
+use store_flushing::closed::Closed;
 
 /// How the sessions of a run ended.
 #[derive(Clone, Copy, Debug, PartialEq, Eq)]

@@ -3,5 +3,5 @@ mod Failing
 mod NameBytes
 mod NamedPieceLemmas
 mod PointLemmas
-mod StandingLemmas
+mod PieceOrderLemmas
 mod Tails

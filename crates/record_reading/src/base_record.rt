@@ -9,9 +9,7 @@ ghost use Rattle.store_terms.specs.declared.damage.Damage.TheVariants.{LayerForm
 
 use crate::bytes::two_bytes_at;
 use crate::points::point_at;
-use plane_base::base_layer::{BaseLayer, Ring};
-use plane_base::fault::PlaneFault;
-use plane_base::point::Pt;
+use plane_base::{BaseLayer, PlaneFault, Pt, Ring};
 use record_writing::fault::{ReadFault, RecordFault};
 use std::alloc::Global;
 use store_terms::damage::Damage;

@@ -15,10 +15,8 @@ use record_writing::catalog::{Listed, Records};
 use record_writing::fault::{ReadFault, RecordFault};
 use std::alloc::{AllocError, Global};
 use store_terms::damage::Damage;
+use store_terms::layout::OLD_COLUMN_COUNT;
 use store_terms::root::RecordExtent;
-
-/// How many columns files of format 1 have.
-const OLD_COLUMN_COUNT: u8 = 17;
 
 /// The layers that a catalog lists. Their names may be no names. In an old one, of format 1, tiles are those of other
 /// columns: their entries are asked for their form alone, and each tile counts as pending.

@@ -4,7 +4,7 @@ ghost use Rattle.store_terms.specs.DefinitionRecord.{definition_of_record};
 ghost use Rattle.store_terms.specs.Image.{or_fault};
 ghost use Rattle.store_terms.specs.declared.damage.Damage.TheVariants.{LayerForm};
 
-use layer_expr::expr::Expr;
+use layer_expr::Expr;
 use layer_expr::reading::read_expr;
 use layer_expr::writing::write_expr;
 use record_writing::fault::{ReadFault, RecordFault};

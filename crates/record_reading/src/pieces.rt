@@ -3,12 +3,12 @@ ghost use Rattle.std.specs.Prelude.{◌≡◌, ◌↔◌, ℕ, List, Some, IfOk,
 ghost use Rattle.tile_build.specs.Piece.{IsBetween};
 ghost use Rattle.record_writing.specs.Answers.{Fails, Gives};
 ghost use Rattle.record_reading.specs.Added.{IsAdded};
-ghost use Rattle.record_reading.specs.Standing.{stand_in};
+ghost use Rattle.record_reading.specs.PieceOrder.{are_in_order};
 ghost use Rattle.store_terms.specs.Fields.{read_many};
 ghost use Rattle.store_terms.specs.TileRecord.{piece as spelled, point_name, segment};
 
+use crate::piece_order::is_last_placed;
 use crate::segments::{crossing_in, point_name_at, segment_at, segment_in, vertex_in};
-use crate::standing::is_last_placed;
 use exact_point::PointName;
 use plane_base::{Column, Pt, Seg};
 use record_writing::fault::ReadFault;
@@ -25,7 +25,7 @@ pub(crate) fn pieces_at(
     bytes: &[u8],
 ) -> Result<(Vec<Piece>, bool, &[u8]), ReadFault>
     ensures pieces { Gives (λ x. (x.0.items, x.2.now)) result (read_many spelled.read count bytes.now) }
-    ensures stand { IfOk result (λ x. x.1 ≡ stand_in column x.0.items) }
+    ensures stand { IfOk result (λ x. x.1 ≡ are_in_order column x.0.items) }
 {
     let mut pieces = Vec::new(alloc);
     let mut stand = true;

@@ -3,7 +3,7 @@ ghost use Rattle.std.specs.Prelude.{◌≡◌, ◌≤◌, length};
 ghost use Rattle.store_terms.specs.Roots.{body_in};
 
 use byteorder::{BigEndian, ByteOrder};
-use record_writing::root_body::{MAGIC, OLD_FORMAT};
+use store_terms::layout::{MAGIC, OLD_FORMAT};
 use store_terms::root::{Body, RecordExtent, Root};
 
 /// What the first 40 bytes of a body say, whether it is ours or not.

@@ -3,7 +3,7 @@ ghost use Rattle.std.specs.Prelude.{◌≡◌, ◌<◌, ◌^◌, ◌++◌, lengt
 ghost use Rattle.store_terms.specs.BaseRecord.{ring as spelled, rings as spelled_rings, base_of_record};
 
 use crate::bytes::{put_point, put_two_bytes};
-use plane_base::base_layer::{BaseLayer, Ring};
+use plane_base::{BaseLayer, Ring};
 use std::alloc::{AllocError, Global};
 
 /// The record of a base layer.

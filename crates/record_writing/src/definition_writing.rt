@@ -3,7 +3,7 @@ ghost use Rattle.std.specs.Prelude.{◌≡◌, Some, IfOk};
 ghost use Rattle.layer_expr.specs.Spelling.{expression_text};
 ghost use Rattle.store_terms.specs.DefinitionRecord.{definition_of_record};
 
-use layer_expr::expr::Expr;
+use layer_expr::Expr;
 use layer_expr::writing::write_expr;
 use std::alloc::{AllocError, Global};
 

@@ -6,12 +6,12 @@ ghost use Rattle.tile_build.specs.Tile.{finished_of};
 ghost use Rattle.layer_tiles.specs.Table.{laid, tiles_in, IsLaid};
 ghost use Rattle.record_writing.specs.Image.{held, table_held};
 
-use layer_book::layers::Layers;
+use layer_book::Layers;
 use layer_expr::name::Name;
 use layer_tiles::Table;
 use std::alloc::{AllocError, Global};
 use std::sync::Arc;
-use tile_build::tile::Tile;
+use tile_build::Tile;
 
 /// The number of a version, its layers, and their finished tiles as a table, which it shares with who else has it.
 #[derive(Debug, Drop)]

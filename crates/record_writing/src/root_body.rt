@@ -3,16 +3,8 @@ ghost use Rattle.std.specs.Prelude.{◌≡◌, take};
 ghost use Rattle.store_terms.specs.Roots.{body_in, body_text, format_of, ours};
 
 use byteorder::{BigEndian, ByteOrder};
+use store_terms::layout::{FORMAT, MAGIC, OLD_FORMAT};
 use store_terms::root::Root;
-
-/// The bytes that each body begins with.
-pub const MAGIC: &[u8] = b"OVLSTORE";
-
-/// The number of the file's format.
-const FORMAT: u32 = 2;
-
-/// That of files whose columns are twice as wide.
-pub const OLD_FORMAT: u32 = 1;
 
 /// The number of a root's format.
 pub fn format_of(root: Root) -> u32

@@ -1,5 +1,5 @@
 pub mod Rooms
-mod LoadingLemmas
+mod LayerReadingLemmas
 pub mod Looked
 pub mod TakingLemmas
 pub mod NearLemmas

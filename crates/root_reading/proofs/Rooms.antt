@@ -5,7 +5,7 @@ use Rattle.extent_map.specs.declared.extent.Extent as runs
 use Rattle.extent_map.specs.Extents.{IsApart, IsUnused, AreAlike}
 use Rattle.store_terms.specs.declared.root.RecordExtent.{RecordExtent}
 use Rattle.store_terms.specs.Places.{blocks}
-use Rattle.root_reading.specs.Taking.{AreRunsOf, IsMapOf}
+use Rattle.root_reading.specs.RootRuns.{AreRunsOf, IsMapOf}
 
 -- so many blocks from a start on are free of some extents
 abbrev pub AreFreeOf : ℕ → ℕ → List RecordExtent → Type 0

@@ -10,8 +10,8 @@ use Rattle.store_terms.specs.Places.{blocks, are_apart, is_apart_from, all_apart
 use Rattle.store_terms.specs.declared.damage.Damage.TheVariants.{Overlap}
 use Rattle.store_terms.specs.Catalog.{Listed}
 use Rattle.store_terms.specs.Image.{Held}
-use Rattle.root_reading.specs.Taking.{AreRunsOf, IsMapOf}
-use Rattle.root_reading.specs.Taking.{IsNear, AllNear, AreRunsFor, if_apart}
+use Rattle.root_reading.specs.RootRuns.{AreRunsOf, IsMapOf}
+use Rattle.root_reading.specs.RootRuns.{IsNear, AllNear, AreRunsFor, if_apart}
 use Rattle.root_reading.proofs.Rooms.{map_of_runs}
 
 -- one run more

@@ -5,7 +5,7 @@ use Rattle.store_terms.specs.Catalog.{Listed}
 use Rattle.store_terms.specs.Image.{layers_of}
 use Rattle.root_reading.specs.declared.load_fault.LoadFault.{LoadFault}
 use Rattle.root_reading.specs.Looking.{Refuses}
-use Rattle.root_reading.specs.Loading.{then_layers}
+use Rattle.root_reading.specs.LayerReading.{then_layers}
 
 -- a layer and its tiles are read: whatever is listed behind it, reading goes on from there
 abbrev pub Adds : List ℕ → Tabled → Tabled → Listed → Type 0

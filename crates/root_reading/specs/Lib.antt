@@ -1,5 +1,5 @@
 pub mod Looking
-pub mod Loading
+pub mod LayerReading
 pub mod Contents
-pub mod Taking
+pub mod RootRuns
 pub mod Stored

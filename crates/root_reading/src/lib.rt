@@ -1,10 +1,10 @@
 //! What the root of a store's file names: records, as the disk has them, and the blocks that they take.
 #![tactic(auto)]
 
-pub mod fetching;
-mod keeping;
+pub mod contents;
+mod kept_layers;
 pub mod load_fault;
-pub mod loading;
+pub mod record_bytes;
 pub mod records;
-pub mod taking;
+pub mod root_runs;
 mod tiles;

@@ -3,13 +3,13 @@ ghost use Rattle.std.specs.Prelude.{◌↔◌, length, ◌≡◌};
 ghost use Rattle.record_writing.specs.Listing as listings;
 ghost use Rattle.store_terms.specs.Image.{listing_of};
 ghost use Rattle.root_reading.specs.Looking.{Gives, Looks, Causes};
-ghost use Rattle.root_reading.specs.Loading.{rings_at, expression_at};
+ghost use Rattle.root_reading.specs.LayerReading.{rings_at, expression_at};
 
-use crate::fetching::fetch;
 use crate::load_fault::LoadFault;
+use crate::record_bytes::fetch;
 use disk_model::disk::Disk;
-use layer_expr::expr::Expr;
-use plane_base::base_layer::BaseLayer;
+use layer_expr::Expr;
+use plane_base::BaseLayer;
 use record_reading::base_record::read_base;
 use record_reading::catalog_record::read_catalog;
 use record_reading::definition_record::read_definition;

@@ -7,11 +7,11 @@ ghost use Rattle.tile_build.specs.Tile.{tile_of};
 ghost use Rattle.store_terms.specs.Image.{tiles_of};
 ghost use Rattle.store_terms.specs.declared.root.RecordExtent as terms;
 ghost use Rattle.root_reading.specs.Looking.{Gives, Refuses, OnlyLooks};
-ghost use Rattle.root_reading.specs.Loading.{tile_at, then_tiles};
+ghost use Rattle.root_reading.specs.LayerReading.{tile_at, then_tiles};
 ghost use Rattle.root_reading.specs.Stored.{IsNextTo};
 
-use crate::fetching::fetch;
 use crate::load_fault::LoadFault;
+use crate::record_bytes::fetch;
 use disk_model::disk::Disk;
 use layer_expr::name::Name;
 use layer_tiles::Table;
@@ -20,7 +20,7 @@ use record_reading::tile_record::read_tile;
 use std::alloc::Global;
 use store_terms::damage::Damage;
 use store_terms::root::RecordExtent;
-use tile_build::tile::Tile;
+use tile_build::Tile;
 
 /// The column of a number, and its tile, whose record lies in an extent.
 #[tactic(auto, using(record_writing::proofs::StoredLemmas::read_has_form))]

@@ -12,9 +12,9 @@ use Rattle.store_terms.specs.Places.{blocks, block_size}
 use Rattle.store_terms.specs.Roots.{ours, sequence_max}
 use Rattle.store_terms.specs.Image.{Held, listing_of, held_of}
 use Rattle.store_terms.specs.StandsFor.{gate, body}
-use Rattle.root_reading.specs.Taking.{IsMapOf}
+use Rattle.root_reading.specs.RootRuns.{IsMapOf}
 use Rattle.commit_plan.specs.declared.write.Write.{Write}
-use Rattle.commit_plan.specs.Kept.{Kept, own, other, extents_in, Named, Harmless, Live, Rest, Shut, Calm, Ready}
+use Rattle.commit_plan.specs.Kept.{Kept, own, other, extents_in, IsWholeAt, Harmless, Live, Rest, Shut, Calm, Ready}
 use Rattle.commit_plan.specs.Planning.{Leads, Spare}
 use Rattle.commit_plan.specs.declared.live_records.LiveRecords.{LiveRecords}
 use Rattle.commit_plan.specs.Staying.{kept_content}
@@ -39,7 +39,7 @@ map_stable es taken there = record {
 }
 
 module _ (file : List ℕ) where
-  pub named_stable : (k : ℕ) (x : Kept) → IsStable (Named k x file)
+  pub named_stable : (k : ℕ) (x : Kept) → IsStable (IsWholeAt k x file)
   named_stable k x there = record {
     long = less (block_size * 2) (length file) (∥∥₁_map there (λ n. n.long));
     spelt = same body_code _ _ (∥∥₁_map there (λ n. n.spelt));

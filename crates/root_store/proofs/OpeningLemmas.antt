@@ -13,9 +13,9 @@ use Rattle.store_terms.specs.Image.{◌>>=◌, Held, held_of}
 use Rattle.store_terms.specs.StandsFor.{root_of, reading, body_at}
 use Rattle.root_store.specs.Finding.{has_shut_gate}
 use Rattle.root_reading.specs.declared.load_fault.LoadFault.{LoadFault}
-use Rattle.commit_plan.specs.declared.loading.Loaded.{Loaded}
+use Rattle.commit_plan.specs.declared.loaded.Loaded.{Loaded}
 use Rattle.commit_plan.specs.Kept.{Kept, other, Live, Rest, Shut, Calm}
-use Rattle.commit_plan.specs.Loading.{held_in, kept_in}
+use Rattle.commit_plan.specs.Loaded.{held_in, kept_in}
 use Rattle.root_reading.specs.Looking.{Looks, Refuses, Causes}
 use Rattle.commit_plan.specs.Fault.{fault_told}
 use Rattle.root_store.specs.Opening.{IsRead, Opened, Loads, IsSettled, InPhases, Stops, StandsStill, Writes, IsCompleted, Completes, Tells, FailedBy}

@@ -5,7 +5,7 @@ use Rattle.disk_model.specs.Moments.{Leaves}
 use Rattle.extent_map.specs.Taken.{taken_of}
 use Rattle.store_terms.specs.StandsFor.{gate, open_gate}
 use Rattle.store_terms.specs.declared.root.Root.{Root}
-use Rattle.root_reading.specs.Taking.{IsMapOf}
+use Rattle.root_reading.specs.RootRuns.{IsMapOf}
 use Rattle.commit_plan.specs.declared.live_records.LiveRecords.{LiveRecords}
 use Rattle.commit_plan.specs.declared.write.Write.{Write}
 use Rattle.commit_plan.specs.Staying.{kept_content}

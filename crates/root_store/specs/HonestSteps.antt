@@ -11,9 +11,9 @@ use Rattle.root_reading.specs.declared.load_fault.LoadFault.TheVariants as load_
 use Rattle.root_reading.specs.Looking.{Gives, Causes}
 use Rattle.commit_plan.specs.declared.fault.StoreFault.{StoreFault}
 use Rattle.commit_plan.specs.declared.fault.StoreFault.TheVariants as stores
-use Rattle.commit_plan.specs.declared.loading.Loaded.{Loaded}
+use Rattle.commit_plan.specs.declared.loaded.Loaded.{Loaded}
 use Rattle.commit_plan.specs.Kept.{Kept, other, Rest, Shut}
-use Rattle.commit_plan.specs.Loading.{held_in}
+use Rattle.commit_plan.specs.Loaded.{held_in}
 use Rattle.root_store.specs.Healing.{Heals}
 use Rattle.root_store.specs.Opening.{IsRead, Loads, Untouched, Writes, HasRoot, IsSettled, InPhases, Stops, IsCompleted, Completes}
 use Rattle.root_store.specs.Creating.{nothing_kept, IsNewFile, MadeInPhases, refusal_of_new, IsToldBy, CallsBehind}

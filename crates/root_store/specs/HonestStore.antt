@@ -10,7 +10,7 @@ use Rattle.commit_plan.specs.declared.fault.StoreFault.TheVariants as stores
 use Rattle.commit_plan.specs.Kept.{Kept}
 use Rattle.root_store.specs.declared.commit.Commit.{Commit}
 use Rattle.root_store.specs.declared.open_fault.OpenFault.{OpenFault}
-use Rattle.root_store.specs.Running.{Stands}
+use Rattle.root_store.specs.Running.{StoreStandsFor}
 use Rattle.root_store.specs.Opening.{Opened, Untouched, Writes, HasRoot, Tells, FailedBy, InPhases, Stops, IsCompleted, Completes}
 use Rattle.root_store.specs.Creating.{nothing_kept, IsNewFile, MadeInPhases, refusal_of_new, IsToldBy, CallsBehind}
 
@@ -23,7 +23,7 @@ module _ {D : Type 0} (g : Ghosts D) where
     -- the store stands for just that, and a crash at any moment of the call leaves what it might have left before, or
     -- what stands for the same
     pub ok : IfOk result
-        (λ x. (k : Kept) × (k.held ≡ image_held x.1) × Stands g x.0 k × LeavesOnly g disk x.0.disk (Opened g disk))
+        (λ x. (k : Kept) × (k.held ≡ image_held x.1) × StoreStandsFor g x.0 k × LeavesOnly g disk x.0.disk (Opened g disk))
     -- so it does where the file is refused, and behind the call
     pub err : IfErr result
         (λ refused. g.is_honest refused.disk × Leaves g refused.disk (Opened g disk)
@@ -63,7 +63,7 @@ module _ {D : Type 0} (g : Ghosts D) where
 
   -- a store is made
   pub record CreatesHonestly (max_blocks : ℕ) (disk : D) (result : Result (Commit D g) (OpenFault D)) : Type 0 where
-    pub ok : IfOk result (λ store. Stands g store nothing_kept)
+    pub ok : IfOk result (λ store. StoreStandsFor g store nothing_kept)
     -- three blocks that are zero but for the bodies, each of which is whole, the catalog and the first gate, which
     -- alone is open
     pub file : IfOk result (λ store. Leaves g store.disk IsNewFile)

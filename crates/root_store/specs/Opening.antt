@@ -12,10 +12,10 @@ use Rattle.store_terms.specs.declared.damage.Damage.{Damage}
 use Rattle.commit_plan.specs.declared.fault.StoreFault.{StoreFault}
 use Rattle.commit_plan.specs.declared.fault.StoreFault.TheVariants as stores
 use Rattle.root_reading.specs.declared.load_fault.LoadFault.{LoadFault}
-use Rattle.commit_plan.specs.declared.loading.Loaded.{Loaded}
+use Rattle.commit_plan.specs.declared.loaded.Loaded.{Loaded}
 use Rattle.commit_plan.specs.Kept.{extents_in, other, Calm}
-use Rattle.commit_plan.specs.Loading.{held_in, kept_in}
-use Rattle.root_reading.specs.Taking.{IsMapOf}
+use Rattle.commit_plan.specs.Loaded.{held_in, kept_in}
+use Rattle.root_reading.specs.RootRuns.{IsMapOf}
 use Rattle.root_reading.specs.Looking.{Gives}
 use Rattle.root_store.specs.Finding.{has_shut_gate}
 use Rattle.root_store.specs.Healing.{HoldsTwin}

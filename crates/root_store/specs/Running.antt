@@ -16,9 +16,9 @@ use Rattle.store_terms.specs.Image.{Held}
 use Rattle.root_store.specs.Content.{content_of, IsAtRest, IsBefore, IsUnderWay}
 
 module _ {D : Type 0} (g : Ghosts D) where
-  -- the store stands for x
-  abbrev pub Stands : Commit D g → Kept → Type 0
-  Stands s x = IsAtRest g s.disk s.phase s.root s.live x
+  -- the store is at rest, and its file stands for x
+  abbrev pub StoreStandsFor : Commit D g → Kept → Type 0
+  StoreStandsFor s x = IsAtRest g s.disk s.phase s.root s.live x
 
   -- what is known before the call that a phase is named for
   abbrev pub Before : Phase → Commit D g → Kept → Kept → Type 0
@@ -38,7 +38,7 @@ module _ {D : Type 0} (g : Ghosts D) where
   abbrev pub Outcome : Commit D g → Progress → Kept → Kept → Type 0
   Outcome new progress.Idle x y = ⊥
   Outcome new progress.Going x y = Runs new x y
-  Outcome new (progress.Done number) x y = Stands new y × (number ≡ y.root.version)
+  Outcome new (progress.Done number) x y = StoreStandsFor new y × (number ≡ y.root.version)
 
   -- a step of a commit from x to y: a stop at any moment of it leaves x or y
   pub record Stepped (old new : Commit D g) (result : Result Progress StoreFault) (x y : Kept) : Type 0 where
@@ -110,7 +110,7 @@ Counts (progress.Done number) old new = (old ≡ 1) × (new ≡ 0)
 -- what a store on an honest disk stands for is the content of its live root
 abbrev pub StoresStand : {D : Type 0} → Ghosts D → Type 0
 StoresStand {D = D} g =
-    (s : Commit D g) → g.is_honest s.disk → s.phase ≡ Idle → Stands g s (content_of s.root s.live)
+    (s : Commit D g) → g.is_honest s.disk → s.phase ≡ Idle → StoreStandsFor g s (content_of s.root s.live)
 
 -- a commit that is under way on an honest disk goes from the content of the live root to that of the next root
 abbrev pub CommitsRun : {D : Type 0} → Ghosts D → Type 0

@@ -5,8 +5,8 @@ ghost use Rattle.store_terms.specs.Image.{Held};
 ghost use Rattle.store_terms.specs.Roots.{sequence_max};
 ghost use Rattle.record_writing.specs.ImageHeld.{image_held};
 ghost use Rattle.commit_plan.specs.Kept.{Kept};
-ghost use Rattle.root_store.specs.Running.{Stands, Runs, LeadsTo, KeepsTo, calls_left, is_busy};
-ghost use Rattle.commit_plan.specs.Drafting.{IsNext};
+ghost use Rattle.root_store.specs.Running.{StoreStandsFor, Runs, LeadsTo, KeepsTo, calls_left, is_busy};
+ghost use Rattle.commit_plan.specs.Drafting.{NextHolds};
 ghost use Rattle.commit_plan.specs.Fitting.{HasRoom, HasNoRoom};
 ghost use Rattle.commit_plan.specs.Live.{live_content};
 ghost use Rattle.commit_plan.specs.Sizes.{new_records};
@@ -14,25 +14,24 @@ ghost use Rattle.root_store.specs.Beginning.{IsRefusal, IsReason, IsLaid};
 ghost use Rattle.root_store.specs.Writing.{writes_left};
 
 use crate::commit::Commit;
-use crate::finding::NUMBER_MAX;
 use crate::phase::Phase;
 use crate::slots::other_body;
-use commit_plan::drafting::drafted;
 use commit_plan::fault::StoreFault;
-use commit_plan::next::Next;
+use commit_plan::next::{Next, drafted};
 use disk_model::disk::Disk;
 use record_writing::image::Image;
 use std::alloc::Global;
+use store_terms::layout::NUMBER_MAX;
 
 impl<D: Disk> Commit<D> {
     /// Begins the commit that leads to what comes next. It makes no device call.
     pub(crate) fn start(&mut self, next: Next)
         requires idle { self.old.phase ≡ Phase.Idle }
         requires below { self.old.root.sequence < sequence_max }
-        requires follows { (x : Kept) → Stands D.Disk self.old x
-            → (held : Held) × IsNext x held next × (held.number ≡ next.root.version) }
-        ensures begun { (x : Kept) (held : Held) → Stands D.Disk self.old x → x.root.sequence < sequence_max
-            → IsNext x held next → (y : Kept) × (y.held ≡ held) × Runs D.Disk self.new x y }
+        requires follows { (x : Kept) → StoreStandsFor D.Disk self.old x
+            → (held : Held) × NextHolds x held next × (held.number ≡ next.root.version) }
+        ensures begun { (x : Kept) (held : Held) → StoreStandsFor D.Disk self.old x → x.root.sequence < sequence_max
+            → NextHolds x held next → (y : Kept) × (y.held ≡ held) × Runs D.Disk self.new x y }
         ensures disk { self.new.disk ≡ self.old.disk }
         ensures root { self.new.next_root ≡ next.root }
         ensures plan { self.new.plan.items ≡ next.plan.items }
@@ -75,7 +74,7 @@ impl<D: Disk> Commit<D> {
     pub fn begin(&mut self, alloc: Global, image: Image) -> Result<(), StoreFault>
         requires { is_busy self.old.phase ≡ false }
         // From the content that the store stands for to that of the image.
-        ensures begun { (x : Kept) → Stands D.Disk self.old x
+        ensures begun { (x : Kept) → StoreStandsFor D.Disk self.old x
             → OnOk result ((y : Kept) × (y.held ≡ image_held image) × Runs D.Disk self.new x y) }
         // On an honest disk, with no premise: from the content of the live root to just the image.
         ensures leads { D.is_honest self.old.disk → OnOk result

@@ -4,7 +4,6 @@ ghost use Rattle.disk_model.specs.Disk.{Failed, CountsCall};
 ghost use Rattle.commit_plan.specs.Kept.{Kept};
 ghost use Rattle.root_store.specs.Content.{Keeps};
 
-use crate::finding::GATE_OPEN;
 use crate::phase::{Phase, Progress};
 use crate::slots::other_gate;
 use commit_plan::fault::StoreFault;
@@ -12,10 +11,8 @@ use commit_plan::live_records::LiveRecords;
 use commit_plan::write::Write;
 use disk_model::disk::Disk;
 use std::mem;
+use store_terms::layout::{GATE_CLOSED, GATE_OPEN};
 use store_terms::root::Root;
-
-/// The value with which a commit shuts a gate.
-const GATE_CLOSED: u8 = 0;
 
 /// A store on a disk: its live root with what that holds and where, and the commit that is under way.
 #[derive(Debug, Drop)]

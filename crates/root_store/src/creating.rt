@@ -3,17 +3,15 @@ ghost use Rattle.std.specs.Prelude.{◌≡◌, ◌↔◌, ◌+◌, ◌≤◌, le
 ghost use Rattle.disk_model.specs.Disk.{Holds, Torn};
 ghost use Rattle.extent_map.specs.Taken.{taken_of, limit_of};
 ghost use Rattle.commit_plan.specs.Kept.{extents_in};
-ghost use Rattle.root_reading.specs.Taking.{IsMapOf};
+ghost use Rattle.root_reading.specs.RootRuns.{IsMapOf};
 ghost use Rattle.root_store.specs.Running.{KeepsTo};
 ghost use Rattle.root_store.specs.Creating.{nothing_kept, first_root, IsFirstWrite};
 ghost use Rattle.root_store.specs.HonestSteps.{ChecksHonestly, FormatsHonestly, PreparesHonestly};
 ghost use Rattle.root_store.specs.HonestStore.{CreatesHonestly};
 
 use crate::commit::Commit;
-use crate::finding::GATE_OPEN;
 use crate::open_fault::OpenFault;
 use crate::phase::Phase;
-use crate::slots::BODY;
 use commit_plan::fault::StoreFault;
 use commit_plan::live_records::LiveRecords;
 use commit_plan::room::Room;
@@ -23,6 +21,7 @@ use extent_map::BLOCK;
 use extent_map::extent::Extent as Run;
 use record_writing::root_body::write_body;
 use std::alloc::{AllocError, Global};
+use store_terms::layout::{BODY, GATE_OPEN};
 use store_terms::root::{RecordExtent, Root};
 
 /// Where the empty catalog of a new store lies.

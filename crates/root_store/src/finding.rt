@@ -8,21 +8,12 @@ ghost use Rattle.root_store.specs.Finding.{IsSlot, has_shut_gate};
 
 use disk_model::disk::Disk;
 use extent_map::BLOCK;
-use overlay_terms::limits::VERSION_MAX;
 use record_reading::root_body::read_body;
 use record_writing::root_body::format_of;
 use root_reading::load_fault::LoadFault;
 use store_terms::damage::Damage;
+use store_terms::layout::{GATE_OPEN, NUMBER_MAX, SLOTS};
 use store_terms::root::{Body, Root};
-
-/// The value of a gate that is open.
-pub const GATE_OPEN: u8 = 0xA7;
-
-/// The greatest number of a commit, and of a version.
-pub const NUMBER_MAX: u64 = VERSION_MAX;
-
-/// How many bytes the two slots have.
-const SLOTS: usize = 2 * BLOCK;
 
 /// What stands in a slot: its gate, and its body whatever the gate.
 #[derive(Clone, Copy)]

@@ -5,7 +5,7 @@ ghost use Rattle.overlay_terms.specs.Commands.{version_max};
 ghost use Rattle.overlay_terms.specs.StoredTiles.{AreStored};
 ghost use Rattle.layer_tiles.specs.Table.{tiles_in};
 ghost use Rattle.extent_map.specs.Taken.{limit_of};
-ghost use Rattle.commit_plan.specs.Loading.{kept_in};
+ghost use Rattle.commit_plan.specs.Loaded.{kept_in};
 ghost use Rattle.commit_plan.specs.Staying.{kept_content};
 ghost use Rattle.commit_plan.specs.Live.{live_content};
 ghost use Rattle.root_reading.specs.Looking.{OnlyLooks};
@@ -14,16 +14,17 @@ ghost use Rattle.root_store.specs.HonestSteps.{ReadsHonestly, LoadsHonestly};
 ghost use Rattle.root_store.specs.HonestStore.{OpensHonestly};
 
 use crate::commit::Commit;
-use crate::finding::{NUMBER_MAX, find_root};
+use crate::finding::find_root;
 use crate::healing::heal;
 use crate::open_fault::OpenFault;
 use crate::phase::Phase;
 use commit_plan::fault::{StoreFault, told};
-use commit_plan::loading::{Loaded, read_root};
+use commit_plan::loaded::{Loaded, read_root};
 use disk_model::disk::Disk;
 use record_writing::image::Image;
 use root_reading::load_fault::LoadFault;
 use std::alloc::Global;
+use store_terms::layout::NUMBER_MAX;
 
 /// Makes what was written stay: from then on a crash leaves what is seen, and nothing else.
 fn settle<D: Disk>(disk: &mut D) -> Result<(), LoadFault>
@@ -48,7 +49,7 @@ fn read_store<D: Disk>(
     ensures limit { IfOk result (λ x. limit_of x.0.live.room.map ≡ max_blocks) }
     ensures next_limit { IfOk result (λ x. limit_of x.0.next_live.room.map ≡ max_blocks) }
     ensures stored { IfOk result (λ x. AreStored x.0.content.value.layers (tiles_in x.0.content.value)) }
-    ensures stands { IfOk result (λ x. live_content x.0.live ≡ kept_content (kept_in x.0)) }
+    ensures content { IfOk result (λ x. live_content x.0.live ≡ kept_content (kept_in x.0)) }
     ensures numbered { IfOk result (λ x. x.0.root.version ≤ version_max) }
 {
     settle(disk)?;
@@ -68,7 +69,7 @@ pub(crate) fn load<D: Disk>(
     ensures limit { IfOk result (λ x. limit_of x.live.room.map ≡ max_blocks) }
     ensures next_limit { IfOk result (λ x. limit_of x.next_live.room.map ≡ max_blocks) }
     ensures stored { IfOk result (λ x. AreStored x.content.value.layers (tiles_in x.content.value)) }
-    ensures stands { IfOk result (λ x. live_content x.live ≡ kept_content (kept_in x)) }
+    ensures content { IfOk result (λ x. live_content x.live ≡ kept_content (kept_in x)) }
     ensures numbered { IfOk result (λ x. x.root.version ≤ version_max) }
 {
     let (loaded, is_alone) = read_store(alloc, disk, max_blocks)?;

@@ -4,10 +4,8 @@ ghost use Rattle.store_terms.specs.StandsFor.{gate_at, body_at};
 ghost use Rattle.commit_plan.specs.Kept.{other};
 
 use extent_map::BLOCK;
+use store_terms::layout::BODY;
 use store_terms::root::Root;
-
-/// How far behind the gate of its slot a body stands.
-pub(crate) const BODY: usize = 16;
 
 /// Where the gate of the other slot stands.
 pub(crate) fn other_gate(root: Root) -> usize

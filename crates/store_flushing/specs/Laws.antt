@@ -5,7 +5,7 @@ use Rattle.disk_model.specs.Moments.{Leaves, LeavesOnly}
 use Rattle.overlay_terms.specs.Histories.{Version, History, IsHistory, newest}
 use Rattle.commit_plan.specs.Kept.{Kept}
 use Rattle.root_store.specs.declared.phase.Phase.TheVariants.{Idle}
-use Rattle.root_store.specs.Running.{Stands}
+use Rattle.root_store.specs.Running.{StoreStandsFor}
 use Rattle.flush_core.specs.declared.flusher.Flusher.{Flusher}
 use Rattle.flush_core.specs.Stored.{IsImageOf}
 use Rattle.store_flushing.specs.Among.{IsFileIn}
@@ -16,7 +16,7 @@ use Rattle.store_flushing.specs.Told.{reported_in}
 -- it
 abbrev pub StoreBegins : {D : Type 0} → Ghosts D → Type 0
 StoreBegins {D = D} g =
-    (version : Version) (f : Flusher D g) (x : Kept) → Stands g f.commit x → IsImageOf version x.held
+    (version : Version) (f : Flusher D g) (x : Kept) → StoreStandsFor g f.commit x → IsImageOf version x.held
     → f.commit.root.version ≡ version.number → version.durable ≤ f.commit.root.version → IsStoreOf g (record { start = version; entries = [] }) f
 
 -- every file that a crash may leave of a store of a history stands for one of its versions, no older than what is

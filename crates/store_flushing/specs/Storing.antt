@@ -7,7 +7,7 @@ use Rattle.overlay_terms.specs.Histories.{History, BeginsWith, newest}
 use Rattle.root_store.specs.declared.phase.Phase.{Phase}
 use Rattle.root_store.specs.declared.phase.Phase.TheVariants.{Idle, Close, Settle, Put, Open, Finish, Failed}
 use Rattle.commit_plan.specs.Kept.{Kept}
-use Rattle.root_store.specs.Running.{Stands, Runs, FailsByDevice}
+use Rattle.root_store.specs.Running.{StoreStandsFor, Runs, FailsByDevice}
 use Rattle.flush_core.specs.declared.flusher.Flusher.{Flusher}
 use Rattle.book_history.specs.Logs.{history_of}
 use Rattle.version_book.specs.Heard.{Heard}
@@ -19,7 +19,7 @@ module _ {D : Type 0} (g : Ghosts D) (history : History) where
     pub x : Kept
     pub held : IsHeldIn history x.held
     pub number : x.held.number ≡ f.commit.root.version
-    pub stands : Stands g f.commit x
+    pub stands : StoreStandsFor g f.commit x
 
   -- a commit is under way, from the version that is stored to one that is no older
   pub record Goes (f : Flusher D g) : Type 0 where

@@ -9,10 +9,10 @@ ghost use Rattle.flush_core.specs.Stored.{HasNoRoomFor, stored_after};
 ghost use Rattle.book_history.specs.Fault.{passes};
 ghost use Rattle.book_history.specs.Logs.{history_of, newest_in};
 ghost use Rattle.store_flushing.specs.Storing.{AllReported, IsStoreOf, Keeps};
-ghost use Rattle.store_flushing.specs.Telling.{told_of};
+ghost use Rattle.store_flushing.specs.Reports.{told_of};
 ghost use Rattle.store_flushing.specs.Told.{KeepsTelling, news_in, told_at, told_in};
 
-pub use crate::flushing::flusher_loop;
+pub use crate::flusher_loop::flusher_loop;
 use crate::keeper::told_log::ToldLog;
 use crate::telling;
 use commit_plan::fault::StoreFault;

@@ -2,8 +2,8 @@
 //! book and its store, once the threads that share them have returned.
 #![tactic(auto)]
 
-pub mod closing;
-mod flushing;
+pub mod closed;
+mod flusher_loop;
 pub mod keeper;
 pub mod laws;
-mod telling;
+mod reports;

@@ -12,8 +12,8 @@ use Rattle.layer_expr.specs.Name.{is_name}
 use Rattle.layer_expr.specs.Token.{tokens_of}
 use Rattle.layer_expr.specs.Grammar.{Written, written_kinds, written_tree, kinds_of, tokens_max}
 use Rattle.layer_expr.specs.Spelling.{canonical, expression_text, IsExpression}
-use Rattle.layer_expr.specs.Standing.{Standing, written_making, finished}
-use Rattle.layer_expr.proofs.StandingLemmas.{read_whole, plus-whole}
+use Rattle.layer_expr.specs.ReaderState.{ReaderState, written_making, finished}
+use Rattle.layer_expr.proofs.ReaderStateLemmas.{read_whole, plus-whole}
 use Rattle.layer_expr.proofs.SpellingLemmas.{reads_back}
 use Rattle.store_terms.specs.declared.damage.Damage.{Damage}
 use Rattle.store_terms.specs.declared.damage.Damage.TheVariants.{CatalogPlace, RecordPlace, LayerForm, TileForm}
@@ -37,7 +37,7 @@ definition_again tree is =
     let reads = reads_back tree is in
     let w = reads.0 in
     let found : written_of (written_kinds w) ≡ Some w =
-    ap (λ (s : Option (Standing Written)). s >>= λ t. finished written_making t) (read_whole w reads.1.grouped) ∙ ap Some (plus-whole w) in
+    ap (λ (s : Option (ReaderState Written)). s >>= λ t. finished written_making t) (read_whole w reads.1.grouped) ∙ ap Some (plus-whole w) in
     let small : nat_le (length (written_kinds (canonical tree))) tokens_max ≡ true = le-leb _ _ is.1 in
     let test : (is_expression tree && bytes_eq (expression_text tree) (expression_text tree)) ≡ true =
     and_from _ _ (and_from (list_all is_name (leaves tree)) (nat_le (length (written_kinds (canonical tree))) tokens_max) is.0 small) (name_itself (expression_text tree)) in

@@ -6,7 +6,7 @@ use Rattle.overlay_terms.specs.Layers.{Name}
 use Rattle.layer_expr.specs.Name.{is_name}
 use Rattle.layer_expr.specs.Token.{Kind, tokens_of}
 use Rattle.layer_expr.specs.Grammar.{Written, written_kinds, written_tree, kinds_of, tokens_max}
-use Rattle.layer_expr.specs.Standing.{written_making, behind_all, at_start, finished}
+use Rattle.layer_expr.specs.ReaderState.{written_making, behind_all, at_start, finished}
 use Rattle.layer_expr.specs.Spelling.{canonical, expression_text}
 use Rattle.store_terms.specs.Fields.{◌>>=◌}
 

@@ -3,4 +3,5 @@
 
 pub mod damage;
 pub mod laws;
+pub mod layout;
 pub mod root;

@@ -2,8 +2,8 @@
 use crate::store::{Counts, Store, opened_disk};
 use commit_plan::fault::StoreFault;
 use disk_model::mem_disk::{Call, MemDisk};
+use layer_book::Layers;
 use layer_book::command::Command;
-use layer_book::layers::Layers;
 use layer_expr::name::Name;
 use layer_expr::reading::read_expr;
 use plane_base::{BaseLayer, Pt, Ring};

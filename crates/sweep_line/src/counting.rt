@@ -11,11 +11,8 @@ ghost use Rattle.arrange.specs.Marked.{marked_of};
 ghost use Rattle.sweep_line.specs.Label.{AreLabels};
 
 use crate::labelled::Labelled;
-use arrange::marked_seg::MarkedSeg;
-use arrange::piece::Elementary;
-use arrange::tile_input::TileInput;
-use exact_point::middle::below_middle;
-use exact_point::point::HPoint;
+use arrange::{Elementary, MarkedSeg, TileInput};
+use exact_point::{HPoint, below_middle};
 use std::alloc::{AllocError, Global};
 
 /// The pieces of an input with their sides, in the order of the pieces.

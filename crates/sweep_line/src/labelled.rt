@@ -1,5 +1,5 @@
 //! Pieces with their sides.
-use arrange::piece::Elementary;
+use arrange::Elementary;
 
 /// A piece with a bit for each base layer that holds just under it, and just over it.
 #[derive(Clone, Copy, Debug, PartialEq, Eq)]

@@ -10,9 +10,8 @@ ghost use Rattle.sweep_line.specs.Sweep.{Begins, Passes};
 
 use crate::labelled::Labelled;
 use crate::status::{Status, StatusEntry};
-use arrange::piece::Elementary;
-use arrange::tile_input::TileInput;
-use plane_base::point::Seg;
+use arrange::{Elementary, TileInput};
+use plane_base::Seg;
 use std::alloc::{AllocError, Global};
 use std::cmp::Ordering;
 

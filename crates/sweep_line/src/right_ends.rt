@@ -4,8 +4,7 @@ ghost use Rattle.std.specs.List.{insert};
 ghost use Rattle.exact_point.specs.Place.{place};
 ghost use Rattle.sweep_line.specs.RightEnds.{AreLeftmostLast, IsLast, lies_right};
 
-use exact_point::point::HPoint;
-use exact_point::side::x_cmp;
+use exact_point::{HPoint, x_cmp};
 use std::alloc::{AllocError, Global};
 use std::marker::Model;
 

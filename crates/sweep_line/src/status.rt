@@ -7,10 +7,9 @@ ghost use Rattle.exact_point.specs.Place.{place};
 ghost use Rattle.sweep_line.specs.Status.{HasLostOne, goes_on, is_passed};
 
 use crate::right_ends::{RightEnds, is_left};
-use exact_point::crossing::direction_cmp;
-use exact_point::point::HPoint;
-use exact_point::side::{side, x_cmp};
-use plane_base::point::Seg;
+use exact_point::side::side;
+use exact_point::{HPoint, direction_cmp, x_cmp};
+use plane_base::Seg;
 use std::alloc::{AllocError, Global};
 use std::cmp::Ordering;
 use std::marker::Model;

@@ -4,4 +4,3 @@ pub mod BoundaryLemmas
 pub mod SameLemmas
 pub mod CountedLemmas
 pub mod EndLemmas
-pub mod StoredLemmas

@@ -4,7 +4,7 @@ ghost use Rattle.std.specs.Prelude.{◌≡◌};
 use crate::gate::Gate;
 use std::alloc::Global;
 use std::sync::Wait;
-use tile_build::built::Built;
+use tile_build::Built;
 use version_book::job::Job;
 use version_book::resting::rest;
 use version_book::seen_log::BookName;

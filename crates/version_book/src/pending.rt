@@ -11,7 +11,7 @@ ghost use Rattle.version_book.specs.HeldTiles.{is_held};
 use crate::held_tiles::HeldTiles;
 use arrange::TileInput;
 use layer_expr::name::Name;
-use layer_tiles::tiles::TileRow;
+use layer_tiles::TileRow;
 use plane_base::{COLUMN_COUNT, Column};
 use std::alloc::{AllocError, Global};
 use versions::Version;

@@ -17,8 +17,7 @@ use layer_expr::name::Name;
 use plane_base::Column;
 use std::alloc::Global;
 use tile_build::Tile;
-use versions::fault::VersionFault;
-use versions::version::Version;
+use versions::{Version, VersionFault};
 
 /// What is asked of a version.
 pub trait Answers {

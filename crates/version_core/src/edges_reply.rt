@@ -15,8 +15,7 @@ use layer_expr::name::Name;
 use plane_base::Column;
 use std::alloc::{AllocError, Global};
 use tile_build::{Piece, Tile};
-use versions::fault::VersionFault;
-use versions::version::Version;
+use versions::{Version, VersionFault};
 
 /// How many bytes there is room for at first for the line with the count.
 const HEAD_SIZE: usize = 32;

@@ -9,7 +9,7 @@ use layer_expr::name::Name;
 use plane_base::Column;
 use std::alloc::{AllocError, Global};
 use tile_build::{PIECES_MAX, Tile, build};
-use versions::version::Version;
+use versions::Version;
 
 /// Whether a tile is the one that its present input gives.
 #[derive(Clone, Copy, Debug, PartialEq, Eq)]

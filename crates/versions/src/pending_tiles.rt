@@ -8,7 +8,7 @@ use crate::fault::VersionFault;
 use crate::version::Version;
 use layer_book::fault::LayerFault;
 use layer_expr::name::Name;
-use layer_tiles::tiles::TileRow;
+use layer_tiles::TileRow;
 use plane_base::COLUMN_COUNT;
 use std::alloc::{AllocError, Global};
 

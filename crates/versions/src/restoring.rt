@@ -7,10 +7,10 @@ ghost use Rattle.tile_build.specs.Tile.{finished_of as finished_named};
 
 use crate::fault::VersionFault;
 use crate::version::Version;
+use layer_book::Layers;
 use layer_book::fault::LayerFault;
-use layer_book::layers::Layers;
 use layer_expr::name::Name;
-use layer_tiles::table::Table;
+use layer_tiles::Table;
 use std::alloc::{AllocError, Global};
 use std::sync::Arc;
 use tile_build::Tile;

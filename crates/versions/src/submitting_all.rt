@@ -15,7 +15,7 @@ use layer_book::batch::Batch;
 use layer_book::batch_fault::BatchFault;
 use layer_book::command::Command;
 use layer_book::fault::LayerFault;
-use layer_tiles::table::Table;
+use layer_tiles::Table;
 use std::alloc::{AllocError, Global};
 use std::sync::Arc;
 

@@ -9,11 +9,10 @@ ghost use Rattle.layer_tiles.specs.Table.{laid, places_in, row_by, tiles_in, IsL
 ghost use Rattle.versions.specs.Laid.{numbered};
 ghost use Rattle.versions.specs.Version.{IsVersion};
 
+use layer_book::Layers;
 use layer_book::layer::Layer;
-use layer_book::layers::Layers;
 use layer_expr::name::Name;
-use layer_tiles::table::Table;
-use layer_tiles::tiles::TileRow;
+use layer_tiles::{Table, TileRow};
 pub use overlay_terms::limits::VERSION_MAX;
 use plane_base::Column;
 use std::alloc::{AllocError, Global};

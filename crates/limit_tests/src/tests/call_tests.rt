@@ -8,7 +8,7 @@ use record_writing::image::Image;
 use std::alloc::Global;
 use std::process::Abort;
 use tile_build::Tile;
-use versions::version::Version;
+use versions::Version;
 
 /// A first block and how many.
 type Run = (u64, u64);

@@ -3,7 +3,7 @@ use crate::tests::testing::{name_of, overlap, with_tile};
 use std::alloc::Global;
 use std::process::Abort;
 use version_core::Answers;
-use versions::version::Version;
+use versions::Version;
 
 /// The edges of I in column 16, where both squares are.
 const EDGES: &[u8] = b"edges 4\n5 5 1 5 10 1\n5 5 1 10 5 1\n5 10 1 10 10 1\n10 5 1 10 10 1\n";

@@ -9,7 +9,7 @@ use overlay_engine::step::{Reply, Step};
 use std::alloc::Global;
 use std::marker::Model;
 use std::process::Abort;
-use versions::version::Version;
+use versions::Version;
 
 /// An engine over a disk, of which a contract sees nothing.
 pub struct Machine<D: Disk> {

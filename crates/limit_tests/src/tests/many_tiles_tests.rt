@@ -7,7 +7,7 @@ use overlay_engine::step::{Reply, Step};
 use std::alloc::Global;
 use std::process::Abort;
 use tile_build::Tile;
-use versions::version::Version;
+use versions::Version;
 
 /// Two bands over all columns, the second half above the first.
 const LOWER: &str = "POLYGON ((-1048576 0, 1048576 0, 1048576 10, -1048576 10, -1048576 0))";

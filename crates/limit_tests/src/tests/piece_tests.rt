@@ -13,7 +13,7 @@ use std::process::Abort;
 use tile_build::Tile;
 use version_core::Answers;
 use version_core::verifying::Verdict;
-use versions::version::Version;
+use versions::Version;
 
 /// How many rectangles lie, and how many stand.
 const LYING: u32 = 49;

@@ -6,8 +6,7 @@ use std::alloc::Global;
 use std::process::Abort;
 use std::sync::Arc;
 use tile_build::Built;
-use versions::finishing::Finish;
-use versions::version::Version;
+use versions::{Finish, Version};
 use wkt_form::reading::read_wkt;
 
 pub const SQUARE: &str = "POLYGON ((0 0, 10 0, 10 10, 0 10, 0 0))";

@@ -2,12 +2,12 @@
 use crate::tests::edition::Edition;
 use crate::tests::rows::check;
 use crate::tests::testing::{Change, OVERLAP, SHIFTED, SQUARE, batch, command, layers_of};
+use layer_book::Layers;
 use layer_book::batch::Batch;
 use layer_book::batch_fault::BatchFault;
-use layer_book::layers::Layers;
 use std::alloc::Global;
 use std::process::Abort;
-use versions::version::Version;
+use versions::Version;
 
 /// The number of the version after a batch and how many layers it has, or why there is none.
 type Reply = Result<(u64, usize), BatchFault>;

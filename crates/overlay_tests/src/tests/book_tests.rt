@@ -5,7 +5,7 @@ use crate::tests::testing::{Change, Corners, LEFT_HALF, SHIFTED, SQUARE};
 use layer_book::batch_fault::BatchFault;
 use layer_book::fault::LayerFault;
 use version_book::fault::{BookFault, ToldFault};
-use versions::fault::VersionFault;
+use versions::VersionFault;
 
 const PUT_A: Call = Call::Submit(Change::Put("A", SQUARE));
 

@@ -23,7 +23,7 @@ use version_book::seen_log::{BookName, LogWord, SeenLog, open};
 use version_book::session::Session;
 use version_book::shared::Shared;
 use version_core::Answers;
-use versions::version::Version;
+use versions::Version;
 
 /// A call on a book by its first session or its reporter.
 pub enum Call {

@@ -8,8 +8,7 @@ use std::alloc::Global;
 use std::marker::Model;
 use std::process::Abort;
 use tile_build::Built;
-use versions::finishing::Finish;
-use versions::version::Version;
+use versions::{Finish, Version};
 
 /// A version, of which a contract sees nothing.
 pub struct Edition {

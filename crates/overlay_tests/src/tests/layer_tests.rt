@@ -3,8 +3,8 @@ use crate::tests::rows::check;
 use crate::tests::testing::{
     SHIFTED, SQUARE, input_in, input_of, layers_of, with_base, with_definition,
 };
-use layer_book::layers::Layers;
-use layer_expr::step_list::StepList;
+use layer_book::Layers;
+use layer_expr::StepList;
 use std::alloc::Global;
 use std::process::Abort;
 

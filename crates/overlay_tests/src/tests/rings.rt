@@ -1,7 +1,7 @@
 //! Layers of rings for the tests: scattered rings from seeds, and combs that cross everywhere.
 use crate::tests::testing::{input_in, with_definition, with_rings};
 use arrange::TileInput;
-use layer_book::layers::Layers;
+use layer_book::Layers;
 use plane_base::{Pt, Ring};
 use std::alloc::Global;
 use std::process::Abort;

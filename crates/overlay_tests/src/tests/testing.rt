@@ -1,8 +1,8 @@
 //! Layers and inputs of tiles for the tests, by the corners of their rings. What cannot be made ends the test.
 use arrange::TileInput;
+use layer_book::Layers;
 use layer_book::batch::Batch;
 use layer_book::command::Command;
-use layer_book::layers::Layers;
 use layer_expr::name::Name;
 use layer_expr::reading::read_expr;
 use plane_base::{BaseLayer, Pt, Ring};

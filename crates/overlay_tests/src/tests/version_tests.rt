@@ -6,7 +6,7 @@ use layer_expr::name::Name;
 use std::alloc::Global;
 use std::process::Abort;
 use tile_build::Built;
-use versions::version::Version;
+use versions::Version;
 
 const SMALLER: Corners = &[&[(0, 0), (9, 0), (9, 9), (0, 9), (0, 0)]];
 

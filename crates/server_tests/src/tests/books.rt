@@ -14,7 +14,7 @@ use std::sync::Wait;
 use std::thread::Threads;
 use version_book::seen_log::{BookName, LogWord, SeenLog, open};
 use version_book::shared::Shared;
-use versions::version::Version;
+use versions::Version;
 
 /// A history of one version, which is no book's yet.
 struct History {

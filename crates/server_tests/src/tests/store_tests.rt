@@ -67,7 +67,7 @@ fn a_layer_is_there_when_the_store_is_opened_again(rt: HostRuntime) -> Result<()
     Ok(())
 }
 
-// Caught: `end_commit_reports_nothing` (in store_flushing/src/flushing.rt the number that a commit has reached is not
+// Caught: `end_commit_reports_nothing` (in store_flushing/src/flusher_loop.rt the number that a commit has reached is not
 // reported): SYNC sleeps for ever.
 #[test]
 fn a_sync_ends_with_a_durable_version(rt: HostRuntime) -> Result<(), Fail> {

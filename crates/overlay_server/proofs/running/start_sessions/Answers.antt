@@ -1,7 +1,7 @@
 use Rattle.std.proofs.Common.{rules, All, ◌≡◌, ◌++◌, ◌∷◌, [], ℕ, ◌+◌, length-append, ap, sym, subst, arith, ◌∙◌}
 use Rattle.std.specs.List.{AllZip}
 use Rattle.std.specs.Vec.Iter.{into_iter_items}
-use Rattle.tile_build.proofs.StoredLemmas.{in_middle}
+use Rattle.overlay_terms.proofs.Lists.{in_middle}
 use Rattle.version_book.specs.Store.{has_store}
 use Rattle.overlay_server.proofs.Lists.{beside_push, one_on}
 use Rattle.overlay_server.proofs.running.start_sessions.Goals as goal

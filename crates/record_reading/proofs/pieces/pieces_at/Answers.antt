@@ -4,7 +4,7 @@ use Rattle.store_terms.specs.Fields.{read_many}
 use Rattle.store_terms.specs.TileRecord.{piece}
 use Rattle.store_terms.proofs.Loops.{goes_on}
 use Rattle.record_reading.proofs.Failing.{fails}
-use Rattle.record_reading.specs.Standing.{stand_in}
+use Rattle.record_reading.specs.PieceOrder.{are_in_order}
 use Rattle.record_reading.proofs.pieces.pieces_at.Goals as goal
 
 pub returns-in_err-rest-clause-pieces : goal.returns-in_err-rest-clause-pieces
@@ -21,5 +21,5 @@ loop-preserved c =
     let placed = c.is_last_placed-stand.ensures c.loop.pieces.items read.0 (seen ∙ read.2) in (
       rw read.2
           (goes_on piece.read c.loop.pieces.items c.args.count c.loop.counter c.loop.rest.now read.0 c.in_ok-rest.rest.now (read_many piece.read c.args.count c.args.bytes.now) c.loop-test.true read.1 c.loop.invariant.0),
-      ap (λ stand. stand && c.is_last_placed-stand.result) c.loop.invariant.1 ∙ sym placed ∙ ap (stand_in c.args.column) seen,
+      ap (λ stand. stand && c.is_last_placed-stand.result) c.loop.invariant.1 ∙ sym placed ∙ ap (are_in_order c.args.column) seen,
     )

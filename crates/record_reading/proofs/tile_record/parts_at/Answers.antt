@@ -1,5 +1,5 @@
 use Rattle.std.proofs.Common.{rules}
-use Rattle.record_reading.proofs.StandingLemmas.{formed}
+use Rattle.record_reading.proofs.PieceOrderLemmas.{formed}
 use Rattle.record_reading.proofs.tile_record.parts_at.Goals as goal
 
 pub returns-in_ok-pieces-in-0-clause-formed : goal.returns-in_ok-pieces-in-0-clause-formed

@@ -4,9 +4,9 @@ use Rattle.layer_tiles.specs.Table.{tiles_in}
 use Rattle.store_terms.specs.Image.{tiles_of}
 use Rattle.root_reading.specs.declared.load_fault.LoadFault.{LoadFault}
 use Rattle.root_reading.specs.Looking.{Refuses}
-use Rattle.root_reading.specs.Loading.{then_tiles}
+use Rattle.root_reading.specs.LayerReading.{then_tiles}
 use Rattle.root_reading.proofs.Looked.{looks_none, looks_on, if_err, size_stays}
-use Rattle.root_reading.proofs.LoadingLemmas.{tiles_go_on, tiles_end}
+use Rattle.root_reading.proofs.LayerReadingLemmas.{tiles_go_on, tiles_end}
 use Rattle.root_reading.proofs.tiles.add_tiles.Goals as goal
 
 pub loop-column-init : goal.loop-column-init

@@ -2,7 +2,7 @@ use Rattle.std.proofs.Common.{◌≡◌, ◌↔◌, drop}
 use Rattle.layer_tiles.specs.Table.{tiles_in}
 use Rattle.store_terms.specs.Image.{tiles_of}
 use Rattle.root_reading.specs.Looking.{Looks}
-use Rattle.root_reading.specs.Loading.{then_tiles}
+use Rattle.root_reading.specs.LayerReading.{then_tiles}
 use Rattle.root_reading.specs.Stored.{IsNextTo}
 use Rattle.root_reading.proofs.tiles.add_tiles.Given as goal
 

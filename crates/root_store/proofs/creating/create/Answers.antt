@@ -1,6 +1,6 @@
 use Rattle.std.proofs.Common.{inl, refl, sym, subst}
 use Rattle.extent_map.specs.Taken.{taken_of}
-use Rattle.root_reading.specs.Taking.{IsMapOf}
+use Rattle.root_reading.specs.RootRuns.{IsMapOf}
 use Rattle.commit_plan.specs.declared.room.Room.{Room}
 use Rattle.commit_plan.specs.Kept.{Kept, extents_in}
 use Rattle.std.proofs.lemmas.Grind.{merely}
@@ -19,7 +19,7 @@ returns-in-Ok-clause-creates g c honest =
         honest = c.prepare.ensures.honest.1 honest;
         idle = refl;
         root = refl;
-        holds = c.empty.ensures.stands;
+        holds = c.empty.ensures.content;
         room = subst (λ (r : Room). IsMapOf (extents_in nothing_kept) (taken_of r.map)) (sym c.empty.ensures.room) c.in-Ok.ensures.room;
         leaves = λ f left. inl (made.ready f left);
       };
@@ -39,10 +39,10 @@ invariant_of-result g c = record {
         honest = honest;
         idle = refl;
         root = refl;
-        holds = c.empty.ensures.stands;
+        holds = c.empty.ensures.content;
         room = subst (λ (r : Room). IsMapOf (extents_in nothing_kept) (taken_of r.map)) (sym c.empty.ensures.room) c.in-Ok.ensures.room;
         leaves = λ f left. inl ((c.in-Ok.ensures.prepares (c.prepare.ensures.honest.0 honest)).made.ready f left);
       } in
       merely (subst (λ (x : Kept). IsAtRest k c.prepare.new.disk phases.Idle first_root c.empty.result x)
-      (sym (content_is first_root c.empty.result nothing_kept refl c.empty.ensures.stands refl)) rests);
+      (sym (content_is first_root c.empty.result nothing_kept refl c.empty.ensures.content refl)) rests);
 }

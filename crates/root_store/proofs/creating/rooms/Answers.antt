@@ -1,6 +1,6 @@
 use Rattle.std.proofs.Common.{[], ◌∷◌}
 use Rattle.extent_map.specs.Taken.{taken_of}
-use Rattle.root_reading.specs.Taking.{AreRunsOf}
+use Rattle.root_reading.specs.RootRuns.{AreRunsOf}
 use Rattle.commit_plan.specs.Kept.{extents_in}
 use Rattle.root_store.specs.Creating.{nothing_kept}
 use Rattle.root_reading.proofs.Rooms.{map_of_runs}

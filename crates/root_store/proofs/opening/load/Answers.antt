@@ -1,8 +1,8 @@
 use Rattle.std.proofs.Common.{◌≡◌, ◌+◌, ◌<◌, ◌≤◌, Bool, true, false, inl, inr, Err, refl, sym, ◌∙◌, rules, arith}
 use Rattle.store_terms.specs.StandsFor.{reading}
 use Rattle.store_terms.specs.Roots.{sequence_max}
-use Rattle.commit_plan.specs.declared.loading.Loaded.{Loaded}
-use Rattle.commit_plan.specs.Loading.{kept_in}
+use Rattle.commit_plan.specs.declared.loaded.Loaded.{Loaded}
+use Rattle.commit_plan.specs.Loaded.{kept_in}
 use Rattle.root_store.specs.HonestSteps.{LoadsHonestly}
 use Rattle.root_reading.proofs.Looked.{refuses_device}
 use Rattle.root_store.proofs.OpeningLemmas.{phases_read, phases_healed, shuts, both_loads, last_loads, healed_loads, failed_loads, unread_loads, body_writes, none_completed, last_completed, twin_completed, none_completes, last_completes, at_err, causes_from}

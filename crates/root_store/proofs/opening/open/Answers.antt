@@ -7,7 +7,7 @@ use Rattle.commit_plan.specs.Kept.{Kept}
 use Rattle.root_store.specs.declared.phase.Phase.TheVariants as phases
 use Rattle.root_store.specs.Content.{IsAtRest}
 use Rattle.root_store.proofs.Known.{content_is}
-use Rattle.commit_plan.specs.Loading.{kept_in}
+use Rattle.commit_plan.specs.Loaded.{kept_in}
 use Rattle.commit_plan.specs.Fault.{fault_told}
 use Rattle.root_store.proofs.opening.open.Goals as goal
 
@@ -23,7 +23,7 @@ returns-in-Ok-clause-opens g c honest =
           honest = l.loads.honest;
           idle = refl;
           root = refl;
-          holds = c.in-Ok.ensures.stands;
+          holds = c.in-Ok.ensures.content;
           room = l.loads.ok.0;
           leaves = l.loads.ok.1;
         },
@@ -73,10 +73,10 @@ invariant_of-commit g c = record {
         honest = honest;
         idle = refl;
         root = refl;
-        holds = c.in-Ok.ensures.stands;
+        holds = c.in-Ok.ensures.content;
         room = ok.0;
         leaves = ok.1;
       } in
       merely (subst (λ (x : Kept). IsAtRest k c.load.new.disk phases.Idle loaded.root loaded.live x)
-      (sym (content_is loaded.root loaded.live (kept_in loaded) refl c.in-Ok.ensures.stands refl)) rests);
+      (sym (content_is loaded.root loaded.live (kept_in loaded) refl c.in-Ok.ensures.content refl)) rests);
 }

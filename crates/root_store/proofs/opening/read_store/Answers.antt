@@ -4,7 +4,7 @@ use Rattle.store_terms.specs.Image.{listing_of, held_of}
 use Rattle.root_store.specs.Finding.{has_shut_gate}
 use Rattle.root_reading.specs.Looking.{Refuses}
 use Rattle.root_reading.proofs.Looked.{refuses_bound, refuses_device, looks_on, size_stays}
-use Rattle.commit_plan.specs.Loading.{held_in, kept_in}
+use Rattle.commit_plan.specs.Loaded.{held_in, kept_in}
 use Rattle.root_store.specs.HonestSteps.{ReadsHonestly}
 use Rattle.root_store.proofs.OpeningLemmas.{reading_root, only_read, phases_read, at_err}
 use Rattle.root_store.proofs.opening.read_store.Goals as goal

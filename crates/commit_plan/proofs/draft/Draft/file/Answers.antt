@@ -6,7 +6,7 @@ use Rattle.extent_map.specs.declared.extent.Extent as runs
 use Rattle.store_terms.specs.declared.root.RecordExtent.{RecordExtent}
 use Rattle.commit_plan.specs.declared.write.Write.{Write}
 use Rattle.commit_plan.specs.declared.draft.Draft.{Draft}
-use Rattle.commit_plan.specs.Filing.{Filed}
+use Rattle.commit_plan.specs.Filed.{Filed}
 use Rattle.commit_plan.specs.Drafting.{lengths_of}
 use Rattle.commit_plan.proofs.Drafts.{written_so, placed_more, drafted, no_run, same_error}
 use Rattle.commit_plan.proofs.draft.Draft.file.Goals as goal

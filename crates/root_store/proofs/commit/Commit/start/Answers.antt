@@ -16,7 +16,7 @@ returns-clause-begun g c x held stands below next = (
     honest = stands.honest;
     root = stands.root;
     next_root = next.root;
-    next_holds = next.stands;
+    next_holds = next.content;
     next_room = next.room;
     before = (
       (λ f left. calm_rest x f below (stands.leaves f left)),
@@ -43,7 +43,7 @@ invariant_of-self-2 g c = record {
         honest = honest;
         root = stands.root;
         next_root = next.root;
-        next_holds = next.stands;
+        next_holds = next.content;
         next_room = next.room;
         before = (
           (λ f left. calm_rest x f c.requires.below (stands.leaves f left)),
@@ -51,6 +51,6 @@ invariant_of-self-2 g c = record {
           next.plans.spares,
         );
       } in
-      let is = content_is n.root n.live next.kept next.root next.stands (ap (λ (h : Held). h.number) next.holds ∙ follows.2) in
+      let is = content_is n.root n.live next.kept next.root next.content (ap (λ (h : Held). h.number) next.holds ∙ follows.2) in
       merely (subst (λ (y : Kept). IsUnderWay k s.disk phases.Close s.root n.root n.live n.plan.items x y) (sym is) runs);
 }

@@ -2,7 +2,7 @@ use Rattle.std.proofs.Common.{◌≡◌, ◌+◌, drop, [], ◌∷◌, ℕ, inl,
 use Rattle.std.proofs.lemmas.Grind.{merely}
 use Rattle.store_terms.specs.declared.root.Root.{Root}
 use Rattle.extent_map.specs.Taken.{taken_of, limit_of}
-use Rattle.root_reading.specs.Taking.{IsMapOf}
+use Rattle.root_reading.specs.RootRuns.{IsMapOf}
 use Rattle.commit_plan.specs.declared.live_records.LiveRecords.{LiveRecords}
 use Rattle.commit_plan.specs.declared.room.Room.{Room}
 use Rattle.commit_plan.specs.Live.{live_content}

@@ -1,0 +1,40 @@
+use Rattle.std.proofs.Common.{ap, subst, sym}
+use Rattle.book_history.specs.Logs.{history_of, newest_in}
+use Rattle.version_book.specs.Heard.{Heard}
+use Rattle.store_flushing.specs.Storing.{Flushes}
+use Rattle.store_flushing.specs.declared.keeper.Keeper.{Keeper}
+use Rattle.store_flushing.specs.Told.{KeepsTelling}
+use Rattle.store_flushing.proofs.Storage.{kept_on, then}
+use Rattle.store_flushing.proofs.ToldLemmas.{telling_then}
+use Rattle.store_flushing.proofs.flusher_loop.commit.Goals as goal
+
+pub returns-in-Ok-clause-flushes : goal.returns-in-Ok-clause-flushes
+returns-in-Ok-clause-flushes g c is =
+    let d = g.D.Disk in
+    let old = c.args.keeper.now in
+    let mid = c.begin.new.self in
+    let new = c.end_commit.new.keeper in
+    let h = history_of old.reporter.log in
+    let m = history_of mid.reporter.log in
+    let e = c.begin.ensures in
+    let began = kept_on d h m old.flusher mid.flusher (e.keeps is) (ap (λ (r : Heard). (newest_in r.log).durable) e.reporter) e.stored in
+    then d h m (history_of new.reporter.log) old.flusher mid.flusher new.flusher began (c.end_commit.ensures.flushes began.store)
+
+pub returns-in-Err-clause-flushes : goal.returns-in-Err-clause-flushes
+returns-in-Err-clause-flushes g c is =
+    let d = g.D.Disk in
+    let old = c.args.keeper.now in
+    let mid = c.begin.new.self in
+    let h = history_of old.reporter.log in
+    let m = history_of mid.reporter.log in
+    let e = c.begin.ensures in
+    let refused = kept_on d h m old.flusher mid.flusher (e.keeps is) (ap (λ (r : Heard). (newest_in r.log).durable) e.reporter) e.stored in
+    subst (λ (k : Keeper g.row.D.Denot g.D.Disk). Flushes d h old.flusher (history_of k.reporter.log) k.flusher) (sym c.tell.ensures.nothing) refused
+
+pub returns-in-Ok-clause-tells : goal.returns-in-Ok-clause-tells
+returns-in-Ok-clause-tells g c =
+    telling_then g.D.Disk c.args.keeper.now c.begin.new.self c.end_commit.new.keeper c.begin.ensures.tells (λ is. (c.begin.ensures.keeps is).store) c.end_commit.ensures.tells
+
+pub returns-in-Err-clause-tells : goal.returns-in-Err-clause-tells
+returns-in-Err-clause-tells g c =
+    subst (λ (k : Keeper g.row.D.Denot g.D.Disk). KeepsTelling g.D.Disk c.args.keeper.now k) (sym c.tell.ensures.nothing) c.begin.ensures.tells

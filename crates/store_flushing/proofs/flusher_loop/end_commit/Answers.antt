@@ -1,0 +1,100 @@
+use Rattle.std.proofs.Common.{Ok, refl, ap, sym, ◌∙◌, subst}
+use Rattle.book_history.specs.Logs.{history_of, newest_in}
+use Rattle.version_book.specs.Heard.{Heard}
+use Rattle.flush_core.specs.Stored.{stored_after}
+use Rattle.store_flushing.specs.Storing.{Flushes}
+use Rattle.store_flushing.specs.Told.{KeepsTelling}
+use Rattle.store_flushing.specs.declared.keeper.Keeper.{Keeper}
+use Rattle.store_flushing.proofs.Storage.{begun, kept_on, then, told_all}
+use Rattle.store_flushing.proofs.ToldLemmas.{telling_self, telling_then}
+use Rattle.store_flushing.proofs.flusher_loop.end_commit.Goals as goal
+
+pub calls-init : goal.calls-init
+calls-init g c =
+    let s = c.args.keeper.now.flusher in (
+      refl,
+      λ is. begun g.D.Disk (history_of c.args.keeper.now.reporter.log) s (λ f left. g.met.D.Disk.only_now s.commit.disk f is.honest left) is,
+      telling_self g.D.Disk c.args.keeper.now,
+    )
+
+pub calls-preserved : goal.calls-preserved
+calls-preserved g c = (
+  ap (λ (r : Heard). r.book) c.step.ensures.reporter ∙ c.calls.invariant.0,
+  λ is.
+      let d = g.D.Disk in
+      let first = c.args.keeper.now in
+      let mid = c.calls.keeper in
+      let new = c.step.new.self in
+      let was = c.calls.invariant.1 is in
+      let e = c.step.ensures in
+      let m = history_of mid.reporter.log in
+      let n = history_of new.reporter.log in
+      let same = ap (λ (r : Heard). (newest_in r.log).durable) e.reporter in
+      let stored = e.stored ∙ ap (λ r. stored_after r mid.flusher.commit.root.version) (c.in-Ok-Going.is ∙ ap Ok c.in-Ok-Going.field-0-is) in
+      then d (history_of first.reporter.log) m n first.flusher mid.flusher new.flusher was
+      (kept_on d m n mid.flusher new.flusher (e.keeps was.store) same stored),
+  telling_then g.D.Disk c.args.keeper.now c.calls.keeper c.step.new.self c.calls.invariant.2 (λ is. (c.calls.invariant.1 is).store) c.step.ensures.tells,
+)
+
+pub returns-in-Ok-Idle-clause-flushes : goal.returns-in-Ok-Idle-clause-flushes
+returns-in-Ok-Idle-clause-flushes g c is =
+    let d = g.D.Disk in
+    let first = c.args.keeper.now in
+    let mid = c.calls.keeper in
+    let new = c.step.new.self in
+    let was = c.calls.invariant.1 is in
+    let e = c.step.ensures in
+    let m = history_of mid.reporter.log in
+    let n = history_of new.reporter.log in
+    let same = ap (λ (r : Heard). (newest_in r.log).durable) e.reporter in
+    let stored = e.stored ∙ ap (λ r. stored_after r mid.flusher.commit.root.version) (c.in-Ok-Idle.is ∙ ap Ok c.in-Ok-Idle.field-0-is) in
+    then d (history_of first.reporter.log) m n first.flusher mid.flusher new.flusher was
+    (kept_on d m n mid.flusher new.flusher (e.keeps was.store) same stored)
+
+pub returns-in-Ok-Done-clause-flushes : goal.returns-in-Ok-Done-clause-flushes
+returns-in-Ok-Done-clause-flushes g c is =
+    let d = g.D.Disk in
+    let first = c.args.keeper.now in
+    let mid = c.calls.keeper in
+    let done = c.step.new.self in
+    let told = c.report.new.self in
+    let was = c.calls.invariant.1 is in
+    let m = history_of mid.reporter.log in
+    let k = history_of done.reporter.log in
+    let n = history_of told.reporter.log in
+    let one = c.step.ensures.keeps was.store in
+    then d (history_of first.reporter.log) m n first.flusher mid.flusher told.flusher was
+    (told_all d m k n mid.flusher done.flusher told.flusher one (c.report.ensures.keeps one.store) (c.report.ensures.reported one.store))
+
+pub returns-in-Err-clause-flushes : goal.returns-in-Err-clause-flushes
+returns-in-Err-clause-flushes g c is =
+    let d = g.D.Disk in
+    let first = c.args.keeper.now in
+    let mid = c.calls.keeper in
+    let new = c.step.new.self in
+    let was = c.calls.invariant.1 is in
+    let e = c.step.ensures in
+    let m = history_of mid.reporter.log in
+    let n = history_of new.reporter.log in
+    let same = ap (λ (r : Heard). (newest_in r.log).durable) e.reporter in
+    let stored = e.stored ∙ ap (λ r. stored_after r mid.flusher.commit.root.version) c.in-Err.is in
+    subst (λ (k : Keeper g.row.D.Denot g.D.Disk). Flushes d (history_of first.reporter.log) first.flusher (history_of k.reporter.log) k.flusher) (sym c.tell.ensures.nothing)
+    (then d (history_of first.reporter.log) m n first.flusher mid.flusher new.flusher was
+    (kept_on d m n mid.flusher new.flusher (e.keeps was.store) same stored))
+
+pub returns-in-Ok-Idle-clause-tells : goal.returns-in-Ok-Idle-clause-tells
+returns-in-Ok-Idle-clause-tells g c =
+    telling_then g.D.Disk c.args.keeper.now c.calls.keeper c.step.new.self c.calls.invariant.2 (λ is. (c.calls.invariant.1 is).store) c.step.ensures.tells
+
+pub returns-in-Ok-Done-clause-tells : goal.returns-in-Ok-Done-clause-tells
+returns-in-Ok-Done-clause-tells g c =
+    let first = c.args.keeper.now in
+    let mid = c.calls.keeper in
+    let done = c.step.new.self in
+    telling_then g.D.Disk first mid c.report.new.self c.calls.invariant.2 (λ is. (c.calls.invariant.1 is).store)
+    (telling_then g.D.Disk mid done c.report.new.self c.step.ensures.tells (λ is. (c.step.ensures.keeps is).store) c.report.ensures.tells)
+
+pub returns-in-Err-clause-tells : goal.returns-in-Err-clause-tells
+returns-in-Err-clause-tells g c =
+    subst (λ (k : Keeper g.row.D.Denot g.D.Disk). KeepsTelling g.D.Disk c.args.keeper.now k) (sym c.tell.ensures.nothing)
+    (telling_then g.D.Disk c.args.keeper.now c.calls.keeper c.step.new.self c.calls.invariant.2 (λ is. (c.calls.invariant.1 is).store) c.step.ensures.tells)

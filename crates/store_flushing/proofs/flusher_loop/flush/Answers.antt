@@ -1,0 +1,39 @@
+use Rattle.std.proofs.Common.{refl, ◌∙◌}
+use Rattle.book_history.specs.Logs.{history_of}
+use Rattle.store_flushing.proofs.Storage.{begun, then}
+use Rattle.store_flushing.proofs.ToldLemmas.{telling_self, telling_then}
+use Rattle.store_flushing.proofs.flusher_loop.flush.Goals as goal
+
+pub rounds-init : goal.rounds-init
+rounds-init g c =
+    let s = c.args.keeper.now.flusher in (
+      refl,
+      λ is. begun g.D.Disk (history_of c.args.keeper.now.reporter.log) s (λ f left. g.met.D.Disk.only_now s.commit.disk f is.honest left) is,
+      telling_self g.D.Disk c.args.keeper.now,
+    )
+
+pub rounds-preserved : goal.rounds-preserved
+rounds-preserved g c = (
+  c.round.ensures.same ∙ c.rounds.invariant.0,
+  λ is.
+      let was = c.rounds.invariant.1 is in
+      let first = c.args.keeper.now in
+      let mid = c.rounds.keeper in
+      let new = c.round.new.keeper in
+      then g.D.Disk (history_of first.reporter.log) (history_of mid.reporter.log) (history_of new.reporter.log) first.flusher mid.flusher new.flusher was
+      (c.round.ensures.flushes was.store),
+  telling_then g.D.Disk c.args.keeper.now c.rounds.keeper c.round.new.keeper c.rounds.invariant.2 (λ is. (c.rounds.invariant.1 is).store) c.round.ensures.tells,
+)
+
+pub returns-then-not-round-clause-flushes : goal.returns-then-not-round-clause-flushes
+returns-then-not-round-clause-flushes g c is =
+    let was = c.rounds.invariant.1 is in
+    let first = c.args.keeper.now in
+    let mid = c.rounds.keeper in
+    let new = c.round.new.keeper in
+    then g.D.Disk (history_of first.reporter.log) (history_of mid.reporter.log) (history_of new.reporter.log) first.flusher mid.flusher new.flusher was
+    (c.round.ensures.flushes was.store)
+
+pub returns-then-not-round-clause-tells : goal.returns-then-not-round-clause-tells
+returns-then-not-round-clause-tells g c =
+    telling_then g.D.Disk c.args.keeper.now c.rounds.keeper c.round.new.keeper c.rounds.invariant.2 (λ is. (c.rounds.invariant.1 is).store) c.round.ensures.tells

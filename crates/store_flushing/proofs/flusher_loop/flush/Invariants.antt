@@ -1,0 +1,13 @@
+use Rattle.std.proofs.Common.{◌≡◌}
+use Rattle.book_history.specs.Logs.{history_of}
+use Rattle.store_flushing.specs.Storing.{IsStoreOf, Flushes}
+use Rattle.store_flushing.specs.Told.{KeepsTelling}
+use Rattle.store_flushing.proofs.flusher_loop.flush.Given as goal
+
+-- a run so far
+abbrev pub invariant-rounds : goal.invariant-rounds
+invariant-rounds g l =
+    (l.keeper.reporter.book ≡ l.initial.keeper.reporter.book)
+    × (IsStoreOf g.D.Disk (history_of l.initial.keeper.reporter.log) l.initial.keeper.flusher
+    → Flushes g.D.Disk (history_of l.initial.keeper.reporter.log) l.initial.keeper.flusher (history_of l.keeper.reporter.log) l.keeper.flusher)
+    × KeepsTelling g.D.Disk l.initial.keeper l.keeper

@@ -1,0 +1,36 @@
+use Rattle.std.proofs.Common.{ap}
+use Rattle.flush_core.specs.declared.flusher.Flusher.{Flusher}
+use Rattle.book_history.specs.Logs.{history_of}
+use Rattle.store_flushing.proofs.Storage.{kept_on, then}
+use Rattle.store_flushing.proofs.ToldLemmas.{telling_then}
+use Rattle.store_flushing.proofs.flusher_loop.round.Goals as goal
+
+pub returns-in-Ok-Some-clause-flushes : goal.returns-in-Ok-Some-clause-flushes
+returns-in-Ok-Some-clause-flushes g c is =
+    let d = g.D.Disk in
+    let old = c.args.keeper.now in
+    let mid = c.look.new.self in
+    let new = c.commit.new.keeper in
+    let h = history_of old.reporter.log in
+    let m = history_of mid.reporter.log in
+    let e = c.look.ensures in
+    let seen = kept_on d h m old.flusher mid.flusher (e.keeps is) e.durable (ap (λ (f : Flusher g.row.D.Denot g.D.Disk). f.commit.root.version) e.flusher) in
+    then d h m (history_of new.reporter.log) old.flusher mid.flusher new.flusher seen (c.commit.ensures.flushes seen.store)
+
+pub returns-in-Ok-None-clause-flushes : goal.returns-in-Ok-None-clause-flushes
+returns-in-Ok-None-clause-flushes g c is =
+    let old = c.args.keeper.now in
+    let mid = c.look.new.self in
+    let e = c.look.ensures in
+    kept_on g.D.Disk (history_of old.reporter.log) (history_of mid.reporter.log) old.flusher mid.flusher (e.keeps is) e.durable (ap (λ (f : Flusher g.row.D.Denot g.D.Disk). f.commit.root.version) e.flusher)
+
+pub returns-in-Err-clause-flushes : goal.returns-in-Err-clause-flushes
+returns-in-Err-clause-flushes g c is =
+    let old = c.args.keeper.now in
+    let mid = c.look.new.self in
+    let e = c.look.ensures in
+    kept_on g.D.Disk (history_of old.reporter.log) (history_of mid.reporter.log) old.flusher mid.flusher (e.keeps is) e.durable (ap (λ (f : Flusher g.row.D.Denot g.D.Disk). f.commit.root.version) e.flusher)
+
+pub returns-in-Ok-Some-clause-tells : goal.returns-in-Ok-Some-clause-tells
+returns-in-Ok-Some-clause-tells g c =
+    telling_then g.D.Disk c.args.keeper.now c.look.new.self c.commit.new.keeper c.look.ensures.tells (λ is. (c.look.ensures.keeps is).store) c.commit.ensures.tells

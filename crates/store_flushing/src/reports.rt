@@ -1,0 +1,73 @@
+//! What the reporter tells the book: that a number is durable, or why the store did not write.
+ghost use Rattle.std.specs.Prelude.{◌≡◌, ◌⊎◌, ◌≤◌};
+ghost use Rattle.overlay_terms.specs.Histories.{BeginsWith, IsHistory, newest};
+ghost use Rattle.book_history.specs.Fault.{passes};
+ghost use Rattle.book_history.specs.Logs.{history_of};
+ghost use Rattle.store_flushing.specs.Reports.{told_of};
+
+use commit_plan::fault::StoreFault;
+use std::alloc::Global;
+use std::sync::Wait;
+use version_book::fault::ToldFault as Told;
+use version_book::reporter::Reporter;
+use version_book::resting::rest;
+use version_book::seen_log::BookName;
+use version_book::shared::Shared;
+
+/// Reports a number. Where there is no memory for that, it sleeps a moment and tries again.
+pub(crate) fn report<J: BookName, R: Wait + Drop, W: Wait>(
+    rt: &W,
+    alloc: Global,
+    shared: &Shared<J, R>,
+    me: &mut Reporter,
+    number: u64,
+)
+    requires { me.old.book ≡ J.book }
+    ensures goes_on { BeginsWith (history_of me.new.log) (history_of me.old.log) }
+    ensures history { IsHistory (history_of me.old.log) }
+    // It is durable, where there is such a version; and nothing but it, or what was durable before.
+    ensures reached { number ≤ (newest (history_of me.old.log)).number
+        → number ≤ (newest (history_of me.new.log)).durable }
+    ensures reported { ((newest (history_of me.new.log)).durable ≡ number)
+        ⊎ ((newest (history_of me.new.log)).durable ≡ (newest (history_of me.old.log)).durable) }
+    ensures same { me.new.book ≡ me.old.book }
+{
+    // What the reporter has seen is a log with a first entry: the clauses rest on that.
+    let _ = me.given();
+    'tries: for _ in rt.forever() {
+        match shared.report(rt, alloc, me, number) {
+            Ok(_) => return,
+            Err(_) => rest(rt),
+        }
+    }
+    unreachable!()
+}
+
+/// Tells the book of a fault, and says whether the store can go on after it.
+pub(crate) fn tell<J: BookName, R: Wait + Drop, W: Wait>(
+    rt: &W,
+    shared: &Shared<J, R>,
+    me: &mut Reporter,
+    fault: StoreFault,
+) -> bool
+    requires { me.old.book ≡ J.book }
+    ensures nothing { me.new ≡ me.old }
+    ensures passes { result ≡ passes (told_of fault) }
+{
+    let told = told(fault);
+    shared.store_failed(rt, me, told);
+    told.passes()
+}
+
+/// A fault of a store, as the book is told it.
+fn told(fault: StoreFault) -> Told
+    ensures { result ≡ told_of fault }
+{
+    match fault {
+        StoreFault::Full => Told::Full,
+        StoreFault::Failed => Told::Failed,
+        StoreFault::SequenceLimit => Told::SequenceLimit,
+        StoreFault::OutOfMemory => Told::OutOfMemory,
+        StoreFault::Device | StoreFault::Damaged(_) | StoreFault::NotEmpty => Told::Device,
+    }
+}
