@@ -34,6 +34,8 @@ PROGRAM_HELP = "the program to ask (default: overlay_live or overlayd, built in 
 MAGIC, SLOTS_END = b"OVLSTORE", 8192
 MAGIC_AT = (16, 4112)  # of the two slots: docs/FORMAT.md
 GridFor = Callable[[Session], tuple[int, ...] | None]
+# What writes a map: of what was asked for, the words of the call, where it goes, and where faults are told.
+Writer = Callable[["Map", argparse.Namespace, TextIO, TextIO], int]
 
 
 def found_program(names: tuple[str, ...]) -> str:
@@ -321,6 +323,14 @@ def worked(make: Callable[[], Map], write: Callable[[Map], int], errors: TextIO)
             tell_refusals(fault.session, errors)
         print(fault, file=errors)
         return 1
+
+
+def run(parser: argparse.ArgumentParser, arguments: list[str], write: Writer, output: TextIO | None, errors: TextIO | None,
+        many: bool = False) -> int:
+    """Runs a tool: reads its words, asks for the map, and has it written."""
+    words = parser.parse_args(arguments)
+    target, told = output or sys.stdout, errors or sys.stderr
+    return worked(lambda: map_of(words, parser, many=many), lambda found: write(found, words, target, told), told)
 
 
 if __name__ == "__main__":

@@ -86,18 +86,15 @@ def parser_of() -> argparse.ArgumentParser:
     return parser
 
 
+def write(found: Map, words: argparse.Namespace, output: TextIO, _errors: TextIO) -> int:
+    if words.top:
+        found.layers = [name for name in found.layers if name in found.session.unnamed()]
+    output.write(text_of(found, words.parts, (words.store or words.script).stem))
+    return 0
+
+
 def main(arguments: list[str], output: TextIO | None = None, errors: TextIO | None = None) -> int:
-    parser = parser_of()
-    words = parser.parse_args(arguments)
-    target, errors = output or sys.stdout, errors or sys.stderr
-
-    def write(found: Map) -> int:
-        if words.top:
-            found.layers = [name for name in found.layers if name in found.session.unnamed()]
-        target.write(text_of(found, words.parts, (words.store or words.script).stem))
-        return 0
-
-    return asking.worked(lambda: asking.map_of(words, parser, many=True), write, errors)
+    return asking.run(parser_of(), arguments, write, output, errors, many=True)
 
 
 if __name__ == "__main__":

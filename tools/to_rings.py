@@ -326,22 +326,18 @@ def parser_of() -> argparse.ArgumentParser:
     return parser
 
 
+def write(found: Map, words: argparse.Namespace, output: TextIO, errors: TextIO) -> int:
+    polygons = layer_polygons(found.session, found.layers[0])
+    lines = exact_lines if words.exact else area_lines if words.areas else text_lines
+    for line in lines(polygons, found):
+        print(line, file=output)
+    holes = sum(len(polygon) - 1 for polygon in polygons)
+    print(f"outer rings {len(polygons)} (counter-clockwise), holes {holes} (clockwise); inside on the left", file=errors)
+    return 0
+
+
 def main(arguments: list[str], output: TextIO | None = None, errors: TextIO | None = None) -> int:
-    parser = parser_of()
-    words = parser.parse_args(arguments)
-    target, errors = output or sys.stdout, errors or sys.stderr
-
-    def write(found: Map) -> int:
-        polygons = layer_polygons(found.session, found.layers[0])
-        lines = exact_lines if words.exact else area_lines if words.areas else text_lines
-        for line in lines(polygons, found):
-            print(line, file=target)
-        holes = sum(len(polygon) - 1 for polygon in polygons)
-        print(f"outer rings {len(polygons)} (counter-clockwise), holes {holes} (clockwise); inside on the left",
-              file=errors)
-        return 0
-
-    return asking.worked(lambda: asking.map_of(words, parser), write, errors)
+    return asking.run(parser_of(), arguments, write, output, errors)
 
 
 if __name__ == "__main__":

@@ -1,5 +1,5 @@
 -- What a fault says, told from its cases.
-use Rattle.std.proofs.Common.{◌≡◌, refl, ap, sym, subst, Option, None, Result, Ok, Err, IsErrAnd, IfErr}
+use Rattle.std.proofs.Common.{◌≡◌, ap, sym, subst, Option, None, Result, Ok, Err, IsErrAnd, IfErr}
 use Rattle.std.specs.Option.{option_map}
 
 -- where there is no refusal there is no fault that reports it

@@ -1,14 +1,11 @@
 -- Which derived layers reach a name.
-use Rattle.std.proofs.Common.{◌≡◌, ◌+◌, Bool, true, false, cond, ◌||◌, ◌&&◌, List, [], ◌∷◌, ◌++◌, map, filter, refl, ap, sym, ◌∙◌, subst, add-one, bytes_eq}
+use Rattle.std.proofs.Common.{◌≡◌, ◌+◌, Bool, true, false, cond, ◌||◌, ◌&&◌, List, [], ◌∷◌, ◌++◌, map, filter, refl, ap, sym, ◌∙◌, bytes_eq}
 use Rattle.std.specs.List.{list_any}
 use Rattle.std.proofs.lemmas.Bool.{and_parts}
-use Rattle.overlay_terms.specs.Layers.{Name, Layer, layers_in_reach}
-use Rattle.overlay_terms.specs.Orderly.{is_orderly_after}
-use Rattle.overlay_terms.specs.Commands.{is_derived, index_of, stands, stands_as_derived}
+use Rattle.overlay_terms.specs.Layers.{Name, Layer}
+use Rattle.overlay_terms.specs.Commands.{is_derived, stands_as_derived}
 use Rattle.overlay_terms.specs.Touched.{reaches_name, derived_over}
-use Rattle.layer_book.specs.Question.{at_index, is_wanted, marked_layers}
 use Rattle.layer_book.proofs.Names.{same_name, turned}
-use Rattle.layer_book.proofs.Order.{head_of, apart}
 use Rattle.layer_book.proofs.BoolLemmas.{and_false}
 
 -- the names of derived layers that pass a test

@@ -3,7 +3,7 @@ use Rattle.std.proofs.Common.{◌≡◌, ℕ, ℤ, ◌⊎◌, inl, inr, Bool, tr
 use Rattle.std.proofs.lemmas.Bool.{true≢false, or_left, or_right}
 use Rattle.std.specs.Option.{option_map}
 use Rattle.overlay_terms.specs.Batches.{Batch, BatchRefusal, at, whole, reason_of, batch_refusal_at}
-use Rattle.overlay_terms.specs.Commands.{Command, Refusal, refusal_at}
+use Rattle.overlay_terms.specs.Commands.{Command, Refusal}
 use Rattle.overlay_terms.specs.Commands as terms
 use Rattle.overlay_terms.specs.Histories.{History, Version, newest}
 use Rattle.overlay_terms.proofs.BatchLemmas.{one_is_refused_alike}

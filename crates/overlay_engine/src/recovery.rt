@@ -45,6 +45,7 @@ impl<D: Disk> Engine<D> {
         ensures stored { IfOk result (λ e. e.flusher.commit.root.version ≡ e.version.number) }
         ensures jobs { IfOk result (λ e. (e.jobs.items ≡ []) × (e.next_job ≡ 0)) }
     {
+        // A `match` in place of `?`: the gate's wrong bodies turn one arm alone.
         match open(alloc, disk, max_blocks) {
             Ok((commit, image)) => Ok(Engine {
                 version: restored(image),

@@ -5,7 +5,6 @@ use Rattle.std.proofs.lemmas.Int.{ints}
 use Rattle.std.proofs.lemmas.Bool.Decides.{leb_tells}
 use Rattle.overlay_terms.specs.Plane.{Segment, height_over, is_below}
 use Rattle.overlay_terms.specs.Trees.{mask_bits}
-use Rattle.overlay_terms.proofs.Difference.{split, whole_is, differences, same}
 use Rattle.overlay_terms.proofs.InputNumbers.{times_one}
 use Rattle.overlay_grid.specs.declared.rising.Rise.{Rise}
 use Rattle.overlay_grid.specs.Rising.{point_at}

@@ -1,5 +1,5 @@
 -- Lying on a segment, for points with whole coordinates.
-use Rattle.std.specs.Prelude.{◌≡◌, ℤ, pos, ◌-ℤ◌, ◌*ℤ◌, ◌<ℤ◌, ◌≤ℤ◌, ◌&&◌, true, false, int_le, IsTrue}
+use Rattle.std.specs.Prelude.{◌≡◌, ℤ, pos, ◌-ℤ◌, ◌*ℤ◌, ◌<ℤ◌, ◌≤ℤ◌, ◌&&◌, false, int_le, IsTrue}
 use Rattle.std.specs.Ordering.{int_eq}
 use Rattle.std.specs.Cmp.{both_ways}
 use Rattle.std.proofs.Common.{ap, sym, ◌∙◌, arith, inl, inr}

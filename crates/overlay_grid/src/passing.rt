@@ -63,8 +63,7 @@ fn pace(seg: &Seg, rise: Rise) -> i64
 fn product(a: i64, b: i64) -> i64
     requires a_small { IsWithin (2 ^ 21) a }
     requires b_small { IsWithin (2 ^ 21) b }
-    ensures value { result ≡ a *ℤ b }
-    ensures small { IsWithin (2 ^ 42) result }
+    ensures { result ≡ a *ℤ b }
 {
     a * b
 }

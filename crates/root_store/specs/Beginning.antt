@@ -38,8 +38,8 @@ IsReason phase root no_room OutOfMemory = Unit {0}
 IsReason phase root no_room fault = IsRefusal phase root fault
 
 -- the writes of a commit of an image: the new records, as long as its own tiles and layers make them, the catalog and the body of the other slot; each but the body in the lowest run that is free of what the live root takes and of the runs before it
-abbrev pub IsLaid : {D : Type 0} {g : Ghosts D} → Commit D g → Image → Commit D g → Type 0
-IsLaid old image new =
+abbrev pub LaysOut : {D : Type 0} {g : Ghosts D} → Commit D g → Image → Commit D g → Type 0
+LaysOut old image new =
     IsLaidOut (live_content old.live) (taken_of old.live.room.map) old.live.room.max_blocks (image_held image)
     (sizes_of (live_content old.live) image) (body_at (other old.root)) new.next_root new.plan.items
 
@@ -50,5 +50,5 @@ EndsBelow limit w = w.at + length w.bytes.items ≤ block_size * limit
 -- so does each write that a commit lays, for the blocks that its file may have
 abbrev pub LaidIsBelow : {D : Type 0} → Ghosts D → Type 0
 LaidIsBelow {D = D} g =
-    (limit : ℕ) (old new : Commit D g) (image : Image) → KeepsTo limit old → IsLaid old image new
+    (limit : ℕ) (old new : Commit D g) (image : Image) → KeepsTo limit old → LaysOut old image new
     → AllByRecursion (EndsBelow limit) new.plan.items

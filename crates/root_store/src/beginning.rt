@@ -10,7 +10,7 @@ ghost use Rattle.commit_plan.specs.Drafting.{NextHolds};
 ghost use Rattle.commit_plan.specs.Fitting.{HasRoom, HasNoRoom};
 ghost use Rattle.commit_plan.specs.Live.{live_content};
 ghost use Rattle.commit_plan.specs.Sizes.{new_records};
-ghost use Rattle.root_store.specs.Beginning.{IsRefusal, IsReason, IsLaid};
+ghost use Rattle.root_store.specs.Beginning.{IsRefusal, IsReason, LaysOut};
 ghost use Rattle.root_store.specs.Writing.{writes_left};
 
 use crate::commit::Commit;
@@ -90,7 +90,7 @@ impl<D: Disk> Commit<D> {
         ensures busy { OnOk result (is_busy self.new.phase ≡ true) }
         // The new records, the catalog and the body, in this order; each record and the catalog in the lowest run of free
         // blocks, in whole blocks.
-        ensures laid { OnOk result (IsLaid self.old image self.new) }
+        ensures laid { OnOk result (LaysOut self.old image self.new) }
         // None of them is made.
         ensures left { OnOk result (writes_left self.new ≡ self.new.plan.items) }
         // One for each new record and the catalog, and six more.

@@ -3,7 +3,7 @@ use Rattle.std.proofs.Common.{◌≡◌, ℕ, ℤ, pos, ◌<◌, ◌==◌, Bool,
 use Rattle.std.specs.List.{list_all}
 use Rattle.std.proofs.lemmas.Bool.{and_parts, or_from, or_left, or_right, not-true, cond-false, true≢false, ne_eqb}
 use Rattle.overlay_terms.specs.Blank.{is_blank}
-use Rattle.script_form.specs.Lines.{line_max, is_gap, begins_comment}
+use Rattle.script_form.specs.Lines.{is_gap, begins_comment}
 use Rattle.script_form.specs.Requests.{Request, nothing, too_long, malformed, put_text, define_text, remove_name, locate, grid, list_layers, edges, wait, verify, sync, batch, is_word_byte, is_name_side, is_empty, begins, number_of, skip_while, words_of, behind_first_word, by_words, put_of, define_of, behind_sign, located, gridded, sized, edges_at, verify_at, numbered, request_of}
 use Rattle.script_form.specs.Shapes.{IsShort, AreGaps, ArePartingGaps, AreSome, IsWord, IsBlankOrComment, IsPutLine, IsDefineLine, IsDropLine, IsWholePointLine, IsPointLine, IsLocateLine, IsGridLine, IsLayersLine, IsWaitLine, IsSyncLine, IsBatchLine, IsColumnLine, IsShapeOf}
 use Rattle.script_form.specs.Shapes as laws

@@ -7,7 +7,6 @@ use Rattle.overlay_terms.specs.Commands.{Refusal}
 use Rattle.overlay_terms.specs.Histories as versions
 use Rattle.layer_book.specs.Fault.{fault_of}
 use Rattle.layer_book.specs.BatchFault as batch_faults
-use Rattle.layer_book.specs.BatchFault.{RefusedAllBy}
 use Rattle.layer_book.specs.declared.batch_fault.BatchFault.{BatchFault}
 use Rattle.layer_book.specs.declared.batch_fault.BatchFault.TheVariants.{At, Whole}
 use Rattle.layer_book.specs.declared.fault.LayerFault.TheVariants as layer

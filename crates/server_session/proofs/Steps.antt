@@ -2,9 +2,8 @@
 use Rattle.std.proofs.Common.{◌≡◌, ◌≢◌, ℕ, zero, suc, ◌+◌, ◌==◌, ◌<◌, ◌≤◌, ◌⊎◌, inl, inr, Bool, true, false, Option, Some, None, is_some, Result, Ok, Err, IsErr, OnOk, OnErr, MatchResult, List, [], ◌∷◌, ◌++◌, map, length, take, drop, lit<, refl, sym, ap, ◌∙◌, subst, append_assoc, append-nil, ne_eqb, arith}
 use Rattle.std.proofs.Math.Seq.{drop-append_seam}
 use Rattle.std.proofs.lemmas.Bool.{false≢true, true≢false}
-use Rattle.std.proofs.lemmas.List.{take_all, length-take}
+use Rattle.std.proofs.lemmas.List.{length-take}
 use Rattle.std.specs.Io.KnownBytes.{Appends}
-use Rattle.std.proofs.KnownBytes.{Appends-nil}
 use Rattle.book_history.specs.Known.{Known}
 use Rattle.script_form.specs.declared.fault.CommandFault.TheVariants.{CommandSyntax}
 use Rattle.script_form.specs.declared.gathering.Gathering.{Gathering}

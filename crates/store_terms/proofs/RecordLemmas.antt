@@ -23,7 +23,7 @@ use Rattle.store_terms.specs.TileRecord.{NamedTile, column_of_tile, tile_by_plac
 use Rattle.store_terms.specs.declared.root.RecordExtent.{RecordExtent}
 use Rattle.store_terms.specs.Catalog.{Records, Listed}
 use Rattle.store_terms.specs.Places.{bytes_of, is_placed, some_extents, extents_of_records, extents_listed}
-use Rattle.store_terms.specs.Image.{or_fault, placed_bytes, with_layer, tiles_of, layer_of, layers_of, Held, listing_of, held_by, held_of}
+use Rattle.store_terms.specs.Image.{or_fault, placed_bytes, with_layer, tiles_of, layer_of, layers_of, listing_of, held_by}
 use Rattle.store_terms.specs.Image as image
 use Rattle.store_terms.specs.Frame.{listed_extents}
 use Rattle.store_terms.specs.RecordLaws.{DefinitionIsItsText, TileIsNamed, HeldIsPlaced}

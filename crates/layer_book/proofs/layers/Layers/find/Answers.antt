@@ -1,6 +1,5 @@
-use Rattle.std.proofs.Common.{◌≡◌, ◌<◌, length, sym, ◌∙◌, arith}
+use Rattle.std.proofs.Common.{◌≡◌, ◌<◌, sym, ◌∙◌, arith}
 use Rattle.std.proofs.lemmas.Bool.Decides.{nat_tests}
-use Rattle.overlay_terms.specs.Commands.{index_of}
 use Rattle.layer_book.proofs.Lines.{none_there}
 use Rattle.layer_book.proofs.Names.{stands_is}
 use Rattle.layer_book.proofs.Wanted.{index_behind, index_here}
